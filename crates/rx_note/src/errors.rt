@@ -1,0 +1,6 @@
+/// Where an error stands among the items that wait for an observer (<https://reactivex.io/documentation/operators/observeon.html>).
+#[derive(Clone, Copy, Debug, PartialEq, Eq)]
+pub enum Errors {
+    /// Behind them, as completion does.
+    Delay,
+}

@@ -1,0 +1,34 @@
+//! What the other crates speak of: the texts, items and notes that a subject gives, the events that it takes, what it
+//! answers, and the rules that it keeps. `specs/Signals.antt` says what one observer is to be given.
+//!
+//! No queue and no subject stands here. The crates above rest on two facts: a `Text` is in its limits, and a copy is
+//! equal to its source.
+#![tactic(auto)]
+
+mod answer;
+mod errors;
+mod event;
+mod given;
+mod item;
+mod kind;
+mod limits;
+mod note;
+mod policy;
+mod refusal;
+mod rules;
+mod strategy;
+mod text;
+
+pub use answer::Answer;
+pub use errors::Errors;
+pub use event::Event;
+pub use given::Given;
+pub use item::Item;
+pub use kind::Kind;
+pub use limits::Limits;
+pub use note::Note;
+pub use policy::{BadRoom, Policy};
+pub use refusal::Refusal;
+pub use rules::Rules;
+pub use strategy::Strategy;
+pub use text::{Text, TextError};

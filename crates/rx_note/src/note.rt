@@ -1,0 +1,28 @@
+ghost use Rattle.std.specs.Prelude.{◌≡◌, IfOk};
+
+use crate::{Item, Text};
+use rx_heap::Memory;
+
+/// What an observer is given: an item, or a terminal, after which nothing comes (<https://reactivex.io/documentation/contract.html>).
+#[derive(Drop, Debug, PartialEq, Eq)]
+pub enum Note {
+    /// OnNext.
+    Next(Item),
+    /// OnCompleted, a terminal.
+    Completed,
+    /// OnError with what went wrong, a terminal.
+    Failed(Text),
+}
+
+impl Note {
+    /// An equal note, which shares the text.
+    pub fn copy(&self) -> Result<Note, Memory>
+        ensures { IfOk result (λ note. note ≡ self.now) }
+    {
+        match self {
+            Note::Next(item) => Ok(Note::Next(item.copy()?)),
+            Note::Completed => Ok(Note::Completed),
+            Note::Failed(text) => Ok(Note::Failed(text.copy()?)),
+        }
+    }
+}

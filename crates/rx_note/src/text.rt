@@ -1,0 +1,100 @@
+ghost use Rattle.std.specs.Prelude.{◌≡◌, ◌<◌, ◌≤◌, ◌↔◌, length, nat_eq, true, false, IfOk};
+ghost use Rattle.std.specs.List.{list_any};
+ghost use Rattle.std.specs.Cmp.{partial_equiv_from_equiv};
+ghost use Rattle.std.specs.Cmp.Lexicographic.{nat_list_eq_equiv, pointwise};
+ghost use Rattle.rx_note.specs.Texts.{HasLf};
+
+use rx_heap::{Heap, Memory};
+use std::marker::Model;
+use std::sync::ArcSlice;
+
+/// The most bytes that a text has.
+pub const MAX_TEXT: usize = 1024;
+
+const LF: u8 = b'\n';
+
+/// Why a text was refused.
+#[derive(Clone, Copy, Debug, PartialEq, Eq)]
+pub enum TextError {
+    /// It has more than 1,024 bytes.
+    TooLong,
+    /// A line feed stands in it.
+    HasLf,
+    /// There was no memory for it.
+    Memory,
+}
+
+/// What an item or an error says: 0 to 1,024 bytes of any kind but LF. Contracts see a text as the list of its bytes.
+///
+/// Its copies share its bytes. The limits are this project's own.
+#[derive(Drop, Debug)]
+pub struct Text {
+    bytes: ArcSlice<u8, Heap>,
+}
+
+impl Model for Text {
+    ghost use Rattle.std.specs.Prelude.{◌≤◌, ◌≡◌, List, ℕ, length, nat_eq, false};
+    ghost use Rattle.std.specs.Arc.{arc_slice_items};
+    ghost use Rattle.std.specs.List.{list_any};
+
+    ghost Value = { List ℕ };
+
+    ghost view = { λ t. arc_slice_items t.bytes };
+
+    ghost invariant = { λ t. (length (arc_slice_items t.bytes) ≤ 1024)
+        × (list_any (λ b. nat_eq b 10) (arc_slice_items t.bytes) ≡ false) };
+}
+
+impl Text {
+    /// The text of these bytes. Refused in the order `TooLong`, `HasLf`, `Memory`.
+    pub fn new(alloc: Heap, bytes: &[u8]) -> Result<Text, TextError>
+        ensures ok { IfOk result (λ text. text ≡ bytes.now) }
+        ensures too_long { (result ≡ Err TextError.TooLong) ↔ (1024 < length bytes.now) }
+        ensures has_lf { (result ≡ Err TextError.HasLf)
+            ↔ ((length bytes.now ≤ 1024) × HasLf bytes.now) }
+    {
+        if bytes.len() > MAX_TEXT {
+            return Err(TextError::TooLong);
+        }
+        if bytes.contains(&LF) {
+            return Err(TextError::HasLf);
+        }
+        match ArcSlice::from_slice(alloc, bytes) {
+            Ok(bytes) => Ok(Text { bytes }),
+            Err(_) => Err(TextError::Memory),
+        }
+    }
+
+    /// Its bytes.
+    pub fn as_bytes(&self) -> &[u8]
+        ensures bytes { result.now ≡ self.now }
+        ensures within { length self.now ≤ 1024 }
+        ensures no_lf { list_any (λ b. nat_eq b 10) self.now ≡ false }
+    {
+        self.bytes.as_slice()
+    }
+
+    /// An equal text, which shares the bytes.
+    pub fn copy(&self) -> Result<Text, Memory>
+        ensures { IfOk result (λ text. text ≡ self.now) }
+    {
+        match self.bytes.clone() {
+            Ok(bytes) => Ok(Text { bytes }),
+            Err(_) => Err(Memory),
+        }
+    }
+}
+
+impl PartialEq for Text {
+    ghost eq = { pointwise nat_eq };
+
+    ghost laws = { partial_equiv_from_equiv nat_list_eq_equiv };
+
+    fn eq(&self, other: &Self) -> bool {
+        self.as_bytes() == other.as_bytes()
+    }
+}
+
+impl Eq for Text {
+    ghost laws = { nat_list_eq_equiv };
+}
