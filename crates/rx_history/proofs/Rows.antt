@@ -1,0 +1,75 @@
+-- The worked examples, by computation: what each event is answered and gives.
+use Rattle.std.specs.Prelude.{◌≡◌, ℕ, List, [], ◌∷◌, Result, Ok, Err, refl}
+use Rattle.rx_note.specs.Choices.{choice}
+use Rattle.rx_note.specs.declared.policy.Policy.{Policy}
+use Rattle.rx_note.specs.declared.strategy.Strategy.TheVariants.{Buffer}
+use Rattle.rx_note.specs.declared.errors.Errors.TheVariants.{Delay}
+use Rattle.rx_note.specs.declared.given.Given.{Given}
+use Rattle.rx_note.specs.declared.note.Note.{Note}
+use Rattle.rx_note.specs.declared.note.Note.TheVariants.{Next, Completed, Failed}
+use Rattle.rx_note.specs.declared.event.Event.{Event}
+use Rattle.rx_note.specs.declared.event.Event.TheVariants.{Emit, Join, Request}
+use Rattle.rx_note.specs.declared.rules.Rules.{Rules}
+use Rattle.rx_note.specs.declared.kind.Kind.TheVariants.{Publish}
+use Rattle.rx_note.specs.declared.answer.Answer.{Answer}
+use Rattle.rx_note.specs.declared.answer.Answer.TheVariants.{Admitted, Joined, Asked}
+use Rattle.rx_note.specs.declared.refusal.Refusal.{Refusal}
+use Rattle.rx_note.specs.declared.refusal.Refusal.TheVariants as refused
+use Rattle.rx_history.specs.Histories.{History, NoEvents, ◌▹◌, answer, outs}
+
+-- the steps of a list of events after H, all from port 0
+abbrev told : Rules → History → List Event → List (Result Answer Refusal × List Given)
+told rules H [] = []
+told rules H (event ∷ events) = (answer rules H event, outs rules H (0, event)) ∷ told rules (H ▹ (0, event)) events
+
+-- the default subject
+abbrev default : Rules
+default = record { kind = Publish; limits = record { observers = 64; joins = 4294967295 } }
+
+-- Buffer and Delay
+abbrev plain : Policy
+plain = choice Buffer Delay
+
+-- the texts a, b, c, x
+abbrev a : List ℕ
+a = 97 ∷ []
+
+abbrev b : List ℕ
+b = 98 ∷ []
+
+abbrev c : List ℕ
+c = 99 ∷ []
+
+abbrev x : List ℕ
+x = 120 ∷ []
+
+-- an item is emitted from port 0
+abbrev emits : List ℕ → Event
+emits text = Emit (Next (record { from = 0; text = text })) 0
+
+-- an item of port 0
+abbrev next : List ℕ → Note
+next text = Next (record { from = 0; text = text })
+
+-- a note given to observer 0
+abbrev to0 : Note → Given
+to0 note = record { who = 0; note = note }
+
+first_run : told default NoEvents
+    (Join plain 0 0 ∷ emits a ∷ emits b ∷ Request 0 1 ∷ Emit Completed 0 ∷ Request 0 5 ∷ [])
+    ≡ ((Ok (Joined 0), []) ∷ (Ok Admitted, []) ∷ (Ok Admitted, []) ∷ (Ok Asked, to0 (next a) ∷ []) ∷ (Ok Admitted, [])
+    ∷ (Ok Asked, to0 (next b) ∷ to0 Completed ∷ []) ∷ [])
+first_run = refl
+
+error_delayed : told default NoEvents
+    (Join plain 1 0 ∷ emits a ∷ emits b ∷ emits c ∷ Emit (Failed x) 0 ∷ Request 0 2 ∷ [])
+    ≡ ((Ok (Joined 0), []) ∷ (Ok Admitted, to0 (next a) ∷ []) ∷ (Ok Admitted, []) ∷ (Ok Admitted, []) ∷ (Ok Admitted, [])
+    ∷ (Ok Asked, to0 (next b) ∷ to0 (next c) ∷ to0 (Failed x) ∷ []) ∷ [])
+error_delayed = refl
+
+refusals_in_order : told default NoEvents
+    (Join plain 0 0 ∷ Request 0 0 ∷ Request 7 0 ∷ Request 0 4294967295 ∷ Request 0 1 ∷ Request 7 1 ∷ Emit Completed 0
+    ∷ emits a ∷ [])
+    ≡ ((Ok (Joined 0), []) ∷ (Err refused.ZeroRequest, []) ∷ (Err refused.ZeroRequest, []) ∷ (Ok Asked, [])
+    ∷ (Err refused.TooMuch, []) ∷ (Err refused.NoObserver, []) ∷ (Ok Admitted, to0 Completed ∷ []) ∷ (Err refused.Ended, []) ∷ [])
+refusals_in_order = refl

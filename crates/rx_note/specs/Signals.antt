@@ -1,0 +1,139 @@
+-- The signals of one observer: what it requested, what its subject offered to it, and the end, in their order.
+-- From them follow the line that it is to be given in all, what of the line was given, and what waits.
+-- Demand and the end are those of the Observable Contract (reactivex.io/documentation/contract.html), strategies those
+-- of the Backpressure operators (reactivex.io/documentation/operators/backpressure.html); rooms and losses are this
+-- project's own words.
+use Rattle.std.specs.Prelude.{ℕ, ◌+◌, ◌-◌, max, Bool, false, if◌then◌else◌, ◌==◌, nat_lt, nat_le, List, [], ◌∷◌, ◌++◌, length, map, take, drop, Option, None, Some, option_to_list}
+use Rattle.std.specs.List.{list_any}
+use Rattle.rx_note.specs.declared.item.Item.{Item}
+use Rattle.rx_note.specs.declared.note.Note.{Note}
+use Rattle.rx_note.specs.declared.note.Note.TheVariants.{Next}
+use Rattle.rx_note.specs.declared.strategy.Strategy.{Strategy}
+use Rattle.rx_note.specs.declared.strategy.Strategy.TheVariants.{Buffer}
+use Rattle.rx_note.specs.declared.errors.Errors.{Errors}
+use Rattle.rx_note.specs.declared.errors.Errors.TheVariants.{Delay}
+use Rattle.rx_note.specs.declared.policy.Policy.{Policy}
+
+-- one signal: n more items are requested, an item is offered, or the subject ended by this terminal
+pub data Signal : Type 0 where
+  Requested : (n : ℕ) → Signal
+  Offered : (item : Item) → Signal
+  Ended : (terminal : Note) → Signal
+
+infixl 10 ◌▸◌
+
+-- the signals of an observer that joined with this policy; the latest signal stands outermost
+pub data Signals : Type 0 where
+  Start : (policy : Policy) → Signals
+  ◌▸◌ : Signals → Signal → Signals
+
+-- the policy that the observer joined with
+abbrev pub policy_of : Signals → Policy
+policy_of (Start policy) = policy
+policy_of (s ▸ signal) = policy_of s
+
+-- how many items were requested in all
+abbrev pub demand : Signals → ℕ
+demand (Start policy) = 0
+demand (s ▸ Requested n) = demand s + n
+demand (s ▸ Offered item) = demand s
+demand (s ▸ Ended terminal) = demand s
+
+-- how many items were offered; the next item offered bears this number, its place
+abbrev pub offered_count : Signals → ℕ
+offered_count (Start policy) = 0
+offered_count (s ▸ Requested n) = offered_count s
+offered_count (s ▸ Offered item) = offered_count s + 1
+offered_count (s ▸ Ended terminal) = offered_count s
+
+-- the terminal, if there was one
+abbrev pub terminal_of : Signals → Option Note
+terminal_of (Start policy) = None
+terminal_of (s ▸ Requested n) = terminal_of s
+terminal_of (s ▸ Offered item) = terminal_of s
+terminal_of (s ▸ Ended terminal) = Some terminal
+
+-- by how many of the items ahead of the demand the room is exceeded
+abbrev pub beyond_room : Strategy → ℕ → ℕ
+beyond_room Buffer ahead = 0
+
+-- by how many items the offers are ahead of the demand and of the room
+abbrev pub excess : Signals → ℕ
+excess s = beyond_room (policy_of s).strategy (offered_count s - demand s)
+
+-- how many items are lost: the greatest excess that there ever was
+abbrev pub losses : Signals → ℕ
+losses (Start policy) = 0
+losses (s ▸ signal) = max (losses s) (excess (s ▸ signal))
+
+-- the place lost where the losses rise
+abbrev pub place_lost : Strategy → Signals → ℕ
+place_lost Buffer s = 0
+
+-- the places lost: one wherever the losses rise
+abbrev pub lost_places : Signals → List ℕ
+lost_places (Start policy) = []
+lost_places (s ▸ signal) =
+    if nat_lt (losses s) (losses (s ▸ signal))
+    then lost_places s ++ place_lost (policy_of s).strategy (s ▸ signal) ∷ []
+    else lost_places s
+
+-- whether a place is among those lost
+abbrev pub is_lost : List ℕ → ℕ → Bool
+is_lost lost place = list_any (λ p. p == place) lost
+
+-- the items offered, in their order, without those at the lost places
+abbrev pub without : List ℕ → Signals → List Item
+without lost (Start policy) = []
+without lost (s ▸ Requested n) = without lost s
+without lost (s ▸ Offered item) =
+    if is_lost lost (offered_count s) then without lost s else without lost s ++ item ∷ []
+without lost (s ▸ Ended terminal) = without lost s
+
+-- the items that the strategy keeps
+abbrev pub kept : Signals → List Item
+kept s = without (lost_places s) s
+
+-- whether a terminal goes ahead of the items that wait, which are then never given
+abbrev pub goes_ahead : Errors → Note → Bool
+goes_ahead Delay terminal = false
+
+-- the items of the line: those kept; an error that goes ahead leaves of them only what was requested before it
+abbrev pub line_items : Signals → List Item
+line_items (Start policy) = []
+line_items (s ▸ Requested n) = line_items s
+line_items (s ▸ Offered item) = kept (s ▸ Offered item)
+line_items (s ▸ Ended terminal) =
+    if goes_ahead (policy_of s).errors terminal then take (demand s) (kept s) else kept s
+
+-- the terminal as the last part of a line
+abbrev pub ending : Signals → List Note
+ending s = option_to_list (terminal_of s)
+
+-- the line: all that the observer is to be given
+abbrev pub line : Signals → List Note
+line s = map Next (line_items s) ++ ending s
+
+-- what a demand for n items releases: the first n items, and the ending once these are all
+abbrev pub released : ℕ → List Item → List Note → List Note
+released n items last = map Next (take n items) ++ (if nat_le (length items) n then last else [])
+
+-- what the observer was given
+abbrev pub given : Signals → List Note
+given s = released (demand s) (line_items s) (ending s)
+
+-- the items that wait for a request
+abbrev pub waiting_items : Signals → List Item
+waiting_items s = drop (demand s) (line_items s)
+
+-- the terminal, where it waits behind items
+abbrev pub waiting_end : Signals → List Note
+waiting_end s = if nat_le (length (line_items s)) (demand s) then [] else ending s
+
+-- what waits
+abbrev pub waiting : Signals → List Note
+waiting s = map Next (waiting_items s) ++ waiting_end s
+
+-- how many more items may be given: those requested less those given
+abbrev pub owed : Signals → ℕ
+owed s = demand s - length (take (demand s) (line_items s))
