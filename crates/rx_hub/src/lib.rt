@@ -1,0 +1,9 @@
+//! The core of one subject: a hub takes the subject's events one by one and gives each observer its notes.
+//!
+//! It starts no thread, waits for nothing and reaches nothing outside. The crates above rest on one contract, exact
+//! delivery: for every history that a hub stands for, a step answers and gives what `rx_history` defines for that
+//! history and the event, and the hub then stands for the history with the event.
+#![tactic(auto)]
+
+mod lane;
+
