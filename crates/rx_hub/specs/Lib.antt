@@ -1,1 +1,5 @@
+pub mod Hubs
 pub mod Lanes
+pub mod Multicasts
+pub mod Offers
+pub mod Subscriptions

@@ -5,5 +5,11 @@
 //! history and the event, and the hub then stands for the history with the event.
 #![tactic(auto)]
 
+mod hub;
 mod lane;
+mod multicast;
+mod offer;
+mod subscription;
 
+pub use hub::{Hub, HubError};
+pub use rx_note::Given;

@@ -1,0 +1,56 @@
+-- What a queue gives by several signals in turn.
+use Rattle.std.proofs.Common.{◌≡◌, ℕ, List, [], ◌∷◌, ◌++◌, map, Option, None, Some, option_to_list, refl, sym, ap, subst, ◌∙◌, append_assoc, append-nil}
+use Rattle.std.proofs.lemmas.List.{map-append}
+use Rattle.rx_note.specs.declared.item.Item.{Item}
+use Rattle.rx_note.specs.declared.given.Given.{Given}
+use Rattle.rx_note.specs.declared.note.Note.{Note}
+use Rattle.rx_note.specs.Signals.{Signal, Offered, Signals, ◌▸◌, terminal_of, given}
+use Rattle.rx_history.specs.Histories.{followed_by, addressed}
+use Rattle.rx_hub.specs.Lanes.{LaneState, StandsFor, MayFollow, Gives, GoesOn}
+use Rattle.rx_hub.specs.Subscriptions.{Serves}
+
+-- several signals, and then several more
+pub followed_by-append : (s : Signals) (xs ys : List Signal) → followed_by s (xs ++ ys) ≡ followed_by (followed_by s xs) ys
+followed_by-append s [] ys = refl
+followed_by-append s (x ∷ xs) ys = followed_by-append (s ▸ x) xs ys
+
+-- no signal
+pub Serves-none : (lane : LaneState) → Serves lane lane [] []
+Serves-none lane = record {
+  gives = λ s stands unended. sym (append-nil (given s));
+  goes_on = λ s stands unended. stands
+}
+
+-- one signal
+pub Serves-one : (old new : LaneState) (signal : Signal) (notes : List Note)
+    → ((s : Signals) → terminal_of s ≡ None → MayFollow s signal) → Gives old signal notes → GoesOn old new signal → Serves old new (signal ∷ []) notes
+Serves-one old new signal notes may gives goes_on = record {
+  gives = λ s stands unended. gives s stands (may s unended);
+  goes_on = λ s stands unended. goes_on s stands (may s unended)
+}
+
+-- some signals that are no end, and then more
+pub Serves-then : (a b c : LaneState) (xs ys : List Signal) (ns ms : List Note)
+    → ((s : Signals) → terminal_of (followed_by s xs) ≡ terminal_of s) → Serves a b xs ns → Serves b c ys ms → Serves a c (xs ++ ys) (ns ++ ms)
+Serves-then a b c xs ys ns ms unended_by first then = record {
+  gives = λ s stands unended.
+      let later : terminal_of (followed_by s xs) ≡ None = unended_by s ∙ unended in
+      ap given (followed_by-append s xs ys) ∙ then.gives (followed_by s xs) (first.goes_on s stands unended) later
+      ∙ ap (λ ns'. ns' ++ ms) (first.gives s stands unended) ∙ append_assoc (given s) ns ms;
+  goes_on = λ s stands unended.
+      let later : terminal_of (followed_by s xs) ≡ None = unended_by s ∙ unended in
+      let P : Signals → Type 0 = λ t. StandsFor c t in
+      subst P (sym (followed_by-append s xs ys)) (then.goes_on (followed_by s xs) (first.goes_on s stands unended) later)
+}
+
+-- an item that is offered ends nothing
+pub offered-unended : (item : Option Item) (s : Signals) → terminal_of (followed_by s (map Offered (option_to_list item))) ≡ terminal_of s
+offered-unended None s = refl
+offered-unended (Some item) s = refl
+
+-- what was given first, and then
+pub given-then : (before middle after : List Given) (who : ℕ) (ns ms : List Note)
+    → middle ≡ before ++ addressed who ns → after ≡ middle ++ addressed who ms → after ≡ before ++ addressed who (ns ++ ms)
+given-then before middle after who ns ms first then =
+    then ∙ ap (λ os. os ++ addressed who ms) first ∙ append_assoc before (addressed who ns) (addressed who ms)
+    ∙ ap (λ os. before ++ os) (sym (map-append (λ (note : Note). record { who = who; note = note }) ns ms))

@@ -1,0 +1,65 @@
+-- What contracts see of a hub, the histories that it stands for, and what a step does.
+use Rattle.std.specs.Prelude.{◌≡◌, ◌==◌, ◌&&◌, nat_le, ℕ, Bool, true, false, List, ◌++◌, Option, Result, Ok, Err, IsOk, MatchBool}
+use Rattle.rx_note.specs.declared.given.Given.{Given}
+use Rattle.rx_note.specs.declared.note.Note.{Note}
+use Rattle.rx_note.specs.declared.rules.Rules.{Rules}
+use Rattle.rx_note.specs.declared.limits.Limits.{Limits}
+use Rattle.rx_note.specs.declared.answer.Answer.{Answer}
+use Rattle.rx_note.specs.declared.refusal.Refusal.{Refusal}
+use Rattle.rx_note.specs.declared.refusal.Refusal.TheVariants.{Ended, Full, Spent, ZeroRequest, NoObserver, TooMuch, Memory}
+use Rattle.rx_history.specs.Histories.{History, ◌▹◌, Entry, end_of, stamp, joins, held, signals, answer, outs}
+use Rattle.rx_hub.specs.Subscriptions.{Observer, numbers, AllStand}
+
+-- a subject and the observers that it holds, by rising number
+pub record HubState : Type 0 where
+  pub rules : Rules
+  pub terminal : Option Note
+  pub clock : ℕ
+  pub joined : ℕ
+  pub observers : List Observer
+
+-- a hub, with the number of its Memory answers
+pub record HubView : Type 0 where
+  pub state : HubState
+  pub misses : ℕ
+
+-- whether limits are in range
+abbrev pub are_in_range : Limits → Bool
+are_in_range limits = nat_le 1 limits.observers && nat_le limits.observers 64 && nat_le 1 limits.joins
+
+-- a hub stands for a history: it has that history's end, stamp, joins and held observers, and each observer's queue
+-- stands for its signals
+pub record StandsFor (hub : HubState) (H : History) : Type 0 where
+  pub end_is : hub.terminal ≡ end_of H
+  pub stamp_is : hub.clock ≡ stamp hub.rules H
+  pub joins_are : hub.joined ≡ joins hub.rules H
+  pub held_are : numbers hub.observers ≡ held hub.rules H
+  pub lanes_stand : AllStand (signals hub.rules H) hub.observers
+
+-- one step after H: the answer and what is given are those of the definitions, and the hub goes on
+pub record Steps (old new : HubState) (before after : List Given) (result : Result Answer Refusal) (H : History) (entry : Entry) : Type 0 where
+  pub answers : result ≡ answer old.rules H entry.1
+  pub gives : after ≡ before ++ outs old.rules H entry
+  pub goes_on : StandsFor new (H ▹ entry)
+
+-- no step for want of memory: the hub and what was given stay, and the event would have been accepted
+pub record Misses (old new : HubState) (before after : List Given) (entry : Entry) : Type 0 where
+  pub hub : new ≡ old
+  pub given : after ≡ before
+  pub accepted : (H : History) → StandsFor old H → IsOk (answer old.rules H entry.1)
+
+-- whether memory was wanting
+abbrev pub is_miss : Result Answer Refusal → Bool
+is_miss (Ok answer) = false
+is_miss (Err Ended) = false
+is_miss (Err Full) = false
+is_miss (Err Spent) = false
+is_miss (Err ZeroRequest) = false
+is_miss (Err NoObserver) = false
+is_miss (Err TooMuch) = false
+is_miss (Err Memory) = true
+
+-- what a call did that takes one entry
+pub record Takes (old new : HubState) (before after : List Given) (result : Result Answer Refusal) (entry : Entry) : Type 0 where
+  pub rules : new.rules ≡ old.rules
+  pub took : MatchBool (is_miss result) (Misses old new before after entry) ((H : History) → StandsFor old H → Steps old new before after result H entry)

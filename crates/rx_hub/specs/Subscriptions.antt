@@ -1,0 +1,84 @@
+-- The observers that a hub holds, and the signals that their queues stand for.
+use Rattle.std.specs.Prelude.{◌≡◌, ℕ, List, [], ◌∷◌, ◌++◌, ◌<◌, map, Option, Some, None, option_to_list}
+use Rattle.rx_note.specs.declared.given.Given.{Given}
+use Rattle.rx_note.specs.declared.note.Note.{Note}
+use Rattle.rx_note.specs.Signals.{Signal, Requested, Signals, Start, ◌▸◌, terminal_of, given}
+use Rattle.rx_note.specs.declared.policy.Policy.{Policy}
+use Rattle.rx_history.specs.Histories.{followed_by, ended_by, addressed}
+use Rattle.rx_hub.specs.Lanes.{LaneState, StandsFor}
+use Rattle.rx_hub.specs.declared.subscription.Subscription.{Subscription}
+
+-- an observer that is held: its number, and what waits in its queue
+pub record Observer : Type 0 where
+  pub who : ℕ
+  pub lane : LaneState
+
+-- what contracts see of a subscription
+abbrev pub observer_of : Subscription → Observer
+observer_of subscription = record { who = subscription.who; lane = subscription.lane.state }
+
+-- what contracts see of several
+abbrev pub observers_of : List Subscription → List Observer
+observers_of subscriptions = map observer_of subscriptions
+
+-- the numbers of several observers
+abbrev pub numbers : List Observer → List ℕ
+numbers observers = map (λ observer. observer.who) observers
+
+-- the queue stands for the signals that there are
+pub record StandsAt (lane : LaneState) (signals : Option Signals) : Type 0 where
+  pub these : Signals
+  pub are : signals ≡ Some these
+  pub stand : StandsFor lane these
+
+-- each observer's queue stands for the signals that the table has of its number
+abbrev pub AllStand : (ℕ → Option Signals) → List Observer → Type 0
+AllStand table [] = Unit {0}
+AllStand table (observer ∷ observers) = StandsAt observer.lane (table observer.who) × AllStand table observers
+
+-- by these signals exactly these notes are given from the queue
+pub record Serves (old new : LaneState) (signals : List Signal) (notes : List Note) : Type 0 where
+  pub gives : (s : Signals) → StandsFor old s → terminal_of s ≡ None → given (followed_by s signals) ≡ given s ++ notes
+  pub goes_on : (s : Signals) → StandsFor old s → terminal_of s ≡ None → StandsFor new (followed_by s signals)
+
+-- by these signals exactly these notes are given to the observer
+pub record Feeds (old new : Observer) (signals : List Signal) (notes : List Note) : Type 0 where
+  pub number : new.who ≡ old.who
+  pub serves : Serves old.lane new.lane signals notes
+
+-- the same, where the notes were put at the end of a list, addressed to the observer
+abbrev pub FeedsInto : Subscription → Subscription → List Signal → List Given → List Given → Type 0
+FeedsInto old new signals before after =
+    (notes : List Note) × (after ≡ before ++ addressed old.who notes) × Feeds (observer_of old) (observer_of new) signals notes
+
+-- by a request for n items more exactly these notes are given to the observer
+pub record Asks (old new : Observer) (n : ℕ) (notes : List Note) : Type 0 where
+  pub number : new.who ≡ old.who
+  pub gives : (s : Signals) → StandsFor old.lane s → given (s ▸ Requested n) ≡ given s ++ notes
+  pub goes_on : (s : Signals) → StandsFor old.lane s → StandsFor new.lane (s ▸ Requested n)
+
+-- the same, where the notes were put at the end of a list, addressed to the observer
+abbrev pub AsksInto : Subscription → Subscription → ℕ → List Given → List Given → Type 0
+AsksInto old new n before after =
+    (notes : List Note) × (after ≡ before ++ addressed old.who notes) × Asks (observer_of old) (observer_of new) n notes
+
+-- the queue of an observer that joins with this policy and request on a subject of this end, and what it gives at once
+pub record Opens (lane : LaneState) (note : Option Note) (policy : Policy) (first : ℕ) (end : Option Note) : Type 0 where
+  pub gives : given (followed_by (Start policy ▸ Requested first) (ended_by end)) ≡ option_to_list note
+  pub stands : StandsFor lane (followed_by (Start policy ▸ Requested first) (ended_by end))
+
+-- there is room for one item more in the queue
+abbrev pub HasRoom : Subscription → Type 0
+HasRoom subscription = 0 < subscription.lane.spare
+
+-- each observer was fed these signals, and these are the notes given, by rising place
+abbrev pub AllFed : List Signal → List Observer → List Observer → List Given → Type 0
+AllFed signals [] [] outs = outs ≡ []
+AllFed signals [] (new ∷ news) outs = ⊥
+AllFed signals (old ∷ olds) [] outs = ⊥
+AllFed signals (old ∷ olds) (new ∷ news) outs =
+    (notes : List Note) × (others : List Given) × (outs ≡ addressed old.who notes ++ others) × Feeds old new signals notes × AllFed signals olds news others
+
+-- the same, where the notes were put at the end of a list
+abbrev pub AllFedInto : List Signal → List Observer → List Observer → List Given → List Given → Type 0
+AllFedInto signals olds news before after = (outs : List Given) × (after ≡ before ++ outs) × AllFed signals olds news outs

@@ -1,0 +1,88 @@
+ghost use Rattle.std.specs.Prelude.{◌≡◌, ◌≢◌, ◌+◌, ◌-◌, ◌^◌, ◌↔◌, min, Err, false, IfOk, IsOk};
+ghost use Rattle.rx_history.specs.Histories.{History, NoEvents, answer};
+
+use crate::multicast::Multicast;
+use rx_heap::Heap;
+use rx_note::{Answer, Event, Given, Kind, Limits, Refusal, Rules};
+use std::marker::Model;
+
+/// Why a hub was not made.
+#[derive(Clone, Copy, Debug, PartialEq, Eq)]
+pub enum HubError {
+    /// The limits are not 1 to 64 observers and 1 to 4,294,967,295 joins.
+    BadLimits,
+    /// There was no memory for it.
+    Memory,
+}
+
+/// The core of one subject. Contracts see its state and the number of its Memory answers, and tell by the history that
+/// it stands for what it answers and gives. It stores no history.
+#[derive(Drop)]
+pub struct Hub {
+    multicast: Multicast,
+    misses: u64,
+}
+
+impl Model for Hub {
+    ghost use Rattle.rx_hub.specs.Hubs.{HubView};
+
+    ghost Value = { HubView };
+
+    ghost use Rattle.rx_hub.specs.Multicasts.{state_of};
+
+    ghost view = { λ h. record { state = state_of h.multicast; misses = h.misses } };
+}
+
+impl Hub {
+    ghost use Rattle.rx_hub.specs.Hubs.{StandsFor, Steps, are_in_range};
+
+    /// A hub of this kind, with no event yet. Refused in the order `BadLimits`, `Memory`.
+    pub fn new(alloc: Heap, kind: Kind, limits: Limits) -> Result<Hub, HubError>
+        ensures bad_limits { (result ≡ Err HubError.BadLimits) ↔ (are_in_range limits ≡ false) }
+        ensures stands { IfOk result (λ hub. StandsFor hub.state NoEvents) }
+        ensures rules { IfOk result (λ hub. hub.state.rules ≡ record { kind = kind; limits = limits }) }
+        ensures misses { IfOk result (λ hub. hub.misses ≡ 0) }
+    {
+        if limits.observers < 1 || limits.observers > 64 || limits.joins < 1 {
+            return Err(HubError::BadLimits);
+        }
+        match Multicast::new(alloc, Rules { kind, limits }) {
+            Ok(multicast) => Ok(Hub {
+                multicast,
+                misses: 0,
+            }),
+            Err(_) => Err(HubError::Memory),
+        }
+    }
+
+    /// Takes one event from a port, and puts at the end of `outs` what it gives: by rising number of the observer, and
+    /// to each observer in its order. Refused in the order of its kind: Emit Ended, Memory; Join Full, Spent, Memory;
+    /// Request ZeroRequest, NoObserver, TooMuch, Memory. A refusal leaves the hub and `outs`, but a Memory answer is
+    /// counted in `misses`.
+    pub fn step(&mut self, port: u32, event: Event, outs: &mut Vec<Given, Heap>) -> Result<Answer, Refusal>
+        ensures step { result ≢ Err Refusal.Memory → (H : History) → StandsFor self.old.state H
+            → Steps self.old.state self.new.state outs.old.items outs.new.items result H (port, event) }
+        ensures kept { result ≢ Err Refusal.Memory → self.new.misses ≡ self.old.misses }
+        ensures missed { result ≡ Err Refusal.Memory
+            → (self.new ≡ record { state = self.old.state; misses = min (self.old.misses + 1) (2 ^ 64 - 1) }) × (outs.new.items ≡ outs.old.items) }
+        ensures accepted { result ≡ Err Refusal.Memory → (H : History) → StandsFor self.old.state H → IsOk (answer self.old.state.rules H event) }
+        ensures rules { self.new.state.rules ≡ self.old.state.rules }
+    {
+        let result = match event {
+            Event::Emit { note, at } => self.multicast.emit(port, note, at, outs),
+            Event::Join { policy, first, at } => self.multicast.join(policy, first, at, outs),
+            Event::Request { who, n } => self.multicast.request(who, n, outs),
+        };
+        if matches!(result, Err(Refusal::Memory)) {
+            self.misses = self.misses.saturating_add(1);
+        }
+        result
+    }
+
+    /// How many of its steps were answered Memory; it stays at its greatest value.
+    pub fn misses(&self) -> u64
+        ensures { result ≡ self.now.misses }
+    {
+        self.misses
+    }
+}

@@ -1,0 +1,177 @@
+ghost use Rattle.std.specs.Prelude.{◌≡◌, ◌+◌, ◌*◌, ◌<◌, ◌≤◌, ℕ, OnOk, IfOk, replicate, vec_len, vec_capacity};
+ghost use Rattle.std.specs.List.{All};
+ghost use Rattle.rx_note.specs.declared.event.Event.TheVariants.{Emit, Join, Request};
+ghost use Rattle.rx_hub.specs.Offers.{signals_of};
+ghost use Rattle.rx_hub.specs.Subscriptions.{AllFedInto, Opens, HasRoom, observers_of};
+ghost use Rattle.rx_hub.specs.Hubs.{Takes};
+ghost use Rattle.rx_hub.specs.Multicasts.{state_of, state_at_first, KeepsState};
+
+use crate::lane::{AskError, Lane};
+use crate::offer::{Offer, copy_of};
+use crate::subscription::{Subscription, end_by, give};
+use rx_heap::{Heap, Memory};
+use rx_note::{Answer, Given, Note, Policy, Refusal, Rules};
+
+/// The state of a subject: its rules, its end, its clock and its observers, by rising number.
+#[derive(Drop)]
+pub(crate) struct Multicast {
+    pub(crate) rules: Rules,
+    pub(crate) terminal: Option<Note>,
+    pub(crate) stamp: u64,
+    pub(crate) joins: u32,
+    pub(crate) subscriptions: Vec<Subscription, Heap>,
+}
+
+/// What the step of an Emit needs: the end to keep, and an offer for each observer.
+#[derive(Drop)]
+struct Growth {
+    end: Option<Note>,
+    copies: Vec<Offer, Heap>,
+}
+
+impl Multicast {
+    /// The state of a subject with no event yet.
+    pub(crate) fn new(alloc: Heap, rules: Rules) -> Result<Multicast, Memory>
+        ensures { IfOk result (λ made. state_of made ≡ state_at_first rules) }
+    {
+        let subscriptions = Vec::with_capacity(alloc, rules.limits.observers as usize)?;
+        Ok(Multicast {
+            rules,
+            terminal: None,
+            stamp: 0,
+            joins: 0,
+            subscriptions,
+        })
+    }
+
+    /// A note is emitted from a port.
+    pub(crate) fn emit(&mut self, port: u32, note: Note, at: u64, outs: &mut Vec<Given, Heap>) -> Result<Answer, Refusal>
+        ensures { Takes (state_of self.old) (state_of self.new) outs.old.items outs.new.items result (port, Emit note at) }
+    {
+        if self.terminal.is_some() {
+            return Err(Refusal::Ended);
+        }
+        let offer = Offer::of(port, note);
+        let Ok(Growth { end, mut copies }) = self.grow(&offer, outs) else {
+            return Err(Refusal::Memory);
+        };
+        self.terminal = end;
+        self.stamp = self.stamp.max(at);
+        feed_all(&mut self.subscriptions, &mut copies, outs);
+        Ok(Answer::Admitted)
+    }
+
+    /// An observer joins.
+    pub(crate) fn join(&mut self, policy: Policy, first: u32, at: u64, outs: &mut Vec<Given, Heap>) -> Result<Answer, Refusal>
+        ensures { (port : ℕ) → Takes (state_of self.old) (state_of self.new) outs.old.items outs.new.items result (port, Join policy first at) }
+    {
+        if self.subscriptions.len() >= self.rules.limits.observers as usize {
+            return Err(Refusal::Full);
+        }
+        if self.joins >= self.rules.limits.joins {
+            return Err(Refusal::Spent);
+        }
+        let who = self.joins;
+        let Ok((lane, note)) = self.open(policy, first, outs) else {
+            return Err(Refusal::Memory);
+        };
+        give(who, note, outs);
+        self.subscriptions.push_reserved(Subscription { who, lane });
+        self.joins = who + 1;
+        self.stamp = self.stamp.max(at);
+        Ok(Answer::Joined(who))
+    }
+
+    /// An observer requests items.
+    pub(crate) fn request(&mut self, who: u32, n: u32, outs: &mut Vec<Given, Heap>) -> Result<Answer, Refusal>
+        ensures { (port : ℕ) → Takes (state_of self.old) (state_of self.new) outs.old.items outs.new.items result (port, Request who n) }
+    {
+        if n == 0 {
+            return Err(Refusal::ZeroRequest);
+        }
+        let Some(place) = self.subscriptions.iter().position(|s| s.who == who) else {
+            return Err(Refusal::NoObserver);
+        };
+        match self.subscriptions[place].ask(n, outs) {
+            Ok(()) => Ok(Answer::Asked),
+            Err(AskError::ZeroRequest) => Err(Refusal::ZeroRequest),
+            Err(AskError::TooMuch) => Err(Refusal::TooMuch),
+            Err(AskError::Memory) => Err(Refusal::Memory),
+        }
+    }
+
+    // All the growth of an Emit, before its first change.
+    fn grow(&mut self, offer: &Offer, outs: &mut Vec<Given, Heap>) -> Result<Growth, Memory>
+        ensures state { KeepsState self.old self.new }
+        ensures outs { outs.new.items ≡ outs.old.items }
+        ensures end { IfOk result (λ growth. growth.end ≡ offer.now.end) }
+        ensures copies { IfOk result (λ growth. growth.copies.items ≡ replicate (vec_len self.old.subscriptions) offer.now) }
+        ensures lane_room { OnOk result (All HasRoom self.new.subscriptions.items) }
+        ensures outs_room { OnOk result (vec_len outs.new + 2 * vec_len self.old.subscriptions ≤ vec_capacity outs.new) }
+    {
+        let count = self.subscriptions.len();
+        let Some(most) = count.checked_mul(2) else {
+            return Err(Memory);
+        };
+        outs.reserve(most)?;
+        let end = copy_of(&offer.end)?;
+        let copies = copies_of(self.subscriptions.allocator().clone()?, offer, count)?;
+        reserve_all(&mut self.subscriptions)?;
+        Ok(Growth { end, copies })
+    }
+
+    // All the growth of a Join, and the queue of the observer with what it gives at once.
+    fn open(&mut self, policy: Policy, first: u32, outs: &mut Vec<Given, Heap>) -> Result<(Lane, Option<Note>), Memory>
+        ensures state { KeepsState self.old self.new }
+        ensures outs { outs.new.items ≡ outs.old.items }
+        ensures opened { IfOk result (λ opened. Opens opened.0.state opened.1 policy first self.old.terminal) }
+        ensures seat { OnOk result (vec_len self.new.subscriptions < vec_capacity self.new.subscriptions) }
+        ensures outs_room { OnOk result (vec_len outs.new < vec_capacity outs.new) }
+    {
+        outs.reserve(1)?;
+        self.subscriptions.reserve(1)?;
+        let end = copy_of(&self.terminal)?;
+        let mut lane = Lane::joined(self.subscriptions.allocator().clone()?, policy, first)?;
+        let note = end_by(&mut lane, end);
+        Ok((lane, note))
+    }
+}
+
+// Room for one item more in each queue.
+fn reserve_all(subscriptions: &mut Vec<Subscription, Heap>) -> Result<(), Memory>
+    ensures observers { observers_of subscriptions.new.items ≡ observers_of subscriptions.old.items }
+    ensures len { vec_len subscriptions.new ≡ vec_len subscriptions.old }
+    ensures room { OnOk result (All HasRoom subscriptions.new.items) }
+{
+    for i in 0..subscriptions.len() {
+        subscriptions[i].reserve()?;
+    }
+    Ok(())
+}
+
+// As many copies of an offer.
+fn copies_of(alloc: Heap, offer: &Offer, count: usize) -> Result<Vec<Offer, Heap>, Memory>
+    ensures { IfOk result (λ copies. copies.items ≡ replicate count offer.now) }
+{
+    let mut copies = Vec::with_capacity(alloc, count)?;
+    for _ in 0..count {
+        copies.push_reserved(offer.copy()?);
+    }
+    Ok(copies)
+}
+
+// Feeds each observer its copy of an offer, by rising number.
+fn feed_all(subscriptions: &mut Vec<Subscription, Heap>, copies: &mut Vec<Offer, Heap>, outs: &mut Vec<Given, Heap>)
+    requires copies { vec_len copies.old ≡ vec_len subscriptions.old }
+    requires lane_room { All HasRoom subscriptions.old.items }
+    requires outs_room { vec_len outs.old + 2 * vec_len subscriptions.old ≤ vec_capacity outs.old }
+    ensures { (offer : Offer) → copies.old.items ≡ replicate (vec_len subscriptions.old) offer
+        → AllFedInto (signals_of offer) (observers_of subscriptions.old.items) (observers_of subscriptions.new.items) outs.old.items outs.new.items }
+{
+    for i in 0..subscriptions.len() {
+        let Some(offer) = copies.pop() else {
+            unreachable!()
+        };
+        subscriptions[i].feed(offer, outs);
+    }
+}
