@@ -1,4 +1,4 @@
-ghost use Rattle.std.specs.Prelude.{◌≡◌, ◌≤◌, ◌<◌, ◌+◌, ◌^◌, ◌↔◌, Ok, Err, None, map, length, option_to_list, OnOk, OnErr, IfOk, min, vec_len, vec_capacity};
+ghost use Rattle.std.specs.Prelude.{◌≡◌, ◌≤◌, ◌<◌, ◌+◌, ◌^◌, ◌↔◌, Ok, Err, None, ◌++◌, map, take, drop, length, option_to_list, OnOk, OnErr, IfOk, min, vec_len, vec_capacity};
 ghost use Rattle.rx_note.specs.Signals.{Signals, Start, ◌▸◌, Requested, Offered, Ended, owed};
 ghost use Rattle.rx_note.specs.declared.note.Note.TheVariants.{Next};
 ghost use Rattle.rx_hub.specs.Lanes.{StandsFor, Gives, GoesOn, GivesInto};
@@ -38,14 +38,14 @@ impl Model for Lane {
     ghost Value = { LaneView };
 
     ghost view = { λ l. record {
-        state = record {
-            policy = l.policy;
-            items = l.waiting.items;
-            last = option_to_list l.last;
-            ended = l.ended;
-            owing = l.owed
-        };
-        spare = deque_capacity l.waiting - deque_len l.waiting
+      state = record {
+        policy = l.policy;
+        items = l.waiting.items;
+        last = option_to_list l.last;
+        ended = l.ended;
+        owing = l.owed;
+      };
+      spare = deque_capacity l.waiting - deque_len l.waiting;
     } };
 }
 
@@ -150,6 +150,9 @@ impl Lane {
 fn move_items(count: usize, waiting: &mut VecDeque<Item, Heap>, outs: &mut Vec<Note, Heap>)
     requires there { count ≤ length waiting.old.items }
     requires room { vec_len outs.old + count ≤ vec_capacity outs.old }
+    ensures moved { outs.new.items ≡ outs.old.items ++ map Next (take count waiting.old.items) }
+    ensures left { waiting.new.items ≡ drop count waiting.old.items }
+    ensures capacity { vec_capacity outs.new ≡ vec_capacity outs.old }
 {
     for _ in 0..count {
         let Some(item) = waiting.pop_front() else {
@@ -162,6 +165,8 @@ fn move_items(count: usize, waiting: &mut VecDeque<Item, Heap>, outs: &mut Vec<N
 // Moves the terminal that waits, if there is one, into `outs`.
 fn give_last(last: &mut Option<Note>, outs: &mut Vec<Note, Heap>)
     requires { vec_len outs.old < vec_capacity outs.old }
+    ensures moved { outs.new.items ≡ outs.old.items ++ option_to_list last.old }
+    ensures left { last.new ≡ None }
 {
     if let Some(note) = last.take() {
         outs.push_reserved(note);

@@ -21,7 +21,6 @@ pub data Signal : Type 0 where
   Ended : (terminal : Note) → Signal
 
 infixl 10 ◌▸◌
-
 -- the signals of an observer that joined with this policy; the latest signal stands outermost
 pub data Signals : Type 0 where
   Start : (policy : Policy) → Signals

@@ -1,0 +1,122 @@
+-- What a queue gives and what it is then, by each way that its code takes.
+use Rattle.std.proofs.Common.{◌≡◌, ℕ, ◌+◌, ◌-◌, ◌<◌, ◌≤◌, true, cond, leb, List, [], ◌∷◌, ◌++◌, length, map, take, drop, None, refl, sym, subst, ap, ◌∙◌, arith}
+use Rattle.std.proofs.lemmas.Bool.{cond-true, cond-false, le-leb, lt-leb}
+use Rattle.std.proofs.lemmas.List.{take_all, drop_all}
+use Rattle.rx_note.specs.declared.item.Item.{Item}
+use Rattle.rx_note.specs.declared.note.Note.{Note}
+use Rattle.rx_note.specs.declared.note.Note.TheVariants.{Next}
+use Rattle.rx_note.specs.Signals.{Signal, Requested, Offered, Ended, Signals, ◌▸◌, policy_of, terminal_of, released, given}
+use Rattle.rx_note.proofs.Lines.{stays_behind}
+use Rattle.rx_note.proofs.Released.{released_all, released_part}
+use Rattle.rx_note.proofs.Steps.{Becomes, offer_given, offer_waits, end_given, end_waits, ask_releases}
+use Rattle.rx_hub.specs.Lanes.{LaneState, LaneView, StandsFor}
+
+-- by this signal these notes are given, and the queue is then this one
+pub record Goes (s : Signals) (signal : Signal) (notes : List Note) (new : LaneState) : Type 0 where
+  pub gives : given (s ▸ signal) ≡ given s ++ notes
+  pub stands : StandsFor new (s ▸ signal)
+
+-- views that are equal stand for the same signals
+pub stands_as : {a b : LaneView} {s : Signals} → a ≡ b → StandsFor b.state s → StandsFor a.state s
+stands_as {s = s} e st = subst (λ (v : LaneView). StandsFor v.state s) (sym e) st
+
+-- an item that is owed is given
+pub offer_now : (lane : LaneState) (item : Item) → 0 < lane.owing → (s : Signals) → StandsFor lane s → terminal_of s ≡ None → Goes s (Offered item) (Next item ∷ []) (record lane { owing = lane.owing - 1 })
+offer_now lane item h s st open_now =
+    let b = offer_given (policy_of s).strategy s item refl open_now (omega (arith, st.owing)) in
+    record {
+      gives = b.gives;
+      stands = record {
+        policy = st.policy;
+        items = st.items ∙ sym b.leaves;
+        last = st.last ∙ sym b.holds;
+        ended = st.ended;
+        owing = ap (λ k. k - 1) st.owing ∙ sym b.owes;
+      };
+    }
+
+-- an item that is not owed waits behind the others
+pub offer_later : (lane : LaneState) (item : Item) → lane.owing ≡ 0 → (s : Signals) → StandsFor lane s → terminal_of s ≡ None → Goes s (Offered item) [] (record lane { items = lane.items ++ item ∷ [] })
+offer_later lane item h s st open_now =
+    let b = offer_waits (policy_of s).strategy s item refl open_now (omega (arith, st.owing)) in
+    record {
+      gives = b.gives;
+      stands = record {
+        policy = st.policy;
+        items = ap (λ items. items ++ item ∷ []) st.items ∙ sym b.leaves;
+        last = st.last ∙ sym b.holds;
+        ended = st.ended;
+        owing = st.owing ∙ sym b.owes;
+      };
+    }
+
+-- a terminal is given where nothing waits
+pub end_now : (lane : LaneState) (terminal : Note) → length lane.items ≡ 0 → (s : Signals) → StandsFor lane s → terminal_of s ≡ None → Goes s (Ended terminal) (terminal ∷ []) (record lane { ended = true })
+end_now lane terminal h s st open_now =
+    let b = end_given s terminal (stays_behind (policy_of s).errors terminal) open_now (omega (arith, ap length st.items)) in
+    record {
+      gives = b.gives;
+      stands = record {
+        policy = st.policy;
+        items = st.items ∙ sym b.leaves;
+        last = st.last ∙ sym b.holds;
+        ended = refl;
+        owing = st.owing ∙ sym b.owes;
+      };
+    }
+
+-- elsewhere it waits
+pub end_later : (lane : LaneState) (terminal : Note) → 0 < length lane.items → (s : Signals) → StandsFor lane s → terminal_of s ≡ None → Goes s (Ended terminal) [] (record lane { last = terminal ∷ []; ended = true })
+end_later lane terminal h s st open_now =
+    let b = end_waits s terminal (stays_behind (policy_of s).errors terminal) open_now (omega (arith, ap length st.items)) in
+    record {
+      gives = b.gives;
+      stands = record {
+        policy = st.policy;
+        items = st.items ∙ sym b.leaves;
+        last = sym b.holds;
+        ended = refl;
+        owing = st.owing ∙ sym b.owes;
+      };
+    }
+
+ask_lane : (lane : LaneState) (n : ℕ) (s : Signals) → StandsFor lane s → Becomes s (Requested n) (released (lane.owing + n) lane.items lane.last) (drop (lane.owing + n) lane.items) (cond (leb (length lane.items) (lane.owing + n)) [] lane.last) (lane.owing + n - length lane.items)
+ask_lane lane n s st = rw (st.owing, st.items, st.last) (ask_releases s n)
+
+-- a request for all that waits gives it, with the terminal
+pub ask_all : (lane : LaneState) (n count : ℕ) → count ≡ length lane.items → count ≤ lane.owing + n → (s : Signals) → StandsFor lane s → Goes s (Requested n) (map Next (take count lane.items) ++ lane.last) (record lane { items = drop count lane.items; last = []; owing = lane.owing + n - count })
+ask_all lane n count e h s st =
+    let b = ask_lane lane n s st in
+    let within : length lane.items ≤ lane.owing + n = omega arith in
+    record {
+      gives =
+          b.gives
+          ∙ ap (λ notes. given s ++ notes) (released_all (lane.owing + n) lane.items lane.last within)
+          ∙ ap (λ front. given s ++ (map Next front ++ lane.last)) (sym (take_all count lane.items (omega arith)));
+      stands = record {
+        policy = st.policy;
+        items = drop_all count lane.items (omega arith) ∙ sym (drop_all (lane.owing + n) lane.items within) ∙ sym b.leaves;
+        last = sym (cond-true (leb (length lane.items) (lane.owing + n)) [] lane.last (le-leb (length lane.items) (lane.owing + n) within)) ∙ sym b.holds;
+        ended = st.ended;
+        owing = ap (λ m. lane.owing + n - m) e ∙ sym b.owes;
+      };
+    }
+
+-- a request for less gives as many items as are then owed
+pub ask_part : (lane : LaneState) (n count : ℕ) → count ≡ lane.owing + n → count < length lane.items → (s : Signals) → StandsFor lane s → Goes s (Requested n) (map Next (take count lane.items)) (record lane { items = drop count lane.items; owing = lane.owing + n - count })
+ask_part lane n count e h s st =
+    let b = ask_lane lane n s st in
+    let beyond : lane.owing + n < length lane.items = omega arith in
+    record {
+      gives =
+          b.gives
+          ∙ ap (λ notes. given s ++ notes) (released_part (lane.owing + n) lane.items lane.last beyond)
+          ∙ ap (λ m. given s ++ map Next (take m lane.items)) (sym e);
+      stands = record {
+        policy = st.policy;
+        items = ap (λ m. drop m lane.items) e ∙ sym b.leaves;
+        last = sym (cond-false (leb (length lane.items) (lane.owing + n)) [] lane.last (lt-leb (length lane.items) (lane.owing + n) beyond)) ∙ sym b.holds;
+        ended = st.ended;
+        owing = omega (arith, b.owes);
+      };
+    }

@@ -1,0 +1,19 @@
+use Rattle.std.proofs.Common.{arith}
+use Rattle.rx_hub.proofs.LanesSteps.{stands_as, offer_now, offer_later}
+use Rattle.rx_hub.proofs.lane.Lane.offer.Goals as goal
+
+pub returns-then-self-gt0-clause-gives : goal.returns-then-self-gt0-clause-gives
+returns-then-self-gt0-clause-gives c = λ s st open_now.
+    (offer_now _ c.args.item c.if-self-gt0.true s (stands_as c.self.view_is st) open_now).gives
+
+pub returns-then-self-gt0-clause-stands : goal.returns-then-self-gt0-clause-stands
+returns-then-self-gt0-clause-stands c = λ s st open_now.
+    (offer_now _ c.args.item c.if-self-gt0.true s (stands_as c.self.view_is st) open_now).stands
+
+pub returns-clause-gives : goal.returns-clause-gives
+returns-clause-gives c = λ s st open_now.
+    (offer_later _ c.args.item (omega arith) s (stands_as c.self.view_is st) open_now).gives
+
+pub returns-clause-stands : goal.returns-clause-stands
+returns-clause-stands c = λ s st open_now.
+    rw c.push_back_reserved.ensures.items (offer_later _ c.args.item (omega arith) s (stands_as c.self.view_is st) open_now).stands
