@@ -18,10 +18,13 @@ AllFed-push signals [] [] outs old new notes all feeds =
     (notes, [], ap (λ os. os ++ addressed old.who notes) all ∙ sym (append-nil (addressed old.who notes)), feeds, refl)
 AllFed-push signals [] (n ∷ news) outs old new notes all feeds = absurd all
 AllFed-push signals (o ∷ olds) [] outs old new notes all feeds = absurd all
-AllFed-push signals (o ∷ olds) (n ∷ news) outs old new notes all feeds =
-    (all.0, all.1 ++ addressed old.who notes,
-    ap (λ os. os ++ addressed old.who notes) all.2 ∙ append_assoc (addressed o.who all.0) all.1 (addressed old.who notes),
-    all.3, AllFed-push signals olds news all.1 old new notes all.4 feeds)
+AllFed-push signals (o ∷ olds) (n ∷ news) outs old new notes all feeds = (
+  all.0,
+  all.1 ++ addressed old.who notes,
+  ap (λ os. os ++ addressed old.who notes) all.2 ∙ append_assoc (addressed o.who all.0) all.1 (addressed old.who notes),
+  all.3,
+  AllFed-push signals olds news all.1 old new notes all.4 feeds,
+)
 
 -- the first i observers were fed, and the others stand as they were
 pub record Feeding (olds news : List Subscription) (i : ℕ) (copies_old copies_new : List Offer) (before after : List Given) : Type 0 where
@@ -42,7 +45,7 @@ replicate-pop : (all left : List Offer) (copy offer : Offer) → all ≡ replica
 replicate-pop all left copy offer copies pops =
     let len : length all ≡ length left + 1 = simp length-append at (ap length pops) in
     same_from_push left (replicate (length left) offer) copy offer
-        (sym pops ∙ copies ∙ ap (λ n. replicate n offer) len ∙ sym (replicate_more (length left) offer))
+    (sym pops ∙ copies ∙ ap (λ n. replicate n offer) len ∙ sym (replicate_more (length left) offer))
 
 -- the observers of one turn more
 observers-more : (xs : List Subscription) (i : ℕ) (x : Subscription) → i < length xs → x ≡ get_or xs i x
@@ -68,10 +71,14 @@ Feeding-more olds news i all copies left before after later old new copy h lt le
       let e_new = observers-set news i new (omega (arith, lt, len)) in
       let Fed : List Observer → List Observer → Type 0 = λ os ns. AllFed (signals_of offer) os ns (so_far.1.0 ++ addressed old.who fed.0) in
       let feeds : Feeds (observer_of old) (observer_of new) (signals_of offer) fed.0 =
-          let P : Offer → Type 0 = λ o. Feeds (observer_of old) (observer_of new) (signals_of o) fed.0 in subst P popped.1 fed.2 in
-      (popped.0, (so_far.1.0 ++ addressed old.who fed.0,
-      fed.1 ∙ ap (λ os. os ++ addressed old.who fed.0) so_far.1.1 ∙ append_assoc before so_far.1.0 (addressed old.who fed.0),
-      subst (λ (os : List Observer). Fed os (observers_of (take (i + 1) (set news i new)))) (sym e_old)
-          (subst (λ (ns : List Observer). Fed (observers_of (take i olds) ++ observer_of old ∷ []) ns) (sym e_new)
-          (AllFed-push (signals_of offer) (observers_of (take i olds)) (observers_of (take i news)) so_far.1.0 (observer_of old) (observer_of new) fed.0 so_far.1.2 feeds))))
+      let P : Offer → Type 0 = λ o. Feeds (observer_of old) (observer_of new) (signals_of o) fed.0 in subst P popped.1 fed.2 in (
+        popped.0,
+        (
+          so_far.1.0 ++ addressed old.who fed.0,
+          fed.1 ∙ ap (λ os. os ++ addressed old.who fed.0) so_far.1.1 ∙ append_assoc before so_far.1.0 (addressed old.who fed.0),
+          subst (λ (os : List Observer). Fed os (observers_of (take (i + 1) (set news i new)))) (sym e_old)
+              (subst (λ (ns : List Observer). Fed (observers_of (take i olds) ++ observer_of old ∷ []) ns) (sym e_new)
+              (AllFed-push (signals_of offer) (observers_of (take i olds)) (observers_of (take i news)) so_far.1.0 (observer_of old) (observer_of new) fed.0 so_far.1.2 feeds)),
+        ),
+      );
 }

@@ -18,7 +18,7 @@ followed_by-append s (x ∷ xs) ys = followed_by-append (s ▸ x) xs ys
 pub Serves-none : (lane : LaneState) → Serves lane lane [] []
 Serves-none lane = record {
   gives = λ s stands unended. sym (append-nil (given s));
-  goes_on = λ s stands unended. stands
+  goes_on = λ s stands unended. stands;
 }
 
 -- one signal
@@ -26,7 +26,7 @@ pub Serves-one : (old new : LaneState) (signal : Signal) (notes : List Note)
     → ((s : Signals) → terminal_of s ≡ None → MayFollow s signal) → Gives old signal notes → GoesOn old new signal → Serves old new (signal ∷ []) notes
 Serves-one old new signal notes may gives goes_on = record {
   gives = λ s stands unended. gives s stands (may s unended);
-  goes_on = λ s stands unended. goes_on s stands (may s unended)
+  goes_on = λ s stands unended. goes_on s stands (may s unended);
 }
 
 -- some signals that are no end, and then more
@@ -40,7 +40,7 @@ Serves-then a b c xs ys ns ms unended_by first then = record {
   goes_on = λ s stands unended.
       let later : terminal_of (followed_by s xs) ≡ None = unended_by s ∙ unended in
       let P : Signals → Type 0 = λ t. StandsFor c t in
-      subst P (sym (followed_by-append s xs ys)) (then.goes_on (followed_by s xs) (first.goes_on s stands unended) later)
+      subst P (sym (followed_by-append s xs ys)) (then.goes_on (followed_by s xs) (first.goes_on s stands unended) later);
 }
 
 -- an item that is offered ends nothing

@@ -12,7 +12,7 @@ state_of multicast = record {
   terminal = multicast.terminal;
   clock = multicast.stamp;
   joined = multicast.joins;
-  observers = observers_of multicast.subscriptions.items
+  observers = observers_of multicast.subscriptions.items;
 }
 
 -- nothing that contracts see of it has changed

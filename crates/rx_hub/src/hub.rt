@@ -59,7 +59,12 @@ impl Hub {
     /// to each observer in its order. Refused in the order of its kind: Emit Ended, Memory; Join Full, Spent, Memory;
     /// Request ZeroRequest, NoObserver, TooMuch, Memory. A refusal leaves the hub and `outs`, but a Memory answer is
     /// counted in `misses`.
-    pub fn step(&mut self, port: u32, event: Event, outs: &mut Vec<Given, Heap>) -> Result<Answer, Refusal>
+    pub fn step(
+        &mut self,
+        port: u32,
+        event: Event,
+        outs: &mut Vec<Given, Heap>,
+    ) -> Result<Answer, Refusal>
         ensures step { result ≢ Err Refusal.Memory → (H : History) → StandsFor self.old.state H
             → Steps self.old.state self.new.state outs.old.items outs.new.items result H (port, event) }
         ensures kept { result ≢ Err Refusal.Memory → self.new.misses ≡ self.old.misses }

@@ -45,7 +45,13 @@ impl Multicast {
     }
 
     /// A note is emitted from a port.
-    pub(crate) fn emit(&mut self, port: u32, note: Note, at: u64, outs: &mut Vec<Given, Heap>) -> Result<Answer, Refusal>
+    pub(crate) fn emit(
+        &mut self,
+        port: u32,
+        note: Note,
+        at: u64,
+        outs: &mut Vec<Given, Heap>,
+    ) -> Result<Answer, Refusal>
         ensures { Takes (state_of self.old) (state_of self.new) outs.old.items outs.new.items result (port, Emit note at) }
     {
         if self.terminal.is_some() {
@@ -62,7 +68,13 @@ impl Multicast {
     }
 
     /// An observer joins.
-    pub(crate) fn join(&mut self, policy: Policy, first: u32, at: u64, outs: &mut Vec<Given, Heap>) -> Result<Answer, Refusal>
+    pub(crate) fn join(
+        &mut self,
+        policy: Policy,
+        first: u32,
+        at: u64,
+        outs: &mut Vec<Given, Heap>,
+    ) -> Result<Answer, Refusal>
         ensures { (port : ℕ) → Takes (state_of self.old) (state_of self.new) outs.old.items outs.new.items result (port, Join policy first at) }
     {
         if self.subscriptions.len() >= self.rules.limits.observers as usize {
@@ -83,7 +95,12 @@ impl Multicast {
     }
 
     /// An observer requests items.
-    pub(crate) fn request(&mut self, who: u32, n: u32, outs: &mut Vec<Given, Heap>) -> Result<Answer, Refusal>
+    pub(crate) fn request(
+        &mut self,
+        who: u32,
+        n: u32,
+        outs: &mut Vec<Given, Heap>,
+    ) -> Result<Answer, Refusal>
         ensures { (port : ℕ) → Takes (state_of self.old) (state_of self.new) outs.old.items outs.new.items result (port, Request who n) }
     {
         if n == 0 {
@@ -121,7 +138,12 @@ impl Multicast {
     }
 
     // All the growth of a Join, and the queue of the observer with what it gives at once.
-    fn open(&mut self, policy: Policy, first: u32, outs: &mut Vec<Given, Heap>) -> Result<(Lane, Option<Note>), Memory>
+    fn open(
+        &mut self,
+        policy: Policy,
+        first: u32,
+        outs: &mut Vec<Given, Heap>,
+    ) -> Result<(Lane, Option<Note>), Memory>
         ensures state { KeepsState self.old self.new }
         ensures outs { outs.new.items ≡ outs.old.items }
         ensures opened { IfOk result (λ opened. Opens opened.0.state opened.1 policy first self.old.terminal) }
@@ -161,7 +183,11 @@ fn copies_of(alloc: Heap, offer: &Offer, count: usize) -> Result<Vec<Offer, Heap
 }
 
 // Feeds each observer its copy of an offer, by rising number.
-fn feed_all(subscriptions: &mut Vec<Subscription, Heap>, copies: &mut Vec<Offer, Heap>, outs: &mut Vec<Given, Heap>)
+fn feed_all(
+    subscriptions: &mut Vec<Subscription, Heap>,
+    copies: &mut Vec<Offer, Heap>,
+    outs: &mut Vec<Given, Heap>,
+)
     requires copies { vec_len copies.old ≡ vec_len subscriptions.old }
     requires lane_room { All HasRoom subscriptions.old.items }
     requires outs_room { vec_len outs.old + 2 * vec_len subscriptions.old ≤ vec_capacity outs.old }
