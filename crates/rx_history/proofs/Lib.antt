@@ -1,1 +1,4 @@
+pub mod Cases
+pub mod Endings
+pub mod Numbers
 mod Rows
