@@ -1,5 +1,5 @@
 -- What contracts see of the state of a subject.
-use Rattle.std.specs.Prelude.{◌≡◌, [], None, vec_len}
+use Rattle.std.specs.Prelude.{[], None}
 use Rattle.rx_note.specs.declared.rules.Rules.{Rules}
 use Rattle.rx_hub.specs.declared.multicast.Multicast.{Multicast}
 use Rattle.rx_hub.specs.Subscriptions.{observers_of}
@@ -14,11 +14,6 @@ state_of multicast = record {
   joined = multicast.joins;
   observers = observers_of multicast.subscriptions.items;
 }
-
--- nothing that contracts see of it has changed
-pub record KeepsState (old new : Multicast) : Type 0 where
-  pub state : state_of new ≡ state_of old
-  pub len : vec_len new.subscriptions ≡ vec_len old.subscriptions
 
 -- the state with no event yet
 abbrev pub state_at_first : Rules → HubState

@@ -1,10 +1,10 @@
-ghost use Rattle.std.specs.Prelude.{◌≡◌, ◌+◌, ◌*◌, ◌<◌, ◌≤◌, ℕ, OnOk, IfOk, replicate, vec_len, vec_capacity};
+ghost use Rattle.std.specs.Prelude.{◌≡◌, ◌+◌, ◌*◌, ◌<◌, ◌≤◌, ◌==◌, ℕ, position, OnOk, IfOk, replicate, vec_len, vec_capacity};
 ghost use Rattle.std.specs.List.{All};
 ghost use Rattle.rx_note.specs.declared.event.Event.TheVariants.{Emit, Join, Request};
 ghost use Rattle.rx_hub.specs.Offers.{signals_of};
 ghost use Rattle.rx_hub.specs.Subscriptions.{AllFedInto, Opens, HasRoom, observers_of};
 ghost use Rattle.rx_hub.specs.Hubs.{Takes};
-ghost use Rattle.rx_hub.specs.Multicasts.{state_of, state_at_first, KeepsState};
+ghost use Rattle.rx_hub.specs.Multicasts.{state_of, state_at_first};
 
 use crate::lane::{AskError, Lane};
 use crate::offer::{Offer, copy_of};
@@ -58,7 +58,7 @@ impl Multicast {
             return Err(Refusal::Ended);
         }
         let offer = Offer::of(port, note);
-        let Ok(Growth { end, mut copies }) = self.grow(&offer, outs) else {
+        let Ok(Growth { end, mut copies }) = grow(&mut self.subscriptions, &offer, outs) else {
             return Err(Refusal::Memory);
         };
         self.terminal = end;
@@ -84,7 +84,8 @@ impl Multicast {
             return Err(Refusal::Spent);
         }
         let who = self.joins;
-        let Ok((lane, note)) = self.open(policy, first, outs) else {
+        let Ok((lane, note)) = open(&mut self.subscriptions, &self.terminal, policy, first, outs)
+        else {
             return Err(Refusal::Memory);
         };
         give(who, note, outs);
@@ -106,7 +107,7 @@ impl Multicast {
         if n == 0 {
             return Err(Refusal::ZeroRequest);
         }
-        let Some(place) = self.subscriptions.iter().position(|s| s.who == who) else {
+        let Some(place) = place_of(&self.subscriptions, who) else {
             return Err(Refusal::NoObserver);
         };
         match self.subscriptions[place].ask(n, outs) {
@@ -116,47 +117,60 @@ impl Multicast {
             Err(AskError::Memory) => Err(Refusal::Memory),
         }
     }
+}
 
-    // All the growth of an Emit, before its first change.
-    fn grow(&mut self, offer: &Offer, outs: &mut Vec<Given, Heap>) -> Result<Growth, Memory>
-        ensures state { KeepsState self.old self.new }
-        ensures outs { outs.new.items ≡ outs.old.items }
-        ensures end { IfOk result (λ growth. growth.end ≡ offer.now.end) }
-        ensures copies { IfOk result (λ growth. growth.copies.items ≡ replicate (vec_len self.old.subscriptions) offer.now) }
-        ensures lane_room { OnOk result (All HasRoom self.new.subscriptions.items) }
-        ensures outs_room { OnOk result (vec_len outs.new + 2 * vec_len self.old.subscriptions ≤ vec_capacity outs.new) }
-    {
-        let count = self.subscriptions.len();
-        let Some(most) = count.checked_mul(2) else {
-            return Err(Memory);
-        };
-        outs.reserve(most)?;
-        let end = copy_of(&offer.end)?;
-        let copies = copies_of(self.subscriptions.allocator().clone()?, offer, count)?;
-        reserve_all(&mut self.subscriptions)?;
-        Ok(Growth { end, copies })
-    }
+// The place of the observer of this number.
+fn place_of(subscriptions: &Vec<Subscription, Heap>, who: u32) -> Option<usize>
+    ensures { result ≡ position (λ s. s.who == who) subscriptions.now.items }
+{
+    subscriptions.iter().position(|s| s.who == who)
+}
 
-    // All the growth of a Join, and the queue of the observer with what it gives at once.
-    fn open(
-        &mut self,
-        policy: Policy,
-        first: u32,
-        outs: &mut Vec<Given, Heap>,
-    ) -> Result<(Lane, Option<Note>), Memory>
-        ensures state { KeepsState self.old self.new }
-        ensures outs { outs.new.items ≡ outs.old.items }
-        ensures opened { IfOk result (λ opened. Opens opened.0.state opened.1 policy first self.old.terminal) }
-        ensures seat { OnOk result (vec_len self.new.subscriptions < vec_capacity self.new.subscriptions) }
-        ensures outs_room { OnOk result (vec_len outs.new < vec_capacity outs.new) }
-    {
-        outs.reserve(1)?;
-        self.subscriptions.reserve(1)?;
-        let end = copy_of(&self.terminal)?;
-        let mut lane = Lane::joined(self.subscriptions.allocator().clone()?, policy, first)?;
-        let note = end_by(&mut lane, end);
-        Ok((lane, note))
-    }
+// All the growth of an Emit: room in each queue and in `outs`, and the copies.
+fn grow(
+    subscriptions: &mut Vec<Subscription, Heap>,
+    offer: &Offer,
+    outs: &mut Vec<Given, Heap>,
+) -> Result<Growth, Memory>
+    ensures observers { observers_of subscriptions.new.items ≡ observers_of subscriptions.old.items }
+    ensures len { vec_len subscriptions.new ≡ vec_len subscriptions.old }
+    ensures outs { outs.new.items ≡ outs.old.items }
+    ensures end { IfOk result (λ growth. growth.end ≡ offer.now.end) }
+    ensures copies { IfOk result (λ growth. growth.copies.items ≡ replicate (vec_len subscriptions.old) offer.now) }
+    ensures lane_room { OnOk result (All HasRoom subscriptions.new.items) }
+    ensures outs_room { OnOk result (vec_len outs.new + 2 * vec_len subscriptions.old ≤ vec_capacity outs.new) }
+{
+    let count = subscriptions.len();
+    let Some(most) = count.checked_mul(2) else {
+        return Err(Memory);
+    };
+    outs.reserve(most)?;
+    let end = copy_of(&offer.end)?;
+    let copies = copies_of(subscriptions.allocator().clone()?, offer, count)?;
+    reserve_all(subscriptions)?;
+    Ok(Growth { end, copies })
+}
+
+// All the growth of a Join, and the queue of the observer with what it gives at once.
+fn open(
+    subscriptions: &mut Vec<Subscription, Heap>,
+    terminal: &Option<Note>,
+    policy: Policy,
+    first: u32,
+    outs: &mut Vec<Given, Heap>,
+) -> Result<(Lane, Option<Note>), Memory>
+    ensures items { subscriptions.new.items ≡ subscriptions.old.items }
+    ensures outs { outs.new.items ≡ outs.old.items }
+    ensures opened { IfOk result (λ opened. Opens opened.0.state opened.1 policy first terminal.now) }
+    ensures seat { OnOk result (vec_len subscriptions.new < vec_capacity subscriptions.new) }
+    ensures outs_room { OnOk result (vec_len outs.new < vec_capacity outs.new) }
+{
+    outs.reserve(1)?;
+    subscriptions.reserve(1)?;
+    let end = copy_of(terminal)?;
+    let mut lane = Lane::joined(subscriptions.allocator().clone()?, policy, first)?;
+    let note = end_by(&mut lane, end);
+    Ok((lane, note))
 }
 
 // Room for one item more in each queue.
