@@ -65,7 +65,7 @@ end_now lane terminal h s st open_now =
       };
     }
 
--- elsewhere it waits
+-- a terminal behind items waits
 pub end_later : (lane : LaneState) (terminal : Note) → 0 < length lane.items → (s : Signals) → StandsFor lane s → terminal_of s ≡ None → Goes s (Ended terminal) [] (record lane { last = terminal ∷ []; ended = true })
 end_later lane terminal h s st open_now =
     let b = end_waits s terminal (stays_behind (policy_of s).errors terminal) open_now (omega (arith, ap length st.items)) in

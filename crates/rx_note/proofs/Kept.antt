@@ -37,7 +37,7 @@ lost_places-same s signal same =
 pub kept-requested : (s : Signals) (n : ℕ) → kept (s ▸ Requested n) ≡ kept s
 kept-requested s n = ap (λ lost. without lost s) (lost_places-same s (Requested n) (losses-requested s n))
 
--- nor does the end
+-- the end changes nothing of what is kept
 pub kept-ended : (s : Signals) (terminal : Note) → kept (s ▸ Ended terminal) ≡ kept s
 kept-ended s terminal = ap (λ lost. without lost s) (lost_places-same s (Ended terminal) (losses-ended s terminal))
 
@@ -56,7 +56,7 @@ lost_places-buffer (s ▸ signal) e =
 pub kept-buffer : (s : Signals) → (policy_of s).strategy ≡ Buffer → kept s ≡ without [] s
 kept-buffer s e = ap (λ lost. without lost s) (lost_places-buffer s e)
 
--- an offered item is kept
+-- an item offered is kept behind the others
 pub kept-offered : (g : Strategy) (s : Signals) (item : Item) → (policy_of s).strategy ≡ g → kept (s ▸ Offered item) ≡ kept s ++ item ∷ []
 kept-offered Buffer s item e =
     kept-buffer (s ▸ Offered item) e ∙ ap (λ items. items ++ item ∷ []) (sym (kept-buffer s e))

@@ -1,4 +1,6 @@
 pub mod Kept
+pub mod Laws
 pub mod Lines
+pub mod Order
 pub mod Released
 pub mod Steps

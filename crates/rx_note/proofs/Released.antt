@@ -15,12 +15,12 @@ released_all n items last h =
     ap (λ b. map Next (take n items) ++ cond b last []) (le-leb (length items) n h)
     ∙ ap (λ front. map Next front ++ last) (take_all n items h)
 
--- less demand releases items alone
+-- less demand releases the first items alone
 pub released_part : (n : ℕ) (items : List Item) (last : List Note) → n < length items → released n items last ≡ map Next (take n items)
 released_part n items last h =
     ap (λ b. map Next (take n items) ++ cond b last []) (lt-leb (length items) n h) ∙ append-nil (map Next (take n items))
 
--- where there is no ending, too
+-- a line with no ending yet releases items alone
 pub released-open : (n : ℕ) (items : List Item) → released n items [] ≡ map Next (take n items)
 released-open n items =
     elim (cases_lt n (length items)) [
@@ -37,7 +37,7 @@ released-item n items item h =
     ∙ ap (λ front. map Next front ++ Next item ∷ []) (sym (take_all n items (omega arith)))
     ∙ ap (λ notes. notes ++ Next item ∷ []) (sym (released-open n items))
 
--- elsewhere it waits
+-- beyond the demand it waits
 pub released-item_waits : (n : ℕ) (items : List Item) (item : Item) → n ≤ length items → released n (items ++ item ∷ []) [] ≡ released n items []
 released-item_waits n items item h =
     released-open n (items ++ item ∷ [])
@@ -50,7 +50,7 @@ released-end n items last h =
     released_all n items last h
     ∙ ap (λ notes. notes ++ last) (sym (append-nil (map Next items)) ∙ sym (released_all n items [] h))
 
--- until then it waits
+-- the ending of a longer line waits
 pub released-end_waits : (n : ℕ) (items : List Item) (last : List Note) → n < length items → released n items last ≡ released n items []
 released-end_waits n items last h = released_part n items last h ∙ sym (released_part n items [] h)
 
@@ -62,7 +62,7 @@ released-more_part d n items last h =
     ∙ append_assoc (map Next (take d items)) (map Next (take n (drop d items))) (cond (leb (length items) (d + n)) last [])
     ∙ ap (λ b. map Next (take d items) ++ (map Next (take n (drop d items)) ++ cond b last [])) test
 
--- n more release what a queue gives that holds the rest of the line, owes what was demanded beyond it, and is asked for n
+-- n more release what the rest of the line releases by n and by what was demanded beyond the line
 pub released-more : (d n : ℕ) (items : List Item) (last : List Note) → released (d + n) items last ≡ released d items last ++ released (d - length items + n) (drop d items) (cond (leb (length items) d) [] last)
 released-more d n items last =
     elim (cases_lt d (length items)) [
@@ -84,7 +84,7 @@ released-more d n items last =
           ∙ ap (λ rest. released d items last ++ released k (drop d items) rest) (sym held)
     ]
 
--- what is released, and then the rest, is the whole line
+-- what is released and the rest are the whole line
 pub released-rest : (n : ℕ) (items : List Item) (last : List Note) → released n items last ++ (map Next (drop n items) ++ cond (leb (length items) n) [] last) ≡ map Next items ++ last
 released-rest n items last =
     elim (cases_lt n (length items)) [
