@@ -1,0 +1,103 @@
+-- A step that accepts a note: each observer was fed what the note offers.
+use Rattle.std.proofs.Common.{◌≡◌, ℕ, Bool, true, false, cond, ◌&&◌, ◌==◌, not, is_some, max, List, [], ◌∷◌, ◌++◌, length, map, drop, Option, None, Some, option_to_list, Result, Ok, Err, refl, sym, ap, subst, ◌∙◌, arith, append-nil}
+use Rattle.std.specs.Option.{option_map, option_or}
+use Rattle.std.specs.List.{list_any, flat_map}
+use Rattle.rx_note.specs.declared.given.Given.{Given}
+use Rattle.rx_note.specs.declared.note.Note.{Note}
+use Rattle.rx_note.specs.declared.note.Note.TheVariants.{Next, Completed, Failed}
+use Rattle.rx_note.specs.declared.rules.Rules.{Rules}
+use Rattle.rx_note.specs.declared.kind.Kind.{Kind}
+use Rattle.rx_note.specs.declared.kind.Kind.TheVariants.{Publish}
+use Rattle.rx_note.specs.declared.event.Event.TheVariants.{Emit}
+use Rattle.rx_note.specs.declared.answer.Answer.TheVariants.{Admitted}
+use Rattle.rx_note.specs.declared.refusal.Refusal.TheVariants as refused
+use Rattle.rx_note.specs.Signals.{Signal, Offered, Signals, ◌▸◌, terminal_of, given}
+use Rattle.rx_history.specs.Histories.{History, ◌▹◌, end_of, is_ended, stamp, held, is_held, terminal_in, followed_by, ended_by, offers_by, signalled, signals, addressed, outs}
+use Rattle.rx_history.proofs.Endings.{signals_open}
+use Rattle.rx_hub.specs.Offers.{offer_of, signals_of}
+use Rattle.rx_hub.specs.Subscriptions.{Observer, numbers, AllStand, StandsAt, Feeds, AllFed, AllFedInto}
+use Rattle.rx_hub.specs.Hubs.{HubState, StandsFor, Steps}
+use Rattle.rx_hub.proofs.Tables.{gains, gains-more, AllAmong, AllAmong-self}
+
+-- each observer was fed: its queue stands for its signals and these, and it gained what it was given
+pub record Fed (table later : ℕ → Option Signals) (olds news : List Observer) (given : List Given) : Type 0 where
+  pub same_numbers : numbers news ≡ numbers olds
+  pub all_stand : AllStand later news
+  pub all_gained : given ≡ flat_map (gains table later) (numbers olds)
+
+pub fed : (table later : ℕ → Option Signals) (signals : List Signal) (all : List ℕ) (olds news : List Observer) (given : List Given)
+    → ((o : ℕ) → list_any (λ k. k == o) all ≡ true → later o ≡ option_map (λ s. followed_by s signals) (table o))
+    → ((o : ℕ) (s : Signals) → table o ≡ Some s → terminal_of s ≡ None)
+    → AllAmong all (numbers olds) → AllStand table olds → AllFed signals olds news given → Fed table later olds news given
+fed table later signals all [] [] given more unended among stand feeds = record { same_numbers = refl; all_stand = tt; all_gained = feeds }
+fed table later signals all [] (new ∷ news) given more unended among stand feeds = absurd feeds
+fed table later signals all (old ∷ olds) [] given more unended among stand feeds = absurd feeds
+fed table later signals all (old ∷ olds) (new ∷ news) given more unended among stand feeds =
+    let s = stand.0.these in
+    let one = feeds.3 in
+    let now_open : terminal_of s ≡ None = unended old.who s stand.0.are in
+    let is : later old.who ≡ Some (followed_by s signals) =
+        more old.who among.0 ∙ ap (option_map (λ t. followed_by t signals)) stand.0.are in
+    let rest = fed table later signals all olds news feeds.1 more unended among.1 stand.1 feeds.4 in
+    let mine : gains table later old.who ≡ addressed old.who feeds.0 =
+        gains-more table later old.who s (followed_by s signals) feeds.0 stand.0.are is (one.serves.gives s stand.0.stand now_open) in
+    record {
+      same_numbers = ap (λ k. k ∷ numbers news) one.number ∙ ap (λ ks. old.who ∷ ks) rest.same_numbers;
+      all_stand = (record {
+        these = followed_by s signals;
+        are = ap later one.number ∙ is;
+        stand = one.serves.goes_on s stand.0.stand now_open
+      }, rest.all_stand);
+      all_gained = feeds.2 ∙ ap (λ os. os ++ feeds.1) (sym mine) ∙ ap (λ os. gains table later old.who ++ os) rest.all_gained
+    }
+
+-- what a note offers is what its history has it signal
+signals_of-note : (kind : Kind) (rules : Rules) (H : History) (port : ℕ) (note : Note)
+    → map Offered (offers_by kind rules H port note) ++ ended_by (terminal_in note) ≡ signals_of (offer_of port note)
+signals_of-note Publish rules H port (Next item) = refl
+signals_of-note Publish rules H port Completed = refl
+signals_of-note Publish rules H port (Failed text) = refl
+
+pub end_of-offer : (port : ℕ) (note : Note) → (offer_of port note).end ≡ terminal_in note
+end_of-offer port (Next item) = refl
+end_of-offer port Completed = refl
+end_of-offer port (Failed text) = refl
+
+both : (b c : Bool) (x y : Option Signals) → b ≡ true → c ≡ false → cond (b && not c) x y ≡ x
+both true true x y e f = cc
+both false true x y e f = cc
+both true false x y e f = refl
+both false false x y e f = cc
+
+-- a note is accepted
+pub emit_admitted : (hub : HubState) (news : List Observer) (end : Option Note) (before after : List Given) (H : History) (port : ℕ) (note : Note) (at : ℕ)
+    → is_some hub.terminal ≡ false → end ≡ (offer_of port note).end → AllFedInto (signals_of (offer_of port note)) hub.observers news before after → StandsFor hub H
+    → Steps hub (record hub { terminal = end; clock = max hub.clock at; observers = news }) before after (Ok Admitted) H (port, Emit note at)
+emit_admitted hub news end before after H port note at unended ends feeds stands =
+    let is : is_ended H ≡ false = ap is_some (sym stands.end_is) ∙ unended in
+    let none : end_of H ≡ None = no_value (end_of H) is in
+    let table : ℕ → Option Signals = signals hub.rules H in
+    let later : ℕ → Option Signals = signals hub.rules (H ▹ (port, Emit note at)) in
+    let told : signalled hub.rules H port note ≡ signals_of (offer_of port note) = signals_of-note hub.rules.kind hub.rules H port note in
+    let among : AllAmong (held hub.rules H) (numbers hub.observers) =
+        subst (λ (ks : List ℕ). AllAmong (held hub.rules H) ks) (sym stands.held_are) (AllAmong-self (held hub.rules H)) in
+    let done = fed table later (signals_of (offer_of port note)) (held hub.rules H) hub.observers news feeds.0
+        (λ o is_among. both (is_held hub.rules H o) (is_ended H) (option_map (λ s. followed_by s (signalled hub.rules H port note)) (table o)) (table o) is_among is
+            ∙ ap (λ signals'. option_map (λ s. followed_by s signals') (table o)) told)
+        (λ o s has. signals_open hub.rules H o s none has)
+        among stands.lanes_stand feeds.2 in
+    record {
+      answers = sym (ap (λ b. cond b (Err refused.Ended) (Ok Admitted)) is);
+      gives = feeds.1 ∙ ap (λ os. before ++ os) (done.all_gained ∙ ap (flat_map (gains table later)) stands.held_are);
+      goes_on = record {
+        end_is = ends ∙ end_of-offer port note ∙ sym (ap (λ e. option_or e (terminal_in note)) none);
+        stamp_is = ap (λ n. max n at) stands.stamp_is ∙ sym (ap (λ b. cond b (stamp hub.rules H) (max (stamp hub.rules H) at)) is);
+        joins_are = stands.joins_are;
+        held_are = done.same_numbers ∙ stands.held_are;
+        lanes_stand = done.all_stand;
+      };
+    }
+  where
+    no_value : (o : Option Note) → is_some o ≡ false → o ≡ None
+    no_value None e = refl
+    no_value (Some x) e = cc

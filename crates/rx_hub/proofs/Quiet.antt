@@ -1,0 +1,141 @@
+-- A step that is refused: the hub and what was given stay.
+use Rattle.std.proofs.Common.{◌≡◌, ℕ, Bool, true, false, cond, ◌&&◌, ◌==◌, not, is_some, nat_lt, nat_le, max, List, [], ◌++◌, length, map, drop, Option, None, Some, Result, Ok, Err, refl, sym, ap, subst, ◌∙◌, arith, append-nil}
+use Rattle.std.proofs.lemmas.List.{length-map}
+use Rattle.std.proofs.lemmas.Bool.Decides.{nat_tests}
+use Rattle.std.specs.Option.{option_map, option_or}
+use Rattle.std.specs.List.{list_any, flat_map}
+use Rattle.rx_note.specs.declared.given.Given.{Given}
+use Rattle.rx_note.specs.declared.note.Note.{Note}
+use Rattle.rx_note.specs.declared.policy.Policy.{Policy}
+use Rattle.rx_note.specs.declared.rules.Rules.{Rules}
+use Rattle.rx_note.specs.declared.event.Event.TheVariants.{Emit, Join, Request}
+use Rattle.rx_note.specs.declared.answer.Answer.{Answer}
+use Rattle.rx_note.specs.declared.answer.Answer.TheVariants.{Admitted, Joined, Asked}
+use Rattle.rx_note.specs.declared.refusal.Refusal.{Refusal}
+use Rattle.rx_note.specs.declared.refusal.Refusal.TheVariants as refused
+use Rattle.rx_note.specs.Signals.{Signals, ◌▸◌, Requested, owed}
+use Rattle.rx_history.specs.Histories.{History, ◌▹◌, Entry, Roster, end_of, is_ended, stamp, joins, held, is_held, may_join, with_one_more, roster_of, followed_by, signalled, opened, may_request, signals, answer, outs, terminal_in}
+use Rattle.rx_hub.specs.Subscriptions.{Observer, numbers, AllStand}
+use Rattle.rx_hub.specs.Hubs.{HubState, StandsFor, Steps}
+use Rattle.rx_hub.proofs.Tables.{gains, AllStand-all, all_gains-same}
+
+-- the entry changes nothing of the history's end, stamp, observers and signals
+pub record IsQuiet (rules : Rules) (H : History) (entry : Entry) : Type 0 where
+  pub end : end_of (H ▹ entry) ≡ end_of H
+  pub clock : stamp rules (H ▹ entry) ≡ stamp rules H
+  pub roster : roster_of rules.limits (H ▹ entry) ≡ roster_of rules.limits H
+  pub same : (o : ℕ) → signals rules (H ▹ entry) o ≡ signals rules H o
+
+-- then the hub stands for the longer history as it is, and nothing is given
+pub quiet : (hub : HubState) (outs_so_far : List Given) (result : Result Answer Refusal) (H : History) (entry : Entry)
+    → StandsFor hub H → result ≡ answer hub.rules H entry.1 → IsQuiet hub.rules H entry → Steps hub hub outs_so_far outs_so_far result H entry
+quiet hub outs_so_far result H entry stands answers q =
+    let none : outs hub.rules H entry ≡ [] =
+        ap (λ (r : Roster). flat_map (gains (signals hub.rules H) (signals hub.rules (H ▹ entry))) r.held) q.roster
+        ∙ all_gains-same (signals hub.rules H) (signals hub.rules (H ▹ entry)) (held hub.rules H) q.same in
+    record {
+      answers = answers;
+      gives = sym (ap (λ os. outs_so_far ++ os) none ∙ append-nil outs_so_far);
+      goes_on = record {
+        end_is = stands.end_is ∙ sym q.end;
+        stamp_is = stands.stamp_is ∙ sym q.clock;
+        joins_are = stands.joins_are ∙ sym (ap (λ (r : Roster). r.joins) q.roster);
+        held_are = stands.held_are ∙ sym (ap (λ (r : Roster). r.held) q.roster);
+        lanes_stand = AllStand-all (signals hub.rules H) (signals hub.rules (H ▹ entry)) hub.observers q.same stands.lanes_stand;
+      };
+    }
+
+-- AN EMIT ON AN ENDED SUBJECT
+
+ended_and : (b c : Bool) (x y : Option Signals) → c ≡ true → cond (b && not c) x y ≡ y
+ended_and true true x y e = refl
+ended_and false true x y e = refl
+ended_and true false x y e = cc
+ended_and false false x y e = refl
+
+first_of_both : (a b : Option Note) → is_some a ≡ true → option_or a b ≡ a
+first_of_both None b e = cc
+first_of_both (Some x) b e = refl
+
+pub emit_refused : (hub : HubState) (outs_so_far : List Given) (H : History) (port : ℕ) (note : Note) (at : ℕ)
+    → is_some hub.terminal ≡ true → StandsFor hub H → Steps hub hub outs_so_far outs_so_far (Err refused.Ended) H (port, Emit note at)
+emit_refused hub outs_so_far H port note at ended stands =
+    let is : is_ended H ≡ true = ap is_some (sym stands.end_is) ∙ ended in
+    quiet hub outs_so_far (Err refused.Ended) H (port, Emit note at) stands
+        (sym (ap (λ b. cond b (Err refused.Ended) (Ok Admitted)) is))
+        (record {
+          end = first_of_both (end_of H) (terminal_in note) is;
+          clock = ap (λ b. cond b (stamp hub.rules H) (max (stamp hub.rules H) at)) is;
+          roster = refl;
+          same = λ o. ended_and (is_held hub.rules H o) (is_ended H)
+              (option_map (λ s. followed_by s (signalled hub.rules H port note)) (signals hub.rules H o)) (signals hub.rules H o) is
+        })
+
+-- A JOIN TOO MANY
+
+refused_and : (b : Bool) (x y : Option Signals) → cond (b && false) x y ≡ y
+refused_and true x y = refl
+refused_and false x y = refl
+
+not_joined : (rules : Rules) (H : History) (port : ℕ) (policy : Policy) (first at : ℕ) → may_join rules H ≡ false → IsQuiet rules H (port, Join policy first at)
+not_joined rules H port policy first at refused_now = record {
+  end = refl;
+  clock = ap (λ b. cond b (max (stamp rules H) at) (stamp rules H)) refused_now;
+  roster = ap (λ b. cond b (with_one_more (roster_of rules.limits H)) (roster_of rules.limits H)) refused_now;
+  same = λ o.
+      ap (λ b. cond ((joins rules H == o) && b) (Some (opened rules H policy first at)) (signals rules H o)) refused_now
+      ∙ refused_and (joins rules H == o) (Some (opened rules H policy first at)) (signals rules H o)
+}
+
+and_false : (b : Bool) → (b && false) ≡ false
+and_false true = refl
+and_false false = refl
+
+pub join_full : (hub : HubState) (outs_so_far : List Given) (H : History) (port : ℕ) (policy : Policy) (first at : ℕ)
+    → nat_lt (length hub.observers) hub.rules.limits.observers ≡ false → StandsFor hub H
+    → Steps hub hub outs_so_far outs_so_far (Err refused.Full) H (port, Join policy first at)
+join_full hub outs_so_far H port policy first at full stands =
+    let count : length (held hub.rules H) ≡ length hub.observers = sym (ap length stands.held_are) ∙ length-map hub.observers (λ (o : Observer). o.who) in
+    let is : nat_lt (length (held hub.rules H)) hub.rules.limits.observers ≡ false = ap (λ n. nat_lt n hub.rules.limits.observers) count ∙ full in
+    quiet hub outs_so_far (Err refused.Full) H (port, Join policy first at) stands
+        (sym (ap (λ b. cond (not b) (Err refused.Full)
+            (cond (nat_lt (joins hub.rules H) hub.rules.limits.joins) (Ok (Joined (joins hub.rules H))) (Err refused.Spent))) is))
+        (not_joined hub.rules H port policy first at (ap (λ b. b && nat_lt (joins hub.rules H) hub.rules.limits.joins) is))
+
+pub join_spent : (hub : HubState) (outs_so_far : List Given) (H : History) (port : ℕ) (policy : Policy) (first at : ℕ)
+    → nat_lt (length hub.observers) hub.rules.limits.observers ≡ true → nat_lt hub.joined hub.rules.limits.joins ≡ false → StandsFor hub H
+    → Steps hub hub outs_so_far outs_so_far (Err refused.Spent) H (port, Join policy first at)
+join_spent hub outs_so_far H port policy first at free spent stands =
+    let count : length (held hub.rules H) ≡ length hub.observers = sym (ap length stands.held_are) ∙ length-map hub.observers (λ (o : Observer). o.who) in
+    let has : nat_lt (length (held hub.rules H)) hub.rules.limits.observers ≡ true = ap (λ n. nat_lt n hub.rules.limits.observers) count ∙ free in
+    let is : nat_lt (joins hub.rules H) hub.rules.limits.joins ≡ false = ap (λ n. nat_lt n hub.rules.limits.joins) (sym stands.joins_are) ∙ spent in
+    quiet hub outs_so_far (Err refused.Spent) H (port, Join policy first at) stands
+        (sym (ap (λ b. cond (not b) (Err refused.Full)
+            (cond (nat_lt (joins hub.rules H) hub.rules.limits.joins) (Ok (Joined (joins hub.rules H))) (Err refused.Spent))) has
+        ∙ ap (λ b. cond b (Ok (Joined (joins hub.rules H))) (Err refused.Spent)) is))
+        (not_joined hub.rules H port policy first at
+            (ap (λ b. nat_lt (length (held hub.rules H)) hub.rules.limits.observers && b) is ∙ and_false (nat_lt (length (held hub.rules H)) hub.rules.limits.observers)))
+
+-- A REQUEST THAT IS REFUSED
+
+-- the signals that a request leaves to an observer
+abbrev requested : ℕ → Bool → Bool → Option Signals → Option Signals
+requested n is_the_one is_held_now before =
+    cond (is_the_one && is_held_now) (option_map (λ s. cond (may_request n s) (s ▸ Requested n) s) before) before
+
+not_requested : (n : ℕ) (one h : Bool) (before : Option Signals)
+    → ((s : Signals) → one ≡ true → h ≡ true → before ≡ Some s → may_request n s ≡ false) → requested n one h before ≡ before
+not_requested n false h before none = refl
+not_requested n true false before none = refl
+not_requested n true true None none = refl
+not_requested n true true (Some s) none = ap (λ b. Some (cond b (s ▸ Requested n) s)) (none s refl refl refl)
+
+pub request_quiet : (rules : Rules) (H : History) (port who n : ℕ)
+    → ((o : ℕ) (s : Signals) → (who == o) ≡ true → is_held rules H o ≡ true → signals rules H o ≡ Some s → may_request n s ≡ false)
+    → IsQuiet rules H (port, Request who n)
+request_quiet rules H port who n none = record {
+  end = refl;
+  clock = refl;
+  roster = refl;
+  same = λ o. not_requested n (who == o) (is_held rules H o) (signals rules H o) (none o)
+}
