@@ -1,5 +1,5 @@
 -- A step that accepts a note: each observer was fed what the note offers.
-use Rattle.std.proofs.Common.{◌≡◌, ℕ, Bool, true, false, cond, ◌&&◌, ◌==◌, not, is_some, max, List, [], ◌∷◌, ◌++◌, length, map, drop, Option, None, Some, option_to_list, Result, Ok, Err, refl, sym, ap, subst, ◌∙◌, arith, append-nil}
+use Rattle.std.proofs.Common.{◌≡◌, ℕ, Bool, true, false, cond, ◌&&◌, ◌==◌, not, is_some, max, List, [], ◌∷◌, ◌++◌, map, Option, None, Some, Ok, Err, refl, sym, ap, subst, ◌∙◌}
 use Rattle.std.specs.Option.{option_map, option_or}
 use Rattle.std.specs.List.{list_any, flat_map}
 use Rattle.rx_note.specs.declared.given.Given.{Given}
@@ -11,12 +11,13 @@ use Rattle.rx_note.specs.declared.kind.Kind.TheVariants.{Publish}
 use Rattle.rx_note.specs.declared.event.Event.TheVariants.{Emit}
 use Rattle.rx_note.specs.declared.answer.Answer.TheVariants.{Admitted}
 use Rattle.rx_note.specs.declared.refusal.Refusal.TheVariants as refused
-use Rattle.rx_note.specs.Signals.{Signal, Offered, Signals, ◌▸◌, terminal_of, given}
-use Rattle.rx_history.specs.Histories.{History, ◌▹◌, end_of, is_ended, stamp, held, is_held, terminal_in, followed_by, ended_by, offers_by, signalled, signals, addressed, outs}
+use Rattle.rx_note.specs.Signals.{Signal, Offered, Signals, terminal_of, given}
+use Rattle.rx_history.specs.Histories.{History, ◌▹◌, end_of, is_ended, stamp, held, is_held, terminal_in, followed_by, ended_by, offers_by, signalled, signals, addressed}
 use Rattle.rx_history.proofs.Endings.{signals_open}
+use Rattle.rx_hub.specs.declared.offer.Offer.{Offer}
 use Rattle.rx_hub.specs.Offers.{offer_of, signals_of}
-use Rattle.rx_hub.specs.Subscriptions.{Observer, numbers, AllStand, StandsAt, Feeds, AllFed, AllFedInto}
-use Rattle.rx_hub.specs.Hubs.{HubState, StandsFor, Steps}
+use Rattle.rx_hub.specs.Subscriptions.{Observer, numbers, AllStand, AllFed, AllFedInto}
+use Rattle.rx_hub.specs.Hubs.{HubState, StandsFor, Steps, Takes}
 use Rattle.rx_hub.proofs.Tables.{gains, gains-more, AllAmong, AllAmong-self}
 
 -- each observer was fed: its queue stands for its signals and these, and it gained what it was given
@@ -37,18 +38,21 @@ fed table later signals all (old ∷ olds) (new ∷ news) given more unended amo
     let one = feeds.3 in
     let now_open : terminal_of s ≡ None = unended old.who s stand.0.are in
     let is : later old.who ≡ Some (followed_by s signals) =
-        more old.who among.0 ∙ ap (option_map (λ t. followed_by t signals)) stand.0.are in
+    more old.who among.0 ∙ ap (option_map (λ t. followed_by t signals)) stand.0.are in
     let rest = fed table later signals all olds news feeds.1 more unended among.1 stand.1 feeds.4 in
     let mine : gains table later old.who ≡ addressed old.who feeds.0 =
-        gains-more table later old.who s (followed_by s signals) feeds.0 stand.0.are is (one.serves.gives s stand.0.stand now_open) in
+    gains-more table later old.who s (followed_by s signals) feeds.0 stand.0.are is (one.serves.gives s stand.0.stand now_open) in
     record {
       same_numbers = ap (λ k. k ∷ numbers news) one.number ∙ ap (λ ks. old.who ∷ ks) rest.same_numbers;
-      all_stand = (record {
-        these = followed_by s signals;
-        are = ap later one.number ∙ is;
-        stand = one.serves.goes_on s stand.0.stand now_open
-      }, rest.all_stand);
-      all_gained = feeds.2 ∙ ap (λ os. os ++ feeds.1) (sym mine) ∙ ap (λ os. gains table later old.who ++ os) rest.all_gained
+      all_stand = (
+        record {
+          these = followed_by s signals;
+          are = ap later one.number ∙ is;
+          stand = one.serves.goes_on s stand.0.stand now_open;
+        },
+        rest.all_stand,
+      );
+      all_gained = feeds.2 ∙ ap (λ os. os ++ feeds.1) (sym mine) ∙ ap (λ os. gains table later old.who ++ os) rest.all_gained;
     }
 
 -- what a note offers is what its history has it signal
@@ -80,12 +84,12 @@ emit_admitted hub news end before after H port note at unended ends feeds stands
     let later : ℕ → Option Signals = signals hub.rules (H ▹ (port, Emit note at)) in
     let told : signalled hub.rules H port note ≡ signals_of (offer_of port note) = signals_of-note hub.rules.kind hub.rules H port note in
     let among : AllAmong (held hub.rules H) (numbers hub.observers) =
-        subst (λ (ks : List ℕ). AllAmong (held hub.rules H) ks) (sym stands.held_are) (AllAmong-self (held hub.rules H)) in
+    subst (λ (ks : List ℕ). AllAmong (held hub.rules H) ks) (sym stands.held_are) (AllAmong-self (held hub.rules H)) in
     let done = fed table later (signals_of (offer_of port note)) (held hub.rules H) hub.observers news feeds.0
-        (λ o is_among. both (is_held hub.rules H o) (is_ended H) (option_map (λ s. followed_by s (signalled hub.rules H port note)) (table o)) (table o) is_among is
-            ∙ ap (λ signals'. option_map (λ s. followed_by s signals') (table o)) told)
-        (λ o s has. signals_open hub.rules H o s none has)
-        among stands.lanes_stand feeds.2 in
+    (λ o is_among. both (is_held hub.rules H o) (is_ended H) (option_map (λ s. followed_by s (signalled hub.rules H port note)) (table o)) (table o) is_among is
+    ∙ ap (λ signals'. option_map (λ s. followed_by s signals') (table o)) told)
+    (λ o s has. signals_open hub.rules H o s none has)
+    among stands.lanes_stand feeds.2 in
     record {
       answers = sym (ap (λ b. cond b (Err refused.Ended) (Ok Admitted)) is);
       gives = feeds.1 ∙ ap (λ os. before ++ os) (done.all_gained ∙ ap (flat_map (gains table later)) stands.held_are);
@@ -101,3 +105,21 @@ emit_admitted hub news end before after H port note at unended ends feeds stands
     no_value : (o : Option Note) → is_some o ≡ false → o ≡ None
     no_value None e = refl
     no_value (Some x) e = cc
+
+-- the same, as the code has it
+pub emit_done : (hub : HubState) (olds news : List Observer) (end : Option Note) (clock : ℕ) (offer : Offer) (before middle after : List Given) (port : ℕ) (note : Note) (at : ℕ)
+    → is_some hub.terminal ≡ false → offer ≡ offer_of port note → end ≡ offer.end → clock ≡ max hub.clock at → olds ≡ hub.observers → middle ≡ before
+    → AllFedInto (signals_of offer) olds news middle after
+    → Takes hub (record hub { terminal = end; clock = clock; observers = news }) before after (Ok Admitted) (port, Emit note at)
+emit_done hub olds news end clock offer before middle after port note at unended offers ends ticks same_olds same_outs feeds =
+    let OfOffer : Offer → Type 0 = λ o. AllFedInto (signals_of o) olds news middle after in
+    let OfOlds : List Observer → Type 0 = λ os. AllFedInto (signals_of (offer_of port note)) os news middle after in
+    let OfOuts : List Given → Type 0 = λ os. AllFedInto (signals_of (offer_of port note)) hub.observers news os after in
+    let all_fed = subst OfOuts same_outs (subst OfOlds same_olds (subst OfOffer offers feeds)) in
+    record {
+      rules = refl;
+      took = λ H stands.
+          let At : ℕ → Type 0 = λ c. Steps hub (record hub { terminal = end; clock = c; observers = news }) before after (Ok Admitted) H (port, Emit note at) in
+          subst At (sym ticks)
+          (emit_admitted hub news end before after H port note at unended (ends ∙ ap (λ (o : Offer). o.end) offers) all_fed stands);
+    }

@@ -1,6 +1,6 @@
 -- The loop that feeds each observer: what it has done at its i-th turn.
-use Rattle.std.proofs.Common.{◌≡◌, ℕ, ◌+◌, ◌≤◌, ◌<◌, List, [], ◌∷◌, ◌++◌, length, map, take, drop, get_or, set, replicate, refl, sym, ap, ◌∙◌, subst, arith, append_assoc, append-nil, length-append}
-use Rattle.std.proofs.lemmas.List.{take_more, take_more_set, take-set, drop-set, drop-drop, get_or-drop, map-append, replicate_more, same_from_push, drop-set-lt}
+use Rattle.std.proofs.Common.{◌≡◌, ℕ, ◌+◌, ◌<◌, List, [], ◌∷◌, ◌++◌, length, take, drop, get_or, set, replicate, refl, sym, ap, ◌∙◌, subst, arith, append_assoc, append-nil, length-append}
+use Rattle.std.proofs.lemmas.List.{take_more, take_more_set, drop-drop, get_or-drop, map-append, replicate_more, same_from_push, drop-set-lt}
 use Rattle.rx_note.specs.declared.given.Given.{Given}
 use Rattle.rx_note.specs.declared.note.Note.{Note}
 use Rattle.rx_note.specs.Signals.{Signal}

@@ -6,3 +6,4 @@ pub mod LanesSteps
 pub mod Quiet
 pub mod Serving
 pub mod Tables
+pub mod Taking

@@ -1,21 +1,20 @@
 -- A step that is refused: the hub and what was given stay.
-use Rattle.std.proofs.Common.{◌≡◌, ℕ, Bool, true, false, cond, ◌&&◌, ◌==◌, not, is_some, nat_lt, nat_le, max, List, [], ◌++◌, length, map, drop, Option, None, Some, Result, Ok, Err, refl, sym, ap, subst, ◌∙◌, arith, append-nil}
+use Rattle.std.proofs.Common.{◌≡◌, ℕ, Bool, true, false, cond, ◌&&◌, ◌==◌, not, is_some, nat_lt, max, List, [], ◌++◌, length, Option, None, Some, Result, Ok, Err, refl, sym, ap, ◌∙◌, append-nil}
 use Rattle.std.proofs.lemmas.List.{length-map}
-use Rattle.std.proofs.lemmas.Bool.Decides.{nat_tests}
 use Rattle.std.specs.Option.{option_map, option_or}
-use Rattle.std.specs.List.{list_any, flat_map}
+use Rattle.std.specs.List.{flat_map}
 use Rattle.rx_note.specs.declared.given.Given.{Given}
 use Rattle.rx_note.specs.declared.note.Note.{Note}
 use Rattle.rx_note.specs.declared.policy.Policy.{Policy}
 use Rattle.rx_note.specs.declared.rules.Rules.{Rules}
 use Rattle.rx_note.specs.declared.event.Event.TheVariants.{Emit, Join, Request}
 use Rattle.rx_note.specs.declared.answer.Answer.{Answer}
-use Rattle.rx_note.specs.declared.answer.Answer.TheVariants.{Admitted, Joined, Asked}
+use Rattle.rx_note.specs.declared.answer.Answer.TheVariants.{Admitted, Joined}
 use Rattle.rx_note.specs.declared.refusal.Refusal.{Refusal}
 use Rattle.rx_note.specs.declared.refusal.Refusal.TheVariants as refused
-use Rattle.rx_note.specs.Signals.{Signals, ◌▸◌, Requested, owed}
+use Rattle.rx_note.specs.Signals.{Signals, ◌▸◌, Requested}
 use Rattle.rx_history.specs.Histories.{History, ◌▹◌, Entry, Roster, end_of, is_ended, stamp, joins, held, is_held, may_join, with_one_more, roster_of, followed_by, signalled, opened, may_request, signals, answer, outs, terminal_in}
-use Rattle.rx_hub.specs.Subscriptions.{Observer, numbers, AllStand}
+use Rattle.rx_hub.specs.Subscriptions.{Observer}
 use Rattle.rx_hub.specs.Hubs.{HubState, StandsFor, Steps}
 use Rattle.rx_hub.proofs.Tables.{gains, AllStand-all, all_gains-same}
 
@@ -31,8 +30,8 @@ pub quiet : (hub : HubState) (outs_so_far : List Given) (result : Result Answer 
     → StandsFor hub H → result ≡ answer hub.rules H entry.1 → IsQuiet hub.rules H entry → Steps hub hub outs_so_far outs_so_far result H entry
 quiet hub outs_so_far result H entry stands answers q =
     let none : outs hub.rules H entry ≡ [] =
-        ap (λ (r : Roster). flat_map (gains (signals hub.rules H) (signals hub.rules (H ▹ entry))) r.held) q.roster
-        ∙ all_gains-same (signals hub.rules H) (signals hub.rules (H ▹ entry)) (held hub.rules H) q.same in
+    ap (λ (r : Roster). flat_map (gains (signals hub.rules H) (signals hub.rules (H ▹ entry))) r.held) q.roster
+    ∙ all_gains-same (signals hub.rules H) (signals hub.rules (H ▹ entry)) (held hub.rules H) q.same in
     record {
       answers = answers;
       gives = sym (ap (λ os. outs_so_far ++ os) none ∙ append-nil outs_so_far);
@@ -62,14 +61,14 @@ pub emit_refused : (hub : HubState) (outs_so_far : List Given) (H : History) (po
 emit_refused hub outs_so_far H port note at ended stands =
     let is : is_ended H ≡ true = ap is_some (sym stands.end_is) ∙ ended in
     quiet hub outs_so_far (Err refused.Ended) H (port, Emit note at) stands
-        (sym (ap (λ b. cond b (Err refused.Ended) (Ok Admitted)) is))
-        (record {
-          end = first_of_both (end_of H) (terminal_in note) is;
-          clock = ap (λ b. cond b (stamp hub.rules H) (max (stamp hub.rules H) at)) is;
-          roster = refl;
-          same = λ o. ended_and (is_held hub.rules H o) (is_ended H)
-              (option_map (λ s. followed_by s (signalled hub.rules H port note)) (signals hub.rules H o)) (signals hub.rules H o) is
-        })
+    (sym (ap (λ b. cond b (Err refused.Ended) (Ok Admitted)) is))
+    (record {
+      end = first_of_both (end_of H) (terminal_in note) is;
+      clock = ap (λ b. cond b (stamp hub.rules H) (max (stamp hub.rules H) at)) is;
+      roster = refl;
+      same = λ o. ended_and (is_held hub.rules H o) (is_ended H)
+          (option_map (λ s. followed_by s (signalled hub.rules H port note)) (signals hub.rules H o)) (signals hub.rules H o) is;
+    })
 
 -- A JOIN TOO MANY
 
@@ -84,10 +83,10 @@ not_joined rules H port policy first at refused_now = record {
   roster = ap (λ b. cond b (with_one_more (roster_of rules.limits H)) (roster_of rules.limits H)) refused_now;
   same = λ o.
       ap (λ b. cond ((joins rules H == o) && b) (Some (opened rules H policy first at)) (signals rules H o)) refused_now
-      ∙ refused_and (joins rules H == o) (Some (opened rules H policy first at)) (signals rules H o)
+      ∙ refused_and (joins rules H == o) (Some (opened rules H policy first at)) (signals rules H o);
 }
 
-and_false : (b : Bool) → (b && false) ≡ false
+pub and_false : (b : Bool) → (b && false) ≡ false
 and_false true = refl
 and_false false = refl
 
@@ -98,9 +97,9 @@ join_full hub outs_so_far H port policy first at full stands =
     let count : length (held hub.rules H) ≡ length hub.observers = sym (ap length stands.held_are) ∙ length-map hub.observers (λ (o : Observer). o.who) in
     let is : nat_lt (length (held hub.rules H)) hub.rules.limits.observers ≡ false = ap (λ n. nat_lt n hub.rules.limits.observers) count ∙ full in
     quiet hub outs_so_far (Err refused.Full) H (port, Join policy first at) stands
-        (sym (ap (λ b. cond (not b) (Err refused.Full)
-            (cond (nat_lt (joins hub.rules H) hub.rules.limits.joins) (Ok (Joined (joins hub.rules H))) (Err refused.Spent))) is))
-        (not_joined hub.rules H port policy first at (ap (λ b. b && nat_lt (joins hub.rules H) hub.rules.limits.joins) is))
+    (sym (ap (λ b. cond (not b) (Err refused.Full)
+    (cond (nat_lt (joins hub.rules H) hub.rules.limits.joins) (Ok (Joined (joins hub.rules H))) (Err refused.Spent))) is))
+    (not_joined hub.rules H port policy first at (ap (λ b. b && nat_lt (joins hub.rules H) hub.rules.limits.joins) is))
 
 pub join_spent : (hub : HubState) (outs_so_far : List Given) (H : History) (port : ℕ) (policy : Policy) (first at : ℕ)
     → nat_lt (length hub.observers) hub.rules.limits.observers ≡ true → nat_lt hub.joined hub.rules.limits.joins ≡ false → StandsFor hub H
@@ -110,16 +109,16 @@ join_spent hub outs_so_far H port policy first at free spent stands =
     let has : nat_lt (length (held hub.rules H)) hub.rules.limits.observers ≡ true = ap (λ n. nat_lt n hub.rules.limits.observers) count ∙ free in
     let is : nat_lt (joins hub.rules H) hub.rules.limits.joins ≡ false = ap (λ n. nat_lt n hub.rules.limits.joins) (sym stands.joins_are) ∙ spent in
     quiet hub outs_so_far (Err refused.Spent) H (port, Join policy first at) stands
-        (sym (ap (λ b. cond (not b) (Err refused.Full)
-            (cond (nat_lt (joins hub.rules H) hub.rules.limits.joins) (Ok (Joined (joins hub.rules H))) (Err refused.Spent))) has
-        ∙ ap (λ b. cond b (Ok (Joined (joins hub.rules H))) (Err refused.Spent)) is))
-        (not_joined hub.rules H port policy first at
-            (ap (λ b. nat_lt (length (held hub.rules H)) hub.rules.limits.observers && b) is ∙ and_false (nat_lt (length (held hub.rules H)) hub.rules.limits.observers)))
+    (sym (ap (λ b. cond (not b) (Err refused.Full)
+    (cond (nat_lt (joins hub.rules H) hub.rules.limits.joins) (Ok (Joined (joins hub.rules H))) (Err refused.Spent))) has
+    ∙ ap (λ b. cond b (Ok (Joined (joins hub.rules H))) (Err refused.Spent)) is))
+    (not_joined hub.rules H port policy first at
+    (ap (λ b. nat_lt (length (held hub.rules H)) hub.rules.limits.observers && b) is ∙ and_false (nat_lt (length (held hub.rules H)) hub.rules.limits.observers)))
 
 -- A REQUEST THAT IS REFUSED
 
 -- the signals that a request leaves to an observer
-abbrev requested : ℕ → Bool → Bool → Option Signals → Option Signals
+abbrev pub requested : ℕ → Bool → Bool → Option Signals → Option Signals
 requested n is_the_one is_held_now before =
     cond (is_the_one && is_held_now) (option_map (λ s. cond (may_request n s) (s ▸ Requested n) s) before) before
 
@@ -137,5 +136,5 @@ request_quiet rules H port who n none = record {
   end = refl;
   clock = refl;
   roster = refl;
-  same = λ o. not_requested n (who == o) (is_held rules H o) (signals rules H o) (none o)
+  same = λ o. not_requested n (who == o) (is_held rules H o) (signals rules H o) (none o);
 }

@@ -1,17 +1,16 @@
 -- Observers whose queues stand for the signals that a table has of them.
-use Rattle.std.proofs.Common.{◌≡◌, ℕ, suc, zero, ◌+◌, ◌<◌, ◌==◌, Bool, true, false, ◌||◌, List, [], ◌∷◌, ◌++◌, length, map, take, drop, get_or, set, Option, None, Some, refl, sym, ap, subst, ◌∙◌, arith, append-nil}
+use Rattle.std.proofs.Common.{◌≡◌, ℕ, suc, zero, ◌<◌, ◌==◌, Bool, true, false, ◌||◌, List, [], ◌∷◌, ◌++◌, length, take, drop, get_or, set, Option, Some, refl, ap, ◌∙◌, arith, append-nil}
 use Rattle.std.proofs.lemmas.Bool.Decides.{nat_tests}
 use Rattle.std.proofs.Math.Seq.{drop-append_seam}
 use Rattle.std.proofs.lemmas.List.{drop_all}
 use Rattle.std.specs.List.{list_any, flat_map}
-use Rattle.std.specs.Option.{option_map, option_map_or}
+use Rattle.std.specs.Option.{option_map_or}
 use Rattle.rx_note.specs.declared.given.Given.{Given}
 use Rattle.rx_note.specs.declared.note.Note.{Note}
-use Rattle.rx_note.specs.Signals.{Signal, Signals, terminal_of, given}
-use Rattle.rx_history.specs.Histories.{followed_by, addressed}
+use Rattle.rx_note.specs.Signals.{Signals, given}
+use Rattle.rx_history.specs.Histories.{addressed}
 use Rattle.rx_history.proofs.Numbers.{AllDiffer}
-use Rattle.rx_hub.specs.Lanes.{LaneState, StandsFor}
-use Rattle.rx_hub.specs.Subscriptions.{Observer, numbers, StandsAt, AllStand, Feeds, AllFed}
+use Rattle.rx_hub.specs.Subscriptions.{Observer, numbers, StandsAt, AllStand}
 
 -- what an observer was given, by a table
 abbrev pub given_by : (ℕ → Option Signals) → ℕ → List Note
@@ -49,9 +48,10 @@ AllAmong-self (k ∷ ks) = (among-first k ks, AllAmong-more k ks ks (AllAmong-se
 pub AllStand-same : (table later : ℕ → Option Signals) (who : ℕ) (observers : List Observer)
     → AllDiffer who (numbers observers) → ((o : ℕ) → (o == who) ≡ false → later o ≡ table o) → AllStand table observers → AllStand later observers
 AllStand-same table later who [] differ same all = tt
-AllStand-same table later who (observer ∷ observers) differ same all =
-    (record { these = all.0.these; are = same observer.who differ.0 ∙ all.0.are; stand = all.0.stand },
-    AllStand-same table later who observers differ.1 same all.1)
+AllStand-same table later who (observer ∷ observers) differ same all = (
+  record { these = all.0.these; are = same observer.who differ.0 ∙ all.0.are; stand = all.0.stand },
+  AllStand-same table later who observers differ.1 same all.1,
+)
 
 -- a table that has the same of all
 pub AllStand-all : (table later : ℕ → Option Signals) (observers : List Observer)
@@ -81,16 +81,17 @@ pub AllStand-set : (table later : ℕ → Option Signals) (who : ℕ) (observers
 AllStand-set table later who [] k new lt before after same one all = absurd (omega arith)
 AllStand-set table later who (observer ∷ observers) zero new lt before after same one all =
     (one, AllStand-same table later who observers after same all.1)
-AllStand-set table later who (observer ∷ observers) (suc k) new lt before after same one all =
-    (record { these = all.0.these; are = same observer.who before.0 ∙ all.0.are; stand = all.0.stand },
-    AllStand-set table later who observers k new (omega arith) before.1 after same one all.1)
+AllStand-set table later who (observer ∷ observers) (suc k) new lt before after same one all = (
+  record { these = all.0.these; are = same observer.who before.0 ∙ all.0.are; stand = all.0.stand },
+  AllStand-set table later who observers k new (omega arith) before.1 after same one all.1,
+)
 
 -- where a table has the same, nothing was given
 pub gains-same : (table later : ℕ → Option Signals) (o : ℕ) → later o ≡ table o → gains table later o ≡ []
 gains-same table later o same =
     let e : given_by later o ≡ given_by table o = ap (λ t. option_map_or given t []) same in
     let none : drop (length (given_by table o)) (given_by later o) ≡ [] =
-        ap (drop (length (given_by table o))) e ∙ drop_all (length (given_by table o)) (given_by table o) (omega arith) in
+    ap (drop (length (given_by table o))) e ∙ drop_all (length (given_by table o)) (given_by table o) (omega arith) in
     ap (addressed o) none
 
 pub all_gains-same : (table later : ℕ → Option Signals) (ks : List ℕ) → ((o : ℕ) → later o ≡ table o) → flat_map (gains table later) ks ≡ []

@@ -1,5 +1,5 @@
 -- What contracts see of a hub, the histories that it stands for, and what a step does.
-use Rattle.std.specs.Prelude.{◌≡◌, ◌==◌, ◌&&◌, nat_le, ℕ, Bool, true, false, List, ◌++◌, Option, Result, Ok, Err, IsOk, MatchBool}
+use Rattle.std.specs.Prelude.{◌≡◌, ◌&&◌, nat_le, ℕ, Bool, true, false, List, ◌++◌, Option, Result, Ok, Err, IsOk, MatchBool}
 use Rattle.rx_note.specs.declared.given.Given.{Given}
 use Rattle.rx_note.specs.declared.note.Note.{Note}
 use Rattle.rx_note.specs.declared.rules.Rules.{Rules}

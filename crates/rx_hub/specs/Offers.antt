@@ -1,8 +1,8 @@
 -- What an accepted note offers to every observer.
-use Rattle.std.specs.Prelude.{ℕ, List, ◌++◌, map, Option, None, Some, option_to_list}
+use Rattle.std.specs.Prelude.{ℕ, List, ◌++◌, map, None, Some, option_to_list}
 use Rattle.rx_note.specs.declared.note.Note.{Note}
 use Rattle.rx_note.specs.declared.note.Note.TheVariants.{Next, Completed, Failed}
-use Rattle.rx_note.specs.Signals.{Signal, Offered, Ended}
+use Rattle.rx_note.specs.Signals.{Signal, Offered}
 use Rattle.rx_history.specs.Histories.{ended_by}
 use Rattle.rx_hub.specs.declared.offer.Offer.{Offer}
 

@@ -1,4 +1,5 @@
-ghost use Rattle.std.specs.Prelude.{◌≡◌, ◌≢◌, ◌+◌, ◌-◌, ◌^◌, ◌↔◌, min, Err, false, IfOk, IsOk};
+ghost use Rattle.std.specs.Prelude.{◌≡◌, ◌≢◌, ◌+◌, ◌-◌, ◌^◌, ◌↔◌, min, Err, false, IfOk, IsOk, if◌then◌else◌};
+ghost use Rattle.rx_hub.specs.Hubs.{is_miss};
 ghost use Rattle.rx_history.specs.Histories.{History, NoEvents, answer};
 
 use crate::multicast::Multicast;
@@ -73,14 +74,8 @@ impl Hub {
         ensures accepted { result ≡ Err Refusal.Memory → (H : History) → StandsFor self.old.state H → IsOk (answer self.old.state.rules H event) }
         ensures rules { self.new.state.rules ≡ self.old.state.rules }
     {
-        let result = match event {
-            Event::Emit { note, at } => self.multicast.emit(port, note, at, outs),
-            Event::Join { policy, first, at } => self.multicast.join(policy, first, at, outs),
-            Event::Request { who, n } => self.multicast.request(who, n, outs),
-        };
-        if matches!(result, Err(Refusal::Memory)) {
-            self.misses = self.misses.saturating_add(1);
-        }
+        let result = self.multicast.take(port, event, outs);
+        self.misses = counted(self.misses, &result);
         result
     }
 
@@ -89,5 +84,15 @@ impl Hub {
         ensures { result ≡ self.now.misses }
     {
         self.misses
+    }
+}
+
+// The number of Memory answers with this answer.
+fn counted(misses: u64, answered: &Result<Answer, Refusal>) -> u64
+    ensures { result ≡ (if is_miss answered.now then min (misses + 1) (2 ^ 64 - 1) else misses) }
+{
+    match answered {
+        Err(Refusal::Memory) => misses.saturating_add(1),
+        _ => misses,
     }
 }

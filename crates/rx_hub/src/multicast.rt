@@ -10,7 +10,7 @@ use crate::lane::{AskError, Lane};
 use crate::offer::{Offer, copy_of};
 use crate::subscription::{Subscription, end_by, give};
 use rx_heap::{Heap, Memory};
-use rx_note::{Answer, Given, Note, Policy, Refusal, Rules};
+use rx_note::{Answer, Event, Given, Note, Policy, Refusal, Rules};
 
 /// The state of a subject: its rules, its end, its clock and its observers, by rising number.
 #[derive(Drop)]
@@ -44,8 +44,24 @@ impl Multicast {
         })
     }
 
-    /// A note is emitted from a port.
-    pub(crate) fn emit(
+    /// Takes one event from a port.
+    pub(crate) fn take(
+        &mut self,
+        port: u32,
+        event: Event,
+        outs: &mut Vec<Given, Heap>,
+    ) -> Result<Answer, Refusal>
+        ensures { Takes (state_of self.old) (state_of self.new) outs.old.items outs.new.items result (port, event) }
+    {
+        match event {
+            Event::Emit { note, at } => self.emit(port, note, at, outs),
+            Event::Join { policy, first, at } => self.join(policy, first, at, outs),
+            Event::Request { who, n } => self.request(who, n, outs),
+        }
+    }
+
+    // A note is emitted from a port.
+    fn emit(
         &mut self,
         port: u32,
         note: Note,
@@ -67,8 +83,8 @@ impl Multicast {
         Ok(Answer::Admitted)
     }
 
-    /// An observer joins.
-    pub(crate) fn join(
+    // An observer joins.
+    fn join(
         &mut self,
         policy: Policy,
         first: u32,
@@ -95,13 +111,8 @@ impl Multicast {
         Ok(Answer::Joined(who))
     }
 
-    /// An observer requests items.
-    pub(crate) fn request(
-        &mut self,
-        who: u32,
-        n: u32,
-        outs: &mut Vec<Given, Heap>,
-    ) -> Result<Answer, Refusal>
+    // An observer requests items.
+    fn request(&mut self, who: u32, n: u32, outs: &mut Vec<Given, Heap>) -> Result<Answer, Refusal>
         ensures { (port : ℕ) → Takes (state_of self.old) (state_of self.new) outs.old.items outs.new.items result (port, Request who n) }
     {
         if n == 0 {

@@ -1,4 +1,4 @@
-use Rattle.std.proofs.Common.{◌≡◌, ◌+◌, ◌≤◌, replicate, vec_len, vec_capacity}
+use Rattle.std.proofs.Common.{◌≡◌, ◌≤◌, replicate, vec_len, vec_capacity}
 use Rattle.rx_hub.proofs.multicast.copies_of.Given as goal
 
 abbrev pub invariant-loop : goal.invariant-loop

@@ -1,4 +1,4 @@
-use Rattle.std.proofs.Common.{◌≡◌, ◌++◌, ◌+◌, ◌≤◌, length, vec_len, vec_capacity}
+use Rattle.std.proofs.Common.{◌≡◌, ◌++◌, ◌+◌, length, vec_len, vec_capacity}
 use Rattle.rx_history.specs.Histories.{addressed}
 use Rattle.rx_hub.proofs.subscription.give_all.Given as goal
 
