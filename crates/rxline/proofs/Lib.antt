@@ -1,4 +1,5 @@
 pub mod Blocks
+pub mod Digits
 pub mod Known
 pub mod Lfs
 pub mod Sheds

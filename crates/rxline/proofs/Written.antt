@@ -1,6 +1,8 @@
 -- Writing and putting, one call after another.
 use Rattle.std.proofs.Common.{◌≡◌, ℕ, List, [], ◌++◌, Option, Result, Ok, Err, sym, ap, ◌∙◌, append_assoc, append-nil}
 use Rattle.std.proofs.KnownBytes.{Appends-trans, Appends-nil, Appends-kept}
+use Rattle.std.proofs.lemmas.Result.{MatchResult-from_err}
+use Rattle.std.specs.Result.{IsErr}
 use Rattle.std.specs.Io.KnownBytes.{Appends, Keeps}
 use Rattle.rxline.specs.Bytes.{AppendsPrefix, Writes, Holds, Loses, Puts}
 
@@ -60,3 +62,12 @@ pub Puts-direct : {T E : Type 0} (result : Result T E) (old mid new : Option (Li
 Puts-direct (Ok x) old mid new held after bytes first empty then =
     record { written = held ++ bytes; told = Appends-trans old mid new held bytes first then; parts = ap (λ t. (held ++ bytes) ++ t) empty ∙ append-nil (held ++ bytes) }
 Puts-direct (Err e) old mid new held after bytes first empty then = record { written = Prefix-behind old mid new held bytes first then; empty = empty }
+
+-- a call that puts bytes behind those of another
+pub Puts-then : {T E : Type 0} (result : Result T E) (old mid new : Option (List ℕ)) (held then after xs ys : List ℕ) → Holds held then old mid xs → Puts result then after mid new ys → Puts result held after old new (xs ++ ys)
+Puts-then (Ok x) old mid new held then after xs ys p q = Holds-then old mid new held then after xs ys p q
+Puts-then (Err e) old mid new held then after xs ys p q = Loses-then old mid new held then after xs ys p q
+
+-- a call that ended by the fault of its put
+pub Puts-fault : {T E : Type 0} (result : Result T E) (old new : Option (List ℕ)) (held after bytes : List ℕ) → IsErr result → Loses held after old new bytes → Puts result held after old new bytes
+Puts-fault result old new held after bytes fault loses = MatchResult-from_err result (λ _. Holds held after old new bytes) (λ _. Loses held after old new bytes) fault (λ _. loses)

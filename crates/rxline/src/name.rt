@@ -1,4 +1,7 @@
-ghost use Rattle.std.specs.Prelude.{IsTrue, length, ◌≤◌};
+ghost use Rattle.std.specs.Prelude.{◌≡◌, ◌↔◌, IsTrue, SomeIff, nat_eq};
+ghost use Rattle.std.specs.Cmp.{partial_equiv_from_equiv};
+ghost use Rattle.std.specs.Cmp.Lexicographic.{nat_list_eq_equiv, pointwise};
+ghost use Rattle.rxline.specs.Names.{IsName, IsNameByte};
 
 use std::marker::Model;
 
@@ -14,17 +17,20 @@ pub struct Name {
 
 impl Model for Name {
     ghost use Rattle.std.specs.Prelude.{List, ℕ, take, ◌≤◌};
+    ghost use Rattle.rxline.specs.Names.{IsName};
 
     ghost Value = { List ℕ };
 
     ghost view = { λ n. take n.len n.bytes };
 
-    ghost invariant = { λ n. n.len ≤ 32 };
+    ghost invariant = { λ n. (n.len ≤ 32) × IsName (take n.len n.bytes) };
 }
 
 impl Name {
-    /// The name of these bytes. None where they are no name.
-    pub fn new(bytes: &[u8]) -> Option<Name> {
+    /// The name of these bytes. None exactly where they are no name.
+    pub fn new(bytes: &[u8]) -> Option<Name>
+        ensures { SomeIff result (IsName bytes.now) bytes.now }
+    {
         if !is_name(bytes) {
             return None;
         }
@@ -35,20 +41,44 @@ impl Name {
     }
 
     /// Its bytes.
-    pub fn as_bytes(&self) -> &[u8] {
+    pub fn as_bytes(&self) -> &[u8]
+        ensures bytes { result.now ≡ self.now }
+        ensures name { IsName self.now }
+    {
         &self.bytes[..self.len]
     }
 }
 
+impl PartialEq for Name {
+    ghost eq = { pointwise nat_eq };
+
+    ghost laws = { partial_equiv_from_equiv nat_list_eq_equiv };
+
+    fn eq(&self, other: &Self) -> bool {
+        self.as_bytes() == other.as_bytes()
+    }
+}
+
+impl Eq for Name {
+    ghost laws = { nat_list_eq_equiv };
+}
+
 fn is_name(bytes: &[u8]) -> bool
-    ensures { IsTrue result → length bytes.now ≤ 32 }
+    ensures { IsTrue result ↔ IsName bytes.now }
 {
     if bytes.is_empty() || bytes.len() > MAX_NAME {
         return false;
     }
-    bytes.iter().all(|byte| is_name_byte(*byte))
+    for byte in bytes {
+        if !is_name_byte(*byte) {
+            return false;
+        }
+    }
+    true
 }
 
-fn is_name_byte(byte: u8) -> bool {
+fn is_name_byte(byte: u8) -> bool
+    ensures { IsTrue result ↔ IsNameByte byte }
+{
     byte.is_ascii_lowercase() || byte.is_ascii_digit() || byte == b'-'
 }
