@@ -1,0 +1,12 @@
+use Rattle.rxline.proofs.Written.{Loses-more, Loses-then, Puts-fault, Puts-then}
+use Rattle.rxline.proofs.printing.put_framed.Goals as goal
+
+pub returns-in_err-put : goal.returns-in_err-put
+returns-in_err-put g c = Puts-fault _ _ _ _ _ _ c.from_residual.ensures.0 (Loses-more _ _ _ _ _ _ c.in_err-put.ensures)
+
+pub returns-in_err-put-2 : goal.returns-in_err-put-2
+returns-in_err-put-2 g c =
+    Puts-fault _ _ _ _ _ _ c.from_residual-in_err-put-2.ensures.0 (Loses-then _ _ _ _ _ _ _ _ c.in_ok-put.ensures (Loses-more _ _ _ _ _ _ c.in_err-put-2.ensures))
+
+pub returns : goal.returns
+returns g c = Puts-then c.put-3.result _ _ _ _ _ _ _ _ c.in_ok-put.ensures (Puts-then c.put-3.result _ _ _ _ _ _ _ _ c.in_ok-put-2.ensures c.put-3.ensures)

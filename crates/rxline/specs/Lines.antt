@@ -1,0 +1,43 @@
+-- The lines of some bytes.
+use Rattle.std.specs.Prelude.{◌≡◌, ◌==◌, ℕ, List, [], ◌∷◌, ◌++◌, map, Bool, Option}
+use Rattle.std.specs.List.{slice_split}
+use Rattle.std.specs.Io.KnownBytes.{Consumes}
+use Rattle.std.specs.Io.BufRead.{strip_last}
+
+-- no LF stands among the bytes
+abbrev pub HasNoLf : List ℕ → Type 0
+HasNoLf [] = Unit {0}
+HasNoLf (byte ∷ bytes) = (byte ≡ 10 → ⊥) × HasNoLf bytes
+
+-- a line without the one CR that may stand at its end
+abbrev pub without_cr : List ℕ → List ℕ
+without_cr line = strip_last 13 line
+
+-- a byte is an LF
+abbrev pub is_lf : ℕ → Bool
+is_lf byte = byte == 10
+
+-- all parts but the last
+abbrev pub finished : List (List ℕ) → List (List ℕ)
+finished [] = []
+finished (part ∷ []) = []
+finished (part ∷ next ∷ parts) = part ∷ finished (next ∷ parts)
+
+-- the lines of the bytes: what stands before each LF, without the one CR directly before it; what stands behind the last
+-- LF is no line
+abbrev pub lines_of : List ℕ → List (List ℕ)
+lines_of bytes = map without_cr (finished (slice_split is_lf bytes))
+
+-- the bytes begin with a line and its LF, and the rest stands behind them
+pub record BeginsWithLine (bytes line rest : List ℕ) : Type 0 where
+  pub parts : bytes ≡ line ++ (10 ∷ rest)
+  pub one : HasNoLf line
+
+-- reads gave some bytes, and what was unread before them begins with a line of which something is said
+abbrev pub TakesLine : Option (List ℕ) → Option (List ℕ) → List ℕ → List ℕ → (List ℕ → Type 0) → Type 0
+TakesLine old new unread rest says =
+    (read : List ℕ) × (line : List ℕ) × Consumes old new read × BeginsWithLine (unread ++ read) line rest × says (without_cr line)
+
+-- reads gave some bytes, and no line ends among them and what was unread before them
+abbrev pub TakesNoLine : Option (List ℕ) → Option (List ℕ) → List ℕ → Type 0
+TakesNoLine old new unread = (read : List ℕ) × Consumes old new read × HasNoLf (unread ++ read)

@@ -1,0 +1,43 @@
+use crate::command::Command;
+use crate::grammar::{Line, read_line};
+use crate::line_error::{BadLine, LineError};
+use crate::script_line::ScriptLine;
+use rx_heap::Heap;
+use rx_note::Text;
+
+/// What this line of a script means. Refused in the order `Long`, `Syntax`, `Memory`; only PUB and FAIL take memory.
+pub fn parse_script(alloc: Heap, line: &[u8]) -> Result<ScriptLine, LineError> {
+    match read_line(line) {
+        Err(BadLine::Long) => Err(LineError::Long),
+        Err(BadLine::Syntax) => Err(LineError::Syntax),
+        Ok(Line::Pub { name, text }) => {
+            let text = hold(alloc, text)?;
+            Ok(ScriptLine::Command(Command::Pub { name, text }))
+        }
+        Ok(Line::Fail { name, text }) => {
+            let text = hold(alloc, text)?;
+            Ok(ScriptLine::Command(Command::Fail { name, text }))
+        }
+        Ok(Line::End { name }) => Ok(ScriptLine::Command(Command::End { name })),
+        Ok(Line::Quit) => Ok(ScriptLine::Command(Command::Quit)),
+        Ok(
+            Line::Join {
+                name,
+                policy,
+                first,
+            },
+        ) => Ok(ScriptLine::Join {
+            name,
+            policy,
+            first,
+        }),
+        Ok(Line::Request { name, who, n }) => Ok(ScriptLine::Request { name, who, n }),
+    }
+}
+
+fn hold(alloc: Heap, text: &[u8]) -> Result<Text, LineError> {
+    match Text::new(alloc, text) {
+        Ok(text) => Ok(text),
+        Err(_) => Err(LineError::Memory),
+    }
+}

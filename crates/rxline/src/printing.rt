@@ -1,0 +1,117 @@
+ghost use Rattle.std.specs.Prelude.{◌≡◌, ◌++◌, ◌∷◌, [], codes, decimal};
+ghost use Rattle.rxline.specs.Bytes.{Puts};
+ghost use Rattle.rxline.specs.Printing.{letters_of, reply_line, note_line, given_line};
+
+use crate::decimal::{MAX_DIGITS, write_digits};
+use crate::name::Name;
+use crate::outbox::{Outbox, WriteFault};
+use crate::response::Response;
+use crate::word::Word;
+use rx_note::Note;
+use std::io::Write;
+
+const LF: &[u8] = b"\n";
+
+const SPACE: &[u8] = b" ";
+
+/// Puts the line of a response.
+pub fn put_reply<W: Write>(
+    outbox: &mut Outbox,
+    writer: &mut W,
+    response: Response,
+) -> Result<(), WriteFault>
+    ensures { Puts result outbox.old outbox.new (W.contents writer.old) (W.contents writer.new) (reply_line response) }
+{
+    match response {
+        Response::Done => outbox.put(writer, b"OK\n"),
+        Response::Joined(who) => put_joined(outbox, writer, who),
+        Response::Refused(word) => put_framed(outbox, writer, b"ERR ", letters_of(word)),
+    }
+}
+
+/// Puts the line of a note.
+#[inline]
+pub fn put_note<W: Write>(
+    outbox: &mut Outbox,
+    writer: &mut W,
+    note: &Note,
+) -> Result<(), WriteFault>
+    ensures { Puts result outbox.old outbox.new (W.contents writer.old) (W.contents writer.new) (note_line note.now) }
+{
+    match note {
+        Note::Next(item) => put_framed(outbox, writer, b"NEXT ", item.text.as_bytes()),
+        Note::Completed => outbox.put(writer, b"DONE\n"),
+        Note::Failed(text) => put_framed(outbox, writer, b"FAILED ", text.as_bytes()),
+    }
+}
+
+/// Puts the line that a script prints for a note given to an observer of this subject.
+pub fn put_given<W: Write>(
+    outbox: &mut Outbox,
+    writer: &mut W,
+    name: &Name,
+    who: u32,
+    note: &Note,
+) -> Result<(), WriteFault>
+    ensures { Puts result outbox.old outbox.new (W.contents writer.old) (W.contents writer.new) (given_line name.now who note.now) }
+{
+    outbox.put(writer, name.as_bytes())?;
+    outbox.put(writer, SPACE)?;
+    put_decimal(outbox, writer, who)?;
+    outbox.put(writer, SPACE)?;
+    put_note(outbox, writer, note)
+}
+
+// Puts the line of a Join that made this observer.
+fn put_joined<W: Write>(outbox: &mut Outbox, writer: &mut W, who: u32) -> Result<(), WriteFault>
+    ensures { Puts result outbox.old outbox.new (W.contents writer.old) (W.contents writer.new) (codes "OK " ++ (decimal who ++ 10 ∷ [])) }
+{
+    outbox.put(writer, b"OK ")?;
+    put_decimal(outbox, writer, who)?;
+    outbox.put(writer, LF)
+}
+
+// Puts a line of a first word with its space and what stands behind it.
+#[inline]
+fn put_framed<W: Write>(
+    outbox: &mut Outbox,
+    writer: &mut W,
+    front: &[u8],
+    rest: &[u8],
+) -> Result<(), WriteFault>
+    ensures { Puts result outbox.old outbox.new (W.contents writer.old) (W.contents writer.new) (front.now ++ (rest.now ++ 10 ∷ [])) }
+{
+    outbox.put(writer, front)?;
+    outbox.put(writer, rest)?;
+    outbox.put(writer, LF)
+}
+
+// Puts the digits of a number.
+#[inline]
+fn put_decimal<W: Write>(outbox: &mut Outbox, writer: &mut W, number: u32) -> Result<(), WriteFault>
+    ensures { Puts result outbox.old outbox.new (W.contents writer.old) (W.contents writer.new) (decimal number) }
+{
+    if number < 10 {
+        return outbox.put(writer, &[b'0' + number as u8]);
+    }
+    let mut digits = [0; MAX_DIGITS];
+    let start = write_digits(number, &mut digits);
+    outbox.put(writer, &digits[start..])
+}
+
+fn letters_of(word: Word) -> &'static [u8]
+    ensures { result.now ≡ letters_of word }
+{
+    match word {
+        Word::Long => b"LONG",
+        Word::Syntax => b"SYNTAX",
+        Word::Subject => b"SUBJECT",
+        Word::Ended => b"ENDED",
+        Word::Full => b"FULL",
+        Word::Spent => b"SPENT",
+        Word::Zero => b"ZERO",
+        Word::Observer => b"OBSERVER",
+        Word::TooMuch => b"TOOMUCH",
+        Word::Memory => b"MEMORY",
+    }
+}

@@ -1,0 +1,22 @@
+use crate::command::Command;
+use crate::name::Name;
+use rx_note::Policy;
+
+/// What a line of a script means.
+#[derive(Drop, Debug)]
+pub enum ScriptLine {
+    /// What a session may say too.
+    Command(Command),
+    /// An observer joins with a policy and a request of `first` items.
+    Join {
+        name: Name,
+        policy: Policy,
+        first: u32,
+    },
+    /// Observer `who` requests `n` items more.
+    Request {
+        name: Name,
+        who: u32,
+        n: u32,
+    },
+}
