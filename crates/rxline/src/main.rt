@@ -1,49 +1,77 @@
 //! The line server: it reads script lines from standard input and answers on standard output.
+//!
+//! `run_script` is the run over any reader and writer; `main` hands it the standard streams.
 #![tactic(auto)]
 
+mod asked;
 mod carriage;
 mod command;
+pub mod config;
 mod decimal;
 mod grammar;
 mod input_end;
 mod line_error;
 mod line_state;
-mod name;
+pub mod name;
 mod outbox;
 mod parsing;
 mod printing;
 mod reading;
+mod responding;
 mod response;
+pub mod script;
 mod script_line;
+pub mod session_end;
 mod step;
+pub mod subject_config;
 mod telling;
 #[cfg(test)]
 mod tests;
+mod topic;
 mod window;
 mod word;
 mod words;
 
-use line_state::LineState;
-use outbox::{Outbox, WriteFault};
-use response::Response;
-use step::Step;
-use word::Word;
+use config::Config;
+use script::run_script;
+use session_end::SessionEnd;
+use std::env;
+use std::process::ExitCode;
 
-fn main(rt: HostRuntime) -> Result<(), WriteFault> {
+/// The most reads of one script.
+const MAX_READS: u64 = 4_294_967_296;
+
+const FAULT: ExitCode = ExitCode::FAILURE;
+
+fn main(rt: HostRuntime) -> ExitCode {
+    if !has_no_words(&rt) {
+        let _ = eprintln!(rt; "usage: rxline < SCRIPT");
+        return ExitCode::from(2);
+    }
+    let Ok(config) = Config::standard(rt.alloc()) else {
+        return fault(&rt, "out of memory");
+    };
     let mut reader = rt.stdin();
     let mut writer = rt.stdout();
-    let mut outbox = Outbox::new();
-    let mut state = LineState::new(4_294_967_296);
-    for _ in 0..u64::MAX {
-        if !state.has_line() {
-            outbox.flush(&mut writer)?;
-        }
-        let response = match state.advance(&mut reader) {
-            Step::Line(_) => Response::Refused(Word::Syntax),
-            Step::Long => Response::Refused(Word::Long),
-            _ => return Ok(()),
-        };
-        printing::put_reply(&mut outbox, &mut writer, response)?;
+    match run_script(rt.alloc(), config, &mut reader, &mut writer, MAX_READS) {
+        Ok(SessionEnd::Quit) | Ok(SessionEnd::EndOfInput) => ExitCode::SUCCESS,
+        Ok(SessionEnd::ReadFault) => fault(&rt, "read fault"),
+        Ok(SessionEnd::WriteFault) => fault(&rt, "write fault"),
+        Ok(SessionEnd::TooManyReads) => fault(&rt, "too many reads"),
+        Err(_) => fault(&rt, "out of memory"),
     }
-    Ok(())
+}
+
+// Whether the command line has no word behind the program's name.
+fn has_no_words(rt: &HostRuntime) -> bool {
+    match env::args(rt) {
+        Ok(words) => words.count() <= 1,
+        Err(_) => false,
+    }
+}
+
+// Tells a fault on standard error.
+fn fault(rt: &HostRuntime, text: &str) -> ExitCode {
+    let _ = rt.eprintln(format_args!("rxline: {text}"));
+    FAULT
 }
