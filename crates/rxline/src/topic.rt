@@ -24,7 +24,10 @@ impl Topic {
 }
 
 /// The topics of these subjects, in their order.
-pub fn topics_of(alloc: &Heap, subjects: Vec<SubjectConfig, Heap>) -> Result<Vec<Topic, Heap>, Memory> {
+pub fn topics_of(
+    alloc: &Heap,
+    subjects: Vec<SubjectConfig, Heap>,
+) -> Result<Vec<Topic, Heap>, Memory> {
     let mut topics = Vec::with_capacity(alloc.clone()?, subjects.len())?;
     for subject in subjects {
         topics.push(Topic::new(alloc.clone()?, subject)?)?;
