@@ -1,0 +1,176 @@
+-- What is written for the lines of a script. A script is told by the histories of its subjects: each line is answered,
+-- and gives, what the definitions say of the history of the subject that it names. The rules are this project's own.
+use Rattle.std.specs.Prelude.{ℕ, ◌&&◌, Bool, true, false, if◌then◌else◌, nat_eq, List, [], ◌∷◌, ◌++◌, Option, None, Some, Result, Ok, Err, is_ok}
+use Rattle.std.specs.List.{flat_map}
+use Rattle.std.specs.Option.{option_map_or}
+use Rattle.rx_note.specs.declared.event.Event.{Event}
+use Rattle.rx_note.specs.declared.event.Event.TheVariants as events
+use Rattle.rx_note.specs.declared.note.Note.TheVariants.{Next, Completed, Failed}
+use Rattle.rx_note.specs.declared.rules.Rules.{Rules}
+use Rattle.rx_note.specs.declared.given.Given.{Given}
+use Rattle.rx_note.specs.declared.answer.Answer.{Answer}
+use Rattle.rx_note.specs.declared.answer.Answer.TheVariants.{Admitted, Joined, Asked}
+use Rattle.rx_note.specs.declared.refusal.Refusal.{Refusal}
+use Rattle.rx_note.specs.declared.refusal.Refusal.TheVariants as refused
+use Rattle.rx_history.specs.Histories.{History, NoEvents, ◌▹◌, answer, outs}
+use Rattle.rxline.specs.declared.asked.Asked.{Asked}
+use Rattle.rxline.specs.declared.asked.Asked.TheVariants as asked
+use Rattle.rxline.specs.declared.response.Response.{Response}
+use Rattle.rxline.specs.declared.response.Response.TheVariants as responses
+use Rattle.rxline.specs.declared.word.Word.{Word}
+use Rattle.rxline.specs.declared.word.Word.TheVariants as words
+use Rattle.rxline.specs.declared.command.Command.TheVariants.{Pub, End, Fail, Quit}
+use Rattle.rxline.specs.declared.script_line.ScriptLine.{ScriptLine}
+use Rattle.rxline.specs.declared.script_line.ScriptLine.TheVariants.{Command, Join, Request}
+use Rattle.rxline.specs.declared.line_error.BadLine.{BadLine}
+use Rattle.rxline.specs.declared.line_error.BadLine.TheVariants.{Long, Syntax}
+use Rattle.rxline.specs.Printing.{reply_line, given_line}
+use Rattle.rxline.specs.Reading.{line_read, same_word}
+
+-- a subject of a script: its name, its rules and the history that the lines so far have made
+pub record Subject : Type 0 where
+  pub name : List ℕ
+  pub rules : Rules
+  pub history : History
+
+-- WHAT A LINE ASKS
+
+-- what a line asks; its events come at moment 0
+abbrev pub asks : ScriptLine → Asked
+asks (Command (Pub name text)) = asked.Event name (events.Emit (Next (record { from = 0; text = text })) 0)
+asks (Command (End name)) = asked.Event name (events.Emit Completed 0)
+asks (Command (Fail name text)) = asked.Event name (events.Emit (Failed text) 0)
+asks (Command Quit) = asked.Quit
+asks (Join name policy first) = asked.Event name (events.Join policy first 0)
+asks (Request name who n) = asked.Event name (events.Request who n)
+
+-- whether a line has a text, for which it takes memory
+abbrev pub has_text : ScriptLine → Bool
+has_text (Command (Pub name text)) = true
+has_text (Command (End name)) = false
+has_text (Command (Fail name text)) = true
+has_text (Command Quit) = false
+has_text (Join name policy first) = false
+has_text (Request name who n) = false
+
+-- THE ANSWERS
+
+-- the word of a refusal
+abbrev pub word_of : Refusal → Word
+word_of refused.Ended = words.Ended
+word_of refused.Full = words.Full
+word_of refused.Spent = words.Spent
+word_of refused.ZeroRequest = words.Zero
+word_of refused.NoObserver = words.Observer
+word_of refused.TooMuch = words.TooMuch
+word_of refused.Memory = words.Memory
+
+-- the response to an event
+abbrev pub response_to : Result Answer Refusal → Response
+response_to (Ok Admitted) = responses.Done
+response_to (Ok (Joined who)) = responses.Joined who
+response_to (Ok Asked) = responses.Done
+response_to (Err refusal) = responses.Refused (word_of refusal)
+
+-- the response to a line without a meaning
+abbrev pub response_to_fault : BadLine → Response
+response_to_fault Long = responses.Refused words.Long
+response_to_fault Syntax = responses.Refused words.Syntax
+
+-- the lines of the notes given
+abbrev pub given_lines : List ℕ → List Given → List ℕ
+given_lines name given = flat_map (λ g. given_line name g.who g.note) given
+
+-- WHAT AN EVENT DOES
+
+-- the first subject of a name
+abbrev pub subject_of : List Subject → List ℕ → Option Subject
+subject_of [] name = None
+subject_of (subject ∷ subjects) name = if same_word subject.name name then Some subject else subject_of subjects name
+
+-- the subject takes an event, from port 0
+abbrev pub taking : Subject → Event → Subject
+taking subject event = record subject { history = subject.history ▹ (0, event) }
+
+-- the first subject of a name takes an event
+abbrev pub all_taking : List Subject → List ℕ → Event → List Subject
+all_taking [] name event = []
+all_taking (subject ∷ subjects) name event =
+    if same_word subject.name name then taking subject event ∷ subjects else subject ∷ all_taking subjects name event
+
+-- what is written for an event: its answer, and a line for each note that it gives
+abbrev pub event_written : Subject → Event → List ℕ
+event_written subject event =
+    reply_line (response_to (answer subject.rules subject.history event))
+    ++ given_lines subject.name (outs subject.rules subject.history (0, event))
+
+-- whether the subject accepts an event
+abbrev pub accepts : Event → Subject → Bool
+accepts event subject = is_ok (answer subject.rules subject.history event)
+
+-- WHAT A LINE DOES
+
+-- whether a line takes memory: for its text, or for an event that is accepted
+abbrev pub takes_memory : List Subject → ScriptLine → Asked → Bool
+takes_memory subjects line (asked.Event name event) = if has_text line then true else option_map_or (accepts event) (subject_of subjects name) false
+takes_memory subjects line asked.Quit = false
+
+-- whether a line met want of memory; only one that takes memory can
+abbrev pub misses : List Subject → ScriptLine → Bool → Bool
+misses subjects line missed = missed && takes_memory subjects line (asks line)
+
+-- what is written for what a line asks
+abbrev pub asked_written : List Subject → Asked → List ℕ
+asked_written subjects (asked.Event name event) =
+    option_map_or (λ subject. event_written subject event) (subject_of subjects name) (reply_line (responses.Refused words.Subject))
+asked_written subjects asked.Quit = reply_line responses.Done
+
+-- what is written for a line; one that met want of memory counts as never sent
+abbrev pub line_written : List Subject → Result ScriptLine BadLine → Bool → List ℕ
+line_written subjects (Err fault) missed = reply_line (response_to_fault fault)
+line_written subjects (Ok line) missed =
+    if misses subjects line missed then reply_line (responses.Refused words.Memory) else asked_written subjects (asks line)
+
+-- the subjects after what a line asks
+abbrev pub after_asked : List Subject → Asked → List Subject
+after_asked subjects (asked.Event name event) = all_taking subjects name event
+after_asked subjects asked.Quit = subjects
+
+-- the subjects after a line
+abbrev pub after_line : List Subject → Result ScriptLine BadLine → Bool → List Subject
+after_line subjects (Err fault) missed = subjects
+after_line subjects (Ok line) missed = if misses subjects line missed then subjects else after_asked subjects (asks line)
+
+-- whether a line ends the script
+abbrev pub ends_script : Result ScriptLine BadLine → Bool
+ends_script (Err fault) = false
+ends_script (Ok (Command (Pub name text))) = false
+ends_script (Ok (Command (End name))) = false
+ends_script (Ok (Command (Fail name text))) = false
+ends_script (Ok (Command Quit)) = true
+ends_script (Ok (Join name policy first)) = false
+ends_script (Ok (Request name who n)) = false
+
+-- THE TRANSCRIPT
+
+-- the first mark, and the marks behind it; marks that run out are false
+abbrev pub first_mark : List Bool → Bool
+first_mark [] = false
+first_mark (mark ∷ marks) = mark
+
+abbrev pub later_marks : List Bool → List Bool
+later_marks [] = []
+later_marks (mark ∷ marks) = marks
+
+-- what is written for the lines of a script, up to and with the first that ends it; a mark says of each whether it met
+-- want of memory
+abbrev pub transcript : List Subject → List Bool → List (List ℕ) → List ℕ
+transcript subjects marks [] = []
+transcript subjects marks (line ∷ lines) =
+    line_written subjects (line_read line) (first_mark marks)
+    ++ (if ends_script (line_read line) then [] else transcript (after_line subjects (line_read line) (first_mark marks)) (later_marks marks) lines)
+
+-- whether one of the lines ends the script
+abbrev pub has_end : List (List ℕ) → Bool
+has_end [] = false
+has_end (line ∷ lines) = if ends_script (line_read line) then true else has_end lines
