@@ -6,6 +6,8 @@ mod command;
 mod decimal;
 mod grammar;
 mod input_end;
+mod laws;
+mod line;
 mod line_error;
 mod line_state;
 mod name;
