@@ -1,7 +1,12 @@
 pub mod Blocks
+pub mod Complete
+pub mod Cuts
 pub mod Digits
 pub mod Known
 pub mod Lfs
+pub mod NameTests
+pub mod Numbers
 pub mod Sheds
+pub mod Sound
 pub mod Stepping
 pub mod Written

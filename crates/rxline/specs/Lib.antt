@@ -1,7 +1,10 @@
 pub mod Bytes
+pub mod Grammar
+pub mod Laws
 pub mod Lines
 pub mod Names
 pub mod Printing
+pub mod Reading
 pub mod Reads
 pub mod Steps
 pub mod Windows

@@ -1,44 +1,15 @@
-use crate::line_error::BadLine;
-use crate::name::Name;
-use crate::reading::MAX_LINE;
-use crate::words::{cut_at_space, name_of, named, number_of, policy_of, text_of};
-use rx_note::Policy;
+ghost use Rattle.rxline.specs.Reading.{Gives, meaning_of, line_read, words_read, join_read, request_read};
 
-/// What a line of a script means, its text still among the line's bytes.
-#[derive(Drop, Debug)]
-pub enum Line<'a> {
-    /// Emit an item.
-    Pub {
-        name: Name,
-        text: &'a [u8],
-    },
-    /// Emit completion.
-    End {
-        name: Name,
-    },
-    /// Emit an error.
-    Fail {
-        name: Name,
-        text: &'a [u8],
-    },
-    /// End.
-    Quit,
-    /// An observer joins.
-    Join {
-        name: Name,
-        policy: Policy,
-        first: u32,
-    },
-    /// An observer requests items.
-    Request {
-        name: Name,
-        who: u32,
-        n: u32,
-    },
-}
+use crate::line::Line;
+use crate::line_error::BadLine;
+use crate::reading::MAX_LINE;
+use crate::words::{cut_at_space, name_of, named, named_text, number_of, policy_of};
 
 /// What these bytes mean, which takes no memory. Refused in the order `Long`, `Syntax`.
-pub fn read_line(line: &[u8]) -> Result<Line<'_>, BadLine> {
+#[tactic(auto, unfolding(crate::specs::Reading::line_read))]
+pub fn read_line(line: &[u8]) -> Result<Line<'_>, BadLine>
+    ensures { Gives meaning_of result (line_read line.now) }
+{
     if line.len() > MAX_LINE {
         return Err(BadLine::Long);
     }
@@ -49,40 +20,32 @@ pub fn read_line(line: &[u8]) -> Result<Line<'_>, BadLine> {
     read_words(command, rest)
 }
 
-fn read_words<'a>(command: &[u8], rest: &'a [u8]) -> Result<Line<'a>, BadLine> {
+#[tactic(auto, unfolding(crate::specs::Reading::words_read))]
+fn read_words<'a>(command: &[u8], rest: &'a [u8]) -> Result<Line<'a>, BadLine>
+    ensures { Gives meaning_of result (words_read command.now rest.now) }
+{
     if command == b"PUB".as_slice() {
-        read_pub(rest)
+        let (name, text) = named_text(rest)?;
+        Ok(Line::Pub { name, text })
     } else if command == b"REQUEST".as_slice() {
         read_request(rest)
     } else if command == b"JOIN".as_slice() {
         read_join(rest)
     } else if command == b"END".as_slice() {
-        read_end(rest)
+        let name = name_of(rest)?;
+        Ok(Line::End { name })
     } else if command == b"FAIL".as_slice() {
-        read_fail(rest)
+        let (name, text) = named_text(rest)?;
+        Ok(Line::Fail { name, text })
     } else {
         Err(BadLine::Syntax)
     }
 }
 
-fn read_pub(words: &[u8]) -> Result<Line<'_>, BadLine> {
-    let (name, rest) = named(words)?;
-    let text = text_of(rest)?;
-    Ok(Line::Pub { name, text })
-}
-
-fn read_fail(words: &[u8]) -> Result<Line<'_>, BadLine> {
-    let (name, rest) = named(words)?;
-    let text = text_of(rest)?;
-    Ok(Line::Fail { name, text })
-}
-
-fn read_end(words: &[u8]) -> Result<Line<'_>, BadLine> {
-    let name = name_of(words)?;
-    Ok(Line::End { name })
-}
-
-fn read_join(words: &[u8]) -> Result<Line<'_>, BadLine> {
+#[tactic(auto, unfolding(crate::specs::Reading::join_read))]
+fn read_join(words: &[u8]) -> Result<Line<'_>, BadLine>
+    ensures { Gives meaning_of result (join_read words.now) }
+{
     let (name, rest) = named(words)?;
     let (strategy, rest) = cut_at_space(rest)?;
     let (errors, first) = cut_at_space(rest)?;
@@ -95,7 +58,10 @@ fn read_join(words: &[u8]) -> Result<Line<'_>, BadLine> {
     })
 }
 
-fn read_request(words: &[u8]) -> Result<Line<'_>, BadLine> {
+#[tactic(auto, unfolding(crate::specs::Reading::request_read))]
+fn read_request(words: &[u8]) -> Result<Line<'_>, BadLine>
+    ensures { Gives meaning_of result (request_read words.now) }
+{
     let (name, rest) = named(words)?;
     let (who, n) = cut_at_space(rest)?;
     let who = number_of(who)?;

@@ -10,6 +10,8 @@ pub mod config;
 mod decimal;
 mod grammar;
 mod input_end;
+mod laws;
+mod line;
 mod line_error;
 mod line_state;
 pub mod name;

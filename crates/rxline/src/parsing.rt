@@ -1,12 +1,19 @@
+ghost use Rattle.std.specs.Prelude.{◌≡◌, MatchResult};
+ghost use Rattle.rxline.specs.Grammar.{IsText};
+ghost use Rattle.rxline.specs.Reading.{Parses, line_read};
+
 use crate::command::Command;
-use crate::grammar::{Line, read_line};
+use crate::grammar::read_line;
+use crate::line::Line;
 use crate::line_error::{BadLine, LineError};
 use crate::script_line::ScriptLine;
 use rx_heap::Heap;
-use rx_note::Text;
+use rx_note::{Text, TextError};
 
 /// What this line of a script means. Refused in the order `Long`, `Syntax`, `Memory`; only PUB and FAIL take memory.
-pub fn parse_script(alloc: Heap, line: &[u8]) -> Result<ScriptLine, LineError> {
+pub fn parse_script(alloc: Heap, line: &[u8]) -> Result<ScriptLine, LineError>
+    ensures { Parses result (line_read line.now) }
+{
     match read_line(line) {
         Err(BadLine::Long) => Err(LineError::Long),
         Err(BadLine::Syntax) => Err(LineError::Syntax),
@@ -35,9 +42,15 @@ pub fn parse_script(alloc: Heap, line: &[u8]) -> Result<ScriptLine, LineError> {
     }
 }
 
-fn hold(alloc: Heap, text: &[u8]) -> Result<Text, LineError> {
+// The text of these bytes, which are one.
+fn hold(alloc: Heap, text: &[u8]) -> Result<Text, LineError>
+    requires { IsText text.now }
+    ensures { MatchResult result (λ held. held ≡ text.now) (λ fault. fault ≡ LineError.Memory) }
+{
     match Text::new(alloc, text) {
         Ok(text) => Ok(text),
-        Err(_) => Err(LineError::Memory),
+        Err(TextError::Memory) => Err(LineError::Memory),
+        Err(TextError::TooLong) => unreachable!(),
+        Err(TextError::HasLf) => unreachable!(),
     }
 }

@@ -1,3 +1,6 @@
+ghost use Rattle.std.specs.Prelude.{◌≡◌};
+ghost use Rattle.rxline.specs.Reading.{Gives, cut_read, name_read, named_read, text_read, number_read, digits_read, is_digit, policy_read, strategy_read, errors_read, named_text_read};
+
 use crate::line_error::BadLine;
 use crate::name::Name;
 use rx_note::{Errors, Policy, Strategy};
@@ -14,7 +17,9 @@ pub const MAX_DIGITS: usize = 20;
 const TOO_MUCH: u64 = 4_294_967_296;
 
 /// The bytes before the first space, and those behind it.
-pub fn cut_at_space(bytes: &[u8]) -> Result<(&[u8], &[u8]), BadLine> {
+pub fn cut_at_space(bytes: &[u8]) -> Result<(&[u8], &[u8]), BadLine>
+    ensures { Gives (λ parts. (parts.0.now, parts.1.now)) result (cut_read bytes.now) }
+{
     for (len, byte) in bytes.iter().enumerate() {
         if *byte == SPACE {
             return Ok((&bytes[..len], &bytes[len + 1..]));
@@ -24,7 +29,9 @@ pub fn cut_at_space(bytes: &[u8]) -> Result<(&[u8], &[u8]), BadLine> {
 }
 
 /// The name that these bytes are.
-pub fn name_of(bytes: &[u8]) -> Result<Name, BadLine> {
+pub fn name_of(bytes: &[u8]) -> Result<Name, BadLine>
+    ensures { result ≡ name_read bytes.now }
+{
     match Name::new(bytes) {
         Some(name) => Ok(name),
         None => Err(BadLine::Syntax),
@@ -32,14 +39,20 @@ pub fn name_of(bytes: &[u8]) -> Result<Name, BadLine> {
 }
 
 /// A name, and what stands behind one space.
-pub fn named(bytes: &[u8]) -> Result<(Name, &[u8]), BadLine> {
+#[tactic(auto, unfolding(crate::specs::Reading::named_read))]
+pub fn named(bytes: &[u8]) -> Result<(Name, &[u8]), BadLine>
+    ensures { Gives (λ parts. (parts.0, parts.1.now)) result (named_read bytes.now) }
+{
     let (word, rest) = cut_at_space(bytes)?;
     let name = name_of(word)?;
     Ok((name, rest))
 }
 
 /// The text that these bytes are.
-pub fn text_of(bytes: &[u8]) -> Result<&[u8], BadLine> {
+#[tactic(auto, unfolding(crate::specs::Reading::text_read))]
+pub fn text_of(bytes: &[u8]) -> Result<&[u8], BadLine>
+    ensures { Gives (λ text. text.now) result (text_read bytes.now) }
+{
     if bytes.contains(&b'\n') {
         return Err(BadLine::Syntax);
     }
@@ -50,13 +63,22 @@ pub fn text_of(bytes: &[u8]) -> Result<&[u8], BadLine> {
 }
 
 /// The number of 32 bits that these digits spell, leading zeros allowed.
-pub fn number_of(bytes: &[u8]) -> Result<u32, BadLine> {
+#[tactic(auto, unfolding(crate::specs::Reading::number_read))]
+pub fn number_of(bytes: &[u8]) -> Result<u32, BadLine>
+    ensures { result ≡ number_read bytes.now }
+{
     if bytes.is_empty() || bytes.len() > MAX_DIGITS {
         return Err(BadLine::Syntax);
     }
+    digits_of(bytes)
+}
+
+fn digits_of(bytes: &[u8]) -> Result<u32, BadLine>
+    ensures { result ≡ digits_read 0 bytes.now }
+{
     let mut value = 0;
     for digit in bytes {
-        if !digit.is_ascii_digit() {
+        if !is_digit(*digit) {
             return Err(BadLine::Syntax);
         }
         value = (value * 10 + (*digit - b'0') as u64).min(TOO_MUCH);
@@ -67,8 +89,27 @@ pub fn number_of(bytes: &[u8]) -> Result<u32, BadLine> {
     Ok(value as u32)
 }
 
+fn is_digit(byte: u8) -> bool
+    ensures { result ≡ is_digit byte }
+{
+    b'0' <= byte && byte <= b'9'
+}
+
+/// A name and a text, behind one space.
+#[tactic(auto, unfolding(crate::specs::Reading::named_text_read))]
+pub fn named_text(bytes: &[u8]) -> Result<(Name, &[u8]), BadLine>
+    ensures { Gives (λ parts. (parts.0, parts.1.now)) result (named_text_read bytes.now) }
+{
+    let (name, rest) = named(bytes)?;
+    let text = text_of(rest)?;
+    Ok((name, text))
+}
+
 /// The policy that a strategy's word and an error mode's word spell.
-pub fn policy_of(strategy: &[u8], errors: &[u8]) -> Result<Policy, BadLine> {
+#[tactic(auto, unfolding(crate::specs::Reading::policy_read))]
+pub fn policy_of(strategy: &[u8], errors: &[u8]) -> Result<Policy, BadLine>
+    ensures { result ≡ policy_read strategy.now errors.now }
+{
     let strategy = strategy_of(strategy)?;
     let errors = errors_of(errors)?;
     match Policy::new(strategy, errors) {
@@ -77,7 +118,9 @@ pub fn policy_of(strategy: &[u8], errors: &[u8]) -> Result<Policy, BadLine> {
     }
 }
 
-fn strategy_of(word: &[u8]) -> Result<Strategy, BadLine> {
+fn strategy_of(word: &[u8]) -> Result<Strategy, BadLine>
+    ensures { result ≡ strategy_read word.now }
+{
     if word == b"BUFFER".as_slice() {
         Ok(Strategy::Buffer)
     } else {
@@ -85,7 +128,9 @@ fn strategy_of(word: &[u8]) -> Result<Strategy, BadLine> {
     }
 }
 
-fn errors_of(word: &[u8]) -> Result<Errors, BadLine> {
+fn errors_of(word: &[u8]) -> Result<Errors, BadLine>
+    ensures { result ≡ errors_read word.now }
+{
     if word == b"DELAY".as_slice() {
         Ok(Errors::Delay)
     } else {

@@ -1,4 +1,4 @@
-use Rattle.std.proofs.Common.{◌≡◌, ◌<◌, ◌≤◌, ◌^◌, length, drop}
+use Rattle.std.proofs.Common.{◌≡◌, ◌<◌, ◌^◌, length, drop}
 use Rattle.std.specs.Fmt.{decimal}
 use Rattle.rxline.proofs.Digits.{spelled}
 use Rattle.rxline.proofs.decimal.write_digits.Given as goal

@@ -1,4 +1,3 @@
-use Rattle.std.proofs.Common.{◌≡◌, sym}
 use Rattle.std.proofs.lemmas.Fmt.{decimal_digit}
 use Rattle.rxline.proofs.printing.put_decimal.Goals as goal
 

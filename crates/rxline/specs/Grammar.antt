@@ -1,0 +1,97 @@
+-- The lines of a script, and what each means. The rules are this project's own.
+use Rattle.std.specs.Prelude.{◌≡◌, ◌<◌, ◌≤◌, ◌+◌, ◌-◌, ◌*◌, ◌^◌, ◌⊎◌, ℕ, List, [], ◌∷◌, length, codes}
+use Rattle.std.specs.List.{AllByRecursion, join_with_byte}
+use Rattle.rx_note.specs.Choices.{Choice}
+use Rattle.rx_note.specs.declared.strategy.Strategy.{Strategy}
+use Rattle.rx_note.specs.declared.strategy.Strategy.TheVariants.{Buffer}
+use Rattle.rx_note.specs.declared.errors.Errors.{Errors}
+use Rattle.rx_note.specs.declared.errors.Errors.TheVariants.{Delay}
+use Rattle.rxline.specs.Lines.{HasNoLf}
+use Rattle.rxline.specs.Names.{IsName}
+use Rattle.rxline.specs.declared.command.Command.TheVariants.{Pub, End, Fail, Quit}
+use Rattle.rxline.specs.declared.script_line.ScriptLine.{ScriptLine}
+use Rattle.rxline.specs.declared.script_line.ScriptLine.TheVariants.{Command, Join, Request}
+
+-- words parted by exactly one space
+abbrev pub sentence : List (List ℕ) → List ℕ
+sentence words = join_with_byte 32 words
+
+-- a text: 0 to 1,024 bytes of any kind but LF
+pub record IsText (bytes : List ℕ) : Type 0 where
+  pub few : length bytes ≤ 1024
+  pub no_lf : HasNoLf bytes
+
+-- a digit
+abbrev pub IsDigit : ℕ → Type 0
+IsDigit byte = (48 ≤ byte) × (byte ≤ 57)
+
+-- the number that decimal digits spell behind those that spelled this value
+abbrev pub value_behind : ℕ → List ℕ → ℕ
+value_behind value [] = value
+value_behind value (digit ∷ digits) = value_behind (value * 10 + (digit - 48)) digits
+
+-- the digits spell this number of 32 bits: there are 1 to 20, and zeros may lead
+pub record SpellsNumber (n : ℕ) (digits : List ℕ) : Type 0 where
+  pub some : 1 ≤ length digits
+  pub few : length digits ≤ 20
+  pub each : AllByRecursion IsDigit digits
+  pub value : value_behind 0 digits ≡ n
+  pub fits : n < 2 ^ 32
+
+-- the word of a strategy
+abbrev pub SpellsStrategy : Strategy → List ℕ → Type 0
+SpellsStrategy Buffer word = word ≡ codes "BUFFER"
+
+-- the word of an error mode
+abbrev pub SpellsErrors : Errors → List ℕ → Type 0
+SpellsErrors Delay word = word ≡ codes "DELAY"
+
+-- an emission of an item or an error: its command, a name and a text
+pub record SpellsText (command name text line : List ℕ) : Type 0 where
+  pub name_is : IsName name
+  pub text_is : IsText text
+  pub words : line ≡ sentence (command ∷ name ∷ text ∷ [])
+
+-- a joining: a name, a strategy, an error mode and a first request
+pub record SpellsJoin (name : List ℕ) (policy : Choice) (first : ℕ) (line : List ℕ) : Type 0 where
+  pub strategy : List ℕ
+  pub errors : List ℕ
+  pub number : List ℕ
+  pub name_is : IsName name
+  pub strategy_is : SpellsStrategy policy.strategy strategy
+  pub errors_is : SpellsErrors policy.errors errors
+  pub number_is : SpellsNumber first number
+  pub words : line ≡ sentence (codes "JOIN" ∷ name ∷ strategy ∷ errors ∷ number ∷ [])
+
+-- a request: a name, an observer's number and how many items
+pub record SpellsRequest (name : List ℕ) (who n : ℕ) (line : List ℕ) : Type 0 where
+  pub observer : List ℕ
+  pub items : List ℕ
+  pub name_is : IsName name
+  pub observer_is : SpellsNumber who observer
+  pub items_is : SpellsNumber n items
+  pub words : line ≡ sentence (codes "REQUEST" ∷ name ∷ observer ∷ items ∷ [])
+
+-- the line spells this meaning
+abbrev pub Spells : ScriptLine → List ℕ → Type 0
+Spells (Command (Pub name text)) line = SpellsText (codes "PUB") name text line
+Spells (Command (End name)) line = IsName name × (line ≡ sentence (codes "END" ∷ name ∷ []))
+Spells (Command (Fail name text)) line = SpellsText (codes "FAIL") name text line
+Spells (Command Quit) line = line ≡ codes "QUIT"
+Spells (Join name policy first) line = SpellsJoin name policy first line
+Spells (Request name who n) line = SpellsRequest name who n line
+
+-- a line of PUB or FAIL whose only fault is a text of more than 1,024 bytes
+pub record HasLongText (line : List ℕ) : Type 0 where
+  pub command : List ℕ
+  pub name : List ℕ
+  pub text : List ℕ
+  pub command_is : (command ≡ codes "PUB") ⊎ (command ≡ codes "FAIL")
+  pub name_is : IsName name
+  pub long : 1024 < length text
+  pub no_lf : HasNoLf text
+  pub words : line ≡ sentence (command ∷ name ∷ text ∷ [])
+
+-- a line that is refused as too long
+abbrev pub IsLong : List ℕ → Type 0
+IsLong line = (1100 < length line) ⊎ HasLongText line

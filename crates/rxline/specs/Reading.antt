@@ -1,0 +1,150 @@
+-- The reading of a script's line, as a function of its bytes.
+use Rattle.std.specs.Prelude.{◌≡◌, ◌==◌, ◌+◌, ◌-◌, ◌*◌, ◌&&◌, ◌||◌, ℕ, Bool, List, [], ◌∷◌, if◌then◌else◌, nat_eq, nat_lt, nat_le, length, codes, Result, Ok, Err, MatchResult}
+use Rattle.std.specs.List.{list_all, list_any}
+use Rattle.rx_note.specs.Choices.{Choice, choice}
+use Rattle.rx_note.specs.declared.strategy.Strategy.{Strategy}
+use Rattle.rx_note.specs.declared.strategy.Strategy.TheVariants.{Buffer}
+use Rattle.rx_note.specs.declared.errors.Errors.{Errors}
+use Rattle.rx_note.specs.declared.errors.Errors.TheVariants.{Delay}
+use Rattle.rxline.specs.declared.command.Command.TheVariants.{Pub, End, Fail, Quit}
+use Rattle.rxline.specs.declared.line.Line.{Line}
+use Rattle.rxline.specs.declared.line.Line.TheVariants as lines
+use Rattle.rxline.specs.declared.line_error.BadLine.{BadLine}
+use Rattle.rxline.specs.declared.line_error.BadLine.TheVariants.{Long, Syntax}
+use Rattle.rxline.specs.declared.line_error.LineError.{LineError}
+use Rattle.rxline.specs.declared.line_error.LineError.TheVariants as errors
+use Rattle.rxline.specs.declared.script_line.ScriptLine.{ScriptLine}
+use Rattle.rxline.specs.declared.script_line.ScriptLine.TheVariants.{Command, Join, Request}
+use lib.Pointwise.{pointwise}
+
+infixl 10 ◌>>=◌
+-- what was read goes on to the next reading; a fault stays
+abbrev pub ◌>>=◌ : {A B : Type 0} → Result A BadLine → (A → Result B BadLine) → Result B BadLine
+(Ok x) >>= next = next x
+(Err fault) >>= next = Err fault
+
+-- the bytes before the first space, and those behind it
+abbrev pub cut_read : List ℕ → Result (List ℕ × List ℕ) BadLine
+cut_read [] = Err Syntax
+cut_read (byte ∷ bytes) = if byte == 32 then Ok ([], bytes) else cut_read bytes >>= λ parts. Ok (byte ∷ parts.0, parts.1)
+
+-- whether a word is this one
+abbrev pub same_word : List ℕ → List ℕ → Bool
+same_word word this = pointwise nat_eq word this
+
+-- whether a byte is one of a name
+abbrev pub is_name_byte : ℕ → Bool
+is_name_byte byte = (nat_le 97 byte && nat_le byte 122) || (nat_le 48 byte && nat_le byte 57) || byte == 45
+
+-- a name
+unfoldable pub name_read : List ℕ → Result (List ℕ) BadLine
+name_read bytes =
+    if nat_le 1 (length bytes) && nat_le (length bytes) 32 && list_all is_name_byte bytes then Ok bytes else Err Syntax
+
+-- a name and what stands behind it
+unfoldable pub named_read : List ℕ → Result (List ℕ × List ℕ) BadLine
+named_read bytes = do
+  parts ← cut_read bytes
+  name ← name_read parts.0
+  Ok (name, parts.1)
+
+-- a text
+unfoldable pub text_read : List ℕ → Result (List ℕ) BadLine
+text_read bytes = if list_any (λ byte. nat_eq byte 10) bytes then Err Syntax else if nat_lt 1024 (length bytes) then Err Long else Ok bytes
+
+-- whether a byte is a digit
+abbrev pub is_digit : ℕ → Bool
+is_digit byte = nat_le 48 byte && nat_le byte 57
+
+-- the number that digits spell behind those that spelled this value
+abbrev pub digits_read : ℕ → List ℕ → Result ℕ BadLine
+digits_read value [] = if nat_lt value 4294967296 then Ok value else Err Syntax
+digits_read value (digit ∷ digits) = if is_digit digit then digits_read (value * 10 + (digit - 48)) digits else Err Syntax
+
+-- a number of 32 bits, of 1 to 20 digits
+unfoldable pub number_read : List ℕ → Result ℕ BadLine
+number_read digits = if nat_le 1 (length digits) && nat_le (length digits) 20 then digits_read 0 digits else Err Syntax
+
+-- a strategy
+abbrev pub strategy_read : List ℕ → Result Strategy BadLine
+strategy_read word = if same_word word (codes "BUFFER") then Ok Buffer else Err Syntax
+
+-- an error mode
+abbrev pub errors_read : List ℕ → Result Errors BadLine
+errors_read word = if same_word word (codes "DELAY") then Ok Delay else Err Syntax
+
+-- a policy
+unfoldable pub policy_read : List ℕ → List ℕ → Result Choice BadLine
+policy_read strategy errors = do
+  s ← strategy_read strategy
+  e ← errors_read errors
+  Ok (choice s e)
+
+-- a name and a text
+unfoldable pub named_text_read : List ℕ → Result (List ℕ × List ℕ) BadLine
+named_text_read bytes = do
+  named ← named_read bytes
+  text ← text_read named.1
+  Ok (named.0, text)
+
+-- the words of JOIN
+unfoldable pub join_read : List ℕ → Result ScriptLine BadLine
+join_read bytes = do
+  named ← named_read bytes
+  strategy ← cut_read named.1
+  errors ← cut_read strategy.1
+  policy ← policy_read strategy.0 errors.0
+  first ← number_read errors.1
+  Ok (Join named.0 policy first)
+
+-- the words of REQUEST
+unfoldable pub request_read : List ℕ → Result ScriptLine BadLine
+request_read bytes = do
+  named ← named_read bytes
+  who ← cut_read named.1
+  observer ← number_read who.0
+  n ← number_read who.1
+  Ok (Request named.0 observer n)
+
+-- the words behind a command
+unfoldable pub words_read : List ℕ → List ℕ → Result ScriptLine BadLine
+words_read command bytes =
+    if same_word command (codes "PUB") then named_text_read bytes >>= (λ p. Ok (Command (Pub p.0 p.1)))
+    else if same_word command (codes "REQUEST") then request_read bytes
+    else if same_word command (codes "JOIN") then join_read bytes
+    else if same_word command (codes "END") then name_read bytes >>= (λ name. Ok (Command (End name)))
+    else if same_word command (codes "FAIL") then named_text_read bytes >>= (λ p. Ok (Command (Fail p.0 p.1)))
+    else Err Syntax
+
+-- a line
+unfoldable pub line_read : List ℕ → Result ScriptLine BadLine
+line_read line =
+    if nat_lt 1100 (length line) then Err Long
+    else if same_word line (codes "QUIT") then Ok (Command Quit)
+    else cut_read line >>= λ parts. words_read parts.0 parts.1
+
+-- what a function answered, seen by view, is what was read
+abbrev pub Gives : {X Y : Type 0} → (X → Y) → Result X BadLine → Result Y BadLine → Type 0
+Gives view result read = MatchResult result (λ x. read ≡ Ok (view x)) (λ fault. read ≡ Err fault)
+
+-- what a line means whose text stands among its bytes
+abbrev pub meaning_of : Line → ScriptLine
+meaning_of (lines.Pub name text) = Command (Pub name text.now)
+meaning_of (lines.End name) = Command (End name)
+meaning_of (lines.Fail name text) = Command (Fail name text.now)
+meaning_of lines.Quit = Command Quit
+meaning_of (lines.Join name policy first) = Join name policy first
+meaning_of (lines.Request name who n) = Request name who n
+
+-- a meaning that holds a text, and so takes memory
+abbrev pub HoldsText : ScriptLine → Type 0
+HoldsText (Command (Pub name text)) = Unit {0}
+HoldsText (Command (Fail name text)) = Unit {0}
+HoldsText _ = ⊥
+
+-- what a parser answered is what was read; it may lack memory only for a text
+abbrev pub Parses : Result ScriptLine LineError → Result ScriptLine BadLine → Type 0
+Parses (Ok line) read = read ≡ Ok line
+Parses (Err errors.Long) read = read ≡ Err Long
+Parses (Err errors.Syntax) read = read ≡ Err Syntax
+Parses (Err errors.Memory) read = MatchResult read HoldsText (λ _. ⊥)
