@@ -4,9 +4,9 @@ use Rattle.std.proofs.lemmas.List.{length-map, get_or-map, map-set}
 use Rattle.std.proofs.Math.Seq.{map-set_same}
 use Rattle.std.proofs.lemmas.List.Folds.{list_any_at}
 use Rattle.std.proofs.lemmas.Bool.Decides.{nat_tests}
-use Rattle.std.proofs.lemmas.List.Sums.{fails_before_first}
+use Rattle.rx_hub.proofs.Positions.{position-None}
 use Rattle.std.specs.Option.{option_map, option_map_or}
-use Rattle.std.specs.List.{list_any, flat_map, position_or_len}
+use Rattle.std.specs.List.{list_any, flat_map}
 use Rattle.rx_note.specs.declared.given.Given.{Given}
 use Rattle.rx_note.specs.declared.note.Note.{Note}
 use Rattle.rx_note.specs.declared.event.Event.TheVariants.{Request}
@@ -57,16 +57,9 @@ unnamed who (first ∷ subscriptions) none =
     ap (λ b. b || list_any (λ k. k == who) (numbers (observers_of subscriptions))) (none 0 first (omega arith))
     ∙ unnamed who subscriptions (λ k d lt. none (suc k) d (omega arith))
 
-not_before : (a b : ℕ) (t : Bool) → nat_lt a b ≡ t → cond t (Some a) None ≡ None → b ≤ a
-not_before a b true e none = cc
-not_before a b false e none = grind (arith, nat_tests)
-
 absent : (who : ℕ) (subscriptions : List Subscription) → position (λ (s : Subscription). s.who == who) subscriptions ≡ None
     → list_any (λ k. k == who) (numbers (observers_of subscriptions)) ≡ false
-absent who subscriptions none =
-    let named : Subscription → Bool = λ s. s.who == who in
-    let past = not_before (position_or_len named subscriptions) (length subscriptions) (nat_lt (position_or_len named subscriptions) (length subscriptions)) refl none in
-    unnamed who subscriptions (λ k d lt. fails_before_first named subscriptions k d (omega (arith, lt, past)))
+absent who subscriptions none = unnamed who subscriptions (λ k d lt. position-None (λ (s : Subscription). s.who == who) subscriptions none k d lt)
 
 pub request_unheld : (hub : HubState) (subscriptions : List Subscription) (outs_so_far : List Given) (H : History) (port who n : ℕ)
     → hub.observers ≡ observers_of subscriptions → 0 < n → position (λ (s : Subscription). s.who == who) subscriptions ≡ None → StandsFor hub H

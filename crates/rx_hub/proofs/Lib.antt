@@ -3,6 +3,7 @@ pub mod Emitting
 pub mod Feeding
 pub mod Joining
 pub mod LanesSteps
+pub mod Positions
 pub mod Quiet
 pub mod Serving
 pub mod Tables

@@ -9,4 +9,6 @@ pub mod Numbers
 pub mod Sheds
 pub mod Sound
 pub mod Stepping
+pub mod Subjects
+pub mod Tellings
 pub mod Written

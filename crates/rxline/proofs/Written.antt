@@ -1,5 +1,5 @@
 -- Writing and putting, one call after another.
-use Rattle.std.proofs.Common.{◌≡◌, ℕ, List, [], ◌++◌, Option, Result, Ok, Err, sym, ap, ◌∙◌, append_assoc, append-nil}
+use Rattle.std.proofs.Common.{◌≡◌, ℕ, List, [], ◌++◌, Option, Result, Ok, Err, sym, ap, subst, ◌∙◌, append_assoc, append-nil}
 use Rattle.std.proofs.KnownBytes.{Appends-trans, Appends-nil, Appends-kept}
 use Rattle.std.proofs.lemmas.Result.{MatchResult-from_err}
 use Rattle.std.specs.Result.{IsErr}
@@ -71,3 +71,7 @@ Puts-then (Err e) old mid new held then after xs ys p q = Loses-then old mid new
 -- a call that ended by the fault of its put
 pub Puts-fault : {T E : Type 0} (result : Result T E) (old new : Option (List ℕ)) (held after bytes : List ℕ) → IsErr result → Loses held after old new bytes → Puts result held after old new bytes
 Puts-fault result old new held after bytes fault loses = MatchResult-from_err result (λ _. Holds held after old new bytes) (λ _. Loses held after old new bytes) fault (λ _. loses)
+
+-- the same bytes by another name
+pub Puts-as : {T E : Type 0} (result : Result T E) (old new : Option (List ℕ)) (held after xs ys : List ℕ) → xs ≡ ys → Puts result held after old new xs → Puts result held after old new ys
+Puts-as result old new held after xs ys same puts = subst (λ (bytes : List ℕ). Puts result held after old new bytes) same puts

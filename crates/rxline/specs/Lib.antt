@@ -6,5 +6,7 @@ pub mod Names
 pub mod Printing
 pub mod Reading
 pub mod Reads
+pub mod Scripts
 pub mod Steps
+pub mod Transcripts
 pub mod Windows

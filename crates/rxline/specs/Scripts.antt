@@ -1,19 +1,25 @@
 -- What a run of a script does, line by line and as a whole.
-use Rattle.std.specs.Prelude.{◌≡◌, ℕ, Bool, true, false, List, [], ◌∷◌, ◌++◌, map, Option, Result, Ok, Err, MatchResult}
+use Rattle.std.specs.Prelude.{◌≡◌, ℕ, Bool, true, false, List, [], ◌∷◌, ◌++◌, map, Option, Result, Ok, Err, MatchResult, if◌then◌else◌, slice_index_or, slice_set}
 use Rattle.std.specs.Io.KnownBytes.{Consumes, Appends, IsAtEnd}
 use Rattle.rx_history.specs.Histories.{NoEvents}
 use Rattle.rx_hub.specs.Hubs.{StandsFor}
+use Rattle.rx_note.specs.declared.event.Event.{Event}
+use Rattle.rxline.specs.declared.asked.Asked.{Asked}
+use Rattle.rxline.specs.declared.response.Response.TheVariants.{Refused}
+use Rattle.rxline.specs.declared.word.Word.TheVariants as words
 use Rattle.rxline.specs.declared.script_line.ScriptLine.{ScriptLine}
 use Rattle.rxline.specs.declared.line_error.BadLine.{BadLine}
 use Rattle.rxline.specs.declared.session_end.SessionEnd.{SessionEnd}
-use Rattle.rxline.specs.declared.session_end.SessionEnd.TheVariants.{Quit, EndOfInput, ReadFault, WriteFault, TooManyReads}
+use Rattle.rxline.specs.declared.session_end.SessionEnd.TheVariants as ends
 use Rattle.rxline.specs.declared.subject_config.SubjectConfig.{SubjectConfig}
 use Rattle.rxline.specs.declared.told.Told.{Told}
 use Rattle.rxline.specs.declared.told.Told.TheVariants as told
 use Rattle.rxline.specs.declared.topic.Topic.{Topic}
+use Rattle.rxline.specs.declared.outbox.WriteFault.{WriteFault}
 use Rattle.rxline.specs.Bytes.{AppendsPrefix, Puts}
 use Rattle.rxline.specs.Lines.{lines_of}
-use Rattle.rxline.specs.Transcripts.{Subject, line_written, after_line, ends_script, transcript, has_end}
+use Rattle.rxline.specs.Printing.{reply_line}
+use Rattle.rxline.specs.Transcripts.{Subject, accepts, is_accepted, is_quit, taking, event_written, asked_written, after_asked, line_written, after_line, ends_script, transcript, has_end}
 
 -- THE WHOLE RUN
 
@@ -27,19 +33,19 @@ new_subjects configs = map new_subject configs
 
 -- what was written is all of these bytes; after a fault of the writer a front of them
 abbrev pub Wrote : SessionEnd → Option (List ℕ) → Option (List ℕ) → List ℕ → Type 0
-Wrote Quit old new bytes = Appends old new bytes
-Wrote EndOfInput old new bytes = Appends old new bytes
-Wrote ReadFault old new bytes = Appends old new bytes
-Wrote WriteFault old new bytes = AppendsPrefix old new bytes
-Wrote TooManyReads old new bytes = Appends old new bytes
+Wrote ends.Quit old new bytes = Appends old new bytes
+Wrote ends.EndOfInput old new bytes = Appends old new bytes
+Wrote ends.ReadFault old new bytes = Appends old new bytes
+Wrote ends.WriteFault old new bytes = AppendsPrefix old new bytes
+Wrote ends.TooManyReads old new bytes = Appends old new bytes
 
 -- the end is the one that the input gives
 abbrev pub EndsSo : SessionEnd → Option (List ℕ) → List (List ℕ) → Type 0
-EndsSo Quit left lines = has_end lines ≡ true
-EndsSo EndOfInput left lines = (has_end lines ≡ false) × IsAtEnd left
-EndsSo ReadFault left lines = has_end lines ≡ false
-EndsSo WriteFault left lines = Unit {0}
-EndsSo TooManyReads left lines = has_end lines ≡ false
+EndsSo ends.Quit left lines = has_end lines ≡ true
+EndsSo ends.EndOfInput left lines = (has_end lines ≡ false) × IsAtEnd left
+EndsSo ends.ReadFault left lines = has_end lines ≡ false
+EndsSo ends.WriteFault left lines = Unit {0}
+EndsSo ends.TooManyReads left lines = has_end lines ≡ false
 
 -- THE SCRIPT'S BYTES: what is written is the transcript of the lines of the bytes that were read, over the subjects and
 -- with a mark for each line that met want of memory
@@ -70,5 +76,35 @@ abbrev pub is_last : Told → Bool
 is_last told.More = false
 is_last told.Quit = true
 
--- a line was told: what is written for it was put, and the topics stand for the subjects after it
-pub record Tells (result : Result Told {E}) : Type 0 where
+-- what telling a line did: what is written for it was put, and then the topics stand for the subjects after it; the
+-- line may have met want of memory
+abbrev pub Tells : Result Told WriteFault → List Topic → List Topic → List ℕ → List ℕ → Option (List ℕ) → Option (List ℕ) → Result ScriptLine BadLine → Type 0
+Tells result topics topics_after held held_after old new line =
+    (subjects : List Subject) → AllStand topics subjects
+    → (missed : Bool) × Puts result held held_after old new (line_written subjects line missed)
+    × MatchResult result (λ told. (is_last told ≡ ends_script line) × AllStand topics_after (after_line subjects line missed)) (λ _. Unit {0})
+
+-- what carrying out did: the answer was put, and the topics stand for the subjects after it; or an event that would have
+-- been accepted met want of memory
+abbrev pub CarriesOut : Result Told WriteFault → List Topic → List Topic → List ℕ → List ℕ → Option (List ℕ) → Option (List ℕ) → Asked → Type 0
+CarriesOut result topics topics_after held held_after old new asked =
+    (subjects : List Subject) → AllStand topics subjects
+    → (missed : Bool) × (missed ≡ true → is_accepted subjects asked ≡ true)
+    × Puts result held held_after old new (if missed then reply_line (Refused words.Memory) else asked_written subjects asked)
+    × MatchResult result (λ told. (is_last told ≡ is_quit asked) × AllStand topics_after (if missed then subjects else after_asked subjects asked)) (λ _. Unit {0})
+
+-- the same of one topic that takes an event
+abbrev pub TakesEvent : Result (Unit {0}) WriteFault → Topic → Topic → Event → List ℕ → List ℕ → Option (List ℕ) → Option (List ℕ) → Type 0
+TakesEvent result topic topic_after event held held_after old new =
+    (subject : Subject) → Stands topic subject
+    → (missed : Bool) × (missed ≡ true → accepts event subject ≡ true)
+    × Puts result held held_after old new (if missed then reply_line (Refused words.Memory) else event_written subject event)
+    × Stands topic_after (if missed then subject else taking subject event)
+
+-- the same of the topic at a place of several
+abbrev pub TakesAt : Result Told WriteFault → List Topic → List Topic → ℕ → Topic → Event → List ℕ → List ℕ → Option (List ℕ) → Option (List ℕ) → Type 0
+TakesAt result topics topics_after place d event held held_after old new =
+    (subject : Subject) → Stands (slice_index_or topics place d) subject
+    → (missed : Bool) × (missed ≡ true → accepts event subject ≡ true)
+    × Puts result held held_after old new (if missed then reply_line (Refused words.Memory) else event_written subject event)
+    × (topic_after : Topic) × (topics_after ≡ slice_set topics place topic_after) × Stands topic_after (if missed then subject else taking subject event)

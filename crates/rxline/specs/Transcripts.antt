@@ -1,6 +1,6 @@
 -- What is written for the lines of a script. A script is told by the histories of its subjects: each line is answered,
 -- and gives, what the definitions say of the history of the subject that it names. The rules are this project's own.
-use Rattle.std.specs.Prelude.{ℕ, ◌&&◌, Bool, true, false, if◌then◌else◌, nat_eq, List, [], ◌∷◌, ◌++◌, Option, None, Some, Result, Ok, Err, is_ok}
+use Rattle.std.specs.Prelude.{ℕ, ◌&&◌, ◌||◌, Bool, true, false, if◌then◌else◌, nat_eq, List, [], ◌∷◌, ◌++◌, Option, None, Some, Result, Ok, Err, is_ok}
 use Rattle.std.specs.List.{flat_map}
 use Rattle.std.specs.Option.{option_map_or}
 use Rattle.rx_note.specs.declared.event.Event.{Event}
@@ -9,7 +9,7 @@ use Rattle.rx_note.specs.declared.note.Note.TheVariants.{Next, Completed, Failed
 use Rattle.rx_note.specs.declared.rules.Rules.{Rules}
 use Rattle.rx_note.specs.declared.given.Given.{Given}
 use Rattle.rx_note.specs.declared.answer.Answer.{Answer}
-use Rattle.rx_note.specs.declared.answer.Answer.TheVariants.{Admitted, Joined, Asked}
+use Rattle.rx_note.specs.declared.answer.Answer.TheVariants as answers
 use Rattle.rx_note.specs.declared.refusal.Refusal.{Refusal}
 use Rattle.rx_note.specs.declared.refusal.Refusal.TheVariants as refused
 use Rattle.rx_history.specs.Histories.{History, NoEvents, ◌▹◌, answer, outs}
@@ -67,9 +67,9 @@ word_of refused.Memory = words.Memory
 
 -- the response to an event
 abbrev pub response_to : Result Answer Refusal → Response
-response_to (Ok Admitted) = responses.Done
-response_to (Ok (Joined who)) = responses.Joined who
-response_to (Ok Asked) = responses.Done
+response_to (Ok answers.Admitted) = responses.Done
+response_to (Ok (answers.Joined who)) = responses.Joined who
+response_to (Ok answers.Asked) = responses.Done
 response_to (Err refusal) = responses.Refused (word_of refusal)
 
 -- the response to a line without a meaning
@@ -110,14 +110,23 @@ accepts event subject = is_ok (answer subject.rules subject.history event)
 
 -- WHAT A LINE DOES
 
+-- whether what a line asks is an event that its subject accepts
+abbrev pub is_accepted : List Subject → Asked → Bool
+is_accepted subjects (asked.Event name event) = option_map_or (accepts event) (subject_of subjects name) false
+is_accepted subjects asked.Quit = false
+
+-- whether what a line asks is the end
+abbrev pub is_quit : Asked → Bool
+is_quit (asked.Event name event) = false
+is_quit asked.Quit = true
+
 -- whether a line takes memory: for its text, or for an event that is accepted
-abbrev pub takes_memory : List Subject → ScriptLine → Asked → Bool
-takes_memory subjects line (asked.Event name event) = if has_text line then true else option_map_or (accepts event) (subject_of subjects name) false
-takes_memory subjects line asked.Quit = false
+abbrev pub takes_memory : List Subject → ScriptLine → Bool
+takes_memory subjects line = has_text line || is_accepted subjects (asks line)
 
 -- whether a line met want of memory; only one that takes memory can
 abbrev pub misses : List Subject → ScriptLine → Bool → Bool
-misses subjects line missed = missed && takes_memory subjects line (asks line)
+misses subjects line missed = missed && takes_memory subjects line
 
 -- what is written for what a line asks
 abbrev pub asked_written : List Subject → Asked → List ℕ
@@ -144,12 +153,7 @@ after_line subjects (Ok line) missed = if misses subjects line missed then subje
 -- whether a line ends the script
 abbrev pub ends_script : Result ScriptLine BadLine → Bool
 ends_script (Err fault) = false
-ends_script (Ok (Command (Pub name text))) = false
-ends_script (Ok (Command (End name))) = false
-ends_script (Ok (Command (Fail name text))) = false
-ends_script (Ok (Command Quit)) = true
-ends_script (Ok (Join name policy first)) = false
-ends_script (Ok (Request name who n)) = false
+ends_script (Ok line) = is_quit (asks line)
 
 -- THE TRANSCRIPT
 

@@ -31,6 +31,7 @@ pub mod subject_config;
 mod telling;
 #[cfg(test)]
 mod tests;
+mod told;
 mod topic;
 mod window;
 mod word;

@@ -11,7 +11,7 @@ use rx_heap::Heap;
 use rx_note::{Text, TextError};
 
 /// What this line of a script means. Refused in the order `Long`, `Syntax`, `Memory`; only PUB and FAIL take memory.
-pub fn parse_script(alloc: Heap, line: &[u8]) -> Result<ScriptLine, LineError>
+pub fn parse_script(alloc: &Heap, line: &[u8]) -> Result<ScriptLine, LineError>
     ensures { Parses result (line_read line.now) }
 {
     match read_line(line) {
@@ -43,11 +43,14 @@ pub fn parse_script(alloc: Heap, line: &[u8]) -> Result<ScriptLine, LineError>
 }
 
 // The text of these bytes, which are one.
-fn hold(alloc: Heap, text: &[u8]) -> Result<Text, LineError>
+fn hold(alloc: &Heap, text: &[u8]) -> Result<Text, LineError>
     requires { IsText text.now }
     ensures { MatchResult result (λ held. held ≡ text.now) (λ fault. fault ≡ LineError.Memory) }
 {
-    match Text::new(alloc, text) {
+    let Ok(heap) = alloc.clone() else {
+        return Err(LineError::Memory);
+    };
+    match Text::new(heap, text) {
         Ok(text) => Ok(text),
         Err(TextError::Memory) => Err(LineError::Memory),
         Err(TextError::TooLong) => unreachable!(),

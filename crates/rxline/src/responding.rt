@@ -1,27 +1,25 @@
-use crate::line_error::LineError;
+ghost use Rattle.std.specs.Prelude.{◌≡◌};
+ghost use Rattle.rxline.specs.Transcripts.{response_to, word_of};
+
 use crate::response::Response;
 use crate::word::Word;
 use rx_note::{Answer, Refusal};
 
-/// What an event's line is answered.
-pub fn response_to(answered: Result<Answer, Refusal>) -> Response {
+/// What the line of an event is answered.
+pub fn response_to(answered: Result<Answer, Refusal>) -> Response
+    ensures { result ≡ response_to answered }
+{
     match answered {
         Ok(Answer::Joined(who)) => Response::Joined(who),
-        Ok(_) => Response::Done,
+        Ok(Answer::Admitted) => Response::Done,
+        Ok(Answer::Asked) => Response::Done,
         Err(refusal) => Response::Refused(word_of(refusal)),
     }
 }
 
-/// What a line that was refused is answered.
-pub fn response_to_line(error: LineError) -> Response {
-    Response::Refused(match error {
-        LineError::Long => Word::Long,
-        LineError::Syntax => Word::Syntax,
-        LineError::Memory => Word::Memory,
-    })
-}
-
-fn word_of(refusal: Refusal) -> Word {
+fn word_of(refusal: Refusal) -> Word
+    ensures { result ≡ word_of refusal }
+{
     match refusal {
         Refusal::Ended => Word::Ended,
         Refusal::Full => Word::Full,

@@ -1,17 +1,29 @@
+ghost use Rattle.std.specs.Prelude.{◌≡◌, ◌<◌, ◌++◌, ◌⊎◌, [], IfOk, length, Err};
+ghost use Rattle.rxline.specs.declared.line_error.BadLine.TheVariants.{Long};
+ghost use Rattle.rxline.specs.declared.topic.Topic.{Topic};
+ghost use Rattle.rxline.specs.Bytes.{Puts};
+ghost use Rattle.rxline.specs.Printing.{reply_line};
+ghost use Rattle.rxline.specs.Reading.{line_read};
+ghost use Rattle.rxline.specs.Scripts.{Runs, Wrote, Tells, CarriesOut, TakesAt, TakesEvent, new_subjects};
+ghost use Rattle.rxline.specs.Transcripts.{given_lines, response_to};
+
 use crate::asked::{Asked, asked_by};
 use crate::config::Config;
+use crate::line_error::LineError;
 use crate::line_state::LineState;
+use crate::name::Name;
 use crate::outbox::{Outbox, WriteFault};
 use crate::parsing::parse_script;
 use crate::printing::{put_given, put_reply};
-use crate::responding::{response_to, response_to_line};
+use crate::responding::response_to;
 use crate::response::Response;
 use crate::session_end::SessionEnd;
 use crate::step::Step;
+use crate::told::Told;
 use crate::topic::{Topic, place_of, topics_of};
 use crate::word::Word;
 use rx_heap::{Heap, Memory};
-use rx_note::{Event, Given};
+use rx_note::{Answer, Event, Given, Refusal};
 use std::io::{Read, Write};
 
 /// Runs the lines of a script over the subjects of a configuration, and answers each by its response and a line for
@@ -24,104 +36,156 @@ pub fn run_script<R: Read, W: Write>(
     reader: &mut R,
     writer: &mut W,
     max_reads: u64,
-) -> Result<SessionEnd, Memory> {
-    let mut topics = topics_of(&alloc, config.subjects)?;
-    let mut outs = Vec::new(alloc.clone()?);
+) -> Result<SessionEnd, Memory>
+    ensures { IfOk result (λ end. Runs (new_subjects config.subjects.items) end (R.remaining reader.old) (R.remaining reader.new) (W.contents writer.old) (W.contents writer.new)) }
+{
+    let mut script = Script {
+        topics: topics_of(&alloc, config.subjects)?,
+        outs: Vec::new(alloc.clone()?),
+        outbox: Outbox::new(),
+        heap: alloc,
+    };
     let mut lines = LineState::new(max_reads);
-    let mut outbox = Outbox::new();
     loop {
-        if !lines.has_line() && outbox.flush(writer).is_err() {
+        if !lines.has_line() && script.outbox.flush(writer).is_err() {
             return Ok(SessionEnd::WriteFault);
         }
         let told = match lines.advance(reader) {
-            Step::Line(len) => answer_line(
-                &alloc,
-                lines.line(len),
-                &mut topics,
-                &mut outs,
-                &mut outbox,
-                writer,
-            ),
-            Step::Long => refuse_long(&mut outbox, writer),
+            Step::Line(len) => script.tell(writer, lines.line(len)),
+            Step::Long => script.tell_long(writer),
             Step::EndOfInput => return Ok(SessionEnd::EndOfInput),
             Step::ReadFault => return Ok(SessionEnd::ReadFault),
             Step::TooManyReads => return Ok(SessionEnd::TooManyReads),
         };
         match told {
             Ok(Told::More) => {}
-            Ok(Told::Quit) => return Ok(quit(&mut outbox, writer)),
+            Ok(Told::Quit) => return Ok(script.quit(writer)),
             Err(_) => return Ok(SessionEnd::WriteFault),
         }
     }
 }
 
-/// Whether the script goes on after a line.
-enum Told {
-    More,
-    Quit,
+/// The run of a script: its topics, and what is to be written.
+#[derive(Drop)]
+pub(crate) struct Script {
+    topics: Vec<Topic, Heap>,
+    outs: Vec<Given, Heap>,
+    outbox: Outbox,
+    heap: Heap,
+    ghost nothing_left: { outs.items ≡ [] },
 }
 
-fn quit<W: Write>(outbox: &mut Outbox, writer: &mut W) -> SessionEnd {
-    match outbox.flush(writer) {
-        Ok(()) => SessionEnd::Quit,
-        Err(_) => SessionEnd::WriteFault,
+impl Script {
+    // Tells a line: puts what is written for it, and has the topics take what it asks.
+    fn tell<W: Write>(&mut self, writer: &mut W, line: &[u8]) -> Result<Told, WriteFault>
+        ensures { Tells result self.old.topics.items self.new.topics.items self.old.outbox self.new.outbox (W.contents writer.old) (W.contents writer.new) (line_read line.now) }
+    {
+        match parse_script(&self.heap, line) {
+            Ok(line) => self.carry_out(writer, asked_by(line)),
+            Err(LineError::Long) => self.refuse(writer, Word::Long),
+            Err(LineError::Syntax) => self.refuse(writer, Word::Syntax),
+            Err(LineError::Memory) => self.refuse(writer, Word::Memory),
+        }
     }
-}
 
-fn refuse_long<W: Write>(outbox: &mut Outbox, writer: &mut W) -> Result<Told, WriteFault> {
-    put_reply(outbox, writer, Response::Refused(Word::Long))?;
-    Ok(Told::More)
-}
+    // Tells a line that is too long.
+    fn tell_long<W: Write>(&mut self, writer: &mut W) -> Result<Told, WriteFault>
+        ensures { Tells result self.old.topics.items self.new.topics.items self.old.outbox self.new.outbox (W.contents writer.old) (W.contents writer.new) (Err Long) }
+    {
+        self.refuse(writer, Word::Long)
+    }
 
-fn answer_line<W: Write>(
-    alloc: &Heap,
-    line: &[u8],
-    topics: &mut Vec<Topic, Heap>,
-    outs: &mut Vec<Given, Heap>,
-    outbox: &mut Outbox,
-    writer: &mut W,
-) -> Result<Told, WriteFault> {
-    let asked = match alloc.clone() {
-        Ok(heap) => match parse_script(heap, line) {
-            Ok(line) => asked_by(line),
-            Err(error) => {
-                put_reply(outbox, writer, response_to_line(error))?;
-                return Ok(Told::More);
+    // Carries out what a line asks, and puts the answer.
+    fn carry_out<W: Write>(&mut self, writer: &mut W, asked: Asked) -> Result<Told, WriteFault>
+        ensures { CarriesOut result self.old.topics.items self.new.topics.items self.old.outbox self.new.outbox (W.contents writer.old) (W.contents writer.new) asked }
+    {
+        match asked {
+            Asked::Quit => {
+                put_reply(&mut self.outbox, writer, Response::Done)?;
+                Ok(Told::Quit)
             }
-        },
-        Err(_) => {
-            put_reply(outbox, writer, Response::Refused(Word::Memory))?;
-            return Ok(Told::More);
+            Asked::Event(name, event) => match place_of(&self.topics, &name) {
+                Some(place) => self.take(writer, place, event),
+                None => self.refuse(writer, Word::Subject),
+            },
         }
-    };
-    match asked {
-        Asked::Quit => {
-            put_reply(outbox, writer, Response::Done)?;
-            Ok(Told::Quit)
-        }
-        Asked::Event(name, event) => {
-            match place_of(topics, &name) {
-                Some(place) => answer_event(&mut topics[place], event, outs, outbox, writer)?,
-                None => put_reply(outbox, writer, Response::Refused(Word::Subject))?,
-            }
-            Ok(Told::More)
+    }
+
+    // Puts the answer to a line that is refused.
+    fn refuse<W: Write>(&mut self, writer: &mut W, word: Word) -> Result<Told, WriteFault>
+        ensures puts { Puts result self.old.outbox self.new.outbox (W.contents writer.old) (W.contents writer.new) (reply_line (Response.Refused word)) }
+        ensures topics { self.new.topics.items ≡ self.old.topics.items }
+        ensures more { IfOk result (λ told. told ≡ Told.More) }
+    {
+        put_reply(&mut self.outbox, writer, Response::Refused(word))?;
+        Ok(Told::More)
+    }
+
+    // Has the topic at a place take an event, and puts its answer and the notes that it gives.
+    fn take<W: Write>(&mut self, writer: &mut W, place: usize, event: Event) -> Result<Told, WriteFault>
+        requires { place < length self.old.topics.items }
+        ensures took { (d : Topic) → TakesAt result self.old.topics.items self.new.topics.items place d event self.old.outbox self.new.outbox (W.contents writer.old) (W.contents writer.new) }
+        ensures more { IfOk result (λ told. told ≡ Told.More) }
+    {
+        take_event(&mut self.topics[place], event, &mut self.outs, &mut self.outbox, writer)?;
+        Ok(Told::More)
+    }
+
+    // Writes what is left at the end of a script that said so.
+    fn quit<W: Write>(&mut self, writer: &mut W) -> SessionEnd
+        ensures wrote { Wrote result (W.contents writer.old) (W.contents writer.new) self.old.outbox }
+        ensures end { (result ≡ SessionEnd.Quit) ⊎ (result ≡ SessionEnd.WriteFault) }
+    {
+        match self.outbox.flush(writer) {
+            Ok(()) => SessionEnd::Quit,
+            Err(_) => SessionEnd::WriteFault,
         }
     }
 }
 
 // Steps the hub of a topic, and puts the answer and the notes given.
-fn answer_event<W: Write>(
+fn take_event<W: Write>(
     topic: &mut Topic,
     event: Event,
     outs: &mut Vec<Given, Heap>,
     outbox: &mut Outbox,
     writer: &mut W,
-) -> Result<(), WriteFault> {
-    let result = topic.hub.step(0, event, outs);
-    put_reply(outbox, writer, response_to(result))?;
-    for given in outs.iter() {
-        put_given(outbox, writer, &topic.name, given.who, &given.note)?;
-    }
+) -> Result<(), WriteFault>
+    requires { outs.old.items ≡ [] }
+    ensures took { TakesEvent result topic.old topic.new event outbox.old outbox.new (W.contents writer.old) (W.contents writer.new) }
+    ensures outs { outs.new.items ≡ [] }
+{
+    let answered = topic.hub.step(0, event, outs);
+    let put = put_answer(outbox, writer, &topic.name, answered, outs);
     outs.clear();
+    put
+}
+
+// Puts the answer to an event, and a line for each note given.
+fn put_answer<W: Write>(
+    outbox: &mut Outbox,
+    writer: &mut W,
+    name: &Name,
+    answered: Result<Answer, Refusal>,
+    outs: &Vec<Given, Heap>,
+) -> Result<(), WriteFault>
+    ensures { Puts result outbox.old outbox.new (W.contents writer.old) (W.contents writer.new) (reply_line (response_to answered) ++ given_lines name.now outs.now.items) }
+{
+    put_reply(outbox, writer, response_to(answered))?;
+    put_all(outbox, writer, name, outs)
+}
+
+// Puts a line for each note given.
+fn put_all<W: Write>(
+    outbox: &mut Outbox,
+    writer: &mut W,
+    name: &Name,
+    outs: &Vec<Given, Heap>,
+) -> Result<(), WriteFault>
+    ensures { Puts result outbox.old outbox.new (W.contents writer.old) (W.contents writer.new) (given_lines name.now outs.now.items) }
+{
+    for given in outs.iter() {
+        put_given(outbox, writer, name, given.who, &given.note)?;
+    }
     Ok(())
 }

@@ -14,7 +14,7 @@ use std::test::Fail;
 
 #[test]
 fn a_pub_has_its_name_and_text(rt: HostRuntime) -> Result<(), Fail> {
-    let line = parse_script(rt.alloc(), b"PUB s-1 a b ")?;
+    let line = parse_script(&rt.alloc(), b"PUB s-1 a b ")?;
     match &line {
         ScriptLine::Command(Command::Pub { name, text }) => {
             assert_eq!(rt; name.as_bytes(), b"s-1".as_slice());
@@ -27,7 +27,7 @@ fn a_pub_has_its_name_and_text(rt: HostRuntime) -> Result<(), Fail> {
 
 #[test]
 fn a_request_has_its_numbers(rt: HostRuntime) -> Result<(), Fail> {
-    let line = parse_script(rt.alloc(), b"REQUEST s 00007 4294967295")?;
+    let line = parse_script(&rt.alloc(), b"REQUEST s 00007 4294967295")?;
     match &line {
         ScriptLine::Request { name, who, n } => {
             assert_eq!(rt; name.as_bytes(), b"s".as_slice());
@@ -65,7 +65,7 @@ fn lines_are_read_or_refused(rt: HostRuntime) {
         (b"REQUEST s 1 ".as_slice(), refused),
         (b"REQUEST s 1 +1".as_slice(), refused),
     ] {
-        assert_eq!(rt; parse_script(rt.alloc(), line).err(), error);
+        assert_eq!(rt; parse_script(&rt.alloc(), line).err(), error);
     }
 }
 

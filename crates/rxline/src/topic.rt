@@ -1,9 +1,11 @@
-ghost use Rattle.std.specs.Prelude.{◌<◌, IfSome, vec_len};
+ghost use Rattle.std.specs.Prelude.{◌≡◌, IfOk, position};
+ghost use Rattle.rxline.specs.Reading.{same_word};
+ghost use Rattle.rxline.specs.Scripts.{Stands, AllStand, new_subject, new_subjects};
 
 use crate::name::Name;
 use crate::subject_config::SubjectConfig;
 use rx_heap::{Heap, Memory};
-use rx_hub::Hub;
+use rx_hub::{Hub, HubError};
 
 /// A subject of a script: its name and its hub.
 #[derive(Drop)]
@@ -14,11 +16,14 @@ pub struct Topic {
 
 impl Topic {
     /// The topic of a subject, with no event yet.
-    fn new(alloc: Heap, subject: SubjectConfig) -> Result<Topic, Memory> {
+    fn new(alloc: Heap, subject: SubjectConfig) -> Result<Topic, Memory>
+        ensures { IfOk result (λ topic. Stands topic (new_subject subject)) }
+    {
         let SubjectConfig { name, rules } = subject;
         match Hub::new(alloc, rules.kind, rules.limits) {
             Ok(hub) => Ok(Topic { name, hub }),
-            Err(_) => Err(Memory),
+            Err(HubError::Memory) => Err(Memory),
+            Err(HubError::BadLimits) => unreachable!(),
         }
     }
 }
@@ -27,7 +32,9 @@ impl Topic {
 pub fn topics_of(
     alloc: &Heap,
     subjects: Vec<SubjectConfig, Heap>,
-) -> Result<Vec<Topic, Heap>, Memory> {
+) -> Result<Vec<Topic, Heap>, Memory>
+    ensures { IfOk result (λ topics. AllStand topics.items (new_subjects subjects.items)) }
+{
     let mut topics = Vec::with_capacity(alloc.clone()?, subjects.len())?;
     for subject in subjects {
         topics.push(Topic::new(alloc.clone()?, subject)?)?;
@@ -35,9 +42,9 @@ pub fn topics_of(
     Ok(topics)
 }
 
-/// The place of the topic of this name.
+/// The place of the first topic of this name.
 pub fn place_of(topics: &Vec<Topic, Heap>, name: &Name) -> Option<usize>
-    ensures { IfSome result (λ place. place < vec_len topics.now) }
+    ensures { result ≡ position (λ topic. same_word topic.name name.now) topics.now.items }
 {
     topics.iter().position(|topic| topic.name == *name)
 }
