@@ -4,6 +4,7 @@ pub mod Cuts
 pub mod Digits
 pub mod Known
 pub mod Lfs
+pub mod LinesOf
 pub mod NameTests
 pub mod Numbers
 pub mod Sheds

@@ -38,7 +38,7 @@ found (t ∷ topics) (s ∷ subjects) name zero d all lt here before =
       keeps = λ topic one. (one, all.1);
       takes = λ topic event one.
           subst (λ (ss : List Subject). AllStand (topic ∷ topics) ss)
-              (sym (ap (λ b. cond b (taking s event ∷ subjects) (s ∷ all_taking subjects name event)) same)) (one, all.1);
+          (sym (ap (λ b. cond b (taking s event ∷ subjects) (s ∷ all_taking subjects name event)) same)) (one, all.1);
     }
 found (t ∷ topics) (s ∷ subjects) name (suc place) d all lt here before =
     let other : same_word s.name name ≡ false = ap (λ n. same_word n name) (sym all.0.name) ∙ before 0 (omega arith) in
@@ -50,7 +50,7 @@ found (t ∷ topics) (s ∷ subjects) name (suc place) d all lt here before =
       keeps = λ topic one. (all.0, rest.keeps topic one);
       takes = λ topic event one.
           subst (λ (ss : List Subject). AllStand (t ∷ set topics place topic) ss)
-              (sym (ap (λ b. cond b (taking s event ∷ subjects) (s ∷ all_taking subjects name event)) other)) (all.0, rest.takes topic event one);
+          (sym (ap (λ b. cond b (taking s event ∷ subjects) (s ∷ all_taking subjects name event)) other)) (all.0, rest.takes topic event one);
     }
 
 -- the topic at the place that was found
@@ -69,9 +69,10 @@ unknown [] (s ∷ subjects) name event all none = absurd all
 unknown (t ∷ topics) [] name event all none = absurd all
 unknown (t ∷ topics) (s ∷ subjects) name event all none =
     let other : same_word s.name name ≡ false = ap (λ n. same_word n name) (sym all.0.name) ∙ none 0 t (omega arith) in
-    let rest = unknown topics subjects name event all.1 (λ k d lt. none (suc k) d (omega arith)) in
-    (ap (λ b. cond b (Some s) (subject_of subjects name)) other ∙ rest.0,
-    ap (λ b. cond b (taking s event ∷ subjects) (s ∷ all_taking subjects name event)) other ∙ ap (λ ss. s ∷ ss) rest.1)
+    let rest = unknown topics subjects name event all.1 (λ k d lt. none (suc k) d (omega arith)) in (
+      ap (λ b. cond b (Some s) (subject_of subjects name)) other ∙ rest.0,
+      ap (λ b. cond b (taking s event ∷ subjects) (s ∷ all_taking subjects name event)) other ∙ ap (λ ss. s ∷ ss) rest.1,
+    )
 
 pub unknown_to : (topics : List Topic) (subjects : List Subject) (name : List ℕ) (event : Event) → AllStand topics subjects
     → position (λ (topic : Topic). same_word topic.name name) topics ≡ None

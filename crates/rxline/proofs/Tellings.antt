@@ -60,18 +60,18 @@ told topic hub event answered given subject steps misses accepted rules stands =
     };
   }
   | inr other ↦
-    let step = steps other subject.history stands.history in
-    let same_answer = step.answers ∙ ap (λ (r : Rules). answer r subject.history event) stands.rules in
-    let same_outs = step.gives ∙ ap (λ (r : Rules). outs r subject.history (0, event)) stands.rules in
-    record {
-      missed = false;
-      accepted = λ e. cc;
-      written =
-          ap (λ r. reply_line (response_to r) ++ given_lines topic.name given) same_answer
-          ∙ ap (λ gs. reply_line (response_to (answer subject.rules subject.history event)) ++ given_lines topic.name gs) same_outs
-          ∙ ap (λ name. reply_line (response_to (answer subject.rules subject.history event)) ++ given_lines name (outs subject.rules subject.history (0, event))) stands.name;
-      stands = record { name = stands.name; rules = rules ∙ stands.rules; history = step.goes_on };
-    }
+      let step = steps other subject.history stands.history in
+      let same_answer = step.answers ∙ ap (λ (r : Rules). answer r subject.history event) stands.rules in
+      let same_outs = step.gives ∙ ap (λ (r : Rules). outs r subject.history (0, event)) stands.rules in
+      record {
+        missed = false;
+        accepted = λ e. cc;
+        written =
+            ap (λ r. reply_line (response_to r) ++ given_lines topic.name given) same_answer
+            ∙ ap (λ gs. reply_line (response_to (answer subject.rules subject.history event)) ++ given_lines topic.name gs) same_outs
+            ∙ ap (λ name. reply_line (response_to (answer subject.rules subject.history event)) ++ given_lines name (outs subject.rules subject.history (0, event))) stands.name;
+        stands = record { name = stands.name; rules = rules ∙ stands.rules; history = step.goes_on };
+      }
 ]
 
 -- the lines of one note more

@@ -1,6 +1,7 @@
 -- What a run of a script does, line by line and as a whole.
-use Rattle.std.specs.Prelude.{◌≡◌, ℕ, Bool, true, false, List, [], ◌∷◌, ◌++◌, map, Option, Result, Ok, Err, MatchResult, if◌then◌else◌, slice_index_or, slice_set}
+use Rattle.std.specs.Prelude.{◌≡◌, ℕ, Bool, true, false, List, [], ◌∷◌, ◌++◌, map, Option, None, Some, Result, Ok, Err, MatchResult, if◌then◌else◌, slice_index_or, slice_set}
 use Rattle.std.specs.Io.KnownBytes.{Consumes, Appends, IsAtEnd}
+use Rattle.std.specs.Borrow.{Bor}
 use Rattle.rx_history.specs.Histories.{NoEvents}
 use Rattle.rx_hub.specs.Hubs.{StandsFor}
 use Rattle.rx_note.specs.declared.event.Event.{Event}
@@ -9,6 +10,8 @@ use Rattle.rxline.specs.declared.response.Response.TheVariants.{Refused}
 use Rattle.rxline.specs.declared.word.Word.TheVariants as words
 use Rattle.rxline.specs.declared.script_line.ScriptLine.{ScriptLine}
 use Rattle.rxline.specs.declared.line_error.BadLine.{BadLine}
+use Rattle.rxline.specs.declared.line_error.BadLine.TheVariants.{Long}
+use Rattle.rxline.specs.declared.line_state.LineState.{LineState}
 use Rattle.rxline.specs.declared.session_end.SessionEnd.{SessionEnd}
 use Rattle.rxline.specs.declared.session_end.SessionEnd.TheVariants as ends
 use Rattle.rxline.specs.declared.subject_config.SubjectConfig.{SubjectConfig}
@@ -16,8 +19,10 @@ use Rattle.rxline.specs.declared.told.Told.{Told}
 use Rattle.rxline.specs.declared.told.Told.TheVariants as told
 use Rattle.rxline.specs.declared.topic.Topic.{Topic}
 use Rattle.rxline.specs.declared.outbox.WriteFault.{WriteFault}
-use Rattle.rxline.specs.Bytes.{AppendsPrefix, Puts}
-use Rattle.rxline.specs.Lines.{lines_of}
+use Rattle.rxline.specs.Bytes.{AppendsPrefix, Holds, Puts}
+use Rattle.rxline.specs.Lines.{lines_of, TakesLine, TakesNoLine}
+use Rattle.rxline.specs.Reading.{line_read}
+use Rattle.rxline.specs.Steps.{unread, GoesOn}
 use Rattle.rxline.specs.Printing.{reply_line}
 use Rattle.rxline.specs.Transcripts.{Subject, accepts, is_accepted, is_quit, taking, event_written, asked_written, after_asked, line_written, after_line, ends_script, transcript, has_end}
 
@@ -108,3 +113,46 @@ TakesAt result topics topics_after place d event held held_after old new =
     → (missed : Bool) × (missed ≡ true → accepts event subject ≡ true)
     × Puts result held held_after old new (if missed then reply_line (Refused words.Memory) else event_written subject event)
     × (topic_after : Topic) × (topics_after ≡ slice_set topics place topic_after) × Stands topic_after (if missed then subject else taking subject event)
+
+-- what is read of a line that is told, or of one that is too long
+abbrev pub reading_of : Option (Bor (List ℕ)) → Result ScriptLine BadLine
+reading_of (Some line) = line_read line.now
+reading_of None = Err Long
+
+-- ending a script that said so writes all that is held, or meets a fault
+abbrev pub Quits : SessionEnd → Option (List ℕ) → Option (List ℕ) → List ℕ → Type 0
+Quits ends.Quit old new held = Appends old new held
+Quits ends.EndOfInput old new held = ⊥
+Quits ends.ReadFault old new held = ⊥
+Quits ends.WriteFault old new held = AppendsPrefix old new held
+Quits ends.TooManyReads old new held = ⊥
+
+-- what telling a line did, and how the script ended, if it did
+abbrev pub TellsOn : Option SessionEnd → List Topic → List Topic → List ℕ → List ℕ → Option (List ℕ) → Option (List ℕ) → Result ScriptLine BadLine → Type 0
+TellsOn None topics topics_after held held_after old new line =
+    (subjects : List Subject) → AllStand topics subjects
+    → (missed : Bool) × Holds held held_after old new (line_written subjects line missed) × (ends_script line ≡ false)
+    × AllStand topics_after (after_line subjects line missed)
+TellsOn (Some ends.Quit) topics topics_after held held_after old new line =
+    (subjects : List Subject) → AllStand topics subjects
+    → (missed : Bool) × Appends old new (held ++ line_written subjects line missed) × (ends_script line ≡ true)
+TellsOn (Some ends.EndOfInput) topics topics_after held held_after old new line = ⊥
+TellsOn (Some ends.ReadFault) topics topics_after held held_after old new line = ⊥
+TellsOn (Some ends.WriteFault) topics topics_after held held_after old new line =
+    (subjects : List Subject) → AllStand topics subjects → (missed : Bool) × AppendsPrefix old new (held ++ line_written subjects line missed)
+TellsOn (Some ends.TooManyReads) topics topics_after held held_after old new line = ⊥
+
+-- what one turn did: it took the next line and told it, or it found none and an end
+abbrev pub Turns : Option SessionEnd → List Topic → List Topic → List ℕ → List ℕ → Option (List ℕ) → Option (List ℕ) → Option (List ℕ) → Option (List ℕ) → LineState → LineState → Type 0
+Turns None topics topics_after held held_after old new read_old read_new before after =
+    TakesLine read_old read_new (unread before) (unread after) (λ line. TellsOn None topics topics_after held held_after old new (line_read line)) × GoesOn before after
+Turns (Some ends.Quit) topics topics_after held held_after old new read_old read_new before after =
+    TakesLine read_old read_new (unread before) (unread after) (λ line. TellsOn (Some ends.Quit) topics topics_after held held_after old new (line_read line))
+Turns (Some ends.EndOfInput) topics topics_after held held_after old new read_old read_new before after =
+    TakesNoLine read_old read_new (unread before) × IsAtEnd read_new × (new ≡ old)
+Turns (Some ends.ReadFault) topics topics_after held held_after old new read_old read_new before after =
+    TakesNoLine read_old read_new (unread before) × (new ≡ old)
+Turns (Some ends.WriteFault) topics topics_after held held_after old new read_old read_new before after =
+    TakesLine read_old read_new (unread before) (unread after) (λ line. TellsOn (Some ends.WriteFault) topics topics_after held held_after old new (line_read line))
+Turns (Some ends.TooManyReads) topics topics_after held held_after old new read_old read_new before after =
+    TakesNoLine read_old read_new (unread before) × (new ≡ old)

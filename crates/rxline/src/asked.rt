@@ -27,7 +27,18 @@ pub fn asked_by(line: ScriptLine) -> Asked
         ScriptLine::Command(Command::End { name }) => emitted(name, Note::Completed),
         ScriptLine::Command(Command::Fail { name, text }) => emitted(name, Note::Failed(text)),
         ScriptLine::Command(Command::Quit) => Asked::Quit,
-        ScriptLine::Join { name, policy, first } => Asked::Event(name, Event::Join { policy, first, at: 0 }),
+        ScriptLine::Join {
+            name,
+            policy,
+            first,
+        } => Asked::Event(
+            name,
+            Event::Join {
+                policy,
+                first,
+                at: 0,
+            },
+        ),
         ScriptLine::Request { name, who, n } => Asked::Event(name, Event::Request { who, n }),
     }
 }

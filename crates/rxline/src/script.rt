@@ -1,10 +1,10 @@
-ghost use Rattle.std.specs.Prelude.{◌≡◌, ◌<◌, ◌++◌, ◌⊎◌, [], IfOk, length, Err};
-ghost use Rattle.rxline.specs.declared.line_error.BadLine.TheVariants.{Long};
+ghost use Rattle.std.specs.Prelude.{◌≡◌, ◌<◌, ◌++◌, [], None, IfOk, OnOk, length};
 ghost use Rattle.rxline.specs.declared.topic.Topic.{Topic};
-ghost use Rattle.rxline.specs.Bytes.{Puts};
+ghost use Rattle.rxline.specs.Bytes.{Puts, Writes};
+ghost use Rattle.rxline.specs.Lines.{HasNoLf};
 ghost use Rattle.rxline.specs.Printing.{reply_line};
-ghost use Rattle.rxline.specs.Reading.{line_read};
-ghost use Rattle.rxline.specs.Scripts.{Runs, Wrote, Tells, CarriesOut, TakesAt, TakesEvent, new_subjects};
+ghost use Rattle.rxline.specs.Scripts.{Runs, Turns, TellsOn, Tells, Quits, CarriesOut, TakesAt, TakesEvent, AllStand, new_subjects, reading_of};
+ghost use Rattle.rxline.specs.Steps.{unread};
 ghost use Rattle.rxline.specs.Transcripts.{given_lines, response_to};
 
 use crate::asked::{Asked, asked_by};
@@ -39,29 +39,53 @@ pub fn run_script<R: Read, W: Write>(
 ) -> Result<SessionEnd, Memory>
     ensures { IfOk result (λ end. Runs (new_subjects config.subjects.items) end (R.remaining reader.old) (R.remaining reader.new) (W.contents writer.old) (W.contents writer.new)) }
 {
-    let mut script = Script {
-        topics: topics_of(&alloc, config.subjects)?,
-        outs: Vec::new(alloc.clone()?),
-        outbox: Outbox::new(),
-        heap: alloc,
-    };
+    let mut script = Script::new(alloc, config)?;
     let mut lines = LineState::new(max_reads);
     loop {
-        if !lines.has_line() && script.outbox.flush(writer).is_err() {
+        let Ok(()) = catch_up(&mut script, &mut lines, writer) else {
             return Ok(SessionEnd::WriteFault);
-        }
-        let told = match lines.advance(reader) {
-            Step::Line(len) => script.tell(writer, lines.line(len)),
-            Step::Long => script.tell_long(writer),
-            Step::EndOfInput => return Ok(SessionEnd::EndOfInput),
-            Step::ReadFault => return Ok(SessionEnd::ReadFault),
-            Step::TooManyReads => return Ok(SessionEnd::TooManyReads),
         };
-        match told {
-            Ok(Told::More) => {}
-            Ok(Told::Quit) => return Ok(script.quit(writer)),
-            Err(_) => return Ok(SessionEnd::WriteFault),
+        if let Some(end) = turn(&mut script, &mut lines, reader, writer) {
+            return Ok(end);
         }
+    }
+}
+
+// Writes all that was answered, where the next line asks for a read.
+fn catch_up<W: Write>(
+    script: &mut Script,
+    lines: &mut LineState,
+    writer: &mut W,
+) -> Result<(), WriteFault>
+    ensures puts { Puts result script.old.outbox script.new.outbox (W.contents writer.old) (W.contents writer.new) [] }
+    ensures empty { OnOk result (HasNoLf (unread lines.new) → script.new.outbox ≡ []) }
+    ensures topics { script.new.topics.items ≡ script.old.topics.items }
+    ensures unread { unread lines.new ≡ unread lines.old }
+    ensures reads { lines.new.reads ≡ lines.old.reads }
+    ensures end { lines.new.end ≡ lines.old.end }
+{
+    if lines.has_line() {
+        return Ok(());
+    }
+    script.flush(writer)
+}
+
+// Reads the next line and tells it. How the script ended, if it did.
+fn turn<R: Read, W: Write>(
+    script: &mut Script,
+    lines: &mut LineState,
+    reader: &mut R,
+    writer: &mut W,
+) -> Option<SessionEnd>
+    requires { lines.old.end ≡ None }
+    ensures { Turns result script.old.topics.items script.new.topics.items script.old.outbox script.new.outbox (W.contents writer.old) (W.contents writer.new) (R.remaining reader.old) (R.remaining reader.new) lines.old lines.new }
+{
+    match lines.advance(reader) {
+        Step::Line(len) => script.tell_on(writer, Some(lines.line(len))),
+        Step::Long => script.tell_on(writer, None),
+        Step::EndOfInput => Some(SessionEnd::EndOfInput),
+        Step::ReadFault => Some(SessionEnd::ReadFault),
+        Step::TooManyReads => Some(SessionEnd::TooManyReads),
     }
 }
 
@@ -76,23 +100,52 @@ pub(crate) struct Script {
 }
 
 impl Script {
-    // Tells a line: puts what is written for it, and has the topics take what it asks.
-    fn tell<W: Write>(&mut self, writer: &mut W, line: &[u8]) -> Result<Told, WriteFault>
-        ensures { Tells result self.old.topics.items self.new.topics.items self.old.outbox self.new.outbox (W.contents writer.old) (W.contents writer.new) (line_read line.now) }
+    // The run of a script over the subjects of a configuration, with no line yet.
+    fn new(alloc: Heap, config: Config) -> Result<Script, Memory>
+        ensures topics { IfOk result (λ script. AllStand script.topics.items (new_subjects config.subjects.items)) }
+        ensures outbox { IfOk result (λ script. script.outbox ≡ []) }
     {
+        Ok(Script {
+            topics: topics_of(&alloc, config.subjects)?,
+            outs: Vec::new(alloc.clone()?),
+            outbox: Outbox::new(),
+            heap: alloc,
+        })
+    }
+
+    // Writes all that was answered, and flushes the writer.
+    fn flush<W: Write>(&mut self, writer: &mut W) -> Result<(), WriteFault>
+        ensures written { Writes result (W.contents writer.old) (W.contents writer.new) self.old.outbox }
+        ensures empty { self.new.outbox ≡ [] }
+        ensures topics { self.new.topics.items ≡ self.old.topics.items }
+    {
+        self.outbox.flush(writer)
+    }
+
+    // Tells a line, or that there is one which is too long. How the script ended, if it did.
+    fn tell_on<W: Write>(&mut self, writer: &mut W, line: Option<&[u8]>) -> Option<SessionEnd>
+        ensures { TellsOn result self.old.topics.items self.new.topics.items self.old.outbox self.new.outbox (W.contents writer.old) (W.contents writer.new) (reading_of line.entry) }
+    {
+        match self.tell(writer, line) {
+            Ok(Told::More) => None,
+            Ok(Told::Quit) => Some(self.quit(writer)),
+            Err(_) => Some(SessionEnd::WriteFault),
+        }
+    }
+
+    // Tells a line: puts what is written for it, and has the topics take what it asks.
+    fn tell<W: Write>(&mut self, writer: &mut W, line: Option<&[u8]>) -> Result<Told, WriteFault>
+        ensures { Tells result self.old.topics.items self.new.topics.items self.old.outbox self.new.outbox (W.contents writer.old) (W.contents writer.new) (reading_of line.entry) }
+    {
+        let Some(line) = line else {
+            return self.refuse(writer, Word::Long);
+        };
         match parse_script(&self.heap, line) {
             Ok(line) => self.carry_out(writer, asked_by(line)),
             Err(LineError::Long) => self.refuse(writer, Word::Long),
             Err(LineError::Syntax) => self.refuse(writer, Word::Syntax),
             Err(LineError::Memory) => self.refuse(writer, Word::Memory),
         }
-    }
-
-    // Tells a line that is too long.
-    fn tell_long<W: Write>(&mut self, writer: &mut W) -> Result<Told, WriteFault>
-        ensures { Tells result self.old.topics.items self.new.topics.items self.old.outbox self.new.outbox (W.contents writer.old) (W.contents writer.new) (Err Long) }
-    {
-        self.refuse(writer, Word::Long)
     }
 
     // Carries out what a line asks, and puts the answer.
@@ -122,21 +175,31 @@ impl Script {
     }
 
     // Has the topic at a place take an event, and puts its answer and the notes that it gives.
-    fn take<W: Write>(&mut self, writer: &mut W, place: usize, event: Event) -> Result<Told, WriteFault>
+    fn take<W: Write>(
+        &mut self,
+        writer: &mut W,
+        place: usize,
+        event: Event,
+    ) -> Result<Told, WriteFault>
         requires { place < length self.old.topics.items }
         ensures took { (d : Topic) → TakesAt result self.old.topics.items self.new.topics.items place d event self.old.outbox self.new.outbox (W.contents writer.old) (W.contents writer.new) }
         ensures more { IfOk result (λ told. told ≡ Told.More) }
     {
-        take_event(&mut self.topics[place], event, &mut self.outs, &mut self.outbox, writer)?;
+        take_event(
+            &mut self.topics[place],
+            event,
+            &mut self.outs,
+            &mut self.outbox,
+            writer,
+        )?;
         Ok(Told::More)
     }
 
     // Writes what is left at the end of a script that said so.
     fn quit<W: Write>(&mut self, writer: &mut W) -> SessionEnd
-        ensures wrote { Wrote result (W.contents writer.old) (W.contents writer.new) self.old.outbox }
-        ensures end { (result ≡ SessionEnd.Quit) ⊎ (result ≡ SessionEnd.WriteFault) }
+        ensures { Quits result (W.contents writer.old) (W.contents writer.new) self.old.outbox }
     {
-        match self.outbox.flush(writer) {
+        match self.flush(writer) {
             Ok(()) => SessionEnd::Quit,
             Err(_) => SessionEnd::WriteFault,
         }

@@ -23,16 +23,19 @@ returns-in-Some g c =
     let new = g.W.Write.contents c.take.new.writer in
     let d = some_topic topics c.in-Some.place (position-within (λ (topic : Topic). same_word topic.name c.in-Event.name) topics c.in-Some.place (sym c.in-Some.ensures)) in
     subst (λ (a : Asked). CarriesOut c.take.result topics c.take.new.self.topics.items c.args.self.now.outbox c.take.new.self.outbox old new a) (sym c.in-Event.is)
-        (λ subjects all.
-            let f = (found_at topics subjects c.in-Event.name c.in-Some.place d all (sym c.in-Some.ensures)).1 in
-            let t = c.take.ensures.took d f.subject f.stands in
-            (t.0,
-            λ missed. ap (λ s. option_map_or (accepts c.in-Event.event) s false) f.is ∙ t.1 missed,
-            Puts-as c.take.result old new c.args.self.now.outbox c.take.new.self.outbox _ _
-                (ap (λ s. cond t.0 (reply_line (Refused words.Memory)) (option_map_or (λ subject. event_written subject c.in-Event.event) s (reply_line (Refused words.Subject)))) (sym f.is)) t.2,
-            match_ok c.take.result (λ x. x ≡ told.More) _ c.take.ensures.more (λ x more. (ap is_last more,
-                subst (λ (ts : List Topic). AllStand ts (cond t.0 subjects (all_taking subjects c.in-Event.name c.in-Event.event))) (sym t.4)
-                    (stands_after topics subjects c.in-Event.name c.in-Some.place d c.in-Event.event t.0 t.3 f t.5)))))
+    (λ subjects all.
+    let f = (found_at topics subjects c.in-Event.name c.in-Some.place d all (sym c.in-Some.ensures)).1 in
+    let t = c.take.ensures.took d f.subject f.stands in (
+      t.0,
+      λ missed. ap (λ s. option_map_or (accepts c.in-Event.event) s false) f.is ∙ t.1 missed,
+      Puts-as c.take.result old new c.args.self.now.outbox c.take.new.self.outbox _ _
+          (ap (λ s. cond t.0 (reply_line (Refused words.Memory)) (option_map_or (λ subject. event_written subject c.in-Event.event) s (reply_line (Refused words.Subject)))) (sym f.is)) t.2,
+      match_ok c.take.result (λ x. x ≡ told.More) _ c.take.ensures.more (λ x more. (
+        ap is_last more,
+        subst (λ (ts : List Topic). AllStand ts (cond t.0 subjects (all_taking subjects c.in-Event.name c.in-Event.event))) (sym t.4)
+            (stands_after topics subjects c.in-Event.name c.in-Some.place d c.in-Event.event t.0 t.3 f t.5),
+      )),
+    ))
 
 pub returns-in-None : goal.returns-in-None
 returns-in-None g c =
@@ -40,11 +43,15 @@ returns-in-None g c =
     let old = g.W.Write.contents c.args.writer.now in
     let new = g.W.Write.contents c.refuse.new.writer in
     subst (λ (a : Asked). CarriesOut c.refuse.result topics c.refuse.new.self.topics.items c.args.self.now.outbox c.refuse.new.self.outbox old new a) (sym c.in-Event.is)
-        (λ subjects all.
-            let none = unknown_to topics subjects c.in-Event.name c.in-Event.event all (sym c.in-None.ensures) in
-            (false, λ missed. cc,
-            Puts-as c.refuse.result old new c.args.self.now.outbox c.refuse.new.self.outbox _ _
-                (ap (λ s. option_map_or (λ subject. event_written subject c.in-Event.event) s (reply_line (Refused words.Subject))) (sym none.0)) c.refuse.ensures.puts,
-            match_ok c.refuse.result (λ x. x ≡ told.More) _ c.refuse.ensures.more (λ x more. (ap is_last more,
-                subst (λ (ts : List Topic). AllStand ts (all_taking subjects c.in-Event.name c.in-Event.event)) (sym c.refuse.ensures.topics)
-                    (subst (λ (ss : List Subject). AllStand topics ss) (sym none.1) all)))))
+    (λ subjects all.
+    let none = unknown_to topics subjects c.in-Event.name c.in-Event.event all (sym c.in-None.ensures) in (
+      false,
+      λ missed. cc,
+      Puts-as c.refuse.result old new c.args.self.now.outbox c.refuse.new.self.outbox _ _
+          (ap (λ s. option_map_or (λ subject. event_written subject c.in-Event.event) s (reply_line (Refused words.Subject))) (sym none.0)) c.refuse.ensures.puts,
+      match_ok c.refuse.result (λ x. x ≡ told.More) _ c.refuse.ensures.more (λ x more. (
+        ap is_last more,
+        subst (λ (ts : List Topic). AllStand ts (all_taking subjects c.in-Event.name c.in-Event.event)) (sym c.refuse.ensures.topics)
+            (subst (λ (ss : List Subject). AllStand topics ss) (sym none.1) all),
+      )),
+    ))
