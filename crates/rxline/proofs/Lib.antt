@@ -8,8 +8,10 @@ pub mod LinesOf
 pub mod NameTests
 pub mod Numbers
 pub mod Sheds
+pub mod SoFar
 pub mod Sound
 pub mod Stepping
 pub mod Subjects
 pub mod Tellings
+pub mod Turning
 pub mod Written

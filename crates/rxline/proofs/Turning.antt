@@ -1,0 +1,82 @@
+-- One turn of a script: a line that was read is told.
+use Rattle.std.proofs.Common.{◌≡◌, ℕ, ◌<◌, Bool, true, false, cond, nat_lt, List, ◌++◌, length, Option, None, Some, MatchOption, Result, Ok, Err, refl, sym, ap, subst, ◌∙◌, arith, codes}
+use Rattle.std.proofs.KnownBytes.{Appends-trans}
+use Rattle.std.proofs.lemmas.Bool.Decides.{nat_tests}
+use Rattle.std.specs.Io.KnownBytes.{Appends}
+use Rattle.rxline.specs.declared.input_end.InputEnd.{InputEnd}
+use Rattle.rxline.specs.declared.line_error.BadLine.{BadLine}
+use Rattle.rxline.specs.declared.line_error.BadLine.TheVariants.{Long}
+use Rattle.rxline.specs.declared.line_state.LineState.{LineState}
+use Rattle.rxline.specs.declared.script_line.ScriptLine.{ScriptLine}
+use Rattle.rxline.specs.declared.session_end.SessionEnd.{SessionEnd}
+use Rattle.rxline.specs.declared.session_end.SessionEnd.TheVariants as ends
+use Rattle.rxline.specs.declared.step.Step.{Step}
+use Rattle.rxline.specs.declared.told.Told.{Told}
+use Rattle.rxline.specs.declared.told.Told.TheVariants as told
+use Rattle.rxline.specs.declared.topic.Topic.{Topic}
+use Rattle.rxline.specs.Bytes.{AppendsPrefix, Holds}
+use Rattle.rxline.specs.Lines.{TakesLine, without_cr}
+use Rattle.rxline.specs.Reading.{line_read, same_word, cut_read, words_read, ◌>>=◌}
+use Rattle.rxline.specs.declared.script_line.ScriptLine.TheVariants.{Command}
+use Rattle.rxline.specs.declared.command.Command.TheVariants.{Quit}
+use Rattle.rxline.specs.Scripts.{AllStand, Quits, TellsOn, Turns, is_last}
+use Rattle.rxline.specs.Steps.{unread, GoesOn, Goes, Advances}
+use Rattle.rxline.specs.Transcripts.{Subject, line_written, after_line, ends_script}
+use Rattle.rxline.proofs.Written.{Prefix-behind}
+
+-- what was held and then written is what was put
+appended : (old mid new : Option (List ℕ)) (held then bytes : List ℕ) → Holds held then old mid bytes → Appends mid new then → Appends old new (held ++ bytes)
+appended old mid new held then bytes holds all =
+    subst (λ (xs : List ℕ). Appends old new xs) holds.parts (Appends-trans old mid new holds.written then holds.told all)
+
+-- a script that said so ends
+pub quit_tells : (end : SessionEnd) (topics mid_topics topics_after : List Topic) (held then held_after : List ℕ) (old mid new : Option (List ℕ)) (line : Result ScriptLine BadLine) (t : Told)
+    → t ≡ told.Quit → Quits end mid new then
+    → ((subjects : List Subject) → AllStand topics subjects → (missed : Bool) × Holds held then old mid (line_written subjects line missed)
+        × ((is_last t ≡ ends_script line) × AllStand mid_topics (after_line subjects line missed)))
+    → TellsOn (Some end) topics topics_after held held_after old new line
+quit_tells ends.Quit topics mid_topics topics_after held then held_after old mid new line t is all tells = λ subjects stand.
+    let one = tells subjects stand in (one.0, appended old mid new held then (line_written subjects line one.0) one.1 all, sym one.2.0 ∙ ap is_last is)
+quit_tells ends.EndOfInput topics mid_topics topics_after held then held_after old mid new line t is all tells = absurd all
+quit_tells ends.ReadFault topics mid_topics topics_after held then held_after old mid new line t is all tells = absurd all
+quit_tells ends.WriteFault topics mid_topics topics_after held then held_after old mid new line t is all tells = λ subjects stand.
+    let one = tells subjects stand in
+    (one.0, subst (λ (xs : List ℕ). AppendsPrefix old new xs) one.1.parts (Prefix-behind old mid new one.1.written then one.1.told all))
+quit_tells ends.TooManyReads topics mid_topics topics_after held then held_after old mid new line t is all tells = absurd all
+
+none_match : (o : Option InputEnd) (P : Type 0) (Q : InputEnd → Type 0) → o ≡ None → MatchOption o P Q → P
+none_match None P Q e m = m
+none_match (Some x) P Q e m = cc
+
+-- a step that begins with no end
+pub goes_by : (step : Step) (old new : Option (List ℕ)) (before after : LineState) → before.end ≡ None → Advances step old new before after → Goes step old new before after
+goes_by step old new before after none advances = none_match before.end _ _ none advances
+
+-- a line of more than 1,100 bytes is refused
+pub line_read-long : (line : List ℕ) → 1100 < length line → line_read line ≡ Err Long
+unfolding line_read
+line_read-long line long =
+    let is : nat_lt 1100 (length line) ≡ true = grind (arith, nat_tests) in
+    ap (λ b. cond b (Err Long) (cond (same_word line (codes "QUIT")) (Ok (Command Quit)) (cut_read line >>= λ parts. words_read parts.0 parts.1))) is
+
+taken : (read_old read_new : Option (List ℕ)) (before after : List ℕ) (says then : List ℕ → Type 0) → ((line : List ℕ) → says line → then line)
+    → TakesLine read_old read_new before after says → TakesLine read_old read_new before after then
+taken read_old read_new before after says then so takes = (takes.0, takes.1, takes.2, takes.3, so (without_cr takes.1) takes.4)
+
+-- a line that was taken is told
+pub turned : (result : Option SessionEnd) (topics topics_after : List Topic) (held held_after : List ℕ) (old new read_old read_new : Option (List ℕ)) (before after : LineState)
+    (reading : Result ScriptLine BadLine) (says : List ℕ → Type 0)
+    → ((line : List ℕ) → says line → line_read line ≡ reading) → TakesLine read_old read_new (unread before) (unread after) says → GoesOn before after
+    → TellsOn result topics topics_after held held_after old new reading → Turns result topics topics_after held held_after old new read_old read_new before after
+turned None topics topics_after held held_after old new read_old read_new before after reading says so takes goes_on tells =
+    (taken read_old read_new (unread before) (unread after) says (λ line. TellsOn None topics topics_after held held_after old new (line_read line))
+        (λ line said. subst (λ (r : Result ScriptLine BadLine). TellsOn None topics topics_after held held_after old new r) (sym (so line said)) tells) takes, goes_on)
+turned (Some ends.Quit) topics topics_after held held_after old new read_old read_new before after reading says so takes goes_on tells =
+    taken read_old read_new (unread before) (unread after) says (λ line. TellsOn (Some ends.Quit) topics topics_after held held_after old new (line_read line))
+        (λ line said. subst (λ (r : Result ScriptLine BadLine). TellsOn (Some ends.Quit) topics topics_after held held_after old new r) (sym (so line said)) tells) takes
+turned (Some ends.EndOfInput) topics topics_after held held_after old new read_old read_new before after reading says so takes goes_on tells = absurd tells
+turned (Some ends.ReadFault) topics topics_after held held_after old new read_old read_new before after reading says so takes goes_on tells = absurd tells
+turned (Some ends.WriteFault) topics topics_after held held_after old new read_old read_new before after reading says so takes goes_on tells =
+    taken read_old read_new (unread before) (unread after) says (λ line. TellsOn (Some ends.WriteFault) topics topics_after held held_after old new (line_read line))
+        (λ line said. subst (λ (r : Result ScriptLine BadLine). TellsOn (Some ends.WriteFault) topics topics_after held held_after old new r) (sym (so line said)) tells) takes
+turned (Some ends.TooManyReads) topics topics_after held held_after old new read_old read_new before after reading says so takes goes_on tells = absurd tells

@@ -1,0 +1,15 @@
+use Rattle.std.proofs.Common.{◌≡◌, None}
+use Rattle.rxline.specs.Reads.{ahead}
+use Rattle.rxline.specs.Scripts.{new_subjects}
+use Rattle.rxline.specs.Steps.{unread}
+use Rattle.rxline.proofs.SoFar.{SoFar}
+use Rattle.rxline.proofs.script.run_script.Given as goal
+
+abbrev pub invariant-loop-script : goal.invariant-loop-script
+invariant-loop-script g l =
+    SoFar (new_subjects l.fn.config.subjects.items) (g.R.Read.remaining l.initial.reader) (g.R.Read.remaining l.reader)
+        (g.W.Write.contents l.initial.writer) (g.W.Write.contents l.writer) l.script.topics.items (unread l.lines) l.script.outbox
+    × (l.lines.end ≡ None)
+
+abbrev pub decreases-loop-script : goal.decreases-loop-script
+decreases-loop-script g l = ahead l.lines.reads (unread l.lines)
