@@ -4,8 +4,10 @@ pub mod Cuts
 pub mod Digits
 pub mod Known
 pub mod Lfs
+pub mod LinesOf
 pub mod NameTests
 pub mod Numbers
+pub mod Printed
 pub mod Sheds
 pub mod Sound
 pub mod Stepping
