@@ -34,10 +34,15 @@ pub record BeginsWithLine (bytes line rest : List ℕ) : Type 0 where
   pub one : HasNoLf line
 
 -- reads gave some bytes, and what was unread before them begins with a line of which something is said
-abbrev pub TakesLine : Option (List ℕ) → Option (List ℕ) → List ℕ → List ℕ → (List ℕ → Type 0) → Type 0
-TakesLine old new unread rest says =
-    (read : List ℕ) × (line : List ℕ) × Consumes old new read × BeginsWithLine (unread ++ read) line rest × says (without_cr line)
+pub record TakesLine (old new : Option (List ℕ)) (unread rest : List ℕ) (says : List ℕ → Type 0) : Type 0 where
+  pub read : List ℕ
+  pub line : List ℕ
+  pub told : Consumes old new read
+  pub begins : BeginsWithLine (unread ++ read) line rest
+  pub said : says (without_cr line)
 
 -- reads gave some bytes, and no line ends among them and what was unread before them
-abbrev pub TakesNoLine : Option (List ℕ) → Option (List ℕ) → List ℕ → Type 0
-TakesNoLine old new unread = (read : List ℕ) × Consumes old new read × HasNoLf (unread ++ read)
+pub record TakesNoLine (old new : Option (List ℕ)) (unread : List ℕ) : Type 0 where
+  pub read : List ℕ
+  pub told : Consumes old new read
+  pub none : HasNoLf (unread ++ read)
