@@ -9,6 +9,10 @@ abbrev pub HasNoLf : List ℕ → Type 0
 HasNoLf [] = Unit {0}
 HasNoLf (byte ∷ bytes) = (byte ≡ 10 → ⊥) × HasNoLf bytes
 
+-- an LF stands among the bytes
+abbrev pub HasLf : List ℕ → Type 0
+HasLf bytes = HasNoLf bytes → ⊥
+
 -- a line without the one CR that may stand at its end
 abbrev pub without_cr : List ℕ → List ℕ
 without_cr line = strip_last 13 line
