@@ -1,6 +1,6 @@
 -- Parts of a block of bytes.
-use Rattle.std.proofs.Common.{◌≡◌, ℕ, ◌+◌, ◌-◌, ◌<◌, ◌≤◌, max, inl, inr, List, ◌++◌, length, take, drop, sym, ap, ◌∙◌, subst, arith}
-use Rattle.std.proofs.lemmas.List.{take-take, drop-drop, drop-take, length-take-le, drop_at, take_at, take-append-le}
+use Rattle.std.proofs.Common.{◌≡◌, ℕ, ◌+◌, ◌-◌, ◌<◌, ◌≤◌, max, inl, inr, List, ◌++◌, length, take, drop, Option, Result, Ok, Err, refl, sym, ap, ◌∙◌, subst, arith}
+use Rattle.std.proofs.lemmas.List.{take-take, drop-drop, drop-take, length-take-le, drop_at, take_at, take-append-le, append-nil}
 use Rattle.std.proofs.lemmas.List.Edits.{between_none, length-between}
 use Rattle.std.proofs.lemmas.Slice.{between_is, take-put_mid_below}
 use Rattle.std.proofs.lemmas.Bool.{cases_lt}
@@ -9,7 +9,9 @@ use Rattle.rxline.specs.declared.window.Window.TheInside.{Inside}
 use borrow.Rule.Slice.PartMut.{put_mid, post_of}
 use Rattle.std.specs.List.{between, copy_within}
 use Rattle.rxline.specs.Lines.{HasNoLf}
-use Rattle.rxline.specs.Windows.{IsWindow, HasLfAt}
+use Rattle.rxline.specs.Windows.{IsWindow, HasLfAt, Fills, count_of}
+use Rattle.std.specs.Io.{ReadsAtMost}
+use Rattle.std.specs.Io.KnownBytes.{ReadConsumes}
 use Rattle.rxline.proofs.Lfs.{HasNoLf-append, HasNoLf-back, HasLfAt-behind}
 
 -- a part in two
@@ -157,3 +159,20 @@ IsReady-filled block start searched end bytes buf n to ready size few place =
 pub IsReady-room : (block : List ℕ) (start searched end : ℕ) (bytes buf : List ℕ) → IsReady block start searched end bytes → length buf ≡ length (between end 16384 block) → 0 < length buf
 IsReady-room block start searched end bytes buf ready size =
     omega (arith, size, length-between block end 16384 (omega (arith, ready.full)), ready.room)
+
+-- what a read of any outcome put behind the window
+pub record IsRead {E : Type 0} (result : Result ℕ E) (old new : Option (List ℕ)) (block : List ℕ) (start searched end : ℕ) (bytes buf : List ℕ) : Type 0 where
+  pub window : IsWindow (put_mid end (16384 - end) block buf) start searched (end + count_of result)
+  pub fills : Fills result old new bytes (between start (end + count_of result) (put_mid end (16384 - end) block buf))
+
+pub IsReady-read : {E : Type 0} (result : Result ℕ E) (old new : Option (List ℕ)) (block : List ℕ) (start searched end : ℕ) (bytes buf : List ℕ) → IsReady block start searched end bytes
+    → length buf ≡ length (between end 16384 block) → ReadsAtMost result buf → ReadConsumes old new result buf → IsRead result old new block start searched end bytes buf
+IsReady-read (Ok n) old new block start searched end bytes buf ready size bound told =
+    let filled = IsReady-filled block start searched end bytes buf n (end + n) ready size bound.0 refl in
+    record {
+      window = filled.0;
+      fills = (take n buf, told.0, filled.1, length-take-le n buf bound.0, λ none. told.1 none (IsReady-room block start searched end bytes buf ready size));
+    }
+IsReady-read (Err fault) old new block start searched end bytes buf ready size bound told =
+    let filled = IsReady-filled block start searched end bytes buf 0 (end + 0) ready size (omega arith) refl in
+    record { window = filled.0; fills = (told, filled.1 ∙ append-nil bytes) }

@@ -7,6 +7,7 @@ pub mod Lfs
 pub mod LinesOf
 pub mod NameTests
 pub mod Numbers
+pub mod Printed
 pub mod Sheds
 pub mod SoFar
 pub mod Sound

@@ -1,49 +1,43 @@
--- The lines of the bytes read, one more at a time.
-use Rattle.std.proofs.Common.{◌≡◌, ℕ, ◌==◌, Bool, true, false, cond, List, [], ◌∷◌, ◌++◌, map, refl, sym, ap, ◌∙◌, ◌⊎◌, inl, inr, arith}
-use Rattle.std.proofs.lemmas.Bool.Decides.{nat_tests}
+-- The lines of some bytes, one after another.
+use Rattle.std.proofs.Common.{◌≡◌, ℕ, true, false, List, [], ◌∷◌, ◌++◌, map, refl, ap, ◌∙◌, append_assoc, cond}
+use Rattle.std.proofs.lemmas.Bool.{ne_eqb}
 use Rattle.std.specs.List.{slice_split, onto_first}
-use Rattle.rxline.specs.Lines.{HasNoLf, without_cr, is_lf, finished, lines_of}
+use Rattle.rxline.specs.Lines.{HasNoLf, BeginsWithLine, is_lf, finished, lines_of, without_cr}
 
--- a byte that is no LF
-no_lf : (byte : ℕ) → (byte ≡ 10 → ⊥) → is_lf byte ≡ false
-no_lf byte none = grind (arith, nat_tests)
+-- the first part ends at the first LF
+slice_split-line : (line rest : List ℕ) → HasNoLf line → slice_split is_lf (line ++ (10 ∷ rest)) ≡ line ∷ slice_split is_lf rest
+slice_split-line [] rest none = refl
+slice_split-line (byte ∷ line) rest none = rw (ne_eqb byte 10 none.0, slice_split-line line rest none.1) refl
 
--- parts, of which there is one at least
-pub record Parts (parts : List (List ℕ)) : Type 0 where
-  pub first : List ℕ
-  pub rest : List (List ℕ)
-  pub are : parts ≡ first ∷ rest
+-- bytes with no LF are one part
+slice_split-whole : (bytes : List ℕ) → HasNoLf bytes → slice_split is_lf bytes ≡ bytes ∷ []
+slice_split-whole [] none = refl
+slice_split-whole (byte ∷ bytes) none = rw (ne_eqb byte 10 none.0, slice_split-whole bytes none.1) refl
 
-parts_of : (bytes : List ℕ) → Parts (slice_split is_lf bytes)
-parts_of [] = record { first = []; rest = []; are = refl }
-parts_of (byte ∷ bytes) = chosen (is_lf byte) (parts_of bytes)
-  where
-    chosen : (b : Bool) → Parts (slice_split is_lf bytes) → Parts (cond b ([] ∷ slice_split is_lf bytes) (onto_first byte (slice_split is_lf bytes)))
-    chosen true p = record { first = []; rest = slice_split is_lf bytes; are = refl }
-    chosen false p = record { first = byte ∷ p.first; rest = p.rest; are = ap (onto_first byte) p.are }
+-- a part before others is finished
+finished-first : (line bytes : List ℕ) → finished (line ∷ slice_split is_lf bytes) ≡ line ∷ finished (slice_split is_lf bytes)
+finished-first line [] = refl
+finished-first line (byte ∷ bytes) =
+    elim (is_lf byte) as (λ is. finished (line ∷ cond is ([] ∷ slice_split is_lf bytes) (onto_first byte (slice_split is_lf bytes))) ≡ line ∷ finished (cond is ([] ∷ slice_split is_lf bytes) (onto_first byte (slice_split is_lf bytes)))) [
+      | true ↦ refl
+      | false ↦ elim (slice_split is_lf bytes) as (λ parts. finished (line ∷ onto_first byte parts) ≡ line ∷ finished (onto_first byte parts)) [ [] ↦ refl | part ∷ parts ↦ refl ]
+    ]
 
--- the parts of a line, its LF and what stands behind it
-split-line : (line rest : List ℕ) → HasNoLf line → slice_split is_lf (line ++ (10 ∷ rest)) ≡ line ∷ slice_split is_lf rest
-split-line [] rest none = refl
-split-line (byte ∷ line) rest none =
-    ap (λ b. cond b ([] ∷ slice_split is_lf (line ++ (10 ∷ rest))) (onto_first byte (slice_split is_lf (line ++ (10 ∷ rest))))) (no_lf byte none.0)
-    ∙ ap (onto_first byte) (split-line line rest none.1)
+-- the first line and the lines of the rest
+pub lines_of-first : (bytes line rest : List ℕ) → BeginsWithLine bytes line rest → lines_of bytes ≡ without_cr line ∷ lines_of rest
+lines_of-first bytes line rest begins =
+    ap lines_of begins.parts ∙ ap (λ parts. map without_cr (finished parts)) (slice_split-line line rest begins.one) ∙ ap (map without_cr) (finished-first line rest)
 
-split-none : (bytes : List ℕ) → HasNoLf bytes → slice_split is_lf bytes ≡ bytes ∷ []
-split-none [] none = refl
-split-none (byte ∷ bytes) none =
-    ap (λ b. cond b ([] ∷ slice_split is_lf bytes) (onto_first byte (slice_split is_lf bytes))) (no_lf byte none.0)
-    ∙ ap (onto_first byte) (split-none bytes none.1)
-
-finished-more : (part : List ℕ) (parts : List (List ℕ)) → Parts parts → finished (part ∷ parts) ≡ part ∷ finished parts
-finished-more part parts p = ap (λ ps. finished (part ∷ ps)) p.are ∙ ap (λ ps. part ∷ finished ps) (sym p.are)
-
--- the first line of bytes that begin with one
-pub lines_of-line : (line rest : List ℕ) → HasNoLf line → lines_of (line ++ (10 ∷ rest)) ≡ without_cr line ∷ lines_of rest
-lines_of-line line rest none =
-    ap (λ ps. map without_cr (finished ps)) (split-line line rest none)
-    ∙ ap (map without_cr) (finished-more line (slice_split is_lf rest) (parts_of rest))
-
--- bytes without an LF have no line
+-- bytes with no LF have no line
 pub lines_of-none : (bytes : List ℕ) → HasNoLf bytes → lines_of bytes ≡ []
-lines_of-none bytes none = ap (λ ps. map without_cr (finished ps)) (split-none bytes none)
+lines_of-none bytes none = ap (λ parts. map without_cr (finished parts)) (slice_split-whole bytes none)
+
+-- more bytes behind change no line that is there
+pub BeginsWithLine-more : (bytes line rest more : List ℕ) → BeginsWithLine bytes line rest → BeginsWithLine (bytes ++ more) line (rest ++ more)
+BeginsWithLine-more bytes line rest more begins =
+    record { parts = ap (λ t. t ++ more) begins.parts ∙ append_assoc line (10 ∷ rest) more; one = begins.one }
+
+-- the lines of unread bytes, of those that a step read, and of whatever comes behind
+pub lines_of-taken : (unread read line rest more : List ℕ) → BeginsWithLine (unread ++ read) line rest → lines_of (unread ++ (read ++ more)) ≡ without_cr line ∷ lines_of (rest ++ more)
+lines_of-taken unread read line rest more begins =
+    rw (← append_assoc unread read more) (lines_of-first ((unread ++ read) ++ more) line (rest ++ more) (BeginsWithLine-more (unread ++ read) line rest more begins))

@@ -1,9 +1,9 @@
 -- The front of a line that is let go.
-use Rattle.std.proofs.Common.{◌≡◌, ℕ, ◌≤◌, ◌<◌, Bool, true, false, List, [], ◌++◌, length, Option, None, Some, refl, subst, ap, ◌∙◌, sym, arith, append_assoc, length-append}
+use Rattle.std.proofs.Common.{◌≡◌, ℕ, ◌≤◌, ◌<◌, ◌⊎◌, inl, inr, Bool, true, false, List, [], ◌++◌, length, Option, None, Some, refl, subst, ap, ◌∙◌, sym, arith, append_assoc, length-append}
 use Rattle.std.proofs.KnownBytes.{Consumes-trans, Consumes-kept, Consumes-nil}
 use Rattle.std.proofs.lemmas.List.{append-nil}
 use Rattle.std.specs.Io.KnownBytes.{Consumes, Keeps}
-use Rattle.rxline.specs.Lines.{HasNoLf}
+use Rattle.rxline.specs.Lines.{HasNoLf, HasLf}
 use Rattle.rxline.specs.Reads.{Sheds, ReadsOn, FindsNext, ahead}
 use Rattle.rxline.specs.Windows.{HasLfAt}
 use Rattle.rxline.specs.declared.input_end.InputEnd.{InputEnd}
@@ -48,9 +48,18 @@ pub record HasRead (old new : Option (List ℕ)) (window after : List ℕ) (left
   pub shed : Sheds old new window after gone
   pub kind : IsGone is_long gone
   pub fewer : ahead left_after after ≤ ahead left window
+  pub first : HasNoLf window ⊎ ((after ≡ window) × (left_after ≡ left))
 
 pub HasRead-none : (known : Option (List ℕ)) (window : List ℕ) (left : ℕ) → HasRead known known window window left left false
-HasRead-none known window left = record { gone = []; shed = Sheds-none known window; kind = refl; fewer = omega arith }
+HasRead-none known window left = record { gone = []; shed = Sheds-none known window; kind = refl; fewer = omega arith; first = inr (refl, refl) }
+
+-- where no LF stands among what was read so far, none stood in the window before
+pub HasRead-passed : (old new : Option (List ℕ)) (window after : List ℕ) (left left_after : ℕ) (is_long : Bool) → HasRead old new window after left left_after is_long → HasNoLf after → HasNoLf window
+HasRead-passed old new window after left left_after is_long h none = elim h.first [ inl passed ↦ passed | inr same ↦ subst HasNoLf same.0 none ]
+
+-- where an LF stood in the window before, no read was made
+pub HasRead-unread : (old new : Option (List ℕ)) (window after : List ℕ) (left left_after : ℕ) (is_long : Bool) → HasRead old new window after left left_after is_long → HasLf window → left_after ≡ left
+HasRead-unread old new window after left left_after is_long h has = elim h.first [ inl passed ↦ absurd (has passed) | inr same ↦ same.1 ]
 
 -- the front of a long line let go
 pub HasRead-shed : (old new : Option (List ℕ)) (window after : List ℕ) (left left_after : ℕ) (is_long : Bool) → HasRead old new window after left left_after is_long
@@ -60,16 +69,18 @@ HasRead-shed old new window after left left_after is_long h none long = record {
   shed = Sheds-all old new window after h.gone h.shed none;
   kind = length-shed h.gone after long;
   fewer = omega (arith, h.fewer);
+  first = inl (HasRead-passed old new window after left left_after is_long h none);
 }
 
 -- one read more
 pub HasRead-read : (old mid new : Option (List ℕ)) (window after next : List ℕ) (left left_mid left_after : ℕ) (is_long : Bool) → HasRead old mid window after left left_mid is_long
-    → ReadsOn None mid new after next left_mid left_after → HasRead old new window next left left_after is_long
-HasRead-read old mid new window after next left left_mid left_after is_long h r = record {
+    → HasNoLf after → ReadsOn None mid new after next left_mid left_after → HasRead old new window next left left_after is_long
+HasRead-read old mid new window after next left left_mid left_after is_long h none r = record {
   gone = h.gone;
   shed = Sheds-read old mid new window after h.gone r.0 next h.shed r.1 r.2;
   kind = h.kind;
   fewer = omega (arith, h.fewer, ap length r.2, length-append after r.0, r.3, r.4);
+  first = inl (HasRead-passed old mid window after left left_mid is_long h none);
 }
 
 -- an LF behind the front of a long line

@@ -12,7 +12,7 @@ use Rattle.rxline.specs.Reading.{line_read}
 use Rattle.rxline.specs.Scripts.{AllStand, Runs, Turns, TellsOn}
 use Rattle.rxline.specs.Steps.{unread}
 use Rattle.rxline.specs.Transcripts.{Subject, line_written, after_line, ends_script, transcript, has_end, first_mark, later_marks}
-use Rattle.rxline.proofs.LinesOf.{lines_of-line, lines_of-none}
+use Rattle.rxline.proofs.LinesOf.{lines_of-first, lines_of-taken, lines_of-none}
 use Rattle.rxline.proofs.Lfs.{HasNoLf-front}
 use Rattle.rxline.proofs.Written.{Prefix-behind, Prefix-more}
 
@@ -50,7 +50,7 @@ pub SoFar-put : (subjects : List Subject) (read_old read_now w0 w1 w2 : Option (
     → SoFar subjects read_old read_now w0 w2 topics_after rest_after after
 SoFar-put subjects read_old read_now w0 w1 w2 topics topics_after rest rest_after held after h same_topics same_rest holds =
     let same : (h.written ++ holds.written) ++ after ≡ h.written ++ held =
-        append_assoc h.written holds.written after ∙ ap (λ xs. h.written ++ xs) (holds.parts ∙ append-nil held) in
+    append_assoc h.written holds.written after ∙ ap (λ xs. h.written ++ xs) (holds.parts ∙ append-nil held) in
     record {
       read = h.read;
       consumed = h.consumed;
@@ -59,20 +59,13 @@ SoFar-put subjects read_old read_now w0 w1 w2 topics topics_after rest rest_afte
       now = h.now;
       stand = subst (λ (ts : List Topic). AllStand ts h.now) (sym same_topics) h.stand;
       goes_on = λ marks more.
-          let so = h.goes_on marks more in
-          (so.0, so.1 ∙ ap (λ xs. xs ++ transcript h.now marks (lines_of (rest ++ more))) (sym same)
-          ∙ ap (λ r. ((h.written ++ holds.written) ++ after) ++ transcript h.now marks (lines_of (r ++ more))) (sym same_rest));
+          let so = h.goes_on marks more in (
+            so.0,
+            so.1 ∙ ap (λ xs. xs ++ transcript h.now marks (lines_of (rest ++ more))) (sym same)
+                ∙ ap (λ r. ((h.written ++ holds.written) ++ after) ++ transcript h.now marks (lines_of (r ++ more))) (sym same_rest),
+          );
       ended = λ more. h.ended more ∙ ap (λ r. has_end (lines_of (r ++ more))) (sym same_rest);
     }
-
--- the lines of what is unread and read, where a line was taken
-taken_lines : (rest read line after more : List ℕ) → BeginsWithLine (rest ++ read) line after → lines_of (rest ++ (read ++ more)) ≡ without_cr line ∷ lines_of (after ++ more)
-taken_lines rest read line after more begins =
-    ap lines_of (sym (append_assoc rest read more) ∙ ap (λ xs. xs ++ more) begins.parts ∙ append_assoc line (10 ∷ after) more)
-    ∙ lines_of-line line (after ++ more) begins.one
-
-taken_line : (rest read line after : List ℕ) → BeginsWithLine (rest ++ read) line after → lines_of (rest ++ read) ≡ without_cr line ∷ lines_of after
-taken_line rest read line after begins = ap lines_of begins.parts ∙ lines_of-line line after begins.one
 
 -- a line was told
 pub SoFar-line : (subjects : List Subject) (read_old read_now read_new w0 w1 w2 : Option (List ℕ)) (topics topics_after : List Topic) (rest rest_after held after : List ℕ)
@@ -80,31 +73,32 @@ pub SoFar-line : (subjects : List Subject) (read_old read_now read_new w0 w1 w2 
     → TakesLine read_now read_new rest rest_after (λ line. TellsOn None topics topics_after held after w1 w2 (line_read line))
     → SoFar subjects read_old read_new w0 w2 topics_after rest_after after
 SoFar-line subjects read_old read_now read_new w0 w1 w2 topics topics_after rest rest_after held after h takes =
-    let read = takes.0 in
-    let line = without_cr takes.1 in
-    let tells = takes.4 h.now h.stand in
+    let read = takes.read in
+    let line = without_cr takes.line in
+    let tells = takes.said h.now h.stand in
     let said = line_written h.now (line_read line) tells.0 in
     let now = after_line h.now (line_read line) tells.0 in
     let done : (h.written ++ tells.1.written) ++ after ≡ (h.written ++ held) ++ said =
-        append_assoc h.written tells.1.written after ∙ ap (λ xs. h.written ++ xs) tells.1.parts ∙ sym (append_assoc h.written held said) in
+    append_assoc h.written tells.1.written after ∙ ap (λ xs. h.written ++ xs) tells.1.parts ∙ sym (append_assoc h.written held said) in
     record {
       read = h.read ++ read;
-      consumed = Consumes-trans read_old read_now read_new h.read read h.consumed takes.2;
+      consumed = Consumes-trans read_old read_now read_new h.read read h.consumed takes.told;
       written = h.written ++ tells.1.written;
       told = Appends-trans w0 w1 w2 h.written tells.1.written h.told tells.1.told;
       now = now;
       stand = tells.3;
       goes_on = λ marks more.
-          let so = h.goes_on (tells.0 ∷ marks) (read ++ more) in
-          (so.0,
-          ap (λ xs. transcript subjects so.0 (lines_of xs)) (append_assoc h.read read more) ∙ so.1
-          ∙ ap (λ ls. (h.written ++ held) ++ transcript h.now (tells.0 ∷ marks) ls) (taken_lines rest read takes.1 rest_after more takes.3)
-          ∙ ap (λ b. (h.written ++ held) ++ (said ++ cond b [] (transcript now marks (lines_of (rest_after ++ more))))) tells.2
-          ∙ sym (append_assoc (h.written ++ held) said (transcript now marks (lines_of (rest_after ++ more))))
-          ∙ ap (λ xs. xs ++ transcript now marks (lines_of (rest_after ++ more))) (sym done));
+          let so = h.goes_on (tells.0 ∷ marks) (read ++ more) in (
+            so.0,
+            ap (λ xs. transcript subjects so.0 (lines_of xs)) (append_assoc h.read read more) ∙ so.1
+                ∙ ap (λ ls. (h.written ++ held) ++ transcript h.now (tells.0 ∷ marks) ls) (lines_of-taken rest read takes.line rest_after more takes.begins)
+                ∙ ap (λ b. (h.written ++ held) ++ (said ++ cond b [] (transcript now marks (lines_of (rest_after ++ more))))) tells.2
+                ∙ sym (append_assoc (h.written ++ held) said (transcript now marks (lines_of (rest_after ++ more))))
+                ∙ ap (λ xs. xs ++ transcript now marks (lines_of (rest_after ++ more))) (sym done),
+          );
       ended = λ more.
           ap (λ xs. has_end (lines_of xs)) (append_assoc h.read read more) ∙ h.ended (read ++ more)
-          ∙ ap has_end (taken_lines rest read takes.1 rest_after more takes.3)
+          ∙ ap has_end (lines_of-taken rest read takes.line rest_after more takes.begins)
           ∙ ap (λ b. cond b true (has_end (lines_of (rest_after ++ more)))) tells.2;
     }
 
@@ -116,7 +110,7 @@ pub Runs-fault : (subjects : List Subject) (read_old read_now w0 w1 w2 : Option 
 Runs-fault subjects read_old read_now w0 w1 w2 topics rest held after h loses =
     let so = h.goes_on [] [] in
     let same : (h.written ++ held) ++ transcript h.now [] (lines_of (rest ++ [])) ≡ transcript subjects so.0 (lines_of h.read) =
-        sym so.1 ∙ ap (λ xs. transcript subjects so.0 (lines_of xs)) (append-nil h.read) in
+    sym so.1 ∙ ap (λ xs. transcript subjects so.0 (lines_of xs)) (append-nil h.read) in
     let front : AppendsPrefix w1 w2 held = subst (λ (xs : List ℕ). AppendsPrefix w1 w2 xs) (append-nil held) loses.written in
     record {
       read = h.read;
@@ -131,74 +125,76 @@ Runs-fault subjects read_old read_now w0 w1 w2 topics rest held after h loses =
 whole : (subjects : List Subject) (read_old read_now read_new w0 w1 : Option (List ℕ)) (topics : List Topic) (rest rest_after held : List ℕ)
     → (h : SoFar subjects read_old read_now w0 w1 topics rest held) → (missed : Bool) (read line : List ℕ) → BeginsWithLine (rest ++ read) line rest_after
     → (all : List Bool) × (transcript subjects all (lines_of (h.read ++ read))
-        ≡ (h.written ++ held) ++ (line_written h.now (line_read (without_cr line)) missed
-        ++ cond (ends_script (line_read (without_cr line))) [] (transcript (after_line h.now (line_read (without_cr line)) missed) [] (lines_of rest_after))))
+    ≡ (h.written ++ held) ++ (line_written h.now (line_read (without_cr line)) missed
+    ++ cond (ends_script (line_read (without_cr line))) [] (transcript (after_line h.now (line_read (without_cr line)) missed) [] (lines_of rest_after))))
 whole subjects read_old read_now read_new w0 w1 topics rest rest_after held h missed read line begins =
     let so = h.goes_on (missed ∷ []) read in
-    (so.0, so.1 ∙ ap (λ ls. (h.written ++ held) ++ transcript h.now (missed ∷ []) ls) (taken_line rest read line rest_after begins))
+    (so.0, so.1 ∙ ap (λ ls. (h.written ++ held) ++ transcript h.now (missed ∷ []) ls) (lines_of-first (rest ++ read) line rest_after begins))
 
 -- no line was left
 none_left : (subjects : List Subject) (read_old read_now read_new w0 w1 w2 : Option (List ℕ)) (topics : List Topic) (rest held : List ℕ)
     → (h : SoFar subjects read_old read_now w0 w1 topics rest held) → (takes : TakesNoLine read_now read_new rest) → w2 ≡ w1 → (HasNoLf rest → held ≡ [])
-    → (all : List Bool) × Appends w0 w2 (transcript subjects all (lines_of (h.read ++ takes.0))) × (has_end (lines_of (h.read ++ takes.0)) ≡ false)
+    → (all : List Bool) × Appends w0 w2 (transcript subjects all (lines_of (h.read ++ takes.read))) × (has_end (lines_of (h.read ++ takes.read)) ≡ false)
 none_left subjects read_old read_now read_new w0 w1 w2 topics rest held h takes same empty =
-    let so = h.goes_on [] takes.0 in
-    let nothing : held ≡ [] = empty (HasNoLf-front rest takes.0 takes.2) in
-    let done : transcript subjects so.0 (lines_of (h.read ++ takes.0)) ≡ h.written =
-        so.1 ∙ ap (λ ls. (h.written ++ held) ++ transcript h.now [] ls) (lines_of-none (rest ++ takes.0) takes.2)
-        ∙ append-nil (h.written ++ held) ∙ ap (λ xs. h.written ++ xs) nothing ∙ append-nil h.written in
-    let told : Appends w0 w2 h.written = subst (λ (w : Option (List ℕ)). Appends w0 w h.written) (sym same) h.told in
-    (so.0, subst (λ (xs : List ℕ). Appends w0 w2 xs) (sym done) told,
-    h.ended takes.0 ∙ ap has_end (lines_of-none (rest ++ takes.0) takes.2))
+    let so = h.goes_on [] takes.read in
+    let nothing : held ≡ [] = empty (HasNoLf-front rest takes.read takes.none) in
+    let done : transcript subjects so.0 (lines_of (h.read ++ takes.read)) ≡ h.written =
+    so.1 ∙ ap (λ ls. (h.written ++ held) ++ transcript h.now [] ls) (lines_of-none (rest ++ takes.read) takes.none)
+    ∙ append-nil (h.written ++ held) ∙ ap (λ xs. h.written ++ xs) nothing ∙ append-nil h.written in
+    let told : Appends w0 w2 h.written = subst (λ (w : Option (List ℕ)). Appends w0 w h.written) (sym same) h.told in (
+      so.0,
+      subst (λ (xs : List ℕ). Appends w0 w2 xs) (sym done) told,
+      h.ended takes.read ∙ ap has_end (lines_of-none (rest ++ takes.read) takes.none),
+    )
 
 -- the script ended by a turn
 pub Runs-end : (end : SessionEnd) (subjects : List Subject) (read_old read_now read_new w0 w1 w2 : Option (List ℕ)) (topics topics_after : List Topic) (held after : List ℕ) (before later : LineState)
     → SoFar subjects read_old read_now w0 w1 topics (unread before) held → (HasNoLf (unread before) → held ≡ [])
     → Turns (Some end) topics topics_after held after w1 w2 read_now read_new before later → Runs subjects end read_old read_new w0 w2
 Runs-end ends.Quit subjects read_old read_now read_new w0 w1 w2 topics topics_after held after before later h empty takes =
-    let tells = takes.4 h.now h.stand in
-    let said = line_written h.now (line_read (without_cr takes.1)) tells.0 in
-    let all = whole subjects read_old read_now read_new w0 w1 topics (unread before) (unread later) held h tells.0 takes.0 takes.1 takes.3 in
-    let done : h.written ++ (held ++ said) ≡ transcript subjects all.0 (lines_of (h.read ++ takes.0)) =
-        sym (append_assoc h.written held said) ∙ ap (λ xs. (h.written ++ held) ++ xs) (sym (append-nil said))
-        ∙ sym (all.1 ∙ ap (λ b. (h.written ++ held) ++ (said ++ cond b [] (transcript (after_line h.now (line_read (without_cr takes.1)) tells.0) [] (lines_of (unread later))))) tells.2) in
+    let tells = takes.said h.now h.stand in
+    let said = line_written h.now (line_read (without_cr takes.line)) tells.0 in
+    let all = whole subjects read_old read_now read_new w0 w1 topics (unread before) (unread later) held h tells.0 takes.read takes.line takes.begins in
+    let done : h.written ++ (held ++ said) ≡ transcript subjects all.0 (lines_of (h.read ++ takes.read)) =
+    sym (append_assoc h.written held said) ∙ ap (λ xs. (h.written ++ held) ++ xs) (sym (append-nil said))
+    ∙ sym (all.1 ∙ ap (λ b. (h.written ++ held) ++ (said ++ cond b [] (transcript (after_line h.now (line_read (without_cr takes.line)) tells.0) [] (lines_of (unread later))))) tells.2) in
     record {
-      read = h.read ++ takes.0;
+      read = h.read ++ takes.read;
       marks = all.0;
-      consumed = Consumes-trans read_old read_now read_new h.read takes.0 h.consumed takes.2;
+      consumed = Consumes-trans read_old read_now read_new h.read takes.read h.consumed takes.told;
       written = subst (λ (xs : List ℕ). Appends w0 w2 xs) done (Appends-trans w0 w1 w2 h.written (held ++ said) h.told tells.1);
-      ends = h.ended takes.0 ∙ ap has_end (taken_line (unread before) takes.0 takes.1 (unread later) takes.3)
+      ends = h.ended takes.read ∙ ap has_end (lines_of-first (unread before ++ takes.read) takes.line (unread later) takes.begins)
           ∙ ap (λ b. cond b true (has_end (lines_of (unread later)))) tells.2;
     }
 Runs-end ends.EndOfInput subjects read_old read_now read_new w0 w1 w2 topics topics_after held after before later h empty takes =
     let left = none_left subjects read_old read_now read_new w0 w1 w2 topics (unread before) held h takes.0 takes.2 empty in
     record {
-      read = h.read ++ takes.0.0;
+      read = h.read ++ takes.0.read;
       marks = left.0;
-      consumed = Consumes-trans read_old read_now read_new h.read takes.0.0 h.consumed takes.0.1;
+      consumed = Consumes-trans read_old read_now read_new h.read takes.0.read h.consumed takes.0.told;
       written = left.1;
       ends = (left.2, takes.1);
     }
 Runs-end ends.ReadFault subjects read_old read_now read_new w0 w1 w2 topics topics_after held after before later h empty takes =
     let left = none_left subjects read_old read_now read_new w0 w1 w2 topics (unread before) held h takes.0 takes.1 empty in
     record {
-      read = h.read ++ takes.0.0;
+      read = h.read ++ takes.0.read;
       marks = left.0;
-      consumed = Consumes-trans read_old read_now read_new h.read takes.0.0 h.consumed takes.0.1;
+      consumed = Consumes-trans read_old read_now read_new h.read takes.0.read h.consumed takes.0.told;
       written = left.1;
       ends = left.2;
     }
 Runs-end ends.WriteFault subjects read_old read_now read_new w0 w1 w2 topics topics_after held after before later h empty takes =
-    let tells = takes.4 h.now h.stand in
-    let said = line_written h.now (line_read (without_cr takes.1)) tells.0 in
-    let then = cond (ends_script (line_read (without_cr takes.1))) [] (transcript (after_line h.now (line_read (without_cr takes.1)) tells.0) [] (lines_of (unread later))) in
-    let all = whole subjects read_old read_now read_new w0 w1 topics (unread before) (unread later) held h tells.0 takes.0 takes.1 takes.3 in
-    let done : (h.written ++ (held ++ said)) ++ then ≡ transcript subjects all.0 (lines_of (h.read ++ takes.0)) =
-        ap (λ xs. xs ++ then) (sym (append_assoc h.written held said)) ∙ append_assoc (h.written ++ held) said then ∙ sym all.1 in
+    let tells = takes.said h.now h.stand in
+    let said = line_written h.now (line_read (without_cr takes.line)) tells.0 in
+    let then = cond (ends_script (line_read (without_cr takes.line))) [] (transcript (after_line h.now (line_read (without_cr takes.line)) tells.0) [] (lines_of (unread later))) in
+    let all = whole subjects read_old read_now read_new w0 w1 topics (unread before) (unread later) held h tells.0 takes.read takes.line takes.begins in
+    let done : (h.written ++ (held ++ said)) ++ then ≡ transcript subjects all.0 (lines_of (h.read ++ takes.read)) =
+    ap (λ xs. xs ++ then) (sym (append_assoc h.written held said)) ∙ append_assoc (h.written ++ held) said then ∙ sym all.1 in
     record {
-      read = h.read ++ takes.0;
+      read = h.read ++ takes.read;
       marks = all.0;
-      consumed = Consumes-trans read_old read_now read_new h.read takes.0 h.consumed takes.2;
+      consumed = Consumes-trans read_old read_now read_new h.read takes.read h.consumed takes.told;
       written = subst (λ (xs : List ℕ). AppendsPrefix w0 w2 xs) done
           (Prefix-more w0 w2 (h.written ++ (held ++ said)) then (Prefix-behind w0 w1 w2 h.written (held ++ said) h.told tells.1));
       ends = tt;
@@ -206,9 +202,9 @@ Runs-end ends.WriteFault subjects read_old read_now read_new w0 w1 w2 topics top
 Runs-end ends.TooManyReads subjects read_old read_now read_new w0 w1 w2 topics topics_after held after before later h empty takes =
     let left = none_left subjects read_old read_now read_new w0 w1 w2 topics (unread before) held h takes.0 takes.1 empty in
     record {
-      read = h.read ++ takes.0.0;
+      read = h.read ++ takes.0.read;
       marks = left.0;
-      consumed = Consumes-trans read_old read_now read_new h.read takes.0.0 h.consumed takes.0.1;
+      consumed = Consumes-trans read_old read_now read_new h.read takes.0.read h.consumed takes.0.told;
       written = left.1;
       ends = left.2;
     }

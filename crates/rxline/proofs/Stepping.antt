@@ -24,18 +24,18 @@ TakesLine-long old new window after gone len shed long at =
     let line = gone ++ take len after in
     let parts : window ++ shed.read ≡ line ++ (10 ∷ drop (len + 1) after) =
     shed.parts ∙ ap (λ t. gone ++ t) at.line.parts ∙ sym (append_assoc gone (take len after) (10 ∷ drop (len + 1) after)) in
-    let size : 1101 < length line = omega (arith, length-append gone (take len after)) in (
-      shed.read,
-      line,
-      shed.told,
-      record { parts = parts; one = HasNoLf-append gone (take len after) shed.passed at.line.one },
-      omega (arith, length-without_cr line),
-    )
+    let size : 1101 < length line = omega (arith, length-append gone (take len after)) in record {
+      read = shed.read;
+      line = line;
+      told = shed.told;
+      begins = record { parts = parts; one = HasNoLf-append gone (take len after) shed.passed at.line.one };
+      said = omega (arith, length-without_cr line);
+    }
 
 -- no line before an end
 pub TakesNoLine-shed : (old new : Option (List ℕ)) (window after gone : List ℕ) → Sheds old new window after gone → HasNoLf after → TakesNoLine old new window
 TakesNoLine-shed old new window after gone shed none =
-    (shed.read, shed.told, subst HasNoLf (sym shed.parts) (HasNoLf-append gone after shed.passed none))
+    record { read = shed.read; told = shed.told; none = subst HasNoLf (sym shed.parts) (HasNoLf-append gone after shed.passed none) }
 
 -- the step that tells an end
 pub Goes-end : (end : InputEnd) (old new : Option (List ℕ)) (before after : LineState) → TakesNoLine old new (unread before) → after.end ≡ Some end → IsEnd end new after.reads → Goes (told end) old new before after

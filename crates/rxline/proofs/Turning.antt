@@ -33,7 +33,7 @@ appended old mid new held then bytes holds all =
 pub quit_tells : (end : SessionEnd) (topics mid_topics topics_after : List Topic) (held then held_after : List ℕ) (old mid new : Option (List ℕ)) (line : Result ScriptLine BadLine) (t : Told)
     → t ≡ told.Quit → Quits end mid new then
     → ((subjects : List Subject) → AllStand topics subjects → (missed : Bool) × Holds held then old mid (line_written subjects line missed)
-        × ((is_last t ≡ ends_script line) × AllStand mid_topics (after_line subjects line missed)))
+    × ((is_last t ≡ ends_script line) × AllStand mid_topics (after_line subjects line missed)))
     → TellsOn (Some end) topics topics_after held held_after old new line
 quit_tells ends.Quit topics mid_topics topics_after held then held_after old mid new line t is all tells = λ subjects stand.
     let one = tells subjects stand in (one.0, appended old mid new held then (line_written subjects line one.0) one.1 all, sym one.2.0 ∙ ap is_last is)
@@ -61,22 +61,25 @@ line_read-long line long =
 
 taken : (read_old read_new : Option (List ℕ)) (before after : List ℕ) (says then : List ℕ → Type 0) → ((line : List ℕ) → says line → then line)
     → TakesLine read_old read_new before after says → TakesLine read_old read_new before after then
-taken read_old read_new before after says then so takes = (takes.0, takes.1, takes.2, takes.3, so (without_cr takes.1) takes.4)
+taken read_old read_new before after says then so takes =
+    record { read = takes.read; line = takes.line; told = takes.told; begins = takes.begins; said = so (without_cr takes.line) takes.said }
 
 -- a line that was taken is told
 pub turned : (result : Option SessionEnd) (topics topics_after : List Topic) (held held_after : List ℕ) (old new read_old read_new : Option (List ℕ)) (before after : LineState)
     (reading : Result ScriptLine BadLine) (says : List ℕ → Type 0)
     → ((line : List ℕ) → says line → line_read line ≡ reading) → TakesLine read_old read_new (unread before) (unread after) says → GoesOn before after
     → TellsOn result topics topics_after held held_after old new reading → Turns result topics topics_after held held_after old new read_old read_new before after
-turned None topics topics_after held held_after old new read_old read_new before after reading says so takes goes_on tells =
-    (taken read_old read_new (unread before) (unread after) says (λ line. TellsOn None topics topics_after held held_after old new (line_read line))
-        (λ line said. subst (λ (r : Result ScriptLine BadLine). TellsOn None topics topics_after held held_after old new r) (sym (so line said)) tells) takes, goes_on)
+turned None topics topics_after held held_after old new read_old read_new before after reading says so takes goes_on tells = (
+  taken read_old read_new (unread before) (unread after) says (λ line. TellsOn None topics topics_after held held_after old new (line_read line))
+      (λ line said. subst (λ (r : Result ScriptLine BadLine). TellsOn None topics topics_after held held_after old new r) (sym (so line said)) tells) takes,
+  goes_on,
+)
 turned (Some ends.Quit) topics topics_after held held_after old new read_old read_new before after reading says so takes goes_on tells =
     taken read_old read_new (unread before) (unread after) says (λ line. TellsOn (Some ends.Quit) topics topics_after held held_after old new (line_read line))
-        (λ line said. subst (λ (r : Result ScriptLine BadLine). TellsOn (Some ends.Quit) topics topics_after held held_after old new r) (sym (so line said)) tells) takes
+    (λ line said. subst (λ (r : Result ScriptLine BadLine). TellsOn (Some ends.Quit) topics topics_after held held_after old new r) (sym (so line said)) tells) takes
 turned (Some ends.EndOfInput) topics topics_after held held_after old new read_old read_new before after reading says so takes goes_on tells = absurd tells
 turned (Some ends.ReadFault) topics topics_after held held_after old new read_old read_new before after reading says so takes goes_on tells = absurd tells
 turned (Some ends.WriteFault) topics topics_after held held_after old new read_old read_new before after reading says so takes goes_on tells =
     taken read_old read_new (unread before) (unread after) says (λ line. TellsOn (Some ends.WriteFault) topics topics_after held held_after old new (line_read line))
-        (λ line said. subst (λ (r : Result ScriptLine BadLine). TellsOn (Some ends.WriteFault) topics topics_after held held_after old new r) (sym (so line said)) tells) takes
+    (λ line said. subst (λ (r : Result ScriptLine BadLine). TellsOn (Some ends.WriteFault) topics topics_after held held_after old new r) (sym (so line said)) tells) takes
 turned (Some ends.TooManyReads) topics topics_after held held_after old new read_old read_new before after reading says so takes goes_on tells = absurd tells

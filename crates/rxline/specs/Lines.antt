@@ -9,6 +9,10 @@ abbrev pub HasNoLf : List ℕ → Type 0
 HasNoLf [] = Unit {0}
 HasNoLf (byte ∷ bytes) = (byte ≡ 10 → ⊥) × HasNoLf bytes
 
+-- an LF stands among the bytes
+abbrev pub HasLf : List ℕ → Type 0
+HasLf bytes = HasNoLf bytes → ⊥
+
 -- a line without the one CR that may stand at its end
 abbrev pub without_cr : List ℕ → List ℕ
 without_cr line = strip_last 13 line
@@ -34,10 +38,15 @@ pub record BeginsWithLine (bytes line rest : List ℕ) : Type 0 where
   pub one : HasNoLf line
 
 -- reads gave some bytes, and what was unread before them begins with a line of which something is said
-abbrev pub TakesLine : Option (List ℕ) → Option (List ℕ) → List ℕ → List ℕ → (List ℕ → Type 0) → Type 0
-TakesLine old new unread rest says =
-    (read : List ℕ) × (line : List ℕ) × Consumes old new read × BeginsWithLine (unread ++ read) line rest × says (without_cr line)
+pub record TakesLine (old new : Option (List ℕ)) (unread rest : List ℕ) (says : List ℕ → Type 0) : Type 0 where
+  pub read : List ℕ
+  pub line : List ℕ
+  pub told : Consumes old new read
+  pub begins : BeginsWithLine (unread ++ read) line rest
+  pub said : says (without_cr line)
 
 -- reads gave some bytes, and no line ends among them and what was unread before them
-abbrev pub TakesNoLine : Option (List ℕ) → Option (List ℕ) → List ℕ → Type 0
-TakesNoLine old new unread = (read : List ℕ) × Consumes old new read × HasNoLf (unread ++ read)
+pub record TakesNoLine (old new : Option (List ℕ)) (unread : List ℕ) : Type 0 where
+  pub read : List ℕ
+  pub told : Consumes old new read
+  pub none : HasNoLf (unread ++ read)

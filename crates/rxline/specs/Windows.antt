@@ -1,5 +1,5 @@
 -- What a window on a reader's bytes does.
-use Rattle.std.specs.Prelude.{◌≡◌, ◌<◌, ◌≤◌, ◌+◌, ℕ, List, ◌++◌, length, take, drop, Option, Result, MatchResult, MatchOption}
+use Rattle.std.specs.Prelude.{◌≡◌, ◌<◌, ◌≤◌, ◌+◌, ℕ, List, ◌++◌, length, take, drop, Option, Result, Ok, Err, MatchResult, MatchOption}
 use Rattle.std.specs.List.{between}
 use Rattle.std.specs.Io.KnownBytes.{Consumes, IsAtEnd, Keeps}
 use Rattle.rxline.specs.Lines.{HasNoLf, BeginsWithLine}
@@ -12,6 +12,11 @@ pub record HasLfAt (bytes : List ℕ) (len : ℕ) : Type 0 where
 -- where the first LF of the bytes stands, if there is one
 abbrev pub FindsLf : Option ℕ → List ℕ → Type 0
 FindsLf found bytes = MatchOption found (HasNoLf bytes) (HasLfAt bytes)
+
+-- how many bytes a read gave
+abbrev pub count_of : {E : Type 0} → Result ℕ E → ℕ
+count_of (Ok count) = count
+count_of (Err fault) = 0
 
 -- a read put what it gave behind the window, nothing only at the end of the input; one that failed changed nothing
 abbrev pub Fills : {E : Type 0} → Result ℕ E → Option (List ℕ) → Option (List ℕ) → List ℕ → List ℕ → Type 0

@@ -2,7 +2,7 @@ use crate::name::Name;
 use rx_note::Text;
 
 /// What a producer or a session says.
-#[derive(Drop, Debug)]
+#[derive(Drop, Debug, PartialEq, Eq)]
 pub enum Command {
     /// Emit an item.
     Pub { name: Name, text: Text },

@@ -20,7 +20,7 @@ pub struct LineState {
 
 impl LineState {
     ghost use Rattle.std.specs.Prelude.{◌↔◌, IsTrue, take, [], None};
-    ghost use Rattle.rxline.specs.Lines.{HasNoLf};
+    ghost use Rattle.rxline.specs.Lines.{HasLf};
     ghost use Rattle.rxline.specs.Steps.{unread, Advances};
 
     /// No line was read yet, and at most `max_reads` reads may be made.
@@ -40,7 +40,7 @@ impl LineState {
     /// Whether the next line was read to its LF already, so that the next step makes no read. Lets go of the line last
     /// told.
     pub fn has_line(&mut self) -> bool
-        ensures has { IsTrue result ↔ (HasNoLf (unread self.new) → ⊥) }
+        ensures has { IsTrue result ↔ HasLf (unread self.new) }
         ensures unread { unread self.new ≡ unread self.old }
         ensures reads { self.new.reads ≡ self.old.reads }
         ensures end { self.new.end ≡ self.old.end }
@@ -52,7 +52,8 @@ impl LineState {
     /// Tells the next line, for which it reads as often as it must, or the end. After an end no further read is made,
     /// and the same end is told again.
     pub fn advance<R: Read>(&mut self, reader: &mut R) -> Step
-        ensures { Advances result (R.remaining reader.old) (R.remaining reader.new) self.old self.new }
+        ensures advances { Advances result (R.remaining reader.old) (R.remaining reader.new) self.old self.new }
+        ensures no_read { HasLf (unread self.old) → self.new.reads ≡ self.old.reads }
     {
         if let Some(end) = self.end {
             return told_end(end);

@@ -21,8 +21,6 @@ mod printing;
 mod reading;
 mod responding;
 mod response;
-#[cfg(test)]
-mod rows;
 pub mod script;
 mod script_line;
 pub mod session_end;

@@ -1,4 +1,5 @@
-ghost use Rattle.std.specs.Prelude.{length, ◌<◌};
+ghost use Rattle.std.specs.Prelude.{length, ◌<◌, ◌≡◌};
+ghost use Rattle.rxline.specs.Lines.{HasLf};
 ghost use Rattle.rxline.specs.Reads.{ReadsOn, FindsNext};
 
 use crate::input_end::InputEnd;
@@ -21,7 +22,8 @@ pub enum Found {
 
 /// Reads until an LF stands in the window, or an end comes.
 pub fn next_lf<R: Read>(window: &mut Window, reads: &mut u64, reader: &mut R) -> Found
-    ensures { FindsNext result (R.remaining reader.old) (R.remaining reader.new) window.old window.new reads.old reads.new }
+    ensures found { FindsNext result (R.remaining reader.old) (R.remaining reader.new) window.old window.new reads.old reads.new }
+    ensures no_read { HasLf window.old → reads.new ≡ reads.old }
 {
     let mut is_long = false;
     loop {

@@ -3,7 +3,7 @@ use crate::name::Name;
 use rx_note::Policy;
 
 /// What a line of a script means.
-#[derive(Drop, Debug)]
+#[derive(Drop, Debug, PartialEq, Eq)]
 pub enum ScriptLine {
     /// What a session may say too.
     Command(Command),

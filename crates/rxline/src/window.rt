@@ -1,5 +1,5 @@
 ghost use Rattle.std.specs.Prelude.{length, ◌≤◌, ◌<◌, ◌≡◌, drop, take, []};
-ghost use Rattle.rxline.specs.Windows.{FindsLf, Fills};
+ghost use Rattle.rxline.specs.Windows.{FindsLf, Fills, count_of};
 
 use std::io;
 use std::io::Read;
@@ -111,13 +111,19 @@ impl Window {
             self.end -= self.start;
             self.start = 0;
         }
-        match reader.read(&mut self.block[self.end..]) {
-            Ok(read) => {
-                self.end += read;
-                Ok(read)
-            }
-            Err(fault) => Err(fault),
-        }
+        let result = reader.read(&mut self.block[self.end..]);
+        self.end += count_of(&result);
+        result
+    }
+}
+
+// How many bytes a read gave, none where it failed.
+fn count_of(read: &io::Result<usize>) -> usize
+    ensures { result ≡ count_of read.now }
+{
+    match read {
+        Ok(count) => *count,
+        Err(_) => 0,
     }
 }
 

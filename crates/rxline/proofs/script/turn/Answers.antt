@@ -11,10 +11,10 @@ returns-in-Line g c =
     let read_new = g.R.Read.remaining c.advance.new.reader in
     let before = c.args.lines.now in
     let after = c.advance.new.self in
-    let goes = goes_by (Line c.in-Line.len) read_old read_new before after c.requires c.in-Line.ensures in
+    let goes = goes_by (Line c.in-Line.len) read_old read_new before after c.requires c.in-Line.ensures.advances in
     let says : List ℕ → Type 0 = λ line. IsTold line c.in-Line.len after.window in
     turned c.tell_on.result _ _ _ _ _ _ read_old read_new before after (line_read c.line.result.now) says
-        (λ line said. ap line_read (sym said.bytes ∙ sym c.line.ensures)) goes.0 goes.1 c.tell_on.ensures
+    (λ line said. ap line_read (sym said.bytes ∙ sym c.line.ensures)) goes.0 goes.1 c.tell_on.ensures
 
 pub returns-in-Long : goal.returns-in-Long
 returns-in-Long g c =
@@ -22,6 +22,6 @@ returns-in-Long g c =
     let read_new = g.R.Read.remaining c.advance.new.reader in
     let before = c.args.lines.now in
     let after = c.advance.new.self in
-    let goes = goes_by Long read_old read_new before after c.requires c.in-Long.ensures in
+    let goes = goes_by Long read_old read_new before after c.requires c.in-Long.ensures.advances in
     let says : List ℕ → Type 0 = λ line. 1100 < length line in
     turned c.tell_on-in-Long.result _ _ _ _ _ _ read_old read_new before after _ says line_read-long goes.0 goes.1 c.tell_on-in-Long.ensures

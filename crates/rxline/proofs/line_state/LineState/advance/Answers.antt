@@ -2,9 +2,9 @@ use Rattle.std.proofs.Common.{length, ◌∙◌, refl, arith, length-drop, ◌+�
 use Rattle.rxline.proofs.Stepping.{none_from, TakesLine-long, TakesNoLine-shed, Goes-end}
 use Rattle.rxline.proofs.line_state.LineState.advance.Goals as goal
 
-pub returns-in-LongLf : goal.returns-in-LongLf
-returns-in-LongLf g c =
-    let f = c.in-LongLf.ensures in
+pub returns-in-LongLf-clause-advances : goal.returns-in-LongLf-clause-advances
+returns-in-LongLf-clause-advances g c =
+    let f = c.in-LongLf.ensures.found in
     let still_open = none_from _ c.in_default.not-Some in
     let takes = TakesLine-long _ _ _ _ f.0 c.in-LongLf.len f.1 f.2 f.3 in
     rw still_open (
@@ -15,8 +15,8 @@ returns-in-LongLf g c =
       },
     )
 
-pub returns-in-End : goal.returns-in-End
-returns-in-End g c =
-    let f = c.in-End.ensures in
+pub returns-in-End-clause-advances : goal.returns-in-End-clause-advances
+returns-in-End-clause-advances g c =
+    let f = c.in-End.ensures.found in
     let none = TakesNoLine-shed _ _ _ _ f.0 f.1 f.2 in
     rw (none_from _ c.in_default.not-Some, c.told_end-in-End.ensures) (Goes-end c.in-End.end _ _ _ _ (rw c.let_go.ensures.window at none) refl f.3)
