@@ -1,5 +1,5 @@
 -- Each step of a box keeps its rule.
-use Rattle.std.proofs.Common.{◌≡◌, ◌≢◌, ◌+◌, ◌<◌, ◌≤◌, ℕ, true, false, Option, Some, None, List, [], ◌∷◌, ◌++◌, length, set, refl, sym, ap, ◌∙◌, subst, append_assoc, ⊎_elim, arith}
+use Rattle.std.proofs.Common.{◌≡◌, ◌≢◌, ◌+◌, ◌<◌, ◌≤◌, ℕ, Bool, true, false, Option, Some, None, List, [], ◌∷◌, ◌++◌, length, set, refl, sym, ap, ◌∙◌, subst, append_assoc, ⊎_elim, arith}
 use Rattle.std.specs.List.{All}
 use Rattle.std.proofs.Math.ListN.{length-set}
 use Rattle.std.proofs.lemmas.Bool.{cases_Bool, cases_eq, cases_lt}
@@ -13,7 +13,8 @@ use Rattle.rx_mailbox.specs.declared.rule.View.{View}
 use Rattle.rx_mailbox.specs.declared.rule.View.TheVariants.{Sends, Receives, Spent}
 use Rattle.rx_mailbox.specs.Letters.{share, has_bye, NothingAfterBye}
 use Rattle.rx_mailbox.specs.Rule.{IsUnmade, FitsNote, Fits, Keeps, KeepsShares}
-use Rattle.rx_mailbox.specs.Steps.{Puts, Takes, Shows}
+use Rattle.rx_mailbox.specs.Steps.{one_more, new_port, Puts, Takes, noted, Shows}
+use Rattle.rx_mailbox.specs.Passes.{own_of, made_of, taken_of, notes_of, IsPort, IsReader}
 use Rattle.rx_mailbox.proofs.Letters.{end_is_nil, share-own, share-other, share-middle, NothingAfterBye-push, nothing_after}
 use Rattle.rx_mailbox.proofs.Passes.{put, put-here, put-else, Each, Each-set, Each-push}
 
@@ -181,3 +182,25 @@ module _ {B : Type 0} where
         All-weaker (FitsNote all h.0 made) (λ note. share note.0 all ≡ note.1) (λ note t. t.1) notes mine.3,
         λ port above. (mine.2 port above).1,
       )
+
+  -- a port that has not ended may put a letter of its own
+  pub may_put : (n pass port : ℕ) (v : View B) (x : Letter B) → IsPort port false v → x.from ≡ port → Pushes KeepsShares n pass v x (Puts v x)
+  may_put n pass port v x is from = subst (λ u. Pushes KeepsShares n pass u x (Puts u x)) (sym is.view_is) (puts n pass port (own_of v) x from is.bye)
+
+  -- the inbox may take the front letter
+  pub may_take : (pass : ℕ) (v : View B) → IsReader v → Pops KeepsShares pass v (Takes v)
+  may_take pass v is = subst (λ u. Pops KeepsShares pass u (Takes u)) (sym is.view_is) (takes pass (made_of v) (taken_of v) (notes_of v))
+
+  -- the inbox may make a port
+  pub may_split : (pass : ℕ) (v : View B) → IsReader v → Forks KeepsShares pass v (one_more v) (new_port v)
+  may_split pass v is = subst (λ u. Forks KeepsShares pass u (one_more u) (new_port u)) (sym is.view_is) (forks pass (made_of v) (taken_of v) (notes_of v))
+
+  -- the inbox may join a port
+  pub may_join : (pass : ℕ) (v : View B) (other port : ℕ) (ended : Bool) (w : View B) → IsReader v → IsPort port ended w → Merges KeepsShares pass v other w (noted v w) Spent
+  may_join pass v other port ended w is ends = subst (λ u. Merges KeepsShares pass u other w (noted u w) Spent) (sym is.view_is)
+      (subst (λ u. Merges KeepsShares pass (Receives (made_of v) (taken_of v) (notes_of v)) other u (noted (Receives (made_of v) (taken_of v) (notes_of v)) u) Spent) (sym ends.view_is)
+          (merges pass (made_of v) (taken_of v) (notes_of v) other port (own_of w)))
+
+  -- the inbox may read the rule
+  pub may_show : (pass : ℕ) (v : View B) → IsReader v → Learns KeepsShares pass v (Shows v)
+  may_show pass v is = subst (λ u. Learns KeepsShares pass u (Shows u)) (sym is.view_is) (shows pass (made_of v) (taken_of v) (notes_of v))

@@ -1,3 +1,5 @@
 pub mod Letters
+pub mod Ends
 pub mod Rule
 pub mod Steps
+pub mod Passes

@@ -2,7 +2,12 @@
 //! arrives of each port is what it sent, whole and in its order.
 #![tactic(auto)]
 
+mod channel;
+mod ended_port;
 mod letter;
+mod port;
 mod rule;
 
+pub use ended_port::EndedPort;
 pub use letter::{Letter, Post};
+pub use port::Port;

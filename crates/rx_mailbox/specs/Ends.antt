@@ -1,0 +1,67 @@
+-- What contracts see of a box: of a port its number and its own list, of an inbox its received list (this project's own
+-- rule).
+use Rattle.std.specs.Prelude.{◌≡◌, ◌==◌, ◌<◌, ◌≤◌, ◌≢◌, ℕ, true, List, [], ◌∷◌, ◌++◌}
+use Rattle.std.specs.List.{All, count_by}
+use Rattle.atomic_table.specs.Seated.{TableId}
+use Rattle.atomic_table.specs.declared.badge.Badge.{Badge}
+use Rattle.crossbeam_channel.specs.declared.flavors.array.Key.{Key}
+use Rattle.rx_mailbox.specs.declared.letter.Letter.{Letter}
+use Rattle.rx_mailbox.specs.declared.letter.Post.{Post}
+use Rattle.rx_mailbox.specs.Letters.{letter, share, has_bye}
+
+-- which box: all parts that come from one `open` name the same
+abbrev pub Box : Type 0 → Type 0
+Box B = TableId × Badge (Key (Letter B))
+
+-- a port: its box, its number, and the letters that it put, in their order
+pub record Outgoing (B : Type 0) : Type 0 where
+  pub box : Box B
+  pub number : ℕ
+  pub own : List (Letter B)
+
+-- an inbox: its box, how many ports the box has, and the letters that it received, in their order
+pub record Incoming (B : Type 0) : Type 0 where
+  pub box : Box B
+  pub ports : ℕ
+  pub received : List (Letter B)
+
+module _ {B : Type 0} where
+  -- the port of this number that put these letters
+  abbrev pub outgoing : Box B → ℕ → List (Letter B) → Outgoing B
+  outgoing box number own = record { box = box; number = number; own = own }
+
+  -- the inbox of a box with so many ports that received these letters
+  abbrev pub incoming : Box B → ℕ → List (Letter B) → Incoming B
+  incoming box ports received = record { box = box; ports = ports; received = received }
+
+  -- the port after it put one more letter
+  abbrev pub with_post : Outgoing B → Post B → Outgoing B
+  with_post port post = outgoing port.box port.number (port.own ++ letter port.number post ∷ [])
+
+  -- the inbox after it received one more letter
+  abbrev pub with_letter : Incoming B → Letter B → Incoming B
+  with_letter inbox x = incoming inbox.box inbox.ports (inbox.received ++ x ∷ [])
+
+  -- the Bye of a port was received
+  abbrev pub HasBye : Incoming B → ℕ → Type 0
+  HasBye inbox port = has_bye (share port inbox.received) ≡ true
+
+  -- the Bye of each port was received
+  abbrev pub HasEachBye : Incoming B → Type 0
+  HasEachBye inbox = (port : ℕ) → port < inbox.ports → HasBye inbox port
+
+  -- each number of the box is that of just one of the ports, and no port has another number
+  abbrev pub IsEachOnce : ℕ → List (Outgoing B) → Type 0
+  IsEachOnce made ports =
+      All (λ port. port.number < made) ports × ((number : ℕ) → number < made → count_by (λ port. port.number == number) ports ≡ 1)
+
+  -- what was received of the port is all that it put, in its order
+  abbrev pub GotAll : Incoming B → Outgoing B → Type 0
+  GotAll inbox port = share port.number inbox.received ≡ port.own
+
+  -- what a queue can hold beside this inbox and these ports: of each port what was received, followed by what the queue
+  -- holds of it, is all that it put, and the queue holds nothing of another port that was not received before
+  abbrev pub CanHold : Incoming B → List (Outgoing B) → List (Letter B) → Type 0
+  CanHold inbox ports queue =
+      All (λ port. share port.number (inbox.received ++ queue) ≡ port.own) ports
+      × ((number : ℕ) → All (λ (port : Outgoing B). port.number ≢ number) ports → share number (inbox.received ++ queue) ≡ [])
