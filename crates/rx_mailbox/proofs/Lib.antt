@@ -1,3 +1,4 @@
 pub mod Letters
 pub mod Passes
 pub mod Steps
+pub mod Tally

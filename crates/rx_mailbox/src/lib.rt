@@ -4,10 +4,12 @@
 
 mod channel;
 mod ended_port;
+mod inbox;
 mod letter;
 mod port;
 mod rule;
 
 pub use ended_port::EndedPort;
+pub use inbox::{Gone, Inbox};
 pub use letter::{Letter, Post};
 pub use port::Port;
