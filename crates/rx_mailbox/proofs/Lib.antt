@@ -2,3 +2,4 @@ pub mod Letters
 pub mod Passes
 pub mod Steps
 pub mod Tally
+pub mod NewPorts

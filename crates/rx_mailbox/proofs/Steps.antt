@@ -204,3 +204,7 @@ module _ {B : Type 0} where
   -- the inbox may read the rule
   pub may_show : (pass : ℕ) (v : View B) → IsReader v → Learns KeepsShares pass v (Shows v)
   may_show pass v is = subst (λ u. Learns KeepsShares pass u (Shows u)) (sym is.view_is) (shows pass (made_of v) (taken_of v) (notes_of v))
+
+  -- a view that is written out as the inbox's is the inbox's
+  pub is_reader : (v : View B) (made : ℕ) (taken : List (Letter B)) (notes : List (ℕ × List (Letter B))) → v ≡ Receives made taken notes → IsReader v
+  is_reader v made taken notes is = subst (λ (u : View B). IsReader u) (sym is) (record { view_is = refl })

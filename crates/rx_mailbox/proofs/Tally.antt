@@ -1,9 +1,9 @@
 -- What the inbox counts stays right as it takes a letter.
 use Rattle.std.proofs.Common.{◌≡◌, ◌≢◌, ◌||◌, ◌+◌, ◌-◌, ◌<◌, ◌^◌, min, ℕ, Bool, true, false, cond, List, [], ◌∷◌, ◌++◌, length, get_or, set, refl, sym, ap, ◌∙◌, subst, ⊎_elim, arith}
 use Rattle.std.proofs.Math.Bool.{or-true, or-false}
-use Rattle.std.proofs.Math.ListN.{length-set}
+use Rattle.std.proofs.Math.ListN.{length-set, length-replicate, replicate}
 use Rattle.std.proofs.lemmas.Bool.{cases_eq}
-use Rattle.std.proofs.lemmas.List.{get_or-set_same, get_or-set_other, length_push}
+use Rattle.std.proofs.lemmas.List.{get_or-replicate, get_or-set_same, get_or-set_other, length_push}
 use Rattle.std.proofs.lemmas.List.Folds.{list_any-append}
 use Rattle.rx_mailbox.specs.declared.letter.Letter.{Letter}
 use Rattle.rx_mailbox.specs.declared.rule.View.{View}
@@ -67,3 +67,14 @@ module _ {B : Type 0} where
           letters_are = count_is ∙ ap (λ n. min (n + 1) (2 ^ 64 - 1)) was.letters_are ∙ counted_more (taken_of v) x;
         },
       )
+
+  -- the tally of a new inbox
+  pub first_tally : (byes : List Bool) (ports : ℕ) (v : View B) → byes ≡ replicate ports false → v ≡ Receives ports [] [] → IsReader v × IsTally byes 0 v
+  first_tally byes ports v byes_is is = subst (λ (u : View B). IsReader u × IsTally byes 0 u) (sym is) (
+    record { view_is = refl },
+    record {
+      ports = ap length byes_is ∙ length-replicate ports false;
+      byes_are = λ port below. ap (λ l. get_or l port false) byes_is ∙ get_or-replicate ports port false false below;
+      letters_are = refl;
+    },
+  )

@@ -6,10 +6,12 @@ mod channel;
 mod ended_port;
 mod inbox;
 mod letter;
+mod opening;
 mod port;
 mod rule;
 
 pub use ended_port::EndedPort;
 pub use inbox::{Gone, Inbox};
 pub use letter::{Letter, Post};
+pub use opening::{MAX_CAPACITY, MAX_PORTS, OpenError, open};
 pub use port::Port;
