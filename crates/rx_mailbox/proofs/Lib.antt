@@ -3,3 +3,4 @@ pub mod Passes
 pub mod Steps
 pub mod Tally
 pub mod NewPorts
+pub mod Joins

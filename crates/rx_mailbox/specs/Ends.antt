@@ -49,19 +49,3 @@ module _ {B : Type 0} where
   -- the Bye of each port was received
   abbrev pub HasEachBye : Incoming B → Type 0
   HasEachBye inbox = (port : ℕ) → port < inbox.ports → HasBye inbox port
-
-  -- each number of the box is that of just one of the ports, and no port has another number
-  abbrev pub IsEachOnce : ℕ → List (Outgoing B) → Type 0
-  IsEachOnce made ports =
-      All (λ port. port.number < made) ports × ((number : ℕ) → number < made → count_by (λ port. port.number == number) ports ≡ 1)
-
-  -- what was received of the port is all that it put, in its order
-  abbrev pub GotAll : Incoming B → Outgoing B → Type 0
-  GotAll inbox port = share port.number inbox.received ≡ port.own
-
-  -- what a queue can hold beside this inbox and these ports: of each port what was received, followed by what the queue
-  -- holds of it, is all that it put, and the queue holds nothing of another port that was not received before
-  abbrev pub CanHold : Incoming B → List (Outgoing B) → List (Letter B) → Type 0
-  CanHold inbox ports queue =
-      All (λ port. share port.number (inbox.received ++ queue) ≡ port.own) ports
-      × ((number : ℕ) → All (λ (port : Outgoing B). port.number ≢ number) ports → share number (inbox.received ++ queue) ≡ [])

@@ -1,6 +1,7 @@
 pub mod Letters
 pub mod Ends
 pub mod Sizes
+pub mod Settling
 pub mod Rule
 pub mod Steps
 pub mod Passes

@@ -5,6 +5,7 @@ use Rattle.rx_mailbox.specs.declared.letter.Letter.{Letter}
 use Rattle.rx_mailbox.specs.declared.rule.View.{View}
 use Rattle.rx_mailbox.specs.declared.rule.View.TheVariants.{Sends, Receives, Spent}
 use Rattle.rx_mailbox.specs.Letters.{share, has_bye}
+use Rattle.rx_mailbox.specs.Settling.{counted}
 use Rattle.rx_mailbox.specs.Ends.{Box, Outgoing, outgoing, Incoming, incoming}
 
 module _ {B : Type 0} where
@@ -52,10 +53,6 @@ module _ {B : Type 0} where
   -- the view is the inbox's
   pub record IsReader (v : View B) : Type 0 where
     pub view_is : v ≡ Receives (made_of v) (taken_of v) (notes_of v)
-
-  -- the count of the received letters, which stays at the greatest value
-  abbrev pub counted : List (Letter B) → ℕ
-  counted received = min (length received) (2 ^ 64 - 1)
 
   -- what the inbox keeps beside its view: whose Byes came, and how many letters
   pub record IsTally (byes : List Bool) (letters : ℕ) (v : View B) : Type 0 where

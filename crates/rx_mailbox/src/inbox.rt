@@ -66,6 +66,13 @@ impl<B: Drop> Inbox<B> {
         Ok(letter)
     }
 
+    /// How many ports the box has.
+    pub fn ports(&self) -> usize
+        ensures { result ≡ self.now.ports }
+    {
+        self.byes.len()
+    }
+
     /// Whether the Bye of each port was received.
     pub fn has_each_bye(&self) -> bool
         ensures { IsTrue result ↔ HasEachBye self.now }

@@ -1,0 +1,62 @@
+-- What the joining of ended ports shows.
+use Rattle.std.proofs.Common.{◌≡◌, ◌≢◌, ◌⊎◌, ◌+◌, ◌<◌, ℕ, zero, suc, Bool, true, List, [], ◌∷◌, ◌++◌, length, refl, sym, ap, ◌∙◌, subst, inl, inr, ⊎_elim, arith}
+use Rattle.std.specs.List.{All, Contains}
+use Rattle.std.proofs.lemmas.Bool.{cases_eq}
+use Rattle.std.proofs.lemmas.List.{append-nil}
+use Rattle.std.proofs.lemmas.List.Elements.{All-nil, All-cons, All-contains, Contains-push, filter-append}
+use Rattle.rx_mailbox.specs.declared.letter.Letter.{Letter}
+use Rattle.rx_mailbox.specs.declared.rule.View.{View}
+use Rattle.rx_mailbox.specs.declared.rule.View.TheVariants.{Sends, Receives}
+use Rattle.rx_mailbox.specs.Letters.{share, has_bye, NothingAfterBye}
+use Rattle.rx_mailbox.specs.Ends.{Outgoing, Incoming}
+use Rattle.rx_mailbox.specs.Steps.{noted, Shows}
+use Rattle.rx_mailbox.specs.Passes.{own_of, made_of, taken_of, notes_of, IsPort, IsReader}
+use Rattle.rx_mailbox.specs.Settling.{IsEachOnce, GotAll, CanHold}
+use Rattle.rx_mailbox.proofs.Letters.{end_is_nil, no_letters, nothing_after}
+
+added_nothing : {X : Type 0} (xs ys : List X) → xs ++ ys ≡ xs → ys ≡ []
+added_nothing [] ys e = e
+added_nothing (x ∷ xs) ys e = let rest : xs ++ ys ≡ xs = cc in added_nothing xs ys rest
+
+module _ {B : Type 0} where
+  -- where a port's Bye was received, all that it put was
+  whole_share : (port : ℕ) (taken queue own : List (Letter B)) → NothingAfterBye (share port (taken ++ queue)) → share port (taken ++ queue) ≡ own → has_bye (share port taken) ≡ true → share port taken ≡ own
+  whole_share port taken queue own ended is bye =
+      let parts = filter-append _ taken queue in
+      let none : share port queue ≡ [] = nothing_after (share port taken) (share port queue) (subst NothingAfterBye parts ended) bye in
+      sym (append-nil (share port taken)) ∙ ap (λ l. share port taken ++ l) (sym none) ∙ sym parts ∙ is
+
+  -- the inbox's view after a joining
+  pub joined : (v w : View B) (port : ℕ) (ended : Bool) → IsReader v → IsPort port ended w → noted v w ≡ Receives (made_of v) (taken_of v) (notes_of v ++ (port, own_of w) ∷ [])
+  joined v w port ended reader sender =
+      subst (λ u. noted u w ≡ Receives (made_of v) (taken_of v) (notes_of v ++ (port, own_of w) ∷ [])) (sym reader.view_is)
+          (ap (λ u. noted (Receives (made_of v) (taken_of v) (notes_of v)) u) sender.view_is)
+
+  -- what the reading after a joining shows of the port, where its Bye was received
+  pub got_all : (v w u : View B) (port : ℕ) (ended : Bool) (queue : List (Letter B)) → IsReader v → IsPort port ended w → u ≡ noted v w → Shows u queue → has_bye (share port (taken_of v)) ≡ true → share port (taken_of v) ≡ own_of w
+  got_all v w u port ended queue reader sender is shows bye =
+      let shown = subst (λ x. Shows x queue) (is ∙ joined v w port ended reader sender) shows in
+      whole_share port (taken_of v) queue (own_of w) (shown.0 port) (All-contains (λ (note : ℕ × List (Letter B)). share note.0 (taken_of v ++ queue) ≡ note.1) _ (port, own_of w) shown.1 (Contains-push (notes_of v) (port, own_of w))) bye
+
+  -- a number is that of one of the ports, or of none
+  named : (ports : List (Outgoing B)) (number : ℕ) → ((port : Outgoing B) × Contains ports port × (port.number ≡ number)) ⊎ All (λ port. port.number ≢ number) ports
+  named [] number = inr (All-nil (λ (p : Outgoing B). p.number ≢ number))
+  named (port ∷ ports) number = ⊎_elim
+      (λ same. inl (port, (0, omega arith, refl), same))
+      (λ apart. ⊎_elim (λ t. inl (t.0, (suc t.1.0, (let k = t.1.1 in omega arith), t.1.2), t.2)) (λ none. inr (All-cons (λ (p : Outgoing B). p.number ≢ number) port ports apart none)) (named ports number))
+      (cases_eq port.number number)
+
+  -- where all was received that the ports put, the queue can hold nothing
+  pub nothing_left : (inbox : Incoming B) (ports : List (Outgoing B)) → All (GotAll inbox) ports → (queue : List (Letter B)) → CanHold inbox ports queue → queue ≡ []
+  nothing_left inbox ports got queue holds = no_letters queue (λ number. ⊎_elim
+      (λ t.
+          let put : share t.0.number (inbox.received ++ queue) ≡ t.0.own = All-contains (λ (port : Outgoing B). share port.number (inbox.received ++ queue) ≡ port.own) ports t.0 holds.0 t.1 in
+          let came : share t.0.number inbox.received ≡ t.0.own = All-contains (GotAll inbox) ports t.0 got t.1 in
+          let none : share t.0.number queue ≡ [] = added_nothing (share t.0.number inbox.received) (share t.0.number queue) (sym (filter-append _ inbox.received queue) ∙ put ∙ sym came) in
+          ap (λ n. share n queue) (sym t.2) ∙ none)
+      (λ other. end_is_nil (share number inbox.received) (share number queue) (sym (filter-append _ inbox.received queue) ∙ holds.1 number other))
+      (named ports number))
+
+  -- the same of equal numbers and lists
+  pub IsEachOnce-same : (made other : ℕ) (ports others : List (Outgoing B)) → made ≡ other → ports ≡ others → IsEachOnce made ports → IsEachOnce other others
+  IsEachOnce-same made other ports others n e each = subst (λ k. IsEachOnce k others) n (subst (λ l. IsEachOnce made l) e each)

@@ -1,0 +1,12 @@
+use crate::cause::Cause;
+use crate::ended_port::EndedPort;
+use crate::inbox::Inbox;
+use rx_heap::Heap;
+
+/// The parts of a box that did not settle, as they were.
+#[derive(Drop)]
+pub struct Unsettled<B: Drop> {
+    pub cause: Cause,
+    pub inbox: Inbox<B>,
+    pub ports: Vec<EndedPort<B>, Heap>,
+}
