@@ -30,7 +30,7 @@ module _ {B : Type 0} where
   pub joined : (v w : View B) (port : ℕ) (ended : Bool) → IsReader v → IsPort port ended w → noted v w ≡ Receives (made_of v) (taken_of v) (notes_of v ++ (port, own_of w) ∷ [])
   joined v w port ended reader sender =
       subst (λ u. noted u w ≡ Receives (made_of v) (taken_of v) (notes_of v ++ (port, own_of w) ∷ [])) (sym reader.view_is)
-          (ap (λ u. noted (Receives (made_of v) (taken_of v) (notes_of v)) u) sender.view_is)
+      (ap (λ u. noted (Receives (made_of v) (taken_of v) (notes_of v)) u) sender.view_is)
 
   -- what the reading after a joining shows of the port, where its Bye was received
   pub got_all : (v w u : View B) (port : ℕ) (ended : Bool) (queue : List (Letter B)) → IsReader v → IsPort port ended w → u ≡ noted v w → Shows u queue → has_bye (share port (taken_of v)) ≡ true → share port (taken_of v) ≡ own_of w
@@ -50,10 +50,10 @@ module _ {B : Type 0} where
   pub nothing_left : (inbox : Incoming B) (ports : List (Outgoing B)) → All (GotAll inbox) ports → (queue : List (Letter B)) → CanHold inbox ports queue → queue ≡ []
   nothing_left inbox ports got queue holds = no_letters queue (λ number. ⊎_elim
       (λ t.
-          let put : share t.0.number (inbox.received ++ queue) ≡ t.0.own = All-contains (λ (port : Outgoing B). share port.number (inbox.received ++ queue) ≡ port.own) ports t.0 holds.0 t.1 in
-          let came : share t.0.number inbox.received ≡ t.0.own = All-contains (GotAll inbox) ports t.0 got t.1 in
-          let none : share t.0.number queue ≡ [] = added_nothing (share t.0.number inbox.received) (share t.0.number queue) (sym (filter-append _ inbox.received queue) ∙ put ∙ sym came) in
-          ap (λ n. share n queue) (sym t.2) ∙ none)
+      let put : share t.0.number (inbox.received ++ queue) ≡ t.0.own = All-contains (λ (port : Outgoing B). share port.number (inbox.received ++ queue) ≡ port.own) ports t.0 holds.0 t.1 in
+      let came : share t.0.number inbox.received ≡ t.0.own = All-contains (GotAll inbox) ports t.0 got t.1 in
+      let none : share t.0.number queue ≡ [] = added_nothing (share t.0.number inbox.received) (share t.0.number queue) (sym (filter-append _ inbox.received queue) ∙ put ∙ sym came) in
+      ap (λ n. share n queue) (sym t.2) ∙ none)
       (λ other. end_is_nil (share number inbox.received) (share number queue) (sym (filter-append _ inbox.received queue) ∙ holds.1 number other))
       (named ports number))
 

@@ -1,6 +1,7 @@
 -- The ports of a new box.
 use Rattle.std.proofs.Common.{◌≡◌, ◌+◌, ℕ, List, [], ◌∷◌, ◌++◌, map, refl, sym, ap, ◌∙◌, arith}
-use Rattle.std.specs.List.{range_with_len}
+use Rattle.std.specs.List.{All, range_with_len}
+use Rattle.std.proofs.lemmas.List.Elements.{All-map}
 use Rattle.std.proofs.lemmas.List.FromFn.{map-range_with_len_more}
 use Rattle.rx_mailbox.specs.Ends.{Box, Outgoing, outgoing}
 
@@ -16,3 +17,7 @@ module _ {B : Type 0} where
       ∙ ap (λ p. map (λ number. outgoing box number []) (range_with_len 0 made) ++ p ∷ []) port_is
       ∙ sym (map-range_with_len_more (λ number. outgoing box number []) 0 made made (omega arith))
       ∙ ap (λ b. map (λ number. outgoing b number []) (range_with_len 0 (made + 1))) (sym same)
+
+  -- new ports are of their box
+  pub of_one_box : (box : Box B) (made first : ℕ) → All (λ (port : Outgoing B). port.box ≡ box) (map (λ number. outgoing box number []) (range_with_len first made))
+  of_one_box box made first = All-map (λ (port : Outgoing B). port.box ≡ box) (λ number. outgoing box number []) (range_with_len first made) (λ k d within. refl)

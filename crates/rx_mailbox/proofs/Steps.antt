@@ -67,7 +67,7 @@ module _ {B : Type 0} where
       let grown : Keeps (all ++ x ∷ []) h.0 h.1 h.2 (set views pass after) = record {
         ended = λ q. ⊎_elim
             (λ (same : x.from ≡ q). subst NothingAfterBye (sym (share-own q x all same))
-                (NothingAfterBye-push (share q all) x (ap has_bye (ap (λ k. share k all) (sym same ∙ from) ∙ mine.1) ∙ open_yet) (h.3.ended q)))
+            (NothingAfterBye-push (share q all) x (ap has_bye (ap (λ k. share k all) (sym same ∙ from) ∙ mine.1) ∙ open_yet) (h.3.ended q)))
             (λ apart. subst NothingAfterBye (sym (share-other q x all apart)) (h.3.ended q))
             (cases_eq x.from q);
         known = Each-set (Fits (all ++ x ∷ []) h.0 h.1 h.2) views pass after
@@ -128,17 +128,16 @@ module _ {B : Type 0} where
         record {
           ended = h.3.ended;
           known = Each-push (Fits all seat h.1 h.2) views_left (Sends made []) (put-here made made (Some (length views_left)) h.0 refl, here.1)
-              (Each-set (Fits all seat h.1 h.2) views pass left
-                  (
-                    mine.0,
-                    mine.1,
-                    (λ q above. let n = mine.2 q (omega arith) in (elsewhere q (λ same. absurd (omega arith)) ∙ n.0, n.1)),
-                    All-weaker (FitsNote all h.0 made) (FitsNote all seat (made + 1))
-                        (λ note t. (elsewhere note.0 (λ same. let below : note.0 < made = t.2 in absurd (omega arith)) ∙ t.0, t.1, (let below : note.0 < made = t.2 in omega arith))) notes mine.3,
-                  )
-                  (λ j u apart e. port_fits all all h.0 seat h.1 h.1 h.2 h.2 j u
-                      (λ q s. (elsewhere q (λ same. let none : Some j ≡ None = sym s ∙ ap h.0 same ∙ here.0 in cc) ∙ s, refl))
-                      (λ is. apart (is ∙ sym mine.0)) (h.3.known j u e)));
+              (Each-set (Fits all seat h.1 h.2) views pass left (
+                mine.0,
+                mine.1,
+                (λ q above. let n = mine.2 q (omega arith) in (elsewhere q (λ same. absurd (omega arith)) ∙ n.0, n.1)),
+                All-weaker (FitsNote all h.0 made) (FitsNote all seat (made + 1))
+                    (λ note t. (elsewhere note.0 (λ same. let below : note.0 < made = t.2 in absurd (omega arith)) ∙ t.0, t.1, (let below : note.0 < made = t.2 in omega arith))) notes mine.3,
+              )
+              (λ j u apart e. port_fits all all h.0 seat h.1 h.1 h.2 h.2 j u
+              (λ q s. (elsewhere q (λ same. let none : Some j ≡ None = sym s ∙ ap h.0 same ∙ here.0 in cc) ∙ s, refl))
+              (λ is. apart (is ∙ sym mine.0)) (h.3.known j u e)));
         },
       )
 
@@ -155,17 +154,17 @@ module _ {B : Type 0} where
       let seat = put port None h.0 in
       let below : port < made = ⊎_elim (λ l. l) (λ above. let none : None ≡ Some other = sym (mine.2 port above).0 ∙ theirs.0 in cc) (cases_lt port made) in
       let joined : Each (λ j u. j ≢ other → Fits all seat h.1 h.2 j u) views_both = Each-set _ views pass both
-          (λ _. (
-            mine.0,
-            mine.1,
-            (λ q above. let n = mine.2 q above in (still_none h.0 port q n.0, n.1)),
-            All-push (FitsNote all seat made) notes (port, own)
-                (All-weaker (FitsNote all h.0 made) (FitsNote all seat made) (λ note t. (still_none h.0 port note.0 t.0, t.1, t.2)) notes mine.3)
-                (put-here port port None h.0 refl, theirs.1, below),
-          ))
-          (λ j u not_mine e not_theirs. port_fits all all h.0 seat h.1 h.1 h.2 h.2 j u
-              (λ q s. (put-else port q None h.0 (λ same. not_theirs (let e2 : Some j ≡ Some other = sym s ∙ ap h.0 same ∙ theirs.0 in cc)) ∙ s, refl))
-              (λ is. not_mine (is ∙ sym mine.0)) (h.3.known j u e)) in (
+      (λ _. (
+        mine.0,
+        mine.1,
+        (λ q above. let n = mine.2 q above in (still_none h.0 port q n.0, n.1)),
+        All-push (FitsNote all seat made) notes (port, own)
+            (All-weaker (FitsNote all h.0 made) (FitsNote all seat made) (λ note t. (still_none h.0 port note.0 t.0, t.1, t.2)) notes mine.3)
+            (put-here port port None h.0 refl, theirs.1, below),
+      ))
+      (λ j u not_mine e not_theirs. port_fits all all h.0 seat h.1 h.1 h.2 h.2 j u
+      (λ q s. (put-else port q None h.0 (λ same. not_theirs (let e2 : Some j ≡ Some other = sym s ∙ ap h.0 same ∙ theirs.0 in cc)) ∙ s, refl))
+      (λ is. not_mine (is ∙ sym mine.0)) (h.3.known j u e)) in (
         seat,
         h.1,
         h.2,
@@ -199,7 +198,7 @@ module _ {B : Type 0} where
   pub may_join : (pass : ℕ) (v : View B) (other port : ℕ) (ended : Bool) (w : View B) → IsReader v → IsPort port ended w → Merges KeepsShares pass v other w (noted v w) Spent
   may_join pass v other port ended w is ends = subst (λ u. Merges KeepsShares pass u other w (noted u w) Spent) (sym is.view_is)
       (subst (λ u. Merges KeepsShares pass (Receives (made_of v) (taken_of v) (notes_of v)) other u (noted (Receives (made_of v) (taken_of v) (notes_of v)) u) Spent) (sym ends.view_is)
-          (merges pass (made_of v) (taken_of v) (notes_of v) other port (own_of w)))
+      (merges pass (made_of v) (taken_of v) (notes_of v) other port (own_of w)))
 
   -- the inbox may read the rule
   pub may_show : (pass : ℕ) (v : View B) → IsReader v → Learns KeepsShares pass v (Shows v)

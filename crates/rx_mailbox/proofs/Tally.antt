@@ -45,7 +45,7 @@ module _ {B : Type 0} where
       → get_or (cond (ends x.post) (set byes x.from true) byes) port false ≡ has_bye (share port (taken ++ x ∷ []))
   byes_more byes x taken port within is = ⊎_elim
       (λ (same : x.from ≡ port). let P : ℕ → Type 0 = λ q. get_or (cond (ends x.post) (set byes x.from true) byes) q false ≡ has_bye (share q (taken ++ x ∷ [])) in
-          subst P same (byes_own byes x taken (omega arith) (let Q : ℕ → Type 0 = λ q. get_or byes q false ≡ has_bye (share q taken) in subst Q (sym same) is)))
+      subst P same (byes_own byes x taken (omega arith) (let Q : ℕ → Type 0 = λ q. get_or byes q false ≡ has_bye (share q taken) in subst Q (sym same) is)))
       (λ apart. mark_elsewhere (ends x.post) byes x.from port apart ∙ is ∙ sym (ap has_bye (share-other port x taken apart)))
       (cases_eq x.from port)
 

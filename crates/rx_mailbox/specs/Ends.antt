@@ -49,3 +49,7 @@ module _ {B : Type 0} where
   -- the Bye of each port was received
   abbrev pub HasEachBye : Incoming B → Type 0
   HasEachBye inbox = (port : ℕ) → port < inbox.ports → HasBye inbox port
+
+  -- the ports are of the inbox's box: they come from the same `open`
+  abbrev pub AreOf : Incoming B → List (Outgoing B) → Type 0
+  AreOf inbox ports = All (λ port. port.box ≡ inbox.box) ports

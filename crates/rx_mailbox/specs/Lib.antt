@@ -5,3 +5,4 @@ pub mod Settling
 pub mod Rule
 pub mod Steps
 pub mod Passes
+pub mod Tests

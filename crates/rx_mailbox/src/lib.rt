@@ -23,3 +23,6 @@ pub use port::Port;
 pub use settled::Settled;
 pub use settling::settle;
 pub use unsettled::Unsettled;
+
+#[cfg(test)]
+mod tests;

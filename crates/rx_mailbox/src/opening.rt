@@ -4,7 +4,7 @@ ghost use Rattle.crossbeam_channel.specs.Claims.{view, IsSeatAt};
 ghost use Rattle.crossbeam_channel.specs.Ends.{sends_on};
 ghost use Rattle.rx_mailbox.specs.declared.opening.OpenError.TheVariants.{BadSize};
 ghost use Rattle.rx_mailbox.specs.declared.rule.View.TheVariants.{Receives};
-ghost use Rattle.rx_mailbox.specs.Ends.{incoming, outgoing};
+ghost use Rattle.rx_mailbox.specs.Ends.{incoming, outgoing, AreOf};
 ghost use Rattle.rx_mailbox.specs.Sizes.{IsSize};
 ghost use Rattle.rx_mailbox.specs.Passes.{box_of};
 
@@ -52,6 +52,7 @@ pub fn open<B: Drop>(
     ensures size { (result ≡ Err OpenError.BadSize) ↔ ¬ IsSize capacity senders }
     ensures inbox { IfOk result (λ made. made.0 ≡ incoming made.0.box senders []) }
     ensures ports { IfOk result (λ made. made.1.items ≡ map (λ number. outgoing made.0.box number []) (range_with_len 0 senders)) }
+    ensures parts { IfOk result (λ made. AreOf made.0 made.1.items) }
 {
     if !is_size(capacity, senders) {
         return Err(OpenError::BadSize);
@@ -77,11 +78,13 @@ fn make<B: Drop>(
     requires { IsSize capacity senders }
     ensures inbox { IfOk result (λ made. made.0 ≡ incoming made.0.box senders []) }
     ensures ports { IfOk result (λ made. made.1.items ≡ map (λ number. outgoing made.0.box number []) (range_with_len 0 senders)) }
+    ensures parts { IfOk result (λ made. AreOf made.0 made.1.items) }
 {
     let byes = vec![in alloc.clone()?; false; senders as usize]?;
     let mut ports = Vec::with_capacity(alloc.clone()?, senders as usize)?;
-    let (sender, receiver, mut pass) =
-        bounded_with::<Letter<B>, View<B>, MailboxRule, Heap>(alloc, capacity)?;
+    let (sender, receiver, mut pass) = bounded_with::<Letter<B>, View<B>, MailboxRule, Heap>(
+        alloc, capacity,
+    )?;
     for number in 0..senders {
         let port = make_port(&sender, &mut pass, number)?;
         ports.push(port)?;

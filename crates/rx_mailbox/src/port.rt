@@ -45,7 +45,13 @@ impl<B: Drop> Port<B> {
             (λ _. self.new ≡ with_post self.old (Post.Body body))
             (λ back. (back ≡ body) × (self.new ≡ self.old)) }
     {
-        let outcome = put(rt, &self.sender, &mut self.pass, self.number, Post::Body(body));
+        let outcome = put(
+            rt,
+            &self.sender,
+            &mut self.pass,
+            self.number,
+            Post::Body(body),
+        );
         match outcome {
             Ok(()) => Ok(()),
             Err(Post::Body(body)) => Err(body),

@@ -11,11 +11,7 @@ pub enum View<B> {
     Sends(u32, LinkedList<Letter<B>>),
     // The inbox's pass: how many ports were made, the letters that it took, and the number and the letters of each
     // port whose pass was joined into this one.
-    Receives(
-        u32,
-        LinkedList<Letter<B>>,
-        LinkedList<(u32, LinkedList<Letter<B>>)>,
-    ),
+    Receives(u32, LinkedList<Letter<B>>, LinkedList<(u32, LinkedList<Letter<B>>)>),
     // The pass of a port after its joining.
     Spent,
 }

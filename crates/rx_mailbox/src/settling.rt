@@ -3,7 +3,7 @@ ghost use Rattle.std.specs.List.{All, count_by};
 ghost use Rattle.crossbeam_channel.specs.Claims.{view};
 ghost use Rattle.rx_mailbox.specs.declared.letter.Letter.{Letter};
 ghost use Rattle.rx_mailbox.specs.Letters.{share};
-ghost use Rattle.rx_mailbox.specs.Ends.{HasBye, HasEachBye};
+ghost use Rattle.rx_mailbox.specs.Ends.{AreOf, HasBye, HasEachBye};
 ghost use Rattle.rx_mailbox.specs.Passes.{inbox_of, IsReader};
 ghost use Rattle.rx_mailbox.specs.Settling.{IsEachOnce, GotAll, CanHold, IsCause};
 
@@ -22,7 +22,7 @@ pub fn settle<B: Drop>(
     inbox: Inbox<B>,
     ports: Vec<EndedPort<B>, Heap>,
 ) -> Result<Settled<B>, Unsettled<B>>
-    requires { All (λ port. port.box ≡ inbox.box) ports.items }
+    requires { AreOf inbox ports.items }
     ensures received { IfOk result (λ settled. settled ≡ inbox) }
     ensures whole { IfOk result (λ settled. IsEachOnce inbox.ports ports.items × HasEachBye inbox) }
     ensures shares { IfOk result (λ settled. All (GotAll inbox) ports.items) }
@@ -88,7 +88,10 @@ fn has_each_once<B: Drop>(ports: &[EndedPort<B>], made: usize) -> bool
 fn count<B: Drop>(ports: &[EndedPort<B>], number: usize) -> usize
     ensures { result ≡ count_by (λ port. port.number == number) ports.now }
 {
-    ports.iter().filter(|port| port.number() as usize == number).count()
+    ports
+        .iter()
+        .filter(|port| port.number() as usize == number)
+        .count()
 }
 
 // Joins the pass of an ended port into that of the inbox, which received its Bye: then all that the port put was

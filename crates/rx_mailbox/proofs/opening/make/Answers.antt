@@ -1,8 +1,10 @@
 use Rattle.std.proofs.Common.{rules, ◌≡◌, false}
 use Rattle.std.proofs.Math.ListN.{replicate}
 use Rattle.crossbeam_channel.specs.Claims.{view}
+use Rattle.std.proofs.lemmas.List.Elements.{All-same}
+use Rattle.rx_mailbox.specs.Ends.{Outgoing}
 use Rattle.rx_mailbox.specs.Passes.{box_of}
-use Rattle.rx_mailbox.proofs.NewPorts.{ports_more}
+use Rattle.rx_mailbox.proofs.NewPorts.{ports_more, of_one_box}
 use Rattle.rx_mailbox.proofs.Steps.{begins}
 use Rattle.rx_mailbox.proofs.Tally.{first_tally}
 use Rattle.rx_mailbox.proofs.opening.make.Goals as goal
@@ -24,3 +26,8 @@ invariant_of-inbox g c =
     let none : c.in_ok-byes.byes.items ≡ replicate c.args.senders false = search rules in
     let first = first_tally c.in_ok-byes.byes.items c.args.senders (view c.loop-number.pass) none (search rules) in
     (search rules, first.0, first.1)
+
+pub returns-clause-parts : goal.returns-clause-parts
+returns-clause-parts g c =
+    let box = box_of c.loop-number.pass in
+    All-same (λ (port : Outgoing _). port.box ≡ box) _ _ c.loop-number.invariant.ports (of_one_box box c.loop-number.number 0)
