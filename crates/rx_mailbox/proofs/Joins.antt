@@ -1,9 +1,10 @@
 -- What the joining of ended ports shows.
-use Rattle.std.proofs.Common.{◌≡◌, ◌≢◌, ◌⊎◌, ◌+◌, ◌<◌, ℕ, zero, suc, Bool, true, List, [], ◌∷◌, ◌++◌, length, refl, sym, ap, ◌∙◌, subst, inl, inr, ⊎_elim, arith}
-use Rattle.std.specs.List.{All, Contains}
-use Rattle.std.proofs.lemmas.Bool.{cases_eq}
+use Rattle.std.proofs.Common.{◌≡◌, ◌≢◌, ◌⊎◌, ◌+◌, ◌*◌, ◌<◌, ◌≤◌, ◌==◌, ℕ, suc, Bool, true, cond, List, [], ◌∷◌, ◌++◌, length, refl, sym, ap, ◌∙◌, subst, inl, inr, ⊎_elim, ne_eqb, arith}
+use Rattle.std.specs.List.{All, Contains, count_by, sum_by}
+use Rattle.std.proofs.lemmas.Bool.{cases_eq, cases_lt}
 use Rattle.std.proofs.lemmas.List.{append-nil}
-use Rattle.std.proofs.lemmas.List.Elements.{All-nil, All-cons, All-contains, Contains-push, filter-append}
+use Rattle.std.proofs.lemmas.List.Elements.{All-nil, All-cons, All-contains, All-weaker, Contains-push, filter-append}
+use Rattle.std.proofs.lemmas.List.Sums.{sum_by-le}
 use Rattle.rx_mailbox.specs.declared.letter.Letter.{Letter}
 use Rattle.rx_mailbox.specs.declared.rule.View.{View}
 use Rattle.rx_mailbox.specs.declared.rule.View.TheVariants.{Sends, Receives}
@@ -46,16 +47,29 @@ module _ {B : Type 0} where
       (λ apart. ⊎_elim (λ t. inl (t.0, (suc t.1.0, (let k = t.1.1 in omega arith), t.1.2), t.2)) (λ none. inr (All-cons (λ (p : Outgoing B). p.number ≢ number) port ports apart none)) (named ports number))
       (cases_eq port.number number)
 
-  -- where all was received that the ports put, the queue can hold nothing
-  pub nothing_left : (inbox : Incoming B) (ports : List (Outgoing B)) → All (GotAll inbox) ports → (queue : List (Letter B)) → CanHold inbox ports queue → queue ≡ []
-  nothing_left inbox ports got queue holds = no_letters queue (λ number. ⊎_elim
-      (λ t.
+  -- where one port has a number, it is one of them
+  found : (ports : List (Outgoing B)) (number : ℕ) → count_by (λ port. port.number == number) ports ≡ 1 → (port : Outgoing B) × Contains ports port × (port.number ≡ number)
+  found ports number one = ⊎_elim
+      (λ t. t)
+      (λ none.
+      let f : Outgoing B → ℕ = λ port. cond (port.number == number) 1 0 in
+      let small : All (λ port. f port ≤ 0) ports = All-weaker (λ (port : Outgoing B). port.number ≢ number) (λ port. f port ≤ 0)
+      (λ port apart. let zero : f port ≡ 0 = ap (λ b. cond b 1 0) (ne_eqb port.number number apart) in omega arith) ports none in
+      let bound : sum_by f ports ≤ length ports * 0 = sum_by-le f 0 ports small in
+      absurd (omega arith))
+      (named ports number)
+
+  -- where all was received that the ports of a box put, the queue can hold nothing
+  pub nothing_left : (inbox : Incoming B) (ports : List (Outgoing B)) → IsEachOnce inbox.ports ports → All (GotAll inbox) ports → (queue : List (Letter B)) → CanHold inbox ports queue → queue ≡ []
+  nothing_left inbox ports once got queue holds = no_letters queue (λ number. ⊎_elim
+      (λ below.
+      let t = found ports number (once.1 number below) in
       let put : share t.0.number (inbox.received ++ queue) ≡ t.0.own = All-contains (λ (port : Outgoing B). share port.number (inbox.received ++ queue) ≡ port.own) ports t.0 holds.0 t.1 in
       let came : share t.0.number inbox.received ≡ t.0.own = All-contains (GotAll inbox) ports t.0 got t.1 in
       let none : share t.0.number queue ≡ [] = added_nothing (share t.0.number inbox.received) (share t.0.number queue) (sym (filter-append _ inbox.received queue) ∙ put ∙ sym came) in
       ap (λ n. share n queue) (sym t.2) ∙ none)
-      (λ other. end_is_nil (share number inbox.received) (share number queue) (sym (filter-append _ inbox.received queue) ∙ holds.1 number other))
-      (named ports number))
+      (λ above. end_is_nil (share number inbox.received) (share number queue) (sym (filter-append _ inbox.received queue) ∙ holds.1 number above))
+      (cases_lt number inbox.ports))
 
   -- the same of equal numbers and lists
   pub IsEachOnce-same : (made other : ℕ) (ports others : List (Outgoing B)) → made ≡ other → ports ≡ others → IsEachOnce made ports → IsEachOnce other others

@@ -10,8 +10,7 @@ use Rattle.rx_mailbox.specs.declared.rule.View.{View}
 use Rattle.rx_mailbox.specs.declared.rule.View.TheVariants.{Receives}
 use Rattle.rx_mailbox.specs.Letters.{share, ends, has_bye}
 use Rattle.rx_mailbox.specs.Settling.{counted}
-use Rattle.rx_mailbox.specs.Steps.{Takes}
-use Rattle.rx_mailbox.specs.Passes.{made_of, taken_of, notes_of, IsReader, IsTally}
+use Rattle.rx_mailbox.specs.Passes.{made_of, taken_of, notes_of, IsReader, TakesOne, IsTally}
 use Rattle.rx_mailbox.proofs.Letters.{share-own, share-other}
 
 mark_here : (is_bye : Bool) (byes : List Bool) (port : ℕ) → port < length byes → get_or (cond is_bye (set byes port true) byes) port false ≡ (get_or byes port false || is_bye)
@@ -27,11 +26,6 @@ mark_length true byes from = length-set byes from true
 mark_length false byes from = refl
 
 module _ {B : Type 0} where
-  -- what taking a letter tells the inbox's pass
-  pub taken_one : (v w : View B) (x : Letter B) → IsReader v → Takes v x w
-      → (w ≡ Receives (made_of v) (taken_of v ++ x ∷ []) (notes_of v)) × (x.from < made_of v) × (has_bye (share x.from (taken_of v)) ≡ false)
-  taken_one v w x is tells = subst (λ u. Takes u x w) is.view_is tells
-
   -- whether a port's Bye came, after one more letter of the port
   byes_own : (byes : List Bool) (x : Letter B) (taken : List (Letter B)) → x.from < length byes → get_or byes x.from false ≡ has_bye (share x.from taken)
       → get_or (cond (ends x.post) (set byes x.from true) byes) x.from false ≡ has_bye (share x.from (taken ++ x ∷ []))
@@ -54,13 +48,12 @@ module _ {B : Type 0} where
   counted_more taken x = let n : length (taken ++ x ∷ []) ≡ length taken + 1 = length_push taken x in omega arith
 
   -- the tally after one more letter
-  pub tally_more : (byes later : List Bool) (letters count : ℕ) (v w : View B) (x : Letter B) → IsReader v → Takes v x w → IsTally byes letters v
+  pub tally_more : (byes later : List Bool) (letters count : ℕ) (v w : View B) (x : Letter B) → TakesOne v x w → IsTally byes letters v
       → later ≡ cond (ends x.post) (set byes x.from true) byes → count ≡ min (letters + 1) (2 ^ 64 - 1) → IsReader w × IsTally later count w
-  tally_more byes later letters count v w x is tells was later_is count_is =
-      let one = taken_one v w x is tells in
+  tally_more byes later letters count v w x takes was later_is count_is =
       let made : ℕ = made_of v in
       let same_length : length byes ≡ made = was.ports in
-      subst (λ (u : View B). IsReader u × IsTally later count u) (sym one.0) (
+      subst (λ (u : View B). IsReader u × IsTally later count u) (sym takes.view_is) (
         record { view_is = refl },
         record {
           ports = ap length later_is ∙ mark_length (ends x.post) byes x.from ∙ was.ports;

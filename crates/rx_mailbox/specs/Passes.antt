@@ -1,5 +1,5 @@
 -- How a port and an inbox are kept: by the view of a pass of the box's channel.
-use Rattle.std.specs.Prelude.{◌≡◌, ◌<◌, ◌^◌, ◌-◌, min, ℕ, Bool, true, false, List, [], length, slice_index_or}
+use Rattle.std.specs.Prelude.{◌≡◌, ◌<◌, ℕ, Bool, false, List, [], ◌∷◌, ◌++◌, length, slice_index_or}
 use Rattle.crossbeam_channel.specs.Claims.{Pass, view}
 use Rattle.rx_mailbox.specs.declared.letter.Letter.{Letter}
 use Rattle.rx_mailbox.specs.declared.rule.View.{View}
@@ -53,6 +53,12 @@ module _ {B : Type 0} where
   -- the view is the inbox's
   pub record IsReader (v : View B) : Type 0 where
     pub view_is : v ≡ Receives (made_of v) (taken_of v) (notes_of v)
+
+  -- the inbox's view took this letter, of a port whose Bye had not come
+  pub record TakesOne (before : View B) (x : Letter B) (after : View B) : Type 0 where
+    pub view_is : after ≡ Receives (made_of before) (taken_of before ++ x ∷ []) (notes_of before)
+    pub of_port : x.from < made_of before
+    pub before_bye : has_bye (share x.from (taken_of before)) ≡ false
 
   -- what the inbox keeps beside its view: whose Byes came, and how many letters
   pub record IsTally (byes : List Bool) (letters : ℕ) (v : View B) : Type 0 where

@@ -1,14 +1,14 @@
-// The channel of a box, and the one way in which a port puts a letter.
+// The channel of a box, the one way in which a port puts a letter, and the one in which the inbox takes one.
 ghost use Rattle.std.specs.Prelude.{◌≡◌, ◌++◌, ◌∷◌, [], false, MatchResult};
 ghost use Rattle.crossbeam_channel.specs.Claims.{view, IsSeatAt};
-ghost use Rattle.crossbeam_channel.specs.Ends.{sends_on};
+ghost use Rattle.crossbeam_channel.specs.Ends.{sends_on, receives_on};
 ghost use Rattle.rx_mailbox.specs.declared.rule.View.TheVariants.{Sends};
 ghost use Rattle.rx_mailbox.specs.Letters.{letter};
-ghost use Rattle.rx_mailbox.specs.Passes.{box_of, own_of, IsPort};
+ghost use Rattle.rx_mailbox.specs.Passes.{own_of, IsPort, IsReader, TakesOne};
 
 use crate::letter::{Letter, Post};
-use crate::rule::{MailboxRule, Put, View};
-use crossbeam_channel::{Pass, RuledReceiver, RuledSender};
+use crate::rule::{MailboxRule, Put, Take, View};
+use crossbeam_channel::{Pass, RecvError, RuledReceiver, RuledSender};
 use rx_heap::Heap;
 use std::sync::Wait;
 
@@ -39,4 +39,18 @@ pub fn put<B: Drop, R: Wait>(
     };
     let Letter { from: _, post } = error.into_inner();
     Err(post)
+}
+
+// Takes the letter at the front. `Err` where none will come any more.
+pub fn take<B: Drop, R: Wait>(
+    rt: &R,
+    receiver: &BoxReceiver<B>,
+    pass: &mut BoxPass<B>,
+) -> Result<Letter<B>, RecvError>
+    requires pass { IsSeatAt (receives_on receiver.now) pass.old }
+    requires reader { IsReader (view pass.old) }
+    ensures pass { IsSeatAt (receives_on receiver.now) pass.new }
+    ensures taken { MatchResult result (λ letter. TakesOne (view pass.old) letter (view pass.new)) (λ _. view pass.new ≡ view pass.old) }
+{
+    receiver.recv_as::<Take, R>(rt, pass)
 }

@@ -2,9 +2,8 @@ ghost use Rattle.std.specs.Prelude.{◌≡◌, ◌<◌, ◌↔◌, true, if◌th
 ghost use Rattle.rx_mailbox.specs.Letters.{ends};
 ghost use Rattle.rx_mailbox.specs.Ends.{with_letter, HasBye, HasEachBye};
 
-use crate::channel::{BoxPass, BoxReceiver};
+use crate::channel::{BoxPass, BoxReceiver, take};
 use crate::letter::{Letter, Post};
-use crate::rule::Take;
 use rx_heap::Heap;
 use std::error::Error;
 use std::fmt;
@@ -57,8 +56,7 @@ impl<B: Drop> Inbox<B> {
         ensures port { IfOk result (λ letter. letter.from < self.old.ports) }
         ensures before_bye { IfOk result (λ letter. ¬ HasBye self.old letter.from) }
     {
-        let received = self.receiver.recv_as::<Take, R>(rt, &mut self.pass);
-        let Ok(letter) = received else {
+        let Ok(letter) = take(rt, &self.receiver, &mut self.pass) else {
             return Err(Gone);
         };
         mark(&mut self.byes, &letter);

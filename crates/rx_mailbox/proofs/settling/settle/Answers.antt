@@ -46,4 +46,5 @@ returns-clause-empty g c =
     let items = c.args.ports.items in
     let given = c.into_iter-port-iterator.ensures.into_iter_gives in
     let ended = YieldsList-end (YieldsList-from_vec items given.0 (given.1 ∙ c.args.ports.ok.0)) c.loop-port.yielded _ c.loop-port.yielded_by c.next.result c.next.new.self c.in-None.is c.next.ensures.steps in
-    nothing_left c.args.inbox items (All-same (GotAll c.args.inbox) items c.loop-port.yielded (sym ended.0 ∙ map-id c.loop-port.yielded) c.loop-port.invariant.got)
+    let once = IsEachOnce-same _ _ _ _ c.ports.ensures c.as_slice.ensures.value (c.is_each_once.ensures.0 c.if-not-is_each_once.false) in
+    nothing_left c.args.inbox items once (All-same (GotAll c.args.inbox) items c.loop-port.yielded (sym ended.0 ∙ map-id c.loop-port.yielded) c.loop-port.invariant.got)
