@@ -1,9 +1,10 @@
 -- What the joining of ended ports shows.
 use Rattle.std.proofs.Common.{◌≡◌, ◌≢◌, ◌⊎◌, ◌+◌, ◌*◌, ◌<◌, ◌≤◌, ◌==◌, ℕ, suc, Bool, true, cond, List, [], ◌∷◌, ◌++◌, length, refl, sym, ap, ◌∙◌, subst, inl, inr, ⊎_elim, ne_eqb, arith}
+use mathlib.Core.Option.{some}
 use Rattle.std.specs.List.{All, Contains, count_by, sum_by}
 use Rattle.std.proofs.lemmas.Bool.{cases_eq, cases_lt}
 use Rattle.std.proofs.lemmas.List.{append-nil}
-use Rattle.std.proofs.lemmas.List.Elements.{All-nil, All-cons, All-contains, All-weaker, Contains-push, filter-append}
+use Rattle.std.proofs.lemmas.List.Elements.{All-nil, All-cons, All-push, All-contains, All-weaker, Contains-push, Contains-append_left, filter-append}
 use Rattle.std.proofs.lemmas.List.Sums.{sum_by-le}
 use Rattle.rx_mailbox.specs.declared.letter.Letter.{Letter}
 use Rattle.rx_mailbox.specs.declared.rule.View.{View}
@@ -11,8 +12,9 @@ use Rattle.rx_mailbox.specs.declared.rule.View.TheVariants.{Sends, Receives}
 use Rattle.rx_mailbox.specs.Letters.{share, has_bye, NothingAfterBye}
 use Rattle.rx_mailbox.specs.Ends.{Outgoing, Incoming}
 use Rattle.rx_mailbox.specs.Steps.{noted, Shows}
-use Rattle.rx_mailbox.specs.Passes.{own_of, made_of, taken_of, notes_of, IsPort, IsReader}
+use Rattle.rx_mailbox.specs.Passes.{own_of, made_of, taken_of, notes_of, IsPort, IsReader, LeavesEmpty}
 use Rattle.rx_mailbox.specs.Settling.{IsEachOnce, GotAll, CanHold}
+use Rattle.rx_mailbox.proofs.Steps.{shows}
 use Rattle.rx_mailbox.proofs.Letters.{end_is_nil, no_letters, nothing_after}
 
 added_nothing : {X : Type 0} (xs ys : List X) → xs ++ ys ≡ xs → ys ≡ []
@@ -74,3 +76,26 @@ module _ {B : Type 0} where
   -- the same of equal numbers and lists
   pub IsEachOnce-same : (made other : ℕ) (ports others : List (Outgoing B)) → made ≡ other → ports ≡ others → IsEachOnce made ports → IsEachOnce other others
   IsEachOnce-same made other ports others n e each = subst (λ k. IsEachOnce k others) n (subst (λ l. IsEachOnce made l) e each)
+
+  -- one more port was noted
+  pub noted_more : (notes later : List (ℕ × List (Letter B))) (ports : List (Outgoing B)) (port : Outgoing B) → later ≡ notes ++ (port.number, port.own) ∷ []
+      → All (λ port. Contains notes (port.number, port.own)) ports → All (λ port. Contains later (port.number, port.own)) (ports ++ port ∷ [])
+  noted_more notes later ports port is noted_yet =
+      let has : List (ℕ × List (Letter B)) → Outgoing B → Type 0 = λ l p. Contains l (p.number, p.own) in
+      subst (λ l. All (has l) (ports ++ port ∷ [])) (sym is)
+          (All-push (has (notes ++ (port.number, port.own) ∷ [])) ports port
+              (All-weaker (has notes) (has (notes ++ (port.number, port.own) ∷ [])) (λ p here. Contains-append_left notes ((port.number, port.own) ∷ []) (p.number, p.own) here) ports noted_yet)
+              (Contains-push notes (port.number, port.own)))
+
+  -- where each port was noted and received whole, the rule leaves the queue empty
+  pub leaves_empty : (v : View B) (inbox : Incoming B) (ports : List (Outgoing B)) → IsReader v → made_of v ≡ inbox.ports → taken_of v ≡ inbox.received
+      → All (λ port. Contains (notes_of v) (port.number, port.own)) ports → ((queue : List (Letter B)) → CanHold inbox ports queue → queue ≡ []) → LeavesEmpty v
+  leaves_empty v inbox ports reader made taken noted_all nothing queue views pass rule at =
+      let shown = shows pass (made_of v) (taken_of v) (notes_of v) queue views rule (at ∙ ap some reader.view_is) in
+      let put : ℕ → List (Letter B) → Type 0 = λ number own. share number (inbox.received ++ queue) ≡ own in
+      let moved : (number : ℕ) → share number (inbox.received ++ queue) ≡ share number (taken_of v ++ queue) = λ number. ap (λ l. share number (l ++ queue)) (sym taken) in
+      nothing queue (
+        All-weaker (λ (port : Outgoing B). Contains (notes_of v) (port.number, port.own)) (λ port. put port.number port.own)
+            (λ port here. moved port.number ∙ All-contains (λ (note : ℕ × List (Letter B)). share note.0 (taken_of v ++ queue) ≡ note.1) (notes_of v) (port.number, port.own) shown.1 here) ports noted_all,
+        λ number above. moved number ∙ shown.2 number (omega arith),
+      )

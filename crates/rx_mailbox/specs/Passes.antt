@@ -1,10 +1,13 @@
 -- How a port and an inbox are kept: by the view of a pass of the box's channel.
 use Rattle.std.specs.Prelude.{◌≡◌, ◌<◌, ℕ, Bool, false, List, [], ◌∷◌, ◌++◌, length, slice_index_or}
+use mathlib.Core.Option.{some}
+use lib.ListN.{get_elem?}
 use Rattle.crossbeam_channel.specs.Claims.{Pass, view}
 use Rattle.rx_mailbox.specs.declared.letter.Letter.{Letter}
 use Rattle.rx_mailbox.specs.declared.rule.View.{View}
 use Rattle.rx_mailbox.specs.declared.rule.View.TheVariants.{Sends, Receives, Spent}
 use Rattle.rx_mailbox.specs.Letters.{share, has_bye}
+use Rattle.rx_mailbox.specs.Rule.{KeepsShares}
 use Rattle.rx_mailbox.specs.Settling.{counted}
 use Rattle.rx_mailbox.specs.Ends.{Box, Outgoing, outgoing, Incoming, incoming}
 
@@ -59,6 +62,10 @@ module _ {B : Type 0} where
     pub view_is : after ≡ Receives (made_of before) (taken_of before ++ x ∷ []) (notes_of before)
     pub of_port : x.from < made_of before
     pub before_bye : has_bye (share x.from (taken_of before)) ≡ false
+
+  -- wherever the rule holds and a pass has this view, the queue is empty
+  abbrev pub LeavesEmpty : View B → Type 0
+  LeavesEmpty v = (queue : List (Letter B)) (views : List (View B)) (pass : ℕ) → KeepsShares queue views → get_elem? views pass ≡ some v → queue ≡ []
 
   -- what the inbox keeps beside its view: whose Byes came, and how many letters
   pub record IsTally (byes : List Bool) (letters : ℕ) (v : View B) : Type 0 where

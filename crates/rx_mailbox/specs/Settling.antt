@@ -2,8 +2,8 @@
 use Rattle.std.specs.Prelude.{◌≡◌, ◌==◌, ◌<◌, ◌≤◌, ◌^◌, ◌-◌, min, ℕ, List, [], ◌++◌, length}
 use Rattle.std.specs.List.{All, count_by}
 use Rattle.rx_mailbox.specs.declared.letter.Letter.{Letter}
-use Rattle.rx_mailbox.specs.declared.cause.Cause.{Cause}
-use Rattle.rx_mailbox.specs.declared.cause.Cause.TheVariants.{Stranger, MissingBye}
+use Rattle.rx_mailbox.specs.declared.settle_cause.SettleCause.{SettleCause}
+use Rattle.rx_mailbox.specs.declared.settle_cause.SettleCause.TheVariants.{Stranger, MissingBye}
 use Rattle.rx_mailbox.specs.Letters.{share}
 use Rattle.rx_mailbox.specs.Ends.{Outgoing, Incoming, HasEachBye}
 
@@ -25,7 +25,7 @@ module _ {B : Type 0} where
       × ((number : ℕ) → inbox.ports ≤ number → share number (inbox.received ++ queue) ≡ [])
 
   -- why an inbox and ports did not settle
-  abbrev pub IsCause : Incoming B → List (Outgoing B) → Cause → Type 0
+  abbrev pub IsCause : Incoming B → List (Outgoing B) → SettleCause → Type 0
   IsCause inbox ports Stranger = ¬ IsEachOnce inbox.ports ports
   IsCause inbox ports MissingBye = IsEachOnce inbox.ports ports × ¬ HasEachBye inbox
 

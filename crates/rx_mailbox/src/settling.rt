@@ -1,13 +1,13 @@
-ghost use Rattle.std.specs.Prelude.{◌≡◌, ◌==◌, ◌<◌, ◌↔◌, ℕ, List, [], IsTrue, IfOk, IfErr, MatchResult, vec_len};
+ghost use Rattle.std.specs.Prelude.{◌≡◌, ◌==◌, ◌<◌, ◌↔◌, ℕ, List, [], ◌∷◌, ◌++◌, IsTrue, IfOk, IfErr, MatchResult, vec_len};
 ghost use Rattle.std.specs.List.{All, count_by};
 ghost use Rattle.crossbeam_channel.specs.Claims.{view};
 ghost use Rattle.rx_mailbox.specs.declared.letter.Letter.{Letter};
 ghost use Rattle.rx_mailbox.specs.Letters.{share};
 ghost use Rattle.rx_mailbox.specs.Ends.{AreOf, HasBye, HasEachBye};
-ghost use Rattle.rx_mailbox.specs.Passes.{inbox_of, IsReader};
+ghost use Rattle.rx_mailbox.specs.Passes.{inbox_of, notes_of, IsReader};
 ghost use Rattle.rx_mailbox.specs.Settling.{IsEachOnce, GotAll, CanHold, IsCause};
 
-use crate::cause::Cause;
+use crate::settle_cause::SettleCause;
 use crate::channel::BoxPass;
 use crate::ended_port::EndedPort;
 use crate::inbox::Inbox;
@@ -34,14 +34,14 @@ pub fn settle<B: Drop>(
 {
     if !is_each_once(ports.as_slice(), inbox.ports()) {
         return Err(Unsettled {
-            cause: Cause::Stranger,
+            cause: SettleCause::Stranger,
             inbox,
             ports,
         });
     }
     if !inbox.has_each_bye() {
         return Err(Unsettled {
-            cause: Cause::MissingBye,
+            cause: SettleCause::MissingBye,
             inbox,
             ports,
         });
@@ -104,6 +104,7 @@ fn join<B: Drop>(pass: &mut BoxPass<B>, port: EndedPort<B>)
     ensures reader { IsReader (view pass.new) }
     ensures free { pass.new.me.1 ≡ [] }
     ensures same { inbox_of pass.new ≡ inbox_of pass.old }
+    ensures noted { notes_of (view pass.new) ≡ notes_of (view pass.old) ++ (port.number, port.own) ∷ [] }
     ensures got { GotAll (inbox_of pass.old) port }
 {
     let EndedPort {

@@ -7,7 +7,7 @@ ghost use Rattle.rx_mailbox.specs.Settling.{GotAll};
 ghost use Rattle.rx_mailbox.specs.Tests.{all_of, after_all};
 
 use crate::{
-    Cause, EndedPort, Gone, Inbox, MAX_CAPACITY, MAX_PORTS, OpenError, Port, Post, Settled, open,
+    SettleCause, EndedPort, Gone, Inbox, MAX_CAPACITY, MAX_PORTS, OpenError, Port, Post, Settled, open,
     settle,
 };
 use rx_heap::Heap;
@@ -93,7 +93,7 @@ fn refuse<B: Drop>(
     rt: &impl Abort,
     inbox: Inbox<B>,
     ports: Vec<EndedPort<B>, Heap>,
-    cause: Cause,
+    cause: SettleCause,
 ) -> (Inbox<B>, Vec<EndedPort<B>, Heap>)
     requires { AreOf inbox ports.items }
     ensures inbox { result.0 ≡ inbox }
@@ -120,7 +120,7 @@ fn refuse_alone<B: Drop>(
     ensures port { result.1 ≡ port }
 {
     let ports = vec![in alloc; port].expect(rt, "memory");
-    let (inbox, mut ports) = refuse(rt, inbox, ports, Cause::Stranger);
+    let (inbox, mut ports) = refuse(rt, inbox, ports, SettleCause::Stranger);
     let port = ports.pop().expect(rt, "the port is back");
     (inbox, port)
 }
@@ -164,7 +164,7 @@ fn run_on_one_thread<B: Sample>(rt: &(impl Wait + Abort), alloc: &Heap) {
     receive(rt, &mut inbox, 0, Post::Bye);
     let (inbox, first) = refuse_alone(rt, copy(rt, alloc), inbox, first);
     let ports = vec![in copy(rt, alloc); first, second].expect(rt, "memory");
-    let (mut inbox, ports) = refuse(rt, inbox, ports, Cause::MissingBye);
+    let (mut inbox, ports) = refuse(rt, inbox, ports, SettleCause::MissingBye);
     receive(rt, &mut inbox, 1, Post::Bye);
     close(rt, inbox, ports, 5);
 }

@@ -1,4 +1,4 @@
-use crate::cause::Cause;
+use crate::settle_cause::SettleCause;
 use crate::ended_port::EndedPort;
 use crate::inbox::Inbox;
 use rx_heap::Heap;
@@ -6,7 +6,7 @@ use rx_heap::Heap;
 /// The parts of a box that did not settle, as they were.
 #[derive(Drop)]
 pub struct Unsettled<B: Drop> {
-    pub cause: Cause,
+    pub cause: SettleCause,
     pub inbox: Inbox<B>,
     pub ports: Vec<EndedPort<B>, Heap>,
 }
