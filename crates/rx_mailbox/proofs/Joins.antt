@@ -10,9 +10,9 @@ use Rattle.rx_mailbox.specs.declared.letter.Letter.{Letter}
 use Rattle.rx_mailbox.specs.declared.rule.View.{View}
 use Rattle.rx_mailbox.specs.declared.rule.View.TheVariants.{Sends, Receives}
 use Rattle.rx_mailbox.specs.Letters.{share, has_bye, NothingAfterBye}
-use Rattle.rx_mailbox.specs.Ends.{Outgoing, Incoming}
+use Rattle.rx_mailbox.specs.Ends.{Outgoing, Incoming, HasBye, HasEachBye}
 use Rattle.rx_mailbox.specs.Steps.{noted, Shows}
-use Rattle.rx_mailbox.specs.Passes.{own_of, made_of, taken_of, notes_of, IsPort, IsReader, LeavesEmpty}
+use Rattle.rx_mailbox.specs.Passes.{own_of, made_of, taken_of, notes_of, IsPort, IsReader, IsNoted, LeavesEmpty}
 use Rattle.rx_mailbox.specs.Settling.{IsEachOnce, GotAll, CanHold}
 use Rattle.rx_mailbox.proofs.Steps.{shows}
 use Rattle.rx_mailbox.proofs.Letters.{end_is_nil, no_letters, nothing_after}
@@ -73,29 +73,34 @@ module _ {B : Type 0} where
       (λ above. end_is_nil (share number inbox.received) (share number queue) (sym (filter-append _ inbox.received queue) ∙ holds.1 number above))
       (cases_lt number inbox.ports))
 
-  -- the same of equal numbers and lists
+  -- the same of an equal number and an equal list
   pub IsEachOnce-same : (made other : ℕ) (ports others : List (Outgoing B)) → made ≡ other → ports ≡ others → IsEachOnce made ports → IsEachOnce other others
   IsEachOnce-same made other ports others n e each = subst (λ k. IsEachOnce k others) n (subst (λ l. IsEachOnce made l) e each)
 
   -- one more port was noted
-  pub noted_more : (notes later : List (ℕ × List (Letter B))) (ports : List (Outgoing B)) (port : Outgoing B) → later ≡ notes ++ (port.number, port.own) ∷ []
-      → All (λ port. Contains notes (port.number, port.own)) ports → All (λ port. Contains later (port.number, port.own)) (ports ++ port ∷ [])
-  noted_more notes later ports port is noted_yet =
-      let has : List (ℕ × List (Letter B)) → Outgoing B → Type 0 = λ l p. Contains l (p.number, p.own) in
-      subst (λ l. All (has l) (ports ++ port ∷ [])) (sym is)
-          (All-push (has (notes ++ (port.number, port.own) ∷ [])) ports port
-              (All-weaker (has notes) (has (notes ++ (port.number, port.own) ∷ [])) (λ p here. Contains-append_left notes ((port.number, port.own) ∷ []) (p.number, p.own) here) ports noted_yet)
-              (Contains-push notes (port.number, port.own)))
+  pub noted_more : (v w : View B) (ports : List (Outgoing B)) (port : Outgoing B) → notes_of w ≡ notes_of v ++ (port.number, port.own) ∷ [] → All (IsNoted v) ports → All (IsNoted w) (ports ++ port ∷ [])
+  noted_more v w ports port is noted_yet =
+      let Has : List (ℕ × List (Letter B)) → Outgoing B → Type 0 = λ l p. Contains l (p.number, p.own) in
+      let more = notes_of v ++ (port.number, port.own) ∷ [] in
+      subst (λ l. All (Has l) (ports ++ port ∷ [])) (sym is)
+          (All-push (Has more) ports port
+              (All-weaker (IsNoted v) (Has more) (λ p here. Contains-append_left (notes_of v) ((port.number, port.own) ∷ []) (p.number, p.own) here) ports noted_yet)
+              (Contains-push (notes_of v) (port.number, port.own)))
+
+  -- of each port of a box, its Bye was received
+  pub byes_of_all : (inbox : Incoming B) (ports : List (Outgoing B)) → IsEachOnce inbox.ports ports → HasEachBye inbox → All (λ port. HasBye inbox port.number) ports
+  byes_of_all inbox ports once byes = All-weaker (λ (port : Outgoing B). port.number < inbox.ports) (λ port. HasBye inbox port.number) (λ port below. byes port.number below) ports once.0
 
   -- where each port was noted and received whole, the rule leaves the queue empty
-  pub leaves_empty : (v : View B) (inbox : Incoming B) (ports : List (Outgoing B)) → IsReader v → made_of v ≡ inbox.ports → taken_of v ≡ inbox.received
-      → All (λ port. Contains (notes_of v) (port.number, port.own)) ports → ((queue : List (Letter B)) → CanHold inbox ports queue → queue ≡ []) → LeavesEmpty v
-  leaves_empty v inbox ports reader made taken noted_all nothing queue views pass rule at =
+  pub leaves_empty : (v : View B) (inbox seen : Incoming B) (ports : List (Outgoing B)) → IsReader v → seen ≡ inbox → made_of v ≡ seen.ports → taken_of v ≡ seen.received
+      → All (IsNoted v) ports → IsEachOnce inbox.ports ports → All (GotAll inbox) ports → LeavesEmpty v
+  leaves_empty v inbox seen ports reader same made_is taken_is noted_all once got queue views pass rule at =
+      let made : made_of v ≡ inbox.ports = made_is ∙ ap (λ (i : Incoming B). i.ports) same in
+      let taken : taken_of v ≡ inbox.received = taken_is ∙ ap (λ (i : Incoming B). i.received) same in
       let shown = shows pass (made_of v) (taken_of v) (notes_of v) queue views rule (at ∙ ap some reader.view_is) in
-      let put : ℕ → List (Letter B) → Type 0 = λ number own. share number (inbox.received ++ queue) ≡ own in
       let moved : (number : ℕ) → share number (inbox.received ++ queue) ≡ share number (taken_of v ++ queue) = λ number. ap (λ l. share number (l ++ queue)) (sym taken) in
-      nothing queue (
-        All-weaker (λ (port : Outgoing B). Contains (notes_of v) (port.number, port.own)) (λ port. put port.number port.own)
+      nothing_left inbox ports once got queue (
+        All-weaker (IsNoted v) (λ port. share port.number (inbox.received ++ queue) ≡ port.own)
             (λ port here. moved port.number ∙ All-contains (λ (note : ℕ × List (Letter B)). share note.0 (taken_of v ++ queue) ≡ note.1) (notes_of v) (port.number, port.own) shown.1 here) ports noted_all,
         λ number above. moved number ∙ shown.2 number (omega arith),
       )

@@ -1,5 +1,6 @@
 -- How a port and an inbox are kept: by the view of a pass of the box's channel.
 use Rattle.std.specs.Prelude.{◌≡◌, ◌<◌, ℕ, Bool, false, List, [], ◌∷◌, ◌++◌, length, slice_index_or}
+use Rattle.std.specs.List.{Contains}
 use mathlib.Core.Option.{some}
 use lib.ListN.{get_elem?}
 use Rattle.crossbeam_channel.specs.Claims.{Pass, view}
@@ -62,6 +63,10 @@ module _ {B : Type 0} where
     pub view_is : after ≡ Receives (made_of before) (taken_of before ++ x ∷ []) (notes_of before)
     pub of_port : x.from < made_of before
     pub before_bye : has_bye (share x.from (taken_of before)) ≡ false
+
+  -- the inbox's view has a note of the port, with all that the port put
+  abbrev pub IsNoted : View B → Outgoing B → Type 0
+  IsNoted v port = Contains (notes_of v) (port.number, port.own)
 
   -- wherever the rule holds and a pass has this view, the queue is empty
   abbrev pub LeavesEmpty : View B → Type 0

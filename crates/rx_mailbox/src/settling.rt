@@ -4,7 +4,7 @@ ghost use Rattle.crossbeam_channel.specs.Claims.{view};
 ghost use Rattle.rx_mailbox.specs.declared.letter.Letter.{Letter};
 ghost use Rattle.rx_mailbox.specs.Letters.{share};
 ghost use Rattle.rx_mailbox.specs.Ends.{AreOf, HasBye, HasEachBye};
-ghost use Rattle.rx_mailbox.specs.Passes.{inbox_of, notes_of, IsReader};
+ghost use Rattle.rx_mailbox.specs.Passes.{inbox_of, notes_of, IsReader, IsNoted};
 ghost use Rattle.rx_mailbox.specs.Settling.{IsEachOnce, GotAll, CanHold, IsCause};
 
 use crate::settle_cause::SettleCause;
@@ -32,7 +32,7 @@ pub fn settle<B: Drop>(
     ensures back { IfErr result (λ back. (back.inbox ≡ inbox) × (back.ports.items ≡ ports.items)) }
     ensures cause { IfErr result (λ back. IsCause inbox ports.items back.cause) }
 {
-    if !is_each_once(ports.as_slice(), inbox.ports()) {
+    if !is_each_once(&inbox, &ports) {
         return Err(Unsettled {
             cause: SettleCause::Stranger,
             inbox,
@@ -52,16 +52,16 @@ pub fn settle<B: Drop>(
         byes: _,
         letters,
     } = inbox;
-    for port in ports {
-        join(&mut pass, port);
-    }
+    join_all(&mut pass, ports);
     Ok(Settled { pass, letters })
 }
 
-// Whether these are the ports numbered from 0 up to `made`, each once.
-fn is_each_once<B: Drop>(ports: &[EndedPort<B>], made: usize) -> bool
-    ensures { IsTrue result ↔ IsEachOnce made ports.now }
+// Whether these are the ports of the inbox's box by number, each once.
+fn is_each_once<B: Drop>(inbox: &Inbox<B>, ports: &Vec<EndedPort<B>, Heap>) -> bool
+    ensures { IsTrue result ↔ IsEachOnce inbox.now.ports ports.now.items }
 {
+    let made = inbox.ports();
+    let ports = ports.as_slice();
     are_below(ports, made) && has_each_once(ports, made)
 }
 
@@ -94,8 +94,23 @@ fn count<B: Drop>(ports: &[EndedPort<B>], number: usize) -> usize
         .count()
 }
 
-// Joins the pass of an ended port into that of the inbox, which received its Bye: then all that the port put was
-// received.
+// Joins the passes of ended ports into that of the inbox, which received their Byes: then all that they put was received.
+fn join_all<B: Drop>(pass: &mut BoxPass<B>, ports: Vec<EndedPort<B>, Heap>)
+    requires reader { IsReader (view pass.old) }
+    requires free { pass.old.me.1 ≡ [] }
+    requires from_box { AreOf (inbox_of pass.old) ports.items }
+    requires byes { All (λ port. HasBye (inbox_of pass.old) port.number) ports.items }
+    ensures reader { IsReader (view pass.new) }
+    ensures same { inbox_of pass.new ≡ inbox_of pass.old }
+    ensures noted { All (IsNoted (view pass.new)) ports.items }
+    ensures got { All (GotAll (inbox_of pass.old)) ports.items }
+{
+    for port in ports {
+        join(pass, port);
+    }
+}
+
+// Joins the pass of one of them.
 fn join<B: Drop>(pass: &mut BoxPass<B>, port: EndedPort<B>)
     requires reader { IsReader (view pass.old) }
     requires free { pass.old.me.1 ≡ [] }

@@ -1,69 +1,39 @@
-use Rattle.std.proofs.Common.{◌≡◌, ◌∙◌, ◌<◌, true, sym, ap, subst, map-id, rules}
-use Rattle.std.proofs.lemmas.Iterator.Consumers.{YieldsList-turn, YieldsList-end}
-use Rattle.std.proofs.lemmas.Iterator.Adapters.{YieldsList-from_vec}
-use Rattle.std.proofs.lemmas.List.Elements.{All-push, All-same}
-use Rattle.std.specs.List.{Contains}
+use Rattle.std.proofs.Common.{◌≡◌, ◌∙◌, true, sym, refl, subst, rules}
+use Rattle.std.specs.List.{All}
 use Rattle.crossbeam_channel.specs.Claims.{view}
-use Rattle.rx_mailbox.specs.Passes.{made_of, taken_of, notes_of}
 use Rattle.rx_mailbox.specs.Ends.{Outgoing, Incoming, HasBye}
+use Rattle.rx_mailbox.specs.Passes.{inbox_of}
 use Rattle.rx_mailbox.specs.Settling.{GotAll}
-use Rattle.rx_mailbox.proofs.Joins.{IsEachOnce-same, nothing_left, noted_more, leaves_empty}
+use Rattle.rx_mailbox.proofs.Joins.{nothing_left, byes_of_all, leaves_empty}
 use Rattle.rx_mailbox.proofs.settling.settle.Goals as goal
-
-pub returns-then-not-is_each_once-clause-cause : goal.returns-then-not-is_each_once-clause-cause
-returns-then-not-is_each_once-clause-cause g c each =
-    let yes : c.is_each_once.result ≡ true = c.is_each_once.ensures.1 (IsEachOnce-same _ _ _ _ (sym c.ports.ensures) (sym c.as_slice.ensures.value) each) in cc
 
 pub returns-then-not-has_each_bye-clause-cause : goal.returns-then-not-has_each_bye-clause-cause
 returns-then-not-has_each_bye-clause-cause g c = (
-  IsEachOnce-same _ _ _ _ c.ports.ensures c.as_slice.ensures.value (c.is_each_once.ensures.0 c.if-not-is_each_once.false),
+  c.is_each_once.ensures.0 c.if-not-is_each_once.false,
   λ byes. let yes : c.has_each_bye.result ≡ true = c.has_each_bye.ensures.1 byes in cc,
 )
 
-pub join-requires-clause-bye : goal.join-requires-clause-bye
-join-requires-clause-bye g c =
-    let items = c.args.ports.items in
-    let given = c.into_iter-port-iterator.ensures.into_iter_gives in
-    let turn = YieldsList-turn (YieldsList-from_vec items given.0 (given.1 ∙ c.args.ports.ok.0)) c.loop-port.yielded _ c.loop-port.yielded_by c.next.result c.next.new.self c.in-Some.port c.in-Some.is c.next.ensures.steps in
-    let each = IsEachOnce-same _ _ _ _ c.ports.ensures c.as_slice.ensures.value (c.is_each_once.ensures.0 c.if-not-is_each_once.false) in
-    let P : Outgoing _ → Type 0 = λ port. port.number < c.args.inbox.ports in
-    let below = subst P (sym turn.1) (each.0 _ c.in-Some.port turn.0) in
-    subst (λ (inbox : Incoming _). HasBye inbox c.in-Some.port.number) (sym c.loop-port.invariant.same) (c.has_each_bye.ensures.0 c.if-not-has_each_bye.false c.in-Some.port.number below)
-
-pub loop-port-preserved : goal.loop-port-preserved
-loop-port-preserved g c = record {
-  reader = c.join.ensures.reader;
-  free = c.join.ensures.free;
-  same = c.join.ensures.same ∙ c.loop-port.invariant.same;
-  noted = noted_more _ _ _ c.in-Some.port c.join.ensures.noted c.loop-port.invariant.noted;
-  got = All-push (GotAll c.args.inbox) _ _ c.loop-port.invariant.got (subst (λ (inbox : Incoming _). GotAll inbox c.in-Some.port) c.loop-port.invariant.same c.join.ensures.got);
-}
+pub join_all-requires-clause-byes : goal.join_all-requires-clause-byes
+join_all-requires-clause-byes g c =
+    let ports = c.args.ports.items in
+    let byes = byes_of_all c.args.inbox ports (c.is_each_once.ensures.0 c.if-not-is_each_once.false) (c.has_each_bye.ensures.0 c.if-not-has_each_bye.false) in
+    subst (λ (inbox : Incoming _). All (λ (port : Outgoing _). HasBye inbox port.number) ports) (sym c.inbox.view_is) byes
 
 pub returns-clause-whole : goal.returns-clause-whole
-returns-clause-whole g c = (
-  IsEachOnce-same _ _ _ _ c.ports.ensures c.as_slice.ensures.value (c.is_each_once.ensures.0 c.if-not-is_each_once.false),
-  c.has_each_bye.ensures.0 c.if-not-has_each_bye.false,
-)
+returns-clause-whole g c =
+    (c.is_each_once.ensures.0 c.if-not-is_each_once.false, c.has_each_bye.ensures.0 c.if-not-has_each_bye.false)
 
 pub returns-clause-empty : goal.returns-clause-empty
 returns-clause-empty g c =
-    let items = c.args.ports.items in
-    let given = c.into_iter-port-iterator.ensures.into_iter_gives in
-    let ended = YieldsList-end (YieldsList-from_vec items given.0 (given.1 ∙ c.args.ports.ok.0)) c.loop-port.yielded _ c.loop-port.yielded_by c.next.result c.next.new.self c.in-None.is c.next.ensures.steps in
-    let once = IsEachOnce-same _ _ _ _ c.ports.ensures c.as_slice.ensures.value (c.is_each_once.ensures.0 c.if-not-is_each_once.false) in
-    nothing_left c.args.inbox items once (All-same (GotAll c.args.inbox) items c.loop-port.yielded (sym ended.0 ∙ map-id c.loop-port.yielded) c.loop-port.invariant.got)
+    let ports = c.args.ports.items in
+    let once = c.is_each_once.ensures.0 c.if-not-is_each_once.false in
+    nothing_left c.args.inbox ports once (subst (λ (inbox : Incoming _). All (GotAll inbox) ports) c.inbox.view_is c.join_all.ensures.got)
 
 pub invariant_of-result : goal.invariant_of-result
 invariant_of-result g c =
-    let items = c.args.ports.items in
-    let inbox = c.args.inbox in
-    let v = view c.loop-port.pass in
-    let given = c.into_iter-port-iterator.ensures.into_iter_gives in
-    let ended = YieldsList-end (YieldsList-from_vec items given.0 (given.1 ∙ c.args.ports.ok.0)) c.loop-port.yielded _ c.loop-port.yielded_by c.next.result c.next.new.self c.in-None.is c.next.ensures.steps in
-    let all = sym ended.0 ∙ map-id c.loop-port.yielded in
-    let once = IsEachOnce-same _ _ _ _ c.ports.ensures c.as_slice.ensures.value (c.is_each_once.ensures.0 c.if-not-is_each_once.false) in
-    let got = All-same (GotAll inbox) items c.loop-port.yielded all c.loop-port.invariant.got in
-    let noted = All-same (λ (port : Outgoing _). Contains (notes_of v) (port.number, port.own)) items c.loop-port.yielded all c.loop-port.invariant.noted in
-    let made : made_of v ≡ inbox.ports = ap (λ (i : Incoming _). i.ports) c.loop-port.invariant.same in
-    let taken : taken_of v ≡ inbox.received = ap (λ (i : Incoming _). i.received) c.loop-port.invariant.same in
-    (leaves_empty v inbox items c.loop-port.invariant.reader made taken noted (nothing_left inbox items once got), search rules)
+    let ports = c.args.ports.items in
+    let pass = c.join_all.new.pass in
+    let once = c.is_each_once.ensures.0 c.if-not-is_each_once.false in
+    let got = subst (λ (inbox : Incoming _). All (GotAll inbox) ports) c.inbox.view_is c.join_all.ensures.got in
+    let same = c.join_all.ensures.same ∙ c.inbox.view_is in
+    (leaves_empty (view pass) c.args.inbox (inbox_of pass) ports c.join_all.ensures.reader same refl refl c.join_all.ensures.noted once got, search rules)
