@@ -1,5 +1,5 @@
 -- What the joining of ended ports shows.
-use Rattle.std.proofs.Common.{◌≡◌, ◌≢◌, ◌⊎◌, ◌+◌, ◌*◌, ◌<◌, ◌≤◌, ◌==◌, ℕ, suc, Bool, true, cond, List, [], ◌∷◌, ◌++◌, length, refl, sym, ap, ◌∙◌, subst, inl, inr, ⊎_elim, ne_eqb, arith}
+use Rattle.std.proofs.Common.{◌≡◌, ◌≢◌, ◌⊎◌, ◌*◌, ◌<◌, ◌≤◌, ◌==◌, ℕ, suc, Bool, true, cond, List, [], ◌∷◌, ◌++◌, length, refl, sym, ap, ◌∙◌, subst, inl, inr, ⊎_elim, ne_eqb, arith}
 use mathlib.Core.Option.{some}
 use Rattle.std.specs.List.{All, Contains, count_by, sum_by}
 use Rattle.std.proofs.lemmas.Bool.{cases_eq, cases_lt}
@@ -8,7 +8,7 @@ use Rattle.std.proofs.lemmas.List.Elements.{All-nil, All-cons, All-push, All-con
 use Rattle.std.proofs.lemmas.List.Sums.{sum_by-le}
 use Rattle.rx_mailbox.specs.declared.letter.Letter.{Letter}
 use Rattle.rx_mailbox.specs.declared.rule.View.{View}
-use Rattle.rx_mailbox.specs.declared.rule.View.TheVariants.{Sends, Receives}
+use Rattle.rx_mailbox.specs.declared.rule.View.TheVariants.{Receives}
 use Rattle.rx_mailbox.specs.Letters.{share, has_bye, NothingAfterBye}
 use Rattle.rx_mailbox.specs.Ends.{Outgoing, Incoming, HasBye, HasEachBye}
 use Rattle.rx_mailbox.specs.Steps.{noted, Shows}
@@ -83,9 +83,9 @@ module _ {B : Type 0} where
       let Has : List (ℕ × List (Letter B)) → Outgoing B → Type 0 = λ l p. Contains l (p.number, p.own) in
       let more = notes_of v ++ (port.number, port.own) ∷ [] in
       subst (λ l. All (Has l) (ports ++ port ∷ [])) (sym is)
-          (All-push (Has more) ports port
-              (All-weaker (IsNoted v) (Has more) (λ p here. Contains-append_left (notes_of v) ((port.number, port.own) ∷ []) (p.number, p.own) here) ports noted_yet)
-              (Contains-push (notes_of v) (port.number, port.own)))
+      (All-push (Has more) ports port
+      (All-weaker (IsNoted v) (Has more) (λ p here. Contains-append_left (notes_of v) ((port.number, port.own) ∷ []) (p.number, p.own) here) ports noted_yet)
+      (Contains-push (notes_of v) (port.number, port.own)))
 
   -- of each port of a box, its Bye was received
   pub byes_of_all : (inbox : Incoming B) (ports : List (Outgoing B)) → IsEachOnce inbox.ports ports → HasEachBye inbox → All (λ port. HasBye inbox port.number) ports

@@ -10,7 +10,7 @@ use Rattle.rx_mailbox.specs.declared.rule.View.{View}
 use Rattle.rx_mailbox.specs.declared.rule.View.TheVariants.{Receives}
 use Rattle.rx_mailbox.specs.Letters.{share, ends, has_bye}
 use Rattle.rx_mailbox.specs.Settling.{counted}
-use Rattle.rx_mailbox.specs.Passes.{made_of, taken_of, notes_of, IsReader, TakesOne, IsTally}
+use Rattle.rx_mailbox.specs.Passes.{made_of, taken_of, IsReader, TakesOne, IsTally}
 use Rattle.rx_mailbox.proofs.Letters.{share-own, share-other}
 
 mark_here : (is_bye : Bool) (byes : List Bool) (port : ℕ) → port < length byes → get_or (cond is_bye (set byes port true) byes) port false ≡ (get_or byes port false || is_bye)

@@ -8,7 +8,7 @@ ghost use Rattle.rx_mailbox.specs.Ends.{incoming, outgoing, AreOf};
 ghost use Rattle.rx_mailbox.specs.Sizes.{IsSize};
 ghost use Rattle.rx_mailbox.specs.Passes.{box_of};
 
-use crate::channel::{BoxPass, BoxReceiver, BoxSender};
+use crate::channel::{BoxPass, BoxSender};
 use crate::inbox::Inbox;
 use crate::letter::Letter;
 use crate::port::Port;
@@ -24,11 +24,12 @@ pub const MAX_CAPACITY: usize = 65_536;
 /// The greatest number of ports of a box.
 pub const MAX_PORTS: u32 = 256;
 
-/// Why a box was not opened.
+/// Why a box was not opened: `BadSize` before `Memory`.
 #[derive(Clone, Copy, Debug, PartialEq, Eq)]
 pub enum OpenError {
     /// The capacity is not 1 to 65,536, or the number of senders is not 1 to 256.
     BadSize,
+    /// There was no memory for it, and nothing was made.
     Memory,
 }
 
@@ -43,7 +44,8 @@ impl fmt::Display for OpenError {
 
 impl Error for OpenError {}
 
-/// Makes a box for as many letters as `capacity` says: its inbox, and its ports, numbered from 0.
+/// Makes a box that holds up to `capacity` letters: its inbox, and as many ports as `senders` says, numbered from 0. It
+/// takes all its memory here.
 pub fn open<B: Drop>(
     alloc: Heap,
     capacity: usize,

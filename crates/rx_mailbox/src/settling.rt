@@ -1,23 +1,23 @@
-ghost use Rattle.std.specs.Prelude.{◌≡◌, ◌==◌, ◌<◌, ◌↔◌, ℕ, List, [], ◌∷◌, ◌++◌, IsTrue, IfOk, IfErr, MatchResult, vec_len};
+ghost use Rattle.std.specs.Prelude.{◌≡◌, ◌==◌, ◌<◌, ◌↔◌, ℕ, List, [], ◌∷◌, ◌++◌, IsTrue, IfOk, IfErr};
 ghost use Rattle.std.specs.List.{All, count_by};
 ghost use Rattle.crossbeam_channel.specs.Claims.{view};
 ghost use Rattle.rx_mailbox.specs.declared.letter.Letter.{Letter};
-ghost use Rattle.rx_mailbox.specs.Letters.{share};
 ghost use Rattle.rx_mailbox.specs.Ends.{AreOf, HasBye, HasEachBye};
 ghost use Rattle.rx_mailbox.specs.Passes.{inbox_of, notes_of, IsReader, IsNoted};
 ghost use Rattle.rx_mailbox.specs.Settling.{IsEachOnce, GotAll, CanHold, IsCause};
 
-use crate::settle_cause::SettleCause;
 use crate::channel::BoxPass;
 use crate::ended_port::EndedPort;
 use crate::inbox::Inbox;
 use crate::rule::{JoinPort, Show};
+use crate::settle_cause::SettleCause;
 use crate::settled::Settled;
 use crate::unsettled::Unsettled;
 use rx_heap::Heap;
 
 /// Ends a box of which each port has ended and each Bye was received: of each port all that it put was received, in its
-/// order, and nothing is left in the box. It waits for no letter.
+/// order, and nothing is left in the box. It takes no memory and waits for no letter. `Err` gives all parts back: first
+/// `Stranger`, then `MissingBye`.
 pub fn settle<B: Drop>(
     inbox: Inbox<B>,
     ports: Vec<EndedPort<B>, Heap>,

@@ -1,5 +1,5 @@
 // What no clause says: that calls succeed, and that two threads get on.
-ghost use Rattle.std.specs.Prelude.{◌≡◌, [], ◌∷◌, ◌++◌};
+ghost use Rattle.std.specs.Prelude.{◌≡◌, []};
 ghost use Rattle.rx_mailbox.specs.declared.letter.Post.TheVariants.{Body, Bye};
 ghost use Rattle.rx_mailbox.specs.Letters.{share};
 ghost use Rattle.rx_mailbox.specs.Ends.{outgoing, incoming, with_post, AreOf};
@@ -7,15 +7,15 @@ ghost use Rattle.rx_mailbox.specs.Settling.{GotAll};
 ghost use Rattle.rx_mailbox.specs.Tests.{all_of, after_all};
 
 use crate::{
-    SettleCause, EndedPort, Gone, Inbox, MAX_CAPACITY, MAX_PORTS, OpenError, Port, Post, Settled, open,
-    settle,
+    EndedPort, Gone, Inbox, MAX_CAPACITY, MAX_PORTS, OpenError, Port, Post, SettleCause, Settled,
+    open, settle,
 };
 use rx_heap::Heap;
 use std::process::Abort;
 use std::sync::Wait;
 use std::thread::{Threads, join};
 
-// A body that the rows are run with.
+// A body that a box is tried with.
 trait Sample: Drop + PartialEq {
     fn sample(rt: &impl Abort, alloc: Heap, number: u8) -> Self;
 }

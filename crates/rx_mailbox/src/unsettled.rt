@@ -1,9 +1,9 @@
-use crate::settle_cause::SettleCause;
 use crate::ended_port::EndedPort;
 use crate::inbox::Inbox;
+use crate::settle_cause::SettleCause;
 use rx_heap::Heap;
 
-/// The parts of a box that did not settle, as they were.
+/// The parts of a box that did not settle, as they were handed in, and why.
 #[derive(Drop)]
 pub struct Unsettled<B: Drop> {
     pub cause: SettleCause,
