@@ -10,7 +10,7 @@ use Rattle.rx_mailbox.specs.declared.letter.Letter.{Letter}
 use Rattle.rx_mailbox.specs.declared.rule.View.{View}
 use Rattle.rx_mailbox.specs.declared.rule.View.TheVariants.{Receives}
 use Rattle.rx_mailbox.specs.Letters.{share, has_bye, NothingAfterBye}
-use Rattle.rx_mailbox.specs.Ends.{Outgoing, Incoming, HasBye, HasEachBye}
+use Rattle.rx_mailbox.specs.Boxes.{Outgoing, Incoming, HasBye, HasEachBye}
 use Rattle.rx_mailbox.specs.Steps.{noted, Shows}
 use Rattle.rx_mailbox.specs.Passes.{own_of, made_of, taken_of, notes_of, IsPort, IsReader, IsNoted, LeavesEmpty}
 use Rattle.rx_mailbox.specs.Settling.{IsEachOnce, GotAll, CanHold}

@@ -3,7 +3,7 @@ use Rattle.std.proofs.Common.{◌≡◌, ◌+◌, ℕ, List, [], ◌∷◌, ◌+
 use Rattle.std.specs.List.{All, range_with_len}
 use Rattle.std.proofs.lemmas.List.Elements.{All-map}
 use Rattle.std.proofs.lemmas.List.FromFn.{map-range_with_len_more}
-use Rattle.rx_mailbox.specs.Ends.{Box, Outgoing, outgoing}
+use Rattle.rx_mailbox.specs.Boxes.{Box, Outgoing, outgoing}
 
 module _ {B : Type 0} where
   -- one more new port, with the next number

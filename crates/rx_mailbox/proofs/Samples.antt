@@ -5,7 +5,7 @@ use Rattle.std.proofs.lemmas.List.Elements.{All-same}
 use Rattle.std.proofs.lemmas.List.FromFn.{map-range_with_len_more}
 use Rattle.rx_mailbox.specs.declared.letter.Post.TheVariants.{Body, Bye}
 use Rattle.rx_mailbox.specs.Letters.{letter, share}
-use Rattle.rx_mailbox.specs.Ends.{Outgoing, outgoing, Incoming, with_post}
+use Rattle.rx_mailbox.specs.Boxes.{Outgoing, outgoing, Incoming, with_post}
 use Rattle.rx_mailbox.specs.Settling.{GotAll}
 use Rattle.rx_mailbox.specs.Tests.{bodies_of, all_of, after_all}
 

@@ -1,5 +1,5 @@
 pub mod Letters
-pub mod Ends
+pub mod Boxes
 pub mod Sizes
 pub mod Settling
 pub mod Rule

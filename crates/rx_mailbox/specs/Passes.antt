@@ -1,4 +1,4 @@
--- How a port and an inbox are kept: by the view of a pass of the box's channel.
+-- How a port, an inbox and a settled box are kept: by the view of a pass of the box's channel.
 use Rattle.std.specs.Prelude.{◌≡◌, ◌<◌, ℕ, Bool, false, List, [], ◌∷◌, ◌++◌, length, slice_index_or}
 use Rattle.std.specs.List.{Contains}
 use mathlib.Core.Option.{some}
@@ -10,7 +10,7 @@ use Rattle.rx_mailbox.specs.declared.rule.View.TheVariants.{Sends, Receives, Spe
 use Rattle.rx_mailbox.specs.Letters.{share, has_bye}
 use Rattle.rx_mailbox.specs.Rule.{KeepsShares}
 use Rattle.rx_mailbox.specs.Settling.{counted}
-use Rattle.rx_mailbox.specs.Ends.{Box, Outgoing, outgoing, Incoming, incoming}
+use Rattle.rx_mailbox.specs.Boxes.{Box, Outgoing, outgoing, Incoming, incoming}
 
 module _ {B : Type 0} where
   -- the letters that a port's view has

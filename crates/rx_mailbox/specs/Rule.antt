@@ -31,8 +31,8 @@ module _ {B : Type 0} (all : List (Letter B)) (seat : ℕ → Option ℕ) where
     pub ended : (port : ℕ) → NothingAfterBye (share port all)
     pub known : (pass : ℕ) (v : View B) → get_elem? views pass ≡ some v → Fits reader received pass v
 
--- The rule: the letters received, followed by those in the queue, are all that were ever put. So of each port whose
--- pass is not spent, the received letters followed by those in the queue are the port's own list
+-- The rule: the letters received, followed by those in the queue, are all that were ever put. So of each port whose pass
+-- is not spent, the received letters followed by those in the queue are the port's own list, whole and in its order
 abbrev pub KeepsShares : {B : Type 0} → List (Letter B) → List (View B) → Type 0
 KeepsShares {B} queue views =
     (seat : ℕ → Option ℕ) × (reader : ℕ) × (received : List (Letter B)) × Keeps (received ++ queue) seat reader received views

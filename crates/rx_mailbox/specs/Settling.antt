@@ -5,7 +5,7 @@ use Rattle.rx_mailbox.specs.declared.letter.Letter.{Letter}
 use Rattle.rx_mailbox.specs.declared.settle_cause.SettleCause.{SettleCause}
 use Rattle.rx_mailbox.specs.declared.settle_cause.SettleCause.TheVariants.{Stranger, MissingBye}
 use Rattle.rx_mailbox.specs.Letters.{share}
-use Rattle.rx_mailbox.specs.Ends.{Outgoing, Incoming, HasEachBye}
+use Rattle.rx_mailbox.specs.Boxes.{Outgoing, Incoming, HasEachBye}
 
 module _ {B : Type 0} where
   -- each number below `made` is that of just one of the ports, and no port has another number

@@ -1,5 +1,6 @@
--- The steps of a box. Each is one atomic step of the channel, and changes the view of the pass that makes it; a joining
--- also spends the other pass.
+-- The steps of a box (this project's own rule). Each is one atomic step of the channel, and changes the view of the pass
+-- that makes it; a joining also spends the other pass. A body and a Bye are put alike. An answer that the box is gone
+-- changes nothing.
 use Rattle.std.specs.Prelude.{◌≡◌, ◌<◌, ◌≤◌, ◌+◌, ℕ, List, [], ◌∷◌, ◌++◌, false}
 use Rattle.std.specs.List.{All}
 use Rattle.rx_mailbox.specs.declared.letter.Letter.{Letter}

@@ -4,7 +4,7 @@ use Rattle.std.specs.List.{range_with_len}
 use Rattle.rx_mailbox.specs.declared.letter.Letter.{Letter}
 use Rattle.rx_mailbox.specs.declared.letter.Post.TheVariants.{Body, Bye}
 use Rattle.rx_mailbox.specs.Letters.{letter}
-use Rattle.rx_mailbox.specs.Ends.{Outgoing, outgoing}
+use Rattle.rx_mailbox.specs.Boxes.{Outgoing, outgoing}
 
 -- the letters of a port with the bodies 0, 1, 2 and so on
 abbrev pub bodies_of : ℕ → ℕ → List (Letter ℕ)

@@ -16,7 +16,7 @@ impl<B: Drop> Model for EndedPort<B> {
     ghost use Rattle.std.specs.Prelude.{true};
     ghost use Rattle.crossbeam_channel.specs.Claims.{view as pass_view, IsSeatAt};
     ghost use Rattle.crossbeam_channel.specs.Ends.{sends_on};
-    ghost use Rattle.rx_mailbox.specs.Ends.{Outgoing};
+    ghost use Rattle.rx_mailbox.specs.Boxes.{Outgoing};
     ghost use Rattle.rx_mailbox.specs.Passes.{port_of, IsPort};
 
     ghost Value = { Outgoing B };

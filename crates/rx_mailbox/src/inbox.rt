@@ -1,6 +1,6 @@
 ghost use Rattle.std.specs.Prelude.{◌≡◌, ◌<◌, ◌↔◌, true, if◌then◌else◌, vec_len, slice_set, IsTrue, IfOk, MatchResult};
 ghost use Rattle.rx_mailbox.specs.Letters.{ends};
-ghost use Rattle.rx_mailbox.specs.Ends.{with_letter, HasBye, HasEachBye};
+ghost use Rattle.rx_mailbox.specs.Boxes.{with_letter, HasBye, HasEachBye};
 
 use crate::channel::{BoxPass, BoxReceiver, take};
 use crate::letter::{Letter, Post};
@@ -36,7 +36,7 @@ pub struct Inbox<B: Drop> {
 impl<B: Drop> Model for Inbox<B> {
     ghost use Rattle.crossbeam_channel.specs.Claims.{view as pass_view, IsSeatAt};
     ghost use Rattle.crossbeam_channel.specs.Ends.{receives_on};
-    ghost use Rattle.rx_mailbox.specs.Ends.{Incoming};
+    ghost use Rattle.rx_mailbox.specs.Boxes.{Incoming};
     ghost use Rattle.rx_mailbox.specs.Passes.{inbox_of, IsReader, IsTally};
 
     ghost Value = { Incoming B };

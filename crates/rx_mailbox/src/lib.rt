@@ -5,7 +5,7 @@
 //! to return.
 //!
 //! The crates above rest on [`settle`]: where each port of a box has ended and each Bye was received, the letters received
-//! of a port are just those that it put. `specs/Letters.antt`, `Ends.antt` and `Settling.antt` have the words of the
+//! of a port are just those that it put. `specs/Letters.antt`, `Boxes.antt` and `Settling.antt` have the words of the
 //! contracts; `Rule.antt` has the rule that the channel of a box keeps at every moment.
 #![tactic(auto)]
 

@@ -4,7 +4,7 @@ ghost use Rattle.crossbeam_channel.specs.Claims.{view, IsSeatAt};
 ghost use Rattle.crossbeam_channel.specs.Ends.{sends_on};
 ghost use Rattle.rx_mailbox.specs.declared.opening.OpenError.TheVariants.{BadSize};
 ghost use Rattle.rx_mailbox.specs.declared.rule.View.TheVariants.{Receives};
-ghost use Rattle.rx_mailbox.specs.Ends.{incoming, outgoing, AreOf};
+ghost use Rattle.rx_mailbox.specs.Boxes.{incoming, outgoing, AreOf};
 ghost use Rattle.rx_mailbox.specs.Sizes.{IsSize};
 ghost use Rattle.rx_mailbox.specs.Passes.{box_of};
 

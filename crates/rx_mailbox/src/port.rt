@@ -1,6 +1,6 @@
 ghost use Rattle.std.specs.Prelude.{◌≡◌, MatchResult};
 ghost use Rattle.rx_mailbox.specs.declared.letter.Post.TheVariants.{Body, Bye};
-ghost use Rattle.rx_mailbox.specs.Ends.{with_post};
+ghost use Rattle.rx_mailbox.specs.Boxes.{with_post};
 
 use crate::channel::{BoxPass, BoxSender, put};
 use crate::ended_port::EndedPort;
@@ -20,7 +20,7 @@ impl<B: Drop> Model for Port<B> {
     ghost use Rattle.std.specs.Prelude.{false};
     ghost use Rattle.crossbeam_channel.specs.Claims.{view as pass_view, IsSeatAt};
     ghost use Rattle.crossbeam_channel.specs.Ends.{sends_on};
-    ghost use Rattle.rx_mailbox.specs.Ends.{Outgoing};
+    ghost use Rattle.rx_mailbox.specs.Boxes.{Outgoing};
     ghost use Rattle.rx_mailbox.specs.Passes.{port_of, IsPort};
 
     ghost Value = { Outgoing B };

@@ -16,7 +16,7 @@ pub struct Settled<B: Drop> {
 impl<B: Drop> Model for Settled<B> {
     ghost use Rattle.std.specs.Prelude.{◌≡◌};
     ghost use Rattle.crossbeam_channel.specs.Claims.{view as pass_view};
-    ghost use Rattle.rx_mailbox.specs.Ends.{Incoming};
+    ghost use Rattle.rx_mailbox.specs.Boxes.{Incoming};
     ghost use Rattle.rx_mailbox.specs.Passes.{inbox_of, taken_of, LeavesEmpty};
     ghost use Rattle.rx_mailbox.specs.Settling.{counted};
 

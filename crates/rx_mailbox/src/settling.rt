@@ -2,7 +2,7 @@ ghost use Rattle.std.specs.Prelude.{◌≡◌, ◌==◌, ◌<◌, ◌↔◌, ℕ
 ghost use Rattle.std.specs.List.{All, count_by};
 ghost use Rattle.crossbeam_channel.specs.Claims.{view};
 ghost use Rattle.rx_mailbox.specs.declared.letter.Letter.{Letter};
-ghost use Rattle.rx_mailbox.specs.Ends.{AreOf, HasBye, HasEachBye};
+ghost use Rattle.rx_mailbox.specs.Boxes.{AreOf, HasBye, HasEachBye};
 ghost use Rattle.rx_mailbox.specs.Passes.{inbox_of, notes_of, IsReader, IsNoted};
 ghost use Rattle.rx_mailbox.specs.Settling.{IsEachOnce, GotAll, CanHold, IsCause};
 
@@ -24,7 +24,7 @@ pub fn settle<B: Drop>(
 ) -> Result<Settled<B>, Unsettled<B>>
     requires { AreOf inbox ports.items }
     ensures received { IfOk result (λ settled. settled ≡ inbox) }
-    ensures whole { IfOk result (λ settled. IsEachOnce inbox.ports ports.items × HasEachBye inbox) }
+    ensures complete { IfOk result (λ settled. IsEachOnce inbox.ports ports.items × HasEachBye inbox) }
     ensures shares { IfOk result (λ settled. All (GotAll inbox) ports.items) }
     ensures empty { IfOk result (λ settled. (queue : List (Letter B)) → CanHold inbox ports.items queue → queue ≡ []) }
 

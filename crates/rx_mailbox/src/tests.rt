@@ -2,7 +2,7 @@
 ghost use Rattle.std.specs.Prelude.{◌≡◌, []};
 ghost use Rattle.rx_mailbox.specs.declared.letter.Post.TheVariants.{Body, Bye};
 ghost use Rattle.rx_mailbox.specs.Letters.{share};
-ghost use Rattle.rx_mailbox.specs.Ends.{outgoing, incoming, with_post, AreOf};
+ghost use Rattle.rx_mailbox.specs.Boxes.{outgoing, incoming, with_post, AreOf};
 ghost use Rattle.rx_mailbox.specs.Settling.{GotAll};
 ghost use Rattle.rx_mailbox.specs.Tests.{all_of, after_all};
 

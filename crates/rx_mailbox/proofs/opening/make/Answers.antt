@@ -2,7 +2,7 @@ use Rattle.std.proofs.Common.{rules, ◌≡◌, false}
 use Rattle.std.proofs.Math.ListN.{replicate}
 use Rattle.crossbeam_channel.specs.Claims.{view}
 use Rattle.std.proofs.lemmas.List.Elements.{All-same}
-use Rattle.rx_mailbox.specs.Ends.{Outgoing}
+use Rattle.rx_mailbox.specs.Boxes.{Outgoing}
 use Rattle.rx_mailbox.specs.Passes.{box_of}
 use Rattle.rx_mailbox.proofs.NewPorts.{ports_more, of_one_box}
 use Rattle.rx_mailbox.proofs.Steps.{begins}

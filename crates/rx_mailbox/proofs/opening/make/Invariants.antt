@@ -3,7 +3,7 @@ use Rattle.std.specs.List.{range_with_len}
 use Rattle.crossbeam_channel.specs.Claims.{view, IsSeatAt}
 use Rattle.crossbeam_channel.specs.Ends.{sends_on}
 use Rattle.rx_mailbox.specs.declared.rule.View.TheVariants.{Receives}
-use Rattle.rx_mailbox.specs.Ends.{outgoing}
+use Rattle.rx_mailbox.specs.Boxes.{outgoing}
 use Rattle.rx_mailbox.specs.Passes.{box_of}
 use Rattle.rx_mailbox.proofs.opening.make.Given as goal
 

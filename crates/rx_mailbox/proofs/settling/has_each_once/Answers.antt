@@ -1,6 +1,6 @@
 use Rattle.std.proofs.Common.{◌≡◌, ◌==◌, ◌∙◌, sym, refl, arith}
 use Rattle.std.specs.List.{count_by}
-use Rattle.rx_mailbox.specs.Ends.{Outgoing}
+use Rattle.rx_mailbox.specs.Boxes.{Outgoing}
 use borrow.Author.Count.{below_more}
 use Rattle.rx_mailbox.proofs.settling.has_each_once.Goals as goal
 

@@ -1,6 +1,6 @@
 use Rattle.std.proofs.Common.{◌≡◌, ◌∙◌, sym, ap}
 use Rattle.crossbeam_channel.specs.Claims.{view}
-use Rattle.rx_mailbox.specs.Ends.{Outgoing}
+use Rattle.rx_mailbox.specs.Boxes.{Outgoing}
 use Rattle.rx_mailbox.specs.Letters.{share, has_bye}
 use Rattle.rx_mailbox.specs.Passes.{own_of, taken_of}
 use Rattle.rx_mailbox.proofs.Joins.{joined, got_all}

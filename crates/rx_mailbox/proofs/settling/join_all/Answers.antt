@@ -3,7 +3,7 @@ use Rattle.std.proofs.lemmas.Iterator.Consumers.{YieldsList-end}
 use Rattle.std.proofs.lemmas.Iterator.Adapters.{YieldsList-from_vec}
 use Rattle.std.proofs.lemmas.List.Elements.{All-push, All-same}
 use Rattle.crossbeam_channel.specs.Claims.{view}
-use Rattle.rx_mailbox.specs.Ends.{Incoming}
+use Rattle.rx_mailbox.specs.Boxes.{Incoming}
 use Rattle.rx_mailbox.specs.Passes.{inbox_of, IsNoted}
 use Rattle.rx_mailbox.specs.Settling.{GotAll}
 use Rattle.rx_mailbox.proofs.Joins.{noted_more}

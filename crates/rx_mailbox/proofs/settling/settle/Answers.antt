@@ -1,7 +1,7 @@
 use Rattle.std.proofs.Common.{◌≡◌, ◌∙◌, true, sym, refl, subst, rules}
 use Rattle.std.specs.List.{All}
 use Rattle.crossbeam_channel.specs.Claims.{view}
-use Rattle.rx_mailbox.specs.Ends.{Outgoing, Incoming, HasBye}
+use Rattle.rx_mailbox.specs.Boxes.{Outgoing, Incoming, HasBye}
 use Rattle.rx_mailbox.specs.Passes.{inbox_of}
 use Rattle.rx_mailbox.specs.Settling.{GotAll}
 use Rattle.rx_mailbox.proofs.Joins.{nothing_left, byes_of_all, leaves_empty}
@@ -19,8 +19,8 @@ join_all-requires-clause-byes g c =
     let byes = byes_of_all c.args.inbox ports (c.is_each_once.ensures.0 c.if-not-is_each_once.false) (c.has_each_bye.ensures.0 c.if-not-has_each_bye.false) in
     subst (λ (inbox : Incoming _). All (λ (port : Outgoing _). HasBye inbox port.number) ports) (sym c.inbox.view_is) byes
 
-pub returns-clause-whole : goal.returns-clause-whole
-returns-clause-whole g c =
+pub returns-clause-complete : goal.returns-clause-complete
+returns-clause-complete g c =
     (c.is_each_once.ensures.0 c.if-not-is_each_once.false, c.has_each_bye.ensures.0 c.if-not-has_each_bye.false)
 
 pub returns-clause-empty : goal.returns-clause-empty

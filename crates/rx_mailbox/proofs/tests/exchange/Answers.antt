@@ -1,6 +1,6 @@
 use Rattle.std.proofs.Common.{ℕ, ap}
 use Rattle.rx_mailbox.specs.declared.tests.TheConstants.{BODIES}
-use Rattle.rx_mailbox.specs.Ends.{Outgoing}
+use Rattle.rx_mailbox.specs.Boxes.{Outgoing}
 use Rattle.rx_mailbox.proofs.Samples.{got_bodies}
 use Rattle.rx_mailbox.proofs.tests.exchange.Goals as goal
 

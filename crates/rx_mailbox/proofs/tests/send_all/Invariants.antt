@@ -1,5 +1,5 @@
 use Rattle.std.proofs.Common.{◌≡◌}
-use Rattle.rx_mailbox.specs.Ends.{outgoing}
+use Rattle.rx_mailbox.specs.Boxes.{outgoing}
 use Rattle.rx_mailbox.specs.Tests.{bodies_of}
 use Rattle.rx_mailbox.proofs.tests.send_all.Given as goal
 
