@@ -1,0 +1,7 @@
+pub mod Letters
+pub mod Passes
+pub mod Steps
+pub mod Tally
+pub mod NewPorts
+pub mod Joins
+pub mod Samples

@@ -1,0 +1,15 @@
+use Rattle.std.proofs.Common.{ℕ, ap}
+use Rattle.rx_mailbox.specs.declared.tests.TheConstants.{BODIES}
+use Rattle.rx_mailbox.specs.Boxes.{Outgoing}
+use Rattle.rx_mailbox.proofs.Samples.{got_bodies}
+use Rattle.rx_mailbox.proofs.tests.exchange.Goals as goal
+
+pub returns-clause-first : goal.returns-clause-first
+returns-clause-first g c =
+    got_bodies c.settle_two.result c.two-inbox.result.1 c.join-first.result.0.0 0 BODIES
+    (ap (λ (p : Outgoing ℕ). p.number) c.two-inbox.ensures.first) c.join-first.ensures.first.0 c.settle_two.ensures.first
+
+pub returns-clause-second : goal.returns-clause-second
+returns-clause-second g c =
+    got_bodies c.settle_two.result c.two-inbox.result.2 c.join-first.result.0.1 1 BODIES
+    (ap (λ (p : Outgoing ℕ). p.number) c.two-inbox.ensures.second) c.join-first.ensures.first.1 c.settle_two.ensures.second

@@ -1,0 +1,55 @@
+-- What contracts see of a box: of a port its number and its own list, of an inbox its received list (this project's own
+-- rule).
+use Rattle.std.specs.Prelude.{◌≡◌, ◌<◌, ℕ, true, List, [], ◌∷◌, ◌++◌}
+use Rattle.std.specs.List.{All}
+use Rattle.atomic_table.specs.Seated.{TableId}
+use Rattle.atomic_table.specs.declared.badge.Badge.{Badge}
+use Rattle.crossbeam_channel.specs.declared.flavors.array.Key.{Key}
+use Rattle.rx_mailbox.specs.declared.letter.Letter.{Letter}
+use Rattle.rx_mailbox.specs.declared.letter.Post.{Post}
+use Rattle.rx_mailbox.specs.Letters.{letter, share, has_bye}
+
+-- which box: all parts that come from one `open` name the same
+abbrev pub Box : Type 0 → Type 0
+Box B = TableId × Badge (Key (Letter B))
+
+-- a port: its box, its number, and the letters that it put, in their order
+pub record Outgoing (B : Type 0) : Type 0 where
+  pub box : Box B
+  pub number : ℕ
+  pub own : List (Letter B)
+
+-- an inbox: its box, how many ports the box has, and the letters that it received, in their order
+pub record Incoming (B : Type 0) : Type 0 where
+  pub box : Box B
+  pub ports : ℕ
+  pub received : List (Letter B)
+
+module _ {B : Type 0} where
+  -- the port of this number that put these letters
+  abbrev pub outgoing : Box B → ℕ → List (Letter B) → Outgoing B
+  outgoing box number own = record { box = box; number = number; own = own }
+
+  -- the inbox of a box with so many ports that received these letters
+  abbrev pub incoming : Box B → ℕ → List (Letter B) → Incoming B
+  incoming box ports received = record { box = box; ports = ports; received = received }
+
+  -- the port after it put one more letter
+  abbrev pub with_post : Outgoing B → Post B → Outgoing B
+  with_post port post = outgoing port.box port.number (port.own ++ letter port.number post ∷ [])
+
+  -- the inbox after it received one more letter
+  abbrev pub with_letter : Incoming B → Letter B → Incoming B
+  with_letter inbox x = incoming inbox.box inbox.ports (inbox.received ++ x ∷ [])
+
+  -- the Bye of a port was received
+  abbrev pub HasBye : Incoming B → ℕ → Type 0
+  HasBye inbox port = has_bye (share port inbox.received) ≡ true
+
+  -- the Bye of each port was received
+  abbrev pub HasEachBye : Incoming B → Type 0
+  HasEachBye inbox = (port : ℕ) → port < inbox.ports → HasBye inbox port
+
+  -- the ports are of the inbox's box: they come from the same `open`
+  abbrev pub AreOf : Incoming B → List (Outgoing B) → Type 0
+  AreOf inbox ports = All (λ port. port.box ≡ inbox.box) ports

@@ -1,0 +1,79 @@
+-- How a port, an inbox and a settled box are kept: by the view of a pass of the box's channel.
+use Rattle.std.specs.Prelude.{◌≡◌, ◌<◌, ℕ, Bool, false, List, [], ◌∷◌, ◌++◌, length, slice_index_or}
+use Rattle.std.specs.List.{Contains}
+use mathlib.Core.Option.{some}
+use lib.ListN.{get_elem?}
+use Rattle.crossbeam_channel.specs.Claims.{Pass, view}
+use Rattle.rx_mailbox.specs.declared.letter.Letter.{Letter}
+use Rattle.rx_mailbox.specs.declared.rule.View.{View}
+use Rattle.rx_mailbox.specs.declared.rule.View.TheVariants.{Sends, Receives, Spent}
+use Rattle.rx_mailbox.specs.Letters.{share, has_bye}
+use Rattle.rx_mailbox.specs.Rule.{KeepsShares}
+use Rattle.rx_mailbox.specs.Settling.{counted}
+use Rattle.rx_mailbox.specs.Boxes.{Box, Outgoing, outgoing, Incoming, incoming}
+
+module _ {B : Type 0} where
+  -- the letters that a port's view has
+  abbrev pub own_of : View B → List (Letter B)
+  own_of (Sends port own) = own
+  own_of (Receives made taken notes) = []
+  own_of Spent = []
+
+  -- how many ports the inbox's view has made
+  abbrev pub made_of : View B → ℕ
+  made_of (Receives made taken notes) = made
+  made_of (Sends port own) = 0
+  made_of Spent = 0
+
+  -- the letters that the inbox's view has taken
+  abbrev pub taken_of : View B → List (Letter B)
+  taken_of (Receives made taken notes) = taken
+  taken_of (Sends port own) = []
+  taken_of Spent = []
+
+  -- the notes of the inbox's view
+  abbrev pub notes_of : View B → List (ℕ × List (Letter B))
+  notes_of (Receives made taken notes) = notes
+  notes_of (Sends port own) = []
+  notes_of Spent = []
+
+  -- the box that a pass belongs to
+  abbrev pub box_of : Pass (Letter B) (View B) → Box B
+  box_of pass = (pass.table_id, pass.me.0.of)
+
+  -- the port that a pass is kept for
+  abbrev pub port_of : ℕ → Pass (Letter B) (View B) → Outgoing B
+  port_of number pass = outgoing (box_of pass) number (own_of (view pass))
+
+  -- the inbox that a pass is kept for
+  abbrev pub inbox_of : Pass (Letter B) (View B) → Incoming B
+  inbox_of pass = incoming (box_of pass) (made_of (view pass)) (taken_of (view pass))
+
+  -- the view is that of the port with this number, which put its Bye or did not
+  pub record IsPort (number : ℕ) (ended : Bool) (v : View B) : Type 0 where
+    pub view_is : v ≡ Sends number (own_of v)
+    pub bye : has_bye (own_of v) ≡ ended
+
+  -- the view is the inbox's
+  pub record IsReader (v : View B) : Type 0 where
+    pub view_is : v ≡ Receives (made_of v) (taken_of v) (notes_of v)
+
+  -- the inbox's view took this letter, of a port whose Bye had not come
+  pub record TakesOne (before : View B) (x : Letter B) (after : View B) : Type 0 where
+    pub view_is : after ≡ Receives (made_of before) (taken_of before ++ x ∷ []) (notes_of before)
+    pub of_port : x.from < made_of before
+    pub before_bye : has_bye (share x.from (taken_of before)) ≡ false
+
+  -- the inbox's view has a note of the port, with all that the port put
+  abbrev pub IsNoted : View B → Outgoing B → Type 0
+  IsNoted v port = Contains (notes_of v) (port.number, port.own)
+
+  -- wherever the rule holds and a pass has this view, the queue is empty
+  abbrev pub LeavesEmpty : View B → Type 0
+  LeavesEmpty v = (queue : List (Letter B)) (views : List (View B)) (pass : ℕ) → KeepsShares queue views → get_elem? views pass ≡ some v → queue ≡ []
+
+  -- what the inbox keeps beside its view: whose Byes came, and how many letters
+  pub record IsTally (byes : List Bool) (letters : ℕ) (v : View B) : Type 0 where
+    pub ports : length byes ≡ made_of v
+    pub byes_are : (port : ℕ) → port < made_of v → slice_index_or byes port false ≡ has_bye (share port (taken_of v))
+    pub letters_are : letters ≡ counted (taken_of v)

@@ -1,0 +1,34 @@
+-- When a box settles, and what it has then received (this project's own rule).
+use Rattle.std.specs.Prelude.{◌≡◌, ◌==◌, ◌<◌, ◌≤◌, ◌^◌, ◌-◌, min, ℕ, List, [], ◌++◌, length}
+use Rattle.std.specs.List.{All, count_by}
+use Rattle.rx_mailbox.specs.declared.letter.Letter.{Letter}
+use Rattle.rx_mailbox.specs.declared.settle_cause.SettleCause.{SettleCause}
+use Rattle.rx_mailbox.specs.declared.settle_cause.SettleCause.TheVariants.{Stranger, MissingBye}
+use Rattle.rx_mailbox.specs.Letters.{share}
+use Rattle.rx_mailbox.specs.Boxes.{Outgoing, Incoming, HasEachBye}
+
+module _ {B : Type 0} where
+  -- each number below `made` is that of just one of the ports, and no port has another number
+  abbrev pub IsEachOnce : ℕ → List (Outgoing B) → Type 0
+  IsEachOnce made ports =
+      All (λ port. port.number < made) ports × ((number : ℕ) → number < made → count_by (λ port. port.number == number) ports ≡ 1)
+
+  -- what was received of the port is all that it put, in its order
+  abbrev pub GotAll : Incoming B → Outgoing B → Type 0
+  GotAll inbox port = share port.number inbox.received ≡ port.own
+
+  -- what the rule lets the queue hold beside this inbox and these ports: of each port, what was received followed by what
+  -- the queue holds is all that it put, and there is no letter of a number that the box does not have
+  abbrev pub CanHold : Incoming B → List (Outgoing B) → List (Letter B) → Type 0
+  CanHold inbox ports queue =
+      All (λ port. share port.number (inbox.received ++ queue) ≡ port.own) ports
+      × ((number : ℕ) → inbox.ports ≤ number → share number (inbox.received ++ queue) ≡ [])
+
+  -- why an inbox and ports did not settle
+  abbrev pub IsCause : Incoming B → List (Outgoing B) → SettleCause → Type 0
+  IsCause inbox ports Stranger = ¬ IsEachOnce inbox.ports ports
+  IsCause inbox ports MissingBye = IsEachOnce inbox.ports ports × ¬ HasEachBye inbox
+
+  -- how many letters these are, up to the greatest `u64`
+  abbrev pub counted : List (Letter B) → ℕ
+  counted received = min (length received) (2 ^ 64 - 1)

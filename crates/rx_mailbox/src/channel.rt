@@ -1,0 +1,56 @@
+// The channel of a box, the one way in which a port puts a letter, and the one in which the inbox takes one.
+ghost use Rattle.std.specs.Prelude.{◌≡◌, ◌++◌, ◌∷◌, [], false, MatchResult};
+ghost use Rattle.crossbeam_channel.specs.Claims.{view, IsSeatAt};
+ghost use Rattle.crossbeam_channel.specs.Ends.{sends_on, receives_on};
+ghost use Rattle.rx_mailbox.specs.declared.rule.View.TheVariants.{Sends};
+ghost use Rattle.rx_mailbox.specs.Letters.{letter};
+ghost use Rattle.rx_mailbox.specs.Passes.{own_of, IsPort, IsReader, TakesOne};
+
+use crate::letter::{Letter, Post};
+use crate::rule::{MailboxRule, Put, Take, View};
+use crossbeam_channel::{Pass, RecvError, RuledReceiver, RuledSender};
+use rx_heap::Heap;
+use std::sync::Wait;
+
+pub type BoxSender<B> = RuledSender<Letter<B>, View<B>, MailboxRule, Heap>;
+
+pub type BoxReceiver<B> = RuledReceiver<Letter<B>, View<B>, MailboxRule, Heap>;
+
+pub type BoxPass<B> = Pass<Letter<B>, View<B>>;
+
+// Puts a letter of the port at the back, or hands the post back.
+pub fn put<B: Drop, R: Wait>(
+    rt: &R,
+    sender: &BoxSender<B>,
+    pass: &mut BoxPass<B>,
+    number: u32,
+    post: Post<B>,
+) -> Result<(), Post<B>>
+    requires pass { IsSeatAt (sends_on sender.now) pass.old }
+    requires port { IsPort number false (view pass.old) }
+    ensures pass { IsSeatAt (sends_on sender.now) pass.new }
+    ensures put { MatchResult result
+        (λ _. view pass.new ≡ Sends number (own_of (view pass.old) ++ letter number post ∷ []))
+        (λ back. (back ≡ post) × (view pass.new ≡ view pass.old)) }
+{
+    let letter = Letter { from: number, post };
+    let Err(error) = sender.send_as::<Put, R>(rt, pass, letter) else {
+        return Ok(());
+    };
+    let Letter { from: _, post } = error.into_inner();
+    Err(post)
+}
+
+// Takes the letter at the front. `Err` where none will come any more.
+pub fn take<B: Drop, R: Wait>(
+    rt: &R,
+    receiver: &BoxReceiver<B>,
+    pass: &mut BoxPass<B>,
+) -> Result<Letter<B>, RecvError>
+    requires pass { IsSeatAt (receives_on receiver.now) pass.old }
+    requires reader { IsReader (view pass.old) }
+    ensures pass { IsSeatAt (receives_on receiver.now) pass.new }
+    ensures taken { MatchResult result (λ letter. TakesOne (view pass.old) letter (view pass.new)) (λ _. view pass.new ≡ view pass.old) }
+{
+    receiver.recv_as::<Take, R>(rt, pass)
+}

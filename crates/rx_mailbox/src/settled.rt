@@ -1,0 +1,37 @@
+ghost use Rattle.std.specs.Prelude.{◌≡◌};
+ghost use Rattle.rx_mailbox.specs.Settling.{counted};
+
+use crate::channel::BoxPass;
+use std::marker::Model;
+
+/// A box that has settled: nothing is left in it, and nothing comes any more. Contracts still see the letters that its
+/// inbox received, in their order.
+#[derive(Drop)]
+pub struct Settled<B: Drop> {
+    // The inbox's pass, into which each port's was joined. By the rule, what it knows leaves the queue empty for good.
+    pub(crate) pass: BoxPass<B>,
+    pub(crate) letters: u64,
+}
+
+impl<B: Drop> Model for Settled<B> {
+    ghost use Rattle.std.specs.Prelude.{◌≡◌};
+    ghost use Rattle.crossbeam_channel.specs.Claims.{view as pass_view};
+    ghost use Rattle.rx_mailbox.specs.Boxes.{Incoming};
+    ghost use Rattle.rx_mailbox.specs.Passes.{inbox_of, taken_of, LeavesEmpty};
+    ghost use Rattle.rx_mailbox.specs.Settling.{counted};
+
+    ghost Value = { Incoming B };
+
+    ghost view = { λ s. inbox_of s.pass };
+
+    ghost invariant = { λ s. LeavesEmpty (pass_view s.pass) × (s.letters ≡ counted (taken_of (pass_view s.pass))) };
+}
+
+impl<B: Drop> Settled<B> {
+    /// How many letters the inbox received, Byes included. The count stays at the greatest `u64`.
+    pub fn letters(&self) -> u64
+        ensures { result ≡ counted self.now.received }
+    {
+        self.letters
+    }
+}
