@@ -20,13 +20,8 @@ pub(crate) struct Multicast {
     pub(crate) stamp: u64,
     pub(crate) joins: u32,
     pub(crate) subscriptions: Vec<Subscription, Heap>,
-}
-
-/// What the step of an Emit needs: the end to keep, and an offer for each observer.
-#[derive(Drop)]
-struct Growth {
-    end: Option<Note>,
-    copies: Vec<Offer, Heap>,
+    // The offers of one step, one for each observer. Its room is kept from step to step.
+    pub(crate) offers: Vec<Offer, Heap>,
 }
 
 impl Multicast {
@@ -34,13 +29,16 @@ impl Multicast {
     pub(crate) fn new(alloc: Heap, rules: Rules) -> Result<Multicast, Memory>
         ensures { IfOk result (λ made. state_of made ≡ state_at_first rules) }
     {
-        let subscriptions = Vec::with_capacity(alloc, rules.limits.observers as usize)?;
+        let most = rules.limits.observers as usize;
+        let offers = Vec::with_capacity(alloc.clone()?, most)?;
+        let subscriptions = Vec::with_capacity(alloc, most)?;
         Ok(Multicast {
             rules,
             terminal: None,
             stamp: 0,
             joins: 0,
             subscriptions,
+            offers,
         })
     }
 
@@ -74,12 +72,12 @@ impl Multicast {
             return Err(Refusal::Ended);
         }
         let offer = Offer::of(port, note);
-        let Ok(Growth { end, mut copies }) = grow(&mut self.subscriptions, &offer, outs) else {
+        let Ok(end) = grow(&mut self.subscriptions, offer, &mut self.offers, outs) else {
             return Err(Refusal::Memory);
         };
         self.terminal = end;
         self.stamp = self.stamp.max(at);
-        feed_all(&mut self.subscriptions, &mut copies, outs);
+        feed_all(&mut self.subscriptions, &mut self.offers, outs);
         Ok(Answer::Admitted)
     }
 
@@ -137,17 +135,18 @@ fn place_of(subscriptions: &Vec<Subscription, Heap>, who: u32) -> Option<usize>
     subscriptions.iter().position(|s| s.who == who)
 }
 
-// All the growth of an Emit: room in each queue and in `outs`, and the copies.
+// All the growth of an Emit: room in each queue and in `outs`, and an offer for each observer. The end to keep.
 fn grow(
     subscriptions: &mut Vec<Subscription, Heap>,
-    offer: &Offer,
+    offer: Offer,
+    offers: &mut Vec<Offer, Heap>,
     outs: &mut Vec<Given, Heap>,
-) -> Result<Growth, Memory>
+) -> Result<Option<Note>, Memory>
     ensures observers { observers_of subscriptions.new.items ≡ observers_of subscriptions.old.items }
     ensures len { vec_len subscriptions.new ≡ vec_len subscriptions.old }
     ensures outs { outs.new.items ≡ outs.old.items }
-    ensures end { IfOk result (λ growth. growth.end ≡ offer.now.end) }
-    ensures copies { IfOk result (λ growth. growth.copies.items ≡ replicate (vec_len subscriptions.old) offer.now) }
+    ensures end { IfOk result (λ end. end ≡ offer.end) }
+    ensures offers { OnOk result (offers.new.items ≡ replicate (vec_len subscriptions.old) offer) }
     ensures lane_room { OnOk result (All HasRoom subscriptions.new.items) }
     ensures outs_room { OnOk result (vec_len outs.new + 2 * vec_len subscriptions.old ≤ vec_capacity outs.new) }
 {
@@ -156,10 +155,10 @@ fn grow(
         return Err(Memory);
     };
     outs.reserve(most)?;
-    let end = copy_of(&offer.end)?;
-    let copies = copies_of(subscriptions.allocator().clone()?, offer, count)?;
     reserve_all(subscriptions)?;
-    Ok(Growth { end, copies })
+    let end = copy_of(&offer.end)?;
+    fill(offers, offer, count)?;
+    Ok(end)
 }
 
 // All the growth of a Join, and the queue of the observer with what it gives at once.
@@ -196,15 +195,20 @@ fn reserve_all(subscriptions: &mut Vec<Subscription, Heap>) -> Result<(), Memory
     Ok(())
 }
 
-// As many copies of an offer.
-fn copies_of(alloc: Heap, offer: &Offer, count: usize) -> Result<Vec<Offer, Heap>, Memory>
-    ensures { IfOk result (λ copies. copies.items ≡ replicate count offer.now) }
+// As many of one offer, the last of them the offer itself.
+fn fill(offers: &mut Vec<Offer, Heap>, offer: Offer, count: usize) -> Result<(), Memory>
+    ensures { OnOk result (offers.new.items ≡ replicate count offer) }
 {
-    let mut copies = Vec::with_capacity(alloc, count)?;
-    for _ in 0..count {
-        copies.push_reserved(offer.copy()?);
+    offers.clear();
+    if count == 0 {
+        return Ok(());
     }
-    Ok(copies)
+    offers.reserve(count)?;
+    for _ in 1..count {
+        offers.push_reserved(offer.copy()?);
+    }
+    offers.push_reserved(offer);
+    Ok(())
 }
 
 // Feeds each observer its copy of an offer, by rising number.
