@@ -1,4 +1,8 @@
+mod Rows
+pub mod Agreeing
 pub mod Cases
 pub mod Endings
+pub mod Extending
 pub mod Numbers
-mod Rows
+pub mod Tracing
+pub mod Walking

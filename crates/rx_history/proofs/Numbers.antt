@@ -1,14 +1,12 @@
 -- The numbers of the observers that are held: they rise, and the next one is above them.
-use Rattle.std.proofs.Common.{◌≡◌, ℕ, zero, suc, ◌+◌, ◌<◌, ◌≤◌, ◌==◌, Bool, true, false, cond, ◌&&◌, not, List, [], ◌∷◌, ◌++◌, length, take, drop, get_or, Option, None, Some, ◌⊎◌, inl, inr, refl, sym, ap, ◌∙◌, arith, add-one}
+use Rattle.std.proofs.Common.{◌≡◌, ℕ, zero, suc, ◌+◌, ◌<◌, ◌≤◌, ◌==◌, Bool, true, false, cond, ◌&&◌, not, List, [], ◌∷◌, ◌++◌, length, take, drop, get_or, Option, None, Some, refl, ap, ◌∙◌, arith, add-one}
 use Rattle.std.proofs.lemmas.Bool.Decides.{nat_tests}
 use Rattle.std.specs.Option.{option_map}
-use Rattle.rx_note.specs.declared.event.Event.{Event}
 use Rattle.rx_note.specs.declared.event.Event.TheVariants.{Emit, Join, Request}
 use Rattle.rx_note.specs.declared.rules.Rules.{Rules}
 use Rattle.rx_note.specs.declared.limits.Limits.{Limits}
 use Rattle.rx_note.specs.Signals.{Signals, ◌▸◌, Requested}
-use Rattle.rx_history.specs.Histories.{History, NoEvents, ◌▹◌, Roster, admits, with_one_more, roster_of, joins, held, is_held, is_ended, may_join, followed_by, signalled, opened, may_request, signals}
-use Rattle.rx_history.proofs.Cases.{chosen}
+use Rattle.rx_history.specs.Histories.{History, NoEvents, ◌▹◌, Roster, admits, with_one_more, roster_of, joins, is_held, is_ended, may_join, followed_by, signalled, opened, may_request, signals}
 
 -- the numbers rise, from low on, and are below high
 abbrev pub Rises : ℕ → List ℕ → ℕ → Type 0
@@ -56,7 +54,7 @@ differ_before low (k ∷ ks) high (suc i) d h lt =
     let above = at_least (k + 1) ks high i d h.1 (omega arith) in
     (grind (arith, nat_tests), differ_before (k + 1) ks high i d h.1 (omega arith))
 
-differ_beyond : (low : ℕ) (ks : List ℕ) (high i d : ℕ) → Rises low ks high → i < length ks → AllDiffer (get_or ks i d) (drop (suc i) ks)
+pub differ_beyond : (low : ℕ) (ks : List ℕ) (high i d : ℕ) → Rises low ks high → i < length ks → AllDiffer (get_or ks i d) (drop (suc i) ks)
 differ_beyond low [] high i d h lt = absurd (omega arith)
 differ_beyond low (k ∷ ks) high zero d h lt = differ_below (k + 1) ks high k h.1 (omega arith)
 differ_beyond low (k ∷ ks) high (suc i) d h lt = differ_beyond (k + 1) ks high i d h.1 (omega arith)
@@ -75,7 +73,7 @@ held_rises limits (H ▹ (port, Emit note at)) = held_rises limits H
 held_rises limits (H ▹ (port, Join policy first at)) =
     let before = held_rises limits H in
     Rises-chosen (admits limits (roster_of limits H)) (with_one_more (roster_of limits H)) (roster_of limits H)
-        (Rises-push 0 (roster_of limits H).held (roster_of limits H).joins before) before
+    (Rises-push 0 (roster_of limits H).held (roster_of limits H).joins before) before
 held_rises limits (H ▹ (port, Request who n)) = held_rises limits H
 
 unmade_fed : (b : Bool) (f : Signals → Signals) (before : Option Signals) → before ≡ None → cond b (option_map f before) before ≡ None

@@ -28,7 +28,6 @@ abbrev pub Entry : Type 0
 Entry = ℕ × Event
 
 infixl 10 ◌▹◌
-
 -- the events of a subject; the latest stands outermost
 pub data History : Type 0 where
   NoEvents : History

@@ -1,1 +1,4 @@
 pub mod Histories
+pub mod Stored
+pub mod Traces
+pub mod Walks
