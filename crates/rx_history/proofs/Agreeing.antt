@@ -1,5 +1,5 @@
 -- Where a walk agrees with a history, it does with one entry more.
-use Rattle.std.proofs.Common.{◌≡◌, ℕ, ◌+◌, ◌==◌, Bool, true, false, cond, ◌&&◌, Option, None, Some, is_some, Result, Ok, Err, OnOk, refl, sym, ap, subst, ◌∙◌}
+use Rattle.std.proofs.Common.{◌≡◌, ℕ, ◌+◌, ◌==◌, true, false, cond, ◌&&◌, Option, None, Some, is_some, Result, Ok, Err, OnOk, refl, sym, ap, subst, ◌∙◌}
 use Rattle.std.specs.Option.{option_map, option_or}
 use Rattle.std.specs.Result.{IsErrAnd}
 use Rattle.rx_history.specs.declared.line_error.LineError.{LineError}
@@ -16,8 +16,9 @@ use Rattle.rx_history.specs.Traces.{Traces, MayTrace, AreOpen, TracesObserver}
 use Rattle.rx_history.specs.Walks.{Passes}
 use Rattle.rx_history.specs.declared.trace.Trace.{Trace}
 use Rattle.rx_history.specs.declared.walk.Walk.{Walk}
+use Rattle.rx_history.proofs.Cases.{absent}
 use Rattle.rx_history.proofs.Endings.{signals_open}
-use Rattle.rx_history.proofs.Walking.{may_join-joins, accepts, joins-joined, joins-refused, signals_of, signals-emitted, signals-refused, signals-not_joined, signals-joined, signals-not_requested, signals-requested}
+use Rattle.rx_history.proofs.Walking.{and_false, may_join-joins, accepts, joins-joined, joins-refused, signals_of, signals-emitted, signals-refused, signals-not_joined, signals-joined, signals-not_requested, signals-requested}
 
 -- a trace of some signals is one of the same signals
 traces_same : (trace : Option Trace) (a b : Option Signals) → b ≡ a → MayTrace trace a → MayTrace trace b
@@ -37,17 +38,13 @@ passes_refused rules walk port note at over H was =
       has_trace = traces_same walk.trace (signals rules H walk.who) (signals rules (H ▹ (port, Emit note at)) walk.who) (signals-refused rules H port note at walk.who ended) was.has_trace;
     }
 
-none_there : {A : Type 0} (o : Option A) → is_some o ≡ false → o ≡ None
-none_there None e = refl
-none_there (Some x) e = cc
-
 -- an accepted note
 pub passes_accepted : (rules : Rules) (old new : Walk) (port : ℕ) (note : Note) (at : ℕ) → is_some old.end ≡ false
     → new.who ≡ old.who → new.joins ≡ old.joins → new.end ≡ terminal_in note
     → ((s : Option Signals) → AreOpen s → MayTrace old.trace s → MayTrace new.trace (option_map (λ t. followed_by t (signals_of port note)) s))
     → Passes rules old new (port, Emit note at)
 passes_accepted rules old new port note at open_now who joined end feeds H was =
-    let unended : end_of H ≡ None = sym was.has_end ∙ none_there old.end open_now in
+    let unended : end_of H ≡ None = sym was.has_end ∙ absent old.end open_now in
     record {
       has_joins = joined ∙ was.has_joins;
       has_end = end ∙ ap (λ e. option_or e (terminal_in note)) (sym unended);
@@ -63,7 +60,7 @@ pub passes_item : (rules : Rules) (old new : Walk) (port : ℕ) (item : Item) (a
     → ((s : Option Signals) → AreOpen s → MayTrace old.trace s → MayTrace new.trace (option_map (λ t. t ▸ Offered (record item { from = port })) s))
     → Passes rules old new (port, Emit (Next item) at)
 passes_item rules old new port item at open_now who joined end feeds =
-    passes_accepted rules old new port (Next item) at open_now who joined (end ∙ none_there old.end open_now) feeds
+    passes_accepted rules old new port (Next item) at open_now who joined (end ∙ absent old.end open_now) feeds
 
 -- an accepted terminal
 pub passes_terminal : (rules : Rules) (old new : Walk) (port : ℕ) (note : Note) (at : ℕ) → ((item : Item) → note ≡ Next item → ⊥) → is_some old.end ≡ false
@@ -76,10 +73,6 @@ passes_terminal rules old new port (Failed text) at no_item open_now who joined 
 
 accepts-may_join : (rules : Rules) (walk : Walk) (H : History) → walk.joins ≡ joins rules H → may_join rules H ≡ accepts rules.limits walk.joins
 accepts-may_join rules walk H e = may_join-joins rules H ∙ ap (accepts rules.limits) (sym e)
-
-and_false : (b : Bool) → (b && false) ≡ false
-and_false true = refl
-and_false false = refl
 
 -- a Join that is not accepted
 pub passes_not_joined : (rules : Rules) (walk : Walk) (port : ℕ) (policy : Choice) (first at : ℕ) → accepts rules.limits walk.joins ≡ false → Passes rules walk walk (port, Join policy first at)

@@ -1,3 +1,4 @@
+pub mod Delivery
 pub mod Histories
 pub mod Stored
 pub mod Traces
