@@ -1,5 +1,5 @@
 -- The laws of delivery, each from what the signals of an observer say.
-use Rattle.std.proofs.Common.{◌≡◌, ℕ, ◌+◌, ◌≤◌, ◌==◌, Bool, true, false, cond, ◌&&◌, leb, List, [], ◌∷◌, ◌++◌, length, map, take, Option, None, Some, is_some, option_to_list, refl, sym, ap, ◌∙◌, arith}
+use Rattle.std.proofs.Common.{◌≡◌, ℕ, ◌+◌, ◌<◌, ◌≤◌, ◌==◌, Bool, true, false, cond, ◌&&◌, leb, List, [], ◌∷◌, ◌++◌, length, map, take, Option, None, Some, is_some, option_to_list, refl, sym, ap, ◌∙◌, arith}
 use Rattle.std.specs.Option.{option_map, option_map_or}
 use Rattle.std.specs.List.{items_where_true}
 use Rattle.std.proofs.lemmas.Bool.Decides.{nat_tests}
@@ -13,11 +13,11 @@ use Rattle.rx_note.specs.declared.strategy.Strategy.TheVariants.{Buffer}
 use Rattle.rx_note.specs.declared.errors.Errors.TheVariants.{Delay}
 use Rattle.rx_note.specs.Choices.{Choice, choice}
 use Rattle.rx_note.specs.Signals.{Requested, Offered, Ended, Signals, ◌▸◌, policy_of, demand, terminal_of, line_items, ending, line, given, waiting, owed}
-use Rattle.rx_note.proofs.Laws.{given-grows, line-whole}
+use Rattle.rx_note.proofs.Laws.{given-grows, owed-waiting, line-whole}
 use Rattle.rx_note.proofs.Lines.{given-waiting}
 use Rattle.rx_note.proofs.Order.{line_items-in_order}
 use Rattle.rx_history.specs.Histories.{History, ◌▹◌, end_of, joins, is_held, may_join, followed_by, may_request, signals, given_to, line_of, waiting_for}
-use Rattle.rx_history.specs.Delivery.{items_among, IsTerminal, offered, IsSubsequence, LineIsInOrder, OffersAreInOrder, EachPortIsInOrder, EachItemIsOffered, GivenThenWaiting, GivenOnlyGrows, TerminalIsLast, LineEndsAsTheSubject, NothingFollowsATerminal, NothingFollowsTheEnd, GivenAndOwed, GivenWithinRequests, BufferKeepsAll}
+use Rattle.rx_history.specs.Delivery.{items_among, IsTerminal, offered, IsSubsequence, LineIsInOrder, OffersAreInOrder, EachPortIsInOrder, EachItemIsOffered, GivenThenWaiting, GivenOnlyGrows, TerminalIsLast, LineEndsAsTheSubject, NothingFollowsATerminal, NothingFollowsTheEnd, GivenAndOwed, GivenWithinRequests, NothingWaitsWhileOwed, BufferKeepsAll}
 use Rattle.rx_history.proofs.Cases.{absent}
 use Rattle.rx_history.proofs.Endings.{signals_open}
 use Rattle.rx_history.proofs.Numbers.{signals_unmade}
@@ -228,6 +228,14 @@ given_and_owed rules H o = given_and_owed_by rules H o (signals rules H o) refl
 
 pub given_within_requests : GivenWithinRequests
 given_within_requests rules H o = omega (arith, given_and_owed rules H o)
+
+none_waits : (b : Bool) (s : Option Signals) → 0 < option_map_or owed s 0 → cond b (option_map_or waiting s []) [] ≡ []
+none_waits true None owes = refl
+none_waits true (Some s) owes = owed-waiting s owes
+none_waits false s owes = refl
+
+pub nothing_waits_while_owed : NothingWaitsWhileOwed
+nothing_waits_while_owed rules H o owes = none_waits (is_held rules H o) (signals rules H o) owes
 
 keeps_all_by : (rules : Rules) (H : History) (o : ℕ) (before : Option Signals) → signals rules H o ≡ before → is_some before ≡ true
     → option_map policy_of before ≡ Some (choice Buffer Delay) → items_among (line_of rules H o) ≡ option_map_or offered before []

@@ -2,7 +2,7 @@
 -- Order, and that nothing follows a terminal, are those of the Observable Contract
 -- (reactivex.io/documentation/contract.html); that a request bounds what is given is that of the Backpressure operators
 -- (reactivex.io/documentation/operators/backpressure.html).
-use Rattle.std.specs.Prelude.{◌≡◌, ℕ, ◌+◌, ◌≤◌, ◌==◌, Bool, true, false, List, [], ◌∷◌, ◌++◌, length, map, Option, Some, is_some, option_to_list}
+use Rattle.std.specs.Prelude.{◌≡◌, ℕ, ◌+◌, ◌<◌, ◌≤◌, ◌==◌, Bool, true, false, List, [], ◌∷◌, ◌++◌, length, map, Option, Some, is_some, option_to_list}
 use Rattle.std.specs.List.{filter, items_where_true}
 use Rattle.std.specs.Option.{option_map, option_map_or}
 use Rattle.rx_note.specs.declared.item.Item.{Item}
@@ -128,6 +128,10 @@ GivenAndOwed =
 -- so that no more items are given than were requested
 abbrev pub GivenWithinRequests : Type 0
 GivenWithinRequests = (rules : Rules) (H : History) (o : ℕ) → length (items_among (given_to rules H o)) ≤ requested_by rules H o
+
+-- nothing is held back: while an item is owed, nothing waits
+abbrev pub NothingWaitsWhileOwed : Type 0
+NothingWaitsWhileOwed = (rules : Rules) (H : History) (o : ℕ) → 0 < owed_to rules H o → waiting_for rules H o ≡ []
 
 -- under Buffer and Delay every item offered is in the line
 abbrev pub BufferKeepsAll : Type 0

@@ -1,7 +1,7 @@
 //! The laws of delivery, for every history: each function does nothing, and its contract is one law of
 //! `specs/Delivery.antt`.
 
-ghost use Rattle.rx_history.specs.Delivery.{LineIsInOrder, OffersAreInOrder, EachPortIsInOrder, EachItemIsOffered, GivenThenWaiting, GivenOnlyGrows, TerminalIsLast, LineEndsAsTheSubject, NothingFollowsATerminal, NothingFollowsTheEnd, GivenAndOwed, GivenWithinRequests, BufferKeepsAll};
+ghost use Rattle.rx_history.specs.Delivery.{LineIsInOrder, OffersAreInOrder, EachPortIsInOrder, EachItemIsOffered, GivenThenWaiting, GivenOnlyGrows, TerminalIsLast, LineEndsAsTheSubject, NothingFollowsATerminal, NothingFollowsTheEnd, GivenAndOwed, GivenWithinRequests, NothingWaitsWhileOwed, BufferKeepsAll};
 
 /// The items of a line are items offered to the observer, in their order and none twice.
 pub fn line_is_in_order()
@@ -61,6 +61,11 @@ pub fn given_and_owed()
 /// No more items are given than were requested.
 pub fn given_within_requests()
     ensures { GivenWithinRequests }
+{}
+
+/// Nothing is held back: while an item is owed, nothing waits.
+pub fn nothing_waits_while_owed()
+    ensures { NothingWaitsWhileOwed }
 {}
 
 /// Under Buffer and Delay every item offered is in the line.
