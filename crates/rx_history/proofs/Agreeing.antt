@@ -18,7 +18,7 @@ use Rattle.rx_history.specs.declared.trace.Trace.{Trace}
 use Rattle.rx_history.specs.declared.walk.Walk.{Walk}
 use Rattle.rx_history.proofs.Cases.{absent}
 use Rattle.rx_history.proofs.Endings.{signals_open}
-use Rattle.rx_history.proofs.Walking.{and_false, may_join-joins, accepts, joins-joined, joins-refused, signals_of, signals-emitted, signals-refused, signals-not_joined, signals-joined, signals-not_requested, signals-requested}
+use Rattle.rx_history.proofs.Entries.{and_false, may_join-joins, accepts, joins-joined, joins-refused, signals_of, signals-emitted, signals-refused, signals-not_joined, signals-joined, signals-not_requested, signals-requested}
 
 -- a trace of some signals is one of the same signals
 traces_same : (trace : Option Trace) (a b : Option Signals) → b ≡ a → MayTrace trace a → MayTrace trace b

@@ -24,7 +24,7 @@ use Rattle.rx_history.proofs.Numbers.{signals_unmade}
 use Rattle.rx_history.proofs.Offers.{offers_in_order, each_is_offered}
 use Rattle.rx_history.proofs.Subsequences.{picked, none_of, along, some_of_some, filtered}
 use Rattle.rx_history.proofs.Terminals.{terminal_of-signals, end_is_terminal, items_among-items, items_among-append, items_among-end, not_empty, last_only}
-use Rattle.rx_history.proofs.Walking.{signals_of, is_held-signals, line_of-signals, signals-emitted, signals-refused, signals-not_joined, signals-not_requested, signals-requested}
+use Rattle.rx_history.proofs.Entries.{signals_of, is_held-signals, line_of-signals, signals-emitted, signals-refused, signals-not_joined, signals-not_requested, signals-requested}
 
 -- an observer without signals has an empty line
 line_of-none : (rules : Rules) (H : History) (o : ℕ) → signals rules H o ≡ None → line_of rules H o ≡ []

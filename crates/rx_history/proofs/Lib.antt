@@ -3,10 +3,10 @@ pub mod Agreeing
 pub mod Cases
 pub mod Delivered
 pub mod Endings
+pub mod Entries
 pub mod Extending
 pub mod Numbers
 pub mod Offers
 pub mod Subsequences
 pub mod Terminals
 pub mod Tracing
-pub mod Walking

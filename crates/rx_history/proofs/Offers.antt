@@ -12,7 +12,7 @@ use Rattle.rx_note.specs.Signals.{Requested, Signals, Start, ◌▸◌}
 use Rattle.rx_history.specs.Histories.{History, NoEvents, ◌▹◌, end_of, is_ended, joins, is_held, may_join, stamp, Stamped, item_in, items, followed_by, ended_by, may_request, signals}
 use Rattle.rx_history.specs.Delivery.{offered, offered_to, emitted, IsSubsequence}
 use Rattle.rx_history.proofs.Subsequences.{along, none_of, all_of, both_of}
-use Rattle.rx_history.proofs.Walking.{signals_of, is_held-signals, signals-emitted, signals-refused, signals-not_joined, signals-joined, signals-not_requested, signals-requested}
+use Rattle.rx_history.proofs.Entries.{signals_of, is_held-signals, signals-emitted, signals-refused, signals-not_joined, signals-joined, signals-not_requested, signals-requested}
 
 offered-note : (s : Signals) (port : ℕ) (note : Note) → offered (followed_by s (signals_of port note)) ≡ offered s ++ item_in port note
 offered-note s port (Next item) = refl

@@ -11,7 +11,7 @@ use Rattle.rx_note.specs.Signals.{Requested, Offered, Signals, Start, ◌▸◌,
 use Rattle.rx_history.specs.Histories.{History, NoEvents, ◌▹◌, terminal_in, end_of, joins, is_held, may_join, stamp, opening_by, followed_by, ended_by, opened, item_in, may_request, signals}
 use Rattle.rx_history.specs.Delivery.{items_among, IsTerminal}
 use Rattle.rx_history.proofs.Cases.{chosen, mapped}
-use Rattle.rx_history.proofs.Walking.{signals_of, signals-emitted, signals-refused}
+use Rattle.rx_history.proofs.Entries.{signals_of, signals-emitted, signals-refused}
 
 -- signals of items and of an end have the end, or leave what there was
 terminal_of-followed : (s : Signals) (items : List Item) (end : Option Note) → terminal_of (followed_by s (map Offered items ++ ended_by end)) ≡ option_or end (terminal_of s)

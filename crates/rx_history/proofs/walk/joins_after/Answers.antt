@@ -1,5 +1,5 @@
 use Rattle.std.proofs.Common.{sym, ◌∙◌}
-use Rattle.rx_history.proofs.Walking.{joins-joined, joins-refused}
+use Rattle.rx_history.proofs.Entries.{joins-joined, joins-refused}
 use Rattle.rx_history.proofs.walk.joins_after.Goals as goal
 
 pub returns-then-admits : goal.returns-then-admits

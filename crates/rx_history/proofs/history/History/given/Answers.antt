@@ -1,5 +1,5 @@
 use Rattle.std.proofs.Common.{sym, ◌∙◌}
-use Rattle.rx_history.proofs.Walking.{given_to-signals}
+use Rattle.rx_history.proofs.Entries.{given_to-signals}
 use Rattle.rx_history.specs.Stored.{history_of}
 use Rattle.rx_history.proofs.history.History.given.Goals as goal
 

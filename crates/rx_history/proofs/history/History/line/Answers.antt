@@ -1,5 +1,5 @@
 use Rattle.std.proofs.Common.{sym, ◌∙◌}
-use Rattle.rx_history.proofs.Walking.{line_of-signals}
+use Rattle.rx_history.proofs.Entries.{line_of-signals}
 use Rattle.rx_history.proofs.Tracing.{line_is}
 use Rattle.rx_history.specs.Stored.{history_of}
 use Rattle.rx_history.proofs.history.History.line.Goals as goal

@@ -2,7 +2,7 @@ use Rattle.std.proofs.Common.{◌≡◌, ◌≤◌, None, refl, sym, ap, ◌∙�
 use Rattle.rx_history.specs.Histories.{joins, signals}
 use Rattle.rx_history.specs.Stored.{history_of}
 use Rattle.rx_history.proofs.Numbers.{signals_unmade}
-use Rattle.rx_history.proofs.Walking.{signals_none}
+use Rattle.rx_history.proofs.Entries.{signals_none}
 use Rattle.rx_history.proofs.Agreeing.{no_trace, not_missing}
 use Rattle.rx_history.proofs.history.History.trace.Goals as goal
 

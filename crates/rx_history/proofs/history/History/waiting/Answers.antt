@@ -1,5 +1,5 @@
 use Rattle.std.proofs.Common.{sym, ◌∙◌}
-use Rattle.rx_history.proofs.Walking.{waiting_for-signals}
+use Rattle.rx_history.proofs.Entries.{waiting_for-signals}
 use Rattle.rx_history.specs.Stored.{history_of}
 use Rattle.rx_history.proofs.history.History.waiting.Goals as goal
 
