@@ -1,9 +1,6 @@
 -- Where a walk agrees with a history, it does with one entry more.
 use Rattle.std.proofs.Common.{◌≡◌, ℕ, ◌+◌, ◌==◌, true, false, cond, ◌&&◌, Option, None, Some, is_some, Result, Ok, Err, OnOk, refl, sym, ap, subst, ◌∙◌}
 use Rattle.std.specs.Option.{option_map, option_or}
-use Rattle.std.specs.Result.{IsErrAnd}
-use Rattle.rx_history.specs.declared.line_error.LineError.{LineError}
-use Rattle.rx_history.specs.declared.line_error.LineError.TheVariants as refused
 use Rattle.rx_note.specs.declared.note.Note.{Note}
 use Rattle.rx_note.specs.declared.note.Note.TheVariants.{Next, Completed, Failed}
 use Rattle.rx_note.specs.declared.item.Item.{Item}
@@ -11,32 +8,18 @@ use Rattle.rx_note.specs.declared.event.Event.TheVariants.{Emit, Join, Request}
 use Rattle.rx_note.specs.declared.rules.Rules.{Rules}
 use Rattle.rx_note.specs.Choices.{Choice}
 use Rattle.rx_note.specs.Signals.{Requested, Offered, Ended, Signals, Start, ◌▸◌}
-use Rattle.rx_history.specs.Histories.{History, ◌▹◌, joins, end_of, is_ended, may_join, terminal_in, followed_by, ended_by, may_request, signals}
-use Rattle.rx_history.specs.Traces.{Traces, MayTrace, AreOpen, TracesObserver}
+use Rattle.rx_history.specs.Histories.{History, ◌▹◌, joins, end_of, may_join, terminal_in, followed_by, ended_by, may_request, signals}
+use Rattle.rx_history.specs.Traces.{Traces, MayTrace, AreOpen}
 use Rattle.rx_history.specs.Walks.{Passes}
 use Rattle.rx_history.specs.declared.trace.Trace.{Trace}
 use Rattle.rx_history.specs.declared.walk.Walk.{Walk}
 use Rattle.rx_history.proofs.Cases.{absent}
 use Rattle.rx_history.proofs.Endings.{signals_open}
-use Rattle.rx_history.proofs.Entries.{and_false, may_join-joins, accepts, joins-joined, joins-refused, signals_of, signals-emitted, signals-refused, signals-not_joined, signals-joined, signals-not_requested, signals-requested}
+use Rattle.rx_history.proofs.Entries.{and_false, may_join-joins, accepts, joins-joined, joins-refused, signals_of, signals-emitted, signals-not_joined, signals-joined, signals-requested}
 
 -- a trace of some signals is one of the same signals
 traces_same : (trace : Option Trace) (a b : Option Signals) → b ≡ a → MayTrace trace a → MayTrace trace b
 traces_same trace a b e traces = let P : Option Signals → Type 0 = λ x. MayTrace trace x in subst P (sym e) traces
-
-end_kept : (end more : Option Note) → is_some end ≡ true → option_or end more ≡ end
-end_kept (Some note) more ended = refl
-end_kept None more ended = cc
-
--- a note after the end
-pub passes_refused : (rules : Rules) (walk : Walk) (port : ℕ) (note : Note) (at : ℕ) → is_some walk.end ≡ true → Passes rules walk walk (port, Emit note at)
-passes_refused rules walk port note at over H was =
-    let ended : is_ended H ≡ true = ap is_some (sym was.has_end) ∙ over in
-    record {
-      has_joins = was.has_joins;
-      has_end = was.has_end ∙ sym (end_kept (end_of H) (terminal_in note) ended);
-      has_trace = traces_same walk.trace (signals rules H walk.who) (signals rules (H ▹ (port, Emit note at)) walk.who) (signals-refused rules H port note at walk.who ended) was.has_trace;
-    }
 
 -- an accepted note
 pub passes_accepted : (rules : Rules) (old new : Walk) (port : ℕ) (note : Note) (at : ℕ) → is_some old.end ≡ false
@@ -126,16 +109,6 @@ passes_joined rules old new trace port policy first at accepted own who joined e
           opens);
     }
 
--- the request of another
-pub passes_other_requested : (rules : Rules) (walk : Walk) (port who n : ℕ) → (who == walk.who) ≡ false → Passes rules walk walk (port, Request who n)
-passes_other_requested rules walk port who n other H was = record {
-  has_joins = was.has_joins;
-  has_end = was.has_end;
-  has_trace =
-      traces_same walk.trace (signals rules H walk.who) (signals rules (H ▹ (port, Request who n)) walk.who)
-      (signals-not_requested rules H port who n walk.who other) was.has_trace;
-}
-
 -- its own request
 pub passes_requested : (rules : Rules) (old new : Walk) (port who n : ℕ) → (who == old.who) ≡ true
     → new.who ≡ old.who → new.joins ≡ old.joins → new.end ≡ old.end
@@ -154,22 +127,3 @@ passes_requested rules old new port who n own same_who joined end asks H was = r
 pub on_ok : {T E : Type 0} {A B : Type 0} (r : Result T E) → (A → B) → OnOk r A → OnOk r B
 on_ok (Ok x) f a = f a
 on_ok (Err e) f a = tt
-
--- where there is no trace, there are no signals
-pub no_trace : (trace : Option Trace) (s : Option Signals) → trace ≡ None → MayTrace trace s → s ≡ None
-no_trace None None e traces = refl
-no_trace None (Some s) e traces = absurd traces
-no_trace (Some trace) s e traces = cc
-
--- and where there is one, it is that of the signals
-has_trace_of : (trace : Trace) (rules : Rules) (H : History) (o : ℕ) (s : Option Signals) → signals rules H o ≡ s → MayTrace (Some trace) s → TracesObserver rules H o trace
-has_trace_of trace rules H o None is traces = absurd traces
-has_trace_of trace rules H o (Some s) is traces = record { these = s; are = is; traces = traces }
-
-pub has_trace : (trace : Trace) (rules : Rules) (H : History) (o : ℕ) → MayTrace (Some trace) (signals rules H o) → TracesObserver rules H o trace
-has_trace trace rules H o traces = has_trace_of trace rules H o (signals rules H o) refl traces
-
--- a failure for want of memory does not say that there is no observer
-pub not_missing : {T : Type 0} (r : Result T LineError) → IsErrAnd r (λ e. e ≡ refused.Memory) → r ≡ Err refused.NoObserver → ⊥
-not_missing (Ok x) memory missing = cc
-not_missing (Err e) memory missing = cc

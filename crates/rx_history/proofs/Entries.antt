@@ -1,8 +1,9 @@
 -- What an entry makes of the joins, and of the signals of an observer.
-use Rattle.std.proofs.Common.{◌≡◌, ℕ, ◌+◌, ◌≤◌, ◌==◌, max, Bool, true, false, cond, ◌&&◌, ◌||◌, not, ltb, List, [], ◌∷◌, ◌++◌, length, map, Option, None, Some, is_some, refl, sym, ap, ◌∙◌, arith}
+use Rattle.std.proofs.Common.{◌≡◌, ℕ, ◌+◌, ◌≤◌, ◌==◌, max, Bool, true, false, cond, ◌&&◌, ◌||◌, not, ltb, List, [], ◌∷◌, ◌++◌, length, map, Option, None, Some, is_some, inl, inr, refl, sym, ap, ◌∙◌, arith}
 use Rattle.std.specs.List.{list_any}
 use Rattle.std.specs.Option.{option_map, option_map_or}
 use Rattle.std.proofs.lemmas.List.{length-append}
+use Rattle.std.proofs.lemmas.Bool.{cases_lt, le-ltb, lt-ltb}
 use Rattle.std.proofs.lemmas.Bool.Decides.{nat_tests}
 use Rattle.std.proofs.lemmas.List.Folds.{list_any-append}
 use Rattle.rx_note.specs.declared.note.Note.{Note}
@@ -12,8 +13,9 @@ use Rattle.rx_note.specs.declared.limits.Limits.{Limits}
 use Rattle.rx_note.specs.Choices.{Choice}
 use Rattle.rx_note.specs.declared.kind.Kind.{Kind}
 use Rattle.rx_note.specs.declared.kind.Kind.TheVariants.{Publish}
-use Rattle.rx_note.specs.Signals.{Signal, Requested, Offered, Signals, Start, ◌▸◌, line, given, waiting}
+use Rattle.rx_note.specs.Signals.{Signal, Requested, Offered, Signals, Start, ◌▸◌, line, waiting}
 use Rattle.rx_history.specs.Histories.{History, NoEvents, ◌▹◌, Roster, with_one_more, roster_of, joins, held, is_held, is_ended, end_of, may_join, stamp, item_in, offers_by, opening_by, terminal_in, followed_by, ended_by, signalled, opened, may_request, signals, line_of, given_to, waiting_for}
+use Rattle.rx_history.proofs.Numbers.{signals_unmade}
 
 -- as nobody leaves, as many are held as have joined
 length_one_more : (b : Bool) (roster : Roster) → length roster.held ≡ roster.joins → length (cond b (with_one_more roster) roster).held ≡ (cond b (with_one_more roster) roster).joins
@@ -183,6 +185,18 @@ signals_none rules (H ▹ (port, Request who n)) o none =
     signals_none rules H o
     (none_fed ((who == o) && is_held rules H o) (λ s. cond (may_request n s) (s ▸ Requested n) s) (signals rules H o) none)
 
+signals_below : (rules : Rules) (H : History) (o : ℕ) (s : Option Signals) → signals rules H o ≡ s → is_some s ≡ ltb o (joins rules H)
+signals_below rules H o None none = sym (le-ltb o (joins rules H) (signals_none rules H o none))
+signals_below rules H o (Some s) is =
+    elim (cases_lt o (joins rules H)) [
+      | inl below ↦ sym (lt-ltb o (joins rules H) below)
+      | inr past ↦ let none = signals_unmade rules H o past in absurd (not_both s (sym is ∙ none))
+    ]
+
+-- the observers that have signals are those below the count of the Joins
+pub is_some-signals : (rules : Rules) (H : History) (o : ℕ) → is_some (signals rules H o) ≡ ltb o (joins rules H)
+is_some-signals rules H o = signals_below rules H o (signals rules H o) refl
+
 -- today an observer that joined is held, so that it is to be given its line
 held_where : (rules : Rules) (H : History) (o : ℕ) (s : Signals) → signals rules H o ≡ Some s → is_held rules H o ≡ true
 held_where rules H o s is = is_held-signals rules H o ∙ ap is_some is
@@ -191,9 +205,6 @@ pub line_of-signals : (rules : Rules) (H : History) (o : ℕ) (s : Signals) → 
 line_of-signals rules H o s is =
     ap (λ b. cond b (option_map_or line (signals rules H o) []) (given_to rules H o)) (held_where rules H o s is)
     ∙ ap (λ t. option_map_or line t []) is
-
-pub given_to-signals : (rules : Rules) (H : History) (o : ℕ) (s : Signals) → signals rules H o ≡ Some s → given_to rules H o ≡ given s
-given_to-signals rules H o s is = ap (λ t. option_map_or given t []) is
 
 pub waiting_for-signals : (rules : Rules) (H : History) (o : ℕ) (s : Signals) → signals rules H o ≡ Some s → waiting_for rules H o ≡ waiting s
 waiting_for-signals rules H o s is =

@@ -1,14 +1,13 @@
 -- A trace keeps up with the signals: what each of them makes of it.
-use Rattle.std.proofs.Common.{◌≡◌, ℕ, zero, suc, ◌+◌, ◌-◌, ◌<◌, ◌≤◌, [], ◌∷◌, ◌++◌, length, map, take, drop, Option, Some, None, option_to_list, refl, sym, ap, ◌∙◌, arith}
-use Rattle.std.proofs.lemmas.List.{length-take, length-append, length-map, drop_at}
+use Rattle.std.proofs.Common.{◌≡◌, ℕ, zero, suc, ◌+◌, ◌-◌, ◌<◌, [], ◌∷◌, ◌++◌, length, map, take, drop, Option, Some, None, option_to_list, refl, sym, ap, ◌∙◌, arith}
+use Rattle.std.proofs.lemmas.List.{length-take, length-append, drop_at}
 use Rattle.rx_note.specs.declared.item.Item.{Item}
 use Rattle.rx_note.specs.declared.note.Note.{Note}
 use Rattle.rx_note.specs.declared.note.Note.TheVariants.{Next}
 use Rattle.rx_note.specs.Choices.{Choice}
 use Rattle.rx_history.specs.Histories.{followed_by, ended_by}
-use Rattle.rx_note.specs.Signals.{Start, Requested, Offered, Ended, Signals, ◌▸◌, policy_of, demand, terminal_of, line_items, ending, line, given, waiting}
+use Rattle.rx_note.specs.Signals.{Start, Requested, Offered, Ended, Signals, ◌▸◌, policy_of, demand, terminal_of, line_items, line, given, waiting}
 use Rattle.rx_note.proofs.Lines.{line_items-offered, line_items-ended, stays_behind, owed-rest, given-waiting}
-use Rattle.rx_note.proofs.Released.{released_all, released_part}
 use Rattle.rx_history.specs.declared.trace.Trace.{Trace}
 use Rattle.rx_history.specs.Traces.{Traces}
 
@@ -86,18 +85,6 @@ pub line_is : (trace : Trace) (s : Signals) → Traces trace s → map Next trac
 line_is trace s is =
     ap (λ xs. map Next xs ++ option_to_list trace.end) is.has_items
     ∙ ap (λ end. map Next (line_items s) ++ option_to_list end) is.has_end
-
--- where each item was given, all the line was
-pub all_given : (trace : Trace) (s : Signals) → Traces trace s → trace.given ≡ length trace.items.items → length (line s) ≡ length (given s)
-all_given trace s is all =
-    let enough : length (line_items s) ≤ demand s = omega (arith, ap length is.has_items, is.has_given, length-take (demand s) (line_items s)) in
-    ap length (sym (released_all (demand s) (line_items s) (ending s) enough))
-
--- where some item was not given, just the items given were
-pub some_given : (trace : Trace) (s : Signals) → Traces trace s → trace.given < length trace.items.items → trace.given ≡ length (given s)
-some_given trace s is less =
-    let part : demand s < length (line_items s) = omega (arith, ap length is.has_items, is.has_given, length-take (demand s) (line_items s)) in
-    is.has_given ∙ sym (length-map (take (demand s) (line_items s)) Next) ∙ ap length (sym (released_part (demand s) (line_items s) (ending s) part))
 
 -- what follows the notes given is what waits
 pub waits_behind : (s : Signals) → drop (length (given s)) (line s) ≡ waiting s

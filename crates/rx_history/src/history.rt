@@ -1,4 +1,4 @@
-ghost use Rattle.std.specs.Prelude.{◌≡◌, ◌↔◌, [], ◌∷◌, ◌++◌, None, Err, length, IfOk, OnOk, OnErr};
+ghost use Rattle.std.specs.Prelude.{◌≡◌, ◌↔◌, [], ◌∷◌, ◌++◌, None, is_some, Err, length, IfOk, OnOk, OnErr};
 ghost use Rattle.rx_history.specs.Histories.{signals, line_of, given_to, waiting_for};
 ghost use Rattle.rx_history.specs.Stored.{history_of};
 
@@ -83,13 +83,20 @@ impl History {
         Ok(self.trace(rules, who)?.waiting()?)
     }
 
+    // Whether an observer has joined.
+    fn has_joined(&self, rules: &Rules, who: u32) -> bool
+        ensures { result ≡ is_some (signals rules.now (history_of self.now) who) }
+    {
+        who < joins_of(rules, &self.entries)
+    }
+
     // What the events mean for an observer.
     fn trace(&self, rules: &Rules, who: u32) -> Result<Trace, LineError>
         ensures no_observer { (result ≡ Err LineError.NoObserver)
             ↔ (signals rules.now (history_of self.now) who ≡ None) }
         ensures traces { IfOk result (λ trace. TracesObserver rules.now (history_of self.now) who trace) }
     {
-        if who >= joins_of(rules, &self.entries) {
+        if !self.has_joined(rules, who) {
             return Err(LineError::NoObserver);
         }
         let heap = self.entries.allocator();
