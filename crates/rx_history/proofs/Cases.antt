@@ -1,5 +1,5 @@
 -- What a value chosen by a test, or found in an option, says of the test.
-use Rattle.std.proofs.Common.{◌≡◌, Bool, true, false, cond, Option, None, Some, ◌⊎◌, inl, inr, refl}
+use Rattle.std.proofs.Common.{◌≡◌, Bool, true, false, cond, Option, None, Some, is_some, ◌⊎◌, inl, inr, refl}
 use Rattle.std.specs.Option.{option_map, option_or}
 
 -- a chosen value is the one or the other
@@ -16,3 +16,8 @@ mapped f (Some x) y e = (x, refl, cc)
 pub neither : {A : Type 0} (a b : Option A) → option_or a b ≡ None → (a ≡ None) × (b ≡ None)
 neither None b e = (refl, e)
 neither (Some x) b e = cc
+
+-- an option that has no value is None
+pub absent : {A : Type 0} (o : Option A) → is_some o ≡ false → o ≡ None
+absent None e = refl
+absent (Some x) e = cc

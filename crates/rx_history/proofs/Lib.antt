@@ -1,4 +1,12 @@
-pub mod Cases
-pub mod Endings
-pub mod Numbers
 mod Rows
+pub mod Agreeing
+pub mod Cases
+pub mod Delivered
+pub mod Endings
+pub mod Entries
+pub mod Extending
+pub mod Numbers
+pub mod Offers
+pub mod Subsequences
+pub mod Terminals
+pub mod Tracing

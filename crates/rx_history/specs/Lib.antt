@@ -1,1 +1,5 @@
+pub mod Delivery
 pub mod Histories
+pub mod Stored
+pub mod Traces
+pub mod Walks

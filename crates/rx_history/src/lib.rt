@@ -1,4 +1,19 @@
-//! What the history of a subject means, in definitions alone: `specs/Histories.antt`.
+//! The stored history of a subject: what one observer was given, what waits for it and its whole line, read from the
+//! events alone.
 //!
-//! The subject that keeps to them is `rx_hub`'s; nothing here runs.
+//! `specs/Histories.antt` says what a history means. A [`History`] keeps its entries as they came and reads each answer
+//! from the first one on: plain and slow, so that a hub, which stores no history, can be held against it. The crates
+//! above rest on one fact: what it answers is what the definitions say. [`laws`] has what follows from these for every
+//! observer: order, nothing lost or twice, nothing after a terminal, no more than was requested.
 #![tactic(auto)]
+
+mod history;
+pub mod laws;
+mod line_error;
+#[cfg(test)]
+mod tests;
+mod trace;
+mod walk;
+
+pub use history::History;
+pub use line_error::LineError;

@@ -1,0 +1,251 @@
+-- The laws of delivery, each from what the signals of an observer say.
+use Rattle.std.proofs.Common.{◌≡◌, ℕ, ◌+◌, ◌<◌, ◌≤◌, ◌==◌, Bool, true, false, cond, ◌&&◌, leb, List, [], ◌∷◌, ◌++◌, length, map, take, Option, None, Some, is_some, option_to_list, refl, sym, ap, ◌∙◌, arith}
+use Rattle.std.specs.Option.{option_map, option_map_or}
+use Rattle.std.specs.List.{items_where_true}
+use Rattle.std.proofs.lemmas.Bool.Decides.{nat_tests}
+use Rattle.std.proofs.lemmas.List.{append_assoc, append-nil, length-take}
+use Rattle.rx_note.specs.declared.item.Item.{Item}
+use Rattle.rx_note.specs.declared.note.Note.{Note}
+use Rattle.rx_note.specs.declared.note.Note.TheVariants.{Next, Completed, Failed}
+use Rattle.rx_note.specs.declared.event.Event.TheVariants.{Emit, Join, Request}
+use Rattle.rx_note.specs.declared.rules.Rules.{Rules}
+use Rattle.rx_note.specs.declared.strategy.Strategy.TheVariants.{Buffer}
+use Rattle.rx_note.specs.declared.errors.Errors.TheVariants.{Delay}
+use Rattle.rx_note.specs.Choices.{Choice, choice}
+use Rattle.rx_note.specs.Signals.{Requested, Offered, Ended, Signals, ◌▸◌, policy_of, demand, terminal_of, line_items, ending, line, given, waiting, owed}
+use Rattle.rx_note.proofs.Laws.{given-grows, owed-waiting, line-whole}
+use Rattle.rx_note.proofs.Lines.{given-waiting}
+use Rattle.rx_note.proofs.Order.{line_items-in_order}
+use Rattle.rx_history.specs.Histories.{History, ◌▹◌, end_of, joins, is_held, may_join, followed_by, may_request, signals, given_to, line_of, waiting_for}
+use Rattle.rx_history.specs.Delivery.{items_among, IsTerminal, offered, IsSubsequence, LineIsInOrder, OffersAreInOrder, EachPortIsInOrder, EachItemIsOffered, GivenThenWaiting, GivenOnlyGrows, TerminalIsLast, LineEndsAsTheSubject, NothingFollowsATerminal, NothingFollowsTheEnd, GivenAndOwed, GivenWithinRequests, NothingWaitsWhileOwed, BufferKeepsAll}
+use Rattle.rx_history.proofs.Cases.{absent}
+use Rattle.rx_history.proofs.Endings.{signals_open}
+use Rattle.rx_history.proofs.Numbers.{signals_unmade}
+use Rattle.rx_history.proofs.Offers.{offers_in_order, each_is_offered}
+use Rattle.rx_history.proofs.Subsequences.{picked, none_of, along, some_of_some, filtered}
+use Rattle.rx_history.proofs.Terminals.{terminal_of-signals, end_is_terminal, items_among-items, items_among-append, items_among-end, not_empty, last_only}
+use Rattle.rx_history.proofs.Entries.{signals_of, is_held-signals, line_of-signals, signals-emitted, signals-refused, signals-not_joined, signals-not_requested, signals-requested}
+
+-- an observer without signals has an empty line
+line_of-none : (rules : Rules) (H : History) (o : ℕ) → signals rules H o ≡ None → line_of rules H o ≡ []
+line_of-none rules H o none =
+    ap (λ b. cond b (option_map_or line (signals rules H o) []) (given_to rules H o)) (is_held-signals rules H o ∙ ap is_some none)
+    ∙ ap (λ s. option_map_or given s []) none
+
+-- the line of one that has signals is its items and the end of the subject
+line_of-parts : (rules : Rules) (H : History) (o : ℕ) (s : Signals) → signals rules H o ≡ Some s → line_of rules H o ≡ map Next (line_items s) ++ option_to_list (end_of H)
+line_of-parts rules H o s is =
+    line_of-signals rules H o s is ∙ ap (λ end. map Next (line_items s) ++ option_to_list end) (terminal_of-signals rules H o s is)
+
+items_among-parts : (H : History) (xs : List Item) → items_among (map Next xs ++ option_to_list (end_of H)) ≡ xs
+items_among-parts H xs =
+    items_among-append (map Next xs) (option_to_list (end_of H))
+    ∙ ap (λ ys. ys ++ items_among (option_to_list (end_of H))) (items_among-items xs)
+    ∙ ap (λ ys. xs ++ ys) (items_among-end H)
+    ∙ append-nil xs
+
+items_among-line : (rules : Rules) (H : History) (o : ℕ) (s : Signals) → signals rules H o ≡ Some s → items_among (line_of rules H o) ≡ line_items s
+items_among-line rules H o s is = ap items_among (line_of-parts rules H o s is) ∙ items_among-parts H (line_items s)
+
+-- EACH ITEM ONCE AND IN ORDER
+
+line_in_order_by : (rules : Rules) (H : History) (o : ℕ) (before : Option Signals) → signals rules H o ≡ before
+    → IsSubsequence (items_among (line_of rules H o)) (option_map_or offered before [])
+line_in_order_by rules H o None none = along [] [] _ _ (ap items_among (line_of-none rules H o none)) refl (none_of [])
+line_in_order_by rules H o (Some s) is =
+    let order = line_items-in_order s in
+    along (items_where_true order.0 (offered s)) (offered s) (items_among (line_of rules H o)) (offered s)
+    (items_among-line rules H o s is ∙ order.1) refl (picked order.0 (offered s))
+
+pub line_in_order : LineIsInOrder
+line_in_order rules H o = line_in_order_by rules H o (signals rules H o) refl
+
+pub offers_are_in_order : OffersAreInOrder
+offers_are_in_order rules H o = offers_in_order rules H o
+
+pub each_port_in_order : EachPortIsInOrder
+each_port_in_order rules H o port =
+    filtered (λ item. item.from == port) _ _ (some_of_some _ _ _ (line_in_order rules H o) (offers_in_order rules H o))
+
+pub each_item_is_offered : EachItemIsOffered
+each_item_is_offered rules H o port note at held open_now = each_is_offered rules H o port note at held (absent (end_of H) open_now)
+
+-- GIVEN AND WAITING
+
+parted : (b : Bool) (s : Option Signals) → option_map_or given s [] ++ cond b (option_map_or waiting s []) [] ≡ cond b (option_map_or line s []) (option_map_or given s [])
+parted true None = refl
+parted true (Some s) = given-waiting s
+parted false s = append-nil (option_map_or given s [])
+
+pub given_then_waiting : GivenThenWaiting
+given_then_waiting rules H o = parted (is_held rules H o) (signals rules H o)
+
+-- what was given where the signals are these
+abbrev given_of : Option Signals → List Note
+given_of s = option_map_or given s []
+
+-- notes behind those that were given
+abbrev Grows : List Note → List Note → Type 0
+Grows before after = (notes : List Note) × (after ≡ before ++ notes)
+
+grows_same : (before after : List Note) → after ≡ before → Grows before after
+grows_same before after e = ([], e ∙ sym (append-nil before))
+
+note_grows : (s : Signals) (port : ℕ) (note : Note) → terminal_of s ≡ None → Grows (given s) (given (followed_by s (signals_of port note)))
+note_grows s port (Next item) open_now = given-grows s (Offered (record item { from = port })) open_now
+note_grows s port Completed open_now = given-grows s (Ended Completed) open_now
+note_grows s port (Failed text) open_now = given-grows s (Ended (Failed text)) open_now
+
+emit_grows : (before : Option Signals) (port : ℕ) (note : Note) → ((s : Signals) → before ≡ Some s → terminal_of s ≡ None)
+    → Grows (given_of before) (given_of (option_map (λ s. followed_by s (signals_of port note)) before))
+emit_grows None port note open_now = ([], refl)
+emit_grows (Some s) port note open_now = note_grows s port note (open_now s refl)
+
+request_grows : (b : Bool) (s : Signals) (n : ℕ) → Grows (given s) (given (cond b (s ▸ Requested n) s))
+request_grows true s n = given-grows s (Requested n) tt
+request_grows false s n = grows_same (given s) (given s) refl
+
+requests_grow : (before : Option Signals) (n : ℕ) → Grows (given_of before) (given_of (option_map (λ s. cond (may_request n s) (s ▸ Requested n) s) before))
+requests_grow None n = ([], refl)
+requests_grow (Some s) n = request_grows (may_request n s) s n
+
+grows_along : (before after after' : List Note) → after' ≡ after → Grows before after → Grows before after'
+grows_along before after after' e grown = (grown.0, e ∙ grown.1)
+
+emitted_grows : (rules : Rules) (H : History) (o port : ℕ) (note : Note) (at : ℕ) (end : Option Note) → end_of H ≡ end
+    → Grows (given_to rules H o) (given_to rules (H ▹ (port, Emit note at)) o)
+emitted_grows rules H o port note at None open_now =
+    grows_along (given_to rules H o) _ _ (ap given_of (signals-emitted rules H port note at o open_now))
+    (emit_grows (signals rules H o) port note (λ s is. signals_open rules H o s open_now is))
+emitted_grows rules H o port note at (Some end) ended =
+    grows_same (given_to rules H o) _ (ap given_of (signals-refused rules H port note at o (ap is_some ended)))
+
+same_number : (a b : ℕ) (admitted : Bool) → ((a == b) && admitted) ≡ true → a ≤ b
+same_number a b true it = grind (arith, nat_tests)
+same_number a b false it = grind (arith, nat_tests)
+
+joined_unmade : (rules : Rules) (H : History) (o : ℕ) → ((joins rules H == o) && may_join rules H) ≡ true → signals rules H o ≡ None
+joined_unmade rules H o it = signals_unmade rules H o (same_number (joins rules H) o (may_join rules H) it)
+
+joined_grows : (rules : Rules) (H : History) (o port : ℕ) (policy : Choice) (first at : ℕ) (b : Bool) → ((joins rules H == o) && may_join rules H) ≡ b
+    → Grows (given_to rules H o) (given_to rules (H ▹ (port, Join policy first at)) o)
+joined_grows rules H o port policy first at true it =
+    let nothing : given_to rules H o ≡ [] = ap given_of (joined_unmade rules H o it) in
+    (given_to rules (H ▹ (port, Join policy first at)) o, ap (λ notes. notes ++ given_to rules (H ▹ (port, Join policy first at)) o) (sym nothing))
+joined_grows rules H o port policy first at false not_it =
+    grows_same (given_to rules H o) _ (ap given_of (signals-not_joined rules H port policy first at o not_it))
+
+requested_grows : (rules : Rules) (H : History) (o port who n : ℕ) (b : Bool) → (who == o) ≡ b
+    → Grows (given_to rules H o) (given_to rules (H ▹ (port, Request who n)) o)
+requested_grows rules H o port who n true own =
+    grows_along (given_to rules H o) _ _ (ap given_of (signals-requested rules H port who n o own)) (requests_grow (signals rules H o) n)
+requested_grows rules H o port who n false other =
+    grows_same (given_to rules H o) _ (ap given_of (signals-not_requested rules H port who n o other))
+
+pub given_only_grows : GivenOnlyGrows
+given_only_grows rules H o (port, Emit note at) = emitted_grows rules H o port note at (end_of H) refl
+given_only_grows rules H o (port, Join policy first at) =
+    joined_grows rules H o port policy first at ((joins rules H == o) && may_join rules H) refl
+given_only_grows rules H o (port, Request who n) = requested_grows rules H o port who n (who == o) refl
+
+-- NOTHING FOLLOWS A TERMINAL
+
+terminal_is_last_by : (rules : Rules) (H : History) (o : ℕ) (front : List Note) (note : Note) (back : List Note) (before : Option Signals) → signals rules H o ≡ before
+    → IsTerminal note → line_of rules H o ≡ front ++ note ∷ back → back ≡ []
+terminal_is_last_by rules H o front note back None none is same = absurd (not_empty front note back (sym (line_of-none rules H o none) ∙ same))
+terminal_is_last_by rules H o front note back (Some s) has is same =
+    last_only (line_items s) (end_of H) front note back is (sym (line_of-parts rules H o s has) ∙ same)
+
+pub terminal_is_last : TerminalIsLast
+terminal_is_last rules H o front note back is same = terminal_is_last_by rules H o front note back (signals rules H o) refl is same
+
+line_ends_by : (rules : Rules) (H : History) (o : ℕ) (before : Option Signals) → signals rules H o ≡ before → is_some before ≡ true
+    → line_of rules H o ≡ map Next (items_among (line_of rules H o)) ++ option_to_list (end_of H)
+line_ends_by rules H o None none held = cc
+line_ends_by rules H o (Some s) is held =
+    line_of-parts rules H o s is
+    ∙ ap (λ xs. map Next xs ++ option_to_list (end_of H)) (sym (items_among-line rules H o s is))
+
+pub line_ends_as_the_subject : LineEndsAsTheSubject
+line_ends_as_the_subject rules H o held = line_ends_by rules H o (signals rules H o) refl (sym (is_held-signals rules H o) ∙ held)
+
+first_empty : (notes more : List Note) → notes ++ more ≡ [] → notes ≡ []
+first_empty [] more e = refl
+first_empty (note ∷ notes) more e = cc
+
+pub nothing_follows_a_terminal : NothingFollowsATerminal
+nothing_follows_a_terminal rules H o front note entry is gave =
+    let grown = given_only_grows rules H o entry in
+    let waits = waiting_for rules (H ▹ entry) o in
+    let whole : line_of rules (H ▹ entry) o ≡ front ++ note ∷ (grown.0 ++ waits) =
+    sym (given_then_waiting rules (H ▹ entry) o)
+    ∙ ap (λ notes. notes ++ waits) (grown.1 ∙ ap (λ notes. notes ++ grown.0) gave)
+    ∙ append_assoc (front ++ note ∷ []) grown.0 waits
+    ∙ append_assoc front (note ∷ []) (grown.0 ++ waits) in
+    let none = first_empty grown.0 waits (terminal_is_last rules (H ▹ entry) o front note (grown.0 ++ waits) is whole) in
+    grown.1 ∙ ap (λ notes. given_to rules H o ++ notes) none ∙ append-nil (given_to rules H o)
+
+ended_by_some : (end : Option Note) → is_some end ≡ true → (note : Note) × (end ≡ Some note)
+ended_by_some None e = cc
+ended_by_some (Some note) e = (note, refl)
+
+pub nothing_follows_the_end : NothingFollowsTheEnd
+nothing_follows_the_end rules H o entry held ended none =
+    let end = ended_by_some (end_of H) ended in
+    let gave : given_to rules H o ≡ map Next (items_among (line_of rules H o)) ++ end.0 ∷ [] =
+    sym (append-nil (given_to rules H o))
+    ∙ ap (λ notes. given_to rules H o ++ notes) (sym none)
+    ∙ given_then_waiting rules H o
+    ∙ line_ends_as_the_subject rules H o held
+    ∙ ap (λ last. map Next (items_among (line_of rules H o)) ++ option_to_list last) end.1 in
+    nothing_follows_a_terminal rules H o (map Next (items_among (line_of rules H o))) end.0 entry (end_is_terminal H end.0 end.1) gave
+
+-- BOUNDED WAITING
+
+cut_end : (b : Bool) (last : List Note) → items_among last ≡ [] → items_among (cond b last []) ≡ []
+cut_end true last e = e
+cut_end false last e = refl
+
+items_given : (s : Signals) → items_among (ending s) ≡ [] → length (items_among (given s)) + owed s ≡ demand s
+items_given s none =
+    let xs = take (demand s) (line_items s) in
+    let last = cond (leb (length (line_items s)) (demand s)) (ending s) [] in
+    let items : items_among (given s) ≡ xs =
+    items_among-append (map Next xs) last
+    ∙ ap (λ ys. ys ++ items_among last) (items_among-items xs)
+    ∙ ap (λ ys. xs ++ ys) (cut_end (leb (length (line_items s)) (demand s)) (ending s) none)
+    ∙ append-nil xs in
+    omega (arith, ap length items, length-take (demand s) (line_items s))
+
+given_and_owed_by : (rules : Rules) (H : History) (o : ℕ) (before : Option Signals) → signals rules H o ≡ before
+    → length (items_among (option_map_or given before [])) + option_map_or owed before 0 ≡ option_map_or demand before 0
+given_and_owed_by rules H o None none = omega arith
+given_and_owed_by rules H o (Some s) is =
+    items_given s (ap (λ end. items_among (option_to_list end)) (terminal_of-signals rules H o s is) ∙ items_among-end H)
+
+pub given_and_owed : GivenAndOwed
+given_and_owed rules H o = given_and_owed_by rules H o (signals rules H o) refl
+
+pub given_within_requests : GivenWithinRequests
+given_within_requests rules H o = omega (arith, given_and_owed rules H o)
+
+none_waits : (b : Bool) (s : Option Signals) → 0 < option_map_or owed s 0 → cond b (option_map_or waiting s []) [] ≡ []
+none_waits true None owes = refl
+none_waits true (Some s) owes = owed-waiting s owes
+none_waits false s owes = refl
+
+pub nothing_waits_while_owed : NothingWaitsWhileOwed
+nothing_waits_while_owed rules H o owes = none_waits (is_held rules H o) (signals rules H o) owes
+
+keeps_all_by : (rules : Rules) (H : History) (o : ℕ) (before : Option Signals) → signals rules H o ≡ before → is_some before ≡ true
+    → option_map policy_of before ≡ Some (choice Buffer Delay) → items_among (line_of rules H o) ≡ option_map_or offered before []
+keeps_all_by rules H o None none held chose = cc
+keeps_all_by rules H o (Some s) is held chose =
+    let policy : policy_of s ≡ choice Buffer Delay = let e = chose in cc in
+    let whole = line-whole s (ap (λ (c : Choice). c.strategy) policy) (ap (λ (c : Choice). c.errors) policy) in
+    ap items_among
+    (line_of-signals rules H o s is ∙ whole ∙ ap (λ end. map Next (offered s) ++ option_to_list end) (terminal_of-signals rules H o s is))
+    ∙ items_among-parts H (offered s)
+
+pub buffer_keeps_all : BufferKeepsAll
+buffer_keeps_all rules H o held chose = keeps_all_by rules H o (signals rules H o) refl (sym (is_held-signals rules H o) ∙ held) chose

@@ -1,0 +1,92 @@
+-- A trace keeps up with the signals: what each of them makes of it.
+use Rattle.std.proofs.Common.{◌≡◌, ℕ, zero, suc, ◌+◌, ◌-◌, ◌<◌, [], ◌∷◌, ◌++◌, length, map, take, drop, Option, Some, None, option_to_list, refl, sym, ap, ◌∙◌, arith}
+use Rattle.std.proofs.lemmas.List.{length-take, length-append, drop_at}
+use Rattle.rx_note.specs.declared.item.Item.{Item}
+use Rattle.rx_note.specs.declared.note.Note.{Note}
+use Rattle.rx_note.specs.declared.note.Note.TheVariants.{Next}
+use Rattle.rx_note.specs.Choices.{Choice}
+use Rattle.rx_history.specs.Histories.{followed_by, ended_by}
+use Rattle.rx_note.specs.Signals.{Start, Requested, Offered, Ended, Signals, ◌▸◌, policy_of, demand, terminal_of, line_items, line, given, waiting}
+use Rattle.rx_note.proofs.Lines.{line_items-offered, line_items-ended, stays_behind, owed-rest, given-waiting}
+use Rattle.rx_history.specs.declared.trace.Trace.{Trace}
+use Rattle.rx_history.specs.Traces.{Traces}
+
+take-nil : (n : ℕ) → take {A = Item} n [] ≡ []
+take-nil zero = refl
+take-nil (suc n) = refl
+
+-- an item that is owed is given at once, and all the items are then given
+pub offer_given : (old new : Trace) (item : Item) (s : Signals) → Traces old s → terminal_of s ≡ None → 0 < old.owed
+    → new.items.items ≡ old.items.items ++ item ∷ [] → new.given ≡ length new.items.items → new.owed ≡ old.owed - 1 → new.end ≡ old.end
+    → Traces new (s ▸ Offered item)
+offer_given old new item s was open_now owes is_items is_given is_owed is_end =
+    let behind : line_items (s ▸ Offered item) ≡ line_items s ++ item ∷ [] = line_items-offered (policy_of s).strategy s item refl open_now in
+    let longer = ap length behind ∙ length-append (line_items s) (item ∷ []) in
+    let has_items = is_items ∙ ap (λ xs. xs ++ item ∷ []) was.has_items ∙ sym behind in
+    let all = ap length has_items in
+    let cut = length-take (demand s) (line_items (s ▸ Offered item)) in
+    record {
+      has_items = has_items;
+      has_given = omega (arith, longer, all, cut, owed-rest s, was.has_owed);
+      has_owed = omega (arith, longer, cut, owed-rest s, was.has_owed);
+      has_end = is_end ∙ was.has_end;
+    }
+
+-- an item that is not owed waits
+pub offer_waits : (old new : Trace) (item : Item) (s : Signals) → Traces old s → terminal_of s ≡ None → old.owed ≡ 0
+    → new.items.items ≡ old.items.items ++ item ∷ [] → new.given ≡ old.given → new.owed ≡ old.owed → new.end ≡ old.end
+    → Traces new (s ▸ Offered item)
+offer_waits old new item s was open_now owes is_items is_given is_owed is_end =
+    let behind : line_items (s ▸ Offered item) ≡ line_items s ++ item ∷ [] = line_items-offered (policy_of s).strategy s item refl open_now in
+    let longer = ap length behind ∙ length-append (line_items s) (item ∷ []) in
+    let before = length-take (demand s) (line_items s) in
+    let cut = length-take (demand s) (line_items (s ▸ Offered item)) in
+    record {
+      has_items = is_items ∙ ap (λ xs. xs ++ item ∷ []) was.has_items ∙ sym behind;
+      has_given = omega (arith, longer, before, cut, owed-rest s, was.has_owed, was.has_given);
+      has_owed = omega (arith, longer, cut, owed-rest s, was.has_owed);
+      has_end = is_end ∙ was.has_end;
+    }
+
+-- the end leaves all but the end
+pub ends : (old new : Trace) (terminal : Note) (s : Signals) → Traces old s → terminal_of s ≡ None
+    → new.items.items ≡ old.items.items → new.given ≡ old.given → new.owed ≡ old.owed → new.end ≡ Some terminal
+    → Traces new (s ▸ Ended terminal)
+ends old new terminal s was open_now is_items is_given is_owed is_end =
+    let same : line_items (s ▸ Ended terminal) ≡ line_items s = line_items-ended s terminal (stays_behind (policy_of s).errors terminal) open_now in
+    record {
+      has_items = is_items ∙ was.has_items ∙ sym same;
+      has_given = is_given ∙ was.has_given ∙ ap (λ xs. length (take (demand s) xs)) (sym same);
+      has_owed = is_owed ∙ was.has_owed ∙ ap (λ xs. demand s - length (take (demand s) xs)) (sym same);
+      has_end = is_end;
+    }
+
+-- an observer that joins has requested its first items
+opens_open : (new : Trace) (policy : Choice) (first : ℕ) → new.items.items ≡ [] → new.given ≡ 0 → new.owed ≡ first → new.end ≡ None
+    → Traces new (Start policy ▸ Requested first)
+opens_open new policy first is_items is_given is_owed is_end = record {
+  has_items = is_items;
+  has_given = is_given ∙ sym (ap length (take-nil (0 + first)));
+  has_owed = omega (arith, ap length (take-nil (0 + first)));
+  has_end = is_end;
+}
+
+-- and has the end where there is one
+pub opens : (new : Trace) (policy : Choice) (first : ℕ) (end : Option Note)
+    → new.items.items ≡ [] → new.given ≡ 0 → new.owed ≡ first → new.end ≡ end
+    → Traces new (followed_by (Start policy ▸ Requested first) (ended_by end))
+opens new policy first None is_items is_given is_owed is_end = opens_open new policy first is_items is_given is_owed is_end
+opens new policy first (Some terminal) is_items is_given is_owed is_end =
+    let before : Trace = record new { end = None } in
+    ends before new terminal (Start policy ▸ Requested first) (opens_open before policy first is_items is_given is_owed refl) refl refl refl refl is_end
+
+-- the notes of the items and of the end are the line
+pub line_is : (trace : Trace) (s : Signals) → Traces trace s → map Next trace.items.items ++ option_to_list trace.end ≡ line s
+line_is trace s is =
+    ap (λ xs. map Next xs ++ option_to_list trace.end) is.has_items
+    ∙ ap (λ end. map Next (line_items s) ++ option_to_list end) is.has_end
+
+-- what follows the notes given is what waits
+pub waits_behind : (s : Signals) → drop (length (given s)) (line s) ≡ waiting s
+waits_behind s =
+    ap (drop (length (given s))) (sym (given-waiting s)) ∙ drop_at (given s) (waiting s) (length (given s)) refl

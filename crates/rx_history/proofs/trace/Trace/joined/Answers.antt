@@ -1,0 +1,6 @@
+use Rattle.std.proofs.Common.{refl}
+use Rattle.rx_history.proofs.Tracing.{opens}
+use Rattle.rx_history.proofs.trace.Trace.joined.Goals as goal
+
+pub returns : goal.returns
+returns c = λ policy. opens _ policy c.args.first c.args.end c.new.ensures.items refl refl refl

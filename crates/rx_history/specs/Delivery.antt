@@ -1,0 +1,140 @@
+-- The laws of delivery: what every observer of every history can rely on.
+-- Order, and that nothing follows a terminal, are those of the Observable Contract
+-- (reactivex.io/documentation/contract.html); that a request bounds what is given is that of the Backpressure operators
+-- (reactivex.io/documentation/operators/backpressure.html).
+use Rattle.std.specs.Prelude.{◌≡◌, ℕ, ◌+◌, ◌<◌, ◌≤◌, ◌==◌, Bool, true, false, List, [], ◌∷◌, ◌++◌, length, map, Option, Some, is_some, option_to_list}
+use Rattle.std.specs.List.{filter, items_where_true}
+use Rattle.std.specs.Option.{option_map, option_map_or}
+use Rattle.rx_note.specs.declared.item.Item.{Item}
+use Rattle.rx_note.specs.declared.note.Note.{Note}
+use Rattle.rx_note.specs.declared.note.Note.TheVariants.{Next, Completed, Failed}
+use Rattle.rx_note.specs.declared.event.Event.TheVariants.{Emit}
+use Rattle.rx_note.specs.declared.rules.Rules.{Rules}
+use Rattle.rx_note.specs.declared.strategy.Strategy.TheVariants.{Buffer}
+use Rattle.rx_note.specs.declared.errors.Errors.TheVariants.{Delay}
+use Rattle.rx_note.specs.Choices.{Choice, choice}
+use Rattle.rx_note.specs.Signals.{Requested, Offered, Ended, Signals, Start, ◌▸◌, policy_of, demand}
+use Rattle.rx_history.specs.Histories.{Entry, History, ◌▹◌, terminal_in, end_of, is_ended, is_held, item_in, items, signals, given_to, line_of, waiting_for, owed_to}
+
+-- THE WORDS
+
+-- the items among notes
+abbrev pub items_among : List Note → List Item
+items_among [] = []
+items_among (Next item ∷ notes) = item ∷ items_among notes
+items_among (Completed ∷ notes) = items_among notes
+items_among (Failed text ∷ notes) = items_among notes
+
+-- a note is a terminal
+abbrev pub IsTerminal : Note → Type 0
+IsTerminal note = is_some (terminal_in note) ≡ true
+
+-- the items that were offered to an observer with these signals
+abbrev pub offered : Signals → List Item
+offered (Start policy) = []
+offered (s ▸ Requested n) = offered s
+offered (s ▸ Offered item) = offered s ++ item ∷ []
+offered (s ▸ Ended terminal) = offered s
+
+-- the items that were offered to observer o
+abbrev pub offered_to : Rules → History → ℕ → List Item
+offered_to rules H o = option_map_or offered (signals rules H o) []
+
+-- how many items observer o requested
+abbrev pub requested_by : Rules → History → ℕ → ℕ
+requested_by rules H o = option_map_or demand (signals rules H o) 0
+
+-- the policy that observer o joined with
+abbrev pub policy_by : Rules → History → ℕ → Option Choice
+policy_by rules H o = option_map policy_of (signals rules H o)
+
+-- the items of the accepted Emits
+abbrev pub emitted : Rules → History → List Item
+emitted rules H = map (λ stamped. stamped.0) (items rules H)
+
+-- the items of one port
+abbrev pub of_port : ℕ → List Item → List Item
+of_port port xs = filter (λ item. item.from == port) xs
+
+-- the some stand among all in the same order, each at a place of its own: a mask over all says which
+abbrev pub IsSubsequence : List Item → List Item → Type 0
+IsSubsequence some all = (mask : List Bool) × (length mask ≡ length all) × (some ≡ items_where_true mask all)
+
+-- EACH ITEM ONCE AND IN ORDER
+
+-- the items of a line are items offered to the observer, in their order and none twice
+abbrev pub LineIsInOrder : Type 0
+LineIsInOrder = (rules : Rules) (H : History) (o : ℕ) → IsSubsequence (items_among (line_of rules H o)) (offered_to rules H o)
+
+-- the items offered to an observer are items of the accepted Emits, in their order and none twice
+abbrev pub OffersAreInOrder : Type 0
+OffersAreInOrder = (rules : Rules) (H : History) (o : ℕ) → IsSubsequence (offered_to rules H o) (emitted rules H)
+
+-- so that the items of each port come in that port's order
+abbrev pub EachPortIsInOrder : Type 0
+EachPortIsInOrder =
+    (rules : Rules) (H : History) (o port : ℕ) → IsSubsequence (of_port port (items_among (line_of rules H o))) (of_port port (emitted rules H))
+
+-- an item that is accepted is offered to every observer that is held
+abbrev pub EachItemIsOffered : Type 0
+EachItemIsOffered =
+    (rules : Rules) (H : History) (o port : ℕ) (note : Note) (at : ℕ) → is_held rules H o ≡ true → is_ended H ≡ false
+    → offered_to rules (H ▹ (port, Emit note at)) o ≡ offered_to rules H o ++ item_in port note
+
+-- GIVEN AND WAITING
+
+-- what was given, and then what waits, is the line
+abbrev pub GivenThenWaiting : Type 0
+GivenThenWaiting = (rules : Rules) (H : History) (o : ℕ) → given_to rules H o ++ waiting_for rules H o ≡ line_of rules H o
+
+-- what was given is never taken back: an event adds notes behind it
+abbrev pub GivenOnlyGrows : Type 0
+GivenOnlyGrows =
+    (rules : Rules) (H : History) (o : ℕ) (entry : Entry) → (notes : List Note) × (given_to rules (H ▹ entry) o ≡ given_to rules H o ++ notes)
+
+-- NOTHING FOLLOWS A TERMINAL
+
+-- a terminal stands in a line at its end alone
+abbrev pub TerminalIsLast : Type 0
+TerminalIsLast =
+    (rules : Rules) (H : History) (o : ℕ) (front : List Note) (note : Note) (back : List Note) → IsTerminal note
+    → line_of rules H o ≡ front ++ note ∷ back → back ≡ []
+
+-- the line of an observer that is held is its items, and then the end of the subject where there is one
+abbrev pub LineEndsAsTheSubject : Type 0
+LineEndsAsTheSubject =
+    (rules : Rules) (H : History) (o : ℕ) → is_held rules H o ≡ true
+    → line_of rules H o ≡ map Next (items_among (line_of rules H o)) ++ option_to_list (end_of H)
+
+-- once a terminal was given, nothing more is
+abbrev pub NothingFollowsATerminal : Type 0
+NothingFollowsATerminal =
+    (rules : Rules) (H : History) (o : ℕ) (front : List Note) (note : Note) (entry : Entry) → IsTerminal note
+    → given_to rules H o ≡ front ++ note ∷ [] → given_to rules (H ▹ entry) o ≡ given_to rules H o
+
+-- once the subject ended and nothing waits, nothing more is given to an observer that is held
+abbrev pub NothingFollowsTheEnd : Type 0
+NothingFollowsTheEnd =
+    (rules : Rules) (H : History) (o : ℕ) (entry : Entry) → is_held rules H o ≡ true → is_ended H ≡ true
+    → waiting_for rules H o ≡ [] → given_to rules (H ▹ entry) o ≡ given_to rules H o
+
+-- BOUNDED WAITING
+
+-- the items given and those owed are as many as were requested
+abbrev pub GivenAndOwed : Type 0
+GivenAndOwed =
+    (rules : Rules) (H : History) (o : ℕ) → length (items_among (given_to rules H o)) + owed_to rules H o ≡ requested_by rules H o
+
+-- so that no more items are given than were requested
+abbrev pub GivenWithinRequests : Type 0
+GivenWithinRequests = (rules : Rules) (H : History) (o : ℕ) → length (items_among (given_to rules H o)) ≤ requested_by rules H o
+
+-- nothing is held back: while an item is owed, nothing waits
+abbrev pub NothingWaitsWhileOwed : Type 0
+NothingWaitsWhileOwed = (rules : Rules) (H : History) (o : ℕ) → 0 < owed_to rules H o → waiting_for rules H o ≡ []
+
+-- under Buffer and Delay every item offered is in the line
+abbrev pub BufferKeepsAll : Type 0
+BufferKeepsAll =
+    (rules : Rules) (H : History) (o : ℕ) → is_held rules H o ≡ true → policy_by rules H o ≡ Some (choice Buffer Delay)
+    → items_among (line_of rules H o) ≡ offered_to rules H o

@@ -1,0 +1,74 @@
+//! The laws of delivery, for every history: each function does nothing, and its contract is one law of
+//! `specs/Delivery.antt`.
+
+ghost use Rattle.rx_history.specs.Delivery.{LineIsInOrder, OffersAreInOrder, EachPortIsInOrder, EachItemIsOffered, GivenThenWaiting, GivenOnlyGrows, TerminalIsLast, LineEndsAsTheSubject, NothingFollowsATerminal, NothingFollowsTheEnd, GivenAndOwed, GivenWithinRequests, NothingWaitsWhileOwed, BufferKeepsAll};
+
+/// The items of a line are items offered to the observer, in their order and none twice.
+pub fn line_is_in_order()
+    ensures { LineIsInOrder }
+{}
+
+/// The items offered to an observer are items of the accepted Emits, in their order and none twice.
+pub fn offers_are_in_order()
+    ensures { OffersAreInOrder }
+{}
+
+/// The items of each port come in that port's order.
+pub fn each_port_is_in_order()
+    ensures { EachPortIsInOrder }
+{}
+
+/// An item that is accepted is offered to every observer that is held.
+pub fn each_item_is_offered()
+    ensures { EachItemIsOffered }
+{}
+
+/// What was given, and then what waits, is the line.
+pub fn given_then_waiting()
+    ensures { GivenThenWaiting }
+{}
+
+/// What was given is never taken back.
+pub fn given_only_grows()
+    ensures { GivenOnlyGrows }
+{}
+
+/// A terminal stands in a line at its end alone.
+pub fn terminal_is_last()
+    ensures { TerminalIsLast }
+{}
+
+/// The line of an observer that is held ends by the terminal of its subject, once there is one.
+pub fn line_ends_as_the_subject()
+    ensures { LineEndsAsTheSubject }
+{}
+
+/// Once a terminal was given, nothing more is.
+pub fn nothing_follows_a_terminal()
+    ensures { NothingFollowsATerminal }
+{}
+
+/// Once the subject ended and nothing waits, nothing more is given to an observer that is held.
+pub fn nothing_follows_the_end()
+    ensures { NothingFollowsTheEnd }
+{}
+
+/// The items given and those owed are as many as were requested.
+pub fn given_and_owed()
+    ensures { GivenAndOwed }
+{}
+
+/// No more items are given than were requested.
+pub fn given_within_requests()
+    ensures { GivenWithinRequests }
+{}
+
+/// Nothing is held back: while an item is owed, nothing waits.
+pub fn nothing_waits_while_owed()
+    ensures { NothingWaitsWhileOwed }
+{}
+
+/// Under Buffer and Delay every item offered is in the line.
+pub fn buffer_keeps_all()
+    ensures { BufferKeepsAll }
+{}

@@ -1,0 +1,198 @@
+ghost use Rattle.std.specs.Prelude.{ℕ, ◌≡◌, ◌+◌, ◌^◌, ◌<◌, ◌&&◌, nat_lt, true, if◌then◌else◌, Option, IfOk, OnOk};
+ghost use Rattle.std.specs.Option.{option_map};
+ghost use Rattle.rx_note.specs.declared.event.Event.TheVariants.{Emit, Join, Request};
+ghost use Rattle.rx_note.specs.Choices.{Choice};
+ghost use Rattle.rx_note.specs.Signals.{Signals, ◌▸◌, Requested, Offered, Ended};
+ghost use Rattle.rx_history.specs.Histories.{History, ◌▹◌, joins as joins_in, may_request, signals as signals_in};
+ghost use Rattle.rx_history.specs.Stored.{history_of};
+ghost use Rattle.rx_history.specs.Traces.{MayTrace, AreOpen};
+
+use crate::trace::Trace;
+use rx_heap::{Heap, Memory};
+use rx_note::{Event, Item, Limits, Note, Rules};
+
+/// A walk over the events of a subject, from the first one on, for the sake of one observer: how many Joins were
+/// accepted, the end of the subject, and the trace of the observer once it has joined.
+#[derive(Drop)]
+pub(crate) struct Walk {
+    pub(crate) who: u32,
+    pub(crate) joins: u32,
+    pub(crate) end: Option<Note>,
+    pub(crate) trace: Option<Trace>,
+}
+
+impl Walk {
+    ghost use Rattle.rx_history.specs.Walks.{Passes};
+
+    /// Goes on over one event from a port.
+    fn turn(&mut self, heap: &Heap, rules: &Rules, port: u32, event: &Event) -> Result<(), Memory>
+        ensures passes { OnOk result (Passes rules.now self.old self.new (port, event.now)) }
+        ensures who { self.new.who ≡ self.old.who }
+    {
+        match event {
+            Event::Emit { note, at: _ } => self.emit(port, note),
+            Event::Join {
+                policy: _,
+                first,
+                at: _,
+            } => self.join(heap, rules, *first),
+            Event::Request { who, n } => {
+                self.request(*who, *n);
+                Ok(())
+            }
+        }
+    }
+
+    // A note is emitted from a port; it is refused where the subject has ended.
+    fn emit(&mut self, port: u32, note: &Note) -> Result<(), Memory>
+        ensures passes { OnOk result ((rules : Rules) (at : ℕ) → Passes rules self.old self.new (port, Emit note.now at)) }
+        ensures who { self.new.who ≡ self.old.who }
+    {
+        if self.end.is_some() {
+            return Ok(());
+        }
+        match note {
+            Note::Next(item) => {
+                let text = item.text.copy()?;
+                offer_to(&mut self.trace, Item { from: port, text })?;
+            }
+            terminal => {
+                let end = terminal.copy()?;
+                end_by(&mut self.trace, end);
+                self.end = Some(terminal.copy()?);
+            }
+        }
+        Ok(())
+    }
+
+    // An observer joins; it is refused where the limits are reached. Its number is the count of the Joins before it.
+    fn join(&mut self, heap: &Heap, rules: &Rules, first: u32) -> Result<(), Memory>
+        ensures passes { OnOk result ((port : ℕ) (policy : Choice) (at : ℕ) → Passes rules.now self.old self.new (port, Join policy first at)) }
+        ensures who { self.new.who ≡ self.old.who }
+    {
+        if !admits(&rules.limits, self.joins) {
+            return Ok(());
+        }
+        let who = self.joins;
+        self.joins += 1;
+        if who != self.who {
+            return Ok(());
+        }
+        let end = copy_of(&self.end)?;
+        self.trace = Some(Trace::joined(heap.clone()?, first, end));
+        Ok(())
+    }
+
+    // An observer requests items; it is refused where no such observer is held.
+    fn request(&mut self, who: u32, n: u32)
+        ensures passes { (rules : Rules) (port : ℕ) → Passes rules self.old self.new (port, Request who n) }
+        ensures who { self.new.who ≡ self.old.who }
+    {
+        if who == self.who {
+            request_by(&mut self.trace, n);
+        }
+    }
+}
+
+// The same note, or none.
+fn copy_of(note: &Option<Note>) -> Result<Option<Note>, Memory>
+    ensures { IfOk result (λ copy. copy ≡ note.now) }
+{
+    match note {
+        Some(note) => Ok(Some(note.copy()?)),
+        None => Ok(None),
+    }
+}
+
+// Offers an item to the observer, if it has joined.
+fn offer_to(trace: &mut Option<Trace>, item: Item) -> Result<(), Memory>
+    ensures { OnOk result ((signals : Option Signals) → AreOpen signals → MayTrace trace.old signals
+        → MayTrace trace.new (option_map (λ s. s ▸ Offered item) signals)) }
+{
+    match trace {
+        Some(trace) => trace.offer(item),
+        None => Ok(()),
+    }
+}
+
+// Ends the signals of the observer, if it has joined.
+fn end_by(trace: &mut Option<Trace>, terminal: Note)
+    ensures { (signals : Option Signals) → AreOpen signals → MayTrace trace.old signals
+        → MayTrace trace.new (option_map (λ s. s ▸ Ended terminal) signals) }
+{
+    if let Some(trace) = trace {
+        trace.end(terminal);
+    }
+}
+
+// Requests items for the observer, if it has joined.
+fn request_by(trace: &mut Option<Trace>, n: u32)
+    ensures { (signals : Option Signals) → MayTrace trace.old signals
+        → MayTrace trace.new (option_map (λ s. if may_request n s then s ▸ Requested n else s) signals) }
+{
+    if let Some(trace) = trace {
+        trace.request(n);
+    }
+}
+
+// Whether a Join is accepted after so many; nobody leaves, so that as many are held.
+fn admits(limits: &Limits, joins: u32) -> bool
+    ensures admitted { result ≡ (nat_lt joins limits.now.observers && nat_lt joins limits.now.joins) }
+    ensures more { result ≡ true → joins + 1 < 2 ^ 32 }
+{
+    joins < limits.observers && joins < limits.joins
+}
+
+// The count of the accepted Joins with one event more.
+fn joins_after(rules: &Rules, joins: u32, event: &Event) -> u32
+    ensures { (H : History) (port : ℕ) → joins ≡ joins_in rules.now H → result ≡ joins_in rules.now (H ▹ (port, event.now)) }
+{
+    match event {
+        Event::Join { .. } => {
+            if admits(&rules.limits, joins) {
+                joins + 1
+            } else {
+                joins
+            }
+        }
+        Event::Emit { .. } | Event::Request { .. } => joins,
+    }
+}
+
+/// How many Joins are accepted in these entries.
+pub(crate) fn joins_of(rules: &Rules, entries: &[(u32, Event)]) -> u32
+    ensures { result ≡ joins_in rules.now (history_of entries.now) }
+{
+    let mut joins = 0;
+    for entry in entries {
+        joins = joins_after(rules, joins, &entry.1);
+    }
+    joins
+}
+
+/// The trace of observer `who` after these entries; None where it has not joined.
+pub(crate) fn trace_of(
+    heap: &Heap,
+    rules: &Rules,
+    who: u32,
+    entries: &[(u32, Event)],
+) -> Result<Option<Trace>, Memory>
+    ensures { IfOk result (λ trace. MayTrace trace (signals_in rules.now (history_of entries.now) who)) }
+{
+    let mut walk = Walk {
+        who,
+        joins: 0,
+        end: None,
+        trace: None,
+    };
+    for entry in entries {
+        walk.turn(heap, rules, entry.0, &entry.1)?;
+    }
+    let Walk {
+        who: _,
+        joins: _,
+        end: _,
+        trace,
+    } = walk;
+    Ok(trace)
+}
