@@ -169,7 +169,7 @@ line_ends_by rules H o (Some s) is held =
 pub line_ends_as_the_subject : LineEndsAsTheSubject
 line_ends_as_the_subject rules H o held = line_ends_by rules H o (signals rules H o) refl (sym (is_held-signals rules H o) ∙ held)
 
-first_empty : (notes more : List Note) → notes ++ more ≡ [] → notes ≡ []
+pub first_empty : (notes more : List Note) → notes ++ more ≡ [] → notes ≡ []
 first_empty [] more e = refl
 first_empty (note ∷ notes) more e = cc
 

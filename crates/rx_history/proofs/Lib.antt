@@ -5,6 +5,7 @@ pub mod Delivered
 pub mod Endings
 pub mod Entries
 pub mod Extending
+pub mod Gaining
 pub mod Numbers
 pub mod Offers
 pub mod Subsequences

@@ -2,9 +2,10 @@
 -- Order, and that nothing follows a terminal, are those of the Observable Contract
 -- (reactivex.io/documentation/contract.html); that a request bounds what is given is that of the Backpressure operators
 -- (reactivex.io/documentation/operators/backpressure.html).
-use Rattle.std.specs.Prelude.{◌≡◌, ℕ, ◌+◌, ◌<◌, ◌≤◌, ◌==◌, Bool, true, false, List, [], ◌∷◌, ◌++◌, length, map, Option, Some, is_some, option_to_list}
+use Rattle.std.specs.Prelude.{◌≡◌, ℕ, ◌+◌, ◌<◌, ◌≤◌, ◌==◌, Bool, true, false, if◌then◌else◌, List, [], ◌∷◌, ◌++◌, length, map, Option, Some, is_some, option_to_list}
 use Rattle.std.specs.List.{filter, items_where_true}
 use Rattle.std.specs.Option.{option_map, option_map_or}
+use Rattle.rx_note.specs.declared.given.Given.{Given}
 use Rattle.rx_note.specs.declared.item.Item.{Item}
 use Rattle.rx_note.specs.declared.note.Note.{Note}
 use Rattle.rx_note.specs.declared.note.Note.TheVariants.{Next, Completed, Failed}
@@ -14,7 +15,7 @@ use Rattle.rx_note.specs.declared.strategy.Strategy.TheVariants.{Buffer}
 use Rattle.rx_note.specs.declared.errors.Errors.TheVariants.{Delay}
 use Rattle.rx_note.specs.Choices.{Choice, choice}
 use Rattle.rx_note.specs.Signals.{Requested, Offered, Ended, Signals, Start, ◌▸◌, policy_of, demand}
-use Rattle.rx_history.specs.Histories.{Entry, History, ◌▹◌, terminal_in, end_of, is_ended, is_held, item_in, items, signals, given_to, line_of, waiting_for, owed_to}
+use Rattle.rx_history.specs.Histories.{Entry, History, ◌▹◌, terminal_in, end_of, is_ended, is_held, item_in, items, signals, given_to, line_of, waiting_for, owed_to, outs}
 
 -- THE WORDS
 
@@ -28,6 +29,11 @@ items_among (Failed text ∷ notes) = items_among notes
 -- a note is a terminal
 abbrev pub IsTerminal : Note → Type 0
 IsTerminal note = is_some (terminal_in note) ≡ true
+
+-- the notes addressed to observer o, in their order
+abbrev pub notes_for : ℕ → List Given → List Note
+notes_for o [] = []
+notes_for o (given ∷ more) = if given.who == o then given.note ∷ notes_for o more else notes_for o more
 
 -- the items that were offered to an observer with these signals
 abbrev pub offered : Signals → List Item
@@ -91,6 +97,11 @@ GivenThenWaiting = (rules : Rules) (H : History) (o : ℕ) → given_to rules H 
 abbrev pub GivenOnlyGrows : Type 0
 GivenOnlyGrows =
     (rules : Rules) (H : History) (o : ℕ) (entry : Entry) → (notes : List Note) × (given_to rules (H ▹ entry) o ≡ given_to rules H o ++ notes)
+
+-- what an entry gives to an observer is what it is given more
+abbrev pub OutsAreGiven : Type 0
+OutsAreGiven =
+    (rules : Rules) (H : History) (o : ℕ) (entry : Entry) → given_to rules (H ▹ entry) o ≡ given_to rules H o ++ notes_for o (outs rules H entry)
 
 -- NOTHING FOLLOWS A TERMINAL
 

@@ -1,7 +1,7 @@
 //! The laws of delivery, for every history: each function does nothing, and its contract is one law of
 //! `specs/Delivery.antt`.
 
-ghost use Rattle.rx_history.specs.Delivery.{LineIsInOrder, OffersAreInOrder, EachPortIsInOrder, EachItemIsOffered, GivenThenWaiting, GivenOnlyGrows, TerminalIsLast, LineEndsAsTheSubject, NothingFollowsATerminal, NothingFollowsTheEnd, GivenAndOwed, GivenWithinRequests, NothingWaitsWhileOwed, BufferKeepsAll};
+ghost use Rattle.rx_history.specs.Delivery.{LineIsInOrder, OffersAreInOrder, EachPortIsInOrder, EachItemIsOffered, GivenThenWaiting, GivenOnlyGrows, OutsAreGiven, TerminalIsLast, LineEndsAsTheSubject, NothingFollowsATerminal, NothingFollowsTheEnd, GivenAndOwed, GivenWithinRequests, NothingWaitsWhileOwed, BufferKeepsAll};
 
 /// The items of a line are items offered to the observer, in their order and none twice.
 pub fn line_is_in_order()
@@ -31,6 +31,11 @@ pub fn given_then_waiting()
 /// What was given is never taken back.
 pub fn given_only_grows()
     ensures { GivenOnlyGrows }
+{}
+
+/// What an event gives to an observer is what it is given more.
+pub fn outs_are_given()
+    ensures { OutsAreGiven }
 {}
 
 /// A terminal stands in a line at its end alone.
