@@ -1,6 +1,6 @@
-ghost use Rattle.std.specs.Prelude.{◌≡◌, ◌≢◌, ◌+◌, ◌-◌, ◌^◌, ◌↔◌, min, Err, false, IfOk, IsOk, if◌then◌else◌};
+ghost use Rattle.std.specs.Prelude.{◌≡◌, ◌≢◌, ◌+◌, ◌-◌, ◌^◌, ◌↔◌, min, Err, false, IfOk, IsOk, if◌then◌else◌, length};
 ghost use Rattle.rx_hub.specs.Hubs.{is_miss};
-ghost use Rattle.rx_history.specs.Histories.{History, NoEvents, answer};
+ghost use Rattle.rx_history.specs.Histories.{History, NoEvents, answer, held};
 
 use crate::multicast::Multicast;
 use rx_heap::Heap;
@@ -77,6 +77,14 @@ impl Hub {
         let result = self.multicast.take(port, event, outs);
         self.misses = counted(self.misses, &result);
         result
+    }
+
+    /// How many observers are held.
+    pub fn observers(&self) -> u32
+        ensures count { result ≡ length self.now.state.observers }
+        ensures held { (H : History) → StandsFor self.now.state H → result ≡ length (held self.now.state.rules H) }
+    {
+        self.multicast.observers()
     }
 
     /// How many of its steps were answered Memory; it stays at its greatest value.
