@@ -8,3 +8,4 @@ pub mod Quiet
 pub mod Serving
 pub mod Tables
 pub mod Taking
+pub mod Waiting

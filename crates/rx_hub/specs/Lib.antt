@@ -1,3 +1,4 @@
+pub mod Counts
 pub mod Hubs
 pub mod Lanes
 pub mod Multicasts

@@ -1,8 +1,10 @@
 ghost use Rattle.std.specs.Prelude.{◌≡◌, ◌≢◌, ◌+◌, ◌-◌, ◌^◌, ◌↔◌, min, Err, false, IfOk, IsOk, if◌then◌else◌, length};
+ghost use Rattle.rx_hub.specs.Counts.{waiting_count};
 ghost use Rattle.rx_hub.specs.Hubs.{is_miss};
 ghost use Rattle.rx_history.specs.Histories.{History, NoEvents, answer, held};
 
 use crate::multicast::Multicast;
+use crate::no_observer::NoObserver;
 use rx_heap::Heap;
 use rx_note::{Answer, Event, Given, Kind, Limits, Refusal, Rules};
 use std::marker::Model;
@@ -85,6 +87,14 @@ impl Hub {
         ensures held { (H : History) → StandsFor self.now.state H → result ≡ length (held self.now.state.rules H) }
     {
         self.multicast.observers()
+    }
+
+    /// How many notes wait for the observer `who`, the terminal included. Refused as `NoObserver` where no observer of
+    /// that number is held.
+    pub fn waiting_of(&self, who: u32) -> Result<usize, NoObserver>
+        ensures { (H : History) → StandsFor self.now.state H → result ≡ waiting_count self.now.state.rules H who }
+    {
+        self.multicast.waiting_of(who)
     }
 
     /// How many of its steps were answered Memory; it stays at its greatest value.

@@ -8,8 +8,10 @@
 mod hub;
 mod lane;
 mod multicast;
+mod no_observer;
 mod offer;
 mod subscription;
 
 pub use hub::{Hub, HubError};
+pub use no_observer::NoObserver;
 pub use rx_note::Given;

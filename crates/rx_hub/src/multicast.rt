@@ -3,9 +3,12 @@ ghost use Rattle.std.specs.List.{All};
 ghost use Rattle.rx_note.specs.declared.event.Event.TheVariants.{Emit, Join, Request};
 ghost use Rattle.rx_hub.specs.Offers.{signals_of};
 ghost use Rattle.rx_hub.specs.Subscriptions.{AllFedInto, Opens, HasRoom, observers_of};
-ghost use Rattle.rx_hub.specs.Hubs.{Takes};
+ghost use Rattle.rx_history.specs.Histories.{History};
+ghost use Rattle.rx_hub.specs.Hubs.{StandsFor, Takes};
+ghost use Rattle.rx_hub.specs.Counts.{waiting_count};
 
 use crate::lane::{AskError, Lane};
+use crate::no_observer::NoObserver;
 use crate::offer::{Offer, copy_of};
 use crate::subscription::{Subscription, end_by, give};
 use rx_heap::{Heap, Memory};
@@ -66,6 +69,16 @@ impl Multicast {
         ensures { result ≡ length self.now.subscriptions.items }
     {
         self.subscriptions.len() as u32
+    }
+
+    /// How many notes wait for an observer.
+    pub(crate) fn waiting_of(&self, who: u32) -> Result<usize, NoObserver>
+        ensures { (H : History) → StandsFor (state_of self.now) H → result ≡ waiting_count self.now.rules H who }
+    {
+        let Some(place) = place_of(&self.subscriptions, who) else {
+            return Err(NoObserver);
+        };
+        Ok(self.subscriptions[place].lane.waiting_notes())
     }
 
     // A note is emitted from a port.
