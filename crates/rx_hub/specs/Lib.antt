@@ -3,4 +3,5 @@ pub mod Hubs
 pub mod Lanes
 pub mod Multicasts
 pub mod Offers
+pub mod Runs
 pub mod Subscriptions
