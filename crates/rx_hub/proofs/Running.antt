@@ -13,6 +13,7 @@ use Rattle.rx_hub.specs.Runs.{made, step_outs, misses_with, IsAnswer, after_run,
 
 -- THE LAST STEP OF THE DEFINITIONS
 
+-- the history after one step more
 after_run-push : (rules : Rules) (H : History) (entries : List Entry) (results : List (Result Answer Refusal)) (entry : Entry) (result : Result Answer Refusal)
     → AreAnswers rules H entries results
     → after_run H (entries ++ entry ∷ []) (results ++ result ∷ []) ≡ made (after_run H entries results) entry result
@@ -21,6 +22,7 @@ after_run-push rules H [] (r ∷ results) entry result all = absurd all
 after_run-push rules H (e ∷ entries) [] entry result all = absurd all
 after_run-push rules H (e ∷ entries) (r ∷ results) entry result all = after_run-push rules (made H e r) entries results entry result all.1
 
+-- what is given with one step more
 run_outs-push : (rules : Rules) (H : History) (entries : List Entry) (results : List (Result Answer Refusal)) (entry : Entry) (result : Result Answer Refusal)
     → AreAnswers rules H entries results
     → run_outs rules H (entries ++ entry ∷ []) (results ++ result ∷ []) ≡ run_outs rules H entries results ++ step_outs rules (after_run H entries results) entry result
@@ -31,6 +33,7 @@ run_outs-push rules H (e ∷ entries) (r ∷ results) entry result all =
     ap (λ os. step_outs rules H e r ++ os) (run_outs-push rules (made H e r) entries results entry result all.1)
     ∙ sym (append_assoc (step_outs rules H e r) (run_outs rules (made H e r) entries results) (step_outs rules (after_run (made H e r) entries results) entry result))
 
+-- the places with one step more
 run_places-push : (rules : Rules) (H : History) (count : ℕ) (entries : List Entry) (results : List (Result Answer Refusal)) (entry : Entry) (result : Result Answer Refusal)
     → AreAnswers rules H entries results
     → run_places rules H count (entries ++ entry ∷ []) (results ++ result ∷ [])
@@ -46,6 +49,7 @@ run_places-push rules H count (e ∷ entries) (r ∷ results) entry result all =
     ap (λ ns. now ∷ ns) (run_places-push rules (made H e r) now entries results entry result all.1)
     ∙ ap (λ n. now ∷ (run_places rules (made H e r) now entries results ++ n ∷ [])) sum
 
+-- the answers with one more
 AreAnswers-push : (rules : Rules) (H : History) (entries : List Entry) (results : List (Result Answer Refusal)) (entry : Entry) (result : Result Answer Refusal)
     → AreAnswers rules H entries results → IsAnswer rules (after_run H entries results) entry result
     → AreAnswers rules H (entries ++ entry ∷ []) (results ++ result ∷ [])
@@ -55,6 +59,7 @@ AreAnswers-push rules H (e ∷ entries) [] entry result all one = absurd all
 AreAnswers-push rules H (e ∷ entries) (r ∷ results) entry result all one =
     (all.0, AreAnswers-push rules (made H e r) entries results entry result all.1 one)
 
+-- the count of the Memory answers with one answer more
 pub misses_after-push : (misses : ℕ) (results : List (Result Answer Refusal)) (result : Result Answer Refusal)
     → misses_after misses (results ++ result ∷ []) ≡ misses_with (misses_after misses results) result
 misses_after-push misses [] result = refl
@@ -73,6 +78,7 @@ is_memory (Err NoObserver) miss = cc
 is_memory (Err TooMuch) miss = cc
 is_memory (Err Memory) miss = refl
 
+-- and what is no miss is not
 no_memory : (result : Result Answer Refusal) → is_miss result ≡ false → result ≢ Err Memory
 no_memory result other missed = let miss : is_miss result ≡ true = ap is_miss missed in cc
 
@@ -82,6 +88,7 @@ pub record Made (rules : Rules) (new : HubState) (before after : List Given) (re
   pub gives : after ≡ before ++ step_outs rules K entry result
   pub goes_on : StandsFor new (made K entry result)
 
+-- what a step made, by whether memory was wanting
 made_by : (hub new : HubState) (before after : List Given) (result : Result Answer Refusal) (K : History) (entry : Entry) (miss : Bool) → is_miss result ≡ miss
     → StandsFor hub K → (result ≢ Err Memory → Steps hub new before after result K entry)
     → (result ≡ Err Memory → (new ≡ hub) × (after ≡ before)) → (result ≡ Err Memory → IsOk (answer hub.rules K entry.1))

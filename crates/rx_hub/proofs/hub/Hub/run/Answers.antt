@@ -1,12 +1,11 @@
 use Rattle.std.proofs.Common.{◌≡◌, ◌++◌, [], ◌∷◌, List, length, ap, subst, sym, ◌∙◌, refl, arith, map-id}
 use Rattle.std.proofs.lemmas.Iterator.Consumers.{YieldsList-end}
 use Rattle.std.proofs.lemmas.Iterator.Adapters.{YieldsList-from_vec}
+use Rattle.std.proofs.lemmas.List.{map-append, length_push}
 use Rattle.rx_history.specs.Histories.{Entry}
 use Rattle.rx_hub.specs.declared.step.Step.{Step}
-use Rattle.rx_hub.specs.Hubs.{HubView}
+use Rattle.rx_hub.specs.Hubs.{HubView, is_miss}
 use Rattle.rx_hub.specs.Runs.{Ran, misses_with, misses_after, results_of}
-use Rattle.rx_hub.specs.Hubs.{is_miss}
-use Rattle.std.proofs.lemmas.List.{map-append, length_push}
 use Rattle.rx_hub.proofs.Running.{Ran-push, misses_by, misses_after-push}
 use Rattle.rx_hub.proofs.hub.Hub.run.Goals as goal
 
