@@ -3,6 +3,7 @@ use Rattle.std.proofs.Common.{◌≡◌, ℕ, suc, ◌+◌, ◌<◌, ◌≤◌, 
 use Rattle.std.proofs.lemmas.List.{length-map, get_or-map, map-set}
 use Rattle.std.proofs.Math.Seq.{map-set_same}
 use Rattle.std.proofs.lemmas.List.Folds.{list_any_at}
+use Rattle.std.proofs.lemmas.List.Quantifiers.{position-Some}
 use Rattle.std.proofs.lemmas.Bool.Decides.{nat_tests}
 use Rattle.rx_hub.proofs.Positions.{position-None}
 use Rattle.std.specs.Option.{option_map, option_map_or}
@@ -57,7 +58,8 @@ unnamed who (first ∷ subscriptions) none =
     ap (λ b. b || list_any (λ k. k == who) (numbers (observers_of subscriptions))) (none 0 first (omega arith))
     ∙ unnamed who subscriptions (λ k d lt. none (suc k) d (omega arith))
 
-absent : (who : ℕ) (subscriptions : List Subscription) → position (λ (s : Subscription). s.who == who) subscriptions ≡ None
+-- where no place has the number, it is not held
+pub absent : (who : ℕ) (subscriptions : List Subscription) → position (λ (s : Subscription). s.who == who) subscriptions ≡ None
     → list_any (λ k. k == who) (numbers (observers_of subscriptions)) ≡ false
 absent who subscriptions none = unnamed who subscriptions (λ k d lt. position-None (λ (s : Subscription). s.who == who) subscriptions none k d lt)
 
@@ -84,7 +86,7 @@ owed_at hub H who k d stands lt named =
     (at.these, ap (signals hub.rules H) (sym named) ∙ at.are, at.stand.owing)
 
 -- an observer at a place is held
-held_at : (hub : HubState) (H : History) (who k : ℕ) (d : Observer) → StandsFor hub H → k < length hub.observers
+pub held_at : (hub : HubState) (H : History) (who k : ℕ) (d : Observer) → StandsFor hub H → k < length hub.observers
     → (get_or hub.observers k d).who ≡ who → is_held hub.rules H who ≡ true
 held_at hub H who k d stands lt named =
     let at : get_or (numbers hub.observers) k d.who ≡ (get_or hub.observers k d).who = get_or-map (λ (o : Observer). o.who) hub.observers k d d.who lt in
@@ -185,9 +187,17 @@ request_taken hub new notes before after H port who n k d more few lt named asks
 -- THE SAME, AS THE CODE HAS THEM
 
 -- the observer at a place of the subscriptions
-observer-at : (subscriptions : List Subscription) (k : ℕ) (old : Subscription) → k < length subscriptions → old ≡ get_or subscriptions k old
+pub observer-at : (subscriptions : List Subscription) (k : ℕ) (old : Subscription) → k < length subscriptions → old ≡ get_or subscriptions k old
     → get_or (observers_of subscriptions) k (observer_of old) ≡ observer_of old
 observer-at subscriptions k old lt at = get_or-map observer_of subscriptions k old (observer_of old) lt ∙ ap observer_of (sym at)
+
+-- the number of the observer at the place
+pub named : (subscriptions : List Subscription) (who place : ℕ) (old : Subscription) → Some place ≡ position (λ (s : Subscription). s.who == who) subscriptions
+    → old ≡ get_or subscriptions place old → (place < length subscriptions) × (old.who ≡ who)
+named subscriptions who place old found at =
+    let is = position-Some (λ (s : Subscription). s.who == who) subscriptions place old (sym found) in
+    let same : ((get_or subscriptions place old).who == who) ≡ true = is.1 in
+    (is.0, ap (λ (s : Subscription). s.who) at ∙ grind (arith, nat_tests))
 
 pub request_more : (hub : HubState) (subscriptions : List Subscription) (news : List Observer) (outs_so_far after : List Given) (port who n k : ℕ) (old : Subscription)
     → hub.observers ≡ observers_of subscriptions → k < length subscriptions → old ≡ get_or subscriptions k old → old.who ≡ who

@@ -5,6 +5,8 @@ pub mod Joining
 pub mod LanesSteps
 pub mod Positions
 pub mod Quiet
+pub mod Running
 pub mod Serving
 pub mod Tables
 pub mod Taking
+pub mod Waiting

@@ -1,5 +1,7 @@
+pub mod Counts
 pub mod Hubs
 pub mod Lanes
 pub mod Multicasts
 pub mod Offers
+pub mod Runs
 pub mod Subscriptions

@@ -1,9 +1,13 @@
-ghost use Rattle.std.specs.Prelude.{◌≡◌, ◌≢◌, ◌+◌, ◌-◌, ◌^◌, ◌↔◌, min, Err, false, IfOk, IsOk, if◌then◌else◌};
+ghost use Rattle.std.specs.Prelude.{◌≡◌, ◌≢◌, ◌+◌, ◌-◌, ◌^◌, ◌↔◌, min, Err, false, IfOk, OnErr, IsOk, if◌then◌else◌, length};
+ghost use Rattle.rx_hub.specs.Counts.{waiting_count};
 ghost use Rattle.rx_hub.specs.Hubs.{is_miss};
-ghost use Rattle.rx_history.specs.Histories.{History, NoEvents, answer};
+ghost use Rattle.rx_history.specs.Histories.{History, NoEvents, answer, held};
 
 use crate::multicast::Multicast;
-use rx_heap::Heap;
+use crate::no_observer::NoObserver;
+use crate::run::Run;
+use crate::step::Step;
+use rx_heap::{Heap, Memory};
 use rx_note::{Answer, Event, Given, Kind, Limits, Refusal, Rules};
 use std::marker::Model;
 
@@ -36,6 +40,7 @@ impl Model for Hub {
 
 impl Hub {
     ghost use Rattle.rx_hub.specs.Hubs.{StandsFor, Steps, are_in_range};
+    ghost use Rattle.rx_hub.specs.Runs.{Ran, misses_after, results_of};
 
     /// A hub of this kind, with no event yet. Refused in the order `BadLimits`, `Memory`.
     pub fn new(alloc: Heap, kind: Kind, limits: Limits) -> Result<Hub, HubError>
@@ -77,6 +82,43 @@ impl Hub {
         let result = self.multicast.take(port, event, outs);
         self.misses = counted(self.misses, &result);
         result
+    }
+
+    /// Takes several events, each from its port, in their order. A step refused for memory has that refusal as its
+    /// result and no outs, and the run goes on. `Memory` where there was none for the list of the steps: no step was made.
+    pub fn run(&mut self, alloc: Heap, events: Vec<(u32, Event), Heap>) -> Result<Run, Memory>
+        ensures unmade { OnErr result (self.new ≡ self.old) }
+        ensures ran { (H : History) → StandsFor self.old.state H
+            → IfOk result (λ run. Ran self.old.state.rules self.new.state H events.items run.steps.items run.outs.items) }
+        ensures misses { IfOk result (λ run. self.new.misses ≡ misses_after self.old.misses (results_of run.steps.items)) }
+        ensures rules { self.new.state.rules ≡ self.old.state.rules }
+    {
+        let mut steps = Vec::with_capacity(alloc.clone()?, events.len())?;
+        let mut outs = Vec::new(alloc);
+        for (port, event) in events {
+            let result = self.step(port, event, &mut outs);
+            steps.push_reserved(Step {
+                result,
+                outs_to: outs.len(),
+            });
+        }
+        Ok(Run { steps, outs })
+    }
+
+    /// How many observers are held.
+    pub fn observers(&self) -> u32
+        ensures count { result ≡ length self.now.state.observers }
+        ensures held { (H : History) → StandsFor self.now.state H → result ≡ length (held self.now.state.rules H) }
+    {
+        self.multicast.observers()
+    }
+
+    /// How many notes wait for the observer `who`, the terminal included. Refused as `NoObserver` where no observer of
+    /// that number is held.
+    pub fn waiting_of(&self, who: u32) -> Result<usize, NoObserver>
+        ensures { (H : History) → StandsFor self.now.state H → result ≡ waiting_count self.now.state.rules H who }
+    {
+        self.multicast.waiting_of(who)
     }
 
     /// How many of its steps were answered Memory; it stays at its greatest value.

@@ -86,6 +86,17 @@ impl Lane {
         self.waiting.len()
     }
 
+    /// How many notes wait: the items, and the terminal where one waits behind them.
+    pub fn waiting_notes(&self) -> usize
+        ensures { result ≡ length self.now.state.items + length self.now.state.last }
+    {
+        let items = self.waiting.len();
+        match self.last {
+            Some(_) => items + 1,
+            None => items,
+        }
+    }
+
     /// Adds a request of `n` items, and puts at the end of `outs` what is then given. Refused in the order
     /// `ZeroRequest`, `TooMuch`, `Memory`; a refusal leaves the queue and `outs`.
     pub fn ask(&mut self, n: u32, outs: &mut Vec<Note, Heap>) -> Result<(), AskError>

@@ -8,8 +8,14 @@
 mod hub;
 mod lane;
 mod multicast;
+mod no_observer;
 mod offer;
+mod run;
+mod step;
 mod subscription;
 
 pub use hub::{Hub, HubError};
+pub use no_observer::NoObserver;
+pub use run::Run;
 pub use rx_note::Given;
+pub use step::Step;

@@ -1,12 +1,14 @@
-ghost use Rattle.std.specs.Prelude.{◌≡◌, ◌+◌, ◌*◌, ◌<◌, ◌≤◌, ◌==◌, ℕ, position, OnOk, IfOk, replicate, vec_len, vec_capacity};
+ghost use Rattle.std.specs.Prelude.{◌≡◌, ◌+◌, ◌*◌, ◌^◌, ◌<◌, ◌≤◌, ◌==◌, ℕ, length, position, OnOk, IfOk, replicate, vec_len, vec_capacity};
 ghost use Rattle.std.specs.List.{All};
 ghost use Rattle.rx_note.specs.declared.event.Event.TheVariants.{Emit, Join, Request};
 ghost use Rattle.rx_hub.specs.Offers.{signals_of};
 ghost use Rattle.rx_hub.specs.Subscriptions.{AllFedInto, Opens, HasRoom, observers_of};
-ghost use Rattle.rx_hub.specs.Hubs.{Takes};
-ghost use Rattle.rx_hub.specs.Multicasts.{state_of, state_at_first};
+ghost use Rattle.rx_history.specs.Histories.{History};
+ghost use Rattle.rx_hub.specs.Hubs.{StandsFor, Takes};
+ghost use Rattle.rx_hub.specs.Counts.{waiting_count};
 
 use crate::lane::{AskError, Lane};
+use crate::no_observer::NoObserver;
 use crate::offer::{Offer, copy_of};
 use crate::subscription::{Subscription, end_by, give};
 use rx_heap::{Heap, Memory};
@@ -22,9 +24,13 @@ pub(crate) struct Multicast {
     pub(crate) subscriptions: Vec<Subscription, Heap>,
     // The offers of one step, one for each observer. Its room is kept from step to step.
     pub(crate) offers: Vec<Offer, Heap>,
+    // No more observers are held than the limits allow.
+    ghost fits: { (length subscriptions.items ≤ rules.limits.observers) × (rules.limits.observers < 2 ^ 32) },
 }
 
 impl Multicast {
+    ghost use Rattle.rx_hub.specs.Multicasts.{state_of, state_at_first};
+
     /// The state of a subject with no event yet.
     pub(crate) fn new(alloc: Heap, rules: Rules) -> Result<Multicast, Memory>
         ensures { IfOk result (λ made. state_of made ≡ state_at_first rules) }
@@ -56,6 +62,23 @@ impl Multicast {
             Event::Join { policy, first, at } => self.join(policy, first, at, outs),
             Event::Request { who, n } => self.request(who, n, outs),
         }
+    }
+
+    /// How many observers are held.
+    pub(crate) fn observers(&self) -> u32
+        ensures { result ≡ length self.now.subscriptions.items }
+    {
+        self.subscriptions.len() as u32
+    }
+
+    /// How many notes wait for an observer.
+    pub(crate) fn waiting_of(&self, who: u32) -> Result<usize, NoObserver>
+        ensures { (H : History) → StandsFor (state_of self.now) H → result ≡ waiting_count self.now.rules H who }
+    {
+        let Some(place) = place_of(&self.subscriptions, who) else {
+            return Err(NoObserver);
+        };
+        Ok(self.subscriptions[place].lane.waiting_notes())
     }
 
     // A note is emitted from a port.
@@ -220,8 +243,9 @@ fn feed_all(
     requires copies { vec_len copies.old ≡ vec_len subscriptions.old }
     requires lane_room { All HasRoom subscriptions.old.items }
     requires outs_room { vec_len outs.old + 2 * vec_len subscriptions.old ≤ vec_capacity outs.old }
-    ensures { (offer : Offer) → copies.old.items ≡ replicate (vec_len subscriptions.old) offer
+    ensures fed { (offer : Offer) → copies.old.items ≡ replicate (vec_len subscriptions.old) offer
         → AllFedInto (signals_of offer) (observers_of subscriptions.old.items) (observers_of subscriptions.new.items) outs.old.items outs.new.items }
+    ensures len { vec_len subscriptions.new ≡ vec_len subscriptions.old }
 {
     for i in 0..subscriptions.len() {
         let Some(offer) = copies.pop() else {

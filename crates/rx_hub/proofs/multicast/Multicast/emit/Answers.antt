@@ -16,4 +16,4 @@ returns c =
     emit_done (state_of c.args.self.now) _ _ c.in-Ok.end c.max-self.result c.of-offer.result
     c.args.outs.now.items c.grow.new.outs.items c.feed_all.new.outs.items c.args.port c.args.note c.args.at
     (sym c.is_some.ensures ∙ c.if-is_some.false) c.of-offer.ensures c.in-Ok.ensures.end c.max-self.ensures c.in-Ok.ensures.observers c.in-Ok.ensures.outs
-    (c.feed_all.ensures c.of-offer.result (c.in-Ok.ensures.offers ∙ ap (λ n. replicate n c.of-offer.result) (sym c.in-Ok.ensures.len)))
+    (c.feed_all.ensures.fed c.of-offer.result (c.in-Ok.ensures.offers ∙ ap (λ n. replicate n c.of-offer.result) (sym c.in-Ok.ensures.len)))

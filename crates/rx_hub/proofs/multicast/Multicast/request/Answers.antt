@@ -1,12 +1,9 @@
-use Rattle.std.proofs.Common.{◌≡◌, ℕ, ◌+◌, ◌<◌, ◌≤◌, ◌==◌, true, List, length, get_or, inl, inr, sym, ◌∙◌, refl, ap, arith, position, Some, Err}
+use Rattle.std.proofs.Common.{ℕ, ◌+◌, ◌<◌, ◌≤◌, inl, inr, sym, ◌∙◌, refl, ap, arith, Err}
 use Rattle.std.proofs.Math.Seq.{map-set_same}
-use Rattle.std.proofs.lemmas.List.Quantifiers.{position-Some}
 use Rattle.std.proofs.lemmas.Bool.{cases_lt}
-use Rattle.std.proofs.lemmas.Bool.Decides.{nat_tests}
-use Rattle.rx_hub.specs.declared.subscription.Subscription.{Subscription}
 use Rattle.rx_hub.specs.Subscriptions.{observer_of}
 use Rattle.rx_hub.specs.Multicasts.{state_of}
-use Rattle.rx_hub.proofs.Asking.{request_zero, request_unheld, request_more, request_done, request_missed}
+use Rattle.rx_hub.proofs.Asking.{request_zero, request_unheld, request_more, request_done, request_missed, named}
 use Rattle.rx_hub.proofs.multicast.Multicast.request.Goals as goal
 
 pub returns-then-n-eq0 : goal.returns-then-n-eq0
@@ -21,14 +18,6 @@ returns-in_default c port = record {
   took = λ H stands.
       request_unheld (state_of c.args.self.now) c.args.self.now.subscriptions.items c.args.outs.now.items H port c.args.who c.args.n refl (omega arith) (sym c.in_default.ensures) stands;
 }
-
--- the number of the observer at the place
-named : (subscriptions : List Subscription) (who place : ℕ) (old : Subscription) → Some place ≡ position (λ (s : Subscription). s.who == who) subscriptions
-    → old ≡ get_or subscriptions place old → (place < length subscriptions) × (old.who ≡ who)
-named subscriptions who place old found at =
-    let is = position-Some (λ (s : Subscription). s.who == who) subscriptions place old (sym found) in
-    let same : ((get_or subscriptions place old).who == who) ≡ true = is.1 in
-    (is.0, ap (λ (s : Subscription). s.who) at ∙ grind (arith, nat_tests))
 
 -- a request that is not too much
 few : (n owing : ℕ) → ((0 < n) × (4294967296 ≤ owing + n) → ⊥) → 0 < n → owing + n < 4294967296

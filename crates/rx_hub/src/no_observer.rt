@@ -1,0 +1,3 @@
+/// No observer of that number is held.
+#[derive(Clone, Copy, Debug, PartialEq, Eq)]
+pub struct NoObserver;
