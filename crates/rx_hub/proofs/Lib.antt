@@ -7,6 +7,7 @@ pub mod Positions
 pub mod Quiet
 pub mod Running
 pub mod Serving
+pub mod Sharing
 pub mod Tables
 pub mod Taking
 pub mod Waiting

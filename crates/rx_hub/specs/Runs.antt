@@ -1,12 +1,13 @@
 -- A whole run: several events taken one after another, from a history on. A step refused for want of memory is not in
 -- the history that follows, and the run goes on.
-use Rattle.std.specs.Prelude.{◌≡◌, ◌⊎◌, ℕ, ◌+◌, ◌-◌, ◌^◌, min, List, [], ◌∷◌, ◌++◌, length, map, Result, Err, IsOk, if◌then◌else◌}
+use Rattle.std.specs.Prelude.{◌≡◌, ◌⊎◌, ℕ, ◌+◌, ◌<◌, ◌-◌, ◌^◌, min, List, [], ◌∷◌, ◌++◌, length, map, take, get_or, Result, Err, IsOk, if◌then◌else◌}
 use Rattle.rx_note.specs.declared.given.Given.{Given}
 use Rattle.rx_note.specs.declared.rules.Rules.{Rules}
 use Rattle.rx_note.specs.declared.answer.Answer.{Answer}
 use Rattle.rx_note.specs.declared.refusal.Refusal.{Refusal}
 use Rattle.rx_note.specs.declared.refusal.Refusal.TheVariants.{Memory}
-use Rattle.rx_history.specs.Histories.{History, ◌▹◌, Entry, answer, outs}
+use Rattle.rx_history.specs.Histories.{History, ◌▹◌, Entry, given_to, answer, outs}
+use Rattle.rx_history.specs.Delivery.{notes_for}
 use Rattle.rx_hub.specs.declared.step.Step.{Step}
 use Rattle.rx_hub.specs.Hubs.{HubState, StandsFor, is_miss}
 
@@ -79,3 +80,10 @@ pub record Ran (rules : Rules) (hub : HubState) (H : History) (entries : List En
   pub gives : gave ≡ run_outs rules H entries (results_of steps)
   pub places : places_of steps ≡ run_places rules H 0 entries (results_of steps)
   pub goes_on : StandsFor hub (after_run H entries (results_of steps))
+
+-- what each observer was given, from the run's beginning up to each step, is what its given gained
+abbrev pub GivesEach : Rules → History → List Entry → List Step → List Given → Type 0
+GivesEach rules H entries steps gave =
+    (i o : ℕ) → i < length steps
+    → given_to rules (after_run H (take (i + 1) entries) (take (i + 1) (results_of steps))) o
+    ≡ given_to rules H o ++ notes_for o (take (get_or (places_of steps) i 0) gave)

@@ -40,7 +40,7 @@ impl Model for Hub {
 
 impl Hub {
     ghost use Rattle.rx_hub.specs.Hubs.{StandsFor, Steps, are_in_range};
-    ghost use Rattle.rx_hub.specs.Runs.{Ran, misses_after, results_of};
+    ghost use Rattle.rx_hub.specs.Runs.{Ran, GivesEach, misses_after, results_of};
 
     /// A hub of this kind, with no event yet. Refused in the order `BadLimits`, `Memory`.
     pub fn new(alloc: Heap, kind: Kind, limits: Limits) -> Result<Hub, HubError>
@@ -90,6 +90,8 @@ impl Hub {
         ensures unmade { OnErr result (self.new ≡ self.old) }
         ensures ran { (H : History) → StandsFor self.old.state H
             → IfOk result (λ run. Ran self.old.state.rules self.new.state H events.items run.steps.items run.outs.items) }
+        ensures given { (H : History) → StandsFor self.old.state H
+            → IfOk result (λ run. GivesEach self.old.state.rules H events.items run.steps.items run.outs.items) }
         ensures misses { IfOk result (λ run. self.new.misses ≡ misses_after self.old.misses (results_of run.steps.items)) }
         ensures rules { self.new.state.rules ≡ self.old.state.rules }
     {

@@ -7,6 +7,7 @@ use Rattle.rx_hub.specs.declared.step.Step.{Step}
 use Rattle.rx_hub.specs.Hubs.{HubView, is_miss}
 use Rattle.rx_hub.specs.Runs.{Ran, misses_with, misses_after, results_of}
 use Rattle.rx_hub.proofs.Running.{Ran-push, misses_by, misses_after-push}
+use Rattle.rx_hub.proofs.Sharing.{gives_each}
 use Rattle.rx_hub.proofs.hub.Hub.run.Goals as goal
 
 pub loop-port-preserved : goal.loop-port-preserved
@@ -46,3 +47,7 @@ returns-clause-ran c H stands =
     let RanOf : List Entry → Type 0 =
     λ entries. Ran c.args.self.now.state.rules c.loop-port.self.state H entries c.loop-port.steps.items c.loop-port.outs.items in
     subst RanOf all (c.loop-port.invariant.ran H stands)
+
+pub returns-clause-given : goal.returns-clause-given
+returns-clause-given c H stands =
+    gives_each c.args.self.now.state.rules c.loop-port.self.state H c.args.events.items c.loop-port.steps.items c.loop-port.outs.items (returns-clause-ran c H stands)
