@@ -3,3 +3,4 @@
 mod faults;
 mod lines;
 mod rows;
+mod runs;
