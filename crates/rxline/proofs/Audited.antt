@@ -1,7 +1,7 @@
 -- The reading of an audit: the subjects after the lines that were read so far.
-use Rattle.std.proofs.Common.{◌≡◌, ℕ, Bool, true, false, cond, List, [], ◌∷◌, ◌++◌, Option, None, Some, Result, Ok, Err, refl, sym, ap, subst, ◌∙◌, append_assoc}
+use Rattle.std.proofs.Common.{◌≡◌, ℕ, true, false, cond, List, [], ◌++◌, Option, None, Some, Result, Ok, Err, refl, sym, ap, subst, ◌∙◌, append_assoc}
 use Rattle.std.proofs.KnownBytes.{Appends-nil, Appends-trans, Consumes-trans, Consumes-nil}
-use Rattle.std.specs.Io.KnownBytes.{Consumes, Appends, IsAtEnd}
+use Rattle.std.specs.Io.KnownBytes.{Consumes, Appends}
 use Rattle.rxline.specs.declared.asked.Asked.{Asked}
 use Rattle.rxline.specs.declared.line_error.BadLine.{BadLine}
 use Rattle.rxline.specs.declared.line_state.LineState.{LineState}
@@ -13,7 +13,7 @@ use Rattle.rxline.specs.Bytes.{AppendsPrefix, Holds, Writes}
 use Rattle.rxline.specs.Lines.{lines_of, TakesLine, TakesNoLine, without_cr}
 use Rattle.rxline.specs.Reading.{line_read}
 use Rattle.rxline.specs.Steps.{unread, GoesOn}
-use Rattle.rxline.specs.Transcripts.{Subject, asks, after_line, ends_script, has_end}
+use Rattle.rxline.specs.Transcripts.{Subject, asks, after_line, has_end}
 use Rattle.rxline.proofs.LinesOf.{lines_of-first, lines_of-taken, lines_of-none}
 use Rattle.rxline.proofs.Written.{Prefix-behind, Prefix-none}
 

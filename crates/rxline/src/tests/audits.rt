@@ -1,6 +1,9 @@
 use crate::audit::run_audit;
 use crate::config::Config;
+use crate::name::Name;
 use crate::session_end::SessionEnd;
+use crate::subject_config::SubjectConfig;
+use rx_note::{Kind, Limits, Rules};
 use std::io::{self, ErrorKind, Read};
 use std::test::Fail;
 
@@ -45,6 +48,29 @@ fn audits_of_whole_inputs(rt: HostRuntime) -> Result<(), Fail> {
         assert_eq!(rt; ended, end, "{name}");
         assert_eq!(rt; written.as_slice(), audit, "{name}");
     }
+    Ok(())
+}
+
+#[test]
+fn subjects_in_the_order_of_the_configuration(rt: HostRuntime) -> Result<(), Fail> {
+    let mut config = Config::standard(rt.alloc())?;
+    let Some(name) = Name::new(b"a") else {
+        unreachable!()
+    };
+    let rules = Rules {
+        kind: Kind::Publish,
+        limits: Limits {
+            observers: 1,
+            joins: 1,
+        },
+    };
+    config.subjects.push(SubjectConfig { name, rules })?;
+    let mut reader =
+        b"JOIN a BUFFER DELAY 1\nJOIN s BUFFER DELAY 0\nJOIN a BUFFER DELAY 2\nPUB a x\nPUB s y\n".as_slice();
+    let mut written = Vec::new(rt.alloc());
+    run_audit(rt.alloc(), config, &mut reader, &mut written, MAX_READS)?;
+    let audit = b"OBSERVER s 0\nWAITING NEXT y\nOBSERVER a 0\nGIVEN NEXT x\n";
+    assert_eq!(rt; written.as_slice(), audit.as_slice());
     Ok(())
 }
 

@@ -1,4 +1,4 @@
-use Rattle.rxline.proofs.Audited.{LearnsSoFar-begun, learns-end, learns-on}
+use Rattle.rxline.proofs.Audited.{learns-end, learns-on}
 use Rattle.rxline.proofs.audit.enter_all.Goals as goal
 
 pub returns-in-Some : goal.returns-in-Some

@@ -1,4 +1,4 @@
-use Rattle.std.proofs.Common.{◌≡◌, ◌≤◌, ◌<◌, ℕ, List, Option, sym, subst, arith}
+use Rattle.std.proofs.Common.{◌≤◌, ◌<◌, ℕ, List, Option, sym, subst, arith}
 use Rattle.rx_history.specs.Histories.{joins}
 use Rattle.rx_history.proofs.Entries.{signals_none}
 use Rattle.rxline.specs.Audits.{Observes, subject_in}

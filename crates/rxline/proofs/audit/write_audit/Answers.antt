@@ -1,14 +1,14 @@
-use Rattle.std.proofs.Common.{◌≡◌, ◌<◌, ℕ, List, [], ◌++◌, length, Result, ap, ◌∙◌, arith, sym, subst}
+use Rattle.std.proofs.Common.{◌<◌, ℕ, List, [], length, Result, ap, ◌∙◌, arith, sym, subst}
 use Rattle.std.proofs.lemmas.List.{take_all}
 use Rattle.std.proofs.lemmas.List.Folds.{flat_map-map}
 use Rattle.std.specs.List.{flat_map}
-use Rattle.rxline.specs.Audits.{audit_written, subject_in, subject_written}
+use Rattle.rxline.specs.Audits.{subject_in, subject_written}
 use Rattle.rxline.specs.Bytes.{AppendsPrefix, Holds, Puts}
 use Rattle.rxline.specs.declared.ledger.Ledger.{Ledger}
 use Rattle.rxline.specs.declared.outbox.WriteFault.{WriteFault}
 use Rattle.rxline.proofs.Audited.{Writes-held}
 use Rattle.rxline.proofs.Pieces.{flat_map-next, flat_map-parts}
-use Rattle.rxline.proofs.Written.{Holds-then, Loses-more, Loses-then, Puts-as}
+use Rattle.rxline.proofs.Written.{Holds-then, Loses-more, Loses-then}
 use Rattle.rxline.proofs.audit.write_audit.Goals as goal
 
 pub returns-in-Err : goal.returns-in-Err
