@@ -1,12 +1,15 @@
+pub mod Audited
 pub mod Blocks
 pub mod Complete
 pub mod Cuts
 pub mod Digits
 pub mod Known
+pub mod Ledgers
 pub mod Lfs
 pub mod LinesOf
 pub mod NameTests
 pub mod Numbers
+pub mod Pieces
 pub mod Printed
 pub mod Sheds
 pub mod SoFar

@@ -1,3 +1,4 @@
+pub mod Audits
 pub mod Bytes
 pub mod Grammar
 pub mod Laws

@@ -4,6 +4,7 @@
 #![tactic(auto)]
 
 mod asked;
+pub mod audit;
 mod carriage;
 mod command;
 pub mod config;
@@ -11,10 +12,12 @@ mod decimal;
 mod grammar;
 mod input_end;
 mod laws;
+mod ledger;
 mod line;
 mod line_error;
 mod line_state;
 pub mod name;
+mod observed;
 mod outbox;
 mod parsing;
 mod printing;

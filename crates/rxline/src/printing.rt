@@ -1,4 +1,5 @@
 ghost use Rattle.std.specs.Prelude.{◌≡◌, ◌++◌, ◌∷◌, [], codes, decimal};
+ghost use Rattle.rxline.specs.Audits.{observer_line};
 ghost use Rattle.rxline.specs.Bytes.{Puts};
 ghost use Rattle.rxline.specs.Printing.{letters_of, reply_line, note_line, given_line};
 
@@ -59,6 +60,36 @@ pub fn put_given<W: Write>(
     outbox.put(writer, SPACE)?;
     put_decimal(outbox, writer, who)?;
     outbox.put(writer, SPACE)?;
+    put_note(outbox, writer, note)
+}
+
+/// Puts the line that begins the audit of an observer.
+pub fn put_observer<W: Write>(
+    outbox: &mut Outbox,
+    writer: &mut W,
+    name: &Name,
+    who: u32,
+) -> Result<(), WriteFault>
+    ensures { Puts result outbox.old outbox.new (W.contents writer.old) (W.contents writer.new) (observer_line name.now who) }
+{
+    let name = name.as_bytes();
+    outbox.put(writer, b"OBSERVER ")?;
+    outbox.put(writer, name)?;
+    outbox.put(writer, SPACE)?;
+    put_decimal(outbox, writer, who)?;
+    outbox.put(writer, LF)
+}
+
+/// Puts the line of a note with a mark before it.
+pub fn put_marked<W: Write>(
+    outbox: &mut Outbox,
+    writer: &mut W,
+    mark: &[u8],
+    note: &Note,
+) -> Result<(), WriteFault>
+    ensures { Puts result outbox.old outbox.new (W.contents writer.old) (W.contents writer.new) (mark.now ++ note_line note.now) }
+{
+    outbox.put(writer, mark)?;
     put_note(outbox, writer, note)
 }
 

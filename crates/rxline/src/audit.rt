@@ -1,0 +1,185 @@
+ghost use Rattle.std.specs.Prelude.{◌≡◌, None, IfOk};
+ghost use Rattle.rxline.specs.Audits.{Audits, Enters, EntersAsked, Follows, Learns, audit_written, note_lines, observed_lines, prints, subject_in, subject_written, subjects_in};
+ghost use Rattle.rxline.specs.Bytes.{Puts, Writes};
+ghost use Rattle.rxline.specs.Reading.{line_read};
+ghost use Rattle.rxline.specs.Scripts.{new_subjects};
+
+use crate::asked::{Asked, asked_by};
+use crate::config::Config;
+use crate::ledger::{Ledger, enter, ledgers_of};
+use crate::line_error::LineError;
+use crate::line_state::LineState;
+use crate::name::Name;
+use crate::observed::Observed;
+use crate::outbox::{Outbox, WriteFault};
+use crate::parsing::parse_script;
+use crate::printing::{put_marked, put_observer};
+use crate::session_end::SessionEnd;
+use crate::step::Step;
+use rx_heap::{Heap, Memory};
+use rx_note::Note;
+use std::io::{Read, Write};
+
+/// Reads the lines of a script over the subjects of a configuration and answers none. At the end of the input, or at
+/// QUIT, it prints for each observer what it was given and what waits for it, as stored histories tell it.
+///
+/// `Memory` means that a line or a history found no memory; then a prefix of that was written, or nothing.
+pub fn run_audit<R: Read, W: Write>(
+    alloc: Heap,
+    config: Config,
+    reader: &mut R,
+    writer: &mut W,
+    max_reads: u64,
+) -> Result<SessionEnd, Memory>
+    ensures { IfOk result (λ end. Audits (new_subjects config.subjects.items) end (R.remaining reader.old) (R.remaining reader.new) (W.contents writer.old) (W.contents writer.new)) }
+{
+    let mut ledgers = ledgers_of(&alloc, config.subjects)?;
+    let end = enter_all(&alloc, &mut ledgers, reader, max_reads)?;
+    if !prints(end) {
+        return Ok(end);
+    }
+    match write_audit(writer, &ledgers)? {
+        Ok(()) => Ok(end),
+        Err(_) => Ok(SessionEnd::WriteFault),
+    }
+}
+
+// Whether the audit is printed at this end.
+fn prints(end: SessionEnd) -> bool
+    ensures { result ≡ prints end }
+{
+    match end {
+        SessionEnd::Quit | SessionEnd::EndOfInput => true,
+        SessionEnd::ReadFault | SessionEnd::WriteFault | SessionEnd::TooManyReads => false,
+    }
+}
+
+// Adds the events of all the lines to their ledgers.
+fn enter_all<R: Read>(
+    alloc: &Heap,
+    ledgers: &mut Vec<Ledger, Heap>,
+    reader: &mut R,
+    max_reads: u64,
+) -> Result<SessionEnd, Memory>
+    ensures { IfOk result (λ end. Learns (subjects_in ledgers.old.items) (subjects_in ledgers.new.items) end (R.remaining reader.old) (R.remaining reader.new)) }
+{
+    let mut lines = LineState::new(max_reads);
+    loop {
+        if let Some(end) = enter_next(alloc, ledgers, &mut lines, reader)? {
+            return Ok(end);
+        }
+    }
+}
+
+// Reads the next line and adds its event. How the input ended, if it did.
+fn enter_next<R: Read>(
+    alloc: &Heap,
+    ledgers: &mut Vec<Ledger, Heap>,
+    lines: &mut LineState,
+    reader: &mut R,
+) -> Result<Option<SessionEnd>, Memory>
+    requires { lines.old.end ≡ None }
+    ensures { IfOk result (λ end. Follows end (subjects_in ledgers.old.items) (subjects_in ledgers.new.items) (R.remaining reader.old) (R.remaining reader.new) lines.old lines.new) }
+{
+    match lines.advance(reader) {
+        Step::Line(len) => enter_line(alloc, ledgers, lines.line(len)),
+        Step::Long => Ok(None),
+        Step::EndOfInput => Ok(Some(SessionEnd::EndOfInput)),
+        Step::ReadFault => Ok(Some(SessionEnd::ReadFault)),
+        Step::TooManyReads => Ok(Some(SessionEnd::TooManyReads)),
+    }
+}
+
+// Adds the event of a line, if it has one.
+fn enter_line(
+    alloc: &Heap,
+    ledgers: &mut Vec<Ledger, Heap>,
+    line: &[u8],
+) -> Result<Option<SessionEnd>, Memory>
+    ensures { IfOk result (λ end. Enters end (subjects_in ledgers.old.items) (subjects_in ledgers.new.items) (line_read line.now)) }
+{
+    match parse_script(alloc, line) {
+        Ok(line) => enter_asked(ledgers, asked_by(line)),
+        Err(LineError::Long) => Ok(None),
+        Err(LineError::Syntax) => Ok(None),
+        Err(LineError::Memory) => Err(Memory),
+    }
+}
+
+// Adds the event that a line asks for, or ends at QUIT.
+fn enter_asked(ledgers: &mut Vec<Ledger, Heap>, asked: Asked) -> Result<Option<SessionEnd>, Memory>
+    ensures { IfOk result (λ end. EntersAsked end (subjects_in ledgers.old.items) (subjects_in ledgers.new.items) asked) }
+{
+    match asked {
+        Asked::Quit => Ok(Some(SessionEnd::Quit)),
+        Asked::Event(name, event) => {
+            enter(ledgers, &name, event)?;
+            Ok(None)
+        }
+    }
+}
+
+// Writes the audit of all ledgers.
+fn write_audit<W: Write>(
+    writer: &mut W,
+    ledgers: &Vec<Ledger, Heap>,
+) -> Result<Result<(), WriteFault>, Memory>
+    ensures { IfOk result (λ written. Writes written (W.contents writer.old) (W.contents writer.new) (audit_written (subjects_in ledgers.now.items))) }
+{
+    let mut outbox = Outbox::new();
+    for ledger in ledgers.iter() {
+        if let Err(fault) = put_ledger(&mut outbox, writer, ledger)? {
+            return Ok(Err(fault));
+        }
+    }
+    Ok(outbox.flush(writer))
+}
+
+// Puts the lines of each observer of a ledger, by rising number.
+fn put_ledger<W: Write>(
+    outbox: &mut Outbox,
+    writer: &mut W,
+    ledger: &Ledger,
+) -> Result<Result<(), WriteFault>, Memory>
+    ensures { IfOk result (λ put. Puts put outbox.old outbox.new (W.contents writer.old) (W.contents writer.new) (subject_written (subject_in ledger.now))) }
+{
+    for who in 0..ledger.rules.limits.joins {
+        let Some(observed) = ledger.observed(who)? else {
+            return Ok(Ok(()));
+        };
+        if let Err(fault) = put_observed(outbox, writer, &ledger.name, who, &observed) {
+            return Ok(Err(fault));
+        }
+    }
+    Ok(Ok(()))
+}
+
+// Puts the lines of an observer.
+fn put_observed<W: Write>(
+    outbox: &mut Outbox,
+    writer: &mut W,
+    name: &Name,
+    who: u32,
+    observed: &Observed,
+) -> Result<(), WriteFault>
+    ensures { Puts result outbox.old outbox.new (W.contents writer.old) (W.contents writer.new) (observed_lines name.now who observed.now.given.items observed.now.waiting.items) }
+{
+    put_observer(outbox, writer, name, who)?;
+    put_notes(outbox, writer, b"GIVEN ", &observed.given)?;
+    put_notes(outbox, writer, b"WAITING ", &observed.waiting)
+}
+
+// Puts a line for each note, with this mark before it.
+fn put_notes<W: Write>(
+    outbox: &mut Outbox,
+    writer: &mut W,
+    mark: &[u8],
+    notes: &Vec<Note, Heap>,
+) -> Result<(), WriteFault>
+    ensures { Puts result outbox.old outbox.new (W.contents writer.old) (W.contents writer.new) (note_lines mark.now notes.now.items) }
+{
+    for note in notes.iter() {
+        put_marked(outbox, writer, mark, note)?;
+    }
+    Ok(())
+}

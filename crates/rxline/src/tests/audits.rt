@@ -1,0 +1,124 @@
+use crate::audit::run_audit;
+use crate::config::Config;
+use crate::name::Name;
+use crate::session_end::SessionEnd;
+use crate::subject_config::SubjectConfig;
+use rx_note::{Kind, Limits, Rules};
+use std::io::{self, ErrorKind, Read};
+use std::test::Fail;
+
+const MAX_READS: u64 = 4_294_967_296;
+
+const WAITING_END: &[u8] = b"JOIN s BUFFER DELAY 1\nPUB s a\nPUB s b\nEND s\n";
+
+const WAITING_END_AUDIT: &[u8] = b"OBSERVER s 0\nGIVEN NEXT a\nWAITING NEXT b\nWAITING DONE\n";
+
+#[test]
+fn audits_of_whole_inputs(rt: HostRuntime) -> Result<(), Fail> {
+    for (name, script, audit, end) in [
+        (
+            "audit_of_a_waiting_end",
+            WAITING_END,
+            WAITING_END_AUDIT,
+            SessionEnd::EndOfInput,
+        ),
+        (
+            "no_line",
+            b"".as_slice(),
+            b"".as_slice(),
+            SessionEnd::EndOfInput,
+        ),
+        (
+            "bad_lines_are_passed_over",
+            b"JOIN s BUFFER DELAY 2\r\nPUB s\nPUB t x\nPUB s a\nFAIL s no\nPUB s".as_slice(),
+            b"OBSERVER s 0\nGIVEN NEXT a\nGIVEN FAILED no\n".as_slice(),
+            SessionEnd::EndOfInput,
+        ),
+        (
+            "no_line_after_quit",
+            b"JOIN s BUFFER DELAY 0\nJOIN s BUFFER DELAY 1\nPUB s a\nQUIT\nREQUEST s 0 1\nEND s\n".as_slice(),
+            b"OBSERVER s 0\nWAITING NEXT a\nOBSERVER s 1\nGIVEN NEXT a\n".as_slice(),
+            SessionEnd::Quit,
+        ),
+    ] {
+        let mut reader = script;
+        let mut written = Vec::new(rt.alloc());
+        let config = Config::standard(rt.alloc())?;
+        let ended = run_audit(rt.alloc(), config, &mut reader, &mut written, MAX_READS)?;
+        assert_eq!(rt; ended, end, "{name}");
+        assert_eq!(rt; written.as_slice(), audit, "{name}");
+    }
+    Ok(())
+}
+
+#[test]
+fn subjects_in_the_order_of_the_configuration(rt: HostRuntime) -> Result<(), Fail> {
+    let mut config = Config::standard(rt.alloc())?;
+    let Some(name) = Name::new(b"a") else {
+        unreachable!()
+    };
+    let rules = Rules {
+        kind: Kind::Publish,
+        limits: Limits {
+            observers: 1,
+            joins: 1,
+        },
+    };
+    config.subjects.push(SubjectConfig { name, rules })?;
+    let mut reader =
+        b"JOIN a BUFFER DELAY 1\nJOIN s BUFFER DELAY 0\nJOIN a BUFFER DELAY 2\nPUB a x\nPUB s y\n".as_slice();
+    let mut written = Vec::new(rt.alloc());
+    run_audit(rt.alloc(), config, &mut reader, &mut written, MAX_READS)?;
+    let audit = b"OBSERVER s 0\nWAITING NEXT y\nOBSERVER a 0\nGIVEN NEXT x\n";
+    assert_eq!(rt; written.as_slice(), audit.as_slice());
+    Ok(())
+}
+
+#[test]
+fn too_many_reads_print_nothing(rt: HostRuntime) -> Result<(), Fail> {
+    let mut reader = WAITING_END;
+    let mut written = Vec::new(rt.alloc());
+    let config = Config::standard(rt.alloc())?;
+    let ended = run_audit(rt.alloc(), config, &mut reader, &mut written, 1)?;
+    assert_eq!(rt; ended, SessionEnd::TooManyReads);
+    assert!(rt; written.is_empty());
+    Ok(())
+}
+
+/// Gives all of a script at once, and then fails.
+#[derive(Drop)]
+struct Fails {
+    rest: &'static [u8],
+}
+
+impl Read for Fails {
+    fn read(&mut self, buf: &mut [u8]) -> io::Result<usize> {
+        if self.rest.is_empty() {
+            return Err(io::Error::from(ErrorKind::Other));
+        }
+        self.rest.read(buf)
+    }
+}
+
+#[test]
+fn a_read_fault_prints_nothing(rt: HostRuntime) -> Result<(), Fail> {
+    let mut reader = Fails { rest: WAITING_END };
+    let mut written = Vec::new(rt.alloc());
+    let config = Config::standard(rt.alloc())?;
+    let ended = run_audit(rt.alloc(), config, &mut reader, &mut written, MAX_READS)?;
+    assert_eq!(rt; ended, SessionEnd::ReadFault);
+    assert!(rt; written.is_empty());
+    Ok(())
+}
+
+#[test]
+fn a_full_writer_has_a_prefix(rt: HostRuntime) -> Result<(), Fail> {
+    let mut reader = WAITING_END;
+    let mut room = [0; 20];
+    let mut writer = room.as_mut_slice();
+    let config = Config::standard(rt.alloc())?;
+    let ended = run_audit(rt.alloc(), config, &mut reader, &mut writer, MAX_READS)?;
+    assert_eq!(rt; ended, SessionEnd::WriteFault);
+    assert_eq!(rt; room.as_slice(), &WAITING_END_AUDIT[..20]);
+    Ok(())
+}
