@@ -3,7 +3,9 @@
 use rx_heap::Heap;
 use rx_history::History;
 use rx_hub::{Hub, NoObserver};
-use rx_note::{Answer, Errors, Event, Given, Item, Kind, Limits, Note, Policy, Refusal, Rules, Strategy, Text};
+use rx_note::{
+    Answer, Errors, Event, Given, Item, Kind, Limits, Note, Policy, Refusal, Rules, Strategy, Text,
+};
 use std::test::Fail;
 
 const LIMITS: Limits = Limits {
@@ -59,7 +61,11 @@ fn run_of_the_first_rows_events(rt: HostRuntime) -> Result<(), Fail> {
         Answer::Asked,
     ];
     assert_eq!(rt; run.steps.len(), 6);
-    for (step, (answer, outs_to)) in run.steps.iter().zip(answers.into_iter().zip([0, 0, 0, 1, 1, 3])) {
+    for (step, (answer, outs_to)) in run
+        .steps
+        .iter()
+        .zip(answers.into_iter().zip([0, 0, 0, 1, 1, 3]))
+    {
         assert_eq!(rt; step.result, Ok(answer));
         assert_eq!(rt; step.outs_to, outs_to);
     }
@@ -205,7 +211,10 @@ fn a_run_gives_what_the_history_says(rt: HostRuntime) -> Result<(), Fail> {
     assert_eq!(rt; hub.waiting_of(joined), Err(NoObserver));
     for who in 0..joined {
         let given = history.given(&rules, who)?;
-        assert!(rt; are_given(run.outs.as_slice(), who, given.as_slice()), "observer {who}");
+        assert!(rt;
+            are_given(run.outs.as_slice(), who, given.as_slice()),
+            "observer {who}"
+        );
         let waiting = history.waiting(&rules, who)?;
         assert_eq!(rt; hub.waiting_of(who), Ok(waiting.len()), "observer {who}");
     }
