@@ -1,7 +1,7 @@
 -- How far the run of a script has come.
-use Rattle.std.proofs.Common.{◌≡◌, ℕ, Bool, true, false, cond, List, [], ◌∷◌, ◌++◌, Option, None, Some, refl, sym, ap, subst, ◌∙◌, append_assoc, append-nil}
+use Rattle.std.proofs.Common.{◌≡◌, ℕ, Bool, true, false, cond, List, [], ◌∷◌, ◌++◌, Option, None, Some, sym, ap, subst, ◌∙◌, append_assoc, append-nil}
 use Rattle.std.proofs.KnownBytes.{Appends-trans, Appends-nil, Consumes-trans, Consumes-nil}
-use Rattle.std.specs.Io.KnownBytes.{Consumes, Appends, IsAtEnd}
+use Rattle.std.specs.Io.KnownBytes.{Consumes, Appends}
 use Rattle.rxline.specs.declared.line_state.LineState.{LineState}
 use Rattle.rxline.specs.declared.session_end.SessionEnd.{SessionEnd}
 use Rattle.rxline.specs.declared.session_end.SessionEnd.TheVariants as ends
@@ -11,7 +11,7 @@ use Rattle.rxline.specs.Lines.{HasNoLf, without_cr, lines_of, BeginsWithLine, Ta
 use Rattle.rxline.specs.Reading.{line_read}
 use Rattle.rxline.specs.Scripts.{AllStand, Runs, Turns, TellsOn}
 use Rattle.rxline.specs.Steps.{unread}
-use Rattle.rxline.specs.Transcripts.{Subject, line_written, after_line, ends_script, transcript, has_end, first_mark, later_marks}
+use Rattle.rxline.specs.Transcripts.{Subject, line_written, after_line, ends_script, transcript, has_end}
 use Rattle.rxline.proofs.LinesOf.{lines_of-first, lines_of-taken, lines_of-none}
 use Rattle.rxline.proofs.Lfs.{HasNoLf-front}
 use Rattle.rxline.proofs.Written.{Prefix-behind, Prefix-more}

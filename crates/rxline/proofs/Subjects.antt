@@ -1,5 +1,5 @@
 -- Topics that stand for subjects, and the one of a name.
-use Rattle.std.proofs.Common.{◌≡◌, ℕ, zero, suc, ◌+◌, ◌<◌, Bool, true, false, cond, List, [], ◌∷◌, ◌++◌, length, get_or, set, ◌&&◌, ◌||◌, Option, None, Some, Result, Ok, Err, IfOk, MatchResult, position, refl, sym, ap, subst, ◌∙◌, arith}
+use Rattle.std.proofs.Common.{◌≡◌, ℕ, zero, suc, ◌<◌, Bool, true, false, cond, List, [], ◌∷◌, ◌++◌, length, get_or, set, ◌&&◌, ◌||◌, None, Some, Result, Ok, Err, IfOk, MatchResult, position, refl, sym, ap, subst, ◌∙◌, arith}
 use Rattle.std.proofs.lemmas.List.Quantifiers.{position-Some}
 use Rattle.rx_note.specs.declared.event.Event.{Event}
 use Rattle.rx_hub.proofs.Positions.{position-None}

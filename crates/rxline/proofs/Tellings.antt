@@ -1,5 +1,5 @@
 -- What a topic does that takes an event, told by the history of its subject.
-use Rattle.std.proofs.Common.{◌≡◌, ◌≢◌, ℕ, Bool, true, false, cond, ◌⊎◌, inl, inr, List, [], ◌∷◌, ◌++◌, length, get_or, set, Option, None, Some, Result, Ok, Err, IsOk, is_ok, refl, sym, ap, subst, ◌∙◌, append-nil, arith, ◌+◌, ◌<◌, take, drop}
+use Rattle.std.proofs.Common.{◌≡◌, ◌≢◌, ℕ, Bool, true, false, cond, ◌⊎◌, inl, inr, List, [], ◌∷◌, ◌++◌, length, get_or, Result, Ok, Err, IsOk, is_ok, refl, sym, ap, subst, ◌∙◌, append-nil, ◌+◌, ◌<◌, take, drop}
 use Rattle.std.proofs.lemmas.List.{take_more, take-append-drop}
 use Rattle.std.proofs.lemmas.Grind.{flat_map-append}
 use Rattle.std.specs.List.{flat_map}
@@ -9,12 +9,11 @@ use Rattle.rx_note.specs.declared.rules.Rules.{Rules}
 use Rattle.rx_note.specs.declared.answer.Answer.{Answer}
 use Rattle.rx_note.specs.declared.refusal.Refusal.{Refusal}
 use Rattle.rx_note.specs.declared.refusal.Refusal.TheVariants as refused
-use Rattle.rx_history.specs.Histories.{History, ◌▹◌, answer, outs}
+use Rattle.rx_history.specs.Histories.{History, answer, outs}
 use Rattle.rx_hub.specs.Hubs.{HubState, HubView, StandsFor, Steps}
 use Rattle.rxline.specs.declared.topic.Topic.{Topic}
 use Rattle.rxline.specs.declared.response.Response.TheVariants.{Refused}
 use Rattle.rxline.specs.declared.word.Word.TheVariants as words
-use Rattle.rxline.specs.Bytes.{Puts}
 use Rattle.rxline.specs.Printing.{reply_line, given_line}
 use Rattle.rxline.specs.Scripts.{Stands}
 use Rattle.rxline.specs.Transcripts.{Subject, response_to, given_lines, event_written, accepts, taking}

@@ -57,6 +57,11 @@ pub Loses-more : (old new : Option (List ℕ)) (held after xs ys : List ℕ) →
 Loses-more old new held after xs ys p =
     record { written = rw (← append_assoc held xs ys) (Prefix-more old new (held ++ xs) ys p.written); empty = p.empty }
 
+-- what was written at a put is a front of what it and later ones put
+pub Prefix-cut : (old new : Option (List ℕ)) (held after xs ys : List ℕ) → Holds held after old new xs → AppendsPrefix old new (held ++ (xs ++ ys))
+Prefix-cut old new held after xs ys p =
+    rw (← append_assoc held xs ys) (Prefix-more old new (held ++ xs) ys (record { front = p.written; back = after; parts = p.parts; told = p.told }))
+
 -- a write behind all that was held
 pub Puts-direct : {T E : Type 0} (result : Result T E) (old mid new : Option (List ℕ)) (held after bytes : List ℕ) → Appends old mid held → after ≡ [] → Writes result mid new bytes → Puts result held after old new bytes
 Puts-direct (Ok x) old mid new held after bytes first empty then =

@@ -1,6 +1,6 @@
 -- What the audit of a script is: the subjects after its lines, and the printing of what each observer was given and of
 -- what waits for it. The rules are this project's own.
-use Rattle.std.specs.Prelude.{◌≡◌, ℕ, zero, suc, Bool, true, false, if◌then◌else◌, List, [], ◌∷◌, ◌++◌, map, Option, None, Some, is_some, Result, codes, decimal}
+use Rattle.std.specs.Prelude.{◌≡◌, ◌⊎◌, ℕ, zero, suc, Bool, true, false, if◌then◌else◌, List, [], ◌∷◌, ◌++◌, map, Option, None, Some, is_some, Result, codes, decimal}
 use Rattle.std.specs.List.{flat_map}
 use Rattle.std.specs.Io.KnownBytes.{Consumes, Appends, IsAtEnd}
 use Rattle.rx_note.specs.declared.note.Note.{Note}
@@ -87,6 +87,13 @@ pub record Audits (subjects : List Subject) (end : SessionEnd) (read_old read_ne
   pub consumed : Consumes read_old read_new read
   pub written : Prints end written_old written_new (audit_written (audited subjects (lines_of read)))
   pub ends : EndsSo end read_new (lines_of read)
+
+-- want of memory ended the run: nothing was written, or a front of the printing of the subjects after the lines that were
+-- read
+abbrev pub BreaksOff : List Subject → Option (List ℕ) → Option (List ℕ) → Option (List ℕ) → Option (List ℕ) → Type 0
+BreaksOff subjects read_old read_new written_old written_new =
+    (written_new ≡ written_old)
+    ⊎ ((read : List ℕ) × Consumes read_old read_new read × AppendsPrefix written_old written_new (audit_written (audited subjects (lines_of read))))
 
 -- THE LEDGERS
 

@@ -1,5 +1,5 @@
 -- What a run of a script does, line by line and as a whole.
-use Rattle.std.specs.Prelude.{◌≡◌, ℕ, Bool, true, false, List, [], ◌∷◌, ◌++◌, map, Option, None, Some, Result, Ok, Err, MatchResult, if◌then◌else◌, slice_index_or, slice_set}
+use Rattle.std.specs.Prelude.{◌≡◌, ℕ, Bool, true, false, List, [], ◌∷◌, ◌++◌, map, Option, None, Some, Result, Err, MatchResult, if◌then◌else◌, slice_index_or, slice_set}
 use Rattle.std.specs.Io.KnownBytes.{Consumes, Appends, IsAtEnd}
 use Rattle.std.specs.Borrow.{Bor}
 use Rattle.rx_history.specs.Histories.{NoEvents}

@@ -1,6 +1,6 @@
 -- What is written for the lines of a script. A script is told by the histories of its subjects: each line is answered,
 -- and gives, what the definitions say of the history of the subject that it names. The rules are this project's own.
-use Rattle.std.specs.Prelude.{ℕ, ◌&&◌, ◌||◌, Bool, true, false, if◌then◌else◌, nat_eq, List, [], ◌∷◌, ◌++◌, Option, None, Some, Result, Ok, Err, is_ok}
+use Rattle.std.specs.Prelude.{ℕ, ◌&&◌, ◌||◌, Bool, true, false, if◌then◌else◌, List, [], ◌∷◌, ◌++◌, Option, None, Some, Result, Ok, Err, is_ok}
 use Rattle.std.specs.List.{flat_map}
 use Rattle.std.specs.Option.{option_map_or}
 use Rattle.rx_note.specs.declared.event.Event.{Event}
@@ -12,7 +12,7 @@ use Rattle.rx_note.specs.declared.answer.Answer.{Answer}
 use Rattle.rx_note.specs.declared.answer.Answer.TheVariants as answers
 use Rattle.rx_note.specs.declared.refusal.Refusal.{Refusal}
 use Rattle.rx_note.specs.declared.refusal.Refusal.TheVariants as refused
-use Rattle.rx_history.specs.Histories.{History, NoEvents, ◌▹◌, answer, outs}
+use Rattle.rx_history.specs.Histories.{History, ◌▹◌, answer, outs}
 use Rattle.rxline.specs.declared.asked.Asked.{Asked}
 use Rattle.rxline.specs.declared.asked.Asked.TheVariants as asked
 use Rattle.rxline.specs.declared.response.Response.{Response}

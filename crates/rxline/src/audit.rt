@@ -1,6 +1,6 @@
-ghost use Rattle.std.specs.Prelude.{◌≡◌, None, IfOk};
-ghost use Rattle.rxline.specs.Audits.{Audits, Enters, EntersAsked, Follows, Learns, audit_written, note_lines, observed_lines, prints, subject_in, subject_written, subjects_in};
-ghost use Rattle.rxline.specs.Bytes.{Puts, Writes};
+ghost use Rattle.std.specs.Prelude.{◌≡◌, ◌++◌, None, IfOk, MatchResult};
+ghost use Rattle.rxline.specs.Audits.{Audits, BreaksOff, Enters, EntersAsked, Follows, Learns, audit_written, note_lines, observed_lines, prints, subject_in, subject_written, subjects_in};
+ghost use Rattle.rxline.specs.Bytes.{AppendsPrefix, Puts, Writes};
 ghost use Rattle.rxline.specs.Reading.{line_read};
 ghost use Rattle.rxline.specs.Scripts.{new_subjects};
 
@@ -31,7 +31,7 @@ pub fn run_audit<R: Read, W: Write>(
     writer: &mut W,
     max_reads: u64,
 ) -> Result<SessionEnd, Memory>
-    ensures { IfOk result (λ end. Audits (new_subjects config.subjects.items) end (R.remaining reader.old) (R.remaining reader.new) (W.contents writer.old) (W.contents writer.new)) }
+    ensures { MatchResult result (λ end. Audits (new_subjects config.subjects.items) end (R.remaining reader.old) (R.remaining reader.new) (W.contents writer.old) (W.contents writer.new)) (λ _. BreaksOff (new_subjects config.subjects.items) (R.remaining reader.old) (R.remaining reader.new) (W.contents writer.old) (W.contents writer.new)) }
 {
     let mut ledgers = ledgers_of(&alloc, config.subjects)?;
     let end = enter_all(&alloc, &mut ledgers, reader, max_reads)?;
@@ -124,7 +124,7 @@ fn write_audit<W: Write>(
     writer: &mut W,
     ledgers: &Vec<Ledger, Heap>,
 ) -> Result<Result<(), WriteFault>, Memory>
-    ensures { IfOk result (λ written. Writes written (W.contents writer.old) (W.contents writer.new) (audit_written (subjects_in ledgers.now.items))) }
+    ensures { MatchResult result (λ written. Writes written (W.contents writer.old) (W.contents writer.new) (audit_written (subjects_in ledgers.now.items))) (λ _. AppendsPrefix (W.contents writer.old) (W.contents writer.new) (audit_written (subjects_in ledgers.now.items))) }
 {
     let mut outbox = Outbox::new();
     for ledger in ledgers.iter() {
@@ -141,7 +141,7 @@ fn put_ledger<W: Write>(
     writer: &mut W,
     ledger: &Ledger,
 ) -> Result<Result<(), WriteFault>, Memory>
-    ensures { IfOk result (λ put. Puts put outbox.old outbox.new (W.contents writer.old) (W.contents writer.new) (subject_written (subject_in ledger.now))) }
+    ensures { MatchResult result (λ put. Puts put outbox.old outbox.new (W.contents writer.old) (W.contents writer.new) (subject_written (subject_in ledger.now))) (λ _. AppendsPrefix (W.contents writer.old) (W.contents writer.new) (outbox.old ++ subject_written (subject_in ledger.now))) }
 {
     for who in 0..ledger.rules.limits.joins {
         let Some(observed) = ledger.observed(who)? else {

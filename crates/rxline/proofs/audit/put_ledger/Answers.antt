@@ -1,11 +1,12 @@
-use Rattle.std.proofs.Common.{◌≤◌, ◌<◌, ℕ, List, Option, sym, subst, arith}
+use Rattle.std.proofs.Common.{◌≤◌, ◌<◌, ◌++◌, ℕ, List, Option, sym, subst, arith}
 use Rattle.rx_history.specs.Histories.{joins}
 use Rattle.rx_history.proofs.Entries.{signals_none}
-use Rattle.rxline.specs.Audits.{Observes, subject_in}
-use Rattle.rxline.specs.Bytes.{Holds, Loses}
+use Rattle.rxline.specs.Audits.{Observes, subject_in, observers_written}
+use Rattle.rxline.specs.Bytes.{AppendsPrefix, Holds, Loses}
 use Rattle.rxline.specs.declared.observed.Observed.{Observed}
-use Rattle.rxline.proofs.Ledgers.{joins_within, made, observers-all, observers-lost, observers-next}
-use Rattle.rxline.proofs.Written.{Holds-then, Loses-then}
+use Rattle.rxline.proofs.Ledgers.{joins_within, made, observers_front, observers-all, observers-lost, observers-next}
+use Rattle.rxline.proofs.Written.{Holds-then, Loses-then, Prefix-cut}
+use Rattle.std.proofs.lemmas.Result.{MatchResult-from_err}
 use Rattle.rxline.proofs.audit.put_ledger.Goals as goal
 
 pub returns-in_default : goal.returns-in_default
@@ -49,3 +50,14 @@ returns g c =
     let within : joins subject.rules subject.history ≤ subject.rules.limits.joins = joins_within subject.rules.limits subject.history in
     subst (λ (bytes : List ℕ). Holds c.args.outbox.now c.loop-who.outbox (g.W.Write.contents c.args.writer.now) (g.W.Write.contents c.loop-who.writer) bytes)
     (observers-all subject who c.loop-who.invariant.1 (omega (arith, within, c.loop-who-test.false))) c.loop-who.invariant.0
+
+pub returns-in_err-observed : goal.returns-in_err-observed
+returns-in_err-observed g c =
+    let subject = subject_in c.args.ledger.now in
+    let who = c.loop-who.who in
+    let old = g.W.Write.contents c.args.writer.now in
+    let new = g.W.Write.contents c.loop-who.writer in
+    let rest = observers_front subject who (joins subject.rules subject.history) c.loop-who.invariant.1 in
+    MatchResult-from_err c.from_residual.result _ _ c.from_residual.ensures.0 (λ _.
+    subst (λ (bytes : List ℕ). AppendsPrefix old new (c.args.outbox.now ++ bytes)) rest.1
+    (Prefix-cut old new c.args.outbox.now c.loop-who.outbox (observers_written subject who) rest.0 c.loop-who.invariant.0))

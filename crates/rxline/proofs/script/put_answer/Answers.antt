@@ -1,4 +1,3 @@
-use Rattle.std.proofs.Common.{◌≡◌, ap}
 use Rattle.rxline.proofs.Written.{Loses-more, Puts-fault, Puts-then}
 use Rattle.rxline.proofs.script.put_answer.Goals as goal
 

@@ -1,6 +1,4 @@
-use Rattle.rxline.proofs.SoFar.{SoFar, SoFar-begun, SoFar-put, SoFar-line, Runs-fault, Runs-end}
-use Rattle.rxline.specs.Scripts.{new_subjects}
-use Rattle.rxline.specs.Steps.{unread}
+use Rattle.rxline.proofs.SoFar.{SoFar-begun, SoFar-put, SoFar-line, Runs-fault, Runs-end}
 use Rattle.rxline.proofs.script.run_script.Goals as goal
 
 pub loop-script-init : goal.loop-script-init

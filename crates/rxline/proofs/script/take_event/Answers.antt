@@ -1,4 +1,4 @@
-use Rattle.std.proofs.Common.{[], ap, subst, List, ◌∙◌}
+use Rattle.std.proofs.Common.{ap, subst, List, ◌∙◌}
 use Rattle.rx_note.specs.declared.given.Given.{Given}
 use Rattle.rx_hub.specs.Hubs.{HubView, Steps}
 use Rattle.rxline.proofs.Tellings.{told}

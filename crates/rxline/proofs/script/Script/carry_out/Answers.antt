@@ -1,8 +1,6 @@
-use Rattle.std.proofs.Common.{◌≡◌, ◌<◌, length, Bool, true, false, cond, refl, sym, ap, subst, ◌∙◌, Option, List}
+use Rattle.std.proofs.Common.{◌≡◌, false, cond, sym, ap, subst, ◌∙◌, List}
 use Rattle.std.specs.Option.{option_map_or}
 use Rattle.rxline.specs.declared.asked.Asked.{Asked}
-use Rattle.rxline.specs.declared.asked.Asked.TheVariants as asked
-use Rattle.rxline.specs.declared.told.Told.{Told}
 use Rattle.rxline.specs.declared.told.Told.TheVariants as told
 use Rattle.rxline.specs.declared.topic.Topic.{Topic}
 use Rattle.rxline.specs.declared.response.Response.TheVariants.{Refused}
