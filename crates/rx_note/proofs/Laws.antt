@@ -26,7 +26,7 @@ pub given-grows : (s : Signals) (signal : Signal) → ComesNext s signal → (no
 given-grows s (Requested n) next = (_, (ask_releases s n).gives)
 given-grows s (Offered item) next =
     elim (cases_lt 0 (owed s)) [
-      | inl h ↦ (_, (offer_given (policy_of s).strategy s item refl next h).gives)
+      | inl h ↦ (_, (offer_given s item next h).gives)
       | inr h ↦ (_, (offer_waits (policy_of s).strategy s item refl next (omega arith)).gives)
     ]
 given-grows s (Ended terminal) next =

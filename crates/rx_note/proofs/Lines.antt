@@ -1,13 +1,14 @@
 -- The line of an observer: what each signal makes of it, and how it parts into what was given and what waits.
-use Rattle.std.proofs.Common.{◌≡◌, ◌-◌, false, cond, [], ◌∷◌, ◌++◌, length, take, None, refl, sym, ap, ◌∙◌, arith}
+use Rattle.std.proofs.Common.{◌≡◌, ◌-◌, ◌<◌, ◌≤◌, false, cond, [], ◌∷◌, ◌++◌, length, take, drop, None, refl, sym, ap, ◌∙◌, arith}
 use Rattle.std.proofs.lemmas.List.{length-take, take_at}
 use Rattle.rx_note.specs.declared.item.Item.{Item}
 use Rattle.rx_note.specs.declared.note.Note.{Note}
 use Rattle.rx_note.specs.declared.strategy.Strategy.{Strategy}
 use Rattle.rx_note.specs.declared.errors.Errors.{Errors}
 use Rattle.rx_note.specs.declared.errors.Errors.TheVariants.{Delay}
-use Rattle.rx_note.specs.Signals.{Requested, Offered, Ended, Signals, Start, ◌▸◌, policy_of, demand, terminal_of, kept, goes_ahead, line_items, ending, line, given, waiting, owed}
-use Rattle.rx_note.proofs.Kept.{kept-requested, kept-offered}
+use Rattle.rx_note.specs.Signals.{Requested, Offered, Ended, Signals, Start, ◌▸◌, policy_of, demand, terminal_of, kept, goes_ahead, line_items, ending, line, given, waiting_items, waiting, owed}
+use Rattle.rx_note.specs.Queues.{queued}
+use Rattle.rx_note.proofs.Kept.{kept-requested, kept-owed, kept-queued}
 use Rattle.rx_note.proofs.Released.{released-rest}
 
 -- before the end the line has the items kept
@@ -17,10 +18,18 @@ line_items-open (s ▸ Requested n) open_now = line_items-open s open_now ∙ sy
 line_items-open (s ▸ Offered item) open_now = refl
 line_items-open (s ▸ Ended terminal) open_now = absurd cc
 
--- an item is offered: it comes behind the line
-pub line_items-offered : (g : Strategy) (s : Signals) (item : Item) → (policy_of s).strategy ≡ g → terminal_of s ≡ None → line_items (s ▸ Offered item) ≡ line_items s ++ item ∷ []
-line_items-offered g s item e open_now =
-    kept-offered g s item e ∙ ap (λ items. items ++ item ∷ []) (sym (line_items-open s open_now))
+-- an item that was requested already comes behind the line, by any strategy
+pub line_items-owed : (s : Signals) (item : Item) → terminal_of s ≡ None → length (line_items s) < demand s → line_items (s ▸ Offered item) ≡ line_items s ++ item ∷ []
+line_items-owed s item open_now h =
+    let same = line_items-open s open_now in
+    kept-owed s item (omega (arith, ap length same)) ∙ ap (λ items. items ++ item ∷ []) (sym same)
+
+-- one that was not is queued behind those that were
+pub line_items-queued : (g : Strategy) (s : Signals) (item : Item) → (policy_of s).strategy ≡ g → terminal_of s ≡ None → demand s ≤ length (line_items s) → line_items (s ▸ Offered item) ≡ take (demand s) (line_items s) ++ queued g (waiting_items s) item
+line_items-queued g s item e open_now h =
+    let same = line_items-open s open_now in
+    kept-queued g s item e (omega (arith, ap length same))
+    ∙ ap (λ items. take (demand s) items ++ queued g (drop (demand s) items) item) (sym same)
 
 -- today no terminal goes ahead
 pub stays_behind : (errors : Errors) (terminal : Note) → goes_ahead errors terminal ≡ false

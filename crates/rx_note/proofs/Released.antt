@@ -2,7 +2,7 @@
 use Rattle.std.proofs.Common.{◌≡◌, ℕ, ◌+◌, ◌-◌, ◌<◌, ◌≤◌, cond, leb, List, [], ◌∷◌, ◌++◌, length, map, take, drop, sym, ap, ◌∙◌, inl, inr, append_assoc, arith}
 use Rattle.std.proofs.lemmas.Bool.{cases_lt, cond-true, cond-false, le-leb, lt-leb}
 use Rattle.std.proofs.lemmas.Bool.Decides.{nat_tests}
-use Rattle.std.proofs.lemmas.List.{append-nil, map-append, length-append, length-drop, take_all, drop_all, take-append-le, take-append-drop}
+use Rattle.std.proofs.lemmas.List.{append-nil, map-append, length-append, length-drop, take_all, drop_all, take-append-drop}
 use Rattle.std.proofs.Math.Seq.{take-add}
 use Rattle.rx_note.specs.declared.item.Item.{Item}
 use Rattle.rx_note.specs.declared.note.Note.{Note}
@@ -36,13 +36,6 @@ released-item n items item h =
     ∙ map-append Next items (item ∷ [])
     ∙ ap (λ front. map Next front ++ Next item ∷ []) (sym (take_all n items (omega arith)))
     ∙ ap (λ notes. notes ++ Next item ∷ []) (sym (released-open n items))
-
--- beyond the demand it waits
-pub released-item_waits : (n : ℕ) (items : List Item) (item : Item) → n ≤ length items → released n (items ++ item ∷ []) [] ≡ released n items []
-released-item_waits n items item h =
-    released-open n (items ++ item ∷ [])
-    ∙ ap (map Next) (take-append-le n items (item ∷ []) h)
-    ∙ sym (released-open n items)
 
 -- the ending is released with the last item
 pub released-end : (n : ℕ) (items : List Item) (last : List Note) → length items ≤ n → released n items last ≡ released n items [] ++ last

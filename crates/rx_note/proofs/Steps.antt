@@ -1,15 +1,16 @@
 -- What each signal gives, and what it leaves.
-use Rattle.std.proofs.Common.{◌≡◌, ℕ, ◌+◌, ◌-◌, ◌<◌, ◌≤◌, Bool, false, true, inl, inr, cond, leb, List, [], ◌∷◌, ◌++◌, length, take, drop, None, option_to_list, refl, sym, ap, ◌∙◌, arith}
+use Rattle.std.proofs.Common.{◌≡◌, ℕ, ◌+◌, ◌-◌, ◌<◌, ◌≤◌, Bool, false, true, inl, inr, cond, leb, List, [], ◌∷◌, ◌++◌, length, map, take, drop, None, option_to_list, refl, sym, ap, ◌∙◌, arith}
 use Rattle.std.proofs.lemmas.Bool.{cases_lt, cond-true, cond-false, le-leb, lt-leb}
 use Rattle.std.proofs.lemmas.Bool.Decides.{nat_tests}
-use Rattle.std.proofs.lemmas.List.{append-nil, length-append, length-drop, drop_all, drop-drop, drop-append-le}
+use Rattle.std.proofs.lemmas.List.{append-nil, length-append, length-drop, length-take, take_at, drop_at, drop_all, drop-drop}
 use Rattle.rx_note.specs.declared.item.Item.{Item}
 use Rattle.rx_note.specs.declared.note.Note.{Note}
 use Rattle.rx_note.specs.declared.note.Note.TheVariants.{Next}
 use Rattle.rx_note.specs.declared.strategy.Strategy.{Strategy}
 use Rattle.rx_note.specs.Signals.{Signal, Requested, Offered, Ended, Signals, ◌▸◌, policy_of, demand, terminal_of, goes_ahead, line_items, ending, released, given, waiting_items, waiting_end, owed}
-use Rattle.rx_note.proofs.Lines.{line_items-offered, line_items-ended, owed-rest}
-use Rattle.rx_note.proofs.Released.{released-item, released-item_waits, released-end, released-end_waits, released-more}
+use Rattle.rx_note.specs.Queues.{queued}
+use Rattle.rx_note.proofs.Lines.{line_items-owed, line_items-queued, line_items-ended, owed-rest}
+use Rattle.rx_note.proofs.Released.{released-open, released-item, released-end, released-end_waits, released-more}
 
 cond_same : (b : Bool) (last : List Note) → cond b last last ≡ last
 cond_same true last = refl
@@ -29,11 +30,11 @@ waiting_end-open s open_now =
     ∙ cond_same (leb (length (line_items s)) (demand s)) []
 
 -- an item that is owed is given at once, by any strategy
-pub offer_given : (g : Strategy) (s : Signals) (item : Item) → (policy_of s).strategy ≡ g → terminal_of s ≡ None → 0 < owed s → Becomes s (Offered item) (Next item ∷ []) (waiting_items s) (waiting_end s) (owed s - 1)
-offer_given g s item e open_now h =
-    let behind : line_items (s ▸ Offered item) ≡ line_items s ++ item ∷ [] = line_items-offered g s item e open_now in
-    let none : ending s ≡ [] = ap option_to_list open_now in
+pub offer_given : (s : Signals) (item : Item) → terminal_of s ≡ None → 0 < owed s → Becomes s (Offered item) (Next item ∷ []) (waiting_items s) (waiting_end s) (owed s - 1)
+offer_given s item open_now h =
     let short : length (line_items s) < demand s = omega (arith, owed-rest s) in
+    let behind : line_items (s ▸ Offered item) ≡ line_items s ++ item ∷ [] = line_items-owed s item open_now short in
+    let none : ending s ≡ [] = ap option_to_list open_now in
     record {
       gives =
           ap (λ items. released (demand s) items (ending s)) behind
@@ -48,22 +49,27 @@ offer_given g s item e open_now h =
       owes = omega (arith, owed-rest (s ▸ Offered item), owed-rest s, ap length behind, length-append (line_items s) (item ∷ []));
     }
 
--- an item that is not owed waits
-pub offer_waits : (g : Strategy) (s : Signals) (item : Item) → (policy_of s).strategy ≡ g → terminal_of s ≡ None → owed s ≡ 0 → Becomes s (Offered item) [] (waiting_items s ++ item ∷ []) (waiting_end s) (owed s)
+-- an item that is not owed is queued, and nothing is given
+pub offer_waits : (g : Strategy) (s : Signals) (item : Item) → (policy_of s).strategy ≡ g → terminal_of s ≡ None → owed s ≡ 0 → Becomes s (Offered item) [] (queued g (waiting_items s) item) (waiting_end s) (owed s)
 offer_waits g s item e open_now h =
-    let behind : line_items (s ▸ Offered item) ≡ line_items s ++ item ∷ [] = line_items-offered g s item e open_now in
-    let none : ending s ≡ [] = ap option_to_list open_now in
     let long : demand s ≤ length (line_items s) = omega (arith, owed-rest s) in
+    let first : List Item = take (demand s) (line_items s) in
+    let rest : List Item = queued g (waiting_items s) item in
+    let parts : line_items (s ▸ Offered item) ≡ first ++ rest = line_items-queued g s item e open_now long in
+    let none : ending s ≡ [] = ap option_to_list open_now in
+    let count : length first ≡ demand s = omega (arith, length-take (demand s) (line_items s)) in
     record {
       gives =
-          ap (λ items. released (demand s) items (ending s)) behind
-          ∙ ap (released (demand s) (line_items s ++ item ∷ [])) none
-          ∙ released-item_waits (demand s) (line_items s) item long
+          ap (λ items. released (demand s) items (ending s)) parts
+          ∙ ap (released (demand s) (first ++ rest)) none
+          ∙ released-open (demand s) (first ++ rest)
+          ∙ ap (map Next) (take_at first rest (demand s) count)
+          ∙ sym (released-open (demand s) (line_items s))
           ∙ ap (released (demand s) (line_items s)) (sym none)
           ∙ sym (append-nil (given s));
-      leaves = ap (drop (demand s)) behind ∙ drop-append-le (demand s) (line_items s) (item ∷ []) long;
+      leaves = ap (drop (demand s)) parts ∙ drop_at first rest (demand s) count;
       holds = waiting_end-open (s ▸ Offered item) open_now ∙ sym (waiting_end-open s open_now);
-      owes = omega (arith, owed-rest (s ▸ Offered item), owed-rest s, ap length behind, length-append (line_items s) (item ∷ []));
+      owes = omega (arith, owed-rest (s ▸ Offered item), owed-rest s, ap length parts, length-append first rest);
     }
 
 -- a terminal that no item is ahead of is given at once

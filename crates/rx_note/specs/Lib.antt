@@ -1,3 +1,4 @@
 pub mod Choices
+pub mod Queues
 pub mod Signals
 pub mod Texts

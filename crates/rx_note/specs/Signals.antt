@@ -9,7 +9,7 @@ use Rattle.rx_note.specs.declared.item.Item.{Item}
 use Rattle.rx_note.specs.declared.note.Note.{Note}
 use Rattle.rx_note.specs.declared.note.Note.TheVariants.{Next}
 use Rattle.rx_note.specs.declared.strategy.Strategy.{Strategy}
-use Rattle.rx_note.specs.declared.strategy.Strategy.TheVariants.{Buffer}
+use Rattle.rx_note.specs.declared.strategy.Strategy.TheVariants.{Buffer, Drop, Latest}
 use Rattle.rx_note.specs.declared.errors.Errors.{Errors}
 use Rattle.rx_note.specs.declared.errors.Errors.TheVariants.{Delay}
 use Rattle.rx_note.specs.declared.policy.Policy.{Policy}
@@ -55,6 +55,8 @@ terminal_of (s ▸ Ended terminal) = Some terminal
 -- by how many of the items ahead of the demand the room is exceeded
 abbrev pub beyond_room : Strategy → ℕ → ℕ
 beyond_room Buffer ahead = 0
+beyond_room (Drop room) ahead = ahead - room
+beyond_room (Latest room) ahead = ahead - room
 
 -- by how many items the offers are ahead of the demand and of the room
 abbrev pub excess : Signals → ℕ
@@ -65,9 +67,11 @@ abbrev pub losses : Signals → ℕ
 losses (Start policy) = 0
 losses (s ▸ signal) = max (losses s) (excess (s ▸ signal))
 
--- the place lost where the losses rise
+-- the place lost where the losses rise: with Drop that of the item just offered, with Latest that of the oldest waiting
 abbrev pub place_lost : Strategy → Signals → ℕ
 place_lost Buffer s = 0
+place_lost (Drop room) s = offered_count s - 1
+place_lost (Latest room) s = demand s + losses s - 1
 
 -- the places lost: one wherever the losses rise
 abbrev pub lost_places : Signals → List ℕ

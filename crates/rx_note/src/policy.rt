@@ -1,9 +1,13 @@
-ghost use Rattle.std.specs.Prelude.{◌≡◌, Ok};
+ghost use Rattle.std.specs.Prelude.{◌≡◌, true};
 
 use crate::{Errors, Strategy};
 use std::marker::Model;
 
-/// The room of a strategy is out of its limits.
+/// The most items that a room holds.
+pub const MAX_ROOM: u16 = 1024;
+
+/// The room of a strategy is out of its limits, which are this project's own: 0 to 1,024 for `Drop`, 1 to 1,024 for
+/// `Latest`.
 #[derive(Clone, Copy, Debug, PartialEq, Eq)]
 pub struct BadRoom;
 
@@ -22,22 +26,36 @@ impl Model for Policy {
     ghost view = { λ p. record { strategy = p.strategy; errors = p.errors } };
 
     ghost inverse = { λ c. record { strategy = c.strategy; errors = c.errors } };
+
+    ghost use Rattle.std.specs.Prelude.{◌≡◌, true};
+    ghost use Rattle.rx_note.specs.Choices.{is_in_limits};
+
+    ghost invariant = { λ p. is_in_limits p.strategy ≡ true };
 }
 
 impl Policy {
-    ghost use Rattle.rx_note.specs.Choices.{choice};
+    ghost use Rattle.rx_note.specs.Choices.{is_in_limits, policy_made};
 
-    /// The policy of this strategy and error mode. `BadRoom` where the strategy's room is out of its limits, which no
-    /// strategy of today has.
+    /// The policy of this strategy and error mode. `BadRoom` where the strategy's room is out of its limits.
     pub fn new(strategy: Strategy, errors: Errors) -> Result<Policy, BadRoom>
-        ensures { result ≡ Ok (choice strategy errors) }
+        ensures { result ≡ policy_made strategy errors }
     {
-        Ok(Policy { strategy, errors })
+        let is_in_limits = match strategy {
+            Strategy::Buffer => true,
+            Strategy::Drop(room) => room <= MAX_ROOM,
+            Strategy::Latest(room) => 1 <= room && room <= MAX_ROOM,
+        };
+        if is_in_limits {
+            Ok(Policy { strategy, errors })
+        } else {
+            Err(BadRoom)
+        }
     }
 
     /// Its strategy.
     pub fn strategy(&self) -> Strategy
-        ensures { result ≡ self.now.strategy }
+        ensures strategy { result ≡ self.now.strategy }
+        ensures room { is_in_limits result ≡ true }
     {
         self.strategy
     }
