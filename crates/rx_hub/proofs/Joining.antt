@@ -17,8 +17,8 @@ use Rattle.rx_note.specs.declared.refusal.Refusal.TheVariants as refused
 use Rattle.rx_note.specs.Signals.{Offered, Requested, Signals, Start, ◌▸◌, given}
 use Rattle.rx_history.specs.Histories.{History, ◌▹◌, Roster, end_of, stamp, joins, held, may_join, with_one_more, roster_of, followed_by, ended_by, opening_by, opened, signals, addressed}
 use Rattle.rx_history.proofs.Numbers.{AllDiffer, held_rises, differ_above, signals_unmade}
-use Rattle.rx_hub.specs.Lanes.{LaneState}
-use Rattle.rx_hub.specs.Lanes as lanes
+use Rattle.rx_lane.specs.Lanes.{LaneState}
+use Rattle.rx_lane.specs.Lanes as lanes
 use Rattle.rx_hub.specs.Subscriptions.{Observer, AllStand, StandsAt, Opens}
 use Rattle.rx_hub.specs.Hubs.{HubState, StandsFor, Steps, Takes}
 use Rattle.rx_hub.proofs.Tables.{gains, given_by, AllStand-same, AllStand-push, all_gains-differ}

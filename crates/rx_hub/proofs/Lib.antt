@@ -2,7 +2,6 @@ pub mod Asking
 pub mod Emitting
 pub mod Feeding
 pub mod Joining
-pub mod LanesSteps
 pub mod Positions
 pub mod Quiet
 pub mod Running

@@ -6,7 +6,7 @@ use Rattle.rx_note.specs.declared.given.Given.{Given}
 use Rattle.rx_note.specs.declared.note.Note.{Note}
 use Rattle.rx_note.specs.Signals.{Signal, Offered, Signals, ◌▸◌, terminal_of, given}
 use Rattle.rx_history.specs.Histories.{followed_by, addressed}
-use Rattle.rx_hub.specs.Lanes.{LaneState, StandsFor, MayFollow, Gives, GoesOn}
+use Rattle.rx_lane.specs.Lanes.{LaneState, StandsFor, MayFollow, Gives, GoesOn}
 use Rattle.rx_hub.specs.Subscriptions.{Serves}
 
 -- several signals, and then several more

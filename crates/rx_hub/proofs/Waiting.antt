@@ -8,8 +8,8 @@ use Rattle.rx_note.specs.Signals.{Signals, waiting, waiting_items, waiting_end}
 use Rattle.rx_history.specs.Histories.{History, is_held, signals, waiting_for}
 use Rattle.rx_hub.specs.declared.no_observer.NoObserver.{NoObserver}
 use Rattle.rx_hub.specs.declared.subscription.Subscription.{Subscription}
-use Rattle.rx_hub.specs.Lanes.{LaneState}
-use Rattle.rx_hub.specs.Lanes as lanes
+use Rattle.rx_lane.specs.Lanes.{LaneState}
+use Rattle.rx_lane.specs.Lanes as lanes
 use Rattle.rx_hub.specs.Subscriptions.{Observer, observer_of, observers_of, numbers}
 use Rattle.rx_hub.specs.Hubs.{HubState, StandsFor}
 use Rattle.rx_hub.specs.Counts.{waiting_count}

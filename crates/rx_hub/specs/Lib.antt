@@ -1,6 +1,5 @@
 pub mod Counts
 pub mod Hubs
-pub mod Lanes
 pub mod Multicasts
 pub mod Offers
 pub mod Runs

@@ -3,9 +3,9 @@ use Rattle.std.specs.Prelude.{◌≡◌, ℕ, List, [], ◌∷◌, ◌++◌, ◌
 use Rattle.rx_note.specs.declared.given.Given.{Given}
 use Rattle.rx_note.specs.declared.note.Note.{Note}
 use Rattle.rx_note.specs.Signals.{Signal, Requested, Signals, Start, ◌▸◌, terminal_of, given}
-use Rattle.rx_note.specs.declared.policy.Policy.{Policy}
+use Rattle.rx_note.specs.Choices.{Choice}
 use Rattle.rx_history.specs.Histories.{followed_by, ended_by, addressed}
-use Rattle.rx_hub.specs.Lanes.{LaneState, StandsFor}
+use Rattle.rx_lane.specs.Lanes.{LaneState, StandsFor, HasRoomFor}
 use Rattle.rx_hub.specs.declared.subscription.Subscription.{Subscription}
 
 -- an observer that is held: its number, and what waits in its queue
@@ -63,13 +63,13 @@ AsksInto old new n before after =
     (notes : List Note) × (after ≡ before ++ addressed old.who notes) × Asks (observer_of old) (observer_of new) n notes
 
 -- the queue of an observer that joins with this policy and request on a subject of this end, and what it gives at once
-pub record Opens (lane : LaneState) (note : Option Note) (policy : Policy) (first : ℕ) (end : Option Note) : Type 0 where
+pub record Opens (lane : LaneState) (note : Option Note) (policy : Choice) (first : ℕ) (end : Option Note) : Type 0 where
   pub gives : given (followed_by (Start policy ▸ Requested first) (ended_by end)) ≡ option_to_list note
   pub stands : StandsFor lane (followed_by (Start policy ▸ Requested first) (ended_by end))
 
 -- there is room for one item more in the queue
 abbrev pub HasRoom : Subscription → Type 0
-HasRoom subscription = 0 < subscription.lane.spare
+HasRoom subscription = HasRoomFor subscription.lane 1
 
 -- each observer was fed these signals, and these are the notes given, by rising place
 abbrev pub AllFed : List Signal → List Observer → List Observer → List Given → Type 0

@@ -6,7 +6,7 @@
 #![tactic(auto)]
 
 mod hub;
-mod lane;
+
 mod multicast;
 mod no_observer;
 mod offer;

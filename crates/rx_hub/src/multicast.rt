@@ -7,7 +7,7 @@ ghost use Rattle.rx_history.specs.Histories.{History};
 ghost use Rattle.rx_hub.specs.Hubs.{StandsFor, Takes};
 ghost use Rattle.rx_hub.specs.Counts.{waiting_count};
 
-use crate::lane::{AskError, Lane};
+use rx_lane::{AskError, Lane};
 use crate::no_observer::NoObserver;
 use crate::offer::{Offer, copy_of};
 use crate::subscription::{Subscription, end_by, give};

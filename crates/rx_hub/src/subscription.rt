@@ -1,10 +1,11 @@
 ghost use Rattle.std.specs.Prelude.{◌≡◌, ◌+◌, ◌<◌, ◌≤◌, ◌^◌, ◌↔◌, ◌++◌, Err, map, option_to_list, OnOk, OnErr, vec_len, vec_capacity};
 ghost use Rattle.rx_note.specs.Signals.{Offered};
 ghost use Rattle.rx_history.specs.Histories.{addressed, ended_by};
+ghost use Rattle.rx_lane.specs.Lanes.{HasRoomFor};
 ghost use Rattle.rx_hub.specs.Offers.{signals_of};
 ghost use Rattle.rx_hub.specs.Subscriptions.{FeedsInto, AsksInto, HasRoom, Serves, observer_of};
 
-use crate::lane::{AskError, Lane};
+use rx_lane::{AskError, Lane};
 use crate::offer::Offer;
 use rx_heap::{Heap, Memory};
 use rx_note::{Given, Item, Note};
@@ -27,7 +28,7 @@ impl Subscription {
 
     /// Puts at the end of `outs` what an offer gives to the observer at once.
     pub(crate) fn feed(&mut self, offer: Offer, outs: &mut Vec<Given, Heap>)
-        requires lane_room { 0 < self.old.lane.spare }
+        requires lane_room { HasRoom self.old }
         requires outs_room { vec_len outs.old + 2 ≤ vec_capacity outs.old }
         ensures fed { FeedsInto self.old self.new (signals_of offer) outs.old.items outs.new.items }
         ensures len { vec_len outs.new ≤ vec_len outs.old + 2 }
@@ -70,7 +71,7 @@ impl Subscription {
 
 // Offers an item, if there is one, and answers the note that it gives at once.
 fn offer_to(lane: &mut Lane, item: Option<Item>) -> Option<Note>
-    requires { 0 < lane.old.spare }
+    requires { HasRoomFor lane.old 1 }
     ensures { Serves lane.old.state lane.new.state (map Offered (option_to_list item)) (option_to_list result) }
 {
     match lane.offer(item?) {

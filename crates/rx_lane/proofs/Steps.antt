@@ -1,4 +1,4 @@
--- What a queue gives and what it is then, by each way that its code takes.
+-- What a lane gives and what it is then, by each way that its code takes.
 use Rattle.std.proofs.Common.{◌≡◌, ℕ, ◌+◌, ◌-◌, ◌<◌, ◌≤◌, true, cond, leb, List, [], ◌∷◌, ◌++◌, length, map, take, drop, None, refl, sym, subst, ap, ◌∙◌, arith}
 use Rattle.std.proofs.lemmas.Bool.{cond-true, cond-false, le-leb, lt-leb}
 use Rattle.std.proofs.lemmas.List.{take_all, drop_all}
@@ -6,10 +6,12 @@ use Rattle.rx_note.specs.declared.item.Item.{Item}
 use Rattle.rx_note.specs.declared.note.Note.{Note}
 use Rattle.rx_note.specs.declared.note.Note.TheVariants.{Next}
 use Rattle.rx_note.specs.Signals.{Signal, Requested, Offered, Ended, Signals, ◌▸◌, policy_of, terminal_of, released, given}
+use Rattle.rx_note.specs.Choices.{Choice}
+use Rattle.rx_note.specs.Queues.{queued}
 use Rattle.rx_note.proofs.Lines.{stays_behind}
 use Rattle.rx_note.proofs.Released.{released_all, released_part}
 use Rattle.rx_note.proofs.Steps.{Becomes, offer_given, offer_waits, end_given, end_waits, ask_releases}
-use Rattle.rx_hub.specs.Lanes.{LaneState, LaneView, StandsFor}
+use Rattle.rx_lane.specs.Lanes.{LaneState, LaneView, StandsFor}
 
 -- by this signal these notes are given, and the queue is then this one
 pub record Goes (s : Signals) (signal : Signal) (notes : List Note) (new : LaneState) : Type 0 where
@@ -23,7 +25,7 @@ stands_as {s = s} e st = subst (λ (v : LaneView). StandsFor v.state s) (sym e) 
 -- an item that is owed is given
 pub offer_now : (lane : LaneState) (item : Item) → 0 < lane.owing → (s : Signals) → StandsFor lane s → terminal_of s ≡ None → Goes s (Offered item) (Next item ∷ []) (record lane { owing = lane.owing - 1 })
 offer_now lane item h s st open_now =
-    let b = offer_given (policy_of s).strategy s item refl open_now (omega (arith, st.owing)) in
+    let b = offer_given s item open_now (omega (arith, st.owing)) in
     record {
       gives = b.gives;
       stands = record {
@@ -35,15 +37,15 @@ offer_now lane item h s st open_now =
       };
     }
 
--- an item that is not owed waits behind the others
-pub offer_later : (lane : LaneState) (item : Item) → lane.owing ≡ 0 → (s : Signals) → StandsFor lane s → terminal_of s ≡ None → Goes s (Offered item) [] (record lane { items = lane.items ++ item ∷ [] })
+-- an item that is not owed is queued by the strategy
+pub offer_later : (lane : LaneState) (item : Item) → lane.owing ≡ 0 → (s : Signals) → StandsFor lane s → terminal_of s ≡ None → Goes s (Offered item) [] (record lane { items = queued lane.policy.strategy lane.items item })
 offer_later lane item h s st open_now =
-    let b = offer_waits (policy_of s).strategy s item refl open_now (omega (arith, st.owing)) in
+    let b = offer_waits lane.policy.strategy s item (sym (ap (λ (c : Choice). c.strategy) st.policy)) open_now (omega (arith, st.owing)) in
     record {
       gives = b.gives;
       stands = record {
         policy = st.policy;
-        items = ap (λ items. items ++ item ∷ []) st.items ∙ sym b.leaves;
+        items = ap (λ items. queued lane.policy.strategy items item) st.items ∙ sym b.leaves;
         last = st.last ∙ sym b.holds;
         ended = st.ended;
         owing = st.owing ∙ sym b.owes;

@@ -1,6 +1,6 @@
 use Rattle.std.proofs.Common.{arith}
-use Rattle.rx_hub.proofs.LanesSteps.{stands_as, offer_now, offer_later}
-use Rattle.rx_hub.proofs.lane.Lane.offer.Goals as goal
+use Rattle.rx_lane.proofs.Steps.{stands_as, offer_now, offer_later}
+use Rattle.rx_lane.proofs.lane.Lane.offer.Goals as goal
 
 pub returns-then-self-gt0-clause-gives : goal.returns-then-self-gt0-clause-gives
 returns-then-self-gt0-clause-gives c = λ s st open_now.
@@ -16,4 +16,4 @@ returns-clause-gives c = λ s st open_now.
 
 pub returns-clause-stands : goal.returns-clause-stands
 returns-clause-stands c = λ s st open_now.
-    rw c.push_back_reserved.ensures.items (offer_later _ c.args.item (omega arith) s (stands_as c.self.view_is st) open_now).stands
+    rw (c.push.ensures.items, c.push.ensures.strategy) (offer_later _ c.args.item (omega arith) s (stands_as c.self.view_is st) open_now).stands

@@ -1,30 +1,39 @@
 -- The queue of one observer: what contracts see of it, and the signals that it stands for.
-use Rattle.std.specs.Prelude.{◌≡◌, ℕ, Bool, List, ◌++◌, None, is_some}
+use Rattle.std.specs.Prelude.{◌≡◌, ◌+◌, ◌&&◌, nat_le, ℕ, Bool, List, ◌++◌, None, is_some, length}
 use Rattle.rx_note.specs.declared.item.Item.{Item}
 use Rattle.rx_note.specs.declared.note.Note.{Note}
-use Rattle.rx_note.specs.declared.policy.Policy.{Policy}
-use Rattle.rx_note.specs.Signals.{Signal, Requested, Offered, Ended, Signals, ◌▸◌, policy_of, terminal_of, waiting_items, waiting_end, owed, given}
+use Rattle.rx_note.specs.Choices.{Choice}
+use Rattle.rx_note.specs.Signals.{Signal, Requested, Offered, Ended, Signals, ◌▸◌, policy_of, demand, terminal_of, line_items, waiting_items, waiting_end, owed, given}
+use Rattle.rx_lane.specs.Queues.{HasRoom}
 
--- what waits in a queue, and what it owes
+-- what waits in a lane, and what it owes
 pub record LaneState : Type 0 where
-  pub policy : Policy
+  pub policy : Choice
   pub items : List Item
   pub last : List Note
   pub ended : Bool
   pub owing : ℕ
 
--- a queue, with the number of items that it has room for
+-- a lane, with the number of items that a growing queue has room for
 pub record LaneView : Type 0 where
   pub state : LaneState
   pub spare : ℕ
 
--- the queue is what these signals leave
+-- the lane is what these signals leave
 pub record StandsFor (lane : LaneState) (s : Signals) : Type 0 where
   pub policy : lane.policy ≡ policy_of s
   pub items : lane.items ≡ waiting_items s
   pub last : lane.last ≡ waiting_end s
   pub ended : lane.ended ≡ is_some (terminal_of s)
   pub owing : lane.owing ≡ owed s
+
+-- the lane has room for so many offers; under Drop and Latest it always has
+abbrev pub HasRoomFor : LaneView → ℕ → Type 0
+HasRoomFor lane count = HasRoom lane.state.policy.strategy count lane.spare
+
+-- the lane that was has room for so many offers more than the one that is now
+abbrev pub KeepsRoom : LaneView → LaneView → ℕ → Type 0
+KeepsRoom old new more = (count : ℕ) → HasRoomFor old (count + more) → HasRoomFor new count
 
 -- whether a signal may come next: after the end only requests do
 abbrev pub MayFollow : Signals → Signal → Type 0
@@ -40,6 +49,10 @@ Gives lane signal notes = (s : Signals) → StandsFor lane s → MayFollow s sig
 abbrev pub GivesInto : LaneState → Signal → List Note → List Note → Type 0
 GivesInto lane signal before after = (notes : List Note) × (after ≡ before ++ notes) × Gives lane signal notes
 
--- the queue stands for the signals with this one more
+-- the lane stands for the signals with this one more
 abbrev pub GoesOn : LaneState → LaneState → Signal → Type 0
 GoesOn old new signal = (s : Signals) → StandsFor old s → MayFollow s signal → StandsFor new (s ▸ signal)
+
+-- whether the terminal was given: there is one, and every item before it was requested
+abbrev pub is_over : Signals → Bool
+is_over s = is_some (terminal_of s) && nat_le (length (line_items s)) (demand s)

@@ -1,0 +1,206 @@
+ghost use Rattle.std.specs.Prelude.{◌≡◌, ◌≤◌, ◌<◌, ◌+◌, ◌^◌, ◌↔◌, [], ◌++◌, false, Ok, Err, None, map, take, drop, length, option_to_list, OnOk, OnErr, IfOk, min, vec_len, vec_capacity};
+ghost use Rattle.rx_note.specs.Signals.{Signals, Start, ◌▸◌, Requested, Offered, Ended, owed, waiting, waiting_items};
+ghost use Rattle.rx_note.specs.declared.note.Note.TheVariants.{Next};
+ghost use Rattle.rx_lane.specs.Lanes.{StandsFor, HasRoomFor, KeepsRoom, Gives, GoesOn, GivesInto, is_over};
+ghost use Rattle.rx_lane.specs.Queues.{items_of, strategy_of, spare_of};
+
+use crate::ask_error::AskError;
+use crate::queue::Queue;
+use rx_heap::{Heap, Memory};
+use rx_note::{Errors, Item, Note, Policy};
+use std::marker::Model;
+
+/// The queue of one observer. Contracts see what waits in it and what it owes, and tell by the observer's signals what
+/// it gives.
+#[derive(Drop)]
+pub struct Lane {
+    errors: Errors,
+    queue: Queue,
+    last: Option<Note>,
+    ended: bool,
+    owed: u32,
+}
+
+impl Model for Lane {
+    ghost use Rattle.std.specs.Prelude.{option_to_list};
+    ghost use Rattle.rx_lane.specs.Lanes.{LaneView};
+    ghost use Rattle.rx_lane.specs.Queues.{items_of, strategy_of, spare_of};
+
+    ghost Value = { LaneView };
+
+    ghost view = { λ l. record {
+      state = record {
+        policy = record { strategy = strategy_of l.queue; errors = l.errors };
+        items = items_of l.queue;
+        last = option_to_list l.last;
+        ended = l.ended;
+        owing = l.owed;
+      };
+      spare = spare_of l.queue;
+    } };
+}
+
+impl Lane {
+    /// The lane of an observer with this policy, by no signal yet. Under `Drop` and `Latest` all its memory is taken here.
+    pub fn new(alloc: Heap, policy: Policy) -> Result<Lane, Memory>
+        ensures { IfOk result (λ lane. StandsFor lane.state (Start policy)) }
+    {
+        Lane::owing(alloc, policy, 0)
+    }
+
+    /// The lane of an observer that joins with this policy and a request of `first` items, 0 allowed.
+    pub fn joined(alloc: Heap, policy: Policy, first: u32) -> Result<Lane, Memory>
+        ensures { IfOk result (λ lane. StandsFor lane.state (Start policy ▸ Requested first)) }
+    {
+        Lane::owing(alloc, policy, first)
+    }
+
+    // An empty lane that owes so many items.
+    fn owing(alloc: Heap, policy: Policy, owed: u32) -> Result<Lane, Memory>
+        ensures policy { IfOk result (λ lane. lane.state.policy ≡ policy) }
+        ensures rest { IfOk result (λ lane. (lane.state.items ≡ []) × (lane.state.last ≡ []) × (lane.state.ended ≡ false) × (lane.state.owing ≡ owed)) }
+    {
+        let queue = Queue::new(alloc, policy.strategy())?;
+        Ok(Lane {
+            errors: policy.errors(),
+            queue,
+            last: None,
+            ended: false,
+            owed,
+        })
+    }
+
+    /// Makes room for `items` offers more; under `Drop` and `Latest` there always is. `Memory` leaves the lane.
+    pub fn reserve(&mut self, items: usize) -> Result<(), Memory>
+        ensures state { self.new.state ≡ self.old.state }
+        ensures room { OnOk result (HasRoomFor self.new items) }
+    {
+        self.queue.reserve(items)
+    }
+
+    /// How many more items may be given.
+    pub fn owed(&self) -> u32
+        ensures state { result ≡ self.now.state.owing }
+        ensures owed { (s : Signals) → StandsFor self.now.state s → result ≡ owed s }
+    {
+        self.owed
+    }
+
+    /// How many items wait.
+    pub fn waiting_len(&self) -> usize
+        ensures state { result ≡ length self.now.state.items }
+        ensures waiting { (s : Signals) → StandsFor self.now.state s → result ≡ length (waiting_items s) }
+    {
+        self.queue.len()
+    }
+
+    /// How many notes wait: the items, and the terminal where one waits behind them.
+    pub fn waiting_notes(&self) -> usize
+        ensures state { result ≡ length self.now.state.items + length self.now.state.last }
+        ensures waiting { (s : Signals) → StandsFor self.now.state s → result ≡ length (waiting s) }
+    {
+        let items = self.queue.len();
+        match self.last {
+            Some(_) => items + 1,
+            None => items,
+        }
+    }
+
+    /// Whether the terminal was given.
+    pub fn is_over(&self) -> bool
+        ensures { (s : Signals) → StandsFor self.now.state s → result ≡ is_over s }
+    {
+        self.ended && self.last.is_none()
+    }
+
+    /// Adds a request of `n` items, and puts at the end of `outs` what is then given. Refused in the order
+    /// `ZeroRequest`, `TooMuch`, `Memory`; a refusal leaves the lane and `outs`.
+    pub fn ask(&mut self, n: u32, outs: &mut Vec<Note, Heap>) -> Result<(), AskError>
+        ensures zero { (result ≡ Err AskError.ZeroRequest) ↔ (n ≡ 0) }
+        ensures too_much { (result ≡ Err AskError.TooMuch)
+            ↔ ((0 < n) × (2 ^ 32 ≤ self.old.state.owing + n)) }
+        ensures err { OnErr result ((self.new.state ≡ self.old.state) × (outs.new.items ≡ outs.old.items)) }
+        ensures gives { OnOk result (GivesInto self.old.state (Requested n) outs.old.items outs.new.items) }
+        ensures stands { OnOk result (GoesOn self.old.state self.new.state (Requested n)) }
+        ensures room { KeepsRoom self.old self.new 0 }
+        ensures count { length outs.new.items
+            ≤ length outs.old.items + min (self.old.state.owing + n) (length self.old.state.items) + 1 }
+    {
+        if n == 0 {
+            return Err(AskError::ZeroRequest);
+        }
+        let Some(owed) = self.owed.checked_add(n) else {
+            return Err(AskError::TooMuch);
+        };
+        let given = self.queue.len().min(owed as usize);
+        let all = given == self.queue.len();
+        let notes = if all { self.waiting_notes() } else { given };
+        if outs.reserve(notes).is_err() {
+            return Err(AskError::Memory);
+        }
+        move_items(given, &mut self.queue, outs);
+        self.owed = owed - given as u32;
+        if all {
+            give_last(&mut self.last, outs);
+        }
+        Ok(())
+    }
+
+    /// Offers an item, which comes back where it is given at once; else it waits, or is lost, by the strategy.
+    pub fn offer(&mut self, item: Item) -> Option<Item>
+        requires { HasRoomFor self.old 1 }
+        ensures gives { Gives self.old.state (Offered item) (map Next (option_to_list result)) }
+        ensures stands { GoesOn self.old.state self.new.state (Offered item) }
+        ensures room { KeepsRoom self.old self.new 1 }
+    {
+        if self.owed > 0 {
+            self.owed -= 1;
+            return Some(item);
+        }
+        self.queue.push(item);
+        None
+    }
+
+    /// Ends the lane by a terminal, which comes back where it is given at once; else it waits behind the items.
+    pub fn end(&mut self, note: Note) -> Option<Note>
+        ensures gives { Gives self.old.state (Ended note) (option_to_list result) }
+        ensures stands { GoesOn self.old.state self.new.state (Ended note) }
+        ensures room { KeepsRoom self.old self.new 0 }
+    {
+        self.ended = true;
+        if self.queue.len() == 0 {
+            return Some(note);
+        }
+        self.last = Some(note);
+        None
+    }
+}
+
+// Moves the front items into `outs`.
+fn move_items(count: usize, queue: &mut Queue, outs: &mut Vec<Note, Heap>)
+    requires there { count ≤ length (items_of queue.old) }
+    requires room { vec_len outs.old + count ≤ vec_capacity outs.old }
+    ensures moved { outs.new.items ≡ outs.old.items ++ map Next (take count (items_of queue.old)) }
+    ensures left { items_of queue.new ≡ drop count (items_of queue.old) }
+    ensures strategy { strategy_of queue.new ≡ strategy_of queue.old }
+    ensures spare { spare_of queue.old ≤ spare_of queue.new }
+    ensures capacity { vec_capacity outs.new ≡ vec_capacity outs.old }
+{
+    for _ in 0..count {
+        let Some(item) = queue.pop() else {
+            unreachable!()
+        };
+        outs.push_reserved(Note::Next(item));
+    }
+}
+
+// Moves the terminal that waits, if there is one, into `outs`.
+fn give_last(last: &mut Option<Note>, outs: &mut Vec<Note, Heap>)
+    requires { vec_len outs.old + length (option_to_list last.old) ≤ vec_capacity outs.old }
+    ensures moved { outs.new.items ≡ outs.old.items ++ option_to_list last.old }
+    ensures left { last.new ≡ None }
+{
+    if let Some(note) = last.take() {
+        outs.push_reserved(note);
+    }
+}

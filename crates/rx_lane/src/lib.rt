@@ -1,0 +1,16 @@
+//! The queue of one observer: it gives each item offered to it at once where one is owed, and keeps the others by the
+//! strategy of the observer's policy.
+//!
+//! It knows nothing of subjects and of other observers. The crates above rest on one contract, the exact lane: for every
+//! list of signals that a lane stands for, `ask`, `offer` and `end` give exactly what the definitions of `rx_note` give
+//! by that signal, and the lane then stands for the longer list.
+#![tactic(auto)]
+
+mod ask_error;
+mod lane;
+mod queue;
+#[cfg(test)]
+mod tests;
+
+pub use ask_error::AskError;
+pub use lane::Lane;

@@ -1,0 +1,102 @@
+ghost use Rattle.std.specs.Prelude.{◌≡◌, ◌<◌, ◌≤◌, ◌+◌, ◌^◌, [], length, drop, slice_get, IfOk, OnOk};
+ghost use Rattle.rx_note.specs.Queues.{queued};
+ghost use Rattle.rx_lane.specs.Queues.{HasRoom, items_of, strategy_of, spare_of};
+
+use circular_buffer::HeapCircularBuffer;
+use rx_heap::{Heap, Memory};
+use rx_note::{Item, Strategy};
+use std::collections::VecDeque;
+
+/// The items that wait. A ring has all its memory from the beginning, and its capacity is the room.
+#[derive(Drop)]
+pub(crate) enum Queue {
+    /// All of them.
+    Growing(VecDeque<Item, Heap>),
+    /// None, where there is no room.
+    Empty,
+    /// Those for which there was room.
+    Dropping(HeapCircularBuffer<Item, Heap>),
+    /// The latest ones for which there is room.
+    Replacing(HeapCircularBuffer<Item, Heap>),
+}
+
+impl Queue {
+    /// An empty queue by this strategy.
+    pub(crate) fn new(alloc: Heap, strategy: Strategy) -> Result<Queue, Memory>
+        ensures { IfOk result (λ queue. (strategy_of queue ≡ strategy) × (items_of queue ≡ [])) }
+    {
+        match strategy {
+            Strategy::Buffer => Ok(Queue::Growing(VecDeque::new(alloc))),
+            Strategy::Drop(0) => Ok(Queue::Empty),
+            Strategy::Drop(room) => {
+                let ring = HeapCircularBuffer::with_capacity(alloc, room as usize)?;
+                Ok(Queue::Dropping(ring))
+            }
+            Strategy::Latest(room) => {
+                let ring = HeapCircularBuffer::with_capacity(alloc, room as usize)?;
+                Ok(Queue::Replacing(ring))
+            }
+        }
+    }
+
+    /// How many items wait.
+    pub(crate) fn len(&self) -> usize
+        ensures len { result ≡ length (items_of self.now) }
+        ensures within { result < 2 ^ 63 }
+    {
+        match self {
+            Queue::Growing(items) => items.len(),
+            Queue::Empty => 0,
+            Queue::Dropping(ring) => ring.len(),
+            Queue::Replacing(ring) => ring.len(),
+        }
+    }
+
+    /// Makes room for `count` items more.
+    pub(crate) fn reserve(&mut self, count: usize) -> Result<(), Memory>
+        ensures items { items_of self.new ≡ items_of self.old }
+        ensures strategy { strategy_of self.new ≡ strategy_of self.old }
+        ensures room { OnOk result (HasRoom (strategy_of self.new) count (spare_of self.new)) }
+    {
+        if let Queue::Growing(items) = self {
+            items.reserve(count)?;
+        }
+        Ok(())
+    }
+
+    /// Queues an item by the strategy.
+    pub(crate) fn push(&mut self, item: Item)
+        requires { HasRoom (strategy_of self.old) 1 (spare_of self.old) }
+        ensures items { items_of self.new ≡ queued (strategy_of self.old) (items_of self.old) item }
+        ensures strategy { strategy_of self.new ≡ strategy_of self.old }
+        ensures spare { spare_of self.old ≤ spare_of self.new + 1 }
+    {
+        match self {
+            Queue::Growing(items) => items.push_back_reserved(item),
+            Queue::Empty => {}
+            Queue::Dropping(ring) => {
+                if ring.len() < ring.capacity() {
+                    ring.push_back(item);
+                }
+            }
+            Queue::Replacing(ring) => {
+                ring.push_back(item);
+            }
+        }
+    }
+
+    /// Takes the item that has waited longest.
+    pub(crate) fn pop(&mut self) -> Option<Item>
+        ensures value { result ≡ slice_get (items_of self.old) 0 }
+        ensures items { items_of self.new ≡ drop 1 (items_of self.old) }
+        ensures strategy { strategy_of self.new ≡ strategy_of self.old }
+        ensures spare { spare_of self.old ≤ spare_of self.new }
+    {
+        match self {
+            Queue::Growing(items) => items.pop_front(),
+            Queue::Empty => None,
+            Queue::Dropping(ring) => ring.pop_front(),
+            Queue::Replacing(ring) => ring.pop_front(),
+        }
+    }
+}
