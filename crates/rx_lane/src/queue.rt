@@ -74,11 +74,7 @@ impl Queue {
         match self {
             Queue::Growing(items) => items.push_back_reserved(item),
             Queue::Empty => {}
-            Queue::Dropping(ring) => {
-                if ring.len() < ring.capacity() {
-                    ring.push_back(item);
-                }
-            }
+            Queue::Dropping(ring) => drop(ring.try_push_back(item)),
             Queue::Replacing(ring) => {
                 ring.push_back(item);
             }
