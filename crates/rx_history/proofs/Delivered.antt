@@ -1,5 +1,5 @@
 -- The laws of delivery, each from what the signals of an observer say.
-use Rattle.std.proofs.Common.{◌≡◌, ℕ, ◌+◌, ◌<◌, ◌≤◌, ◌==◌, Bool, true, false, cond, ◌&&◌, leb, List, [], ◌∷◌, ◌++◌, length, map, take, Option, None, Some, is_some, option_to_list, refl, sym, ap, ◌∙◌, arith}
+use Rattle.std.proofs.Common.{◌≡◌, ℕ, ◌+◌, ◌<◌, ◌≤◌, ◌==◌, Bool, true, false, cond, ◌&&◌, leb, List, [], ◌∷◌, ◌++◌, length, map, take, Option, None, Some, is_some, option_to_list, ◌⊎◌, inl, inr, refl, sym, ap, ◌∙◌, arith}
 use Rattle.std.specs.Option.{option_map, option_map_or}
 use Rattle.std.specs.List.{items_where_true}
 use Rattle.std.proofs.lemmas.Bool.Decides.{nat_tests}
@@ -9,19 +9,21 @@ use Rattle.rx_note.specs.declared.note.Note.{Note}
 use Rattle.rx_note.specs.declared.note.Note.TheVariants.{Next, Completed, Failed}
 use Rattle.rx_note.specs.declared.event.Event.TheVariants.{Emit, Join, Request}
 use Rattle.rx_note.specs.declared.rules.Rules.{Rules}
-use Rattle.rx_note.specs.declared.strategy.Strategy.TheVariants.{Buffer}
+use Rattle.rx_note.specs.declared.strategy.Strategy.{Strategy}
+use Rattle.rx_note.specs.declared.strategy.Strategy.TheVariants.{Buffer, Drop, Latest}
 use Rattle.rx_note.specs.declared.errors.Errors.TheVariants.{Delay}
 use Rattle.rx_note.specs.Choices.{Choice, choice}
-use Rattle.rx_note.specs.Signals.{Requested, Offered, Ended, Signals, ◌▸◌, policy_of, demand, terminal_of, line_items, ending, line, given, waiting, owed}
+use Rattle.rx_note.specs.Signals.{Requested, Offered, Ended, Signals, ◌▸◌, policy_of, demand, terminal_of, line_items, ending, line, given, waiting_items, waiting_end, waiting, owed}
 use Rattle.rx_note.proofs.Laws.{given-grows, owed-waiting, line-whole}
 use Rattle.rx_note.proofs.Lines.{given-waiting}
 use Rattle.rx_note.proofs.Order.{line_items-in_order}
 use Rattle.rx_history.specs.Histories.{History, ◌▹◌, end_of, joins, is_held, may_join, followed_by, may_request, signals, given_to, line_of, waiting_for}
-use Rattle.rx_history.specs.Delivery.{items_among, IsTerminal, offered, IsSubsequence, LineIsInOrder, OffersAreInOrder, EachPortIsInOrder, EachItemIsOffered, GivenThenWaiting, GivenOnlyGrows, TerminalIsLast, LineEndsAsTheSubject, NothingFollowsATerminal, NothingFollowsTheEnd, GivenAndOwed, GivenWithinRequests, NothingWaitsWhileOwed, BufferKeepsAll}
+use Rattle.rx_history.specs.Delivery.{items_among, IsTerminal, offered, IsSubsequence, LineIsInOrder, OffersAreInOrder, EachPortIsInOrder, EachItemIsOffered, GivenThenWaiting, GivenOnlyGrows, TerminalIsLast, LineEndsAsTheSubject, NothingFollowsATerminal, NothingFollowsTheEnd, GivenAndOwed, GivenWithinRequests, NothingWaitsWhileOwed, WaitsWithinRoom, BufferKeepsAll}
 use Rattle.rx_history.proofs.Cases.{absent}
 use Rattle.rx_history.proofs.Endings.{signals_open}
 use Rattle.rx_history.proofs.Numbers.{signals_unmade}
 use Rattle.rx_history.proofs.Offers.{offers_in_order, each_is_offered}
+use Rattle.rx_history.proofs.Rooms.{waits_within}
 use Rattle.rx_history.proofs.Subsequences.{picked, none_of, along, some_of_some, filtered}
 use Rattle.rx_history.proofs.Terminals.{terminal_of-signals, end_is_terminal, items_among-items, items_among-append, items_among-end, not_empty, last_only}
 use Rattle.rx_history.proofs.Entries.{signals_of, is_held-signals, line_of-signals, signals-emitted, signals-refused, signals-not_joined, signals-not_requested, signals-requested}
@@ -236,6 +238,41 @@ none_waits false s owes = refl
 
 pub nothing_waits_while_owed : NothingWaitsWhileOwed
 nothing_waits_while_owed rules H o owes = none_waits (is_held rules H o) (signals rules H o) owes
+
+no_item_behind : (b : Bool) (last : List Note) → items_among last ≡ [] → items_among (cond b [] last) ≡ []
+no_item_behind true last e = refl
+no_item_behind false last e = e
+
+-- the items among what waits
+items_waiting : (s : Signals) → items_among (ending s) ≡ [] → items_among (waiting s) ≡ waiting_items s
+items_waiting s none =
+    items_among-append (map Next (waiting_items s)) (waiting_end s)
+    ∙ ap (λ xs. xs ++ items_among (waiting_end s)) (items_among-items (waiting_items s))
+    ∙ ap (λ xs. waiting_items s ++ xs) (no_item_behind (leb (length (line_items s)) (demand s)) (ending s) none)
+    ∙ append-nil (waiting_items s)
+
+-- the strategy where the signals are these
+abbrev strategy_of : Option Signals → Option Strategy
+strategy_of s = option_map (λ (policy : Choice). policy.strategy) (option_map policy_of s)
+
+waits_within_by : (rules : Rules) (H : History) (o room : ℕ) (before : Option Signals) → signals rules H o ≡ before
+    → (strategy_of before ≡ Some (Drop room)) ⊎ (strategy_of before ≡ Some (Latest room)) → length (items_among (option_map_or waiting before [])) ≤ room
+waits_within_by rules H o room None none chose = omega arith
+waits_within_by rules H o room (Some s) is chose =
+    let strategy : ((policy_of s).strategy ≡ Drop room) ⊎ ((policy_of s).strategy ≡ Latest room) =
+    elim chose [ inl e ↦ inl cc | inr e ↦ inr cc ] in
+    let none : items_among (ending s) ≡ [] =
+    ap (λ end. items_among (option_to_list end)) (terminal_of-signals rules H o s is) ∙ items_among-end H in
+    omega (arith, waits_within room s strategy, ap length (items_waiting s none))
+
+waits_held : (b : Bool) (s : Option Signals) (room : ℕ) → length (items_among (option_map_or waiting s [])) ≤ room
+    → length (items_among (cond b (option_map_or waiting s []) [])) ≤ room
+waits_held true s room within = within
+waits_held false s room within = omega arith
+
+pub waits_within_room : WaitsWithinRoom
+waits_within_room rules H o room chose =
+    waits_held (is_held rules H o) (signals rules H o) room (waits_within_by rules H o room (signals rules H o) refl chose)
 
 keeps_all_by : (rules : Rules) (H : History) (o : ℕ) (before : Option Signals) → signals rules H o ≡ before → is_some before ≡ true
     → option_map policy_of before ≡ Some (choice Buffer Delay) → items_among (line_of rules H o) ≡ option_map_or offered before []

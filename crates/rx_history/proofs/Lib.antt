@@ -8,6 +8,8 @@ pub mod Extending
 pub mod Gaining
 pub mod Numbers
 pub mod Offers
+pub mod Queueing
+pub mod Rooms
 pub mod Subsequences
 pub mod Terminals
 pub mod Tracing

@@ -1,8 +1,8 @@
 -- The worked examples, by computation: what each event is answered and gives.
-use Rattle.std.specs.Prelude.{◌≡◌, ℕ, List, [], ◌∷◌, Result, Ok, Err, refl}
+use Rattle.std.specs.Prelude.{◌≡◌, ℕ, List, [], ◌∷◌, map, Result, Ok, Err, refl}
 use Rattle.rx_note.specs.Choices.{choice}
 use Rattle.rx_note.specs.declared.policy.Policy.{Policy}
-use Rattle.rx_note.specs.declared.strategy.Strategy.TheVariants.{Buffer}
+use Rattle.rx_note.specs.declared.strategy.Strategy.TheVariants.{Buffer, Drop, Latest}
 use Rattle.rx_note.specs.declared.errors.Errors.TheVariants.{Delay}
 use Rattle.rx_note.specs.declared.given.Given.{Given}
 use Rattle.rx_note.specs.declared.note.Note.{Note}
@@ -15,12 +15,17 @@ use Rattle.rx_note.specs.declared.answer.Answer.{Answer}
 use Rattle.rx_note.specs.declared.answer.Answer.TheVariants.{Admitted, Joined, Asked}
 use Rattle.rx_note.specs.declared.refusal.Refusal.{Refusal}
 use Rattle.rx_note.specs.declared.refusal.Refusal.TheVariants as refused
-use Rattle.rx_history.specs.Histories.{History, NoEvents, ◌▹◌, answer, outs}
+use Rattle.rx_history.specs.Histories.{History, NoEvents, ◌▹◌, owed_to, answer, outs}
+use Rattle.rx_history.specs.Stored.{history_of}
 
 -- the steps of a list of events after H, all from port 0
 abbrev told : Rules → History → List Event → List (Result Answer Refusal × List Given)
 told rules H [] = []
 told rules H (event ∷ events) = (answer rules H event, outs rules H (0, event)) ∷ told rules (H ▹ (0, event)) events
+
+-- the history of a list of events, all from port 0
+abbrev from0 : List Event → History
+from0 events = history_of (map (λ event. (0, event)) events)
 
 -- the default subject
 abbrev default : Rules
@@ -30,7 +35,14 @@ default = record { kind = Publish; limits = record { observers = 64; joins = 429
 abbrev plain : Policy
 plain = choice Buffer Delay
 
--- the texts a, b, c, x
+-- Drop, or Latest, with this room, and Delay
+abbrev dropping : ℕ → Policy
+dropping room = choice (Drop room) Delay
+
+abbrev latest : ℕ → Policy
+latest room = choice (Latest room) Delay
+
+-- the texts a, b, c, d, e, x
 abbrev a : List ℕ
 a = 97 ∷ []
 
@@ -39,6 +51,12 @@ b = 98 ∷ []
 
 abbrev c : List ℕ
 c = 99 ∷ []
+
+abbrev d : List ℕ
+d = 100 ∷ []
+
+abbrev e : List ℕ
+e = 101 ∷ []
 
 abbrev x : List ℕ
 x = 120 ∷ []
@@ -73,3 +91,34 @@ refusals_in_order : told default NoEvents
     ≡ ((Ok (Joined 0), []) ∷ (Err refused.ZeroRequest, []) ∷ (Err refused.ZeroRequest, []) ∷ (Ok Asked, [])
     ∷ (Err refused.TooMuch, []) ∷ (Err refused.NoObserver, []) ∷ (Ok Admitted, to0 Completed ∷ []) ∷ (Err refused.Ended, []) ∷ [])
 refusals_in_order = refl
+
+drop_zero_honours_demand : told default NoEvents (Join (dropping 0) 0 0 ∷ emits a ∷ Request 0 1 ∷ emits b ∷ [])
+    ≡ ((Ok (Joined 0), []) ∷ (Ok Admitted, []) ∷ (Ok Asked, []) ∷ (Ok Admitted, to0 (next b) ∷ []) ∷ [])
+drop_zero_honours_demand = refl
+
+abbrev drop_two_events : List Event
+drop_two_events = Join (dropping 2) 0 0 ∷ emits a ∷ emits b ∷ emits c ∷ emits d ∷ emits e ∷ Request 0 9 ∷ []
+
+drop_two : told default NoEvents drop_two_events
+    ≡ ((Ok (Joined 0), []) ∷ (Ok Admitted, []) ∷ (Ok Admitted, []) ∷ (Ok Admitted, []) ∷ (Ok Admitted, []) ∷ (Ok Admitted, [])
+    ∷ (Ok Asked, to0 (next a) ∷ to0 (next b) ∷ []) ∷ [])
+drop_two = refl
+
+drop_two-owed : owed_to default (from0 drop_two_events) 0 ≡ 7
+drop_two-owed = refl
+
+abbrev latest_two_events : List Event
+latest_two_events = Join (latest 2) 1 0 ∷ emits a ∷ emits b ∷ emits c ∷ emits d ∷ Request 0 5 ∷ emits e ∷ []
+
+latest_two : told default NoEvents latest_two_events
+    ≡ ((Ok (Joined 0), []) ∷ (Ok Admitted, to0 (next a) ∷ []) ∷ (Ok Admitted, []) ∷ (Ok Admitted, []) ∷ (Ok Admitted, [])
+    ∷ (Ok Asked, to0 (next c) ∷ to0 (next d) ∷ []) ∷ (Ok Admitted, to0 (next e) ∷ []) ∷ [])
+latest_two = refl
+
+latest_two-owed : owed_to default (from0 latest_two_events) 0 ≡ 2
+latest_two-owed = refl
+
+latest_one_then_done : told default NoEvents (Join (latest 1) 0 0 ∷ emits a ∷ emits b ∷ Emit Completed 0 ∷ Request 0 1 ∷ [])
+    ≡ ((Ok (Joined 0), []) ∷ (Ok Admitted, []) ∷ (Ok Admitted, []) ∷ (Ok Admitted, [])
+    ∷ (Ok Asked, to0 (next b) ∷ to0 Completed ∷ []) ∷ [])
+latest_one_then_done = refl

@@ -1,13 +1,15 @@
 -- A trace keeps up with the signals: what each of them makes of it.
-use Rattle.std.proofs.Common.{◌≡◌, ℕ, zero, suc, ◌+◌, ◌-◌, ◌<◌, [], ◌∷◌, ◌++◌, length, map, take, drop, Option, Some, None, option_to_list, refl, sym, ap, ◌∙◌, arith}
+use Rattle.std.proofs.Common.{◌≡◌, ℕ, zero, suc, ◌+◌, ◌-◌, ◌<◌, ◌≤◌, [], ◌∷◌, ◌++◌, length, map, take, drop, Option, Some, None, option_to_list, refl, sym, ap, ◌∙◌, arith}
 use Rattle.std.proofs.lemmas.List.{length-take, length-append, drop_at}
 use Rattle.rx_note.specs.declared.item.Item.{Item}
 use Rattle.rx_note.specs.declared.note.Note.{Note}
 use Rattle.rx_note.specs.declared.note.Note.TheVariants.{Next}
 use Rattle.rx_note.specs.Choices.{Choice}
 use Rattle.rx_history.specs.Histories.{followed_by, ended_by}
-use Rattle.rx_note.specs.Signals.{Start, Requested, Offered, Ended, Signals, ◌▸◌, policy_of, demand, terminal_of, line_items, line, given, waiting}
-use Rattle.rx_note.proofs.Lines.{line_items-offered, line_items-ended, stays_behind, owed-rest, given-waiting}
+use Rattle.rx_note.specs.Signals.{Start, Requested, Offered, Ended, Signals, ◌▸◌, policy_of, demand, beyond_room, terminal_of, line_items, line, given, waiting_items, waiting}
+use Rattle.rx_note.specs.Queues.{queued}
+use Rattle.rx_note.proofs.Lines.{line_items-owed, line_items-queued, line_items-ended, stays_behind, owed-rest, given-waiting}
+use Rattle.rx_history.proofs.Rooms.{waits_in_room}
 use Rattle.rx_history.specs.declared.trace.Trace.{Trace}
 use Rattle.rx_history.specs.Traces.{Traces}
 
@@ -17,44 +19,68 @@ take-nil (suc n) = refl
 
 -- an item that is owed is given at once, and all the items are then given
 pub offer_given : (old new : Trace) (item : Item) (s : Signals) → Traces old s → terminal_of s ≡ None → 0 < old.owed
-    → new.items.items ≡ old.items.items ++ item ∷ [] → new.given ≡ length new.items.items → new.owed ≡ old.owed - 1 → new.end ≡ old.end
+    → new.strategy ≡ old.strategy → new.items.items ≡ old.items.items ++ item ∷ [] → new.given ≡ length new.items.items → new.owed ≡ old.owed - 1 → new.end ≡ old.end
     → Traces new (s ▸ Offered item)
-offer_given old new item s was open_now owes is_items is_given is_owed is_end =
-    let behind : line_items (s ▸ Offered item) ≡ line_items s ++ item ∷ [] = line_items-offered (policy_of s).strategy s item refl open_now in
+offer_given old new item s was open_now owes is_strategy is_items is_given is_owed is_end =
+    let short : length (line_items s) < demand s = omega (arith, owed-rest s, was.has_owed) in
+    let behind : line_items (s ▸ Offered item) ≡ line_items s ++ item ∷ [] = line_items-owed s item open_now short in
     let longer = ap length behind ∙ length-append (line_items s) (item ∷ []) in
     let has_items = is_items ∙ ap (λ xs. xs ++ item ∷ []) was.has_items ∙ sym behind in
     let all = ap length has_items in
     let cut = length-take (demand s) (line_items (s ▸ Offered item)) in
     record {
+      has_strategy = is_strategy ∙ was.has_strategy;
       has_items = has_items;
       has_given = omega (arith, longer, all, cut, owed-rest s, was.has_owed);
       has_owed = omega (arith, longer, cut, owed-rest s, was.has_owed);
       has_end = is_end ∙ was.has_end;
     }
 
--- an item that is not owed waits
+-- an item that is not owed is queued by the strategy behind those given
 pub offer_waits : (old new : Trace) (item : Item) (s : Signals) → Traces old s → terminal_of s ≡ None → old.owed ≡ 0
-    → new.items.items ≡ old.items.items ++ item ∷ [] → new.given ≡ old.given → new.owed ≡ old.owed → new.end ≡ old.end
+    → new.strategy ≡ old.strategy
+    → (beyond_room old.strategy (length (drop old.given old.items.items)) ≡ 0
+    → new.items.items ≡ take old.given old.items.items ++ queued old.strategy (drop old.given old.items.items) item)
+    → new.given ≡ old.given → new.owed ≡ old.owed → new.end ≡ old.end
     → Traces new (s ▸ Offered item)
-offer_waits old new item s was open_now owes is_items is_given is_owed is_end =
-    let behind : line_items (s ▸ Offered item) ≡ line_items s ++ item ∷ [] = line_items-offered (policy_of s).strategy s item refl open_now in
-    let longer = ap length behind ∙ length-append (line_items s) (item ∷ []) in
+offer_waits old new item s was open_now owes is_strategy queues is_given is_owed is_end =
+    let g = (policy_of s).strategy in
+    let front = take (demand s) (line_items s) in
+    let back = queued g (waiting_items s) item in
+    let long : demand s ≤ length (line_items s) = omega (arith, owed-rest s, was.has_owed) in
+    let place : old.given ≡ demand s = omega (arith, was.has_given, length-take (demand s) (line_items s)) in
+    let waits : drop old.given old.items.items ≡ waiting_items s =
+    ap (λ n. drop n old.items.items) place ∙ ap (drop (demand s)) was.has_items in
+    let in_room : beyond_room old.strategy (length (drop old.given old.items.items)) ≡ 0 =
+    ap (λ h. beyond_room h (length (drop old.given old.items.items))) was.has_strategy
+    ∙ ap (λ xs. beyond_room g (length xs)) waits
+    ∙ waits_in_room g s refl in
+    let is_items : new.items.items ≡ front ++ back =
+    queues in_room
+    ∙ ap (λ xs. xs ++ queued old.strategy (drop old.given old.items.items) item)
+    (ap (λ n. take n old.items.items) place ∙ ap (take (demand s)) was.has_items)
+    ∙ ap (λ h. front ++ queued h (drop old.given old.items.items) item) was.has_strategy
+    ∙ ap (λ xs. front ++ queued g xs item) waits in
+    let parts : line_items (s ▸ Offered item) ≡ front ++ back = line_items-queued g s item refl open_now long in
+    let longer = ap length parts ∙ length-append front back in
     let before = length-take (demand s) (line_items s) in
     let cut = length-take (demand s) (line_items (s ▸ Offered item)) in
     record {
-      has_items = is_items ∙ ap (λ xs. xs ++ item ∷ []) was.has_items ∙ sym behind;
-      has_given = omega (arith, longer, before, cut, owed-rest s, was.has_owed, was.has_given);
-      has_owed = omega (arith, longer, cut, owed-rest s, was.has_owed);
+      has_strategy = is_strategy ∙ was.has_strategy;
+      has_items = is_items ∙ sym parts;
+      has_given = omega (arith, longer, before, cut, place);
+      has_owed = omega (arith, longer, before, cut, owed-rest s, was.has_owed);
       has_end = is_end ∙ was.has_end;
     }
 
 -- the end leaves all but the end
 pub ends : (old new : Trace) (terminal : Note) (s : Signals) → Traces old s → terminal_of s ≡ None
-    → new.items.items ≡ old.items.items → new.given ≡ old.given → new.owed ≡ old.owed → new.end ≡ Some terminal
+    → new.strategy ≡ old.strategy → new.items.items ≡ old.items.items → new.given ≡ old.given → new.owed ≡ old.owed → new.end ≡ Some terminal
     → Traces new (s ▸ Ended terminal)
-ends old new terminal s was open_now is_items is_given is_owed is_end =
+ends old new terminal s was open_now is_strategy is_items is_given is_owed is_end =
     let same : line_items (s ▸ Ended terminal) ≡ line_items s = line_items-ended s terminal (stays_behind (policy_of s).errors terminal) open_now in
     record {
+      has_strategy = is_strategy ∙ was.has_strategy;
       has_items = is_items ∙ was.has_items ∙ sym same;
       has_given = is_given ∙ was.has_given ∙ ap (λ xs. length (take (demand s) xs)) (sym same);
       has_owed = is_owed ∙ was.has_owed ∙ ap (λ xs. demand s - length (take (demand s) xs)) (sym same);
@@ -62,9 +88,10 @@ ends old new terminal s was open_now is_items is_given is_owed is_end =
     }
 
 -- an observer that joins has requested its first items
-opens_open : (new : Trace) (policy : Choice) (first : ℕ) → new.items.items ≡ [] → new.given ≡ 0 → new.owed ≡ first → new.end ≡ None
+opens_open : (new : Trace) (policy : Choice) (first : ℕ) → new.strategy ≡ policy.strategy → new.items.items ≡ [] → new.given ≡ 0 → new.owed ≡ first → new.end ≡ None
     → Traces new (Start policy ▸ Requested first)
-opens_open new policy first is_items is_given is_owed is_end = record {
+opens_open new policy first is_strategy is_items is_given is_owed is_end = record {
+  has_strategy = is_strategy;
   has_items = is_items;
   has_given = is_given ∙ sym (ap length (take-nil (0 + first)));
   has_owed = omega (arith, ap length (take-nil (0 + first)));
@@ -73,12 +100,14 @@ opens_open new policy first is_items is_given is_owed is_end = record {
 
 -- and has the end where there is one
 pub opens : (new : Trace) (policy : Choice) (first : ℕ) (end : Option Note)
-    → new.items.items ≡ [] → new.given ≡ 0 → new.owed ≡ first → new.end ≡ end
+    → new.strategy ≡ policy.strategy → new.items.items ≡ [] → new.given ≡ 0 → new.owed ≡ first → new.end ≡ end
     → Traces new (followed_by (Start policy ▸ Requested first) (ended_by end))
-opens new policy first None is_items is_given is_owed is_end = opens_open new policy first is_items is_given is_owed is_end
-opens new policy first (Some terminal) is_items is_given is_owed is_end =
+opens new policy first None is_strategy is_items is_given is_owed is_end =
+    opens_open new policy first is_strategy is_items is_given is_owed is_end
+opens new policy first (Some terminal) is_strategy is_items is_given is_owed is_end =
     let before : Trace = record new { end = None } in
-    ends before new terminal (Start policy ▸ Requested first) (opens_open before policy first is_items is_given is_owed refl) refl refl refl refl is_end
+    ends before new terminal (Start policy ▸ Requested first)
+    (opens_open before policy first is_strategy is_items is_given is_owed refl) refl refl refl refl refl is_end
 
 -- the notes of the items and of the end are the line
 pub line_is : (trace : Trace) (s : Signals) → Traces trace s → map Next trace.items.items ++ option_to_list trace.end ≡ line s

@@ -2,7 +2,7 @@
 -- Order, and that nothing follows a terminal, are those of the Observable Contract
 -- (reactivex.io/documentation/contract.html); that a request bounds what is given is that of the Backpressure operators
 -- (reactivex.io/documentation/operators/backpressure.html).
-use Rattle.std.specs.Prelude.{◌≡◌, ℕ, ◌+◌, ◌<◌, ◌≤◌, ◌==◌, Bool, true, false, if◌then◌else◌, List, [], ◌∷◌, ◌++◌, length, map, Option, Some, is_some, option_to_list}
+use Rattle.std.specs.Prelude.{◌≡◌, ℕ, ◌+◌, ◌<◌, ◌≤◌, ◌==◌, Bool, true, false, if◌then◌else◌, List, [], ◌∷◌, ◌++◌, length, map, Option, Some, is_some, option_to_list, ◌⊎◌}
 use Rattle.std.specs.List.{filter, items_where_true}
 use Rattle.std.specs.Option.{option_map, option_map_or}
 use Rattle.rx_note.specs.declared.given.Given.{Given}
@@ -11,7 +11,8 @@ use Rattle.rx_note.specs.declared.note.Note.{Note}
 use Rattle.rx_note.specs.declared.note.Note.TheVariants.{Next, Completed, Failed}
 use Rattle.rx_note.specs.declared.event.Event.TheVariants.{Emit}
 use Rattle.rx_note.specs.declared.rules.Rules.{Rules}
-use Rattle.rx_note.specs.declared.strategy.Strategy.TheVariants.{Buffer}
+use Rattle.rx_note.specs.declared.strategy.Strategy.{Strategy}
+use Rattle.rx_note.specs.declared.strategy.Strategy.TheVariants.{Buffer, Drop, Latest}
 use Rattle.rx_note.specs.declared.errors.Errors.TheVariants.{Delay}
 use Rattle.rx_note.specs.Choices.{Choice, choice}
 use Rattle.rx_note.specs.Signals.{Requested, Offered, Ended, Signals, Start, ◌▸◌, policy_of, demand}
@@ -53,6 +54,10 @@ requested_by rules H o = option_map_or demand (signals rules H o) 0
 -- the policy that observer o joined with
 abbrev pub policy_by : Rules → History → ℕ → Option Choice
 policy_by rules H o = option_map policy_of (signals rules H o)
+
+-- the strategy of that policy
+abbrev pub strategy_by : Rules → History → ℕ → Option Strategy
+strategy_by rules H o = option_map (λ policy. policy.strategy) (policy_by rules H o)
 
 -- the items of the accepted Emits
 abbrev pub emitted : Rules → History → List Item
@@ -143,6 +148,12 @@ GivenWithinRequests = (rules : Rules) (H : History) (o : ℕ) → length (items_
 -- nothing is held back: while an item is owed, nothing waits
 abbrev pub NothingWaitsWhileOwed : Type 0
 NothingWaitsWhileOwed = (rules : Rules) (H : History) (o : ℕ) → 0 < owed_to rules H o → waiting_for rules H o ≡ []
+
+-- under Drop and Latest no more items wait than there is room for
+abbrev pub WaitsWithinRoom : Type 0
+WaitsWithinRoom =
+    (rules : Rules) (H : History) (o room : ℕ) → (strategy_by rules H o ≡ Some (Drop room)) ⊎ (strategy_by rules H o ≡ Some (Latest room))
+    → length (items_among (waiting_for rules H o)) ≤ room
 
 -- under Buffer and Delay every item offered is in the line
 abbrev pub BufferKeepsAll : Type 0

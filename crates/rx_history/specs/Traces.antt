@@ -1,12 +1,13 @@
 -- What the events so far mean for one observer, as a walk over them keeps it.
 use Rattle.std.specs.Prelude.{◌≡◌, ℕ, length, take, Option, None, Some}
-use Rattle.rx_note.specs.Signals.{Signals, demand, terminal_of, line_items, owed}
+use Rattle.rx_note.specs.Signals.{Signals, policy_of, demand, terminal_of, line_items, owed}
 use Rattle.rx_note.specs.declared.rules.Rules.{Rules}
 use Rattle.rx_history.specs.Histories.{History, signals}
 use Rattle.rx_history.specs.declared.trace.Trace.{Trace}
 
--- the trace has the line of these signals, how many of its items were given, and how many more are owed
+-- the trace has the strategy of these signals, their line, how many of its items were given, and how many more are owed
 pub record Traces (trace : Trace) (s : Signals) : Type 0 where
+  pub has_strategy : trace.strategy ≡ (policy_of s).strategy
   pub has_items : trace.items.items ≡ line_items s
   pub has_given : trace.given ≡ length (take (demand s) (line_items s))
   pub has_owed : trace.owed ≡ owed s

@@ -1,7 +1,7 @@
 //! The laws of delivery, for every history: each function does nothing, and its contract is one law of
 //! `specs/Delivery.antt`.
 
-ghost use Rattle.rx_history.specs.Delivery.{LineIsInOrder, OffersAreInOrder, EachPortIsInOrder, EachItemIsOffered, GivenThenWaiting, GivenOnlyGrows, OutsAreGiven, TerminalIsLast, LineEndsAsTheSubject, NothingFollowsATerminal, NothingFollowsTheEnd, GivenAndOwed, GivenWithinRequests, NothingWaitsWhileOwed, BufferKeepsAll};
+ghost use Rattle.rx_history.specs.Delivery.{LineIsInOrder, OffersAreInOrder, EachPortIsInOrder, EachItemIsOffered, GivenThenWaiting, GivenOnlyGrows, OutsAreGiven, TerminalIsLast, LineEndsAsTheSubject, NothingFollowsATerminal, NothingFollowsTheEnd, GivenAndOwed, GivenWithinRequests, NothingWaitsWhileOwed, WaitsWithinRoom, BufferKeepsAll};
 
 /// The items of a line are items offered to the observer, in their order and none twice.
 pub fn line_is_in_order()
@@ -71,6 +71,11 @@ pub fn given_within_requests()
 /// Nothing is held back: while an item is owed, nothing waits.
 pub fn nothing_waits_while_owed()
     ensures { NothingWaitsWhileOwed }
+{}
+
+/// Under Drop and Latest no more items wait than there is room for.
+pub fn waits_within_room()
+    ensures { WaitsWithinRoom }
 {}
 
 /// Under Buffer and Delay every item offered is in the line.

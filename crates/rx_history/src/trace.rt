@@ -1,16 +1,17 @@
-ghost use Rattle.std.specs.Prelude.{◌≡◌, ◌≤◌, ◌++◌, if◌then◌else◌, length, map, None, IfOk, OnOk, vec_len, option_to_list};
+ghost use Rattle.std.specs.Prelude.{◌≡◌, ◌≤◌, ◌++◌, if◌then◌else◌, length, map, take, drop, None, IfOk, OnOk, vec_len, option_to_list};
 ghost use Rattle.rx_note.specs.declared.note.Note.TheVariants.{Next};
-ghost use Rattle.rx_note.specs.Choices.{Choice};
-ghost use Rattle.rx_note.specs.Signals.{Signals, Start, ◌▸◌, Requested, Offered, Ended, terminal_of, line, given, waiting};
+ghost use Rattle.rx_note.specs.Queues.{queued};
+ghost use Rattle.rx_note.specs.Signals.{Signals, Start, ◌▸◌, Requested, Offered, Ended, beyond_room, terminal_of, line, given, waiting};
 ghost use Rattle.rx_history.specs.Histories.{may_request, followed_by, ended_by};
 
 use rx_heap::{Heap, Memory};
-use rx_note::{Item, Note};
+use rx_note::{Item, Note, Policy, Strategy};
 
-/// What the events so far mean for one observer: the items of its line, how many of these were given, how many items
-/// more it is owed, and the end.
+/// What the events so far mean for one observer: its strategy, the items of its line, how many of these were given, how
+/// many items more it is owed, and the end.
 #[derive(Drop)]
 pub(crate) struct Trace {
+    pub(crate) strategy: Strategy,
     pub(crate) items: Vec<Item, Heap>,
     pub(crate) given: usize,
     pub(crate) owed: u32,
@@ -21,11 +22,12 @@ pub(crate) struct Trace {
 impl Trace {
     ghost use Rattle.rx_history.specs.Traces.{Traces};
 
-    /// The trace of an observer that joins with a request of `first` items, on a subject of this end.
-    pub(crate) fn joined(alloc: Heap, first: u32, end: Option<Note>) -> Trace
-        ensures { (policy : Choice) → Traces result (followed_by (Start policy ▸ Requested first) (ended_by end)) }
+    /// The trace of an observer that joins with a policy and a request of `first` items, on a subject of this end.
+    pub(crate) fn joined(alloc: Heap, policy: Policy, first: u32, end: Option<Note>) -> Trace
+        ensures { Traces result (followed_by (Start policy ▸ Requested first) (ended_by end)) }
     {
         Trace {
+            strategy: policy.strategy(),
             items: Vec::new(alloc),
             given: 0,
             owed: first,
@@ -33,14 +35,16 @@ impl Trace {
         }
     }
 
-    /// An item is offered: it comes last in the line, and is given at once where it is owed.
+    /// An item is offered: it is given at once where it is owed, and queued by the strategy where it is not.
     pub(crate) fn offer(&mut self, item: Item) -> Result<(), Memory>
         ensures { OnOk result ((s : Signals) → terminal_of s ≡ None → Traces self.old s → Traces self.new (s ▸ Offered item)) }
     {
-        self.items.push(item)?;
         if self.owed > 0 {
+            self.items.push(item)?;
             self.owed -= 1;
             self.given = self.items.len();
+        } else {
+            queue(self.strategy, &mut self.items, self.given, item)?;
         }
         Ok(())
     }
@@ -72,6 +76,7 @@ impl Trace {
         ensures { IfOk result (λ notes. notes.items ≡ map Next self.items.items ++ option_to_list self.end) }
     {
         let Trace {
+            strategy: _,
             items,
             given: _,
             owed: _,
@@ -116,4 +121,35 @@ impl Trace {
         let (mut line, given) = self.parted()?;
         Ok(line.split_off(given)?)
     }
+}
+
+// Queues an item by a strategy. The first `given` items were given, and the others wait: at most as many as there is room
+// for, so that with Latest one item more makes at most one too many.
+fn queue(
+    strategy: Strategy,
+    items: &mut Vec<Item, Heap>,
+    given: usize,
+    item: Item,
+) -> Result<(), Memory>
+    requires { given ≤ vec_len items.old }
+    ensures queued { let waiting = drop given items.old.items in
+        OnOk result (beyond_room strategy (length waiting) ≡ 0 → items.new.items ≡ take given items.old.items ++ queued strategy waiting item) }
+    ensures in_line { given ≤ vec_len items.new }
+{
+    let waiting = items.len() - given;
+    match strategy {
+        Strategy::Buffer => items.push(item)?,
+        Strategy::Drop(room) => {
+            if waiting < usize::from(room) {
+                items.push(item)?;
+            }
+        }
+        Strategy::Latest(room) => {
+            items.push(item)?;
+            if waiting >= usize::from(room) {
+                items.remove(given);
+            }
+        }
+    }
+    Ok(())
 }

@@ -1,7 +1,6 @@
 ghost use Rattle.std.specs.Prelude.{ℕ, ◌≡◌, ◌+◌, ◌^◌, ◌<◌, ◌&&◌, nat_lt, true, if◌then◌else◌, Option, IfOk, OnOk};
 ghost use Rattle.std.specs.Option.{option_map};
 ghost use Rattle.rx_note.specs.declared.event.Event.TheVariants.{Emit, Join, Request};
-ghost use Rattle.rx_note.specs.Choices.{Choice};
 ghost use Rattle.rx_note.specs.Signals.{Signals, ◌▸◌, Requested, Offered, Ended};
 ghost use Rattle.rx_history.specs.Histories.{History, ◌▹◌, joins as joins_in, may_request, signals as signals_in};
 ghost use Rattle.rx_history.specs.Stored.{history_of};
@@ -9,7 +8,7 @@ ghost use Rattle.rx_history.specs.Traces.{MayTrace, AreOpen};
 
 use crate::trace::Trace;
 use rx_heap::{Heap, Memory};
-use rx_note::{Event, Item, Limits, Note, Rules};
+use rx_note::{Event, Item, Limits, Note, Policy, Rules};
 
 /// A walk over the events of a subject, from the first one on, for the sake of one observer: how many Joins were
 /// accepted, the end of the subject, and the trace of the observer once it has joined.
@@ -32,10 +31,10 @@ impl Walk {
         match event {
             Event::Emit { note, at: _ } => self.emit(port, note),
             Event::Join {
-                policy: _,
+                policy,
                 first,
                 at: _,
-            } => self.join(heap, rules, *first),
+            } => self.join(heap, rules, *policy, *first),
             Event::Request { who, n } => {
                 self.request(*who, *n);
                 Ok(())
@@ -66,8 +65,8 @@ impl Walk {
     }
 
     // An observer joins; it is refused where the limits are reached. Its number is the count of the Joins before it.
-    fn join(&mut self, heap: &Heap, rules: &Rules, first: u32) -> Result<(), Memory>
-        ensures passes { OnOk result ((port : ℕ) (policy : Choice) (at : ℕ) → Passes rules.now self.old self.new (port, Join policy first at)) }
+    fn join(&mut self, heap: &Heap, rules: &Rules, policy: Policy, first: u32) -> Result<(), Memory>
+        ensures passes { OnOk result ((port at : ℕ) → Passes rules.now self.old self.new (port, Join policy first at)) }
         ensures who { self.new.who ≡ self.old.who }
     {
         if !admits(&rules.limits, self.joins) {
@@ -79,7 +78,7 @@ impl Walk {
             return Ok(());
         }
         let end = copy_of(&self.end)?;
-        self.trace = Some(Trace::joined(heap.clone()?, first, end));
+        self.trace = Some(Trace::joined(heap.clone()?, policy, first, end));
         Ok(())
     }
 

@@ -3,4 +3,4 @@ use Rattle.rx_history.proofs.Tracing.{ends}
 use Rattle.rx_history.proofs.trace.Trace.end.Goals as goal
 
 pub returns : goal.returns
-returns c = λ s open_now was. ends c.args.self.now _ c.args.terminal s was open_now refl refl refl refl
+returns c = λ s open_now was. ends c.args.self.now _ c.args.terminal s was open_now refl refl refl refl refl

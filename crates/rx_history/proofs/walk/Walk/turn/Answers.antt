@@ -7,7 +7,7 @@ returns-in-Emit-clause-passes c =
 
 pub returns-in-Join-clause-passes : goal.returns-in-Join-clause-passes
 returns-in-Join-clause-passes c =
-    rw c.in-Join.is (on_ok c.join.result (λ passes. passes c.args.port c.in-Join.policy c.in-Join.at) c.join.ensures.passes)
+    rw c.in-Join.is (on_ok c.join.result (λ passes. passes c.args.port c.in-Join.at) c.join.ensures.passes)
 
 pub returns-in-Request-clause-passes : goal.returns-in-Request-clause-passes
 returns-in-Request-clause-passes c = rw c.in-Request.is (c.request.ensures.passes c.args.rules.now c.args.port)
