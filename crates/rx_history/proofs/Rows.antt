@@ -1,4 +1,4 @@
--- The worked examples, by computation: what each event is answered and gives.
+-- The worked examples, by computation: what each event is answered and gives, and what is owed at the end.
 use Rattle.std.specs.Prelude.{◌≡◌, ℕ, List, [], ◌∷◌, map, Result, Ok, Err, refl}
 use Rattle.rx_note.specs.Choices.{choice}
 use Rattle.rx_note.specs.declared.policy.Policy.{Policy}

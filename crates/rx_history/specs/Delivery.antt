@@ -1,7 +1,7 @@
 -- The laws of delivery: what every observer of every history can rely on.
 -- Order, and that nothing follows a terminal, are those of the Observable Contract
 -- (reactivex.io/documentation/contract.html); that a request bounds what is given is that of the Backpressure operators
--- (reactivex.io/documentation/operators/backpressure.html).
+-- (reactivex.io/documentation/operators/backpressure.html); that a room bounds what waits is this project's own.
 use Rattle.std.specs.Prelude.{◌≡◌, ℕ, ◌+◌, ◌<◌, ◌≤◌, ◌==◌, Bool, true, false, if◌then◌else◌, List, [], ◌∷◌, ◌++◌, length, map, Option, Some, is_some, option_to_list, ◌⊎◌}
 use Rattle.std.specs.List.{filter, items_where_true}
 use Rattle.std.specs.Option.{option_map, option_map_or}

@@ -4,7 +4,8 @@
 //! `specs/Histories.antt` says what a history means. A [`History`] keeps its entries as they came and reads each answer
 //! from the first one on: plain and slow, so that a hub, which stores no history, can be held against it. The crates
 //! above rest on one fact: what it answers is what the definitions say. [`laws`] has what follows from these for every
-//! observer: order, nothing lost or twice, nothing after a terminal, no more than was requested.
+//! observer: order, nothing twice, nothing lost under Buffer, nothing after a terminal, no more given than was requested,
+//! no more waiting than there is room for.
 #![tactic(auto)]
 
 mod history;
