@@ -1,10 +1,9 @@
 -- How many notes wait for an observer.
-use Rattle.std.proofs.Common.{◌≡◌, ℕ, ◌+◌, ◌<◌, ◌==◌, false, cond, List, length, map, get_or, [], None, Some, position, Result, Ok, Err, sym, ap, ◌∙◌, arith, length-append}
+use Rattle.std.proofs.Common.{◌≡◌, ℕ, ◌<◌, ◌==◌, false, cond, List, length, get_or, [], None, Some, position, Result, Ok, Err, sym, ap, subst, ◌∙◌, arith}
 use Rattle.std.proofs.lemmas.List.{length-map}
 use Rattle.std.specs.Option.{option_map_or}
 use Rattle.std.specs.List.{list_any}
-use Rattle.rx_note.specs.declared.note.Note.TheVariants.{Next}
-use Rattle.rx_note.specs.Signals.{Signals, waiting, waiting_items, waiting_end}
+use Rattle.rx_note.specs.Signals.{Signals, waiting}
 use Rattle.rx_history.specs.Histories.{History, is_held, signals, waiting_for}
 use Rattle.rx_hub.specs.declared.no_observer.NoObserver.{NoObserver}
 use Rattle.rx_hub.specs.declared.subscription.Subscription.{Subscription}
@@ -26,19 +25,10 @@ count_absent hub subscriptions H who these none stands =
     let Told : Result ℕ NoObserver = Err (record {}) in
     sym (ap (λ b. cond b (Ok (length (waiting_for hub.rules H who))) Told) unheld)
 
--- a queue has as many notes as wait of its signals
-queue_waits : (lane : LaneState) (s : Signals) → lanes.StandsFor lane s → length lane.items + length lane.last ≡ length (waiting s)
-queue_waits lane s stands =
-    let all = length-append (map Next (waiting_items s)) (waiting_end s) in
-    let mapped = length-map (waiting_items s) Next in
-    let items : length lane.items ≡ length (waiting_items s) = ap length stands.items in
-    let last : length lane.last ≡ length (waiting_end s) = ap length stands.last in
-    omega (arith, all, mapped, items, last)
-
 -- the count at a place
 pub count_at : (hub : HubState) (subscriptions : List Subscription) (H : History) (who k n : ℕ) (old : Subscription)
     → hub.observers ≡ observers_of subscriptions → k < length subscriptions → old ≡ get_or subscriptions k old → old.who ≡ who
-    → n ≡ length old.lane.state.items + length old.lane.state.last → StandsFor hub H → Ok n ≡ waiting_count hub.rules H who
+    → ((s : Signals) → lanes.StandsFor old.lane.state s → n ≡ length (waiting s)) → StandsFor hub H → Ok n ≡ waiting_count hub.rules H who
 count_at hub subscriptions H who k n old these lt at named counted stands =
     let is : get_or hub.observers k (observer_of old) ≡ observer_of old = ap (λ os. get_or os k (observer_of old)) these ∙ observer-at subscriptions k old lt at in
     let within : k < length hub.observers = omega (arith, lt, ap length these, length-map subscriptions observer_of) in
@@ -46,9 +36,8 @@ count_at hub subscriptions H who k n old these lt at named counted stands =
     let held_now = held_at hub H who k (observer_of old) stands within number in
     let mine = AllStand-at (signals hub.rules H) hub.observers k (observer_of old) within stands.lanes_stand in
     let made : signals hub.rules H who ≡ Some mine.these = ap (signals hub.rules H) (sym number) ∙ mine.are in
-    let waits : length old.lane.state.items + length old.lane.state.last ≡ length (waiting mine.these) =
-    ap (λ (o : Observer). length o.lane.items + length o.lane.last) (sym is) ∙ queue_waits (get_or hub.observers k (observer_of old)).lane mine.these mine.stand in
+    let waits : n ≡ length (waiting mine.these) = counted mine.these (subst (λ (o : Observer). lanes.StandsFor o.lane mine.these) is mine.stand) in
     let found : waiting_for hub.rules H who ≡ waiting mine.these =
     ap (λ b. cond b (option_map_or waiting (signals hub.rules H who) []) []) held_now ∙ ap (λ t. option_map_or waiting t []) made in
     let Told : Result ℕ NoObserver = Err (record {}) in
-    ap Ok (counted ∙ waits ∙ ap length (sym found)) ∙ sym (ap (λ b. cond b (Ok (length (waiting_for hub.rules H who))) Told) held_now)
+    ap Ok (waits ∙ ap length (sym found)) ∙ sym (ap (λ b. cond b (Ok (length (waiting_for hub.rules H who))) Told) held_now)

@@ -6,7 +6,6 @@
 #![tactic(auto)]
 
 mod hub;
-
 mod multicast;
 mod no_observer;
 mod offer;

@@ -7,11 +7,11 @@ ghost use Rattle.rx_history.specs.Histories.{History};
 ghost use Rattle.rx_hub.specs.Hubs.{StandsFor, Takes};
 ghost use Rattle.rx_hub.specs.Counts.{waiting_count};
 
-use rx_lane::{AskError, Lane};
 use crate::no_observer::NoObserver;
 use crate::offer::{Offer, copy_of};
 use crate::subscription::{Subscription, end_by, give};
 use rx_heap::{Heap, Memory};
+use rx_lane::{AskError, Lane};
 use rx_note::{Answer, Event, Given, Note, Policy, Refusal, Rules};
 
 /// The state of a subject: its rules, its end, its clock and its observers, by rising number.

@@ -5,9 +5,9 @@ ghost use Rattle.rx_lane.specs.Lanes.{HasRoomFor};
 ghost use Rattle.rx_hub.specs.Offers.{signals_of};
 ghost use Rattle.rx_hub.specs.Subscriptions.{FeedsInto, AsksInto, HasRoom, Serves, observer_of};
 
-use rx_lane::{AskError, Lane};
 use crate::offer::Offer;
 use rx_heap::{Heap, Memory};
+use rx_lane::{AskError, Lane};
 use rx_note::{Given, Item, Note};
 
 /// An observer that is held: its number and its queue.

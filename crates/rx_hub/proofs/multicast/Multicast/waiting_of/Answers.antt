@@ -11,4 +11,4 @@ pub returns : goal.returns
 returns c H stands =
     let old = c.index.result.now in
     let is = named c.args.self.now.subscriptions.items c.args.who c.in-Some.place old c.in-Some.ensures c.index.ensures in
-    count_at (state_of c.args.self.now) c.args.self.now.subscriptions.items H c.args.who c.in-Some.place c.waiting_notes.result old refl is.0 c.index.ensures is.1 c.waiting_notes.ensures stands
+    count_at (state_of c.args.self.now) c.args.self.now.subscriptions.items H c.args.who c.in-Some.place c.waiting_notes.result old refl is.0 c.index.ensures is.1 c.waiting_notes.ensures.waiting stands
