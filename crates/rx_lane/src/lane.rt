@@ -90,6 +90,7 @@ impl Lane {
     pub fn waiting_len(&self) -> usize
         ensures state { result ≡ length self.now.state.items }
         ensures waiting { (s : Signals) → StandsFor self.now.state s → result ≡ length (waiting_items s) }
+        ensures within { result < 2 ^ 63 }
     {
         self.queue.len()
     }
@@ -99,7 +100,7 @@ impl Lane {
         ensures state { result ≡ length self.now.state.items + length self.now.state.last }
         ensures waiting { (s : Signals) → StandsFor self.now.state s → result ≡ length (waiting s) }
     {
-        let items = self.queue.len();
+        let items = self.waiting_len();
         match self.last {
             Some(_) => items + 1,
             None => items,
@@ -132,8 +133,9 @@ impl Lane {
         let Some(owed) = self.owed.checked_add(n) else {
             return Err(AskError::TooMuch);
         };
-        let given = self.queue.len().min(owed as usize);
-        let all = given == self.queue.len();
+        let waiting = self.waiting_len();
+        let given = waiting.min(owed as usize);
+        let all = given == waiting;
         let notes = if all { self.waiting_notes() } else { given };
         if outs.reserve(notes).is_err() {
             return Err(AskError::Memory);
@@ -168,7 +170,7 @@ impl Lane {
         ensures room { KeepsRoom self.old self.new 0 }
     {
         self.ended = true;
-        if self.queue.len() == 0 {
+        if self.waiting_len() == 0 {
             return Some(note);
         }
         self.last = Some(note);

@@ -7,12 +7,12 @@ use Rattle.rx_lane.proofs.lane.Lane.ask.Goals as goal
 
 pub returns-then-all-2-clause-gives : goal.returns-then-all-2-clause-gives
 returns-then-all-2-clause-gives c =
-    let all : c.min-given.result ≡ length (items_of c.self.inside.queue) = grind (arith, nat_tests, c.len-2.ensures.len) in
+    let all : c.min-given.result ≡ length (items_of c.self.inside.queue) = grind (arith, nat_tests, c.waiting_len-waiting.ensures.state) in
     let owed : c.min-given.result ≤ c.self.inside.owed + c.args.n = grind (arith, nat_tests, c.in-Some.ensures) in
     (_, rw (c.give_last.ensures.moved, c.move_items.ensures.moved, c.reserve.ensures.items, append_assoc), λ s st open_now. (ask_all _ c.args.n c.min-given.result all owed s (stands_as c.self.view_is st)).gives)
 
 pub returns-else-all-2-clause-gives : goal.returns-else-all-2-clause-gives
 returns-else-all-2-clause-gives c =
-    let part : c.min-given.result < length (items_of c.self.inside.queue) = grind (arith, nat_tests, c.len-2.ensures.len, c.len.ensures.len) in
-    let owed : c.min-given.result ≡ c.self.inside.owed + c.args.n = grind (arith, nat_tests, c.in-Some.ensures, c.len.ensures.len, c.len-2.ensures.len) in
+    let part : c.min-given.result < length (items_of c.self.inside.queue) = grind (arith, nat_tests, c.waiting_len-waiting.ensures.state) in
+    let owed : c.min-given.result ≡ c.self.inside.owed + c.args.n = grind (arith, nat_tests, c.in-Some.ensures, c.waiting_len-waiting.ensures.state) in
     (_, rw (c.move_items.ensures.moved, c.reserve.ensures.items), λ s st open_now. (ask_part _ c.args.n c.min-given.result owed part s (stands_as c.self.view_is st)).gives)
