@@ -8,7 +8,7 @@ ghost use Rattle.rx_history.specs.Traces.{MayTrace, AreOpen};
 
 use crate::trace::Trace;
 use rx_heap::{Heap, Memory};
-use rx_note::{Event, Item, Limits, Note, Policy, Rules};
+use rx_note::{Event, Item, Limits, Note, Policy, Rules, copy_of};
 
 /// A walk over the events of a subject, from the first one on, for the sake of one observer: how many Joins were
 /// accepted, the end of the subject, and the trace of the observer once it has joined.
@@ -90,16 +90,6 @@ impl Walk {
         if who == self.who {
             request_by(&mut self.trace, n);
         }
-    }
-}
-
-// The same note, or none.
-fn copy_of(note: &Option<Note>) -> Result<Option<Note>, Memory>
-    ensures { IfOk result (λ copy. copy ≡ note.now) }
-{
-    match note {
-        Some(note) => Ok(Some(note.copy()?)),
-        None => Ok(None),
     }
 }
 

@@ -8,11 +8,11 @@ ghost use Rattle.rx_hub.specs.Hubs.{StandsFor, Takes};
 ghost use Rattle.rx_hub.specs.Counts.{waiting_count};
 
 use crate::no_observer::NoObserver;
-use crate::offer::{Offer, copy_of};
+use crate::offer::Offer;
 use crate::subscription::{Subscription, end_by, give};
 use rx_heap::{Heap, Memory};
 use rx_lane::{AskError, Lane};
-use rx_note::{Answer, Event, Given, Note, Policy, Refusal, Rules};
+use rx_note::{Answer, Event, Given, Note, Policy, Refusal, Rules, copy_of};
 
 /// The state of a subject: its rules, its end, its clock and its observers, by rising number.
 #[derive(Drop)]

@@ -2,7 +2,7 @@ ghost use Rattle.std.specs.Prelude.{◌≡◌, IfOk};
 ghost use Rattle.rx_hub.specs.Offers.{offer_of};
 
 use rx_heap::{Heap, Memory};
-use rx_note::{Item, Note};
+use rx_note::{Item, Note, copy_of};
 
 /// What an accepted note offers to every observer: an item, or the end.
 #[derive(Drop)]
@@ -40,15 +40,5 @@ impl Offer {
         };
         let end = copy_of(&self.end)?;
         Ok(Offer { item, end })
-    }
-}
-
-/// The same note, or none.
-pub(crate) fn copy_of(note: &Option<Note>) -> Result<Option<Note>, Memory>
-    ensures { IfOk result (λ copy. copy ≡ note.now) }
-{
-    match note {
-        Some(note) => Ok(Some(note.copy()?)),
-        None => Ok(None),
     }
 }

@@ -26,7 +26,7 @@ pub use given::Given;
 pub use item::Item;
 pub use kind::Kind;
 pub use limits::Limits;
-pub use note::Note;
+pub use note::{Note, copy_of};
 pub use policy::{BadRoom, MAX_ROOM, Policy};
 pub use refusal::Refusal;
 pub use rules::Rules;

@@ -26,3 +26,13 @@ impl Note {
         }
     }
 }
+
+/// The same note, or none; it shares the text.
+pub fn copy_of(note: &Option<Note>) -> Result<Option<Note>, Memory>
+    ensures { IfOk result (λ copy. copy ≡ note.now) }
+{
+    match note {
+        Some(note) => Ok(Some(note.copy()?)),
+        None => Ok(None),
+    }
+}
