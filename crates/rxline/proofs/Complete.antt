@@ -3,20 +3,20 @@ use Rattle.std.proofs.Common.{◌≡◌, ℕ, ◌+◌, ◌-◌, ◌*◌, ◌<◌
 use Rattle.std.proofs.lemmas.Bool.{ne_eqb, cases_lt}
 use Rattle.std.proofs.lemmas.Bool.Decides.{nat_tests}
 use Rattle.std.specs.List.{list_any, AllByRecursion}
-use Rattle.rx_note.specs.Choices.{Choice}
+use Rattle.rx_note.specs.Choices.{Choice, is_in_limits}
 use Rattle.rx_note.specs.declared.strategy.Strategy.{Strategy}
-use Rattle.rx_note.specs.declared.strategy.Strategy.TheVariants.{Buffer}
+use Rattle.rx_note.specs.declared.strategy.Strategy.TheVariants.{Buffer, Drop, Latest}
 use Rattle.rx_note.specs.declared.errors.Errors.{Errors}
 use Rattle.rx_note.specs.declared.errors.Errors.TheVariants.{Delay}
-use Rattle.rxline.specs.Grammar.{IsText, IsDigit, value_behind, SpellsNumber, SpellsStrategy, SpellsErrors, SpellsJoin, SpellsRequest, Spells, HasLongText, IsLong}
+use Rattle.rxline.specs.Grammar.{IsText, IsDigit, value_behind, SpellsNumber, SpellsRoom, SpellsStrategy, SpellsErrors, SpellsJoin, SpellsRequest, Spells, HasLongText, IsLong}
 use Rattle.rxline.specs.Lines.{HasNoLf}
 use Rattle.rxline.specs.Names.{IsName, IsNameByte}
-use Rattle.rxline.specs.Reading.{◌>>=◌, cut_read, same_word, name_read, named_read, text_read, digits_read, number_read, strategy_read, errors_read, policy_read, named_text_read, join_read, request_read, words_read, line_read}
+use Rattle.rxline.specs.Reading.{◌>>=◌, cut_read, same_word, name_read, named_read, text_read, digits_read, number_read, room_read, strategy_read, errors_read, policy_read, named_text_read, join_read, request_read, words_read, line_read}
 use Rattle.rxline.specs.declared.command.Command.TheVariants.{Pub, End, Fail, Quit}
 use Rattle.rxline.specs.declared.line_error.BadLine.TheVariants.{Long}
 use Rattle.rxline.specs.declared.script_line.ScriptLine.{ScriptLine}
 use Rattle.rxline.specs.declared.script_line.ScriptLine.TheVariants.{Command, Join, Request}
-use Rattle.rxline.proofs.Cuts.{HasNoSpace, cut_read-parted}
+use Rattle.rxline.proofs.Cuts.{HasNoSpace, HasNoSpace-append, cut_read-parted}
 use Rattle.rxline.proofs.NameTests.{name_read-name}
 use Rattle.rxline.proofs.Sound.{is_digit-decides, sizes-decides}
 
@@ -66,12 +66,38 @@ number_read-number n digits is =
     let fits : value_behind 0 digits < 2 ^ 32 = omega (arith, is.value, is.fits) in
     rw ((sizes-decides digits).1 (is.some, is.few)) (digits_read-value 0 digits is.each fits ∙ ap Ok is.value)
 
+-- a name without a space has none with its room behind it
+room-no_space : (name : List ℕ) (room : ℕ) (word : List ℕ) → HasNoSpace name → SpellsRoom name room word → HasNoSpace word
+room-no_space name room word none is =
+    subst HasNoSpace (sym is.parts) (HasNoSpace-append name is.digits none (number-no_space room is.digits is.number_is))
+
+strategy-no_space : (strategy : Strategy) (word : List ℕ) → SpellsStrategy strategy word → HasNoSpace word
+strategy-no_space Buffer word is = subst HasNoSpace (sym is) (search arith)
+strategy-no_space (Drop room) word is = room-no_space (codes "DROP:") room word (search arith) is.0
+strategy-no_space (Latest room) word is = room-no_space (codes "LATEST:") room word (search arith) is.0
+
+room_read-number : (room : ℕ) (digits : List ℕ) → SpellsNumber room digits → room ≤ 1024 → room_read digits ≡ Ok room
+room_read-number room digits is few =
+    let fits : nat_lt room 65536 ≡ true = grind (arith, nat_tests) in
+    rw (number_read-number room digits is, fits) refl
+
 -- the words of a policy have no space, and are read
 strategy_cut : (strategy : Strategy) (word rest : List ℕ) → SpellsStrategy strategy word → cut_read (word ++ (32 ∷ rest)) ≡ Ok (word, rest)
-strategy_cut Buffer word rest is = let P : List ℕ → Type 0 = λ w. cut_read (w ++ (32 ∷ rest)) ≡ Ok (w, rest) in subst P (sym is) refl
+strategy_cut strategy word rest is = cut_read-parted word rest (strategy-no_space strategy word is)
 
 strategy_read-word : (strategy : Strategy) (word : List ℕ) → SpellsStrategy strategy word → strategy_read word ≡ Ok strategy
 strategy_read-word Buffer word is = let P : List ℕ → Type 0 = λ w. strategy_read w ≡ Ok Buffer in subst P (sym is) refl
+strategy_read-word (Drop room) word is =
+    let P : List ℕ → Type 0 = λ w. strategy_read w ≡ Ok (Drop room) in
+    subst P (sym is.0.parts) (rw (room_read-number room is.0.digits is.0.number_is is.1) refl)
+strategy_read-word (Latest room) word is =
+    let P : List ℕ → Type 0 = λ w. strategy_read w ≡ Ok (Latest room) in
+    subst P (sym is.0.parts) (rw (room_read-number room is.0.digits is.0.number_is is.2) refl)
+
+strategy-in_limits : (strategy : Strategy) (word : List ℕ) → SpellsStrategy strategy word → is_in_limits strategy ≡ true
+strategy-in_limits Buffer word is = refl
+strategy-in_limits (Drop room) word is = let few = is.1 in grind (arith, nat_tests)
+strategy-in_limits (Latest room) word is = let some = is.1 in let few = is.2 in grind (arith, nat_tests)
 
 errors_cut : (errors : Errors) (word rest : List ℕ) → SpellsErrors errors word → cut_read (word ++ (32 ∷ rest)) ≡ Ok (word, rest)
 errors_cut Delay word rest is = let P : List ℕ → Type 0 = λ w. cut_read (w ++ (32 ∷ rest)) ≡ Ok (w, rest) in subst P (sym is) refl
@@ -81,7 +107,8 @@ errors_read-word Delay word is = let P : List ℕ → Type 0 = λ w. errors_read
 
 policy_read-words : (policy : Choice) (strategy errors : List ℕ) → SpellsStrategy policy.strategy strategy → SpellsErrors policy.errors errors → policy_read strategy errors ≡ Ok policy
 unfolding policy_read
-policy_read-words policy strategy errors s e = rw (strategy_read-word policy.strategy strategy s, errors_read-word policy.errors errors e) refl
+policy_read-words policy strategy errors s e =
+    rw (strategy_read-word policy.strategy strategy s, errors_read-word policy.errors errors e, strategy-in_limits policy.strategy strategy s) refl
 
 named_text_read-text : (name text : List ℕ) → IsName name → IsText text → named_text_read (name ++ (32 ∷ text)) ≡ Ok (name, text)
 unfolding named_text_read

@@ -1,17 +1,19 @@
 -- What is read is spelled so, and what is refused as too long is so.
-use Rattle.std.proofs.Common.{◌≡◌, ℕ, ◌+◌, ◌-◌, ◌*◌, ◌<◌, ◌≤◌, ◌^◌, ◌==◌, ◌&&◌, ◌||◌, Bool, true, false, cond, List, [], ◌∷◌, ◌++◌, nat_eq, nat_lt, nat_le, length, codes, Result, ◌⊎◌, Ok, Err, refl, sym, ap, ◌∙◌, subst, inl, inr, arith}
+use Rattle.std.proofs.Common.{◌≡◌, ℕ, ◌+◌, ◌-◌, ◌*◌, ◌<◌, ◌≤◌, ◌^◌, ◌==◌, ◌&&◌, ◌||◌, Bool, true, false, cond, List, [], ◌∷◌, ◌++◌, nat_eq, nat_lt, nat_le, length, codes, take, Result, ◌⊎◌, Ok, Err, refl, sym, ap, ◌∙◌, subst, inl, inr, arith}
 use Rattle.std.proofs.lemmas.Bool.{eqb-true, eqb-false}
 use Rattle.std.proofs.lemmas.Bool.Decides.{nat_tests}
+use Rattle.std.proofs.lemmas.List.{take-append-drop}
 use Rattle.std.specs.Bool.{Decides}
 use Rattle.std.specs.Cmp.Lexicographic.{same_text}
 use Rattle.std.specs.List.{list_any, AllByRecursion}
-use Rattle.rx_note.specs.Choices.{Choice, choice}
-use Rattle.rx_note.specs.declared.strategy.Strategy.TheVariants.{Buffer}
+use Rattle.rx_note.specs.Choices.{Choice, choice, is_in_limits}
+use Rattle.rx_note.specs.declared.strategy.Strategy.{Strategy}
+use Rattle.rx_note.specs.declared.strategy.Strategy.TheVariants.{Buffer, Drop, Latest}
 use Rattle.rx_note.specs.declared.errors.Errors.TheVariants.{Delay}
-use Rattle.rxline.specs.Grammar.{IsText, IsDigit, value_behind, SpellsNumber, SpellsStrategy, SpellsErrors, Spells, HasLongText, IsLong}
+use Rattle.rxline.specs.Grammar.{IsText, IsDigit, value_behind, SpellsNumber, SpellsRoom, SpellsStrategy, SpellsErrors, Spells, HasLongText, IsLong}
 use Rattle.rxline.specs.Lines.{HasNoLf}
 use Rattle.rxline.specs.Names.{IsName}
-use Rattle.rxline.specs.Reading.{◌>>=◌, cut_read, same_word, name_read, named_read, text_read, is_digit, digits_read, number_read, strategy_read, errors_read, policy_read, named_text_read, join_read, request_read, words_read, line_read}
+use Rattle.rxline.specs.Reading.{◌>>=◌, cut_read, same_word, begins_with, rest_behind, name_read, named_read, text_read, is_digit, digits_read, number_read, room_read, strategy_read, errors_read, policy_read, named_text_read, join_read, request_read, words_read, line_read}
 use Rattle.rxline.specs.declared.command.Command.TheVariants.{Pub, End, Fail}
 use Rattle.rxline.specs.declared.line_error.BadLine.{BadLine}
 use Rattle.rxline.specs.declared.line_error.BadLine.TheVariants.{Long, Syntax}
@@ -123,8 +125,47 @@ pub record IsPolicy (strategy errors : List ℕ) (policy : Choice) : Type 0 wher
   pub strategy_is : SpellsStrategy policy.strategy strategy
   pub errors_is : SpellsErrors policy.errors errors
 
-strategy_says : (word : List ℕ) → Says (strategy_read word) (λ s. SpellsStrategy s word) ⊥
-strategy_says word = Says-test (same_word word (codes "BUFFER")) (Ok Buffer) (Err Syntax) (λ s. SpellsStrategy s word) ⊥ (λ is. word_is word (codes "BUFFER") is) (λ _. tt)
+-- a word that begins with this one
+begins : (word this : List ℕ) → begins_with word this ≡ true → word ≡ this ++ rest_behind word this
+begins word this is =
+    sym (take-append-drop (length this) word) ∙ ap (λ front. front ++ rest_behind word this) (word_is (take (length this) word) this is)
+
+room_says : (digits : List ℕ) → Says (room_read digits) (λ room. SpellsNumber room digits) ⊥
+room_says digits =
+    let Goal : ℕ → Type 0 = λ room. SpellsNumber room digits in
+    Says-then (number_read digits) _ Goal ⊥ Goal ⊥ (number_says digits)
+    (λ room is. Says-test (nat_lt room 65536) (Ok room) (Err Syntax) Goal ⊥ (λ _. is) (λ _. tt))
+    (λ never. never)
+
+-- a name and its room
+named_room_says : (word name : List ℕ) → begins_with word name ≡ true → Says (room_read (rest_behind word name)) (λ room. SpellsRoom name room word) ⊥
+named_room_says word name is =
+    let digits = rest_behind word name in
+    Says-weaker (room_read digits) (λ room. SpellsNumber room digits) (λ room. SpellsRoom name room word) ⊥ (room_says digits)
+    (λ room number. record { digits = digits; number_is = number; parts = begins word name is })
+
+-- the word of a strategy, with any room
+abbrev NamesStrategy : Strategy → List ℕ → Type 0
+NamesStrategy Buffer word = word ≡ codes "BUFFER"
+NamesStrategy (Drop room) word = SpellsRoom (codes "DROP:") room word
+NamesStrategy (Latest room) word = SpellsRoom (codes "LATEST:") room word
+
+strategy_says : (word : List ℕ) → Says (strategy_read word) (λ s. NamesStrategy s word) ⊥
+strategy_says word =
+    let Goal : Strategy → Type 0 = λ s. NamesStrategy s word in
+    Says-test (same_word word (codes "BUFFER")) _ _ Goal ⊥
+    (λ is. word_is word (codes "BUFFER") is)
+    (λ _. Says-test (begins_with word (codes "DROP:")) _ _ Goal ⊥
+    (λ is. Says-then _ (λ room. Ok (Drop room)) (λ room. SpellsRoom (codes "DROP:") room word) ⊥ Goal ⊥ (named_room_says word (codes "DROP:") is) (λ room named. named) (λ never. never))
+    (λ _. Says-test (begins_with word (codes "LATEST:")) _ _ Goal ⊥
+    (λ is. Says-then _ (λ room. Ok (Latest room)) (λ room. SpellsRoom (codes "LATEST:") room word) ⊥ Goal ⊥ (named_room_says word (codes "LATEST:") is) (λ room named. named) (λ never. never))
+    (λ _. tt)))
+
+-- in its limits, it is spelled
+named_in_limits : (s : Strategy) (word : List ℕ) → NamesStrategy s word → is_in_limits s ≡ true → SpellsStrategy s word
+named_in_limits Buffer word is within = is
+named_in_limits (Drop room) word is within = (is, grind (arith, nat_tests))
+named_in_limits (Latest room) word is within = (is, grind (arith, nat_tests), grind (arith, nat_tests))
 
 errors_says : (word : List ℕ) → Says (errors_read word) (λ e. SpellsErrors e word) ⊥
 errors_says word = Says-test (same_word word (codes "DELAY")) (Ok Delay) (Err Syntax) (λ e. SpellsErrors e word) ⊥ (λ is. word_is word (codes "DELAY") is) (λ _. tt)
@@ -132,9 +173,12 @@ errors_says word = Says-test (same_word word (codes "DELAY")) (Ok Delay) (Err Sy
 policy_says : (strategy errors : List ℕ) → Says (policy_read strategy errors) (IsPolicy strategy errors) ⊥
 unfolding policy_read
 policy_says strategy errors =
-    Says-then (strategy_read strategy) (λ s. errors_read errors >>= λ e. Ok (choice s e)) (λ s. SpellsStrategy s strategy) ⊥ (IsPolicy strategy errors) ⊥ (strategy_says strategy)
-    (λ s is. Says-then (errors_read errors) (λ e. Ok (choice s e)) (λ e. SpellsErrors e errors) ⊥ (IsPolicy strategy errors) ⊥ (errors_says errors)
-    (λ e is_e. record { strategy_is = is; errors_is = is_e }) (λ never. never))
+    Says-then (strategy_read strategy) _ (λ s. NamesStrategy s strategy) ⊥ (IsPolicy strategy errors) ⊥ (strategy_says strategy)
+    (λ s is. Says-then (errors_read errors) _ (λ e. SpellsErrors e errors) ⊥ (IsPolicy strategy errors) ⊥ (errors_says errors)
+    (λ e is_e. Says-test (is_in_limits s) (Ok (choice s e)) (Err Syntax) (IsPolicy strategy errors) ⊥
+    (λ within. record { strategy_is = named_in_limits s strategy is within; errors_is = is_e })
+    (λ _. tt))
+    (λ never. never))
     (λ never. never)
 
 -- a name and a text

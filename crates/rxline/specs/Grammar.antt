@@ -1,9 +1,9 @@
 -- The lines of a script, and what each means. The rules are this project's own.
-use Rattle.std.specs.Prelude.{◌≡◌, ◌<◌, ◌≤◌, ◌+◌, ◌-◌, ◌*◌, ◌^◌, ◌⊎◌, ℕ, List, [], ◌∷◌, length, codes}
+use Rattle.std.specs.Prelude.{◌≡◌, ◌<◌, ◌≤◌, ◌+◌, ◌-◌, ◌*◌, ◌^◌, ◌⊎◌, ℕ, List, [], ◌∷◌, ◌++◌, length, codes}
 use Rattle.std.specs.List.{AllByRecursion, join_with_byte}
 use Rattle.rx_note.specs.Choices.{Choice}
 use Rattle.rx_note.specs.declared.strategy.Strategy.{Strategy}
-use Rattle.rx_note.specs.declared.strategy.Strategy.TheVariants.{Buffer}
+use Rattle.rx_note.specs.declared.strategy.Strategy.TheVariants.{Buffer, Drop, Latest}
 use Rattle.rx_note.specs.declared.errors.Errors.{Errors}
 use Rattle.rx_note.specs.declared.errors.Errors.TheVariants.{Delay}
 use Rattle.rxline.specs.Lines.{HasNoLf}
@@ -38,9 +38,17 @@ pub record SpellsNumber (n : ℕ) (digits : List ℕ) : Type 0 where
   pub value : value_behind 0 digits ≡ n
   pub fits : n < 2 ^ 32
 
--- the word of a strategy
+-- the word is this name, directly followed by the number of this room
+pub record SpellsRoom (name : List ℕ) (room : ℕ) (word : List ℕ) : Type 0 where
+  pub digits : List ℕ
+  pub number_is : SpellsNumber room digits
+  pub parts : word ≡ name ++ digits
+
+-- the word of a strategy: the room of Drop is at most 1,024 items, that of Latest is 1 to 1,024
 abbrev pub SpellsStrategy : Strategy → List ℕ → Type 0
 SpellsStrategy Buffer word = word ≡ codes "BUFFER"
+SpellsStrategy (Drop room) word = SpellsRoom (codes "DROP:") room word × (room ≤ 1024)
+SpellsStrategy (Latest room) word = SpellsRoom (codes "LATEST:") room word × (1 ≤ room) × (room ≤ 1024)
 
 -- the word of an error mode
 abbrev pub SpellsErrors : Errors → List ℕ → Type 0

@@ -1,9 +1,9 @@
 -- The reading of a script's line, as a function of its bytes.
-use Rattle.std.specs.Prelude.{◌≡◌, ◌==◌, ◌+◌, ◌-◌, ◌*◌, ◌&&◌, ◌||◌, ℕ, Bool, List, [], ◌∷◌, if◌then◌else◌, nat_eq, nat_lt, nat_le, length, codes, Result, Ok, Err, MatchResult}
+use Rattle.std.specs.Prelude.{◌≡◌, ◌==◌, ◌+◌, ◌-◌, ◌*◌, ◌&&◌, ◌||◌, ℕ, Bool, List, [], ◌∷◌, if◌then◌else◌, nat_eq, nat_lt, nat_le, length, take, drop, codes, Result, Ok, Err, MatchResult}
 use Rattle.std.specs.List.{list_all, list_any}
-use Rattle.rx_note.specs.Choices.{Choice, choice}
+use Rattle.rx_note.specs.Choices.{Choice, choice, is_in_limits}
 use Rattle.rx_note.specs.declared.strategy.Strategy.{Strategy}
-use Rattle.rx_note.specs.declared.strategy.Strategy.TheVariants.{Buffer}
+use Rattle.rx_note.specs.declared.strategy.Strategy.TheVariants.{Buffer, Drop, Latest}
 use Rattle.rx_note.specs.declared.errors.Errors.{Errors}
 use Rattle.rx_note.specs.declared.errors.Errors.TheVariants.{Delay}
 use Rattle.rxline.specs.declared.command.Command.TheVariants.{Pub, End, Fail, Quit}
@@ -31,6 +31,14 @@ cut_read (byte ∷ bytes) = if byte == 32 then Ok ([], bytes) else cut_read byte
 -- whether a word is this one
 abbrev pub same_word : List ℕ → List ℕ → Bool
 same_word word this = pointwise nat_eq word this
+
+-- whether a word begins with this one
+abbrev pub begins_with : List ℕ → List ℕ → Bool
+begins_with word this = same_word (take (length this) word) this
+
+-- what stands in a word behind this one, with which it begins
+abbrev pub rest_behind : List ℕ → List ℕ → List ℕ
+rest_behind word this = drop (length this) word
 
 -- whether a byte is one of a name
 abbrev pub is_name_byte : ℕ → Bool
@@ -65,20 +73,28 @@ digits_read value (digit ∷ digits) = if is_digit digit then digits_read (value
 unfoldable pub number_read : List ℕ → Result ℕ BadLine
 number_read digits = if nat_le 1 (length digits) && nat_le (length digits) 20 then digits_read 0 digits else Err Syntax
 
--- a strategy
+-- a room, a number of 16 bits
+abbrev pub room_read : List ℕ → Result ℕ BadLine
+room_read digits = number_read digits >>= λ room. if nat_lt room 65536 then Ok room else Err Syntax
+
+-- a strategy, with any room of 16 bits
 abbrev pub strategy_read : List ℕ → Result Strategy BadLine
-strategy_read word = if same_word word (codes "BUFFER") then Ok Buffer else Err Syntax
+strategy_read word =
+    if same_word word (codes "BUFFER") then Ok Buffer
+    else if begins_with word (codes "DROP:") then room_read (rest_behind word (codes "DROP:")) >>= (λ room. Ok (Drop room))
+    else if begins_with word (codes "LATEST:") then room_read (rest_behind word (codes "LATEST:")) >>= (λ room. Ok (Latest room))
+    else Err Syntax
 
 -- an error mode
 abbrev pub errors_read : List ℕ → Result Errors BadLine
 errors_read word = if same_word word (codes "DELAY") then Ok Delay else Err Syntax
 
--- a policy
+-- a policy: its strategy's room is in the limits
 unfoldable pub policy_read : List ℕ → List ℕ → Result Choice BadLine
 policy_read strategy errors = do
   s ← strategy_read strategy
   e ← errors_read errors
-  Ok (choice s e)
+  if is_in_limits s then Ok (choice s e) else Err Syntax
 
 -- a name and a text
 unfoldable pub named_text_read : List ℕ → Result (List ℕ × List ℕ) BadLine

@@ -1,14 +1,11 @@
 ghost use Rattle.std.specs.Prelude.{◌≡◌};
-ghost use Rattle.rxline.specs.Reading.{Gives, cut_read, name_read, named_read, text_read, number_read, digits_read, is_digit, policy_read, strategy_read, errors_read, named_text_read};
+ghost use Rattle.rxline.specs.Reading.{Gives, cut_read, name_read, named_read, text_read, number_read, digits_read, is_digit, policy_read, room_read, strategy_read, errors_read, named_text_read};
 
 use crate::line_error::BadLine;
 use crate::name::Name;
-use rx_note::{Errors, Policy, Strategy};
+use rx_note::{Errors, MAX_TEXT, Policy, Strategy};
 
 const SPACE: u8 = b' ';
-
-/// The most bytes that a text has.
-pub const MAX_TEXT: usize = 1024;
 
 /// The most digits that a number has on a line.
 pub const MAX_DIGITS: usize = 20;
@@ -105,7 +102,7 @@ pub fn named_text(bytes: &[u8]) -> Result<(Name, &[u8]), BadLine>
     Ok((name, text))
 }
 
-/// The policy that a strategy's word and an error mode's word spell.
+/// The policy that a strategy's word and an error mode's word spell. A room that `Policy::new` refuses is a fault.
 #[tactic(auto, unfolding(crate::specs::Reading::policy_read))]
 pub fn policy_of(strategy: &[u8], errors: &[u8]) -> Result<Policy, BadLine>
     ensures { result ≡ policy_read strategy.now errors.now }
@@ -122,9 +119,23 @@ fn strategy_of(word: &[u8]) -> Result<Strategy, BadLine>
     ensures { result ≡ strategy_read word.now }
 {
     if word == b"BUFFER".as_slice() {
-        Ok(Strategy::Buffer)
-    } else {
-        Err(BadLine::Syntax)
+        return Ok(Strategy::Buffer);
+    }
+    if let Some(digits) = word.strip_prefix(b"DROP:".as_slice()) {
+        return Ok(Strategy::Drop(room_of(digits)?));
+    }
+    if let Some(digits) = word.strip_prefix(b"LATEST:".as_slice()) {
+        return Ok(Strategy::Latest(room_of(digits)?));
+    }
+    Err(BadLine::Syntax)
+}
+
+fn room_of(digits: &[u8]) -> Result<u16, BadLine>
+    ensures { result ≡ room_read digits.now }
+{
+    match u16::try_from(number_of(digits)?) {
+        Ok(room) => Ok(room),
+        Err(_) => Err(BadLine::Syntax),
     }
 }
 

@@ -23,6 +23,12 @@ fn audits_of_whole_inputs(rt: HostRuntime) -> Result<(), Fail> {
             SessionEnd::EndOfInput,
         ),
         (
+            "audit_of_latest",
+            b"JOIN s LATEST:2 DELAY 1\nPUB s a\nPUB s b\nPUB s c\nPUB s d\n".as_slice(),
+            b"OBSERVER s 0\nGIVEN NEXT a\nWAITING NEXT c\nWAITING NEXT d\n".as_slice(),
+            SessionEnd::EndOfInput,
+        ),
+        (
             "no_line",
             b"".as_slice(),
             b"".as_slice(),

@@ -9,7 +9,7 @@ use crate::response::Response;
 use crate::script_line::ScriptLine;
 use crate::step::Step;
 use crate::word::Word;
-use rx_note::{Item, Note, Text};
+use rx_note::{Item, Note, Strategy, Text};
 use std::test::Fail;
 
 #[test]
@@ -67,6 +67,44 @@ fn lines_are_read_or_refused(rt: HostRuntime) {
     ] {
         assert_eq!(rt; parse_script(&rt.alloc(), line).err(), error);
     }
+}
+
+#[test]
+fn strategies_are_read_or_refused(rt: HostRuntime) -> Result<(), Fail> {
+    let refused = Err(LineError::Syntax);
+    for (word, strategy) in [
+        ("BUFFER", Ok(Strategy::Buffer)),
+        ("DROP:0", Ok(Strategy::Drop(0))),
+        ("DROP:0001024", Ok(Strategy::Drop(1024))),
+        ("LATEST:1", Ok(Strategy::Latest(1))),
+        ("LATEST:1024", Ok(Strategy::Latest(1024))),
+        ("DROP:1025", refused),
+        ("LATEST:0", refused),
+        ("LATEST:1025", refused),
+        ("DROP:", refused),
+        ("DROP", refused),
+        ("LATEST: 2", refused),
+        ("DROP:-1", refused),
+        ("DROP:65536", refused),
+        ("DROP:4294967296", refused),
+        ("DROP:000000000000000000001", refused),
+        ("drop:1", refused),
+        ("DROP:2:3", refused),
+        ("BUFFER:1", refused),
+    ] {
+        let mut line = Vec::new(rt.alloc());
+        line.extend_from_slice(b"JOIN s ")?;
+        line.extend_from_slice(word.as_bytes())?;
+        line.extend_from_slice(b" DELAY 0")?;
+        match &parse_script(&rt.alloc(), line.as_slice()) {
+            Ok(ScriptLine::Join { policy, .. }) => {
+                assert_eq!(rt; Ok(policy.strategy()), strategy, "{word}");
+            }
+            Ok(_) => assert!(rt; false, "{word}"),
+            Err(error) => assert_eq!(rt; Err(*error), strategy, "{word}"),
+        }
+    }
+    Ok(())
 }
 
 #[test]

@@ -28,6 +28,26 @@ fn worked_runs(rt: HostRuntime) -> Result<(), Fail> {
             b"JOIN s BUFFER DELAY 0\nREQUEST s 0 0\nREQUEST s 7 0\nREQUEST s 0 4294967295\nREQUEST s 0 1\nREQUEST s 7 1\nEND s\nPUB s a\nPUB t a\n".as_slice(),
             b"OK 0\nERR ZERO\nERR ZERO\nOK\nERR TOOMUCH\nERR OBSERVER\nOK\ns 0 DONE\nERR ENDED\nERR SUBJECT\n".as_slice(),
         ),
+        (
+            "drop_zero_honours_demand",
+            b"JOIN s DROP:0 DELAY 0\nPUB s a\nREQUEST s 0 1\nPUB s b\n".as_slice(),
+            b"OK 0\nOK\nOK\nOK\ns 0 NEXT b\n".as_slice(),
+        ),
+        (
+            "drop_two",
+            b"JOIN s DROP:2 DELAY 0\nPUB s a\nPUB s b\nPUB s c\nPUB s d\nPUB s e\nREQUEST s 0 9\nREQUEST s 0 4294967289\n".as_slice(),
+            b"OK 0\nOK\nOK\nOK\nOK\nOK\nOK\ns 0 NEXT a\ns 0 NEXT b\nERR TOOMUCH\n".as_slice(),
+        ),
+        (
+            "latest_two",
+            b"JOIN s LATEST:2 DELAY 1\nPUB s a\nPUB s b\nPUB s c\nPUB s d\nREQUEST s 0 5\nPUB s e\n".as_slice(),
+            b"OK 0\nOK\ns 0 NEXT a\nOK\nOK\nOK\nOK\ns 0 NEXT c\ns 0 NEXT d\nOK\ns 0 NEXT e\n".as_slice(),
+        ),
+        (
+            "latest_one_then_done",
+            b"JOIN s LATEST:1 DELAY 0\nPUB s a\nPUB s b\nEND s\nREQUEST s 0 1\n".as_slice(),
+            b"OK 0\nOK\nOK\nOK\nOK\ns 0 NEXT b\ns 0 DONE\n".as_slice(),
+        ),
     ] {
         let mut reader = script;
         let mut written = Vec::new(rt.alloc());

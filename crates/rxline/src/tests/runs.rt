@@ -13,13 +13,21 @@ const LIMITS: Limits = Limits {
     joins: 4_294_967_295,
 };
 
+const DRAWN_RULES: Rules = Rules {
+    kind: Kind::Publish,
+    limits: Limits {
+        observers: 18,
+        joins: 20,
+    },
+};
+
 fn item(heap: &Heap, text: &[u8]) -> Result<Note, Fail> {
     let text = Text::new(heap.clone()?, text)?;
     Ok(Note::Next(Item { from: 0, text }))
 }
 
-fn join(first: u32) -> Result<Event, Fail> {
-    let policy = Policy::new(Strategy::Buffer, Errors::Delay)?;
+fn join(strategy: Strategy, first: u32) -> Result<Event, Fail> {
+    let policy = Policy::new(strategy, Errors::Delay)?;
     Ok(Event::Join {
         policy,
         first,
@@ -33,7 +41,7 @@ fn run_of_the_first_rows_events(rt: HostRuntime) -> Result<(), Fail> {
     let mut hub = Hub::new(heap.clone()?, Kind::Publish, LIMITS)?;
     let mut events = Vec::new(heap.clone()?);
     for event in [
-        join(0)?,
+        join(Strategy::Buffer, 0)?,
         Event::Emit {
             note: item(&heap, b"a")?,
             at: 0,
@@ -95,7 +103,7 @@ fn line_of_a_waiting_end(rt: HostRuntime) -> Result<(), Fail> {
         limits: LIMITS,
     };
     let mut history = History::new(heap.clone()?);
-    history.add(0, join(1)?)?;
+    history.add(0, join(Strategy::Buffer, 1)?)?;
     for note in [item(&heap, b"a")?, item(&heap, b"b")?, Note::Completed] {
         history.add(0, Event::Emit { note, at: 0 })?;
     }
@@ -121,11 +129,21 @@ impl Draw {
         u32::try_from(high.checked_rem(bound).unwrap_or(0)).unwrap_or(0)
     }
 
+    // The next strategy, with a room of at most 3 items.
+    fn strategy(&mut self) -> Strategy {
+        let room = u16::try_from(self.below(4)).unwrap_or(0);
+        match self.below(3) {
+            0 => Strategy::Buffer,
+            1 => Strategy::Drop(room),
+            _ => Strategy::Latest(room.max(1)),
+        }
+    }
+
     // The next event, and the port that it comes by; `end` says whether it may be the end.
     fn event(&mut self, heap: &Heap, end: bool) -> Result<(u32, Event), Fail> {
         let port = self.below(3);
         let event = match self.below(if end { 12 } else { 11 }) {
-            0 | 1 => join(self.below(4))?,
+            0 | 1 => join(self.strategy(), self.below(4))?,
             2 | 3 | 4 | 5 => Event::Request {
                 who: self.below(24),
                 n: self.below(4),
@@ -165,29 +183,25 @@ fn are_given(outs: &[Given], who: u32, notes: &[Note]) -> bool {
     rest.is_empty()
 }
 
+// The 400 events that are drawn for a run. The end may come among the last 100.
+fn drawn(heap: &Heap) -> Result<Vec<(u32, Event), Heap>, Fail> {
+    let mut draw = Draw { state: 11 };
+    let mut events = Vec::new(heap.clone()?);
+    for place in 0..400 {
+        events.push(draw.event(heap, place >= 300)?)?;
+    }
+    Ok(events)
+}
+
 #[test]
 fn a_run_gives_what_the_history_says(rt: HostRuntime) -> Result<(), Fail> {
     let heap = rt.alloc();
-    let limits = Limits {
-        observers: 18,
-        joins: 20,
-    };
-    let rules = Rules {
-        kind: Kind::Publish,
-        limits,
-    };
-    let mut hub = Hub::new(heap.clone()?, Kind::Publish, limits)?;
+    let mut hub = Hub::new(heap.clone()?, DRAWN_RULES.kind, DRAWN_RULES.limits)?;
     let mut history = History::new(heap.clone()?);
-    let mut events = Vec::new(heap.clone()?);
-    let mut draw = Draw { state: 11 };
-    let mut again = Draw { state: 11 };
-    for place in 0..400 {
-        let end = place >= 300;
-        events.push(draw.event(&heap, end)?)?;
-        let (port, event) = again.event(&heap, end)?;
+    for (port, event) in drawn(&heap)? {
         history.add(port, event)?;
     }
-    let run = hub.run(heap.clone()?, events)?;
+    let run = hub.run(heap.clone()?, drawn(&heap)?)?;
     assert_eq!(rt; run.steps.len(), 400);
     let mut joined: u32 = 0;
     let mut refused: u32 = 0;
@@ -210,13 +224,43 @@ fn a_run_gives_what_the_history_says(rt: HostRuntime) -> Result<(), Fail> {
     assert_eq!(rt; hub.observers(), joined);
     assert_eq!(rt; hub.waiting_of(joined), Err(NoObserver));
     for who in 0..joined {
-        let given = history.given(&rules, who)?;
+        let given = history.given(&DRAWN_RULES, who)?;
         assert!(rt;
             are_given(run.outs.as_slice(), who, given.as_slice()),
             "observer {who}"
         );
-        let waiting = history.waiting(&rules, who)?;
+        let waiting = history.waiting(&DRAWN_RULES, who)?;
         assert_eq!(rt; hub.waiting_of(who), Ok(waiting.len()), "observer {who}");
     }
+    Ok(())
+}
+
+// The same event, but a join is under Buffer.
+fn buffered(event: Event) -> Result<Event, Fail> {
+    match event {
+        Event::Join { first, .. } => join(Strategy::Buffer, first),
+        other => Ok(other),
+    }
+}
+
+#[test]
+fn observers_of_the_drawn_events_lose_items(rt: HostRuntime) -> Result<(), Fail> {
+    let heap = rt.alloc();
+    let mut history = History::new(heap.clone()?);
+    let mut whole = History::new(heap.clone()?);
+    for (port, event) in drawn(&heap)? {
+        history.add(port, event)?;
+    }
+    for (port, event) in drawn(&heap)? {
+        whole.add(port, buffered(event)?)?;
+    }
+    let mut losing: u32 = 0;
+    for who in 0..DRAWN_RULES.limits.observers {
+        let line = history.line(&DRAWN_RULES, who)?;
+        if line.len() < whole.line(&DRAWN_RULES, who)?.len() {
+            losing = losing.saturating_add(1);
+        }
+    }
+    assert!(rt; losing >= 10);
     Ok(())
 }
