@@ -12,6 +12,10 @@ use std::marker::Model;
 
 /// The queue of one observer. Contracts see what waits in it and what it owes, and tell by the observer's signals what
 /// it gives.
+///
+/// Demand is that of the Observable Contract (<https://reactivex.io/documentation/contract.html>), strategies are those of
+/// the Backpressure operators (<https://reactivex.io/documentation/operators/backpressure.html>); rooms, `Latest` and all
+/// refusals are this project's own.
 #[derive(Drop)]
 pub struct Lane {
     errors: Errors,
@@ -41,14 +45,16 @@ impl Model for Lane {
 }
 
 impl Lane {
-    /// The lane of an observer with this policy, by no signal yet. Under `Drop` and `Latest` all its memory is taken here.
+    /// The lane of an observer with this policy, by no signal yet. Under `Drop` and `Latest` all its memory is taken here,
+    /// for as many items as the room; `Memory` where there was none.
     pub fn new(alloc: Heap, policy: Policy) -> Result<Lane, Memory>
         ensures { IfOk result (λ lane. StandsFor lane.state (Start policy)) }
     {
         Lane::owing(alloc, policy, 0)
     }
 
-    /// The lane of an observer that joins with this policy and a request of `first` items, 0 allowed.
+    /// The lane of an observer that joins with this policy and a request of `first` items, 0 allowed. It takes memory as
+    /// `new` does.
     pub fn joined(alloc: Heap, policy: Policy, first: u32) -> Result<Lane, Memory>
         ensures { IfOk result (λ lane. StandsFor lane.state (Start policy ▸ Requested first)) }
     {
@@ -70,15 +76,16 @@ impl Lane {
         })
     }
 
-    /// Makes room for `items` offers more; under `Drop` and `Latest` there always is. `Memory` leaves the lane.
+    /// Makes room for `items` offers; under `Drop` and `Latest` there always is. `Memory` leaves the lane.
     pub fn reserve(&mut self, items: usize) -> Result<(), Memory>
         ensures state { self.new.state ≡ self.old.state }
         ensures room { OnOk result (HasRoomFor self.new items) }
+        ensures keeps_room { KeepsRoom self.old self.new 0 }
     {
         self.queue.reserve(items)
     }
 
-    /// How many more items may be given.
+    /// How many more items may be given before the observer requests more.
     pub fn owed(&self) -> u32
         ensures state { result ≡ self.now.state.owing }
         ensures owed { (s : Signals) → StandsFor self.now.state s → result ≡ owed s }
@@ -86,7 +93,7 @@ impl Lane {
         self.owed
     }
 
-    /// How many items wait.
+    /// How many items wait; under `Drop` and `Latest` no more than the room.
     pub fn waiting_len(&self) -> usize
         ensures state { result ≡ length self.now.state.items }
         ensures waiting { (s : Signals) → StandsFor self.now.state s → result ≡ length (waiting_items s) }
@@ -114,8 +121,9 @@ impl Lane {
         self.ended && self.last.is_none()
     }
 
-    /// Adds a request of `n` items, and puts at the end of `outs` what is then given. Refused in the order
-    /// `ZeroRequest`, `TooMuch`, `Memory`; a refusal leaves the lane and `outs`.
+    /// Adds a request of `n` items, and puts at the end of `outs` what is then given: items from the front, and the
+    /// terminal behind the last of them. After the end it still gives what waits. Refused in the order `ZeroRequest`,
+    /// `TooMuch`, `Memory`; a refusal leaves the lane and `outs`.
     pub fn ask(&mut self, n: u32, outs: &mut Vec<Note, Heap>) -> Result<(), AskError>
         ensures zero { (result ≡ Err AskError.ZeroRequest) ↔ (n ≡ 0) }
         ensures too_much { (result ≡ Err AskError.TooMuch)
@@ -148,7 +156,8 @@ impl Lane {
         Ok(())
     }
 
-    /// Offers an item, which comes back where it is given at once; else it waits, or is lost, by the strategy.
+    /// Offers an item, which comes back where it is given at once; else it waits, or it or the oldest that waits is lost, by
+    /// the strategy. It takes no memory: room for it was reserved. It is meant before the end alone.
     pub fn offer(&mut self, item: Item) -> Option<Item>
         requires { HasRoomFor self.old 1 }
         ensures gives { Gives self.old.state (Offered item) (map Next (option_to_list result)) }
@@ -163,7 +172,8 @@ impl Lane {
         None
     }
 
-    /// Ends the lane by a terminal, which comes back where it is given at once; else it waits behind the items.
+    /// Ends the lane by a terminal, which comes back where it is given at once; else it waits behind the items. It takes no
+    /// memory. It is meant once.
     pub fn end(&mut self, note: Note) -> Option<Note>
         ensures gives { Gives self.old.state (Ended note) (option_to_list result) }
         ensures stands { GoesOn self.old.state self.new.state (Ended note) }

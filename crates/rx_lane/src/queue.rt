@@ -57,6 +57,7 @@ impl Queue {
         ensures items { items_of self.new ≡ items_of self.old }
         ensures strategy { strategy_of self.new ≡ strategy_of self.old }
         ensures room { OnOk result (HasRoom (strategy_of self.new) count (spare_of self.new)) }
+        ensures spare { spare_of self.old ≤ spare_of self.new }
     {
         if let Queue::Growing(items) = self {
             items.reserve(count)?;
