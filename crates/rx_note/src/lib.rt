@@ -1,8 +1,8 @@
 //! What the other crates speak of: the texts, items and notes that a subject gives, the events that it takes, what it
 //! answers, and the rules that it keeps. `specs/Signals.antt` says what one observer is to be given.
 //!
-//! No queue and no subject stands here. The crates above rest on two facts: a `Text` is in its limits, and a copy is
-//! equal to its source.
+//! No queue and no subject stands here. The crates above rest on two facts: a `Text` and the room of a `Policy` are in
+//! their limits, and a copy is equal to its source.
 #![tactic(auto)]
 
 mod answer;
