@@ -17,7 +17,7 @@ use Rattle.rx_note.specs.Signals.{Requested, Offered, Ended, Signals, ◌▸◌,
 use Rattle.rx_note.proofs.Laws.{given-grows, owed-waiting, line-whole}
 use Rattle.rx_note.proofs.Lines.{given-waiting}
 use Rattle.rx_note.proofs.Order.{line_items-in_order}
-use Rattle.rx_history.specs.Histories.{History, ◌▹◌, end_of, joins, is_held, may_join, followed_by, may_request, signals, given_to, line_of, waiting_for}
+use Rattle.rx_history.specs.Histories.{History, ◌▹◌, terminal_in, end_of, joins, is_held, may_join, followed_by, ended_by, offers_by, may_request, signals, given_to, line_of, waiting_for}
 use Rattle.rx_history.specs.Delivery.{items_among, IsTerminal, offered, IsSubsequence, LineIsInOrder, OffersAreInOrder, EachPortIsInOrder, EachItemIsOffered, GivenThenWaiting, GivenOnlyGrows, TerminalIsLast, LineEndsAsTheSubject, NothingFollowsATerminal, NothingFollowsTheEnd, GivenAndOwed, GivenWithinRequests, NothingWaitsWhileOwed, WaitsWithinRoom, BufferKeepsAll}
 use Rattle.rx_history.proofs.Cases.{absent}
 use Rattle.rx_history.proofs.Endings.{signals_open}
@@ -26,7 +26,7 @@ use Rattle.rx_history.proofs.Offers.{offers_in_order, each_is_offered}
 use Rattle.rx_history.proofs.Rooms.{waits_within}
 use Rattle.rx_history.proofs.Subsequences.{picked, none_of, along, some_of_some, filtered}
 use Rattle.rx_history.proofs.Terminals.{terminal_of-signals, end_is_terminal, items_among-items, items_among-append, items_among-end, not_empty, last_only}
-use Rattle.rx_history.proofs.Entries.{signals_of, is_held-signals, line_of-signals, signals-emitted, signals-refused, signals-not_joined, signals-not_requested, signals-requested}
+use Rattle.rx_history.proofs.Entries.{is_held-signals, line_of-signals, signals-emitted, signals-refused, signals-not_joined, signals-not_requested, signals-requested}
 
 -- an observer without signals has an empty line
 line_of-none : (rules : Rules) (H : History) (o : ℕ) → signals rules H o ≡ None → line_of rules H o ≡ []
@@ -70,7 +70,7 @@ each_port_in_order rules H o port =
     filtered (λ item. item.from == port) _ _ (some_of_some _ _ _ (line_in_order rules H o) (offers_in_order rules H o))
 
 pub each_item_is_offered : EachItemIsOffered
-each_item_is_offered rules H o port note at held open_now = each_is_offered rules H o port note at held (absent (end_of H) open_now)
+each_item_is_offered rules H o port note at once held open_now = each_is_offered rules H o port note at once held (absent (end_of H) open_now)
 
 -- GIVEN AND WAITING
 
@@ -93,15 +93,20 @@ Grows before after = (notes : List Note) × (after ≡ before ++ notes)
 grows_same : (before after : List Note) → after ≡ before → Grows before after
 grows_same before after e = ([], e ∙ sym (append-nil before))
 
-note_grows : (s : Signals) (port : ℕ) (note : Note) → terminal_of s ≡ None → Grows (given s) (given (followed_by s (signals_of port note)))
-note_grows s port (Next item) open_now = given-grows s (Offered (record item { from = port })) open_now
-note_grows s port Completed open_now = given-grows s (Ended Completed) open_now
-note_grows s port (Failed text) open_now = given-grows s (Ended (Failed text)) open_now
+-- items that are offered, and an end behind them, take nothing back
+offers_grow : (s : Signals) (offers : List Item) (end : Option Note) → terminal_of s ≡ None
+    → Grows (given s) (given (followed_by s (map Offered offers ++ ended_by end)))
+offers_grow s [] None open_now = grows_same (given s) (given s) refl
+offers_grow s [] (Some end) open_now = given-grows s (Ended end) open_now
+offers_grow s (item ∷ offers) end open_now =
+    let one = given-grows s (Offered item) open_now in
+    let more = offers_grow (s ▸ Offered item) offers end open_now in
+    (one.0 ++ more.0, more.1 ∙ ap (λ notes. notes ++ more.0) one.1 ∙ append_assoc (given s) one.0 more.0)
 
-emit_grows : (before : Option Signals) (port : ℕ) (note : Note) → ((s : Signals) → before ≡ Some s → terminal_of s ≡ None)
-    → Grows (given_of before) (given_of (option_map (λ s. followed_by s (signals_of port note)) before))
-emit_grows None port note open_now = ([], refl)
-emit_grows (Some s) port note open_now = note_grows s port note (open_now s refl)
+emit_grows : (before : Option Signals) (offers : List Item) (end : Option Note) → ((s : Signals) → before ≡ Some s → terminal_of s ≡ None)
+    → Grows (given_of before) (given_of (option_map (λ s. followed_by s (map Offered offers ++ ended_by end)) before))
+emit_grows None offers end open_now = ([], refl)
+emit_grows (Some s) offers end open_now = offers_grow s offers end (open_now s refl)
 
 request_grows : (b : Bool) (s : Signals) (n : ℕ) → Grows (given s) (given (cond b (s ▸ Requested n) s))
 request_grows true s n = given-grows s (Requested n) tt
@@ -118,7 +123,7 @@ emitted_grows : (rules : Rules) (H : History) (o port : ℕ) (note : Note) (at :
     → Grows (given_to rules H o) (given_to rules (H ▹ (port, Emit note at)) o)
 emitted_grows rules H o port note at None open_now =
     grows_along (given_to rules H o) _ _ (ap given_of (signals-emitted rules H port note at o open_now))
-    (emit_grows (signals rules H o) port note (λ s is. signals_open rules H o s open_now is))
+    (emit_grows (signals rules H o) (offers_by rules.kind rules H port note) (terminal_in note) (λ s is. signals_open rules H o s open_now is))
 emitted_grows rules H o port note at (Some end) ended =
     grows_same (given_to rules H o) _ (ap given_of (signals-refused rules H port note at o (ap is_some ended)))
 

@@ -11,8 +11,6 @@ use Rattle.rx_note.specs.declared.event.Event.TheVariants.{Emit, Join, Request}
 use Rattle.rx_note.specs.declared.rules.Rules.{Rules}
 use Rattle.rx_note.specs.declared.limits.Limits.{Limits}
 use Rattle.rx_note.specs.Choices.{Choice}
-use Rattle.rx_note.specs.declared.kind.Kind.{Kind}
-use Rattle.rx_note.specs.declared.kind.Kind.TheVariants.{Publish}
 use Rattle.rx_note.specs.Signals.{Signal, Requested, Offered, Signals, Start, ◌▸◌, line, waiting}
 use Rattle.rx_history.specs.Histories.{History, NoEvents, ◌▹◌, Roster, with_one_more, roster_of, joins, held, is_held, is_ended, end_of, may_join, stamp, item_in, offers_by, opening_by, terminal_in, followed_by, ended_by, signalled, opened, may_request, signals, line_of, given_to, waiting_for}
 use Rattle.rx_history.proofs.Numbers.{signals_unmade}
@@ -91,17 +89,6 @@ fed_once : (f : Signals → Signals) (before : Option Signals) → cond (is_some
 fed_once f None = refl
 fed_once f (Some s) = refl
 
--- today each kind offers the item of a note, and nothing at a joining
-offers_item : (kind : Kind) (rules : Rules) (H : History) (port : ℕ) (note : Note) → offers_by kind rules H port note ≡ item_in port note
-offers_item Publish rules H port note = refl
-
-opens_empty : (kind : Kind) (rules : Rules) (H : History) (z : ℕ) → opening_by kind rules H z ≡ []
-opens_empty Publish rules H z = refl
-
--- the signals of a note from a port
-abbrev pub signals_of : ℕ → Note → List Signal
-signals_of port note = map Offered (item_in port note) ++ ended_by (terminal_in note)
-
 and_true : (b : Bool) → (b && true) ≡ b
 and_true true = refl
 and_true false = refl
@@ -112,14 +99,13 @@ and_false false = refl
 
 -- an accepted note is signalled to the observer, if it is held
 pub signals-emitted : (rules : Rules) (H : History) (port : ℕ) (note : Note) (at o : ℕ) → end_of H ≡ None
-    → signals rules (H ▹ (port, Emit note at)) o ≡ option_map (λ s. followed_by s (signals_of port note)) (signals rules H o)
+    → signals rules (H ▹ (port, Emit note at)) o ≡ option_map (λ s. followed_by s (signalled rules H port note)) (signals rules H o)
 signals-emitted rules H port note at o unended =
     let S = signals rules H o in
     let fed : List Signal → Option Signals = λ more. option_map (λ s. followed_by s more) S in
     ap (λ end. cond (is_held rules H o && not (is_some end)) (fed (signalled rules H port note)) S) unended
     ∙ ap (λ b. cond b (fed (signalled rules H port note)) S) (and_true (is_held rules H o) ∙ is_held-signals rules H o)
     ∙ fed_once (λ s. followed_by s (signalled rules H port note)) S
-    ∙ ap (λ items. fed (map Offered items ++ ended_by (terminal_in note))) (offers_item rules.kind rules H port note)
 
 -- a note after the end changes nothing
 pub signals-refused : (rules : Rules) (H : History) (port : ℕ) (note : Note) (at o : ℕ) → is_ended H ≡ true
@@ -137,10 +123,9 @@ signals-not_joined rules H port policy first at o not_it =
 
 -- its own Join makes it
 pub signals-joined : (rules : Rules) (H : History) (port : ℕ) (policy : Choice) (first at o : ℕ) → ((joins rules H == o) && may_join rules H) ≡ true
-    → signals rules (H ▹ (port, Join policy first at)) o ≡ Some (followed_by (Start policy ▸ Requested first) (ended_by (end_of H)))
+    → signals rules (H ▹ (port, Join policy first at)) o ≡ Some (opened rules H policy first at)
 signals-joined rules H port policy first at o it =
     ap (λ b. cond b (Some (opened rules H policy first at)) (signals rules H o)) it
-    ∙ ap (λ items. Some (followed_by (Start policy ▸ Requested first) (map Offered items ++ ended_by (end_of H)))) (opens_empty rules.kind rules H (max (stamp rules H) at))
 
 -- the request of another changes nothing
 pub signals-not_requested : (rules : Rules) (H : History) (port who n o : ℕ) → (who == o) ≡ false

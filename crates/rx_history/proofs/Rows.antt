@@ -1,5 +1,5 @@
 -- The worked examples, by computation: what each event is answered and gives, and what is owed at the end.
-use Rattle.std.specs.Prelude.{◌≡◌, ℕ, List, [], ◌∷◌, map, Result, Ok, Err, refl}
+use Rattle.std.specs.Prelude.{◌≡◌, ℕ, List, [], ◌∷◌, map, Option, None, Some, Result, Ok, Err, refl}
 use Rattle.rx_note.specs.Choices.{choice}
 use Rattle.rx_note.specs.declared.policy.Policy.{Policy}
 use Rattle.rx_note.specs.declared.strategy.Strategy.TheVariants.{Buffer, Drop, Latest}
@@ -10,7 +10,8 @@ use Rattle.rx_note.specs.declared.note.Note.TheVariants.{Next, Completed, Failed
 use Rattle.rx_note.specs.declared.event.Event.{Event}
 use Rattle.rx_note.specs.declared.event.Event.TheVariants.{Emit, Join, Request}
 use Rattle.rx_note.specs.declared.rules.Rules.{Rules}
-use Rattle.rx_note.specs.declared.kind.Kind.TheVariants.{Publish}
+use Rattle.rx_note.specs.declared.kind.Kind.{Kind}
+use Rattle.rx_note.specs.declared.kind.Kind.TheVariants.{Publish, Behavior, Async, Replay}
 use Rattle.rx_note.specs.declared.answer.Answer.{Answer}
 use Rattle.rx_note.specs.declared.answer.Answer.TheVariants.{Admitted, Joined, Asked}
 use Rattle.rx_note.specs.declared.refusal.Refusal.{Refusal}
@@ -31,6 +32,10 @@ from0 events = history_of (map (λ event. (0, event)) events)
 abbrev default : Rules
 default = record { kind = Publish; limits = record { observers = 64; joins = 4294967295 } }
 
+-- the same with another kind
+abbrev of_kind : Kind → Rules
+of_kind kind = record default { kind = kind }
+
 -- Buffer and Delay
 abbrev plain : Policy
 plain = choice Buffer Delay
@@ -42,7 +47,7 @@ dropping room = choice (Drop room) Delay
 abbrev latest : ℕ → Policy
 latest room = choice (Latest room) Delay
 
--- the texts a, b, c, d, e, x
+-- the texts a, b, c, d, e, x, z
 abbrev a : List ℕ
 a = 97 ∷ []
 
@@ -61,17 +66,37 @@ e = 101 ∷ []
 abbrev x : List ℕ
 x = 120 ∷ []
 
--- an item is emitted from port 0
+abbrev z : List ℕ
+z = 122 ∷ []
+
+-- an item is emitted from port 0, at a moment
+abbrev emits_at : ℕ → List ℕ → Event
+emits_at at text = Emit (Next (record { from = 0; text = text })) at
+
 abbrev emits : List ℕ → Event
-emits text = Emit (Next (record { from = 0; text = text })) 0
+emits text = emits_at 0 text
+
+-- an observer joins with Buffer and Delay and a first request of nine items, at a moment
+abbrev joins_at : ℕ → Event
+joins_at at = Join plain 9 at
 
 -- an item of port 0
 abbrev next : List ℕ → Note
 next text = Next (record { from = 0; text = text })
 
--- a note given to observer 0
+-- the seed as a note
+abbrev seeded : List ℕ → Note
+seeded text = Next (record { from = 4294967295; text = text })
+
+-- a note given to observer 0, 1, 2
 abbrev to0 : Note → Given
 to0 note = record { who = 0; note = note }
+
+abbrev to1 : Note → Given
+to1 note = record { who = 1; note = note }
+
+abbrev to2 : Note → Given
+to2 note = record { who = 2; note = note }
 
 first_run : told default NoEvents
     (Join plain 0 0 ∷ emits a ∷ emits b ∷ Request 0 1 ∷ Emit Completed 0 ∷ Request 0 5 ∷ [])
@@ -122,3 +147,38 @@ latest_one_then_done : told default NoEvents (Join (latest 1) 0 0 ∷ emits a �
     ≡ ((Ok (Joined 0), []) ∷ (Ok Admitted, []) ∷ (Ok Admitted, []) ∷ (Ok Admitted, [])
     ∷ (Ok Asked, to0 (next b) ∷ to0 Completed ∷ []) ∷ [])
 latest_one_then_done = refl
+
+behavior_before_and_after_end : told (of_kind (Behavior (Some z))) NoEvents
+    (joins_at 0 ∷ emits a ∷ joins_at 0 ∷ Emit Completed 0 ∷ joins_at 0 ∷ [])
+    ≡ ((Ok (Joined 0), to0 (seeded z) ∷ []) ∷ (Ok Admitted, to0 (next a) ∷ []) ∷ (Ok (Joined 1), to1 (next a) ∷ [])
+    ∷ (Ok Admitted, to0 Completed ∷ to1 Completed ∷ []) ∷ (Ok (Joined 2), to2 Completed ∷ []) ∷ [])
+behavior_before_and_after_end = refl
+
+async_last_item : told (of_kind Async) NoEvents (Join plain 1 0 ∷ emits a ∷ emits b ∷ Emit Completed 0 ∷ Join plain 1 0 ∷ [])
+    ≡ ((Ok (Joined 0), []) ∷ (Ok Admitted, []) ∷ (Ok Admitted, []) ∷ (Ok Admitted, to0 (next b) ∷ to0 Completed ∷ [])
+    ∷ (Ok (Joined 1), to1 (next b) ∷ to1 Completed ∷ []) ∷ [])
+async_last_item = refl
+
+async_empty : told (of_kind Async) NoEvents (Join plain 1 0 ∷ Emit Completed 0 ∷ [])
+    ≡ ((Ok (Joined 0), []) ∷ (Ok Admitted, to0 Completed ∷ []) ∷ [])
+async_empty = refl
+
+async_failed : told (of_kind Async) NoEvents (Join plain 1 0 ∷ emits a ∷ Emit (Failed x) 0 ∷ [])
+    ≡ ((Ok (Joined 0), []) ∷ (Ok Admitted, []) ∷ (Ok Admitted, to0 (Failed x) ∷ []) ∷ [])
+async_failed = refl
+
+replay_count_into_drop : told (of_kind (Replay (Some 2) None)) NoEvents
+    (emits a ∷ emits b ∷ emits c ∷ Join (dropping 1) 0 0 ∷ Request 0 2 ∷ [])
+    ≡ ((Ok Admitted, []) ∷ (Ok Admitted, []) ∷ (Ok Admitted, []) ∷ (Ok (Joined 0), []) ∷ (Ok Asked, to0 (next b) ∷ []) ∷ [])
+replay_count_into_drop = refl
+
+replay_age_stops_at_the_end : told (of_kind (Replay None (Some 10))) NoEvents
+    (emits_at 0 a ∷ emits_at 5 b ∷ emits_at 10 c ∷ joins_at 10 ∷ joins_at 15 ∷ Emit Completed 15 ∷ joins_at 1000 ∷ [])
+    ≡ ((Ok Admitted, []) ∷ (Ok Admitted, []) ∷ (Ok Admitted, []) ∷ (Ok (Joined 0), to0 (next b) ∷ to0 (next c) ∷ [])
+    ∷ (Ok (Joined 1), to1 (next c) ∷ []) ∷ (Ok Admitted, to0 Completed ∷ to1 Completed ∷ [])
+    ∷ (Ok (Joined 2), to2 (next c) ∷ to2 Completed ∷ []) ∷ [])
+replay_age_stops_at_the_end = refl
+
+stamps_never_fall : told (of_kind (Replay None (Some 10))) NoEvents (emits_at 20 a ∷ emits_at 5 b ∷ joins_at 29 ∷ joins_at 30 ∷ [])
+    ≡ ((Ok Admitted, []) ∷ (Ok Admitted, []) ∷ (Ok (Joined 0), to0 (next a) ∷ to0 (next b) ∷ []) ∷ (Ok (Joined 1), []) ∷ [])
+stamps_never_fall = refl

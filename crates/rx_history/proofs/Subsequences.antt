@@ -1,8 +1,9 @@
 -- Subsequences: some items of a list in the list's order.
-use Rattle.std.proofs.Common.{◌≡◌, Bool, true, false, cond, List, [], ◌∷◌, ◌++◌, length, refl, sym, ap, subst, ◌∙◌, arith}
+use Rattle.std.proofs.Common.{◌≡◌, ℕ, zero, suc, Bool, true, false, cond, List, [], ◌∷◌, ◌++◌, length, drop, refl, sym, ap, subst, ◌∙◌, arith}
 use Rattle.std.specs.List.{filter, items_where_true}
 use Rattle.std.proofs.lemmas.List.{length-append}
 use Rattle.rx_note.specs.declared.item.Item.{Item}
+use Rattle.rx_history.specs.Histories.{Stamped, unstamped}
 use Rattle.rx_history.specs.Delivery.{IsSubsequence}
 
 -- equal lists are some of equal lists
@@ -77,3 +78,21 @@ pub filtered : (p : Item → Bool) (some all : List Item) → IsSubsequence some
 filtered p some all of =
     let rest = filter-picked p of.0 all in
     (rest.0, rest.1, ap (filter p) of.2 ∙ rest.2)
+
+-- STAMPED ITEMS
+
+-- those behind the first n are some of all
+pub drop_of : (n : ℕ) (xs : List Stamped) → IsSubsequence (unstamped (drop n xs)) (unstamped xs)
+drop_of zero xs = all_of (unstamped xs)
+drop_of (suc n) [] = none_of []
+drop_of (suc n) (x ∷ xs) = let rest = drop_of n xs in (false ∷ rest.0, omega (arith, rest.1), rest.2)
+
+chosen_of : (p : Bool) (x : Stamped) (some all : List Stamped) → IsSubsequence (unstamped some) (unstamped all)
+    → IsSubsequence (unstamped (cond p (x ∷ some) some)) (unstamped (x ∷ all))
+chosen_of true x some all rest = (true ∷ rest.0, omega (arith, rest.1), ap (λ ys. x.0 ∷ ys) rest.2)
+chosen_of false x some all rest = (false ∷ rest.0, omega (arith, rest.1), rest.2)
+
+-- and so are those that a test finds
+pub filter_of : (p : Stamped → Bool) (xs : List Stamped) → IsSubsequence (unstamped (filter p xs)) (unstamped xs)
+filter_of p [] = none_of []
+filter_of p (x ∷ xs) = chosen_of (p x) x (filter p xs) xs (filter_of p xs)

@@ -11,12 +11,14 @@ use Rattle.rx_note.specs.declared.note.Note.{Note}
 use Rattle.rx_note.specs.declared.note.Note.TheVariants.{Next, Completed, Failed}
 use Rattle.rx_note.specs.declared.event.Event.TheVariants.{Emit}
 use Rattle.rx_note.specs.declared.rules.Rules.{Rules}
+use Rattle.rx_note.specs.declared.kind.Kind.{Kind}
+use Rattle.rx_note.specs.declared.kind.Kind.TheVariants.{Publish, Behavior, Async, Replay}
 use Rattle.rx_note.specs.declared.strategy.Strategy.{Strategy}
 use Rattle.rx_note.specs.declared.strategy.Strategy.TheVariants.{Buffer, Drop, Latest}
 use Rattle.rx_note.specs.declared.errors.Errors.TheVariants.{Delay}
 use Rattle.rx_note.specs.Choices.{Choice, choice}
 use Rattle.rx_note.specs.Signals.{Requested, Offered, Ended, Signals, Start, ◌▸◌, policy_of, demand}
-use Rattle.rx_history.specs.Histories.{Entry, History, ◌▹◌, terminal_in, end_of, is_ended, is_held, item_in, items, signals, given_to, line_of, waiting_for, owed_to, outs}
+use Rattle.rx_history.specs.Histories.{Entry, History, ◌▹◌, terminal_in, end_of, is_ended, is_completion, is_held, item_in, items, unstamped, last_item, seed_item, signals, given_to, line_of, waiting_for, owed_to, outs}
 
 -- THE WORDS
 
@@ -61,7 +63,25 @@ strategy_by rules H o = option_map (λ policy. policy.strategy) (policy_by rules
 
 -- the items of the accepted Emits
 abbrev pub emitted : Rules → History → List Item
-emitted rules H = map (λ stamped. stamped.0) (items rules H)
+emitted rules H = unstamped (items rules H)
+
+-- the seed of a subject, where it has one
+abbrev pub seed_of : Kind → List Item
+seed_of Publish = []
+seed_of (Behavior seed) = seed_item seed
+seed_of Async = []
+seed_of (Replay count age) = []
+
+-- all the items that a subject can give: its seed, and then the items of the accepted Emits
+abbrev pub all_items : Rules → History → List Item
+all_items rules H = seed_of rules.kind ++ emitted rules H
+
+-- whether a kind offers each item as it comes
+abbrev pub offers_at_once : Kind → Bool
+offers_at_once Publish = true
+offers_at_once (Behavior seed) = true
+offers_at_once Async = false
+offers_at_once (Replay count age) = true
 
 -- the items of one port
 abbrev pub of_port : ℕ → List Item → List Item
@@ -77,20 +97,27 @@ IsSubsequence some all = (mask : List Bool) × (length mask ≡ length all) × (
 abbrev pub LineIsInOrder : Type 0
 LineIsInOrder = (rules : Rules) (H : History) (o : ℕ) → IsSubsequence (items_among (line_of rules H o)) (offered_to rules H o)
 
--- the items offered to an observer are items of the accepted Emits, in their order and none twice
+-- the items offered to an observer are the seed and items of the accepted Emits, in their order and none twice
 abbrev pub OffersAreInOrder : Type 0
-OffersAreInOrder = (rules : Rules) (H : History) (o : ℕ) → IsSubsequence (offered_to rules H o) (emitted rules H)
+OffersAreInOrder = (rules : Rules) (H : History) (o : ℕ) → IsSubsequence (offered_to rules H o) (all_items rules H)
 
 -- so that the items of each port come in that port's order
 abbrev pub EachPortIsInOrder : Type 0
 EachPortIsInOrder =
-    (rules : Rules) (H : History) (o port : ℕ) → IsSubsequence (of_port port (items_among (line_of rules H o))) (of_port port (emitted rules H))
+    (rules : Rules) (H : History) (o port : ℕ) → IsSubsequence (of_port port (items_among (line_of rules H o))) (of_port port (all_items rules H))
 
--- an item that is accepted is offered to every observer that is held
+-- but for Async, an item that is accepted is offered to every observer that is held
 abbrev pub EachItemIsOffered : Type 0
 EachItemIsOffered =
-    (rules : Rules) (H : History) (o port : ℕ) (note : Note) (at : ℕ) → is_held rules H o ≡ true → is_ended H ≡ false
+    (rules : Rules) (H : History) (o port : ℕ) (note : Note) (at : ℕ) → offers_at_once rules.kind ≡ true → is_held rules H o ≡ true → is_ended H ≡ false
     → offered_to rules (H ▹ (port, Emit note at)) o ≡ offered_to rules H o ++ item_in port note
+
+-- of an Async subject an observer that is held is offered the last item alone, and only once the subject completed,
+-- whether it joined before that or after
+abbrev pub AsyncOffersTheLast : Type 0
+AsyncOffersTheLast =
+    (rules : Rules) (H : History) (o : ℕ) → rules.kind ≡ Async → is_held rules H o ≡ true
+    → offered_to rules H o ≡ (if is_completion (end_of H) then last_item rules H else [])
 
 -- GIVEN AND WAITING
 

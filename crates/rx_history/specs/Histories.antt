@@ -3,9 +3,10 @@
 -- for want of memory is not in it.
 -- That a subject ends once, and what a joiner begins with, are those of the pages Observable Contract and Subject
 -- (reactivex.io/documentation); moments, numbers and limits are this project's own.
-use Rattle.std.specs.Prelude.{ℕ, ◌+◌, ◌==◌, Bool, ◌&&◌, not, max, nat_lt, nat_le, if◌then◌else◌, List, [], ◌∷◌, ◌++◌, length, map, drop, Option, None, Some, is_some, Result, Ok, Err, option_to_list}
-use Rattle.std.specs.List.{list_any, flat_map}
+use Rattle.std.specs.Prelude.{ℕ, ◌+◌, ◌-◌, ◌==◌, Bool, true, false, ◌&&◌, not, max, nat_lt, nat_le, if◌then◌else◌, List, [], ◌∷◌, ◌++◌, length, map, drop, Option, None, Some, is_some, Result, Ok, Err, option_to_list}
+use Rattle.std.specs.List.{list_any, flat_map, filter}
 use Rattle.std.specs.Option.{option_map, option_or, option_map_or}
+use Rattle.rx_note.specs.declared.text.Text.{Text}
 use Rattle.rx_note.specs.declared.item.Item.{Item}
 use Rattle.rx_note.specs.declared.given.Given.{Given}
 use Rattle.rx_note.specs.declared.note.Note.{Note}
@@ -16,7 +17,7 @@ use Rattle.rx_note.specs.declared.rules.Rules.{Rules}
 use Rattle.rx_note.specs.declared.limits.Limits.{Limits}
 use Rattle.rx_note.specs.declared.policy.Policy.{Policy}
 use Rattle.rx_note.specs.declared.kind.Kind.{Kind}
-use Rattle.rx_note.specs.declared.kind.Kind.TheVariants.{Publish}
+use Rattle.rx_note.specs.declared.kind.Kind.TheVariants.{Publish, Behavior, Async, Replay}
 use Rattle.rx_note.specs.declared.answer.Answer.{Answer}
 use Rattle.rx_note.specs.declared.answer.Answer.TheVariants.{Admitted, Joined, Asked}
 use Rattle.rx_note.specs.declared.refusal.Refusal.{Refusal}
@@ -51,6 +52,18 @@ end_of (H ▹ (port, Request who n)) = end_of H
 -- whether the subject ended; an Emit is accepted where it had not
 abbrev pub is_ended : History → Bool
 is_ended H = is_some (end_of H)
+
+-- whether this end is completion
+abbrev pub is_completion : Option Note → Bool
+is_completion None = false
+is_completion (Some (Next item)) = false
+is_completion (Some Completed) = true
+is_completion (Some (Failed text)) = false
+
+-- the history up to and with its end
+abbrev pub up_to_end : History → History
+up_to_end NoEvents = NoEvents
+up_to_end (H ▹ entry) = if is_ended H then up_to_end H else H ▹ entry
 
 -- THE OBSERVERS
 
@@ -118,11 +131,53 @@ items rules (H ▹ (port, Emit note at)) =
 items rules (H ▹ (port, Join policy first at)) = items rules H
 items rules (H ▹ (port, Request who n)) = items rules H
 
+-- items without their stamps
+abbrev pub unstamped : List Stamped → List Item
+unstamped stamped = map (λ each. each.0) stamped
+
+-- the last n of several items
+abbrev pub newest : ℕ → List Stamped → List Stamped
+newest n stamped = drop (length stamped - n) stamped
+
+-- the last item of all, if there is one
+abbrev pub last_item : Rules → History → List Item
+last_item rules H = unstamped (newest 1 (items rules H))
+
 -- WHAT A JOINER BEGINS WITH
+
+-- the first of two lists that has an item
+abbrev pub or_else : List Item → List Item → List Item
+or_else [] others = others
+or_else (first ∷ rest) others = first ∷ rest
+
+-- the seed as an item; it comes from no port
+abbrev pub seed_item : Option Text → List Item
+seed_item seed = map (λ text. record { from = 4294967295; text = text }) (option_to_list seed)
+
+-- whether an age is below a bound; without a bound every age is
+abbrev pub is_young : Option ℕ → ℕ → Bool
+is_young None age = true
+is_young (Some bound) age = nat_lt age bound
+
+-- the items that are young enough at a moment
+abbrev pub young : Option ℕ → ℕ → List Stamped → List Stamped
+young bound now stamped = filter (λ each. is_young bound (now - each.1)) stamped
+
+-- the last items up to a count; without a count all of them
+abbrev pub at_most : Option ℕ → List Stamped → List Stamped
+at_most None stamped = stamped
+at_most (Some count) stamped = newest count stamped
+
+-- the moment at which ages are told: the stamp z at a Join, and once the subject ended the stamp at its end
+abbrev pub age_moment : Rules → History → ℕ → ℕ
+age_moment rules H z = if is_ended H then stamp rules (up_to_end H) else z
 
 -- the items offered to a joiner at once, by kind; z is the stamp at its Join
 abbrev pub opening_by : Kind → Rules → History → ℕ → List Item
 opening_by Publish rules H z = []
+opening_by (Behavior seed) rules H z = if is_ended H then [] else or_else (last_item rules H) (seed_item seed)
+opening_by Async rules H z = if is_completion (end_of H) then last_item rules H else []
+opening_by (Replay count age) rules H z = unstamped (at_most count (young age (age_moment rules H z) (items rules H)))
 
 -- THE SIGNALS OF AN OBSERVER
 
@@ -140,9 +195,12 @@ abbrev pub opened : Rules → History → Policy → ℕ → ℕ → Signals
 opened rules H policy first at =
     followed_by (Start policy ▸ Requested first) (map Offered (opening_by rules.kind rules H (max (stamp rules H) at)) ++ ended_by (end_of H))
 
--- the items that an accepted note offers, by kind
+-- the items that an accepted note offers, by kind: its own at once, save that Async offers the last item at completion
 abbrev pub offers_by : Kind → Rules → History → ℕ → Note → List Item
 offers_by Publish rules H port note = item_in port note
+offers_by (Behavior seed) rules H port note = item_in port note
+offers_by Async rules H port note = if is_completion (terminal_in note) then last_item rules H else []
+offers_by (Replay count age) rules H port note = item_in port note
 
 -- the signals of an accepted note: what is offered, and then the end
 abbrev pub signalled : Rules → History → ℕ → Note → List Signal

@@ -1,14 +1,14 @@
 //! The laws of delivery, for every history: each function does nothing, and its contract is one law of
 //! `specs/Delivery.antt`.
 
-ghost use Rattle.rx_history.specs.Delivery.{LineIsInOrder, OffersAreInOrder, EachPortIsInOrder, EachItemIsOffered, GivenThenWaiting, GivenOnlyGrows, OutsAreGiven, TerminalIsLast, LineEndsAsTheSubject, NothingFollowsATerminal, NothingFollowsTheEnd, GivenAndOwed, GivenWithinRequests, NothingWaitsWhileOwed, WaitsWithinRoom, BufferKeepsAll};
+ghost use Rattle.rx_history.specs.Delivery.{LineIsInOrder, OffersAreInOrder, EachPortIsInOrder, EachItemIsOffered, AsyncOffersTheLast, GivenThenWaiting, GivenOnlyGrows, OutsAreGiven, TerminalIsLast, LineEndsAsTheSubject, NothingFollowsATerminal, NothingFollowsTheEnd, GivenAndOwed, GivenWithinRequests, NothingWaitsWhileOwed, WaitsWithinRoom, BufferKeepsAll};
 
 /// The items of a line are items offered to the observer, in their order and none twice.
 pub fn line_is_in_order()
     ensures { LineIsInOrder }
 {}
 
-/// The items offered to an observer are items of the accepted Emits, in their order and none twice.
+/// The items offered to an observer are the seed and items of the accepted Emits, in their order and none twice.
 pub fn offers_are_in_order()
     ensures { OffersAreInOrder }
 {}
@@ -18,9 +18,14 @@ pub fn each_port_is_in_order()
     ensures { EachPortIsInOrder }
 {}
 
-/// An item that is accepted is offered to every observer that is held.
+/// But for Async, an item that is accepted is offered to every observer that is held.
 pub fn each_item_is_offered()
     ensures { EachItemIsOffered }
+{}
+
+/// Of an Async subject an observer that is held is offered the last item alone, and only once the subject completed.
+pub fn async_offers_the_last()
+    ensures { AsyncOffersTheLast }
 {}
 
 /// What was given, and then what waits, is the line.

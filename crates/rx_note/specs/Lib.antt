@@ -1,4 +1,5 @@
 pub mod Choices
+pub mod Kinds
 pub mod Queues
 pub mod Signals
 pub mod Texts

@@ -24,7 +24,7 @@ pub use errors::Errors;
 pub use event::Event;
 pub use given::Given;
 pub use item::Item;
-pub use kind::Kind;
+pub use kind::{Kind, KindError, MAX_COUNT};
 pub use limits::Limits;
 pub use note::{Note, copy_of};
 pub use policy::{BadRoom, MAX_ROOM, Policy};
