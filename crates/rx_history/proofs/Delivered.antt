@@ -17,7 +17,7 @@ use Rattle.rx_note.specs.Signals.{Requested, Offered, Ended, Signals, ◌▸◌,
 use Rattle.rx_note.proofs.Laws.{given-grows, owed-waiting, line-whole}
 use Rattle.rx_note.proofs.Lines.{given-waiting}
 use Rattle.rx_note.proofs.Order.{line_items-in_order}
-use Rattle.rx_history.specs.Histories.{History, ◌▹◌, terminal_in, end_of, joins, is_held, may_join, followed_by, ended_by, offers_by, may_request, signals, given_to, line_of, waiting_for}
+use Rattle.rx_history.specs.Histories.{History, ◌▹◌, terminal_in, end_of, joins, is_held, may_join, followed_by, ended_by, last_item, offers_by, may_request, signals, given_to, line_of, waiting_for}
 use Rattle.rx_history.specs.Delivery.{items_among, IsTerminal, offered, IsSubsequence, LineIsInOrder, OffersAreInOrder, EachPortIsInOrder, EachItemIsOffered, GivenThenWaiting, GivenOnlyGrows, TerminalIsLast, LineEndsAsTheSubject, NothingFollowsATerminal, NothingFollowsTheEnd, GivenAndOwed, GivenWithinRequests, NothingWaitsWhileOwed, WaitsWithinRoom, BufferKeepsAll}
 use Rattle.rx_history.proofs.Cases.{absent}
 use Rattle.rx_history.proofs.Endings.{signals_open}
@@ -123,7 +123,7 @@ emitted_grows : (rules : Rules) (H : History) (o port : ℕ) (note : Note) (at :
     → Grows (given_to rules H o) (given_to rules (H ▹ (port, Emit note at)) o)
 emitted_grows rules H o port note at None open_now =
     grows_along (given_to rules H o) _ _ (ap given_of (signals-emitted rules H port note at o open_now))
-    (emit_grows (signals rules H o) (offers_by rules.kind rules H port note) (terminal_in note) (λ s is. signals_open rules H o s open_now is))
+    (emit_grows (signals rules H o) (offers_by rules.kind (last_item rules H) port note) (terminal_in note) (λ s is. signals_open rules H o s open_now is))
 emitted_grows rules H o port note at (Some end) ended =
     grows_same (given_to rules H o) _ (ap given_of (signals-refused rules H port note at o (ap is_some ended)))
 

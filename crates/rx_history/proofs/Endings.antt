@@ -6,7 +6,7 @@ use Rattle.rx_note.specs.declared.note.Note.{Note}
 use Rattle.rx_note.specs.declared.event.Event.TheVariants.{Emit, Join, Request}
 use Rattle.rx_note.specs.declared.rules.Rules.{Rules}
 use Rattle.rx_note.specs.Signals.{Requested, Offered, Signals, Start, ◌▸◌, terminal_of}
-use Rattle.rx_history.specs.Histories.{History, NoEvents, ◌▹◌, terminal_in, end_of, is_ended, joins, is_held, may_join, stamp, opening_by, followed_by, ended_by, opened, offers_by, signalled, may_request, signals}
+use Rattle.rx_history.specs.Histories.{History, NoEvents, ◌▹◌, terminal_in, end_of, is_ended, joins, is_held, may_join, stamp, opening_by, followed_by, ended_by, opened, last_item, offers_by, signalled, may_request, signals}
 use Rattle.rx_history.proofs.Cases.{chosen, mapped, neither}
 
 -- items that are offered end nothing
@@ -29,7 +29,7 @@ signals_open rules (H ▹ (port, Emit note at)) o s unended is =
     elim (chosen (is_held rules H o && not (is_ended H)) (option_map (λ t. followed_by t (signalled rules H port note)) (signals rules H o)) (signals rules H o) (Some s) is) [
       | inl fed ↦
           let found = mapped (λ (t : Signals). followed_by t (signalled rules H port note)) (signals rules H o) s fed.1 in
-          ap terminal_of (sym found.2) ∙ terminal_of-offers found.0 (offers_by rules.kind rules H port note) (terminal_in note) before.1
+          ap terminal_of (sym found.2) ∙ terminal_of-offers found.0 (offers_by rules.kind (last_item rules H) port note) (terminal_in note) before.1
           ∙ signals_open rules H o found.0 before.0 found.1
       | inr same ↦ signals_open rules H o s before.0 same.1
     ]

@@ -46,10 +46,10 @@ offered-fed (Some s) offers end = offered-followed s offers end
 
 -- an accepted note offers what its kind says, to an observer that has joined
 offered_to-emitted : (rules : Rules) (H : History) (o port : ℕ) (note : Note) (at : ℕ) → end_of H ≡ None
-    → offered_to rules (H ▹ (port, Emit note at)) o ≡ where_made (signals rules H o) (offered_to rules H o ++ offers_by rules.kind rules H port note)
+    → offered_to rules (H ▹ (port, Emit note at)) o ≡ where_made (signals rules H o) (offered_to rules H o ++ offers_by rules.kind (last_item rules H) port note)
 offered_to-emitted rules H o port note at unended =
     ap offered_of (signals-emitted rules H port note at o unended)
-    ∙ offered-fed (signals rules H o) (offers_by rules.kind rules H port note) (terminal_in note)
+    ∙ offered-fed (signals rules H o) (offers_by rules.kind (last_item rules H) port note) (terminal_in note)
 
 -- a Join offers the opening to the observer that it makes
 offered_to-joined : (rules : Rules) (H : History) (o port : ℕ) (policy : Choice) (first at : ℕ) → ((joins rules H == o) && may_join rules H) ≡ true
@@ -67,19 +67,19 @@ offered_to-request : (rules : Rules) (H : History) (port who n o : ℕ) (b : Boo
 offered_to-request rules H port who n o true own = ap offered_of (signals-requested rules H port who n o own) ∙ asked_same (signals rules H o) n
 offered_to-request rules H port who n o false other = ap offered_of (signals-not_requested rules H port who n o other)
 
-now_offered : (kind : Kind) (rules : Rules) (H : History) (port : ℕ) (note : Note) → offers_at_once kind ≡ true → offers_by kind rules H port note ≡ item_in port note
-now_offered Publish rules H port note once = refl
-now_offered (Behavior seed) rules H port note once = refl
-now_offered Async rules H port note once = cc
-now_offered (Replay count age) rules H port note once = refl
+now_offered : (kind : Kind) (last : List Item) (port : ℕ) (note : Note) → offers_at_once kind ≡ true → offers_by kind last port note ≡ item_in port note
+now_offered Publish last port note once = refl
+now_offered (Behavior seed) last port note once = refl
+now_offered Async last port note once = cc
+now_offered (Replay count age) last port note once = refl
 
 -- but for Async, an accepted item is offered to each observer that is held
 pub each_is_offered : (rules : Rules) (H : History) (o port : ℕ) (note : Note) (at : ℕ) → offers_at_once rules.kind ≡ true → is_held rules H o ≡ true → end_of H ≡ None
     → offered_to rules (H ▹ (port, Emit note at)) o ≡ offered_to rules H o ++ item_in port note
 each_is_offered rules H o port note at once held unended =
     offered_to-emitted rules H o port note at unended
-    ∙ ap (λ b. cond b (offered_to rules H o ++ offers_by rules.kind rules H port note) []) (sym (is_held-signals rules H o) ∙ held)
-    ∙ ap (λ offers. offered_to rules H o ++ offers) (now_offered rules.kind rules H port note once)
+    ∙ ap (λ b. cond b (offered_to rules H o ++ offers_by rules.kind (last_item rules H) port note) []) (sym (is_held-signals rules H o) ∙ held)
+    ∙ ap (λ offers. offered_to rules H o ++ offers) (now_offered rules.kind (last_item rules H) port note once)
 
 -- THE ITEMS OF A HISTORY
 
@@ -143,8 +143,8 @@ async-emitted rules H o port note at None kind unended was =
     let before : offered_to rules H o ≡ [] = was ∙ nothing_yet (is_some (signals rules H o)) rules H unended in
     let end : end_of later ≡ terminal_in note = ap (λ e. option_or e (terminal_in note)) unended in
     offered_to-emitted rules H o port note at unended
-    ∙ ap (λ xs. where_made (signals rules H o) (xs ++ offers_by rules.kind rules H port note)) before
-    ∙ ap (λ k. where_made (signals rules H o) (offers_by k rules H port note)) kind
+    ∙ ap (λ xs. where_made (signals rules H o) (xs ++ offers_by rules.kind (last_item rules H) port note)) before
+    ∙ ap (λ k. where_made (signals rules H o) (offers_by k (last_item rules H) port note)) kind
     ∙ ap (where_made (signals rules H o)) (async_note rules H port note at (ap is_some unended))
     ∙ ap (λ e. where_made (signals rules H o) (cond (is_completion e) (last_item rules later) [])) (sym end)
     ∙ ap (λ b. last_alone b rules later) (sym (made_at-note rules H o port note at))
@@ -228,7 +228,7 @@ once-emitted rules H o port note at None once unended of =
     let more = item_in port note in
     along (where_made (signals rules H o) (offered_to rules H o ++ more)) (all_items rules H ++ more) _ _
     (offered_to-emitted rules H o port note at unended
-    ∙ ap (λ offers. where_made (signals rules H o) (offered_to rules H o ++ offers)) (now_offered rules.kind rules H port note once))
+    ∙ ap (λ offers. where_made (signals rules H o) (offered_to rules H o ++ offers)) (now_offered rules.kind (last_item rules H) port note once))
     (ap (λ xs. seed_of rules.kind ++ xs) (emitted-accepted rules H port note at (ap is_some unended)) ∙ sym (append_assoc (seed_of rules.kind) (emitted rules H) more))
     (made_in_order (signals rules H o) (offered_to rules H o ++ more) (all_items rules H ++ more)
     (both_of (offered_to rules H o) (all_items rules H) more more of (all_of more)))

@@ -8,7 +8,7 @@ use Rattle.rx_note.specs.declared.note.Note.TheVariants.{Next, Completed, Failed
 use Rattle.rx_note.specs.declared.event.Event.TheVariants.{Emit, Join, Request}
 use Rattle.rx_note.specs.declared.rules.Rules.{Rules}
 use Rattle.rx_note.specs.Signals.{Requested, Offered, Signals, Start, ◌▸◌, terminal_of}
-use Rattle.rx_history.specs.Histories.{History, NoEvents, ◌▹◌, terminal_in, end_of, joins, is_held, may_join, stamp, opening_by, followed_by, ended_by, opened, offers_by, signalled, may_request, signals}
+use Rattle.rx_history.specs.Histories.{History, NoEvents, ◌▹◌, terminal_in, end_of, joins, is_held, may_join, stamp, opening_by, followed_by, ended_by, opened, last_item, offers_by, signalled, may_request, signals}
 use Rattle.rx_history.specs.Delivery.{items_among, IsTerminal}
 use Rattle.rx_history.proofs.Cases.{chosen, mapped}
 use Rattle.rx_history.proofs.Entries.{signals-emitted, signals-refused}
@@ -33,7 +33,7 @@ terminal_of-emitted : (rules : Rules) (H : History) (port : ℕ) (note : Note) (
 terminal_of-emitted rules H port note at o s None unended before is =
     let found = mapped (λ (t : Signals). followed_by t (signalled rules H port note)) (signals rules H o) s (sym (signals-emitted rules H port note at o unended) ∙ is) in
     ap terminal_of (sym found.2)
-    ∙ terminal_of-followed found.0 (offers_by rules.kind rules H port note) (terminal_in note)
+    ∙ terminal_of-followed found.0 (offers_by rules.kind (last_item rules H) port note) (terminal_in note)
     ∙ ap (option_or (terminal_in note)) (before found.0 found.1 ∙ unended)
     ∙ or_none (terminal_in note)
     ∙ ap (λ end. option_or end (terminal_in note)) (sym unended)

@@ -196,15 +196,15 @@ opened rules H policy first at =
     followed_by (Start policy ▸ Requested first) (map Offered (opening_by rules.kind rules H (max (stamp rules H) at)) ++ ended_by (end_of H))
 
 -- the items that an accepted note offers, by kind: its own at once, save that Async offers the last item at completion
-abbrev pub offers_by : Kind → Rules → History → ℕ → Note → List Item
-offers_by Publish rules H port note = item_in port note
-offers_by (Behavior seed) rules H port note = item_in port note
-offers_by Async rules H port note = if is_completion (terminal_in note) then last_item rules H else []
-offers_by (Replay count age) rules H port note = item_in port note
+abbrev pub offers_by : Kind → List Item → ℕ → Note → List Item
+offers_by Publish last port note = item_in port note
+offers_by (Behavior seed) last port note = item_in port note
+offers_by Async last port note = if is_completion (terminal_in note) then last else []
+offers_by (Replay count age) last port note = item_in port note
 
 -- the signals of an accepted note: what is offered, and then the end
 abbrev pub signalled : Rules → History → ℕ → Note → List Signal
-signalled rules H port note = map Offered (offers_by rules.kind rules H port note) ++ ended_by (terminal_in note)
+signalled rules H port note = map Offered (offers_by rules.kind (last_item rules H) port note) ++ ended_by (terminal_in note)
 
 -- whether a request for n more is neither for none nor for too many
 abbrev pub may_request : ℕ → Signals → Bool
