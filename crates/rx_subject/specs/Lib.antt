@@ -1,0 +1,3 @@
+pub mod Offers
+pub mod Subjects
+pub mod Windows

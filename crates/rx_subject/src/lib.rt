@@ -1,0 +1,16 @@
+//! What a subject keeps for those that join later, by its kind: its end, its clock and its last items.
+//!
+//! A [`Subject`] says what an accepted note offers to every observer, and what a joiner begins with. It knows no observer
+//! and stores no history. The crates above rest on one fact: for every history that a subject stands for, its offers and
+//! openings are those that `rx_history` defines, and it then stands for the history with the event.
+#![tactic(auto)]
+
+mod offer;
+mod opening;
+mod subject;
+mod window;
+
+pub use offer::Offer;
+pub use opening::Opening;
+pub use rx_note::{Kind, KindError};
+pub use subject::{AdmitError, Subject};
