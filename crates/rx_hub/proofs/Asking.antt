@@ -18,6 +18,7 @@ use Rattle.rx_note.specs.declared.refusal.Refusal.TheVariants as refused
 use Rattle.rx_note.specs.Signals.{Signals, ◌▸◌, Requested, owed}
 use Rattle.rx_history.specs.Histories.{History, ◌▹◌, joins, is_held, may_request, signals, addressed, owed_to, answer}
 use Rattle.rx_history.proofs.Numbers.{Rises, AllDiffer, held_rises, differ_before, differ_beyond}
+use Rattle.rx_subject.proofs.Standing.{stands_request}
 use Rattle.rx_hub.specs.declared.subscription.Subscription.{Subscription}
 use Rattle.rx_hub.specs.Subscriptions.{Observer, observer_of, observers_of, numbers, Asks, AsksInto}
 use Rattle.rx_hub.specs.Hubs.{HubState, StandsFor, Steps, Misses, Takes}
@@ -175,8 +176,7 @@ request_taken hub new notes before after H port who n k d more few lt named asks
       answers = sym (request_accepted hub H who n k d more few lt named stands);
       gives = gave ∙ ap (λ os. before ++ os) (sym gained ∙ ap (flat_map (gains table later)) stands.held_are);
       goes_on = record {
-        end_is = stands.end_is;
-        stamp_is = stands.stamp_is;
+        subject_stands = stands_request hub.subject rules H port who n stands.subject_stands;
         joins_are = stands.joins_are;
         held_are = map-set_same (λ (o : Observer). o.who) hub.observers k new d asks.number ∙ stands.held_are;
         lanes_stand = AllStand-set table later who hub.observers k new lt ahead behind same

@@ -1,21 +1,19 @@
 -- A step that accepts a note: each observer was fed what the note offers.
 use Rattle.std.proofs.Common.{◌≡◌, ℕ, Bool, true, false, cond, ◌&&◌, ◌==◌, not, is_some, max, List, [], ◌∷◌, ◌++◌, map, Option, None, Some, Ok, Err, refl, sym, ap, subst, ◌∙◌}
-use Rattle.std.specs.Option.{option_map, option_or}
+use Rattle.std.specs.Option.{option_map}
 use Rattle.std.specs.List.{list_any, flat_map}
 use Rattle.rx_note.specs.declared.given.Given.{Given}
 use Rattle.rx_note.specs.declared.note.Note.{Note}
-use Rattle.rx_note.specs.declared.note.Note.TheVariants.{Next, Completed, Failed}
 use Rattle.rx_note.specs.declared.rules.Rules.{Rules}
-use Rattle.rx_note.specs.declared.kind.Kind.{Kind}
-use Rattle.rx_note.specs.declared.kind.Kind.TheVariants.{Publish}
 use Rattle.rx_note.specs.declared.event.Event.TheVariants.{Emit}
 use Rattle.rx_note.specs.declared.answer.Answer.TheVariants.{Admitted}
 use Rattle.rx_note.specs.declared.refusal.Refusal.TheVariants as refused
 use Rattle.rx_note.specs.Signals.{Signal, Offered, Signals, terminal_of, given}
 use Rattle.rx_history.specs.Histories.{History, ◌▹◌, end_of, is_ended, stamp, held, is_held, terminal_in, followed_by, ended_by, offers_by, signalled, signals, addressed}
 use Rattle.rx_history.proofs.Endings.{signals_open}
-use Rattle.rx_hub.specs.declared.offer.Offer.{Offer}
-use Rattle.rx_hub.specs.Offers.{offer_of, signals_of}
+use Rattle.rx_subject.specs.Subjects.{SubjectState, signals_by}
+use Rattle.rx_subject.specs.Subjects as subjects
+use Rattle.rx_subject.proofs.Standing.{not_ended, signals-signalled}
 use Rattle.rx_hub.specs.Subscriptions.{Observer, numbers, AllStand, AllFed, AllFedInto}
 use Rattle.rx_hub.specs.Hubs.{HubState, StandsFor, Steps, Takes}
 use Rattle.rx_hub.proofs.Tables.{gains, gains-more, AllAmong, AllAmong-self}
@@ -55,37 +53,31 @@ fed table later signals all (old ∷ olds) (new ∷ news) given more unended amo
       all_gained = feeds.2 ∙ ap (λ os. os ++ feeds.1) (sym mine) ∙ ap (λ os. gains table later old.who ++ os) rest.all_gained;
     }
 
--- what a note offers is what its history has it signal
-signals_of-note : (kind : Kind) (rules : Rules) (H : History) (port : ℕ) (note : Note)
-    → map Offered (offers_by kind rules H port note) ++ ended_by (terminal_in note) ≡ signals_of (offer_of port note)
-signals_of-note Publish rules H port (Next item) = refl
-signals_of-note Publish rules H port Completed = refl
-signals_of-note Publish rules H port (Failed text) = refl
-
-pub end_of-offer : (port : ℕ) (note : Note) → (offer_of port note).end ≡ terminal_in note
-end_of-offer port (Next item) = refl
-end_of-offer port Completed = refl
-end_of-offer port (Failed text) = refl
-
 both : (b c : Bool) (x y : Option Signals) → b ≡ true → c ≡ false → cond (b && not c) x y ≡ x
 both true true x y e f = cc
 both false true x y e f = cc
 both true false x y e f = refl
 both false false x y e f = cc
 
+-- the subject goes on from every history by a note
+abbrev pub TakesNote : SubjectState → SubjectState → ℕ → Note → ℕ → Type 0
+TakesNote old new port note at =
+    (rules : Rules) (H : History) → subjects.StandsFor old rules H → subjects.StandsFor new rules (H ▹ (port, Emit note at))
+
 -- a note is accepted
-pub emit_admitted : (hub : HubState) (news : List Observer) (end : Option Note) (before after : List Given) (H : History) (port : ℕ) (note : Note) (at : ℕ)
-    → is_some hub.terminal ≡ false → end ≡ (offer_of port note).end → AllFedInto (signals_of (offer_of port note)) hub.observers news before after → StandsFor hub H
-    → Steps hub (record hub { terminal = end; clock = max hub.clock at; observers = news }) before after (Ok Admitted) H (port, Emit note at)
-emit_admitted hub news end before after H port note at unended ends feeds stands =
-    let is : is_ended H ≡ false = ap is_some (sym stands.end_is) ∙ unended in
-    let none : end_of H ≡ None = no_value (end_of H) is in
+pub emit_admitted : (hub : HubState) (subject : SubjectState) (news : List Observer) (before after : List Given) (H : History) (port : ℕ) (note : Note) (at : ℕ)
+    → is_some hub.subject.terminal ≡ false → TakesNote hub.subject subject port note at → AllFedInto (signals_by hub.subject port note) hub.observers news before after → StandsFor hub H
+    → Steps hub (record hub { subject = subject; observers = news }) before after (Ok Admitted) H (port, Emit note at)
+emit_admitted hub subject news before after H port note at unended takes feeds stands =
+    let none : end_of H ≡ None = not_ended hub.subject hub.rules H unended stands.subject_stands in
+    let is : is_ended H ≡ false = ap is_some none in
+    let offers = signals_by hub.subject port note in
     let table : ℕ → Option Signals = signals hub.rules H in
     let later : ℕ → Option Signals = signals hub.rules (H ▹ (port, Emit note at)) in
-    let told : signalled hub.rules H port note ≡ signals_of (offer_of port note) = signals_of-note hub.rules.kind hub.rules H port note in
+    let told : signalled hub.rules H port note ≡ offers = sym (signals-signalled hub.subject hub.rules H port note stands.subject_stands) in
     let among : AllAmong (held hub.rules H) (numbers hub.observers) =
     subst (λ (ks : List ℕ). AllAmong (held hub.rules H) ks) (sym stands.held_are) (AllAmong-self (held hub.rules H)) in
-    let done = fed table later (signals_of (offer_of port note)) (held hub.rules H) hub.observers news feeds.0
+    let done = fed table later offers (held hub.rules H) hub.observers news feeds.0
     (λ o is_among. both (is_held hub.rules H o) (is_ended H) (option_map (λ s. followed_by s (signalled hub.rules H port note)) (table o)) (table o) is_among is
     ∙ ap (λ signals'. option_map (λ s. followed_by s signals') (table o)) told)
     (λ o s has. signals_open hub.rules H o s none has)
@@ -94,32 +86,25 @@ emit_admitted hub news end before after H port note at unended ends feeds stands
       answers = sym (ap (λ b. cond b (Err refused.Ended) (Ok Admitted)) is);
       gives = feeds.1 ∙ ap (λ os. before ++ os) (done.all_gained ∙ ap (flat_map (gains table later)) stands.held_are);
       goes_on = record {
-        end_is = ends ∙ end_of-offer port note ∙ sym (ap (λ e. option_or e (terminal_in note)) none);
-        stamp_is = ap (λ n. max n at) stands.stamp_is ∙ sym (ap (λ b. cond b (stamp hub.rules H) (max (stamp hub.rules H) at)) is);
+        subject_stands = takes hub.rules H stands.subject_stands;
         joins_are = stands.joins_are;
         held_are = done.same_numbers ∙ stands.held_are;
         lanes_stand = done.all_stand;
       };
     }
-  where
-    no_value : (o : Option Note) → is_some o ≡ false → o ≡ None
-    no_value None e = refl
-    no_value (Some x) e = cc
 
 -- the same, as the code has it
-pub emit_done : (hub : HubState) (olds news : List Observer) (end : Option Note) (clock : ℕ) (offer : Offer) (before middle after : List Given) (port : ℕ) (note : Note) (at : ℕ)
-    → is_some hub.terminal ≡ false → offer ≡ offer_of port note → end ≡ offer.end → clock ≡ max hub.clock at → olds ≡ hub.observers → middle ≡ before
-    → AllFedInto (signals_of offer) olds news middle after
-    → Takes hub (record hub { terminal = end; clock = clock; observers = news }) before after (Ok Admitted) (port, Emit note at)
-emit_done hub olds news end clock offer before middle after port note at unended offers ends ticks same_olds same_outs feeds =
-    let OfOffer : Offer → Type 0 = λ o. AllFedInto (signals_of o) olds news middle after in
-    let OfOlds : List Observer → Type 0 = λ os. AllFedInto (signals_of (offer_of port note)) os news middle after in
-    let OfOuts : List Given → Type 0 = λ os. AllFedInto (signals_of (offer_of port note)) hub.observers news os after in
-    let all_fed = subst OfOuts same_outs (subst OfOlds same_olds (subst OfOffer offers feeds)) in
+pub emit_done : (hub : HubState) (subject : SubjectState) (rules : Rules) (olds news : List Observer) (before middle after : List Given) (port : ℕ) (note : Note) (at : ℕ)
+    → is_some hub.subject.terminal ≡ false → rules ≡ hub.rules → TakesNote hub.subject subject port note at → olds ≡ hub.observers → middle ≡ before
+    → AllFedInto (signals_by hub.subject port note) olds news middle after
+    → Takes hub (record hub { rules = rules; subject = subject; observers = news }) before after (Ok Admitted) (port, Emit note at)
+emit_done hub subject rules olds news before middle after port note at unended same_rules takes same_olds same_outs feeds =
+    let OfOlds : List Observer → Type 0 = λ os. AllFedInto (signals_by hub.subject port note) os news middle after in
+    let OfOuts : List Given → Type 0 = λ os. AllFedInto (signals_by hub.subject port note) hub.observers news os after in
+    let all_fed = subst OfOuts same_outs (subst OfOlds same_olds feeds) in
     record {
-      rules = refl;
+      rules = same_rules;
       took = λ H stands.
-          let At : ℕ → Type 0 = λ c. Steps hub (record hub { terminal = end; clock = c; observers = news }) before after (Ok Admitted) H (port, Emit note at) in
-          subst At (sym ticks)
-          (emit_admitted hub news end before after H port note at unended (ends ∙ ap (λ (o : Offer). o.end) offers) all_fed stands);
+          let By : Rules → Type 0 = λ r. Steps hub (record hub { rules = r; subject = subject; observers = news }) before after (Ok Admitted) H (port, Emit note at) in
+          subst By (sym same_rules) (emit_admitted hub subject news before after H port note at unended takes all_fed stands);
     }

@@ -1,7 +1,7 @@
 -- A step that is refused: the hub and what was given stay.
 use Rattle.std.proofs.Common.{◌≡◌, ℕ, Bool, true, false, cond, ◌&&◌, ◌==◌, not, is_some, nat_lt, max, List, [], ◌++◌, length, Option, None, Some, Result, Ok, Err, refl, sym, ap, ◌∙◌, append-nil}
 use Rattle.std.proofs.lemmas.List.{length-map}
-use Rattle.std.specs.Option.{option_map, option_or}
+use Rattle.std.specs.Option.{option_map}
 use Rattle.std.specs.List.{flat_map}
 use Rattle.rx_note.specs.declared.given.Given.{Given}
 use Rattle.rx_note.specs.declared.note.Note.{Note}
@@ -14,14 +14,16 @@ use Rattle.rx_note.specs.declared.refusal.Refusal.{Refusal}
 use Rattle.rx_note.specs.declared.refusal.Refusal.TheVariants as refused
 use Rattle.rx_note.specs.Signals.{Signals, ◌▸◌, Requested}
 use Rattle.rx_history.specs.Histories.{History, ◌▹◌, Entry, Roster, end_of, is_ended, stamp, joins, held, is_held, may_join, with_one_more, roster_of, followed_by, signalled, opened, may_request, signals, answer, outs, terminal_in}
+use Rattle.rx_subject.specs.Subjects.{SubjectState}
+use Rattle.rx_subject.specs.Subjects as subjects
+use Rattle.rx_subject.proofs.Standing.{stands_request, stands_not_joined, stands_refused}
 use Rattle.rx_hub.specs.Subscriptions.{Observer}
 use Rattle.rx_hub.specs.Hubs.{HubState, StandsFor, Steps}
 use Rattle.rx_hub.proofs.Tables.{gains, AllStand-all, all_gains-same}
 
--- the entry changes nothing of the history's end, stamp, observers and signals
+-- the entry changes nothing of the history's subject, observers and signals
 pub record IsQuiet (rules : Rules) (H : History) (entry : Entry) : Type 0 where
-  pub end : end_of (H ▹ entry) ≡ end_of H
-  pub clock : stamp rules (H ▹ entry) ≡ stamp rules H
+  pub subject : (subject : SubjectState) → subjects.StandsFor subject rules H → subjects.StandsFor subject rules (H ▹ entry)
   pub roster : roster_of rules.limits (H ▹ entry) ≡ roster_of rules.limits H
   pub same : (o : ℕ) → signals rules (H ▹ entry) o ≡ signals rules H o
 
@@ -36,8 +38,7 @@ quiet hub outs_so_far result H entry stands answers q =
       answers = answers;
       gives = sym (ap (λ os. outs_so_far ++ os) none ∙ append-nil outs_so_far);
       goes_on = record {
-        end_is = stands.end_is ∙ sym q.end;
-        stamp_is = stands.stamp_is ∙ sym q.clock;
+        subject_stands = q.subject hub.subject stands.subject_stands;
         joins_are = stands.joins_are ∙ sym (ap (λ (r : Roster). r.joins) q.roster);
         held_are = stands.held_are ∙ sym (ap (λ (r : Roster). r.held) q.roster);
         lanes_stand = AllStand-all (signals hub.rules H) (signals hub.rules (H ▹ entry)) hub.observers q.same stands.lanes_stand;
@@ -52,19 +53,14 @@ ended_and false true x y e = refl
 ended_and true false x y e = cc
 ended_and false false x y e = refl
 
-first_of_both : (a b : Option Note) → is_some a ≡ true → option_or a b ≡ a
-first_of_both None b e = cc
-first_of_both (Some x) b e = refl
-
 pub emit_refused : (hub : HubState) (outs_so_far : List Given) (H : History) (port : ℕ) (note : Note) (at : ℕ)
-    → is_some hub.terminal ≡ true → StandsFor hub H → Steps hub hub outs_so_far outs_so_far (Err refused.Ended) H (port, Emit note at)
+    → is_some hub.subject.terminal ≡ true → StandsFor hub H → Steps hub hub outs_so_far outs_so_far (Err refused.Ended) H (port, Emit note at)
 emit_refused hub outs_so_far H port note at ended stands =
-    let is : is_ended H ≡ true = ap is_some (sym stands.end_is) ∙ ended in
+    let is : is_ended H ≡ true = ap is_some (sym stands.subject_stands.end_is) ∙ ended in
     quiet hub outs_so_far (Err refused.Ended) H (port, Emit note at) stands
     (sym (ap (λ b. cond b (Err refused.Ended) (Ok Admitted)) is))
     (record {
-      end = first_of_both (end_of H) (terminal_in note) is;
-      clock = ap (λ b. cond b (stamp hub.rules H) (max (stamp hub.rules H) at)) is;
+      subject = λ subject stands. stands_refused subject hub.rules H port note at is stands;
       roster = refl;
       same = λ o. ended_and (is_held hub.rules H o) (is_ended H)
           (option_map (λ s. followed_by s (signalled hub.rules H port note)) (signals hub.rules H o)) (signals hub.rules H o) is;
@@ -78,8 +74,7 @@ refused_and false x y = refl
 
 not_joined : (rules : Rules) (H : History) (port : ℕ) (policy : Policy) (first at : ℕ) → may_join rules H ≡ false → IsQuiet rules H (port, Join policy first at)
 not_joined rules H port policy first at refused_now = record {
-  end = refl;
-  clock = ap (λ b. cond b (max (stamp rules H) at) (stamp rules H)) refused_now;
+  subject = λ subject stands. stands_not_joined subject rules H port policy first at refused_now stands;
   roster = ap (λ b. cond b (with_one_more (roster_of rules.limits H)) (roster_of rules.limits H)) refused_now;
   same = λ o.
       ap (λ b. cond ((joins rules H == o) && b) (Some (opened rules H policy first at)) (signals rules H o)) refused_now
@@ -133,8 +128,7 @@ pub request_quiet : (rules : Rules) (H : History) (port who n : ℕ)
     → ((o : ℕ) (s : Signals) → (who == o) ≡ true → is_held rules H o ≡ true → signals rules H o ≡ Some s → may_request n s ≡ false)
     → IsQuiet rules H (port, Request who n)
 request_quiet rules H port who n none = record {
-  end = refl;
-  clock = refl;
+  subject = λ subject stands. stands_request subject rules H port who n stands;
   roster = refl;
   same = λ o. not_requested n (who == o) (is_held rules H o) (signals rules H o) (none o);
 }

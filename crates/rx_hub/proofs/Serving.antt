@@ -1,13 +1,15 @@
 -- What a queue gives by several signals in turn.
-use Rattle.std.proofs.Common.{◌≡◌, ℕ, List, [], ◌∷◌, ◌++◌, map, Option, None, Some, option_to_list, refl, sym, ap, subst, ◌∙◌, append_assoc, append-nil}
+use Rattle.std.proofs.Common.{◌≡◌, ℕ, zero, suc, ◌+◌, Bool, true, false, cond, leb, take, List, [], ◌∷◌, ◌++◌, map, Option, None, Some, option_to_list, refl, sym, ap, subst, ◌∙◌, append_assoc, append-nil}
 use Rattle.std.proofs.lemmas.List.{map-append}
 use Rattle.rx_note.specs.declared.item.Item.{Item}
 use Rattle.rx_note.specs.declared.given.Given.{Given}
 use Rattle.rx_note.specs.declared.note.Note.{Note}
-use Rattle.rx_note.specs.Signals.{Signal, Offered, Signals, ◌▸◌, terminal_of, given}
+use Rattle.rx_note.specs.declared.note.Note.TheVariants.{Next}
+use Rattle.rx_note.specs.Choices.{Choice}
+use Rattle.rx_note.specs.Signals.{Signal, Requested, Offered, Signals, Start, ◌▸◌, terminal_of, given}
 use Rattle.rx_history.specs.Histories.{followed_by, addressed}
 use Rattle.rx_lane.specs.Lanes.{LaneState, StandsFor, MayFollow, Gives, GoesOn}
-use Rattle.rx_hub.specs.Subscriptions.{Serves}
+use Rattle.rx_hub.specs.Subscriptions.{Serves, Begins}
 
 -- several signals, and then several more
 pub followed_by-append : (s : Signals) (xs ys : List Signal) → followed_by s (xs ++ ys) ≡ followed_by (followed_by s xs) ys
@@ -54,3 +56,28 @@ pub given-then : (before middle after : List Given) (who : ℕ) (ns ms : List No
 given-then before middle after who ns ms first then =
     then ∙ ap (λ os. os ++ addressed who ms) first ∙ append_assoc before (addressed who ns) (addressed who ms)
     ∙ ap (λ os. before ++ os) (sym (map-append (λ (note : Note). record { who = who; note = note }) ns ms))
+
+-- several items that are offered end nothing
+pub offers-unended : (items : List Item) (s : Signals) → terminal_of (followed_by s (map Offered items)) ≡ terminal_of s
+offers-unended [] s = refl
+offers-unended (item ∷ items) s = offers-unended items (s ▸ Offered item)
+
+-- at first nothing is given
+nothing_taken : (n : ℕ) → take {A = Item} n [] ≡ []
+nothing_taken zero = refl
+nothing_taken (suc n) = refl
+
+nothing_given : (policy : Choice) (first : ℕ) → given (Start policy ▸ Requested first) ≡ []
+nothing_given policy first = ap (λ xs. map Next xs ++ cond (leb 0 (0 + first)) [] []) (nothing_taken (0 + first)) ∙ neither (leb 0 (0 + first))
+  where
+    neither : (b : Bool) → cond {A = List Note} b [] [] ≡ []
+    neither true = refl
+    neither false = refl
+
+-- a joiner's queue that was fed its opening
+pub begun : (old new : LaneState) (policy : Choice) (first : ℕ) (signals : List Signal) (notes : List Note)
+    → StandsFor old (Start policy ▸ Requested first) → Serves old new signals notes → Begins new policy first signals notes
+begun old new policy first signals notes stands serves = record {
+  gives = serves.gives (Start policy ▸ Requested first) stands refl ∙ ap (λ ns. ns ++ notes) (nothing_given policy first);
+  stands = serves.goes_on (Start policy ▸ Requested first) stands refl;
+}

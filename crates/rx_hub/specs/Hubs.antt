@@ -1,20 +1,20 @@
 -- What contracts see of a hub, the histories that it stands for, and what a step does.
-use Rattle.std.specs.Prelude.{◌≡◌, ◌&&◌, nat_le, ℕ, Bool, true, false, List, ◌++◌, Option, Result, Ok, Err, IsOk, MatchBool}
+use Rattle.std.specs.Prelude.{◌≡◌, ◌&&◌, nat_le, ℕ, Bool, true, false, List, ◌++◌, Result, Ok, Err, IsOk, MatchBool}
 use Rattle.rx_note.specs.declared.given.Given.{Given}
-use Rattle.rx_note.specs.declared.note.Note.{Note}
 use Rattle.rx_note.specs.declared.rules.Rules.{Rules}
 use Rattle.rx_note.specs.declared.limits.Limits.{Limits}
 use Rattle.rx_note.specs.declared.answer.Answer.{Answer}
 use Rattle.rx_note.specs.declared.refusal.Refusal.{Refusal}
 use Rattle.rx_note.specs.declared.refusal.Refusal.TheVariants.{Ended, Full, Spent, ZeroRequest, NoObserver, TooMuch, Memory}
-use Rattle.rx_history.specs.Histories.{History, ◌▹◌, Entry, end_of, stamp, joins, held, signals, answer, outs}
+use Rattle.rx_history.specs.Histories.{History, ◌▹◌, Entry, joins, held, signals, answer, outs}
+use Rattle.rx_subject.specs.Subjects.{SubjectState}
+use Rattle.rx_subject.specs.Subjects as subjects
 use Rattle.rx_hub.specs.Subscriptions.{Observer, numbers, AllStand}
 
 -- a subject and the observers that it holds, by rising number
 pub record HubState : Type 0 where
   pub rules : Rules
-  pub terminal : Option Note
-  pub clock : ℕ
+  pub subject : SubjectState
   pub joined : ℕ
   pub observers : List Observer
 
@@ -27,11 +27,10 @@ pub record HubView : Type 0 where
 abbrev pub are_in_range : Limits → Bool
 are_in_range limits = nat_le 1 limits.observers && nat_le limits.observers 64 && nat_le 1 limits.joins
 
--- a hub stands for a history: it has that history's end, stamp, joins and held observers, and each observer's queue
--- stands for its signals
+-- a hub stands for a history: its subject stands for it, it has the history's joins and held observers, and each
+-- observer's queue stands for its signals
 pub record StandsFor (hub : HubState) (H : History) : Type 0 where
-  pub end_is : hub.terminal ≡ end_of H
-  pub stamp_is : hub.clock ≡ stamp hub.rules H
+  pub subject_stands : subjects.StandsFor hub.subject hub.rules H
   pub joins_are : hub.joined ≡ joins hub.rules H
   pub held_are : numbers hub.observers ≡ held hub.rules H
   pub lanes_stand : AllStand (signals hub.rules H) hub.observers

@@ -1,10 +1,10 @@
 -- The observers that a hub holds, and the signals that their queues stand for.
-use Rattle.std.specs.Prelude.{◌≡◌, ℕ, List, [], ◌∷◌, ◌++◌, map, Option, Some, None, option_to_list}
+use Rattle.std.specs.Prelude.{◌≡◌, ℕ, List, [], ◌∷◌, ◌++◌, map, Option, Some, None}
 use Rattle.rx_note.specs.declared.given.Given.{Given}
 use Rattle.rx_note.specs.declared.note.Note.{Note}
 use Rattle.rx_note.specs.Signals.{Signal, Requested, Signals, Start, ◌▸◌, terminal_of, given}
 use Rattle.rx_note.specs.Choices.{Choice}
-use Rattle.rx_history.specs.Histories.{followed_by, ended_by, addressed}
+use Rattle.rx_history.specs.Histories.{followed_by, addressed}
 use Rattle.rx_lane.specs.Lanes.{LaneState, StandsFor, HasRoomFor}
 use Rattle.rx_hub.specs.declared.subscription.Subscription.{Subscription}
 
@@ -62,10 +62,10 @@ abbrev pub AsksInto : Subscription → Subscription → ℕ → List Given → L
 AsksInto old new n before after =
     (notes : List Note) × (after ≡ before ++ addressed old.who notes) × Asks (observer_of old) (observer_of new) n notes
 
--- the queue of an observer that joins with this policy and request on a subject of this end, and what it gives at once
-pub record Opens (lane : LaneState) (note : Option Note) (policy : Choice) (first : ℕ) (end : Option Note) : Type 0 where
-  pub gives : given (followed_by (Start policy ▸ Requested first) (ended_by end)) ≡ option_to_list note
-  pub stands : StandsFor lane (followed_by (Start policy ▸ Requested first) (ended_by end))
+-- the queue of an observer that joins with this policy and request and is then offered these signals, and what it gives at once
+pub record Begins (lane : LaneState) (policy : Choice) (first : ℕ) (signals : List Signal) (notes : List Note) : Type 0 where
+  pub gives : given (followed_by (Start policy ▸ Requested first) signals) ≡ notes
+  pub stands : StandsFor lane (followed_by (Start policy ▸ Requested first) signals)
 
 -- there is room for one item more in the queue
 abbrev pub HasRoom : Subscription → Type 0

@@ -8,7 +8,7 @@ use crate::no_observer::NoObserver;
 use crate::run::Run;
 use crate::step::Step;
 use rx_heap::{Heap, Memory};
-use rx_note::{Answer, Event, Given, Kind, Limits, Refusal, Rules};
+use rx_note::{Answer, Event, Given, Kind, Limits, Refusal};
 use std::marker::Model;
 
 /// Why a hub was not made.
@@ -52,7 +52,7 @@ impl Hub {
         if limits.observers < 1 || limits.observers > 64 || limits.joins < 1 {
             return Err(HubError::BadLimits);
         }
-        match Multicast::new(alloc, Rules { kind, limits }) {
+        match Multicast::new(alloc, kind, limits) {
             Ok(multicast) => Ok(Hub {
                 multicast,
                 misses: 0,

@@ -8,7 +8,6 @@
 mod hub;
 mod multicast;
 mod no_observer;
-mod offer;
 mod run;
 mod step;
 mod subscription;

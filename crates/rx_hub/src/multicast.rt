@@ -1,47 +1,53 @@
-ghost use Rattle.std.specs.Prelude.{◌≡◌, ◌+◌, ◌*◌, ◌^◌, ◌<◌, ◌≤◌, ◌==◌, ℕ, length, position, OnOk, IfOk, replicate, vec_len, vec_capacity};
+ghost use Rattle.std.specs.Prelude.{◌≡◌, ◌+◌, ◌-◌, ◌*◌, ◌^◌, ◌<◌, ◌≤◌, ◌==◌, ℕ, List, length, position, OnOk, OnErr, IfOk, vec_len, vec_capacity};
 ghost use Rattle.std.specs.List.{All};
 ghost use Rattle.rx_note.specs.declared.event.Event.TheVariants.{Emit, Join, Request};
-ghost use Rattle.rx_hub.specs.Offers.{signals_of};
-ghost use Rattle.rx_hub.specs.Subscriptions.{AllFedInto, Opens, HasRoom, observers_of};
-ghost use Rattle.rx_history.specs.Histories.{History};
+ghost use Rattle.rx_note.specs.declared.rules.Rules.{Rules};
+ghost use Rattle.rx_note.specs.Signals.{Signal, Start, ◌▸◌, Requested};
+ghost use Rattle.rx_history.specs.Histories.{History, ◌▹◌};
+ghost use Rattle.rx_lane.specs.Lanes.{HasRoomFor};
+ghost use Rattle.rx_lane.specs.Lanes as lanes;
+ghost use Rattle.rx_subject.specs.Offers.{Opens};
+ghost use Rattle.rx_subject.specs.Subjects.{signals_by};
+ghost use Rattle.rx_subject.specs.Subjects as subjects;
+ghost use Rattle.rx_hub.specs.Offers.{AllSignal};
+ghost use Rattle.rx_hub.specs.Subscriptions.{AllFedInto, HasRoom, observers_of};
 ghost use Rattle.rx_hub.specs.Hubs.{StandsFor, Takes};
 ghost use Rattle.rx_hub.specs.Counts.{waiting_count};
 
 use crate::no_observer::NoObserver;
-use crate::offer::Offer;
-use crate::subscription::{Subscription, end_by, give};
+use crate::subscription::Subscription;
 use rx_heap::{Heap, Memory};
 use rx_lane::{AskError, Lane};
-use rx_note::{Answer, Event, Given, Note, Policy, Refusal, Rules, copy_of};
+use rx_note::{Answer, Event, Given, Kind, Limits, Note, Policy, Refusal};
+use rx_subject::{Offer, Opening, Subject};
 
-/// The state of a subject: its rules, its end, its clock and its observers, by rising number.
+/// A subject and its observers, by rising number.
 #[derive(Drop)]
 pub(crate) struct Multicast {
-    pub(crate) rules: Rules,
-    pub(crate) terminal: Option<Note>,
-    pub(crate) stamp: u64,
+    pub(crate) limits: Limits,
+    pub(crate) subject: Subject,
     pub(crate) joins: u32,
     pub(crate) subscriptions: Vec<Subscription, Heap>,
     // The offers of one step, one for each observer. Its room is kept from step to step.
     pub(crate) offers: Vec<Offer, Heap>,
     // No more observers are held than the limits allow.
-    ghost fits: { (length subscriptions.items ≤ rules.limits.observers) × (rules.limits.observers < 2 ^ 32) },
+    ghost fits: { (length subscriptions.items ≤ limits.observers) × (limits.observers < 2 ^ 32) },
 }
 
 impl Multicast {
     ghost use Rattle.rx_hub.specs.Multicasts.{state_of, state_at_first};
 
-    /// The state of a subject with no event yet.
-    pub(crate) fn new(alloc: Heap, rules: Rules) -> Result<Multicast, Memory>
-        ensures { IfOk result (λ made. state_of made ≡ state_at_first rules) }
+    /// A subject with no event and no observer yet.
+    pub(crate) fn new(alloc: Heap, kind: Kind, limits: Limits) -> Result<Multicast, Memory>
+        ensures { IfOk result (λ made. state_of made ≡ state_at_first (record { kind = kind; limits = limits })) }
     {
-        let most = rules.limits.observers as usize;
+        let most = limits.observers as usize;
         let offers = Vec::with_capacity(alloc.clone()?, most)?;
-        let subscriptions = Vec::with_capacity(alloc, most)?;
+        let subscriptions = Vec::with_capacity(alloc.clone()?, most)?;
+        let subject = Subject::new(alloc, kind)?;
         Ok(Multicast {
-            rules,
-            terminal: None,
-            stamp: 0,
+            limits,
+            subject,
             joins: 0,
             subscriptions,
             offers,
@@ -73,7 +79,7 @@ impl Multicast {
 
     /// How many notes wait for an observer.
     pub(crate) fn waiting_of(&self, who: u32) -> Result<usize, NoObserver>
-        ensures { (H : History) → StandsFor (state_of self.now) H → result ≡ waiting_count self.now.rules H who }
+        ensures { (H : History) → StandsFor (state_of self.now) H → result ≡ waiting_count (state_of self.now).rules H who }
     {
         let Some(place) = place_of(&self.subscriptions, who) else {
             return Err(NoObserver);
@@ -91,15 +97,16 @@ impl Multicast {
     ) -> Result<Answer, Refusal>
         ensures { Takes (state_of self.old) (state_of self.new) outs.old.items outs.new.items result (port, Emit note at) }
     {
-        if self.terminal.is_some() {
+        if self.subject.is_ended() {
             return Err(Refusal::Ended);
         }
-        let offer = Offer::of(port, note);
-        let Ok(end) = grow(&mut self.subscriptions, offer, &mut self.offers, outs) else {
+        let Ok(()) = grow(&mut self.subscriptions, outs) else {
             return Err(Refusal::Memory);
         };
-        self.terminal = end;
-        self.stamp = self.stamp.max(at);
+        let count = self.subscriptions.len();
+        let Ok(()) = admit(&mut self.subject, port, note, at, count, &mut self.offers) else {
+            return Err(Refusal::Memory);
+        };
         feed_all(&mut self.subscriptions, &mut self.offers, outs);
         Ok(Answer::Admitted)
     }
@@ -114,21 +121,22 @@ impl Multicast {
     ) -> Result<Answer, Refusal>
         ensures { (port : ℕ) → Takes (state_of self.old) (state_of self.new) outs.old.items outs.new.items result (port, Join policy first at) }
     {
-        if self.subscriptions.len() >= self.rules.limits.observers as usize {
+        if self.subscriptions.len() >= self.limits.observers as usize {
             return Err(Refusal::Full);
         }
-        if self.joins >= self.rules.limits.joins {
+        if self.joins >= self.limits.joins {
             return Err(Refusal::Spent);
         }
         let who = self.joins;
-        let Ok((lane, note)) = open(&mut self.subscriptions, &self.terminal, policy, first, outs)
-        else {
+        let subscriptions = &mut self.subscriptions;
+        let Ok((lane, opening)) = open(&self.subject, subscriptions, policy, first, at, outs) else {
             return Err(Refusal::Memory);
         };
-        give(who, note, outs);
-        self.subscriptions.push_reserved(Subscription { who, lane });
+        let mut subscription = Subscription { who, lane };
+        subscription.begin(opening, outs);
+        self.subscriptions.push_reserved(subscription);
         self.joins = who + 1;
-        self.stamp = self.stamp.max(at);
+        self.subject.joined(at);
         Ok(Answer::Joined(who))
     }
 
@@ -158,52 +166,100 @@ fn place_of(subscriptions: &Vec<Subscription, Heap>, who: u32) -> Option<usize>
     subscriptions.iter().position(|s| s.who == who)
 }
 
-// All the growth of an Emit: room in each queue and in `outs`, and an offer for each observer. The end to keep.
+// Room for what an Emit gives: in each queue, and in `outs`.
 fn grow(
     subscriptions: &mut Vec<Subscription, Heap>,
-    offer: Offer,
-    offers: &mut Vec<Offer, Heap>,
     outs: &mut Vec<Given, Heap>,
-) -> Result<Option<Note>, Memory>
+) -> Result<(), Memory>
     ensures observers { observers_of subscriptions.new.items ≡ observers_of subscriptions.old.items }
     ensures len { vec_len subscriptions.new ≡ vec_len subscriptions.old }
     ensures outs { outs.new.items ≡ outs.old.items }
-    ensures end { IfOk result (λ end. end ≡ offer.end) }
-    ensures offers { OnOk result (offers.new.items ≡ replicate (vec_len subscriptions.old) offer) }
     ensures lane_room { OnOk result (All HasRoom subscriptions.new.items) }
     ensures outs_room { OnOk result (vec_len outs.new + 2 * vec_len subscriptions.old ≤ vec_capacity outs.new) }
 {
-    let count = subscriptions.len();
-    let Some(most) = count.checked_mul(2) else {
+    let Some(most) = subscriptions.len().checked_mul(2) else {
         return Err(Memory);
     };
     outs.reserve(most)?;
-    reserve_all(subscriptions)?;
-    let end = copy_of(&offer.end)?;
-    fill(offers, offer, count)?;
-    Ok(end)
+    reserve_all(subscriptions)
 }
 
-// All the growth of a Join, and the queue of the observer with what it gives at once.
+// Has the subject admit a note, with an offer for each of `count` observers. The last one is what `admit` answers, so that
+// one observer alone costs no copy.
+fn admit(
+    subject: &mut Subject,
+    port: u32,
+    note: Note,
+    at: u64,
+    count: usize,
+    offers: &mut Vec<Offer, Heap>,
+) -> Result<(), Memory>
+    ensures err { OnErr result (subject.new ≡ subject.old) }
+    ensures stands { OnOk result ((rules : Rules) (H : History) → subjects.StandsFor subject.old rules H → subjects.StandsFor subject.new rules (H ▹ (port, Emit note at))) }
+    ensures kind { subject.new.kind ≡ subject.old.kind }
+    ensures offers { OnOk result (AllSignal (signals_by subject.old port note) offers.new.items) }
+    ensures len { OnOk result (vec_len offers.new ≡ count) }
+{
+    fill(offers, subject, port, &note, count)?;
+    let Ok(offer) = subject.admit(port, note, at) else {
+        return Err(Memory);
+    };
+    if count > 0 {
+        offers.push_reserved(offer);
+    }
+    Ok(())
+}
+
+// Offers of a note for all of `count` observers but one, with room for one more.
+fn fill(
+    offers: &mut Vec<Offer, Heap>,
+    subject: &Subject,
+    port: u32,
+    note: &Note,
+    count: usize,
+) -> Result<(), Memory>
+    ensures offers { OnOk result (AllSignal (signals_by subject.now port note.now) offers.new.items) }
+    ensures len { OnOk result (vec_len offers.new ≡ count - 1) }
+    ensures room { OnOk result (count ≤ vec_capacity offers.new) }
+{
+    offers.clear();
+    offers.reserve(count)?;
+    for _ in 0..count.saturating_sub(1) {
+        let Ok(offer) = subject.preview(port, note) else {
+            return Err(Memory);
+        };
+        offers.push_reserved(offer);
+    }
+    Ok(())
+}
+
+// All the growth of a Join: a queue with room for the opening, and the opening.
 fn open(
+    subject: &Subject,
     subscriptions: &mut Vec<Subscription, Heap>,
-    terminal: &Option<Note>,
     policy: Policy,
     first: u32,
+    at: u64,
     outs: &mut Vec<Given, Heap>,
-) -> Result<(Lane, Option<Note>), Memory>
+) -> Result<(Lane, Opening), Memory>
     ensures items { subscriptions.new.items ≡ subscriptions.old.items }
     ensures outs { outs.new.items ≡ outs.old.items }
-    ensures opened { IfOk result (λ opened. Opens opened.0.state opened.1 policy first terminal.now) }
+    ensures lane { IfOk result (λ opened. lanes.StandsFor opened.0.state (Start policy ▸ Requested first)) }
+    ensures opening { IfOk result (λ opened. (rules : Rules) (H : History) → subjects.StandsFor subject.now rules H → Opens opened.1 rules H at) }
+    ensures lane_room { IfOk result (λ opened. HasRoomFor opened.0 (vec_len opened.1.items)) }
     ensures seat { OnOk result (vec_len subscriptions.new < vec_capacity subscriptions.new) }
-    ensures outs_room { OnOk result (vec_len outs.new < vec_capacity outs.new) }
+    ensures outs_room { IfOk result (λ opened. vec_len outs.new + vec_len opened.1.items + 1 ≤ vec_capacity outs.new) }
 {
-    outs.reserve(1)?;
+    let opening = subject.opening(at)?;
+    let count = opening.items.len();
+    let Some(most) = count.checked_add(1) else {
+        return Err(Memory);
+    };
+    outs.reserve(most)?;
     subscriptions.reserve(1)?;
-    let end = copy_of(terminal)?;
     let mut lane = Lane::joined(subscriptions.allocator().clone()?, policy, first)?;
-    let note = end_by(&mut lane, end);
-    Ok((lane, note))
+    lane.reserve(count)?;
+    Ok((lane, opening))
 }
 
 // Room for one item more in each queue.
@@ -218,37 +274,21 @@ fn reserve_all(subscriptions: &mut Vec<Subscription, Heap>) -> Result<(), Memory
     Ok(())
 }
 
-// As many of one offer, the last of them the offer itself.
-fn fill(offers: &mut Vec<Offer, Heap>, offer: Offer, count: usize) -> Result<(), Memory>
-    ensures { OnOk result (offers.new.items ≡ replicate count offer) }
-{
-    offers.clear();
-    if count == 0 {
-        return Ok(());
-    }
-    offers.reserve(count)?;
-    for _ in 1..count {
-        offers.push_reserved(offer.copy()?);
-    }
-    offers.push_reserved(offer);
-    Ok(())
-}
-
-// Feeds each observer its copy of an offer, by rising number.
+// Feeds each observer one of several equal offers, by rising number.
 fn feed_all(
     subscriptions: &mut Vec<Subscription, Heap>,
-    copies: &mut Vec<Offer, Heap>,
+    offers: &mut Vec<Offer, Heap>,
     outs: &mut Vec<Given, Heap>,
 )
-    requires copies { vec_len copies.old ≡ vec_len subscriptions.old }
+    requires offers { vec_len offers.old ≡ vec_len subscriptions.old }
     requires lane_room { All HasRoom subscriptions.old.items }
     requires outs_room { vec_len outs.old + 2 * vec_len subscriptions.old ≤ vec_capacity outs.old }
-    ensures fed { (offer : Offer) → copies.old.items ≡ replicate (vec_len subscriptions.old) offer
-        → AllFedInto (signals_of offer) (observers_of subscriptions.old.items) (observers_of subscriptions.new.items) outs.old.items outs.new.items }
+    ensures fed { (signals : List Signal) → AllSignal signals offers.old.items
+        → AllFedInto signals (observers_of subscriptions.old.items) (observers_of subscriptions.new.items) outs.old.items outs.new.items }
     ensures len { vec_len subscriptions.new ≡ vec_len subscriptions.old }
 {
     for i in 0..subscriptions.len() {
-        let Some(offer) = copies.pop() else {
+        let Some(offer) = offers.pop() else {
             unreachable!()
         };
         subscriptions[i].feed(offer, outs);

@@ -1,14 +1,14 @@
 ghost use Rattle.std.specs.Prelude.{◌≡◌, ◌+◌, ◌<◌, ◌≤◌, ◌^◌, ◌↔◌, ◌++◌, Err, map, option_to_list, OnOk, OnErr, vec_len, vec_capacity};
 ghost use Rattle.rx_note.specs.Signals.{Offered};
 ghost use Rattle.rx_history.specs.Histories.{addressed, ended_by};
-ghost use Rattle.rx_lane.specs.Lanes.{HasRoomFor};
-ghost use Rattle.rx_hub.specs.Offers.{signals_of};
+ghost use Rattle.rx_lane.specs.Lanes.{HasRoomFor, KeepsRoom};
+ghost use Rattle.rx_subject.specs.Offers.{offer_signals};
 ghost use Rattle.rx_hub.specs.Subscriptions.{FeedsInto, AsksInto, HasRoom, Serves, observer_of};
 
-use crate::offer::Offer;
 use rx_heap::{Heap, Memory};
 use rx_lane::{AskError, Lane};
 use rx_note::{Given, Item, Note};
+use rx_subject::{Offer, Opening};
 
 /// An observer that is held: its number and its queue.
 #[derive(Drop)]
@@ -30,7 +30,7 @@ impl Subscription {
     pub(crate) fn feed(&mut self, offer: Offer, outs: &mut Vec<Given, Heap>)
         requires lane_room { HasRoom self.old }
         requires outs_room { vec_len outs.old + 2 ≤ vec_capacity outs.old }
-        ensures fed { FeedsInto self.old self.new (signals_of offer) outs.old.items outs.new.items }
+        ensures fed { FeedsInto self.old self.new (offer_signals offer) outs.old.items outs.new.items }
         ensures len { vec_len outs.new ≤ vec_len outs.old + 2 }
         ensures capacity { vec_capacity outs.new ≡ vec_capacity outs.old }
     {
@@ -39,6 +39,32 @@ impl Subscription {
         give(self.who, note, outs);
         let note = end_by(&mut self.lane, end);
         give(self.who, note, outs);
+    }
+
+    /// Puts at the end of `outs` what an opening gives to the observer at once.
+    pub(crate) fn begin(&mut self, opening: Opening, outs: &mut Vec<Given, Heap>)
+        requires lane_room { HasRoomFor self.old.lane (vec_len opening.items) }
+        requires outs_room { vec_len outs.old + vec_len opening.items + 1 ≤ vec_capacity outs.old }
+        ensures { FeedsInto self.old self.new (map Offered opening.items.items ++ ended_by opening.end) outs.old.items outs.new.items }
+    {
+        let Opening { items, end } = opening;
+        self.offer_all(items, outs);
+        let note = end_by(&mut self.lane, end);
+        give(self.who, note, outs);
+    }
+
+    // Puts at the end of `outs` what several items give to the observer at once.
+    fn offer_all(&mut self, items: Vec<Item, Heap>, outs: &mut Vec<Given, Heap>)
+        requires lane_room { HasRoomFor self.old.lane (vec_len items) }
+        requires outs_room { vec_len outs.old + vec_len items ≤ vec_capacity outs.old }
+        ensures fed { FeedsInto self.old self.new (map Offered items.items) outs.old.items outs.new.items }
+        ensures len { vec_len outs.new ≤ vec_len outs.old + vec_len items }
+        ensures capacity { vec_capacity outs.new ≡ vec_capacity outs.old }
+    {
+        for item in items {
+            let note = offer_to(&mut self.lane, Some(item));
+            give(self.who, note, outs);
+        }
     }
 
     /// Adds a request, and puts at the end of `outs` what is then given. Refused as the queue does, which leaves both.
@@ -72,7 +98,8 @@ impl Subscription {
 // Offers an item, if there is one, and answers the note that it gives at once.
 fn offer_to(lane: &mut Lane, item: Option<Item>) -> Option<Note>
     requires { HasRoomFor lane.old 1 }
-    ensures { Serves lane.old.state lane.new.state (map Offered (option_to_list item)) (option_to_list result) }
+    ensures serves { Serves lane.old.state lane.new.state (map Offered (option_to_list item)) (option_to_list result) }
+    ensures room { KeepsRoom lane.old lane.new 1 }
 {
     match lane.offer(item?) {
         Some(item) => Some(Note::Next(item)),

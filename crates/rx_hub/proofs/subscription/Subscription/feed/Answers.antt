@@ -10,6 +10,6 @@ returns-clause-fed c =
       given-then c.args.outs.now.items c.give.new.outs.items c.give-2.new.outs.items c.args.self.now.who first then c.give.ensures.items c.give-2.ensures.items,
       record {
         number = refl;
-        serves = Serves-then _ _ _ _ _ _ _ (offered-unended c.args.offer.item) c.offer_to-note.ensures c.end_by-note.ensures;
+        serves = Serves-then _ _ _ _ _ _ _ (offered-unended c.args.offer.item) c.offer_to-note.ensures.serves c.end_by-note.ensures;
       },
     )
