@@ -9,6 +9,7 @@ pub mod Gaining
 pub mod Numbers
 pub mod Offers
 pub mod Queueing
+pub mod Remembering
 pub mod Rooms
 pub mod Subsequences
 pub mod Terminals

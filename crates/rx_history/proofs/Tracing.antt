@@ -1,14 +1,15 @@
 -- A trace keeps up with the signals: what each of them makes of it.
-use Rattle.std.proofs.Common.{◌≡◌, ℕ, zero, suc, ◌+◌, ◌-◌, ◌<◌, ◌≤◌, [], ◌∷◌, ◌++◌, length, map, take, drop, Option, Some, None, option_to_list, refl, sym, ap, ◌∙◌, arith}
-use Rattle.std.proofs.lemmas.List.{length-take, length-append, drop_at}
+use Rattle.std.proofs.Common.{◌≡◌, ℕ, zero, suc, ◌+◌, ◌-◌, ◌<◌, ◌≤◌, List, [], ◌∷◌, ◌++◌, length, map, take, drop, Option, None, Some, option_to_list, refl, sym, ap, subst, ◌∙◌, arith}
+use Rattle.std.proofs.lemmas.List.{append-nil, map-append, length-take, length-append, drop_at}
 use Rattle.rx_note.specs.declared.item.Item.{Item}
 use Rattle.rx_note.specs.declared.note.Note.{Note}
 use Rattle.rx_note.specs.declared.note.Note.TheVariants.{Next}
 use Rattle.rx_note.specs.Choices.{Choice}
 use Rattle.rx_history.specs.Histories.{followed_by, ended_by}
-use Rattle.rx_note.specs.Signals.{Start, Requested, Offered, Ended, Signals, ◌▸◌, policy_of, demand, beyond_room, terminal_of, line_items, line, given, waiting_items, waiting}
+use Rattle.rx_note.specs.Signals.{Signal, Start, Requested, Offered, Ended, Signals, ◌▸◌, policy_of, demand, beyond_room, terminal_of, line_items, line, given, waiting_items, waiting}
 use Rattle.rx_note.specs.Queues.{queued}
 use Rattle.rx_note.proofs.Lines.{line_items-owed, line_items-queued, line_items-ended, stays_behind, owed-rest, given-waiting}
+use Rattle.rx_history.proofs.Endings.{terminal_of-offers}
 use Rattle.rx_history.proofs.Rooms.{waits_in_room}
 use Rattle.rx_history.specs.declared.trace.Trace.{Trace}
 use Rattle.rx_history.specs.Traces.{Traces}
@@ -88,9 +89,9 @@ ends old new terminal s was open_now is_strategy is_items is_given is_owed is_en
     }
 
 -- an observer that joins has requested its first items
-opens_open : (new : Trace) (policy : Choice) (first : ℕ) → new.strategy ≡ policy.strategy → new.items.items ≡ [] → new.given ≡ 0 → new.owed ≡ first → new.end ≡ None
+pub opens : (new : Trace) (policy : Choice) (first : ℕ) → new.strategy ≡ policy.strategy → new.items.items ≡ [] → new.given ≡ 0 → new.owed ≡ first → new.end ≡ None
     → Traces new (Start policy ▸ Requested first)
-opens_open new policy first is_strategy is_items is_given is_owed is_end = record {
+opens new policy first is_strategy is_items is_given is_owed is_end = record {
   has_strategy = is_strategy;
   has_items = is_items;
   has_given = is_given ∙ sym (ap length (take-nil (0 + first)));
@@ -98,16 +99,37 @@ opens_open new policy first is_strategy is_items is_given is_owed is_end = recor
   has_end = is_end;
 }
 
--- and has the end where there is one
-pub opens : (new : Trace) (policy : Choice) (first : ℕ) (end : Option Note)
-    → new.strategy ≡ policy.strategy → new.items.items ≡ [] → new.given ≡ 0 → new.owed ≡ first → new.end ≡ end
-    → Traces new (followed_by (Start policy ▸ Requested first) (ended_by end))
-opens new policy first None is_strategy is_items is_given is_owed is_end =
-    opens_open new policy first is_strategy is_items is_given is_owed is_end
-opens new policy first (Some terminal) is_strategy is_items is_given is_owed is_end =
-    let before : Trace = record new { end = None } in
-    ends before new terminal (Start policy ▸ Requested first)
-    (opens_open before policy first is_strategy is_items is_given is_owed refl) refl refl refl refl refl is_end
+-- signals that follow in two parts
+followed_by-append : (s : Signals) (front back : List Signal) → followed_by s (front ++ back) ≡ followed_by (followed_by s front) back
+followed_by-append s [] back = refl
+followed_by-append s (signal ∷ front) back = followed_by-append (s ▸ signal) front back
+
+-- items that are offered end nothing
+followed-open : (s : Signals) (items : List Item) → terminal_of s ≡ None → terminal_of (followed_by s (map Offered items)) ≡ None
+followed-open s items open_now =
+    ap (λ more. terminal_of (followed_by s more)) (sym (append-nil (map Offered items))) ∙ terminal_of-offers s items None refl ∙ open_now
+
+-- one item more is offered
+pub follows_item : (old new : Trace) (s : Signals) (items : List Item) (item : Item) → terminal_of s ≡ None
+    → Traces old (followed_by s (map Offered items)) → ((t : Signals) → terminal_of t ≡ None → Traces old t → Traces new (t ▸ Offered item))
+    → Traces new (followed_by s (map Offered (items ++ item ∷ [])))
+follows_item old new s items item open_now was offers =
+    let P : Signals → Type 0 = λ t. Traces new t in
+    subst P
+    (sym (ap (followed_by s) (map-append Offered items (item ∷ [])) ∙ followed_by-append s (map Offered items) (Offered item ∷ [])))
+    (offers (followed_by s (map Offered items)) (followed-open s items open_now) was)
+
+-- the end follows the items
+pub follows_end : (old new : Trace) (s : Signals) (items all : List Item) (end : Option Note) (terminal : Note) → terminal_of s ≡ None → items ≡ all → end ≡ Some terminal
+    → Traces old (followed_by s (map Offered items)) → ((t : Signals) → terminal_of t ≡ None → Traces old t → Traces new (t ▸ Ended terminal))
+    → Traces new (followed_by s (map Offered all ++ ended_by end))
+follows_end old new s items all end terminal open_now same is was ends =
+    let P : Signals → Type 0 = λ t. Traces new t in
+    subst P
+    (sym (ap (λ e. followed_by s (map Offered all ++ ended_by e)) is
+    ∙ ap (λ xs. followed_by s (map Offered xs ++ ended_by (Some terminal))) (sym same)
+    ∙ followed_by-append s (map Offered items) (ended_by (Some terminal))))
+    (ends (followed_by s (map Offered items)) (followed-open s items open_now) was)
 
 -- the notes of the items and of the end are the line
 pub line_is : (trace : Trace) (s : Signals) → Traces trace s → map Next trace.items.items ++ option_to_list trace.end ≡ line s

@@ -11,6 +11,7 @@
 mod history;
 pub mod laws;
 mod line_error;
+mod past;
 #[cfg(test)]
 mod tests;
 mod trace;

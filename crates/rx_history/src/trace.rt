@@ -22,21 +22,39 @@ pub(crate) struct Trace {
 impl Trace {
     ghost use Rattle.rx_history.specs.Traces.{Traces};
 
-    /// The trace of an observer that joins with a policy and a request of `first` items, on a subject of this end.
-    pub(crate) fn joined(alloc: Heap, policy: Policy, first: u32, end: Option<Note>) -> Trace
-        ensures { Traces result (followed_by (Start policy ▸ Requested first) (ended_by end)) }
+    /// The trace of an observer that joins with a policy and a request of `first` items.
+    pub(crate) fn joined(alloc: Heap, policy: Policy, first: u32) -> Trace
+        ensures { Traces result (Start policy ▸ Requested first) }
     {
         Trace {
             strategy: policy.strategy(),
             items: Vec::new(alloc),
             given: 0,
             owed: first,
-            end,
+            end: None,
         }
     }
 
-    /// An item is offered: it is given at once where it is owed, and queued by the strategy where it is not.
-    pub(crate) fn offer(&mut self, item: Item) -> Result<(), Memory>
+    /// Items are offered, and then the subject ends where there is an end.
+    pub(crate) fn follow(
+        &mut self,
+        offers: Vec<Item, Heap>,
+        end: Option<Note>,
+    ) -> Result<(), Memory>
+        ensures { OnOk result ((s : Signals) → terminal_of s ≡ None → Traces self.old s
+            → Traces self.new (followed_by s (map Offered offers.items ++ ended_by end))) }
+    {
+        for item in offers {
+            self.offer(item)?;
+        }
+        if let Some(end) = end {
+            self.end(end);
+        }
+        Ok(())
+    }
+
+    // An item is offered: it is given at once where it is owed, and queued by the strategy where it is not.
+    fn offer(&mut self, item: Item) -> Result<(), Memory>
         ensures { OnOk result ((s : Signals) → terminal_of s ≡ None → Traces self.old s → Traces self.new (s ▸ Offered item)) }
     {
         if self.owed > 0 {
@@ -49,8 +67,8 @@ impl Trace {
         Ok(())
     }
 
-    /// The subject ends.
-    pub(crate) fn end(&mut self, terminal: Note)
+    // The subject ends.
+    fn end(&mut self, terminal: Note)
         ensures { (s : Signals) → terminal_of s ≡ None → Traces self.old s → Traces self.new (s ▸ Ended terminal) }
     {
         self.end = Some(terminal);

@@ -1,22 +1,23 @@
-ghost use Rattle.std.specs.Prelude.{ℕ, ◌≡◌, ◌+◌, ◌^◌, ◌<◌, ◌&&◌, nat_lt, true, if◌then◌else◌, Option, IfOk, OnOk};
+ghost use Rattle.std.specs.Prelude.{ℕ, ◌≡◌, ◌+◌, ◌^◌, ◌<◌, ◌&&◌, ◌++◌, map, nat_lt, true, if◌then◌else◌, Option, IfOk, OnOk};
 ghost use Rattle.std.specs.Option.{option_map};
 ghost use Rattle.rx_note.specs.declared.event.Event.TheVariants.{Emit, Join, Request};
-ghost use Rattle.rx_note.specs.Signals.{Signals, ◌▸◌, Requested, Offered, Ended};
-ghost use Rattle.rx_history.specs.Histories.{History, ◌▹◌, joins as joins_in, may_request, signals as signals_in};
+ghost use Rattle.rx_note.specs.Signals.{Signals, ◌▸◌, Requested, Offered};
+ghost use Rattle.rx_history.specs.Histories.{History, ◌▹◌, joins as joins_in, followed_by, ended_by, may_request, signals as signals_in};
 ghost use Rattle.rx_history.specs.Stored.{history_of};
 ghost use Rattle.rx_history.specs.Traces.{MayTrace, AreOpen};
 
+use crate::past::{Past, terminal_in};
 use crate::trace::Trace;
 use rx_heap::{Heap, Memory};
 use rx_note::{Event, Item, Limits, Note, Policy, Rules, copy_of};
 
 /// A walk over the events of a subject, from the first one on, for the sake of one observer: how many Joins were
-/// accepted, the end of the subject, and the trace of the observer once it has joined.
+/// accepted, the past of the subject, and the trace of the observer once it has joined.
 #[derive(Drop)]
 pub(crate) struct Walk {
     pub(crate) who: u32,
     pub(crate) joins: u32,
-    pub(crate) end: Option<Note>,
+    pub(crate) past: Past,
     pub(crate) trace: Option<Trace>,
 }
 
@@ -29,12 +30,8 @@ impl Walk {
         ensures who { self.new.who ≡ self.old.who }
     {
         match event {
-            Event::Emit { note, at: _ } => self.emit(port, note),
-            Event::Join {
-                policy,
-                first,
-                at: _,
-            } => self.join(heap, rules, *policy, *first),
+            Event::Emit { note, at } => self.emit(rules, port, note, *at),
+            Event::Join { policy, first, at } => self.join(heap, rules, *policy, *first, *at),
             Event::Request { who, n } => {
                 self.request(*who, *n);
                 Ok(())
@@ -42,31 +39,30 @@ impl Walk {
         }
     }
 
-    // A note is emitted from a port; it is refused where the subject has ended.
-    fn emit(&mut self, port: u32, note: &Note) -> Result<(), Memory>
-        ensures passes { OnOk result ((rules : Rules) (at : ℕ) → Passes rules self.old self.new (port, Emit note.now at)) }
+    // A note is emitted from a port; it is refused where the subject has ended. What it offers is told from the past
+    // before it.
+    fn emit(&mut self, rules: &Rules, port: u32, note: &Note, at: u64) -> Result<(), Memory>
+        ensures passes { OnOk result (Passes rules.now self.old self.new (port, Emit note.now at)) }
         ensures who { self.new.who ≡ self.old.who }
     {
-        if self.end.is_some() {
+        if self.past.end.is_some() {
             return Ok(());
         }
-        match note {
-            Note::Next(item) => {
-                let text = item.text.copy()?;
-                offer_to(&mut self.trace, Item { from: port, text })?;
-            }
-            terminal => {
-                let end = terminal.copy()?;
-                end_by(&mut self.trace, end);
-                self.end = Some(terminal.copy()?);
-            }
-        }
-        Ok(())
+        let offers = self.past.offers(&rules.kind, port, note)?;
+        follow(&mut self.trace, offers, terminal_in(note)?)?;
+        self.past.emit(port, note, at)
     }
 
     // An observer joins; it is refused where the limits are reached. Its number is the count of the Joins before it.
-    fn join(&mut self, heap: &Heap, rules: &Rules, policy: Policy, first: u32) -> Result<(), Memory>
-        ensures passes { OnOk result ((port at : ℕ) → Passes rules.now self.old self.new (port, Join policy first at)) }
+    fn join(
+        &mut self,
+        heap: &Heap,
+        rules: &Rules,
+        policy: Policy,
+        first: u32,
+        at: u64,
+    ) -> Result<(), Memory>
+        ensures passes { OnOk result ((port : ℕ) → Passes rules.now self.old self.new (port, Join policy first at)) }
         ensures who { self.new.who ≡ self.old.who }
     {
         if !admits(&rules.limits, self.joins) {
@@ -74,11 +70,12 @@ impl Walk {
         }
         let who = self.joins;
         self.joins += 1;
-        if who != self.who {
-            return Ok(());
+        self.past.join(at);
+        if who == self.who {
+            let mut trace = Trace::joined(heap.clone()?, policy, first);
+            trace.follow(self.past.opening(&rules.kind)?, copy_of(&self.past.end)?)?;
+            self.trace = Some(trace);
         }
-        let end = copy_of(&self.end)?;
-        self.trace = Some(Trace::joined(heap.clone()?, policy, first, end));
         Ok(())
     }
 
@@ -93,24 +90,18 @@ impl Walk {
     }
 }
 
-// Offers an item to the observer, if it has joined.
-fn offer_to(trace: &mut Option<Trace>, item: Item) -> Result<(), Memory>
+// Offers items to the observer, if it has joined, and then ends its signals where there is an end.
+fn follow(
+    trace: &mut Option<Trace>,
+    offers: Vec<Item, Heap>,
+    end: Option<Note>,
+) -> Result<(), Memory>
     ensures { OnOk result ((signals : Option Signals) → AreOpen signals → MayTrace trace.old signals
-        → MayTrace trace.new (option_map (λ s. s ▸ Offered item) signals)) }
+        → MayTrace trace.new (option_map (λ s. followed_by s (map Offered offers.items ++ ended_by end)) signals)) }
 {
     match trace {
-        Some(trace) => trace.offer(item),
+        Some(trace) => trace.follow(offers, end),
         None => Ok(()),
-    }
-}
-
-// Ends the signals of the observer, if it has joined.
-fn end_by(trace: &mut Option<Trace>, terminal: Note)
-    ensures { (signals : Option Signals) → AreOpen signals → MayTrace trace.old signals
-        → MayTrace trace.new (option_map (λ s. s ▸ Ended terminal) signals) }
-{
-    if let Some(trace) = trace {
-        trace.end(terminal);
     }
 }
 
@@ -171,7 +162,7 @@ pub(crate) fn trace_of(
     let mut walk = Walk {
         who,
         joins: 0,
-        end: None,
+        past: Past::new(heap.clone()?),
         trace: None,
     };
     for entry in entries {
@@ -180,7 +171,7 @@ pub(crate) fn trace_of(
     let Walk {
         who: _,
         joins: _,
-        end: _,
+        past: _,
         trace,
     } = walk;
     Ok(trace)

@@ -1,7 +1,13 @@
-use Rattle.std.proofs.Common.{take, ◌∙◌}
+use Rattle.std.proofs.Common.{take, refl, ◌∙◌}
 use Rattle.rx_history.specs.Stored.{history_of}
 use Rattle.rx_history.proofs.Extending.{history_of-next}
 use Rattle.rx_history.proofs.walk.trace_of.Goals as goal
+
+pub loop-entry-init : goal.loop-entry-init
+loop-entry-init c = record {
+  agrees = record { has_joins = refl; has_past = c.new.ensures c.args.rules.now; has_trace = tt };
+  same_who = refl;
+}
 
 pub loop-entry-preserved : goal.loop-entry-preserved
 loop-entry-preserved c =

@@ -1,13 +1,9 @@
 use Rattle.rx_history.proofs.Agreeing.{on_ok}
 use Rattle.rx_history.proofs.walk.Walk.turn.Goals as goal
 
-pub returns-in-Emit-clause-passes : goal.returns-in-Emit-clause-passes
-returns-in-Emit-clause-passes c =
-    rw c.in-Emit.is (on_ok c.emit.result (λ passes. passes c.args.rules.now c.in-Emit.at) c.emit.ensures.passes)
-
 pub returns-in-Join-clause-passes : goal.returns-in-Join-clause-passes
 returns-in-Join-clause-passes c =
-    rw c.in-Join.is (on_ok c.join.result (λ passes. passes c.args.port c.in-Join.at) c.join.ensures.passes)
+    rw c.in-Join.is (on_ok c.join.result (λ passes. passes c.args.port) c.join.ensures.passes)
 
 pub returns-in-Request-clause-passes : goal.returns-in-Request-clause-passes
 returns-in-Request-clause-passes c = rw c.in-Request.is (c.request.ensures.passes c.args.rules.now c.args.port)
