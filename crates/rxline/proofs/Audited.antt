@@ -2,32 +2,21 @@
 use Rattle.std.proofs.Common.{◌≡◌, ℕ, true, false, cond, List, [], ◌++◌, Option, None, Some, Result, Ok, Err, refl, sym, ap, subst, ◌∙◌, append_assoc}
 use Rattle.std.proofs.KnownBytes.{Appends-nil, Appends-trans, Consumes-trans, Consumes-nil}
 use Rattle.std.specs.Io.KnownBytes.{Consumes, Appends}
-use Rattle.rxline.specs.declared.asked.Asked.{Asked}
 use Rattle.rxline.specs.declared.line_error.BadLine.{BadLine}
 use Rattle.rxline.specs.declared.line_state.LineState.{LineState}
 use Rattle.rxline.specs.declared.script_line.ScriptLine.{ScriptLine}
 use Rattle.rxline.specs.declared.session_end.SessionEnd.{SessionEnd}
 use Rattle.rxline.specs.declared.session_end.SessionEnd.TheVariants as ends
-use Rattle.rxline.specs.Audits.{Audits, audited, audit_written, prints, Prints, Learns, EntersAsked, Enters, Follows}
+use Rattle.rxline.specs.Audits.{Audits, audited, audit_written, prints, Prints, Learns, Enters, Follows}
 use Rattle.rxline.specs.Bytes.{AppendsPrefix, Holds, Writes}
 use Rattle.rxline.specs.Lines.{lines_of, TakesLine, TakesNoLine, without_cr}
 use Rattle.rxline.specs.Reading.{line_read}
 use Rattle.rxline.specs.Steps.{unread, GoesOn}
-use Rattle.rxline.specs.Transcripts.{Subject, asks, after_line, has_end}
+use Rattle.rxline.specs.Transcripts.{Subject, State, new_state, after_line, has_end}
 use Rattle.rxline.proofs.LinesOf.{lines_of-first, lines_of-taken, lines_of-none}
 use Rattle.rxline.proofs.Written.{Prefix-behind, Prefix-none}
 
 -- ONE LINE
-
--- what a line asks was done
-pub enters_asked : (end : Option SessionEnd) (subjects after : List Subject) (asked : Asked) (line : ScriptLine) (reading : Result ScriptLine BadLine)
-    → asked ≡ asks line → reading ≡ Ok line → EntersAsked end subjects after asked → Enters end subjects after reading
-enters_asked None subjects after asked line reading is read done =
-    subst (λ (r : Result ScriptLine BadLine). Enters None subjects after r) (sym read)
-    (subst (λ (a : Asked). EntersAsked None subjects after a) is done)
-enters_asked (Some end) subjects after asked line reading is read done =
-    subst (λ (r : Result ScriptLine BadLine). Enters (Some end) subjects after r) (sym read)
-    (subst (λ (a : Asked). EntersAsked (Some end) subjects after a) is done)
 
 taken : (read_old read_new : Option (List ℕ)) (before after : List ℕ) (says then : List ℕ → Type 0) → ((line : List ℕ) → says line → then line)
     → TakesLine read_old read_new before after says → TakesLine read_old read_new before after then
@@ -35,57 +24,57 @@ taken read_old read_new before after says then so takes =
     record { read = takes.read; line = takes.line; told = takes.told; begins = takes.begins; said = so (without_cr takes.line) takes.said }
 
 -- a line that was taken is entered
-pub follows : (end : Option SessionEnd) (subjects now : List Subject) (read_old read_new : Option (List ℕ)) (before after : LineState)
+pub follows : (end : Option SessionEnd) (state now : State) (read_old read_new : Option (List ℕ)) (before after : LineState)
     (reading : Result ScriptLine BadLine) (says : List ℕ → Type 0)
     → ((line : List ℕ) → says line → line_read line ≡ reading) → TakesLine read_old read_new (unread before) (unread after) says → GoesOn before after
-    → Enters end subjects now reading → Follows end subjects now read_old read_new before after
-follows None subjects now read_old read_new before after reading says so takes goes_on enters = (
-  taken read_old read_new (unread before) (unread after) says (λ line. Enters None subjects now (line_read line))
-      (λ line said. subst (λ (r : Result ScriptLine BadLine). Enters None subjects now r) (sym (so line said)) enters) takes,
+    → Enters end state now reading → Follows end state now read_old read_new before after
+follows None state now read_old read_new before after reading says so takes goes_on enters = (
+  taken read_old read_new (unread before) (unread after) says (λ line. Enters None state now (line_read line))
+      (λ line said. subst (λ (r : Result ScriptLine BadLine). Enters None state now r) (sym (so line said)) enters) takes,
   goes_on,
 )
-follows (Some ends.Quit) subjects now read_old read_new before after reading says so takes goes_on enters =
-    taken read_old read_new (unread before) (unread after) says (λ line. Enters (Some ends.Quit) subjects now (line_read line))
-    (λ line said. subst (λ (r : Result ScriptLine BadLine). Enters (Some ends.Quit) subjects now r) (sym (so line said)) enters) takes
-follows (Some ends.EndOfInput) subjects now read_old read_new before after reading says so takes goes_on enters = let e = enters.0 in cc
-follows (Some ends.ReadFault) subjects now read_old read_new before after reading says so takes goes_on enters = let e = enters.0 in cc
-follows (Some ends.WriteFault) subjects now read_old read_new before after reading says so takes goes_on enters = let e = enters.0 in cc
-follows (Some ends.TooManyReads) subjects now read_old read_new before after reading says so takes goes_on enters = let e = enters.0 in cc
+follows (Some ends.Quit) state now read_old read_new before after reading says so takes goes_on enters =
+    taken read_old read_new (unread before) (unread after) says (λ line. Enters (Some ends.Quit) state now (line_read line))
+    (λ line said. subst (λ (r : Result ScriptLine BadLine). Enters (Some ends.Quit) state now r) (sym (so line said)) enters) takes
+follows (Some ends.EndOfInput) state now read_old read_new before after reading says so takes goes_on enters = let e = enters.0 in cc
+follows (Some ends.ReadFault) state now read_old read_new before after reading says so takes goes_on enters = let e = enters.0 in cc
+follows (Some ends.WriteFault) state now read_old read_new before after reading says so takes goes_on enters = let e = enters.0 in cc
+follows (Some ends.TooManyReads) state now read_old read_new before after reading says so takes goes_on enters = let e = enters.0 in cc
 
 -- ALL LINES
 
--- some bytes were read, and the subjects after all the lines are those after the unread ones, from the subjects now
-pub record LearnsSoFar (subjects now : List Subject) (read_old read_now : Option (List ℕ)) (rest : List ℕ) : Type 0 where
+-- some bytes were read, and the subjects after all the lines are those after the unread ones, from the state as it is now
+pub record LearnsSoFar (first now : State) (read_old read_now : Option (List ℕ)) (rest : List ℕ) : Type 0 where
   pub read : List ℕ
   pub consumed : Consumes read_old read_now read
-  pub goes_on : (more : List ℕ) → audited subjects (lines_of (read ++ more)) ≡ audited now (lines_of (rest ++ more))
+  pub goes_on : (more : List ℕ) → audited first (lines_of (read ++ more)) ≡ audited now (lines_of (rest ++ more))
   pub ended : (more : List ℕ) → has_end (lines_of (read ++ more)) ≡ has_end (lines_of (rest ++ more))
 
 -- at first
-pub LearnsSoFar-begun : (subjects : List Subject) (read : Option (List ℕ)) (rest : List ℕ) → rest ≡ [] → LearnsSoFar subjects subjects read read rest
-LearnsSoFar-begun subjects read rest none = record {
+pub LearnsSoFar-begun : (first : State) (read : Option (List ℕ)) (rest : List ℕ) → rest ≡ [] → LearnsSoFar first first read read rest
+LearnsSoFar-begun first read rest none = record {
   read = [];
   consumed = Consumes-nil read;
-  goes_on = λ more. ap (λ r. audited subjects (lines_of (r ++ more))) (sym none);
+  goes_on = λ more. ap (λ r. audited first (lines_of (r ++ more))) (sym none);
   ended = λ more. ap (λ r. has_end (lines_of (r ++ more))) (sym none);
 }
 
 -- a line was entered
-pub LearnsSoFar-line : (subjects now next : List Subject) (read_old read_now read_new : Option (List ℕ)) (rest rest_after : List ℕ)
-    → LearnsSoFar subjects now read_old read_now rest
+pub LearnsSoFar-line : (first now next : State) (read_old read_now read_new : Option (List ℕ)) (rest rest_after : List ℕ)
+    → LearnsSoFar first now read_old read_now rest
     → TakesLine read_now read_new rest rest_after (λ line. Enters None now next (line_read line))
-    → LearnsSoFar subjects next read_old read_new rest_after
-LearnsSoFar-line subjects now next read_old read_now read_new rest rest_after h takes =
+    → LearnsSoFar first next read_old read_new rest_after
+LearnsSoFar-line first now next read_old read_now read_new rest rest_after h takes =
     let read = takes.read in
     let line = line_read (without_cr takes.line) in
     record {
       read = h.read ++ read;
       consumed = Consumes-trans read_old read_now read_new h.read read h.consumed takes.told;
       goes_on = λ more.
-          ap (λ xs. audited subjects (lines_of xs)) (append_assoc h.read read more) ∙ h.goes_on (read ++ more)
+          ap (λ xs. audited first (lines_of xs)) (append_assoc h.read read more) ∙ h.goes_on (read ++ more)
           ∙ ap (audited now) (lines_of-taken rest read takes.line rest_after more takes.begins)
-          ∙ ap (λ b. cond b now (audited (after_line now line false) (lines_of (rest_after ++ more)))) takes.said.0
-          ∙ ap (λ ss. audited ss (lines_of (rest_after ++ more))) (sym takes.said.1);
+          ∙ ap (λ b. cond b now.subjects (audited (after_line now line false) (lines_of (rest_after ++ more)))) takes.said.0
+          ∙ ap (λ state. audited state (lines_of (rest_after ++ more))) (sym takes.said.1);
       ended = λ more.
           ap (λ xs. has_end (lines_of xs)) (append_assoc h.read read more) ∙ h.ended (read ++ more)
           ∙ ap has_end (lines_of-taken rest read takes.line rest_after more takes.begins)
@@ -93,45 +82,45 @@ LearnsSoFar-line subjects now next read_old read_now read_new rest rest_after h 
     }
 
 -- no line was left
-none_left : (subjects now last : List Subject) (read_old read_now read_new : Option (List ℕ)) (rest : List ℕ)
-    → (h : LearnsSoFar subjects now read_old read_now rest) → (takes : TakesNoLine read_now read_new rest) → last ≡ now
-    → (last ≡ audited subjects (lines_of (h.read ++ takes.read))) × (has_end (lines_of (h.read ++ takes.read)) ≡ false)
-none_left subjects now last read_old read_now read_new rest h takes same =
+none_left : (first now last : State) (read_old read_now read_new : Option (List ℕ)) (rest : List ℕ)
+    → (h : LearnsSoFar first now read_old read_now rest) → (takes : TakesNoLine read_now read_new rest) → last ≡ now
+    → (last.subjects ≡ audited first (lines_of (h.read ++ takes.read))) × (has_end (lines_of (h.read ++ takes.read)) ≡ false)
+none_left first now last read_old read_now read_new rest h takes same =
     let none = lines_of-none (rest ++ takes.read) takes.none in
-    (same ∙ sym (h.goes_on takes.read ∙ ap (audited now) none), h.ended takes.read ∙ ap has_end none)
+    (ap (λ (state : State). state.subjects) same ∙ sym (h.goes_on takes.read ∙ ap (audited now) none), h.ended takes.read ∙ ap has_end none)
 
 -- the input ended
-pub learns : (end : SessionEnd) (subjects now last : List Subject) (read_old read_now read_new : Option (List ℕ)) (before later : LineState)
-    → LearnsSoFar subjects now read_old read_now (unread before) → Follows (Some end) now last read_now read_new before later
-    → Learns subjects last end read_old read_new
-learns ends.Quit subjects now last read_old read_now read_new before later h takes =
+pub learns : (end : SessionEnd) (first now last : State) (read_old read_now read_new : Option (List ℕ)) (before later : LineState)
+    → LearnsSoFar first now read_old read_now (unread before) → Follows (Some end) now last read_now read_new before later
+    → Learns first last.subjects end read_old read_new
+learns ends.Quit first now last read_old read_now read_new before later h takes =
     let line = line_read (without_cr takes.line) in
-    let first = lines_of-first (unread before ++ takes.read) takes.line (unread later) takes.begins in
+    let parted = lines_of-first (unread before ++ takes.read) takes.line (unread later) takes.begins in
     record {
       read = h.read ++ takes.read;
       consumed = Consumes-trans read_old read_now read_new h.read takes.read h.consumed takes.told;
-      are = takes.said.2 ∙ sym (h.goes_on takes.read ∙ ap (audited now) first ∙ ap (λ b. cond b now (audited (after_line now line false) (lines_of (unread later)))) takes.said.1);
-      ends = h.ended takes.read ∙ ap has_end first ∙ ap (λ b. cond b true (has_end (lines_of (unread later)))) takes.said.1;
+      are = ap (λ (state : State). state.subjects) takes.said.2 ∙ sym (h.goes_on takes.read ∙ ap (audited now) parted ∙ ap (λ b. cond b now.subjects (audited (after_line now line false) (lines_of (unread later)))) takes.said.1);
+      ends = h.ended takes.read ∙ ap has_end parted ∙ ap (λ b. cond b true (has_end (lines_of (unread later)))) takes.said.1;
     }
-learns ends.EndOfInput subjects now last read_old read_now read_new before later h takes =
-    let left = none_left subjects now last read_old read_now read_new (unread before) h takes.0 takes.2 in
+learns ends.EndOfInput first now last read_old read_now read_new before later h takes =
+    let left = none_left first now last read_old read_now read_new (unread before) h takes.0 takes.2 in
     record {
       read = h.read ++ takes.0.read;
       consumed = Consumes-trans read_old read_now read_new h.read takes.0.read h.consumed takes.0.told;
       are = left.0;
       ends = (left.1, takes.1);
     }
-learns ends.ReadFault subjects now last read_old read_now read_new before later h takes =
-    let left = none_left subjects now last read_old read_now read_new (unread before) h takes.0 takes.1 in
+learns ends.ReadFault first now last read_old read_now read_new before later h takes =
+    let left = none_left first now last read_old read_now read_new (unread before) h takes.0 takes.1 in
     record {
       read = h.read ++ takes.0.read;
       consumed = Consumes-trans read_old read_now read_new h.read takes.0.read h.consumed takes.0.told;
       are = left.0;
       ends = left.1;
     }
-learns ends.WriteFault subjects now last read_old read_now read_new before later h takes = absurd takes
-learns ends.TooManyReads subjects now last read_old read_now read_new before later h takes =
-    let left = none_left subjects now last read_old read_now read_new (unread before) h takes.0 takes.1 in
+learns ends.WriteFault first now last read_old read_now read_new before later h takes = absurd takes
+learns ends.TooManyReads first now last read_old read_now read_new before later h takes =
+    let left = none_left first now last read_old read_now read_new (unread before) h takes.0 takes.1 in
     record {
       read = h.read ++ takes.0.read;
       consumed = Consumes-trans read_old read_now read_new h.read takes.0.read h.consumed takes.0.told;
@@ -140,20 +129,20 @@ learns ends.TooManyReads subjects now last read_old read_now read_new before lat
     }
 
 -- the same, by what the next line was answered
-pub learns-end : (answer : Option SessionEnd) (end : SessionEnd) (subjects now last : List Subject) (read_old read_now read_new : Option (List ℕ)) (before later : LineState)
-    → answer ≡ Some end → LearnsSoFar subjects now read_old read_now (unread before) → Follows answer now last read_now read_new before later
-    → Learns subjects last end read_old read_new
-learns-end answer end subjects now last read_old read_now read_new before later is h goes =
-    learns end subjects now last read_old read_now read_new before later h
+pub learns-end : (answer : Option SessionEnd) (end : SessionEnd) (first now last : State) (read_old read_now read_new : Option (List ℕ)) (before later : LineState)
+    → answer ≡ Some end → LearnsSoFar first now read_old read_now (unread before) → Follows answer now last read_now read_new before later
+    → Learns first last.subjects end read_old read_new
+learns-end answer end first now last read_old read_now read_new before later is h goes =
+    learns end first now last read_old read_now read_new before later h
     (subst (λ (a : Option SessionEnd). Follows a now last read_now read_new before later) is goes)
 
 -- the input goes on
-pub learns-on : (answer : Option SessionEnd) (subjects now next : List Subject) (read_old read_now read_new : Option (List ℕ)) (before later : LineState)
-    → answer ≡ None → LearnsSoFar subjects now read_old read_now (unread before) → Follows answer now next read_now read_new before later
-    → LearnsSoFar subjects next read_old read_new (unread later) × GoesOn before later
-learns-on answer subjects now next read_old read_now read_new before later is h goes =
+pub learns-on : (answer : Option SessionEnd) (first now next : State) (read_old read_now read_new : Option (List ℕ)) (before later : LineState)
+    → answer ≡ None → LearnsSoFar first now read_old read_now (unread before) → Follows answer now next read_now read_new before later
+    → LearnsSoFar first next read_old read_new (unread later) × GoesOn before later
+learns-on answer first now next read_old read_now read_new before later is h goes =
     let line = subst (λ (a : Option SessionEnd). Follows a now next read_now read_new before later) is goes in
-    (LearnsSoFar-line subjects now next read_old read_now read_new (unread before) (unread later) h line.0, line.1)
+    (LearnsSoFar-line first now next read_old read_now read_new (unread before) (unread later) h line.0, line.1)
 
 -- THE PRINTING
 
@@ -183,24 +172,24 @@ Prints-none ends.TooManyReads known bytes is = refl
 
 -- the lines were read and the audit printed
 pub audits : (end : SessionEnd) (first subjects after : List Subject) (read_old read_new written_old written_new : Option (List ℕ))
-    → subjects ≡ first → Learns subjects after end read_old read_new → Prints end written_old written_new (audit_written after)
+    → subjects ≡ first → Learns (new_state subjects) after end read_old read_new → Prints end written_old written_new (audit_written after)
     → Audits first end read_old read_new written_old written_new
 audits end first subjects after read_old read_new written_old written_new same learned printed = record {
   read = learned.read;
   consumed = learned.consumed;
   written = subst (λ (ss : List Subject). Prints end written_old written_new (audit_written ss))
-      (learned.are ∙ ap (λ ss. audited ss (lines_of learned.read)) same) printed;
+      (learned.are ∙ ap (λ ss. audited (new_state ss) (lines_of learned.read)) same) printed;
   ends = learned.ends;
 }
 
 -- the writer faulted
 pub audits-faulty : (end : SessionEnd) (first subjects after : List Subject) (read_old read_new written_old written_new : Option (List ℕ))
-    → subjects ≡ first → Learns subjects after end read_old read_new → AppendsPrefix written_old written_new (audit_written after)
+    → subjects ≡ first → Learns (new_state subjects) after end read_old read_new → AppendsPrefix written_old written_new (audit_written after)
     → Audits first ends.WriteFault read_old read_new written_old written_new
 audits-faulty end first subjects after read_old read_new written_old written_new same learned front = record {
   read = learned.read;
   consumed = learned.consumed;
   written = subst (λ (ss : List Subject). AppendsPrefix written_old written_new (audit_written ss))
-      (learned.are ∙ ap (λ ss. audited ss (lines_of learned.read)) same) front;
+      (learned.are ∙ ap (λ ss. audited (new_state ss) (lines_of learned.read)) same) front;
   ends = tt;
 }

@@ -11,11 +11,11 @@ use Rattle.rx_note.specs.declared.errors.Errors.TheVariants.{Delay}
 use Rattle.rxline.specs.Grammar.{IsText, IsDigit, value_behind, SpellsNumber, SpellsRoom, SpellsStrategy, SpellsErrors, SpellsJoin, SpellsRequest, Spells, HasLongText, IsLong}
 use Rattle.rxline.specs.Lines.{HasNoLf}
 use Rattle.rxline.specs.Names.{IsName, IsNameByte}
-use Rattle.rxline.specs.Reading.{◌>>=◌, cut_read, same_word, name_read, named_read, text_read, digits_read, number_read, room_read, strategy_read, errors_read, policy_read, named_text_read, join_read, request_read, words_read, line_read}
+use Rattle.rxline.specs.Reading.{◌>>=◌, cut_read, same_word, name_read, named_read, text_read, digits_read, wide_number_read, number_read, room_read, strategy_read, errors_read, policy_read, named_text_read, join_read, request_read, words_read, line_read}
 use Rattle.rxline.specs.declared.command.Command.TheVariants.{Pub, End, Fail, Quit}
 use Rattle.rxline.specs.declared.line_error.BadLine.TheVariants.{Long}
 use Rattle.rxline.specs.declared.script_line.ScriptLine.{ScriptLine}
-use Rattle.rxline.specs.declared.script_line.ScriptLine.TheVariants.{Command, Join, Request}
+use Rattle.rxline.specs.declared.script_line.ScriptLine.TheVariants.{Command, At, Join, Request}
 use Rattle.rxline.proofs.Cuts.{HasNoSpace, HasNoSpace-append, cut_read-parted}
 use Rattle.rxline.proofs.NameTests.{name_read-name}
 use Rattle.rxline.proofs.Sound.{is_digit-decides, sizes-decides}
@@ -33,7 +33,7 @@ IsNameByte-no_space byte (inr (inr dash)) space = omega arith
 name-no_space : (name : List ℕ) → IsName name → HasNoSpace name
 name-no_space name is = no_space IsNameByte IsNameByte-no_space name is.each
 
-number-no_space : (n : ℕ) (digits : List ℕ) → SpellsNumber n digits → HasNoSpace digits
+number-no_space : (n : ℕ) (digits : List ℕ) → SpellsNumber 32 n digits → HasNoSpace digits
 number-no_space n digits is = no_space IsDigit (λ byte digit space. omega arith) digits is.each
 
 named_read-named : (name rest : List ℕ) → IsName name → named_read (name ++ (32 ∷ rest)) ≡ Ok (name, rest)
@@ -56,15 +56,25 @@ text_read-long text long none =
     let many : nat_lt 1024 (length text) ≡ true = grind (arith, nat_tests) in
     rw (no_lf_test text none, many) refl
 
-digits_read-value : (value : ℕ) (digits : List ℕ) → AllByRecursion IsDigit digits → value_behind value digits < 2 ^ 32 → digits_read value digits ≡ Ok (value_behind value digits)
-digits_read-value value [] all fits = let few : nat_lt value 4294967296 ≡ true = grind (arith, nat_tests) in rw few refl
+digits_read-value : (value : ℕ) (digits : List ℕ) → AllByRecursion IsDigit digits → value_behind value digits < 2 ^ 64 → digits_read value digits ≡ Ok (value_behind value digits)
+digits_read-value value [] all fits = let few : nat_lt value 18446744073709551616 ≡ true = grind (arith, nat_tests) in rw few refl
 digits_read-value value (digit ∷ digits) all fits = rw ((is_digit-decides digit).1 all.0) (digits_read-value (value * 10 + (digit - 48)) digits all.1 fits)
 
-number_read-number : (n : ℕ) (digits : List ℕ) → SpellsNumber n digits → number_read digits ≡ Ok n
+wide_number_read-number : (n : ℕ) (digits : List ℕ) → SpellsNumber 64 n digits → wide_number_read digits ≡ Ok n
+unfolding wide_number_read
+wide_number_read-number n digits is =
+    let fits : value_behind 0 digits < 2 ^ 64 = omega (arith, is.value, is.fits) in
+    rw ((sizes-decides digits).1 (is.some, is.few)) (digits_read-value 0 digits is.each fits ∙ ap Ok is.value)
+
+-- a number of 32 bits is one of 64
+widen : (n : ℕ) (digits : List ℕ) → SpellsNumber 32 n digits → SpellsNumber 64 n digits
+widen n digits is = record { some = is.some; few = is.few; each = is.each; value = is.value; fits = let fits = is.fits in omega (arith, fits) }
+
+number_read-number : (n : ℕ) (digits : List ℕ) → SpellsNumber 32 n digits → number_read digits ≡ Ok n
 unfolding number_read
 number_read-number n digits is =
-    let fits : value_behind 0 digits < 2 ^ 32 = omega (arith, is.value, is.fits) in
-    rw ((sizes-decides digits).1 (is.some, is.few)) (digits_read-value 0 digits is.each fits ∙ ap Ok is.value)
+    let few : nat_lt n 4294967296 ≡ true = let fits = is.fits in grind (arith, nat_tests) in
+    rw (wide_number_read-number n digits (widen n digits is), few) refl
 
 -- a name without a space has none with its room behind it
 room-no_space : (name : List ℕ) (room : ℕ) (word : List ℕ) → HasNoSpace name → SpellsRoom name room word → HasNoSpace word
@@ -76,7 +86,7 @@ strategy-no_space Buffer word is = subst HasNoSpace (sym is) (search arith)
 strategy-no_space (Drop room) word is = room-no_space (codes "DROP:") room word (search arith) is.0
 strategy-no_space (Latest room) word is = room-no_space (codes "LATEST:") room word (search arith) is.0
 
-room_read-number : (room : ℕ) (digits : List ℕ) → SpellsNumber room digits → room ≤ 1024 → room_read digits ≡ Ok room
+room_read-number : (room : ℕ) (digits : List ℕ) → SpellsNumber 32 room digits → room ≤ 1024 → room_read digits ≡ Ok room
 room_read-number room digits is few =
     let fits : nat_lt room 65536 ≡ true = grind (arith, nat_tests) in
     rw (number_read-number room digits is, fits) refl
@@ -165,6 +175,10 @@ join_words : (bytes : List ℕ) → words_read (codes "JOIN") bytes ≡ join_rea
 unfolding words_read
 join_words bytes = refl
 
+at_words : (bytes : List ℕ) → words_read (codes "AT") bytes ≡ (wide_number_read bytes >>= λ moment. Ok (At moment))
+unfolding words_read
+at_words bytes = refl
+
 request_words : (bytes : List ℕ) → words_read (codes "REQUEST") bytes ≡ request_read bytes
 unfolding words_read
 request_words bytes = refl
@@ -182,6 +196,8 @@ line_read-spelled line (Command (End name)) s few =
 line_read-spelled line (Command (Fail name text)) s few =
     line_read-words (codes "FAIL") (name ++ (32 ∷ text)) line s.words few refl refl ∙ fail_read (name ++ (32 ∷ text)) ∙ rw (named_text_read-text name text s.name_is s.text_is) refl
 line_read-spelled line (Command Quit) s few = ap line_read s ∙ quit_read
+line_read-spelled line (At moment) s few =
+    line_read-words (codes "AT") s.number line s.words few refl refl ∙ at_words s.number ∙ rw (wide_number_read-number moment s.number s.number_is) refl
 line_read-spelled line (Join name policy first) s few =
     let bytes = name ++ (32 ∷ (s.strategy ++ (32 ∷ (s.errors ++ (32 ∷ s.number))))) in
     line_read-words (codes "JOIN") bytes line s.words few refl refl ∙ join_words bytes ∙ join_read-words name policy first line s

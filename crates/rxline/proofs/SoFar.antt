@@ -3,97 +3,104 @@ use Rattle.std.proofs.Common.{◌≡◌, ℕ, Bool, true, false, cond, List, [],
 use Rattle.std.proofs.KnownBytes.{Appends-trans, Appends-nil, Consumes-trans, Consumes-nil}
 use Rattle.std.specs.Io.KnownBytes.{Consumes, Appends}
 use Rattle.rxline.specs.declared.line_state.LineState.{LineState}
+use Rattle.rxline.specs.declared.script.Script.{Script}
 use Rattle.rxline.specs.declared.session_end.SessionEnd.{SessionEnd}
 use Rattle.rxline.specs.declared.session_end.SessionEnd.TheVariants as ends
 use Rattle.rxline.specs.declared.topic.Topic.{Topic}
 use Rattle.rxline.specs.Bytes.{AppendsPrefix, Holds, Loses}
 use Rattle.rxline.specs.Lines.{HasNoLf, without_cr, lines_of, BeginsWithLine, TakesLine, TakesNoLine}
 use Rattle.rxline.specs.Reading.{line_read}
-use Rattle.rxline.specs.Scripts.{AllStand, Runs, Turns, TellsOn}
+use Rattle.rxline.specs.Scripts.{AllStand, Runs}
 use Rattle.rxline.specs.Steps.{unread}
-use Rattle.rxline.specs.Transcripts.{Subject, line_written, after_line, ends_script, transcript, has_end}
+use Rattle.rxline.specs.Tellings.{IsIn, Turns, TellsOn}
+use Rattle.rxline.specs.Transcripts.{Subject, State, new_state, line_written, after_line, ends_script, transcript, has_end}
 use Rattle.rxline.proofs.LinesOf.{lines_of-first, lines_of-taken, lines_of-none}
 use Rattle.rxline.proofs.Lfs.{HasNoLf-front}
 use Rattle.rxline.proofs.Written.{Prefix-behind, Prefix-more}
 
--- some bytes were read and some written; what was written and what is held is the transcript so far, which goes on over
--- the subjects as they are now and the bytes that are unread
-pub record SoFar (subjects : List Subject) (read_old read_now written_old written_now : Option (List ℕ)) (topics : List Topic) (rest held : List ℕ) : Type 0 where
+-- some bytes were read and some written; what was written and what is held is the transcript so far, which goes on from
+-- the state as it is now over the bytes that are unread
+pub record SoFar (subjects : List Subject) (read_old read_now written_old written_now : Option (List ℕ)) (script : Script) (rest : List ℕ) : Type 0 where
   pub read : List ℕ
   pub consumed : Consumes read_old read_now read
   pub written : List ℕ
   pub told : Appends written_old written_now written
-  pub now : List Subject
-  pub stand : AllStand topics now
+  pub now : State
+  pub is_in : IsIn script now
   pub goes_on : (marks : List Bool) (more : List ℕ)
-      → (all : List Bool) × (transcript subjects all (lines_of (read ++ more)) ≡ (written ++ held) ++ transcript now marks (lines_of (rest ++ more)))
+      → (all : List Bool) × (transcript (new_state subjects) all (lines_of (read ++ more)) ≡ (written ++ script.outbox) ++ transcript now marks (lines_of (rest ++ more)))
   pub ended : (more : List ℕ) → has_end (lines_of (read ++ more)) ≡ has_end (lines_of (rest ++ more))
 
 -- at first
-pub SoFar-begun : (subjects : List Subject) (read written : Option (List ℕ)) (topics : List Topic) (rest held : List ℕ)
-    → AllStand topics subjects → rest ≡ [] → held ≡ [] → SoFar subjects read read written written topics rest held
-SoFar-begun subjects read written topics rest held stand none nothing = record {
-  read = [];
-  consumed = Consumes-nil read;
-  written = [];
-  told = Appends-nil written;
-  now = subjects;
-  stand = stand;
-  goes_on = λ marks more.
-      (marks, ap (λ r. transcript subjects marks (lines_of (r ++ more))) (sym none) ∙ ap (λ h. h ++ transcript subjects marks (lines_of (rest ++ more))) (sym nothing));
-  ended = λ more. ap (λ r. has_end (lines_of (r ++ more))) (sym none);
-}
+pub SoFar-begun : (subjects : List Subject) (read written : Option (List ℕ)) (script : Script) (rest : List ℕ)
+    → IsIn script (new_state subjects) → rest ≡ [] → script.outbox ≡ [] → SoFar subjects read read written written script rest
+SoFar-begun subjects read written script rest is_in none nothing =
+    let first = new_state subjects in
+    record {
+      read = [];
+      consumed = Consumes-nil read;
+      written = [];
+      told = Appends-nil written;
+      now = first;
+      is_in = is_in;
+      goes_on = λ marks more.
+          (marks, ap (λ r. transcript first marks (lines_of (r ++ more))) (sym none) ∙ ap (λ h. h ++ transcript first marks (lines_of (rest ++ more))) (sym nothing));
+      ended = λ more. ap (λ r. has_end (lines_of (r ++ more))) (sym none);
+    }
 
 -- what was held was written, or a front of it
-pub SoFar-put : (subjects : List Subject) (read_old read_now w0 w1 w2 : Option (List ℕ)) (topics topics_after : List Topic) (rest rest_after held after : List ℕ)
-    → SoFar subjects read_old read_now w0 w1 topics rest held → topics_after ≡ topics → rest_after ≡ rest → Holds held after w1 w2 []
-    → SoFar subjects read_old read_now w0 w2 topics_after rest_after after
-SoFar-put subjects read_old read_now w0 w1 w2 topics topics_after rest rest_after held after h same_topics same_rest holds =
-    let same : (h.written ++ holds.written) ++ after ≡ h.written ++ held =
-    append_assoc h.written holds.written after ∙ ap (λ xs. h.written ++ xs) (holds.parts ∙ append-nil held) in
+pub SoFar-put : (subjects : List Subject) (read_old read_now w0 w1 w2 : Option (List ℕ)) (script after : Script) (rest rest_after : List ℕ)
+    → SoFar subjects read_old read_now w0 w1 script rest → after.topics.items ≡ script.topics.items → after.moment ≡ script.moment → rest_after ≡ rest
+    → Holds script.outbox after.outbox w1 w2 [] → SoFar subjects read_old read_now w0 w2 after rest_after
+SoFar-put subjects read_old read_now w0 w1 w2 script after rest rest_after h same_topics same_moment same_rest holds =
+    let same : (h.written ++ holds.written) ++ after.outbox ≡ h.written ++ script.outbox =
+    append_assoc h.written holds.written after.outbox ∙ ap (λ xs. h.written ++ xs) (holds.parts ∙ append-nil script.outbox) in
     record {
       read = h.read;
       consumed = h.consumed;
       written = h.written ++ holds.written;
       told = Appends-trans w0 w1 w2 h.written holds.written h.told holds.told;
       now = h.now;
-      stand = subst (λ (ts : List Topic). AllStand ts h.now) (sym same_topics) h.stand;
+      is_in = record {
+        subjects = subst (λ (ts : List Topic). AllStand ts h.now.subjects) (sym same_topics) h.is_in.subjects;
+        moment = same_moment ∙ h.is_in.moment;
+      };
       goes_on = λ marks more.
           let so = h.goes_on marks more in (
             so.0,
             so.1 ∙ ap (λ xs. xs ++ transcript h.now marks (lines_of (rest ++ more))) (sym same)
-                ∙ ap (λ r. ((h.written ++ holds.written) ++ after) ++ transcript h.now marks (lines_of (r ++ more))) (sym same_rest),
+                ∙ ap (λ r. ((h.written ++ holds.written) ++ after.outbox) ++ transcript h.now marks (lines_of (r ++ more))) (sym same_rest),
           );
       ended = λ more. h.ended more ∙ ap (λ r. has_end (lines_of (r ++ more))) (sym same_rest);
     }
 
 -- a line was told
-pub SoFar-line : (subjects : List Subject) (read_old read_now read_new w0 w1 w2 : Option (List ℕ)) (topics topics_after : List Topic) (rest rest_after held after : List ℕ)
-    → SoFar subjects read_old read_now w0 w1 topics rest held
-    → TakesLine read_now read_new rest rest_after (λ line. TellsOn None topics topics_after held after w1 w2 (line_read line))
-    → SoFar subjects read_old read_new w0 w2 topics_after rest_after after
-SoFar-line subjects read_old read_now read_new w0 w1 w2 topics topics_after rest rest_after held after h takes =
+pub SoFar-line : (subjects : List Subject) (read_old read_now read_new w0 w1 w2 : Option (List ℕ)) (script after : Script) (rest rest_after : List ℕ)
+    → SoFar subjects read_old read_now w0 w1 script rest
+    → TakesLine read_now read_new rest rest_after (λ line. TellsOn None script after w1 w2 (line_read line))
+    → SoFar subjects read_old read_new w0 w2 after rest_after
+SoFar-line subjects read_old read_now read_new w0 w1 w2 script after rest rest_after h takes =
     let read = takes.read in
     let line = without_cr takes.line in
-    let tells = takes.said h.now h.stand in
+    let tells = takes.said h.now h.is_in in
     let said = line_written h.now (line_read line) tells.0 in
     let now = after_line h.now (line_read line) tells.0 in
-    let done : (h.written ++ tells.1.written) ++ after ≡ (h.written ++ held) ++ said =
-    append_assoc h.written tells.1.written after ∙ ap (λ xs. h.written ++ xs) tells.1.parts ∙ sym (append_assoc h.written held said) in
+    let done : (h.written ++ tells.1.written) ++ after.outbox ≡ (h.written ++ script.outbox) ++ said =
+    append_assoc h.written tells.1.written after.outbox ∙ ap (λ xs. h.written ++ xs) tells.1.parts ∙ sym (append_assoc h.written script.outbox said) in
     record {
       read = h.read ++ read;
       consumed = Consumes-trans read_old read_now read_new h.read read h.consumed takes.told;
       written = h.written ++ tells.1.written;
       told = Appends-trans w0 w1 w2 h.written tells.1.written h.told tells.1.told;
       now = now;
-      stand = tells.3;
+      is_in = tells.3;
       goes_on = λ marks more.
           let so = h.goes_on (tells.0 ∷ marks) (read ++ more) in (
             so.0,
-            ap (λ xs. transcript subjects so.0 (lines_of xs)) (append_assoc h.read read more) ∙ so.1
-                ∙ ap (λ ls. (h.written ++ held) ++ transcript h.now (tells.0 ∷ marks) ls) (lines_of-taken rest read takes.line rest_after more takes.begins)
-                ∙ ap (λ b. (h.written ++ held) ++ (said ++ cond b [] (transcript now marks (lines_of (rest_after ++ more))))) tells.2
-                ∙ sym (append_assoc (h.written ++ held) said (transcript now marks (lines_of (rest_after ++ more))))
+            ap (λ xs. transcript (new_state subjects) so.0 (lines_of xs)) (append_assoc h.read read more) ∙ so.1
+                ∙ ap (λ ls. (h.written ++ script.outbox) ++ transcript h.now (tells.0 ∷ marks) ls) (lines_of-taken rest read takes.line rest_after more takes.begins)
+                ∙ ap (λ b. (h.written ++ script.outbox) ++ (said ++ cond b [] (transcript now marks (lines_of (rest_after ++ more))))) tells.2
+                ∙ sym (append_assoc (h.written ++ script.outbox) said (transcript now marks (lines_of (rest_after ++ more))))
                 ∙ ap (λ xs. xs ++ transcript now marks (lines_of (rest_after ++ more))) (sym done),
           );
       ended = λ more.
@@ -105,42 +112,42 @@ SoFar-line subjects read_old read_now read_new w0 w1 w2 topics topics_after rest
 -- THE END
 
 -- the writer faulted before the next line
-pub Runs-fault : (subjects : List Subject) (read_old read_now w0 w1 w2 : Option (List ℕ)) (topics : List Topic) (rest held after : List ℕ)
-    → SoFar subjects read_old read_now w0 w1 topics rest held → Loses held after w1 w2 [] → Runs subjects ends.WriteFault read_old read_now w0 w2
-Runs-fault subjects read_old read_now w0 w1 w2 topics rest held after h loses =
+pub Runs-fault : (subjects : List Subject) (read_old read_now w0 w1 w2 : Option (List ℕ)) (script : Script) (rest after : List ℕ)
+    → SoFar subjects read_old read_now w0 w1 script rest → Loses script.outbox after w1 w2 [] → Runs subjects ends.WriteFault read_old read_now w0 w2
+Runs-fault subjects read_old read_now w0 w1 w2 script rest after h loses =
     let so = h.goes_on [] [] in
-    let same : (h.written ++ held) ++ transcript h.now [] (lines_of (rest ++ [])) ≡ transcript subjects so.0 (lines_of h.read) =
-    sym so.1 ∙ ap (λ xs. transcript subjects so.0 (lines_of xs)) (append-nil h.read) in
-    let front : AppendsPrefix w1 w2 held = subst (λ (xs : List ℕ). AppendsPrefix w1 w2 xs) (append-nil held) loses.written in
+    let same : (h.written ++ script.outbox) ++ transcript h.now [] (lines_of (rest ++ [])) ≡ transcript (new_state subjects) so.0 (lines_of h.read) =
+    sym so.1 ∙ ap (λ xs. transcript (new_state subjects) so.0 (lines_of xs)) (append-nil h.read) in
+    let front : AppendsPrefix w1 w2 script.outbox = subst (λ (xs : List ℕ). AppendsPrefix w1 w2 xs) (append-nil script.outbox) loses.written in
     record {
       read = h.read;
       marks = so.0;
       consumed = h.consumed;
       written = subst (λ (xs : List ℕ). AppendsPrefix w0 w2 xs) same
-          (Prefix-more w0 w2 (h.written ++ held) (transcript h.now [] (lines_of (rest ++ []))) (Prefix-behind w0 w1 w2 h.written held h.told front));
+          (Prefix-more w0 w2 (h.written ++ script.outbox) (transcript h.now [] (lines_of (rest ++ []))) (Prefix-behind w0 w1 w2 h.written script.outbox h.told front));
       ends = tt;
     }
 
 -- the transcript of all that was read, where the last line was taken
-whole : (subjects : List Subject) (read_old read_now read_new w0 w1 : Option (List ℕ)) (topics : List Topic) (rest rest_after held : List ℕ)
-    → (h : SoFar subjects read_old read_now w0 w1 topics rest held) → (missed : Bool) (read line : List ℕ) → BeginsWithLine (rest ++ read) line rest_after
-    → (all : List Bool) × (transcript subjects all (lines_of (h.read ++ read))
-    ≡ (h.written ++ held) ++ (line_written h.now (line_read (without_cr line)) missed
+whole : (subjects : List Subject) (read_old read_now read_new w0 w1 : Option (List ℕ)) (script : Script) (rest rest_after : List ℕ)
+    → (h : SoFar subjects read_old read_now w0 w1 script rest) → (missed : Bool) (read line : List ℕ) → BeginsWithLine (rest ++ read) line rest_after
+    → (all : List Bool) × (transcript (new_state subjects) all (lines_of (h.read ++ read))
+    ≡ (h.written ++ script.outbox) ++ (line_written h.now (line_read (without_cr line)) missed
     ++ cond (ends_script (line_read (without_cr line))) [] (transcript (after_line h.now (line_read (without_cr line)) missed) [] (lines_of rest_after))))
-whole subjects read_old read_now read_new w0 w1 topics rest rest_after held h missed read line begins =
+whole subjects read_old read_now read_new w0 w1 script rest rest_after h missed read line begins =
     let so = h.goes_on (missed ∷ []) read in
-    (so.0, so.1 ∙ ap (λ ls. (h.written ++ held) ++ transcript h.now (missed ∷ []) ls) (lines_of-first (rest ++ read) line rest_after begins))
+    (so.0, so.1 ∙ ap (λ ls. (h.written ++ script.outbox) ++ transcript h.now (missed ∷ []) ls) (lines_of-first (rest ++ read) line rest_after begins))
 
 -- no line was left
-none_left : (subjects : List Subject) (read_old read_now read_new w0 w1 w2 : Option (List ℕ)) (topics : List Topic) (rest held : List ℕ)
-    → (h : SoFar subjects read_old read_now w0 w1 topics rest held) → (takes : TakesNoLine read_now read_new rest) → w2 ≡ w1 → (HasNoLf rest → held ≡ [])
-    → (all : List Bool) × Appends w0 w2 (transcript subjects all (lines_of (h.read ++ takes.read))) × (has_end (lines_of (h.read ++ takes.read)) ≡ false)
-none_left subjects read_old read_now read_new w0 w1 w2 topics rest held h takes same empty =
+none_left : (subjects : List Subject) (read_old read_now read_new w0 w1 w2 : Option (List ℕ)) (script : Script) (rest : List ℕ)
+    → (h : SoFar subjects read_old read_now w0 w1 script rest) → (takes : TakesNoLine read_now read_new rest) → w2 ≡ w1 → (HasNoLf rest → script.outbox ≡ [])
+    → (all : List Bool) × Appends w0 w2 (transcript (new_state subjects) all (lines_of (h.read ++ takes.read))) × (has_end (lines_of (h.read ++ takes.read)) ≡ false)
+none_left subjects read_old read_now read_new w0 w1 w2 script rest h takes same empty =
     let so = h.goes_on [] takes.read in
-    let nothing : held ≡ [] = empty (HasNoLf-front rest takes.read takes.none) in
-    let done : transcript subjects so.0 (lines_of (h.read ++ takes.read)) ≡ h.written =
-    so.1 ∙ ap (λ ls. (h.written ++ held) ++ transcript h.now [] ls) (lines_of-none (rest ++ takes.read) takes.none)
-    ∙ append-nil (h.written ++ held) ∙ ap (λ xs. h.written ++ xs) nothing ∙ append-nil h.written in
+    let nothing : script.outbox ≡ [] = empty (HasNoLf-front rest takes.read takes.none) in
+    let done : transcript (new_state subjects) so.0 (lines_of (h.read ++ takes.read)) ≡ h.written =
+    so.1 ∙ ap (λ ls. (h.written ++ script.outbox) ++ transcript h.now [] ls) (lines_of-none (rest ++ takes.read) takes.none)
+    ∙ append-nil (h.written ++ script.outbox) ∙ ap (λ xs. h.written ++ xs) nothing ∙ append-nil h.written in
     let told : Appends w0 w2 h.written = subst (λ (w : Option (List ℕ)). Appends w0 w h.written) (sym same) h.told in (
       so.0,
       subst (λ (xs : List ℕ). Appends w0 w2 xs) (sym done) told,
@@ -148,26 +155,26 @@ none_left subjects read_old read_now read_new w0 w1 w2 topics rest held h takes 
     )
 
 -- the script ended by a turn
-pub Runs-end : (end : SessionEnd) (subjects : List Subject) (read_old read_now read_new w0 w1 w2 : Option (List ℕ)) (topics topics_after : List Topic) (held after : List ℕ) (before later : LineState)
-    → SoFar subjects read_old read_now w0 w1 topics (unread before) held → (HasNoLf (unread before) → held ≡ [])
-    → Turns (Some end) topics topics_after held after w1 w2 read_now read_new before later → Runs subjects end read_old read_new w0 w2
-Runs-end ends.Quit subjects read_old read_now read_new w0 w1 w2 topics topics_after held after before later h empty takes =
-    let tells = takes.said h.now h.stand in
+pub Runs-end : (end : SessionEnd) (subjects : List Subject) (read_old read_now read_new w0 w1 w2 : Option (List ℕ)) (script after : Script) (before later : LineState)
+    → SoFar subjects read_old read_now w0 w1 script (unread before) → (HasNoLf (unread before) → script.outbox ≡ [])
+    → Turns (Some end) script after w1 w2 read_now read_new before later → Runs subjects end read_old read_new w0 w2
+Runs-end ends.Quit subjects read_old read_now read_new w0 w1 w2 script after before later h empty takes =
+    let tells = takes.said h.now h.is_in in
     let said = line_written h.now (line_read (without_cr takes.line)) tells.0 in
-    let all = whole subjects read_old read_now read_new w0 w1 topics (unread before) (unread later) held h tells.0 takes.read takes.line takes.begins in
-    let done : h.written ++ (held ++ said) ≡ transcript subjects all.0 (lines_of (h.read ++ takes.read)) =
-    sym (append_assoc h.written held said) ∙ ap (λ xs. (h.written ++ held) ++ xs) (sym (append-nil said))
-    ∙ sym (all.1 ∙ ap (λ b. (h.written ++ held) ++ (said ++ cond b [] (transcript (after_line h.now (line_read (without_cr takes.line)) tells.0) [] (lines_of (unread later))))) tells.2) in
+    let all = whole subjects read_old read_now read_new w0 w1 script (unread before) (unread later) h tells.0 takes.read takes.line takes.begins in
+    let done : h.written ++ (script.outbox ++ said) ≡ transcript (new_state subjects) all.0 (lines_of (h.read ++ takes.read)) =
+    sym (append_assoc h.written script.outbox said) ∙ ap (λ xs. (h.written ++ script.outbox) ++ xs) (sym (append-nil said))
+    ∙ sym (all.1 ∙ ap (λ b. (h.written ++ script.outbox) ++ (said ++ cond b [] (transcript (after_line h.now (line_read (without_cr takes.line)) tells.0) [] (lines_of (unread later))))) tells.2) in
     record {
       read = h.read ++ takes.read;
       marks = all.0;
       consumed = Consumes-trans read_old read_now read_new h.read takes.read h.consumed takes.told;
-      written = subst (λ (xs : List ℕ). Appends w0 w2 xs) done (Appends-trans w0 w1 w2 h.written (held ++ said) h.told tells.1);
+      written = subst (λ (xs : List ℕ). Appends w0 w2 xs) done (Appends-trans w0 w1 w2 h.written (script.outbox ++ said) h.told tells.1);
       ends = h.ended takes.read ∙ ap has_end (lines_of-first (unread before ++ takes.read) takes.line (unread later) takes.begins)
           ∙ ap (λ b. cond b true (has_end (lines_of (unread later)))) tells.2;
     }
-Runs-end ends.EndOfInput subjects read_old read_now read_new w0 w1 w2 topics topics_after held after before later h empty takes =
-    let left = none_left subjects read_old read_now read_new w0 w1 w2 topics (unread before) held h takes.0 takes.2 empty in
+Runs-end ends.EndOfInput subjects read_old read_now read_new w0 w1 w2 script after before later h empty takes =
+    let left = none_left subjects read_old read_now read_new w0 w1 w2 script (unread before) h takes.0 takes.2 empty in
     record {
       read = h.read ++ takes.0.read;
       marks = left.0;
@@ -175,8 +182,8 @@ Runs-end ends.EndOfInput subjects read_old read_now read_new w0 w1 w2 topics top
       written = left.1;
       ends = (left.2, takes.1);
     }
-Runs-end ends.ReadFault subjects read_old read_now read_new w0 w1 w2 topics topics_after held after before later h empty takes =
-    let left = none_left subjects read_old read_now read_new w0 w1 w2 topics (unread before) held h takes.0 takes.1 empty in
+Runs-end ends.ReadFault subjects read_old read_now read_new w0 w1 w2 script after before later h empty takes =
+    let left = none_left subjects read_old read_now read_new w0 w1 w2 script (unread before) h takes.0 takes.1 empty in
     record {
       read = h.read ++ takes.0.read;
       marks = left.0;
@@ -184,23 +191,23 @@ Runs-end ends.ReadFault subjects read_old read_now read_new w0 w1 w2 topics topi
       written = left.1;
       ends = left.2;
     }
-Runs-end ends.WriteFault subjects read_old read_now read_new w0 w1 w2 topics topics_after held after before later h empty takes =
-    let tells = takes.said h.now h.stand in
+Runs-end ends.WriteFault subjects read_old read_now read_new w0 w1 w2 script after before later h empty takes =
+    let tells = takes.said h.now h.is_in in
     let said = line_written h.now (line_read (without_cr takes.line)) tells.0 in
     let then = cond (ends_script (line_read (without_cr takes.line))) [] (transcript (after_line h.now (line_read (without_cr takes.line)) tells.0) [] (lines_of (unread later))) in
-    let all = whole subjects read_old read_now read_new w0 w1 topics (unread before) (unread later) held h tells.0 takes.read takes.line takes.begins in
-    let done : (h.written ++ (held ++ said)) ++ then ≡ transcript subjects all.0 (lines_of (h.read ++ takes.read)) =
-    ap (λ xs. xs ++ then) (sym (append_assoc h.written held said)) ∙ append_assoc (h.written ++ held) said then ∙ sym all.1 in
+    let all = whole subjects read_old read_now read_new w0 w1 script (unread before) (unread later) h tells.0 takes.read takes.line takes.begins in
+    let done : (h.written ++ (script.outbox ++ said)) ++ then ≡ transcript (new_state subjects) all.0 (lines_of (h.read ++ takes.read)) =
+    ap (λ xs. xs ++ then) (sym (append_assoc h.written script.outbox said)) ∙ append_assoc (h.written ++ script.outbox) said then ∙ sym all.1 in
     record {
       read = h.read ++ takes.read;
       marks = all.0;
       consumed = Consumes-trans read_old read_now read_new h.read takes.read h.consumed takes.told;
       written = subst (λ (xs : List ℕ). AppendsPrefix w0 w2 xs) done
-          (Prefix-more w0 w2 (h.written ++ (held ++ said)) then (Prefix-behind w0 w1 w2 h.written (held ++ said) h.told tells.1));
+          (Prefix-more w0 w2 (h.written ++ (script.outbox ++ said)) then (Prefix-behind w0 w1 w2 h.written (script.outbox ++ said) h.told tells.1));
       ends = tt;
     }
-Runs-end ends.TooManyReads subjects read_old read_now read_new w0 w1 w2 topics topics_after held after before later h empty takes =
-    let left = none_left subjects read_old read_now read_new w0 w1 w2 topics (unread before) held h takes.0 takes.1 empty in
+Runs-end ends.TooManyReads subjects read_old read_now read_new w0 w1 w2 script after before later h empty takes =
+    let left = none_left subjects read_old read_now read_new w0 w1 w2 script (unread before) h takes.0 takes.1 empty in
     record {
       read = h.read ++ takes.0.read;
       marks = left.0;

@@ -13,12 +13,12 @@ use Rattle.rx_note.specs.declared.errors.Errors.TheVariants.{Delay}
 use Rattle.rxline.specs.Grammar.{IsText, IsDigit, value_behind, SpellsNumber, SpellsRoom, SpellsStrategy, SpellsErrors, Spells, HasLongText, IsLong}
 use Rattle.rxline.specs.Lines.{HasNoLf}
 use Rattle.rxline.specs.Names.{IsName}
-use Rattle.rxline.specs.Reading.{◌>>=◌, cut_read, same_word, begins_with, rest_behind, name_read, named_read, text_read, is_digit, digits_read, number_read, room_read, strategy_read, errors_read, policy_read, named_text_read, join_read, request_read, words_read, line_read}
+use Rattle.rxline.specs.Reading.{◌>>=◌, cut_read, same_word, begins_with, rest_behind, name_read, named_read, text_read, is_digit, digits_read, wide_number_read, number_read, room_read, strategy_read, errors_read, policy_read, named_text_read, join_read, request_read, words_read, line_read}
 use Rattle.rxline.specs.declared.command.Command.TheVariants.{Pub, End, Fail}
 use Rattle.rxline.specs.declared.line_error.BadLine.{BadLine}
 use Rattle.rxline.specs.declared.line_error.BadLine.TheVariants.{Long, Syntax}
 use Rattle.rxline.specs.declared.script_line.ScriptLine.{ScriptLine}
-use Rattle.rxline.specs.declared.script_line.ScriptLine.TheVariants.{Command}
+use Rattle.rxline.specs.declared.script_line.ScriptLine.TheVariants.{Command, At}
 use Rattle.rxline.proofs.NameTests.{is_name, is_name-decides}
 
 -- what a reading says: P of a value, and Q where it refuses as too long
@@ -101,24 +101,36 @@ sizes-decides digits = (λ are. grind (arith, nat_tests), λ are. grind (arith, 
 
 -- what digits spell
 abbrev pub IsValue : ℕ → List ℕ → ℕ → Type 0
-IsValue value digits n = AllByRecursion IsDigit digits × (value_behind value digits ≡ n) × (n < 2 ^ 32)
+IsValue value digits n = AllByRecursion IsDigit digits × (value_behind value digits ≡ n) × (n < 2 ^ 64)
 
 digits_says : (value : ℕ) (digits : List ℕ) → Says (digits_read value digits) (IsValue value digits) ⊥
-digits_says value [] = Says-test (nat_lt value 4294967296) (Ok value) (Err Syntax) (IsValue value []) ⊥ (λ fits. (tt, refl, grind (arith, nat_tests))) (λ _. tt)
+digits_says value [] = Says-test (nat_lt value 18446744073709551616) (Ok value) (Err Syntax) (IsValue value []) ⊥ (λ fits. (tt, refl, grind (arith, nat_tests))) (λ _. tt)
 digits_says value (digit ∷ digits) =
     let next = value * 10 + (digit - 48) in
     Says-test (is_digit digit) (digits_read next digits) (Err Syntax) (IsValue value (digit ∷ digits)) ⊥
     (λ is. Says-weaker (digits_read next digits) (IsValue next digits) (IsValue value (digit ∷ digits)) ⊥ (digits_says next digits) (λ n h. (((is_digit-decides digit).0 is, h.0), h.1, h.2)))
     (λ _. tt)
 
-pub number_says : (digits : List ℕ) → Says (number_read digits) (λ n. SpellsNumber n digits) ⊥
-unfolding number_read
-number_says digits =
-    Says-test (nat_le 1 (length digits) && nat_le (length digits) 20) (digits_read 0 digits) (Err Syntax) (λ n. SpellsNumber n digits) ⊥
+pub wide_number_says : (digits : List ℕ) → Says (wide_number_read digits) (λ n. SpellsNumber 64 n digits) ⊥
+unfolding wide_number_read
+wide_number_says digits =
+    Says-test (nat_le 1 (length digits) && nat_le (length digits) 20) (digits_read 0 digits) (Err Syntax) (λ n. SpellsNumber 64 n digits) ⊥
     (λ sizes. let both = (sizes-decides digits).0 sizes in
-    Says-weaker (digits_read 0 digits) (IsValue 0 digits) (λ n. SpellsNumber n digits) ⊥ (digits_says 0 digits)
+    Says-weaker (digits_read 0 digits) (IsValue 0 digits) (λ n. SpellsNumber 64 n digits) ⊥ (digits_says 0 digits)
     (λ n h. record { some = both.0; few = both.1; each = h.0; value = h.1; fits = h.2 }))
     (λ _. tt)
+
+-- a number that has fewer bits
+narrow : (n : ℕ) (digits : List ℕ) → SpellsNumber 64 n digits → nat_lt n 4294967296 ≡ true → SpellsNumber 32 n digits
+narrow n digits is less = record { some = is.some; few = is.few; each = is.each; value = is.value; fits = grind (arith, nat_tests) }
+
+pub number_says : (digits : List ℕ) → Says (number_read digits) (λ n. SpellsNumber 32 n digits) ⊥
+unfolding number_read
+number_says digits =
+    let Goal : ℕ → Type 0 = λ n. SpellsNumber 32 n digits in
+    Says-then (wide_number_read digits) _ (λ n. SpellsNumber 64 n digits) ⊥ Goal ⊥ (wide_number_says digits)
+    (λ n is. Says-test (nat_lt n 4294967296) (Ok n) (Err Syntax) Goal ⊥ (narrow n digits is) (λ _. tt))
+    (λ never. never)
 
 -- the words of a policy
 pub record IsPolicy (strategy errors : List ℕ) (policy : Choice) : Type 0 where
@@ -130,9 +142,9 @@ begins : (word this : List ℕ) → begins_with word this ≡ true → word ≡ 
 begins word this is =
     sym (take-append-drop (length this) word) ∙ ap (λ front. front ++ rest_behind word this) (word_is (take (length this) word) this is)
 
-room_says : (digits : List ℕ) → Says (room_read digits) (λ room. SpellsNumber room digits) ⊥
+room_says : (digits : List ℕ) → Says (room_read digits) (λ room. SpellsNumber 32 room digits) ⊥
 room_says digits =
-    let Goal : ℕ → Type 0 = λ room. SpellsNumber room digits in
+    let Goal : ℕ → Type 0 = λ room. SpellsNumber 32 room digits in
     Says-then (number_read digits) _ Goal ⊥ Goal ⊥ (number_says digits)
     (λ room is. Says-test (nat_lt room 65536) (Ok room) (Err Syntax) Goal ⊥ (λ _. is) (λ _. tt))
     (λ never. never)
@@ -141,7 +153,7 @@ room_says digits =
 named_room_says : (word name : List ℕ) → begins_with word name ≡ true → Says (room_read (rest_behind word name)) (λ room. SpellsRoom name room word) ⊥
 named_room_says word name is =
     let digits = rest_behind word name in
-    Says-weaker (room_read digits) (λ room. SpellsNumber room digits) (λ room. SpellsRoom name room word) ⊥ (room_says digits)
+    Says-weaker (room_read digits) (λ room. SpellsNumber 32 room digits) (λ room. SpellsRoom name room word) ⊥ (room_says digits)
     (λ room number. record { digits = digits; number_is = number; parts = begins word name is })
 
 -- the word of a strategy, with any room
@@ -210,7 +222,7 @@ join_says bytes =
     (λ named is. Says-then (cut_read named.1) _ (λ p. named.1 ≡ p.0 ++ (32 ∷ p.1)) ⊥ Goal ⊥ (cut_says named.1)
     (λ strategy at. Says-then (cut_read strategy.1) _ (λ p. strategy.1 ≡ p.0 ++ (32 ∷ p.1)) ⊥ Goal ⊥ (cut_says strategy.1)
     (λ errors behind. Says-then (policy_read strategy.0 errors.0) _ (IsPolicy strategy.0 errors.0) ⊥ Goal ⊥ (policy_says strategy.0 errors.0)
-    (λ policy chosen. Says-then (number_read errors.1) _ (λ n. SpellsNumber n errors.1) ⊥ Goal ⊥ (number_says errors.1)
+    (λ policy chosen. Says-then (number_read errors.1) _ (λ n. SpellsNumber 32 n errors.1) ⊥ Goal ⊥ (number_says errors.1)
     (λ first number. record {
       strategy = strategy.0;
       errors = errors.0;
@@ -233,8 +245,8 @@ request_says bytes =
     let Goal : ScriptLine → Type 0 = Behind (codes "REQUEST") bytes in
     Says-then (named_read bytes) _ (IsNamed bytes) ⊥ Goal ⊥ (named_says bytes)
     (λ named is. Says-then (cut_read named.1) _ (λ p. named.1 ≡ p.0 ++ (32 ∷ p.1)) ⊥ Goal ⊥ (cut_says named.1)
-    (λ parts at. Says-then (number_read parts.0) _ (λ n. SpellsNumber n parts.0) ⊥ Goal ⊥ (number_says parts.0)
-    (λ who observer. Says-then (number_read parts.1) _ (λ n. SpellsNumber n parts.1) ⊥ Goal ⊥ (number_says parts.1)
+    (λ parts at. Says-then (number_read parts.0) _ (λ n. SpellsNumber 32 n parts.0) ⊥ Goal ⊥ (number_says parts.0)
+    (λ who observer. Says-then (number_read parts.1) _ (λ n. SpellsNumber 32 n parts.1) ⊥ Goal ⊥ (number_says parts.1)
     (λ n items. record {
       observer = parts.0;
       items = parts.1;
@@ -283,6 +295,10 @@ words_says command bytes =
     (long_text command (codes "PUB") bytes this (inl refl)))
     (λ _. Says-test (same_word command (codes "REQUEST")) _ _ Goal Long_one
     (λ is. at_command command (codes "REQUEST") bytes (word_is command (codes "REQUEST") is) (request_read bytes) (request_says bytes))
+    (λ _. Says-test (same_word command (codes "AT")) _ _ Goal Long_one
+    (λ is. let this = word_is command (codes "AT") is in
+    Says-then (wide_number_read bytes) (λ moment. Ok (At moment)) (λ n. SpellsNumber 64 n bytes) ⊥ Goal Long_one (wide_number_says bytes)
+    (λ moment number. record { number = bytes; number_is = number; words = as_this command (codes "AT") bytes bytes this refl }) (λ never. absurd never))
     (λ _. Says-test (same_word command (codes "JOIN")) _ _ Goal Long_one
     (λ is. at_command command (codes "JOIN") bytes (word_is command (codes "JOIN") is) (join_read bytes) (join_says bytes))
     (λ _. Says-test (same_word command (codes "END")) _ _ Goal Long_one
@@ -294,7 +310,7 @@ words_says command bytes =
     Says-then (named_text_read bytes) (λ p. Ok (Command (Fail p.0 p.1))) (IsNamedText bytes) (IsNamedLong bytes) Goal Long_one (named_text_says bytes)
     (λ p h. record { name_is = h.0; text_is = h.1; words = as_this command (codes "FAIL") bytes (p.0 ++ (32 ∷ p.1)) this h.2 })
     (long_text command (codes "FAIL") bytes this (inr refl)))
-    (λ _. tt)))))
+    (λ _. tt))))))
 
 -- what is read of a line
 abbrev pub IsRead : List ℕ → ScriptLine → Type 0

@@ -1,12 +1,15 @@
--- Topics that stand for subjects, and the one of a name.
-use Rattle.std.proofs.Common.{◌≡◌, ℕ, zero, suc, ◌<◌, Bool, true, false, cond, List, [], ◌∷◌, ◌++◌, length, get_or, set, ◌&&◌, ◌||◌, None, Some, Result, Ok, Err, IfOk, MatchResult, position, refl, sym, ap, subst, ◌∙◌, arith}
+-- Topics that stand for subjects, the one of a name, and the state of a run.
+use Rattle.std.proofs.Common.{◌≡◌, ℕ, zero, suc, ◌<◌, Bool, true, false, cond, List, [], ◌∷◌, ◌++◌, length, get_or, set, None, Some, Result, Ok, Err, IfOk, MatchResult, position, refl, sym, ap, subst, ◌∙◌, arith}
 use Rattle.std.proofs.lemmas.List.Quantifiers.{position-Some}
 use Rattle.rx_note.specs.declared.event.Event.{Event}
 use Rattle.rx_hub.proofs.Positions.{position-None}
+use Rattle.rxline.specs.declared.asked.Asked.TheVariants as asked
+use Rattle.rxline.specs.declared.script.Script.{Script}
 use Rattle.rxline.specs.declared.topic.Topic.{Topic}
 use Rattle.rxline.specs.Reading.{same_word}
 use Rattle.rxline.specs.Scripts.{Stands, AllStand}
-use Rattle.rxline.specs.Transcripts.{Subject, subject_of, taking, all_taking}
+use Rattle.rxline.specs.Tellings.{IsIn}
+use Rattle.rxline.specs.Transcripts.{Subject, State, subject_of, taking, all_taking, after_asked}
 
 -- one topic more
 pub AllStand-push : (topics : List Topic) (subjects : List Subject) (topic : Topic) (subject : Subject)
@@ -85,20 +88,31 @@ pub some_topic : (topics : List Topic) (place : ℕ) → place < length topics �
 some_topic [] place lt = absurd (omega arith)
 some_topic (topic ∷ topics) place lt = topic
 
--- the topics after an event, which may have met want of memory
-pub stands_after : (topics : List Topic) (subjects : List Subject) (name : List ℕ) (place : ℕ) (d : Topic) (event : Event) (missed : Bool) (topic : Topic)
-    → (f : IsFound topics subjects name place d) → Stands topic (cond missed f.subject (taking f.subject event))
-    → AllStand (set topics place topic) (cond missed subjects (all_taking subjects name event))
-stands_after topics subjects name place d event true topic f one = f.keeps topic one
-stands_after topics subjects name place d event false topic f one = f.takes topic event one
+-- the run after an event, which may have met want of memory
+pub IsIn-after : (script after : Script) (state : State) (name : List ℕ) (place : ℕ) (d : Topic) (event : Event) (missed : Bool) (topic : Topic)
+    → IsIn script state → (f : IsFound script.topics.items state.subjects name place d)
+    → after.topics.items ≡ set script.topics.items place topic → after.moment ≡ script.moment
+    → Stands topic (cond missed f.subject (taking f.subject event)) → IsIn after (cond missed state (after_asked state (asked.Event name event)))
+IsIn-after script after state name place d event true topic is_in f topics moment one = record {
+  subjects = subst (λ (ts : List Topic). AllStand ts state.subjects) (sym topics) (f.keeps topic one);
+  moment = moment ∙ is_in.moment;
+}
+IsIn-after script after state name place d event false topic is_in f topics moment one = record {
+  subjects = subst (λ (ts : List Topic). AllStand ts (all_taking state.subjects name event)) (sym topics) (f.takes topic event one);
+  moment = moment ∙ is_in.moment;
+}
+
+-- the run after an event of a subject that nobody knows
+pub IsIn-unknown : (script after : Script) (state : State) (name : List ℕ) (event : Event)
+    → IsIn script state → all_taking state.subjects name event ≡ state.subjects → after.topics.items ≡ script.topics.items → after.moment ≡ script.moment
+    → IsIn after (after_asked state (asked.Event name event))
+IsIn-unknown script after state name event is_in none topics moment = record {
+  subjects = subst (λ (ts : List Topic). AllStand ts (all_taking state.subjects name event)) (sym topics)
+      (subst (λ (ss : List Subject). AllStand script.topics.items ss) (sym none) is_in.subjects);
+  moment = moment ∙ is_in.moment;
+}
 
 -- what holds at Ok
 pub match_ok : {T E : Type 0} (result : Result T E) (P Q : T → Type 0) → IfOk result P → ((x : T) → P x → Q x) → MatchResult result Q (λ _. Unit {0})
 match_ok (Ok x) P Q one then = then x one
 match_ok (Err e) P Q one then = tt
-
--- a line that meets want of memory only where its event is accepted
-pub misses_is : (missed text accepted : Bool) → (missed ≡ true → accepted ≡ true) → (missed && (text || accepted)) ≡ missed
-misses_is false text accepted only = refl
-misses_is true true accepted only = refl
-misses_is true false accepted only = only refl

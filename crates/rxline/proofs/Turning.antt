@@ -7,21 +7,21 @@ use Rattle.rxline.specs.declared.input_end.InputEnd.{InputEnd}
 use Rattle.rxline.specs.declared.line_error.BadLine.{BadLine}
 use Rattle.rxline.specs.declared.line_error.BadLine.TheVariants.{Long}
 use Rattle.rxline.specs.declared.line_state.LineState.{LineState}
+use Rattle.rxline.specs.declared.script.Script.{Script}
 use Rattle.rxline.specs.declared.script_line.ScriptLine.{ScriptLine}
 use Rattle.rxline.specs.declared.session_end.SessionEnd.{SessionEnd}
 use Rattle.rxline.specs.declared.session_end.SessionEnd.TheVariants as ends
 use Rattle.rxline.specs.declared.step.Step.{Step}
 use Rattle.rxline.specs.declared.told.Told.{Told}
 use Rattle.rxline.specs.declared.told.Told.TheVariants as told
-use Rattle.rxline.specs.declared.topic.Topic.{Topic}
 use Rattle.rxline.specs.Bytes.{AppendsPrefix, Holds}
 use Rattle.rxline.specs.Lines.{TakesLine, without_cr}
 use Rattle.rxline.specs.Reading.{line_read, same_word, cut_read, words_read, ◌>>=◌}
 use Rattle.rxline.specs.declared.script_line.ScriptLine.TheVariants.{Command}
 use Rattle.rxline.specs.declared.command.Command.TheVariants.{Quit}
-use Rattle.rxline.specs.Scripts.{AllStand, Quits, TellsOn, Turns, is_last}
 use Rattle.rxline.specs.Steps.{unread, GoesOn, Goes, Advances}
-use Rattle.rxline.specs.Transcripts.{Subject, line_written, after_line, ends_script}
+use Rattle.rxline.specs.Tellings.{IsIn, Quits, TellsOn, Turns, is_last}
+use Rattle.rxline.specs.Transcripts.{State, line_written, after_line, ends_script}
 use Rattle.rxline.proofs.Written.{Prefix-behind}
 
 -- what was held and then written is what was put
@@ -30,19 +30,19 @@ appended old mid new held then bytes holds all =
     subst (λ (xs : List ℕ). Appends old new xs) holds.parts (Appends-trans old mid new holds.written then holds.told all)
 
 -- a script that said so ends
-pub quit_tells : (end : SessionEnd) (topics mid_topics topics_after : List Topic) (held then held_after : List ℕ) (old mid new : Option (List ℕ)) (line : Result ScriptLine BadLine) (t : Told)
-    → t ≡ told.Quit → Quits end mid new then
-    → ((subjects : List Subject) → AllStand topics subjects → (missed : Bool) × Holds held then old mid (line_written subjects line missed)
-    × ((is_last t ≡ ends_script line) × AllStand mid_topics (after_line subjects line missed)))
-    → TellsOn (Some end) topics topics_after held held_after old new line
-quit_tells ends.Quit topics mid_topics topics_after held then held_after old mid new line t is all tells = λ subjects stand.
-    let one = tells subjects stand in (one.0, appended old mid new held then (line_written subjects line one.0) one.1 all, sym one.2.0 ∙ ap is_last is)
-quit_tells ends.EndOfInput topics mid_topics topics_after held then held_after old mid new line t is all tells = absurd all
-quit_tells ends.ReadFault topics mid_topics topics_after held then held_after old mid new line t is all tells = absurd all
-quit_tells ends.WriteFault topics mid_topics topics_after held then held_after old mid new line t is all tells = λ subjects stand.
-    let one = tells subjects stand in
-    (one.0, subst (λ (xs : List ℕ). AppendsPrefix old new xs) one.1.parts (Prefix-behind old mid new one.1.written then one.1.told all))
-quit_tells ends.TooManyReads topics mid_topics topics_after held then held_after old mid new line t is all tells = absurd all
+pub quit_tells : (end : SessionEnd) (before mid after : Script) (old now new : Option (List ℕ)) (line : Result ScriptLine BadLine) (t : Told)
+    → t ≡ told.Quit → Quits end now new mid.outbox
+    → ((state : State) → IsIn before state → (missed : Bool) × Holds before.outbox mid.outbox old now (line_written state line missed)
+    × ((is_last t ≡ ends_script line) × IsIn mid (after_line state line missed)))
+    → TellsOn (Some end) before after old new line
+quit_tells ends.Quit before mid after old now new line t is all tells = λ state is_in.
+    let one = tells state is_in in (one.0, appended old now new before.outbox mid.outbox (line_written state line one.0) one.1 all, sym one.2.0 ∙ ap is_last is)
+quit_tells ends.EndOfInput before mid after old now new line t is all tells = absurd all
+quit_tells ends.ReadFault before mid after old now new line t is all tells = absurd all
+quit_tells ends.WriteFault before mid after old now new line t is all tells = λ state is_in.
+    let one = tells state is_in in
+    (one.0, subst (λ (xs : List ℕ). AppendsPrefix old new xs) one.1.parts (Prefix-behind old now new one.1.written mid.outbox one.1.told all))
+quit_tells ends.TooManyReads before mid after old now new line t is all tells = absurd all
 
 none_match : (o : Option InputEnd) (P : Type 0) (Q : InputEnd → Type 0) → o ≡ None → MatchOption o P Q → P
 none_match None P Q e m = m
@@ -65,21 +65,21 @@ taken read_old read_new before after says then so takes =
     record { read = takes.read; line = takes.line; told = takes.told; begins = takes.begins; said = so (without_cr takes.line) takes.said }
 
 -- a line that was taken is told
-pub turned : (result : Option SessionEnd) (topics topics_after : List Topic) (held held_after : List ℕ) (old new read_old read_new : Option (List ℕ)) (before after : LineState)
+pub turned : (result : Option SessionEnd) (before after : Script) (old new read_old read_new : Option (List ℕ)) (lines lines_after : LineState)
     (reading : Result ScriptLine BadLine) (says : List ℕ → Type 0)
-    → ((line : List ℕ) → says line → line_read line ≡ reading) → TakesLine read_old read_new (unread before) (unread after) says → GoesOn before after
-    → TellsOn result topics topics_after held held_after old new reading → Turns result topics topics_after held held_after old new read_old read_new before after
-turned None topics topics_after held held_after old new read_old read_new before after reading says so takes goes_on tells = (
-  taken read_old read_new (unread before) (unread after) says (λ line. TellsOn None topics topics_after held held_after old new (line_read line))
-      (λ line said. subst (λ (r : Result ScriptLine BadLine). TellsOn None topics topics_after held held_after old new r) (sym (so line said)) tells) takes,
+    → ((line : List ℕ) → says line → line_read line ≡ reading) → TakesLine read_old read_new (unread lines) (unread lines_after) says → GoesOn lines lines_after
+    → TellsOn result before after old new reading → Turns result before after old new read_old read_new lines lines_after
+turned None before after old new read_old read_new lines lines_after reading says so takes goes_on tells = (
+  taken read_old read_new (unread lines) (unread lines_after) says (λ line. TellsOn None before after old new (line_read line))
+      (λ line said. subst (λ (r : Result ScriptLine BadLine). TellsOn None before after old new r) (sym (so line said)) tells) takes,
   goes_on,
 )
-turned (Some ends.Quit) topics topics_after held held_after old new read_old read_new before after reading says so takes goes_on tells =
-    taken read_old read_new (unread before) (unread after) says (λ line. TellsOn (Some ends.Quit) topics topics_after held held_after old new (line_read line))
-    (λ line said. subst (λ (r : Result ScriptLine BadLine). TellsOn (Some ends.Quit) topics topics_after held held_after old new r) (sym (so line said)) tells) takes
-turned (Some ends.EndOfInput) topics topics_after held held_after old new read_old read_new before after reading says so takes goes_on tells = absurd tells
-turned (Some ends.ReadFault) topics topics_after held held_after old new read_old read_new before after reading says so takes goes_on tells = absurd tells
-turned (Some ends.WriteFault) topics topics_after held held_after old new read_old read_new before after reading says so takes goes_on tells =
-    taken read_old read_new (unread before) (unread after) says (λ line. TellsOn (Some ends.WriteFault) topics topics_after held held_after old new (line_read line))
-    (λ line said. subst (λ (r : Result ScriptLine BadLine). TellsOn (Some ends.WriteFault) topics topics_after held held_after old new r) (sym (so line said)) tells) takes
-turned (Some ends.TooManyReads) topics topics_after held held_after old new read_old read_new before after reading says so takes goes_on tells = absurd tells
+turned (Some ends.Quit) before after old new read_old read_new lines lines_after reading says so takes goes_on tells =
+    taken read_old read_new (unread lines) (unread lines_after) says (λ line. TellsOn (Some ends.Quit) before after old new (line_read line))
+    (λ line said. subst (λ (r : Result ScriptLine BadLine). TellsOn (Some ends.Quit) before after old new r) (sym (so line said)) tells) takes
+turned (Some ends.EndOfInput) before after old new read_old read_new lines lines_after reading says so takes goes_on tells = absurd tells
+turned (Some ends.ReadFault) before after old new read_old read_new lines lines_after reading says so takes goes_on tells = absurd tells
+turned (Some ends.WriteFault) before after old new read_old read_new lines lines_after reading says so takes goes_on tells =
+    taken read_old read_new (unread lines) (unread lines_after) says (λ line. TellsOn (Some ends.WriteFault) before after old new (line_read line))
+    (λ line said. subst (λ (r : Result ScriptLine BadLine). TellsOn (Some ends.WriteFault) before after old new r) (sym (so line said)) tells) takes
+turned (Some ends.TooManyReads) before after old new read_old read_new lines lines_after reading says so takes goes_on tells = absurd tells

@@ -7,6 +7,7 @@ use Rattle.rx_note.specs.declared.note.Note.{Note}
 use Rattle.rx_history.specs.Histories.{joins, signals, given_to, waiting_for}
 use Rattle.rx_history.specs.Stored.{history_of}
 use Rattle.rxline.specs.declared.asked.Asked.{Asked}
+use Rattle.rxline.specs.declared.audit.Audit.{Audit}
 use Rattle.rxline.specs.declared.ledger.Ledger.{Ledger}
 use Rattle.rxline.specs.declared.line_error.BadLine.{BadLine}
 use Rattle.rxline.specs.declared.line_state.LineState.{LineState}
@@ -20,15 +21,15 @@ use Rattle.rxline.specs.Printing.{note_line}
 use Rattle.rxline.specs.Reading.{line_read}
 use Rattle.rxline.specs.Scripts.{EndsSo}
 use Rattle.rxline.specs.Steps.{unread, GoesOn}
-use Rattle.rxline.specs.Transcripts.{Subject, after_asked, after_line, ends_script, is_quit}
+use Rattle.rxline.specs.Transcripts.{Subject, State, new_state, after_asked, after_line, ends_script, is_quit}
 
 -- THE SUBJECTS AFTER THE LINES
 
 -- the subjects after the lines up to the first that ends the script; no line meets want of memory
-abbrev pub audited : List Subject → List (List ℕ) → List Subject
-audited subjects [] = subjects
-audited subjects (line ∷ lines) =
-    if ends_script (line_read line) then subjects else audited (after_line subjects (line_read line) false) lines
+abbrev pub audited : State → List (List ℕ) → List Subject
+audited state [] = state.subjects
+audited state (line ∷ lines) =
+    if ends_script (line_read line) then state.subjects else audited (after_line state (line_read line) false) lines
 
 -- WHAT IS PRINTED
 
@@ -81,11 +82,12 @@ Prints ends.ReadFault old new bytes = new ≡ old
 Prints ends.WriteFault old new bytes = AppendsPrefix old new bytes
 Prints ends.TooManyReads old new bytes = new ≡ old
 
--- THE AUDIT'S BYTES: what is written is the printing of the subjects after the lines of the bytes that were read
+-- THE AUDIT'S BYTES: what is written is the printing of the subjects after the lines of the bytes that were read, from
+-- moment 0 on
 pub record Audits (subjects : List Subject) (end : SessionEnd) (read_old read_new written_old written_new : Option (List ℕ)) : Type 0 where
   pub read : List ℕ
   pub consumed : Consumes read_old read_new read
-  pub written : Prints end written_old written_new (audit_written (audited subjects (lines_of read)))
+  pub written : Prints end written_old written_new (audit_written (audited (new_state subjects) (lines_of read)))
   pub ends : EndsSo end read_new (lines_of read)
 
 -- want of memory ended the run: nothing was written, or a front of the printing of the subjects after the lines that were
@@ -93,7 +95,7 @@ pub record Audits (subjects : List Subject) (end : SessionEnd) (read_old read_ne
 abbrev pub BreaksOff : List Subject → Option (List ℕ) → Option (List ℕ) → Option (List ℕ) → Option (List ℕ) → Type 0
 BreaksOff subjects read_old read_new written_old written_new =
     (written_new ≡ written_old)
-    ⊎ ((read : List ℕ) × Consumes read_old read_new read × AppendsPrefix written_old written_new (audit_written (audited subjects (lines_of read))))
+    ⊎ ((read : List ℕ) × Consumes read_old read_new read × AppendsPrefix written_old written_new (audit_written (audited (new_state subjects) (lines_of read))))
 
 -- THE LEDGERS
 
@@ -105,6 +107,10 @@ subject_in ledger = record { name = ledger.name; rules = ledger.rules; history =
 abbrev pub subjects_in : List Ledger → List Subject
 subjects_in ledgers = map subject_in ledgers
 
+-- the state of an audit
+abbrev pub state_in : Audit → State
+state_in audit = record { subjects = subjects_in audit.ledgers.items; moment = audit.moment }
+
 -- what is known of an observer is what it was given and what waits for it, or that there is none
 abbrev pub Observes : Option Observed → Subject → ℕ → Type 0
 Observes None subject who = signals subject.rules subject.history who ≡ None
@@ -114,30 +120,30 @@ Observes (Some observed) subject who =
     × (observed.waiting.items ≡ waiting_for subject.rules subject.history who)
 
 -- all the lines were read, and the subjects are those after them
-pub record Learns (subjects after : List Subject) (end : SessionEnd) (read_old read_new : Option (List ℕ)) : Type 0 where
+pub record Learns (state : State) (after : List Subject) (end : SessionEnd) (read_old read_new : Option (List ℕ)) : Type 0 where
   pub read : List ℕ
   pub consumed : Consumes read_old read_new read
-  pub are : after ≡ audited subjects (lines_of read)
+  pub are : after ≡ audited state (lines_of read)
   pub ends : EndsSo end read_new (lines_of read)
 
 -- what a line asks was done, or it ended the script
-abbrev pub EntersAsked : Option SessionEnd → List Subject → List Subject → Asked → Type 0
-EntersAsked None subjects after asked = (is_quit asked ≡ false) × (after ≡ after_asked subjects asked)
-EntersAsked (Some end) subjects after asked = (end ≡ ends.Quit) × (is_quit asked ≡ true) × (after ≡ subjects)
+abbrev pub EntersAsked : Option SessionEnd → State → State → Asked → Type 0
+EntersAsked None state after asked = (is_quit asked ≡ false) × (after ≡ after_asked state asked)
+EntersAsked (Some end) state after asked = (end ≡ ends.Quit) × (is_quit asked ≡ true) × (after ≡ state)
 
 -- the same of a line
-abbrev pub Enters : Option SessionEnd → List Subject → List Subject → Result ScriptLine BadLine → Type 0
-Enters None subjects after line = (ends_script line ≡ false) × (after ≡ after_line subjects line false)
-Enters (Some end) subjects after line = (end ≡ ends.Quit) × (ends_script line ≡ true) × (after ≡ subjects)
+abbrev pub Enters : Option SessionEnd → State → State → Result ScriptLine BadLine → Type 0
+Enters None state after line = (ends_script line ≡ false) × (after ≡ after_line state line false)
+Enters (Some end) state after line = (end ≡ ends.Quit) × (ends_script line ≡ true) × (after ≡ state)
 
--- the next line was taken and its event added, or there was none and an end
-abbrev pub Follows : Option SessionEnd → List Subject → List Subject → Option (List ℕ) → Option (List ℕ) → LineState → LineState → Type 0
-Follows None subjects now read_old read_new before after =
-    TakesLine read_old read_new (unread before) (unread after) (λ line. Enters None subjects now (line_read line)) × GoesOn before after
-Follows (Some ends.Quit) subjects now read_old read_new before after =
-    TakesLine read_old read_new (unread before) (unread after) (λ line. Enters (Some ends.Quit) subjects now (line_read line))
-Follows (Some ends.EndOfInput) subjects now read_old read_new before after =
-    TakesNoLine read_old read_new (unread before) × IsAtEnd read_new × (now ≡ subjects)
-Follows (Some ends.ReadFault) subjects now read_old read_new before after = TakesNoLine read_old read_new (unread before) × (now ≡ subjects)
-Follows (Some ends.WriteFault) subjects now read_old read_new before after = ⊥
-Follows (Some ends.TooManyReads) subjects now read_old read_new before after = TakesNoLine read_old read_new (unread before) × (now ≡ subjects)
+-- the next line was taken and what it asks done, or there was none and an end
+abbrev pub Follows : Option SessionEnd → State → State → Option (List ℕ) → Option (List ℕ) → LineState → LineState → Type 0
+Follows None state now read_old read_new before after =
+    TakesLine read_old read_new (unread before) (unread after) (λ line. Enters None state now (line_read line)) × GoesOn before after
+Follows (Some ends.Quit) state now read_old read_new before after =
+    TakesLine read_old read_new (unread before) (unread after) (λ line. Enters (Some ends.Quit) state now (line_read line))
+Follows (Some ends.EndOfInput) state now read_old read_new before after =
+    TakesNoLine read_old read_new (unread before) × IsAtEnd read_new × (now ≡ state)
+Follows (Some ends.ReadFault) state now read_old read_new before after = TakesNoLine read_old read_new (unread before) × (now ≡ state)
+Follows (Some ends.WriteFault) state now read_old read_new before after = ⊥
+Follows (Some ends.TooManyReads) state now read_old read_new before after = TakesNoLine read_old read_new (unread before) × (now ≡ state)

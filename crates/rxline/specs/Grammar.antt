@@ -10,7 +10,7 @@ use Rattle.rxline.specs.Lines.{HasNoLf}
 use Rattle.rxline.specs.Names.{IsName}
 use Rattle.rxline.specs.declared.command.Command.TheVariants.{Pub, End, Fail, Quit}
 use Rattle.rxline.specs.declared.script_line.ScriptLine.{ScriptLine}
-use Rattle.rxline.specs.declared.script_line.ScriptLine.TheVariants.{Command, Join, Request}
+use Rattle.rxline.specs.declared.script_line.ScriptLine.TheVariants.{Command, At, Join, Request}
 
 -- words parted by exactly one space
 abbrev pub sentence : List (List ℕ) → List ℕ
@@ -30,18 +30,18 @@ abbrev pub value_behind : ℕ → List ℕ → ℕ
 value_behind value [] = value
 value_behind value (digit ∷ digits) = value_behind (value * 10 + (digit - 48)) digits
 
--- the digits spell this number of 32 bits: there are 1 to 20, and zeros may lead
-pub record SpellsNumber (n : ℕ) (digits : List ℕ) : Type 0 where
+-- the digits spell this number of so many bits: there are 1 to 20, and zeros may lead
+pub record SpellsNumber (bits n : ℕ) (digits : List ℕ) : Type 0 where
   pub some : 1 ≤ length digits
   pub few : length digits ≤ 20
   pub each : AllByRecursion IsDigit digits
   pub value : value_behind 0 digits ≡ n
-  pub fits : n < 2 ^ 32
+  pub fits : n < 2 ^ bits
 
 -- the word is this name, directly followed by the number of this room
 pub record SpellsRoom (name : List ℕ) (room : ℕ) (word : List ℕ) : Type 0 where
   pub digits : List ℕ
-  pub number_is : SpellsNumber room digits
+  pub number_is : SpellsNumber 32 room digits
   pub parts : word ≡ name ++ digits
 
 -- the word of a strategy: the room of Drop is at most 1,024 items, that of Latest is 1 to 1,024
@@ -60,6 +60,12 @@ pub record SpellsText (command name text line : List ℕ) : Type 0 where
   pub text_is : IsText text
   pub words : line ≡ sentence (command ∷ name ∷ text ∷ [])
 
+-- a setting of the moment, in milliseconds: its number
+pub record SpellsAt (moment : ℕ) (line : List ℕ) : Type 0 where
+  pub number : List ℕ
+  pub number_is : SpellsNumber 64 moment number
+  pub words : line ≡ sentence (codes "AT" ∷ number ∷ [])
+
 -- a joining: a name, a strategy, an error mode and a first request
 pub record SpellsJoin (name : List ℕ) (policy : Choice) (first : ℕ) (line : List ℕ) : Type 0 where
   pub strategy : List ℕ
@@ -68,7 +74,7 @@ pub record SpellsJoin (name : List ℕ) (policy : Choice) (first : ℕ) (line : 
   pub name_is : IsName name
   pub strategy_is : SpellsStrategy policy.strategy strategy
   pub errors_is : SpellsErrors policy.errors errors
-  pub number_is : SpellsNumber first number
+  pub number_is : SpellsNumber 32 first number
   pub words : line ≡ sentence (codes "JOIN" ∷ name ∷ strategy ∷ errors ∷ number ∷ [])
 
 -- a request: a name, an observer's number and how many items
@@ -76,8 +82,8 @@ pub record SpellsRequest (name : List ℕ) (who n : ℕ) (line : List ℕ) : Typ
   pub observer : List ℕ
   pub items : List ℕ
   pub name_is : IsName name
-  pub observer_is : SpellsNumber who observer
-  pub items_is : SpellsNumber n items
+  pub observer_is : SpellsNumber 32 who observer
+  pub items_is : SpellsNumber 32 n items
   pub words : line ≡ sentence (codes "REQUEST" ∷ name ∷ observer ∷ items ∷ [])
 
 -- the line spells this meaning
@@ -86,6 +92,7 @@ Spells (Command (Pub name text)) line = SpellsText (codes "PUB") name text line
 Spells (Command (End name)) line = IsName name × (line ≡ sentence (codes "END" ∷ name ∷ []))
 Spells (Command (Fail name text)) line = SpellsText (codes "FAIL") name text line
 Spells (Command Quit) line = line ≡ codes "QUIT"
+Spells (At moment) line = SpellsAt moment line
 Spells (Join name policy first) line = SpellsJoin name policy first line
 Spells (Request name who n) line = SpellsRequest name who n line
 

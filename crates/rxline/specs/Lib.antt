@@ -9,5 +9,6 @@ pub mod Reading
 pub mod Reads
 pub mod Scripts
 pub mod Steps
+pub mod Tellings
 pub mod Transcripts
 pub mod Windows

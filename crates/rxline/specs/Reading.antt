@@ -14,7 +14,7 @@ use Rattle.rxline.specs.declared.line_error.BadLine.TheVariants.{Long, Syntax}
 use Rattle.rxline.specs.declared.line_error.LineError.{LineError}
 use Rattle.rxline.specs.declared.line_error.LineError.TheVariants as errors
 use Rattle.rxline.specs.declared.script_line.ScriptLine.{ScriptLine}
-use Rattle.rxline.specs.declared.script_line.ScriptLine.TheVariants.{Command, Join, Request}
+use Rattle.rxline.specs.declared.script_line.ScriptLine.TheVariants.{Command, At, Join, Request}
 use lib.Pointwise.{pointwise}
 
 infixl 10 ◌>>=◌
@@ -66,12 +66,16 @@ is_digit byte = nat_le 48 byte && nat_le byte 57
 
 -- the number that digits spell behind those that spelled this value
 abbrev pub digits_read : ℕ → List ℕ → Result ℕ BadLine
-digits_read value [] = if nat_lt value 4294967296 then Ok value else Err Syntax
+digits_read value [] = if nat_lt value 18446744073709551616 then Ok value else Err Syntax
 digits_read value (digit ∷ digits) = if is_digit digit then digits_read (value * 10 + (digit - 48)) digits else Err Syntax
 
--- a number of 32 bits, of 1 to 20 digits
+-- a number of 64 bits, of 1 to 20 digits
+unfoldable pub wide_number_read : List ℕ → Result ℕ BadLine
+wide_number_read digits = if nat_le 1 (length digits) && nat_le (length digits) 20 then digits_read 0 digits else Err Syntax
+
+-- a number of 32 bits
 unfoldable pub number_read : List ℕ → Result ℕ BadLine
-number_read digits = if nat_le 1 (length digits) && nat_le (length digits) 20 then digits_read 0 digits else Err Syntax
+number_read digits = wide_number_read digits >>= λ number. if nat_lt number 4294967296 then Ok number else Err Syntax
 
 -- a room, a number of 16 bits
 abbrev pub room_read : List ℕ → Result ℕ BadLine
@@ -127,6 +131,7 @@ unfoldable pub words_read : List ℕ → List ℕ → Result ScriptLine BadLine
 words_read command bytes =
     if same_word command (codes "PUB") then named_text_read bytes >>= (λ p. Ok (Command (Pub p.0 p.1)))
     else if same_word command (codes "REQUEST") then request_read bytes
+    else if same_word command (codes "AT") then wide_number_read bytes >>= (λ moment. Ok (At moment))
     else if same_word command (codes "JOIN") then join_read bytes
     else if same_word command (codes "END") then name_read bytes >>= (λ name. Ok (Command (End name)))
     else if same_word command (codes "FAIL") then named_text_read bytes >>= (λ p. Ok (Command (Fail p.0 p.1)))
@@ -149,6 +154,7 @@ meaning_of (lines.Pub name text) = Command (Pub name text.now)
 meaning_of (lines.End name) = Command (End name)
 meaning_of (lines.Fail name text) = Command (Fail name text.now)
 meaning_of lines.Quit = Command Quit
+meaning_of (lines.At moment) = At moment
 meaning_of (lines.Join name policy first) = Join name policy first
 meaning_of (lines.Request name who n) = Request name who n
 

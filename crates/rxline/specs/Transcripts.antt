@@ -1,5 +1,6 @@
 -- What is written for the lines of a script. A script is told by the histories of its subjects: each line is answered,
--- and gives, what the definitions say of the history of the subject that it names. The rules are this project's own.
+-- and gives, what the definitions say of the history of the subject that it names. Its events come at the moment that a
+-- line set last. The rules are this project's own.
 use Rattle.std.specs.Prelude.{ℕ, ◌&&◌, ◌||◌, Bool, true, false, if◌then◌else◌, List, [], ◌∷◌, ◌++◌, Option, None, Some, Result, Ok, Err, is_ok}
 use Rattle.std.specs.List.{flat_map}
 use Rattle.std.specs.Option.{option_map_or}
@@ -21,7 +22,7 @@ use Rattle.rxline.specs.declared.word.Word.{Word}
 use Rattle.rxline.specs.declared.word.Word.TheVariants as words
 use Rattle.rxline.specs.declared.command.Command.TheVariants.{Pub, End, Fail, Quit}
 use Rattle.rxline.specs.declared.script_line.ScriptLine.{ScriptLine}
-use Rattle.rxline.specs.declared.script_line.ScriptLine.TheVariants.{Command, Join, Request}
+use Rattle.rxline.specs.declared.script_line.ScriptLine.TheVariants.{Command, At, Join, Request}
 use Rattle.rxline.specs.declared.line_error.BadLine.{BadLine}
 use Rattle.rxline.specs.declared.line_error.BadLine.TheVariants.{Long, Syntax}
 use Rattle.rxline.specs.Printing.{reply_line, given_line}
@@ -33,16 +34,26 @@ pub record Subject : Type 0 where
   pub rules : Rules
   pub history : History
 
+-- what a script has come to: its subjects, and the moment of the events that follow, in milliseconds
+pub record State : Type 0 where
+  pub subjects : List Subject
+  pub moment : ℕ
+
+-- at first the moment is 0
+abbrev pub new_state : List Subject → State
+new_state subjects = record { subjects = subjects; moment = 0 }
+
 -- WHAT A LINE ASKS
 
--- what a line asks; its events come at moment 0
-abbrev pub asks : ScriptLine → Asked
-asks (Command (Pub name text)) = asked.Event name (events.Emit (Next (record { from = 0; text = text })) 0)
-asks (Command (End name)) = asked.Event name (events.Emit Completed 0)
-asks (Command (Fail name text)) = asked.Event name (events.Emit (Failed text) 0)
-asks (Command Quit) = asked.Quit
-asks (Join name policy first) = asked.Event name (events.Join policy first 0)
-asks (Request name who n) = asked.Event name (events.Request who n)
+-- what a line asks at a moment, at which its event comes
+abbrev pub asks : ℕ → ScriptLine → Asked
+asks moment (Command (Pub name text)) = asked.Event name (events.Emit (Next (record { from = 0; text = text })) moment)
+asks moment (Command (End name)) = asked.Event name (events.Emit Completed moment)
+asks moment (Command (Fail name text)) = asked.Event name (events.Emit (Failed text) moment)
+asks moment (Command Quit) = asked.Quit
+asks moment (At next) = asked.At next
+asks moment (Join name policy first) = asked.Event name (events.Join policy first moment)
+asks moment (Request name who n) = asked.Event name (events.Request who n)
 
 -- whether a line has a text, for which it takes memory
 abbrev pub has_text : ScriptLine → Bool
@@ -50,6 +61,7 @@ has_text (Command (Pub name text)) = true
 has_text (Command (End name)) = false
 has_text (Command (Fail name text)) = true
 has_text (Command Quit) = false
+has_text (At moment) = false
 has_text (Join name policy first) = false
 has_text (Request name who n) = false
 
@@ -113,47 +125,51 @@ accepts event subject = is_ok (answer subject.rules subject.history event)
 -- whether what a line asks is an event that its subject accepts
 abbrev pub is_accepted : List Subject → Asked → Bool
 is_accepted subjects (asked.Event name event) = option_map_or (accepts event) (subject_of subjects name) false
+is_accepted subjects (asked.At moment) = false
 is_accepted subjects asked.Quit = false
 
 -- whether what a line asks is the end
 abbrev pub is_quit : Asked → Bool
 is_quit (asked.Event name event) = false
+is_quit (asked.At moment) = false
 is_quit asked.Quit = true
 
 -- whether a line takes memory: for its text, or for an event that is accepted
-abbrev pub takes_memory : List Subject → ScriptLine → Bool
-takes_memory subjects line = has_text line || is_accepted subjects (asks line)
+abbrev pub takes_memory : State → ScriptLine → Bool
+takes_memory state line = has_text line || is_accepted state.subjects (asks state.moment line)
 
 -- whether a line met want of memory; only one that takes memory can
-abbrev pub misses : List Subject → ScriptLine → Bool → Bool
-misses subjects line missed = missed && takes_memory subjects line
+abbrev pub misses : State → ScriptLine → Bool → Bool
+misses state line missed = missed && takes_memory state line
 
 -- what is written for what a line asks
 abbrev pub asked_written : List Subject → Asked → List ℕ
 asked_written subjects (asked.Event name event) =
     option_map_or (λ subject. event_written subject event) (subject_of subjects name) (reply_line (responses.Refused words.Subject))
+asked_written subjects (asked.At moment) = reply_line responses.Done
 asked_written subjects asked.Quit = reply_line responses.Done
 
 -- what is written for a line; one that met want of memory counts as never sent
-abbrev pub line_written : List Subject → Result ScriptLine BadLine → Bool → List ℕ
-line_written subjects (Err fault) missed = reply_line (response_to_fault fault)
-line_written subjects (Ok line) missed =
-    if misses subjects line missed then reply_line (responses.Refused words.Memory) else asked_written subjects (asks line)
+abbrev pub line_written : State → Result ScriptLine BadLine → Bool → List ℕ
+line_written state (Err fault) missed = reply_line (response_to_fault fault)
+line_written state (Ok line) missed =
+    if misses state line missed then reply_line (responses.Refused words.Memory) else asked_written state.subjects (asks state.moment line)
 
--- the subjects after what a line asks
-abbrev pub after_asked : List Subject → Asked → List Subject
-after_asked subjects (asked.Event name event) = all_taking subjects name event
-after_asked subjects asked.Quit = subjects
+-- the state after what a line asks: a subject has taken the event, or the moment is another
+abbrev pub after_asked : State → Asked → State
+after_asked state (asked.Event name event) = record state { subjects = all_taking state.subjects name event }
+after_asked state (asked.At moment) = record state { moment = moment }
+after_asked state asked.Quit = state
 
--- the subjects after a line
-abbrev pub after_line : List Subject → Result ScriptLine BadLine → Bool → List Subject
-after_line subjects (Err fault) missed = subjects
-after_line subjects (Ok line) missed = if misses subjects line missed then subjects else after_asked subjects (asks line)
+-- the state after a line
+abbrev pub after_line : State → Result ScriptLine BadLine → Bool → State
+after_line state (Err fault) missed = state
+after_line state (Ok line) missed = if misses state line missed then state else after_asked state (asks state.moment line)
 
 -- whether a line ends the script
 abbrev pub ends_script : Result ScriptLine BadLine → Bool
-ends_script (Err fault) = false
-ends_script (Ok line) = is_quit (asks line)
+ends_script (Ok (Command Quit)) = true
+ends_script _ = false
 
 -- THE TRANSCRIPT
 
@@ -168,11 +184,11 @@ later_marks (mark ∷ marks) = marks
 
 -- what is written for the lines of a script, up to and with the first that ends it; a mark says of each whether it met
 -- want of memory
-abbrev pub transcript : List Subject → List Bool → List (List ℕ) → List ℕ
-transcript subjects marks [] = []
-transcript subjects marks (line ∷ lines) =
-    line_written subjects (line_read line) (first_mark marks)
-    ++ (if ends_script (line_read line) then [] else transcript (after_line subjects (line_read line) (first_mark marks)) (later_marks marks) lines)
+abbrev pub transcript : State → List Bool → List (List ℕ) → List ℕ
+transcript state marks [] = []
+transcript state marks (line ∷ lines) =
+    line_written state (line_read line) (first_mark marks)
+    ++ (if ends_script (line_read line) then [] else transcript (after_line state (line_read line) (first_mark marks)) (later_marks marks) lines)
 
 -- whether one of the lines ends the script
 abbrev pub has_end : List (List ℕ) → Bool

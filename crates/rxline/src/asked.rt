@@ -12,21 +12,26 @@ use rx_note::{Event, Item, Note};
 pub enum Asked {
     /// To take an event, for the subject of this name.
     Event(Name, Event),
+    /// To have the events that follow come at this moment, in milliseconds.
+    At(u64),
     /// To end.
     Quit,
 }
 
-/// What a line of a script asks. Its events come at moment 0.
-pub fn asked_by(line: ScriptLine) -> Asked
-    ensures { result ≡ asks line }
+/// What a line of a script asks at a moment, in milliseconds, at which its event comes.
+pub fn asked_by(line: ScriptLine, moment: u64) -> Asked
+    ensures { result ≡ asks moment line }
 {
     match line {
         ScriptLine::Command(Command::Pub { name, text }) => {
-            emitted(name, Note::Next(Item { from: 0, text }))
+            emitted(name, Note::Next(Item { from: 0, text }), moment)
         }
-        ScriptLine::Command(Command::End { name }) => emitted(name, Note::Completed),
-        ScriptLine::Command(Command::Fail { name, text }) => emitted(name, Note::Failed(text)),
+        ScriptLine::Command(Command::End { name }) => emitted(name, Note::Completed, moment),
+        ScriptLine::Command(Command::Fail { name, text }) => {
+            emitted(name, Note::Failed(text), moment)
+        }
         ScriptLine::Command(Command::Quit) => Asked::Quit,
+        ScriptLine::At(next) => Asked::At(next),
         ScriptLine::Join {
             name,
             policy,
@@ -36,15 +41,15 @@ pub fn asked_by(line: ScriptLine) -> Asked
             Event::Join {
                 policy,
                 first,
-                at: 0,
+                at: moment,
             },
         ),
         ScriptLine::Request { name, who, n } => Asked::Event(name, Event::Request { who, n }),
     }
 }
 
-fn emitted(name: Name, note: Note) -> Asked
-    ensures { result ≡ Asked.Event name (Emit note 0) }
+fn emitted(name: Name, note: Note, moment: u64) -> Asked
+    ensures { result ≡ Asked.Event name (Emit note moment) }
 {
-    Asked::Event(name, Event::Emit { note, at: 0 })
+    Asked::Event(name, Event::Emit { note, at: moment })
 }

@@ -1,5 +1,5 @@
 ghost use Rattle.std.specs.Prelude.{◌≡◌, ◌++◌, None, IfOk, MatchResult};
-ghost use Rattle.rxline.specs.Audits.{Audits, BreaksOff, Enters, EntersAsked, Follows, Learns, audit_written, note_lines, observed_lines, prints, subject_in, subject_written, subjects_in};
+ghost use Rattle.rxline.specs.Audits.{Audits, BreaksOff, Enters, EntersAsked, Follows, Learns, audit_written, note_lines, observed_lines, prints, state_in, subject_in, subject_written, subjects_in};
 ghost use Rattle.rxline.specs.Bytes.{AppendsPrefix, Puts, Writes};
 ghost use Rattle.rxline.specs.Reading.{line_read};
 ghost use Rattle.rxline.specs.Scripts.{new_subjects};
@@ -20,6 +20,13 @@ use rx_heap::{Heap, Memory};
 use rx_note::Note;
 use std::io::{Read, Write};
 
+/// An audit that reads: its ledgers, and the moment of the events that follow, in milliseconds.
+#[derive(Drop)]
+pub(crate) struct Audit {
+    ledgers: Vec<Ledger, Heap>,
+    moment: u64,
+}
+
 /// Reads the lines of a script over the subjects of a configuration and answers none. At the end of the input, or at
 /// QUIT, it prints for each observer what it was given and what waits for it, as stored histories tell it.
 ///
@@ -33,12 +40,15 @@ pub fn run_audit<R: Read, W: Write>(
 ) -> Result<SessionEnd, Memory>
     ensures { MatchResult result (λ end. Audits (new_subjects config.subjects.items) end (R.remaining reader.old) (R.remaining reader.new) (W.contents writer.old) (W.contents writer.new)) (λ _. BreaksOff (new_subjects config.subjects.items) (R.remaining reader.old) (R.remaining reader.new) (W.contents writer.old) (W.contents writer.new)) }
 {
-    let mut ledgers = ledgers_of(&alloc, config.subjects)?;
-    let end = enter_all(&alloc, &mut ledgers, reader, max_reads)?;
+    let mut audit = Audit {
+        ledgers: ledgers_of(&alloc, config.subjects)?,
+        moment: 0,
+    };
+    let end = enter_all(&alloc, &mut audit, reader, max_reads)?;
     if !prints(end) {
         return Ok(end);
     }
-    match write_audit(writer, &ledgers)? {
+    match write_audit(writer, &audit.ledgers)? {
         Ok(()) => Ok(end),
         Err(_) => Ok(SessionEnd::WriteFault),
     }
@@ -57,32 +67,32 @@ fn prints(end: SessionEnd) -> bool
 // Adds the events of all the lines to their ledgers.
 fn enter_all<R: Read>(
     alloc: &Heap,
-    ledgers: &mut Vec<Ledger, Heap>,
+    audit: &mut Audit,
     reader: &mut R,
     max_reads: u64,
 ) -> Result<SessionEnd, Memory>
-    ensures { IfOk result (λ end. Learns (subjects_in ledgers.old.items) (subjects_in ledgers.new.items) end (R.remaining reader.old) (R.remaining reader.new)) }
+    ensures { IfOk result (λ end. Learns (state_in audit.old) (subjects_in audit.new.ledgers.items) end (R.remaining reader.old) (R.remaining reader.new)) }
 {
     let mut lines = LineState::new(max_reads);
     loop {
-        if let Some(end) = enter_next(alloc, ledgers, &mut lines, reader)? {
+        if let Some(end) = enter_next(alloc, audit, &mut lines, reader)? {
             return Ok(end);
         }
     }
 }
 
-// Reads the next line and adds its event. How the input ended, if it did.
+// Reads the next line and does what it asks. How the input ended, if it did.
 fn enter_next<R: Read>(
     alloc: &Heap,
-    ledgers: &mut Vec<Ledger, Heap>,
+    audit: &mut Audit,
     lines: &mut LineState,
     reader: &mut R,
 ) -> Result<Option<SessionEnd>, Memory>
     requires { lines.old.end ≡ None }
-    ensures { IfOk result (λ end. Follows end (subjects_in ledgers.old.items) (subjects_in ledgers.new.items) (R.remaining reader.old) (R.remaining reader.new) lines.old lines.new) }
+    ensures { IfOk result (λ end. Follows end (state_in audit.old) (state_in audit.new) (R.remaining reader.old) (R.remaining reader.new) lines.old lines.new) }
 {
     match lines.advance(reader) {
-        Step::Line(len) => enter_line(alloc, ledgers, lines.line(len)),
+        Step::Line(len) => enter_line(alloc, audit, lines.line(len)),
         Step::Long => Ok(None),
         Step::EndOfInput => Ok(Some(SessionEnd::EndOfInput)),
         Step::ReadFault => Ok(Some(SessionEnd::ReadFault)),
@@ -90,30 +100,30 @@ fn enter_next<R: Read>(
     }
 }
 
-// Adds the event of a line, if it has one.
-fn enter_line(
-    alloc: &Heap,
-    ledgers: &mut Vec<Ledger, Heap>,
-    line: &[u8],
-) -> Result<Option<SessionEnd>, Memory>
-    ensures { IfOk result (λ end. Enters end (subjects_in ledgers.old.items) (subjects_in ledgers.new.items) (line_read line.now)) }
+// Does what a line asks, if it has a meaning.
+fn enter_line(alloc: &Heap, audit: &mut Audit, line: &[u8]) -> Result<Option<SessionEnd>, Memory>
+    ensures { IfOk result (λ end. Enters end (state_in audit.old) (state_in audit.new) (line_read line.now)) }
 {
     match parse_script(alloc, line) {
-        Ok(line) => enter_asked(ledgers, asked_by(line)),
+        Ok(line) => enter_asked(audit, asked_by(line, audit.moment)),
         Err(LineError::Long) => Ok(None),
         Err(LineError::Syntax) => Ok(None),
         Err(LineError::Memory) => Err(Memory),
     }
 }
 
-// Adds the event that a line asks for, or ends at QUIT.
-fn enter_asked(ledgers: &mut Vec<Ledger, Heap>, asked: Asked) -> Result<Option<SessionEnd>, Memory>
-    ensures { IfOk result (λ end. EntersAsked end (subjects_in ledgers.old.items) (subjects_in ledgers.new.items) asked) }
+// Adds the event that a line asks for, or sets the moment, or ends at QUIT.
+fn enter_asked(audit: &mut Audit, asked: Asked) -> Result<Option<SessionEnd>, Memory>
+    ensures { IfOk result (λ end. EntersAsked end (state_in audit.old) (state_in audit.new) asked) }
 {
     match asked {
         Asked::Quit => Ok(Some(SessionEnd::Quit)),
+        Asked::At(moment) => {
+            audit.moment = moment;
+            Ok(None)
+        }
         Asked::Event(name, event) => {
-            enter(ledgers, &name, event)?;
+            enter(&mut audit.ledgers, &name, event)?;
             Ok(None)
         }
     }

@@ -3,7 +3,9 @@ ghost use Rattle.rxline.specs.Reading.{Gives, meaning_of, line_read, words_read,
 use crate::line::Line;
 use crate::line_error::BadLine;
 use crate::reading::MAX_LINE;
-use crate::words::{cut_at_space, name_of, named, named_text, number_of, policy_of};
+use crate::words::{
+    cut_at_space, name_of, named, named_text, number_of, policy_of, wide_number_of,
+};
 
 /// What these bytes mean, which takes no memory. Refused in the order `Long`, `Syntax`.
 #[tactic(auto, unfolding(crate::specs::Reading::line_read))]
@@ -29,6 +31,9 @@ fn read_words<'a>(command: &[u8], rest: &'a [u8]) -> Result<Line<'a>, BadLine>
         Ok(Line::Pub { name, text })
     } else if command == b"REQUEST".as_slice() {
         read_request(rest)
+    } else if command == b"AT".as_slice() {
+        let moment = wide_number_of(rest)?;
+        Ok(Line::At(moment))
     } else if command == b"JOIN".as_slice() {
         read_join(rest)
     } else if command == b"END".as_slice() {

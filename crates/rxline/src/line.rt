@@ -20,6 +20,8 @@ pub enum Line<'a> {
     },
     /// End.
     Quit,
+    /// The events that follow come at this moment, in milliseconds.
+    At(u64),
     /// An observer joins.
     Join {
         name: Name,

@@ -27,6 +27,7 @@ pub fn parse_script(alloc: &Heap, line: &[u8]) -> Result<ScriptLine, LineError>
         }
         Ok(Line::End { name }) => Ok(ScriptLine::Command(Command::End { name })),
         Ok(Line::Quit) => Ok(ScriptLine::Command(Command::Quit)),
+        Ok(Line::At(moment)) => Ok(ScriptLine::At(moment)),
         Ok(
             Line::Join {
                 name,

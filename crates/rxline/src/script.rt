@@ -3,8 +3,7 @@ ghost use Rattle.rxline.specs.declared.topic.Topic.{Topic};
 ghost use Rattle.rxline.specs.Bytes.{Puts, Writes};
 ghost use Rattle.rxline.specs.Lines.{HasNoLf};
 ghost use Rattle.rxline.specs.Printing.{reply_line};
-ghost use Rattle.rxline.specs.Scripts.{Runs, Turns, TellsOn, Tells, Quits, CarriesOut, TakesAt, TakesEvent, AllStand, new_subjects, reading_of};
-ghost use Rattle.rxline.specs.Steps.{unread};
+ghost use Rattle.rxline.specs.Scripts.{Runs, TakesEvent, new_subjects};
 ghost use Rattle.rxline.specs.Transcripts.{given_lines, response_to};
 
 use crate::asked::{Asked, asked_by};
@@ -42,57 +41,20 @@ pub fn run_script<R: Read, W: Write>(
     let mut script = Script::new(alloc, config)?;
     let mut lines = LineState::new(max_reads);
     loop {
-        let Ok(()) = catch_up(&mut script, &mut lines, writer) else {
+        let Ok(()) = script.catch_up(&mut lines, writer) else {
             return Ok(SessionEnd::WriteFault);
         };
-        if let Some(end) = turn(&mut script, &mut lines, reader, writer) {
+        if let Some(end) = script.turn(&mut lines, reader, writer) {
             return Ok(end);
         }
     }
 }
 
-// Writes all that was answered, where the next line asks for a read.
-fn catch_up<W: Write>(
-    script: &mut Script,
-    lines: &mut LineState,
-    writer: &mut W,
-) -> Result<(), WriteFault>
-    ensures puts { Puts result script.old.outbox script.new.outbox (W.contents writer.old) (W.contents writer.new) [] }
-    ensures empty { OnOk result (HasNoLf (unread lines.new) → script.new.outbox ≡ []) }
-    ensures topics { script.new.topics.items ≡ script.old.topics.items }
-    ensures unread { unread lines.new ≡ unread lines.old }
-    ensures reads { lines.new.reads ≡ lines.old.reads }
-    ensures end { lines.new.end ≡ lines.old.end }
-{
-    if lines.has_line() {
-        return Ok(());
-    }
-    script.flush(writer)
-}
-
-// Reads the next line and tells it. How the script ended, if it did.
-fn turn<R: Read, W: Write>(
-    script: &mut Script,
-    lines: &mut LineState,
-    reader: &mut R,
-    writer: &mut W,
-) -> Option<SessionEnd>
-    requires { lines.old.end ≡ None }
-    ensures { Turns result script.old.topics.items script.new.topics.items script.old.outbox script.new.outbox (W.contents writer.old) (W.contents writer.new) (R.remaining reader.old) (R.remaining reader.new) lines.old lines.new }
-{
-    match lines.advance(reader) {
-        Step::Line(len) => script.tell_on(writer, Some(lines.line(len))),
-        Step::Long => script.tell_on(writer, None),
-        Step::EndOfInput => Some(SessionEnd::EndOfInput),
-        Step::ReadFault => Some(SessionEnd::ReadFault),
-        Step::TooManyReads => Some(SessionEnd::TooManyReads),
-    }
-}
-
-/// The run of a script: its topics, and what is to be written.
+/// The run of a script: its topics, the moment of the events that follow, in milliseconds, and what is to be written.
 #[derive(Drop)]
 pub(crate) struct Script {
     topics: Vec<Topic, Heap>,
+    moment: u64,
     outs: Vec<Given, Heap>,
     outbox: Outbox,
     heap: Heap,
@@ -100,17 +62,62 @@ pub(crate) struct Script {
 }
 
 impl Script {
+    ghost use Rattle.rxline.specs.Scripts.{TakesAt};
+    ghost use Rattle.rxline.specs.Steps.{unread};
+    ghost use Rattle.rxline.specs.Tellings.{CarriesOut, IsIn, Quits, Tells, TellsOn, Turns, reading_of};
+    ghost use Rattle.rxline.specs.Transcripts.{new_state};
+
     // The run of a script over the subjects of a configuration, with no line yet.
     fn new(alloc: Heap, config: Config) -> Result<Script, Memory>
-        ensures topics { IfOk result (λ script. AllStand script.topics.items (new_subjects config.subjects.items)) }
+        ensures state { IfOk result (λ script. IsIn script (new_state (new_subjects config.subjects.items))) }
         ensures outbox { IfOk result (λ script. script.outbox ≡ []) }
     {
         Ok(Script {
             topics: topics_of(&alloc, config.subjects)?,
+            moment: 0,
             outs: Vec::new(alloc.clone()?),
             outbox: Outbox::new(),
             heap: alloc,
         })
+    }
+
+    // Writes all that was answered, where the next line asks for a read.
+    fn catch_up<W: Write>(
+        &mut self,
+        lines: &mut LineState,
+        writer: &mut W,
+    ) -> Result<(), WriteFault>
+        ensures puts { Puts result self.old.outbox self.new.outbox (W.contents writer.old) (W.contents writer.new) [] }
+        ensures empty { OnOk result (HasNoLf (unread lines.new) → self.new.outbox ≡ []) }
+        ensures topics { self.new.topics.items ≡ self.old.topics.items }
+        ensures moment { self.new.moment ≡ self.old.moment }
+        ensures unread { unread lines.new ≡ unread lines.old }
+        ensures reads { lines.new.reads ≡ lines.old.reads }
+        ensures end { lines.new.end ≡ lines.old.end }
+    {
+        if lines.has_line() {
+            return Ok(());
+        }
+        self.flush(writer)
+    }
+
+    // Reads the next line and tells it. How the script ended, if it did.
+    fn turn<R: Read, W: Write>(
+        &mut self,
+        lines: &mut LineState,
+        reader: &mut R,
+        writer: &mut W,
+    ) -> Option<SessionEnd>
+        requires { lines.old.end ≡ None }
+        ensures { Turns result self.old self.new (W.contents writer.old) (W.contents writer.new) (R.remaining reader.old) (R.remaining reader.new) lines.old lines.new }
+    {
+        match lines.advance(reader) {
+            Step::Line(len) => self.tell_on(writer, Some(lines.line(len))),
+            Step::Long => self.tell_on(writer, None),
+            Step::EndOfInput => Some(SessionEnd::EndOfInput),
+            Step::ReadFault => Some(SessionEnd::ReadFault),
+            Step::TooManyReads => Some(SessionEnd::TooManyReads),
+        }
     }
 
     // Writes all that was answered, and flushes the writer.
@@ -118,13 +125,14 @@ impl Script {
         ensures written { Writes result (W.contents writer.old) (W.contents writer.new) self.old.outbox }
         ensures empty { self.new.outbox ≡ [] }
         ensures topics { self.new.topics.items ≡ self.old.topics.items }
+        ensures moment { self.new.moment ≡ self.old.moment }
     {
         self.outbox.flush(writer)
     }
 
     // Tells a line, or that there is one which is too long. How the script ended, if it did.
     fn tell_on<W: Write>(&mut self, writer: &mut W, line: Option<&[u8]>) -> Option<SessionEnd>
-        ensures { TellsOn result self.old.topics.items self.new.topics.items self.old.outbox self.new.outbox (W.contents writer.old) (W.contents writer.new) (reading_of line.entry) }
+        ensures { TellsOn result self.old self.new (W.contents writer.old) (W.contents writer.new) (reading_of line.entry) }
     {
         match self.tell(writer, line) {
             Ok(Told::More) => None,
@@ -135,13 +143,13 @@ impl Script {
 
     // Tells a line: puts what is written for it, and has the topics take what it asks.
     fn tell<W: Write>(&mut self, writer: &mut W, line: Option<&[u8]>) -> Result<Told, WriteFault>
-        ensures { Tells result self.old.topics.items self.new.topics.items self.old.outbox self.new.outbox (W.contents writer.old) (W.contents writer.new) (reading_of line.entry) }
+        ensures { Tells result self.old self.new (W.contents writer.old) (W.contents writer.new) (reading_of line.entry) }
     {
         let Some(line) = line else {
             return self.refuse(writer, Word::Long);
         };
         match parse_script(&self.heap, line) {
-            Ok(line) => self.carry_out(writer, asked_by(line)),
+            Ok(line) => self.carry_out(writer, asked_by(line, self.moment)),
             Err(LineError::Long) => self.refuse(writer, Word::Long),
             Err(LineError::Syntax) => self.refuse(writer, Word::Syntax),
             Err(LineError::Memory) => self.refuse(writer, Word::Memory),
@@ -150,12 +158,17 @@ impl Script {
 
     // Carries out what a line asks, and puts the answer.
     fn carry_out<W: Write>(&mut self, writer: &mut W, asked: Asked) -> Result<Told, WriteFault>
-        ensures { CarriesOut result self.old.topics.items self.new.topics.items self.old.outbox self.new.outbox (W.contents writer.old) (W.contents writer.new) asked }
+        ensures { CarriesOut result self.old self.new (W.contents writer.old) (W.contents writer.new) asked }
     {
         match asked {
             Asked::Quit => {
                 put_reply(&mut self.outbox, writer, Response::Done)?;
                 Ok(Told::Quit)
+            }
+            Asked::At(moment) => {
+                self.moment = moment;
+                put_reply(&mut self.outbox, writer, Response::Done)?;
+                Ok(Told::More)
             }
             Asked::Event(name, event) => match place_of(&self.topics, &name) {
                 Some(place) => self.take(writer, place, event),
@@ -168,6 +181,7 @@ impl Script {
     fn refuse<W: Write>(&mut self, writer: &mut W, word: Word) -> Result<Told, WriteFault>
         ensures puts { Puts result self.old.outbox self.new.outbox (W.contents writer.old) (W.contents writer.new) (reply_line (Response.Refused word)) }
         ensures topics { self.new.topics.items ≡ self.old.topics.items }
+        ensures moment { self.new.moment ≡ self.old.moment }
         ensures more { IfOk result (λ told. told ≡ Told.More) }
     {
         put_reply(&mut self.outbox, writer, Response::Refused(word))?;
@@ -183,6 +197,7 @@ impl Script {
     ) -> Result<Told, WriteFault>
         requires { place < length self.old.topics.items }
         ensures took { (d : Topic) → TakesAt result self.old.topics.items self.new.topics.items place d event self.old.outbox self.new.outbox (W.contents writer.old) (W.contents writer.new) }
+        ensures moment { self.new.moment ≡ self.old.moment }
         ensures more { IfOk result (λ told. told ≡ Told.More) }
     {
         take_event(

@@ -7,6 +7,8 @@ use rx_note::Policy;
 pub enum ScriptLine {
     /// What a session may say too.
     Command(Command),
+    /// The events that follow come at this moment, in milliseconds.
+    At(u64),
     /// An observer joins with a policy and a request of `first` items.
     Join {
         name: Name,

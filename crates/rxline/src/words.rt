@@ -1,5 +1,5 @@
-ghost use Rattle.std.specs.Prelude.{◌≡◌};
-ghost use Rattle.rxline.specs.Reading.{Gives, cut_read, name_read, named_read, text_read, number_read, digits_read, is_digit, policy_read, room_read, strategy_read, errors_read, named_text_read};
+ghost use Rattle.std.specs.Prelude.{◌≡◌, ◌+◌, ◌-◌, ◌*◌, ◌^◌, ◌<◌, ◌≤◌, IfNone, IfSome};
+ghost use Rattle.rxline.specs.Reading.{Gives, cut_read, name_read, named_read, text_read, number_read, wide_number_read, digits_read, is_digit, policy_read, room_read, strategy_read, errors_read, named_text_read};
 
 use crate::line_error::BadLine;
 use crate::name::Name;
@@ -9,9 +9,6 @@ const SPACE: u8 = b' ';
 
 /// The most digits that a number has on a line.
 pub const MAX_DIGITS: usize = 20;
-
-/// The greatest number of 32 bits and one more, at which the value of many digits is held.
-const TOO_MUCH: u64 = 4_294_967_296;
 
 /// The bytes before the first space, and those behind it.
 pub fn cut_at_space(bytes: &[u8]) -> Result<(&[u8], &[u8]), BadLine>
@@ -64,13 +61,24 @@ pub fn text_of(bytes: &[u8]) -> Result<&[u8], BadLine>
 pub fn number_of(bytes: &[u8]) -> Result<u32, BadLine>
     ensures { result ≡ number_read bytes.now }
 {
+    match u32::try_from(wide_number_of(bytes)?) {
+        Ok(number) => Ok(number),
+        Err(_) => Err(BadLine::Syntax),
+    }
+}
+
+/// The number of 64 bits that these digits spell, leading zeros allowed.
+#[tactic(auto, unfolding(crate::specs::Reading::wide_number_read))]
+pub fn wide_number_of(bytes: &[u8]) -> Result<u64, BadLine>
+    ensures { result ≡ wide_number_read bytes.now }
+{
     if bytes.is_empty() || bytes.len() > MAX_DIGITS {
         return Err(BadLine::Syntax);
     }
     digits_of(bytes)
 }
 
-fn digits_of(bytes: &[u8]) -> Result<u32, BadLine>
+fn digits_of(bytes: &[u8]) -> Result<u64, BadLine>
     ensures { result ≡ digits_read 0 bytes.now }
 {
     let mut value = 0;
@@ -78,12 +86,22 @@ fn digits_of(bytes: &[u8]) -> Result<u32, BadLine>
         if !is_digit(*digit) {
             return Err(BadLine::Syntax);
         }
-        value = (value * 10 + (*digit - b'0') as u64).min(TOO_MUCH);
+        let Some(next) = with_digit(value, *digit) else {
+            return Err(BadLine::Syntax);
+        };
+        value = next;
     }
-    if value == TOO_MUCH {
-        return Err(BadLine::Syntax);
-    }
-    Ok(value as u32)
+    Ok(value)
+}
+
+// The value of some digits and this one, if it has 64 bits.
+fn with_digit(value: u64, digit: u8) -> Option<u64>
+    requires { 48 ≤ digit }
+    ensures none { IfNone result (2 ^ 64 ≤ value * 10 + (digit - 48)) }
+    ensures some { IfSome result (λ next. (next ≡ value * 10 + (digit - 48)) × (next < 2 ^ 64)) }
+{
+    let tens = value.checked_mul(10)?;
+    tens.checked_add(u64::from(digit - b'0'))
 }
 
 fn is_digit(byte: u8) -> bool

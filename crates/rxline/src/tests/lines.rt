@@ -49,6 +49,8 @@ fn lines_are_read_or_refused(rt: HostRuntime) {
         (b"PUB s ".as_slice(), None),
         (b"JOIN s BUFFER DELAY 0".as_slice(), None),
         (b"REQUEST s 00000000000000000001 1".as_slice(), None),
+        (b"AT 5".as_slice(), None),
+        (b"AT 18446744073709551615".as_slice(), None),
         (b"".as_slice(), refused),
         (b" ".as_slice(), refused),
         (b"PUB s".as_slice(), refused),
@@ -64,6 +66,11 @@ fn lines_are_read_or_refused(rt: HostRuntime) {
         (b"REQUEST s 1 000000000000000000001".as_slice(), refused),
         (b"REQUEST s 1 ".as_slice(), refused),
         (b"REQUEST s 1 +1".as_slice(), refused),
+        (b"AT 18446744073709551616".as_slice(), refused),
+        (b"AT 000000000000000000005".as_slice(), refused),
+        (b"AT".as_slice(), refused),
+        (b"AT 5 ".as_slice(), refused),
+        (b"AT  5".as_slice(), refused),
     ] {
         assert_eq!(rt; parse_script(&rt.alloc(), line).err(), error);
     }

@@ -29,6 +29,11 @@ fn worked_runs(rt: HostRuntime) -> Result<(), Fail> {
             b"OK 0\nERR ZERO\nERR ZERO\nOK\nERR TOOMUCH\nERR OBSERVER\nOK\ns 0 DONE\nERR ENDED\nERR SUBJECT\n".as_slice(),
         ),
         (
+            "moments_of_64_bits",
+            b"AT 5\nAT 18446744073709551615\nAT 18446744073709551616\nJOIN s BUFFER DELAY 1\nAT 0\nPUB s a\nAT\n".as_slice(),
+            b"OK\nOK\nERR SYNTAX\nOK 0\nOK\nOK\ns 0 NEXT a\nERR SYNTAX\n".as_slice(),
+        ),
+        (
             "drop_zero_honours_demand",
             b"JOIN s DROP:0 DELAY 0\nPUB s a\nREQUEST s 0 1\nPUB s b\n".as_slice(),
             b"OK 0\nOK\nOK\nOK\ns 0 NEXT b\n".as_slice(),

@@ -1,5 +1,5 @@
 use Rattle.std.proofs.Common.{◌≡◌, None}
-use Rattle.rxline.specs.Audits.{subjects_in}
+use Rattle.rxline.specs.Audits.{state_in}
 use Rattle.rxline.specs.Reads.{ahead}
 use Rattle.rxline.specs.Steps.{unread}
 use Rattle.rxline.proofs.Audited.{LearnsSoFar}
@@ -7,7 +7,7 @@ use Rattle.rxline.proofs.audit.enter_all.Given as goal
 
 abbrev pub invariant-loop-end : goal.invariant-loop-end
 invariant-loop-end g l =
-    LearnsSoFar (subjects_in l.initial.ledgers.items) (subjects_in l.ledgers.items) (g.R.Read.remaining l.initial.reader) (g.R.Read.remaining l.reader) (unread l.lines)
+    LearnsSoFar (state_in l.initial.audit) (state_in l.audit) (g.R.Read.remaining l.initial.reader) (g.R.Read.remaining l.reader) (unread l.lines)
     × (l.lines.end ≡ None)
 
 abbrev pub decreases-loop-end : goal.decreases-loop-end

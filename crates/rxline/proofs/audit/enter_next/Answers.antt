@@ -1,5 +1,6 @@
 use Rattle.std.proofs.Common.{◌<◌, ℕ, List, length, ap, sym, ◌∙◌, refl, Err, None}
 use Rattle.std.proofs.lemmas.Result.{IfOk-weaker}
+use Rattle.rxline.specs.Audits.{state_in}
 use Rattle.rxline.specs.declared.line_error.BadLine.TheVariants as bad
 use Rattle.rxline.specs.declared.step.Step.TheVariants.{Line, Long}
 use Rattle.rxline.specs.Reading.{line_read}
@@ -17,7 +18,7 @@ returns-in-Line g c =
     let goes = goes_by (Line c.in-Line.len) read_old read_new before after c.requires c.in-Line.ensures.advances in
     let says : List ℕ → Type 0 = λ line. IsTold line c.in-Line.len after.window in
     IfOk-weaker c.enter_line.result _ _
-    (λ end enters. follows end _ _ read_old read_new before after (line_read c.line.result.now) says
+    (λ end enters. follows end (state_in c.args.audit.now) (state_in c.enter_line.new.audit) read_old read_new before after (line_read c.line.result.now) says
     (λ line said. ap line_read (sym said.bytes ∙ sym c.line.ensures)) goes.0 goes.1 enters)
     c.enter_line.ensures
 
@@ -29,4 +30,4 @@ returns-in-Long g c =
     let after = c.advance.new.self in
     let goes = goes_by Long read_old read_new before after c.requires c.in-Long.ensures.advances in
     let says : List ℕ → Type 0 = λ line. 1100 < length line in
-    follows None _ _ read_old read_new before after (Err bad.Long) says line_read-long goes.0 goes.1 (refl, refl)
+    follows None (state_in c.args.audit.now) (state_in c.args.audit.now) read_old read_new before after (Err bad.Long) says line_read-long goes.0 goes.1 (refl, refl)

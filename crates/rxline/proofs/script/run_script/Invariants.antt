@@ -8,7 +8,7 @@ use Rattle.rxline.proofs.script.run_script.Given as goal
 abbrev pub invariant-loop-script : goal.invariant-loop-script
 invariant-loop-script g l =
     SoFar (new_subjects l.fn.config.subjects.items) (g.R.Read.remaining l.initial.reader) (g.R.Read.remaining l.reader)
-    (g.W.Write.contents l.initial.writer) (g.W.Write.contents l.writer) l.script.topics.items (unread l.lines) l.script.outbox
+    (g.W.Write.contents l.initial.writer) (g.W.Write.contents l.writer) l.script (unread l.lines)
     × (l.lines.end ≡ None)
 
 abbrev pub decreases-loop-script : goal.decreases-loop-script
