@@ -7,7 +7,7 @@ use Rattle.rx_note.specs.declared.event.Event.TheVariants.{Emit, Join, Request}
 use Rattle.rx_note.specs.declared.rules.Rules.{Rules}
 use Rattle.rx_note.specs.Choices.{Choice}
 use Rattle.rx_note.specs.Signals.{Requested, Offered, Signals, Start, ◌▸◌}
-use Rattle.rx_history.specs.Histories.{History, ◌▹◌, joins, end_of, may_join, stamp, items, age_moment, opening_by, offers_by, terminal_in, followed_by, ended_by, may_request, signals}
+use Rattle.rx_history.specs.Histories.{History, ◌▹◌, joins, end_of, may_join, stamp, items, last_item, age_moment, opening_by, offers_by, terminal_in, followed_by, ended_by, may_request, signals}
 use Rattle.rx_history.specs.Pasts.{Remembers}
 use Rattle.rx_history.specs.Traces.{Traces, MayTrace, AreOpen}
 use Rattle.rx_history.specs.Walks.{Passes}
@@ -27,7 +27,7 @@ traces_same trace a b e traces = let P : Option Signals → Type 0 = λ x. MayTr
 pub passes_emitted : (rules : Rules) (old new : Walk) (port : ℕ) (note : Note) (at : ℕ) (offers : List Item) → is_some old.past.end ≡ false
     → new.who ≡ old.who → new.joins ≡ old.joins
     → ((H : History) → end_of H ≡ None → Remembers rules old.past H → Remembers rules new.past (H ▹ (port, Emit note at)))
-    → ((H : History) → Remembers rules old.past H → offers ≡ offers_by rules.kind rules H port note)
+    → ((H : History) → Remembers rules old.past H → offers ≡ offers_by rules.kind (last_item rules H) port note)
     → ((s : Option Signals) → AreOpen s → MayTrace old.trace s → MayTrace new.trace (option_map (λ t. followed_by t (map Offered offers ++ ended_by (terminal_in note))) s))
     → Passes rules old new (port, Emit note at)
 passes_emitted rules old new port note at offers open_now who joined remembers offered follows H was =

@@ -1,6 +1,6 @@
 ghost use Rattle.std.specs.Prelude.{◌≡◌, ℕ, List, [], true, IfOk, OnOk};
 ghost use Rattle.rx_note.specs.declared.event.Event.TheVariants.{Emit, Join};
-ghost use Rattle.rx_history.specs.Histories.{History, NoEvents, ◌▹◌, Stamped, may_join, end_of, items as items_of, item_in, terminal_in, unstamped, newest, seed_item, or_else, is_young, young, at_most, age_moment, opening_by, offers_by};
+ghost use Rattle.rx_history.specs.Histories.{History, NoEvents, ◌▹◌, Stamped, may_join, end_of, items as items_of, item_in, terminal_in, unstamped, newest, seed_item, or_else, is_young, young, at_most, age_moment, last_item, opening_by, offers_by};
 
 use rx_heap::{Heap, Memory};
 use rx_note::{Event, Item, Kind, Note, Policy, Rules, Text};
@@ -65,7 +65,7 @@ impl Past {
         note: &Note,
     ) -> Result<Vec<Item, Heap>, Memory>
         ensures { IfOk result (λ offers. (rules : Rules) (H : History) → Remembers rules self.now H
-            → offers.items ≡ offers_by kind.now rules H port note.now) }
+            → offers.items ≡ offers_by kind.now (last_item rules H) port note.now) }
     {
         match kind {
             Kind::Publish | Kind::Behavior(_) | Kind::Replay { .. } => self.item_in(port, note),
