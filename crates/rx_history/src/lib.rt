@@ -11,8 +11,6 @@
 mod history;
 pub mod laws;
 mod line_error;
-#[cfg(test)]
-mod tests;
 mod trace;
 mod walk;
 
