@@ -12,8 +12,6 @@ mod history;
 pub mod laws;
 mod line_error;
 mod past;
-#[cfg(test)]
-mod tests;
 mod trace;
 mod walk;
 

@@ -9,8 +9,6 @@
 mod ask_error;
 mod lane;
 mod queue;
-#[cfg(test)]
-mod tests;
 
 pub use ask_error::AskError;
 pub use lane::Lane;

@@ -4,4 +4,3 @@ pub mod Steps
 pub mod Tally
 pub mod NewPorts
 pub mod Joins
-pub mod Samples

@@ -5,4 +5,3 @@ pub mod Settling
 pub mod Rule
 pub mod Steps
 pub mod Passes
-pub mod Tests

@@ -30,6 +30,3 @@ pub use settle_cause::SettleCause;
 pub use settled::Settled;
 pub use settling::settle;
 pub use unsettled::Unsettled;
-
-#[cfg(test)]
-mod tests;

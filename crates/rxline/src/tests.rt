@@ -4,4 +4,3 @@ mod audits;
 mod faults;
 mod lines;
 mod rows;
-mod runs;

@@ -4,7 +4,7 @@ use crate::name::Name;
 use crate::session_end::SessionEnd;
 use crate::subject_config::SubjectConfig;
 use rx_note::{Kind, Limits, Rules};
-use std::io::{self, ErrorKind, Read};
+use std::io::{self, ErrorKind, Read, Write};
 use std::test::Fail;
 
 const MAX_READS: u64 = 4_294_967_296;
@@ -13,9 +13,20 @@ const WAITING_END: &[u8] = b"JOIN s BUFFER DELAY 1\nPUB s a\nPUB s b\nEND s\n";
 
 const WAITING_END_AUDIT: &[u8] = b"OBSERVER s 0\nGIVEN NEXT a\nWAITING NEXT b\nWAITING DONE\n";
 
+// Audits a script over the standard configuration.
+fn audit<R: Read, W: Write>(
+    rt: &HostRuntime,
+    reader: &mut R,
+    writer: &mut W,
+    max_reads: u64,
+) -> Result<SessionEnd, Fail> {
+    let config = Config::standard(rt.alloc())?;
+    Ok(run_audit(rt.alloc(), config, reader, writer, max_reads)?)
+}
+
 #[test]
 fn audits_of_whole_inputs(rt: HostRuntime) -> Result<(), Fail> {
-    for (name, script, audit, end) in [
+    for (name, script, wanted, end) in [
         (
             "audit_of_a_waiting_end",
             WAITING_END,
@@ -49,10 +60,9 @@ fn audits_of_whole_inputs(rt: HostRuntime) -> Result<(), Fail> {
     ] {
         let mut reader = script;
         let mut written = Vec::new(rt.alloc());
-        let config = Config::standard(rt.alloc())?;
-        let ended = run_audit(rt.alloc(), config, &mut reader, &mut written, MAX_READS)?;
+        let ended = audit(&rt, &mut reader, &mut written, MAX_READS)?;
         assert_eq!(rt; ended, end, "{name}");
-        assert_eq!(rt; written.as_slice(), audit, "{name}");
+        assert_eq!(rt; written.as_slice(), wanted, "{name}");
     }
     Ok(())
 }
@@ -84,8 +94,7 @@ fn subjects_in_the_order_of_the_configuration(rt: HostRuntime) -> Result<(), Fai
 fn too_many_reads_print_nothing(rt: HostRuntime) -> Result<(), Fail> {
     let mut reader = WAITING_END;
     let mut written = Vec::new(rt.alloc());
-    let config = Config::standard(rt.alloc())?;
-    let ended = run_audit(rt.alloc(), config, &mut reader, &mut written, 1)?;
+    let ended = audit(&rt, &mut reader, &mut written, 1)?;
     assert_eq!(rt; ended, SessionEnd::TooManyReads);
     assert!(rt; written.is_empty());
     Ok(())
@@ -110,8 +119,7 @@ impl Read for Fails {
 fn a_read_fault_prints_nothing(rt: HostRuntime) -> Result<(), Fail> {
     let mut reader = Fails { rest: WAITING_END };
     let mut written = Vec::new(rt.alloc());
-    let config = Config::standard(rt.alloc())?;
-    let ended = run_audit(rt.alloc(), config, &mut reader, &mut written, MAX_READS)?;
+    let ended = audit(&rt, &mut reader, &mut written, MAX_READS)?;
     assert_eq!(rt; ended, SessionEnd::ReadFault);
     assert!(rt; written.is_empty());
     Ok(())
@@ -122,8 +130,7 @@ fn a_full_writer_has_a_prefix(rt: HostRuntime) -> Result<(), Fail> {
     let mut reader = WAITING_END;
     let mut room = [0; 20];
     let mut writer = room.as_mut_slice();
-    let config = Config::standard(rt.alloc())?;
-    let ended = run_audit(rt.alloc(), config, &mut reader, &mut writer, MAX_READS)?;
+    let ended = audit(&rt, &mut reader, &mut writer, MAX_READS)?;
     assert_eq!(rt; ended, SessionEnd::WriteFault);
     assert_eq!(rt; room.as_slice(), &WAITING_END_AUDIT[..20]);
     Ok(())

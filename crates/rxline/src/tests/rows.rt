@@ -13,6 +13,17 @@ const FIRST_RUN: &[u8] =
 
 const FIRST_ANSWERS: &[u8] = b"OK 0\nOK\nOK\nOK\ns 0 NEXT a\nOK\nOK\ns 0 NEXT b\ns 0 DONE\n";
 
+// Runs a script over the standard configuration.
+fn run<R: Read, W: Write>(
+    rt: &HostRuntime,
+    reader: &mut R,
+    writer: &mut W,
+    max_reads: u64,
+) -> Result<SessionEnd, Fail> {
+    let config = Config::standard(rt.alloc())?;
+    Ok(run_script(rt.alloc(), config, reader, writer, max_reads)?)
+}
+
 #[test]
 fn worked_runs(rt: HostRuntime) -> Result<(), Fail> {
     for (name, script, answers) in [
@@ -56,8 +67,7 @@ fn worked_runs(rt: HostRuntime) -> Result<(), Fail> {
     ] {
         let mut reader = script;
         let mut written = Vec::new(rt.alloc());
-        let config = Config::standard(rt.alloc())?;
-        let end = run_script(rt.alloc(), config, &mut reader, &mut written, MAX_READS)?;
+        let end = run(&rt, &mut reader, &mut written, MAX_READS)?;
         assert_eq!(rt; end, SessionEnd::EndOfInput, "{name}");
         assert_eq!(rt; written.as_slice(), answers, "{name}");
     }
@@ -101,8 +111,7 @@ fn reads_are_cut_anywhere(rt: HostRuntime) -> Result<(), Fail> {
             reads: 0,
         };
         let mut written = Vec::new(rt.alloc());
-        let config = Config::standard(rt.alloc())?;
-        let end = run_script(rt.alloc(), config, &mut reader, &mut written, MAX_READS)?;
+        let end = run(&rt, &mut reader, &mut written, MAX_READS)?;
         assert_eq!(rt; end, SessionEnd::EndOfInput, "by {step}");
         assert_eq!(rt; written.as_slice(), FIRST_ANSWERS, "by {step}");
     }
@@ -124,8 +133,7 @@ fn interrupted_reads(rt: HostRuntime) -> Result<(), Fail> {
             reads: 0,
         };
         let mut written = Vec::new(rt.alloc());
-        let config = Config::standard(rt.alloc())?;
-        let end = run_script(rt.alloc(), config, &mut reader, &mut written, max_reads)?;
+        let end = run(&rt, &mut reader, &mut written, max_reads)?;
         assert_eq!(rt; end, wanted, "{max_reads} reads");
         assert_eq!(rt; written.as_slice(), answers, "{max_reads} reads");
         assert!(rt; reader.reads <= max_reads);
@@ -163,8 +171,7 @@ fn writer_fails_at_each_byte(rt: HostRuntime) -> Result<(), Fail> {
             taken: Vec::new(rt.alloc()),
             room,
         };
-        let config = Config::standard(rt.alloc())?;
-        let end = run_script(rt.alloc(), config, &mut reader, &mut writer, MAX_READS)?;
+        let end = run(&rt, &mut reader, &mut writer, MAX_READS)?;
         assert_eq!(rt; end, SessionEnd::WriteFault, "at {room}");
         assert_eq!(rt;
             writer.taken.as_slice(),
@@ -196,8 +203,7 @@ fn limits_of_a_line(rt: HostRuntime) -> Result<(), Fail> {
     script.extend_from_slice(b"\nPUB s a\nPUB s b")?;
     let mut reader = script.as_slice();
     let mut written = Vec::new(rt.alloc());
-    let config = Config::standard(rt.alloc())?;
-    let end = run_script(rt.alloc(), config, &mut reader, &mut written, MAX_READS)?;
+    let end = run(&rt, &mut reader, &mut written, MAX_READS)?;
     assert_eq!(rt; end, SessionEnd::EndOfInput);
     let answers = b"ERR SYNTAX\nERR LONG\nERR SYNTAX\nERR LONG\nERR SYNTAX\nOK\n";
     assert_eq!(rt; written.as_slice(), answers.as_slice());

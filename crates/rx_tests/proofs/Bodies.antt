@@ -7,7 +7,7 @@ use Rattle.rx_mailbox.specs.declared.letter.Post.TheVariants.{Body, Bye}
 use Rattle.rx_mailbox.specs.Letters.{letter, share}
 use Rattle.rx_mailbox.specs.Boxes.{Outgoing, outgoing, Incoming, with_post}
 use Rattle.rx_mailbox.specs.Settling.{GotAll}
-use Rattle.rx_mailbox.specs.Tests.{bodies_of, all_of, after_all}
+use Rattle.rx_tests.specs.Bodies.{bodies_of, all_of, after_all}
 
 -- one more body
 pub bodies_more : (start before after : Outgoing ℕ) (n : ℕ) → before ≡ outgoing start.box start.number (bodies_of start.number n) → after ≡ with_post before (Body n)

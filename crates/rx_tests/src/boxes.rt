@@ -1,16 +1,17 @@
-// What no clause says: that calls succeed, and that two threads get on.
+//! Boxes between threads: what no clause says, that calls succeed, and that two threads get on.
+
 ghost use Rattle.std.specs.Prelude.{◌≡◌, []};
 ghost use Rattle.rx_mailbox.specs.declared.letter.Post.TheVariants.{Body, Bye};
 ghost use Rattle.rx_mailbox.specs.Letters.{share};
 ghost use Rattle.rx_mailbox.specs.Boxes.{outgoing, incoming, with_post, AreOf};
 ghost use Rattle.rx_mailbox.specs.Settling.{GotAll};
-ghost use Rattle.rx_mailbox.specs.Tests.{all_of, after_all};
+ghost use Rattle.rx_tests.specs.Bodies.{all_of, after_all};
 
-use crate::{
+use rx_heap::Heap;
+use rx_mailbox::{
     EndedPort, Gone, Inbox, MAX_CAPACITY, MAX_PORTS, OpenError, Port, Post, SettleCause, Settled,
     open, settle,
 };
-use rx_heap::Heap;
 use std::process::Abort;
 use std::sync::Wait;
 use std::thread::{Threads, join};

@@ -1,7 +1,7 @@
 use Rattle.std.proofs.Common.{◌≡◌, arith}
-use Rattle.rx_mailbox.specs.declared.tests.TheConstants.{BODIES}
-use Rattle.rx_mailbox.proofs.Samples.{bodies_more, bodies_end}
-use Rattle.rx_mailbox.proofs.tests.send_all.Goals as goal
+use Rattle.rx_tests.specs.declared.boxes.TheConstants.{BODIES}
+use Rattle.rx_tests.proofs.Bodies.{bodies_more, bodies_end}
+use Rattle.rx_tests.proofs.boxes.send_all.Goals as goal
 
 pub loop-body-preserved : goal.loop-body-preserved
 loop-body-preserved g c = bodies_more c.args.port _ _ c.loop-body.body c.loop-body.invariant c.send.ensures
