@@ -224,12 +224,16 @@ fn fill(
 {
     offers.clear();
     offers.reserve(count)?;
-    for _ in 0..count.saturating_sub(1) {
-        let Ok(offer) = subject.preview(port, note) else {
-            return Err(Memory);
-        };
-        offers.push_reserved(offer);
+    if count < 2 {
+        return Ok(());
     }
+    let Ok(offer) = subject.preview(port, note) else {
+        return Err(Memory);
+    };
+    for _ in 2..count {
+        offers.push_reserved(offer.copy()?);
+    }
+    offers.push_reserved(offer);
     Ok(())
 }
 

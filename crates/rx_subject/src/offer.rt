@@ -1,8 +1,25 @@
-use rx_note::{Item, Note};
+ghost use Rattle.std.specs.Prelude.{◌≡◌, IfOk};
+
+use rx_heap::Memory;
+use rx_note::{Item, Note, copy_of};
 
 /// What an accepted note offers to every observer: first the item, then the end.
 #[derive(Drop, Debug, PartialEq, Eq)]
 pub struct Offer {
     pub item: Option<Item>,
     pub end: Option<Note>,
+}
+
+impl Offer {
+    /// An equal offer, which shares the texts.
+    pub fn copy(&self) -> Result<Offer, Memory>
+        ensures { IfOk result (λ offer. offer ≡ self.now) }
+    {
+        let item = match &self.item {
+            Some(item) => Some(item.copy()?),
+            None => None,
+        };
+        let end = copy_of(&self.end)?;
+        Ok(Offer { item, end })
+    }
 }

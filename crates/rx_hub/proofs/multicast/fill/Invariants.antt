@@ -1,11 +1,11 @@
-use Rattle.std.proofs.Common.{◌≡◌, ◌≤◌, vec_len, vec_capacity}
-use Rattle.rx_subject.specs.Subjects.{signals_by}
+use Rattle.std.proofs.Common.{◌≡◌, ◌+◌, ◌≤◌, vec_len, vec_capacity}
+use Rattle.rx_subject.specs.Offers.{offer_signals}
 use Rattle.rx_hub.specs.Offers.{AllSignal}
 use Rattle.rx_hub.proofs.multicast.fill.Given as goal
 
 abbrev pub invariant-loop : goal.invariant-loop
 invariant-loop l = record {
-  signals : AllSignal (signals_by l.subject l.port l.note) l.offers.items;
-  len : vec_len l.offers ≡ l.counter;
+  signals : AllSignal (offer_signals l.offer) l.offers.items;
+  len : vec_len l.offers + 2 ≡ l.counter;
   room : l.count ≤ vec_capacity l.offers;
 }
