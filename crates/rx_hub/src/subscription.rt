@@ -95,7 +95,9 @@ impl Subscription {
     }
 }
 
-// Offers an item, if there is one, and answers the note that it gives at once.
+// Offers an item, if there is one, and answers the note that it gives at once. It stands on the path of every emission,
+// once for each observer.
+#[inline(always)]
 fn offer_to(lane: &mut Lane, item: Option<Item>) -> Option<Note>
     requires { HasRoomFor lane.old 1 }
     ensures serves { Serves lane.old.state lane.new.state (map Offered (option_to_list item)) (option_to_list result) }
@@ -107,15 +109,17 @@ fn offer_to(lane: &mut Lane, item: Option<Item>) -> Option<Note>
     }
 }
 
-/// Ends a queue by a terminal, if there is one, and answers it where it is given at once.
-pub(crate) fn end_by(lane: &mut Lane, end: Option<Note>) -> Option<Note>
+// Ends a queue by a terminal, if there is one, and answers it where it is given at once.
+#[inline(always)]
+fn end_by(lane: &mut Lane, end: Option<Note>) -> Option<Note>
     ensures { Serves lane.old.state lane.new.state (ended_by end) (option_to_list result) }
 {
     lane.end(end?)
 }
 
-/// Puts a note, if there is one, at the end of `outs`, for an observer.
-pub(crate) fn give(who: u32, note: Option<Note>, outs: &mut Vec<Given, Heap>)
+// Puts a note, if there is one, at the end of `outs`, for an observer.
+#[inline(always)]
+fn give(who: u32, note: Option<Note>, outs: &mut Vec<Given, Heap>)
     requires { vec_len outs.old < vec_capacity outs.old }
     ensures items { outs.new.items ≡ outs.old.items ++ addressed who (option_to_list note) }
     ensures len { vec_len outs.new ≤ vec_len outs.old + 1 }

@@ -158,6 +158,7 @@ impl Lane {
 
     /// Offers an item, which comes back where it is given at once; else it waits, or it or the oldest that waits is lost, by
     /// the strategy. It takes no memory: room for it was reserved. It is meant before the end alone.
+    #[inline(always)]
     pub fn offer(&mut self, item: Item) -> Option<Item>
         requires { HasRoomFor self.old 1 }
         ensures gives { Gives self.old.state (Offered item) (map Next (option_to_list result)) }
