@@ -1,5 +1,5 @@
 -- What an entry makes of the joins, and of the signals of an observer.
-use Rattle.std.proofs.Common.{◌≡◌, ℕ, ◌+◌, ◌≤◌, ◌==◌, max, Bool, true, false, cond, ◌&&◌, ◌||◌, not, ltb, List, [], ◌∷◌, ◌++◌, length, map, Option, None, Some, is_some, inl, inr, refl, sym, ap, ◌∙◌, arith}
+use Rattle.std.proofs.Common.{◌≡◌, ℕ, ◌+◌, ◌≤◌, ◌==◌, Bool, true, false, cond, ◌&&◌, ◌||◌, not, ltb, List, [], ◌∷◌, length, Option, None, Some, is_some, inl, inr, refl, sym, ap, ◌∙◌, arith}
 use Rattle.std.specs.List.{list_any}
 use Rattle.std.specs.Option.{option_map, option_map_or}
 use Rattle.std.proofs.lemmas.List.{length-append}
@@ -11,8 +11,8 @@ use Rattle.rx_note.specs.declared.event.Event.TheVariants.{Emit, Join, Request}
 use Rattle.rx_note.specs.declared.rules.Rules.{Rules}
 use Rattle.rx_note.specs.declared.limits.Limits.{Limits}
 use Rattle.rx_note.specs.Choices.{Choice}
-use Rattle.rx_note.specs.Signals.{Signal, Requested, Offered, Signals, Start, ◌▸◌, line, waiting}
-use Rattle.rx_history.specs.Histories.{History, NoEvents, ◌▹◌, Roster, with_one_more, roster_of, joins, held, is_held, is_ended, end_of, may_join, stamp, item_in, offers_by, opening_by, terminal_in, followed_by, ended_by, signalled, opened, may_request, signals, line_of, given_to, waiting_for}
+use Rattle.rx_note.specs.Signals.{Signal, Requested, Signals, ◌▸◌, line, waiting}
+use Rattle.rx_history.specs.Histories.{History, NoEvents, ◌▹◌, Roster, with_one_more, roster_of, joins, held, is_held, is_ended, end_of, may_join, followed_by, signalled, opened, may_request, signals, line_of, given_to, waiting_for}
 use Rattle.rx_history.proofs.Numbers.{signals_unmade}
 
 -- as nobody leaves, as many are held as have joined

@@ -1,7 +1,6 @@
 -- The items offered to an observer, event by event.
-use Rattle.std.proofs.Common.{◌≡◌, ℕ, ◌-◌, ◌==◌, max, Bool, true, false, cond, ◌&&◌, List, [], ◌∷◌, ◌++◌, length, map, drop, Option, None, Some, is_some, refl, sym, ap, ◌∙◌}
+use Rattle.std.proofs.Common.{◌≡◌, ℕ, ◌-◌, ◌==◌, max, Bool, true, false, cond, ◌&&◌, List, [], ◌∷◌, ◌++◌, length, map, Option, None, Some, is_some, refl, sym, ap, ◌∙◌}
 use Rattle.std.specs.Option.{option_map, option_map_or, option_or}
-use Rattle.std.specs.List.{filter}
 use Rattle.std.proofs.lemmas.List.{append-nil, append_assoc, map-append}
 use Rattle.rx_note.specs.declared.item.Item.{Item}
 use Rattle.rx_note.specs.declared.note.Note.{Note}
@@ -12,7 +11,7 @@ use Rattle.rx_note.specs.declared.kind.Kind.TheVariants.{Publish, Behavior, Asyn
 use Rattle.rx_note.specs.declared.rules.Rules.{Rules}
 use Rattle.rx_note.specs.Choices.{Choice}
 use Rattle.rx_note.specs.Signals.{Requested, Offered, Signals, Start, ◌▸◌}
-use Rattle.rx_history.specs.Histories.{History, NoEvents, ◌▹◌, terminal_in, end_of, is_ended, is_completion, joins, is_held, may_join, stamp, Stamped, item_in, items, unstamped, newest, last_item, or_else, seed_item, is_young, young, at_most, age_moment, opening_by, offers_by, followed_by, ended_by, signalled, opened, may_request, signals}
+use Rattle.rx_history.specs.Histories.{History, NoEvents, ◌▹◌, terminal_in, end_of, is_ended, is_completion, joins, is_held, may_join, stamp, Stamped, item_in, items, unstamped, newest, last_item, or_else, seed_item, is_young, young, at_most, age_moment, opening_by, offers_by, followed_by, ended_by, may_request, signals}
 use Rattle.rx_history.specs.Delivery.{offered, offered_to, emitted, seed_of, all_items, offers_at_once, IsSubsequence, AsyncOffersTheLast}
 use Rattle.rx_history.proofs.Subsequences.{along, none_of, all_of, both_of, some_of_some, filter_of, drop_of}
 use Rattle.rx_history.proofs.Entries.{is_held-signals, signals-emitted, signals-refused, signals-not_joined, signals-joined, signals-not_requested, signals-requested}

@@ -1,5 +1,5 @@
 -- The worked examples, by computation: what each event is answered and gives, and what is owed at the end.
-use Rattle.std.specs.Prelude.{◌≡◌, ℕ, List, [], ◌∷◌, map, Option, None, Some, Result, Ok, Err, refl}
+use Rattle.std.specs.Prelude.{◌≡◌, ℕ, List, [], ◌∷◌, map, None, Some, Result, Ok, Err, refl}
 use Rattle.rx_note.specs.Choices.{choice}
 use Rattle.rx_note.specs.declared.policy.Policy.{Policy}
 use Rattle.rx_note.specs.declared.strategy.Strategy.TheVariants.{Buffer, Drop, Latest}

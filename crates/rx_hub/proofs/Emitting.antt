@@ -1,5 +1,5 @@
 -- A step that accepts a note: each observer was fed what the note offers.
-use Rattle.std.proofs.Common.{◌≡◌, ℕ, Bool, true, false, cond, ◌&&◌, ◌==◌, not, is_some, max, List, [], ◌∷◌, ◌++◌, map, Option, None, Some, Ok, Err, refl, sym, ap, subst, ◌∙◌}
+use Rattle.std.proofs.Common.{◌≡◌, ℕ, Bool, true, false, cond, ◌&&◌, ◌==◌, not, is_some, List, [], ◌∷◌, ◌++◌, Option, None, Some, Ok, Err, refl, sym, ap, subst, ◌∙◌}
 use Rattle.std.specs.Option.{option_map}
 use Rattle.std.specs.List.{list_any, flat_map}
 use Rattle.rx_note.specs.declared.given.Given.{Given}
@@ -8,8 +8,8 @@ use Rattle.rx_note.specs.declared.rules.Rules.{Rules}
 use Rattle.rx_note.specs.declared.event.Event.TheVariants.{Emit}
 use Rattle.rx_note.specs.declared.answer.Answer.TheVariants.{Admitted}
 use Rattle.rx_note.specs.declared.refusal.Refusal.TheVariants as refused
-use Rattle.rx_note.specs.Signals.{Signal, Offered, Signals, terminal_of, given}
-use Rattle.rx_history.specs.Histories.{History, ◌▹◌, end_of, is_ended, stamp, held, is_held, terminal_in, followed_by, ended_by, offers_by, signalled, signals, addressed}
+use Rattle.rx_note.specs.Signals.{Signal, Signals, terminal_of, given}
+use Rattle.rx_history.specs.Histories.{History, ◌▹◌, end_of, is_ended, held, is_held, followed_by, signalled, signals, addressed}
 use Rattle.rx_history.proofs.Endings.{signals_open}
 use Rattle.rx_subject.specs.Subjects.{SubjectState, signals_by}
 use Rattle.rx_subject.specs.Subjects as subjects

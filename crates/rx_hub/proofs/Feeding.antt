@@ -1,5 +1,5 @@
 -- The loop that feeds each observer: what it has done at its i-th turn.
-use Rattle.std.proofs.Common.{◌≡◌, ℕ, ◌+◌, ◌<◌, ◌≤◌, List, [], ◌∷◌, ◌++◌, length, take, drop, get_or, set, refl, sym, ap, ◌∙◌, subst, arith, append_assoc, append-nil, length-append}
+use Rattle.std.proofs.Common.{◌≡◌, ℕ, ◌+◌, ◌<◌, ◌≤◌, List, [], ◌∷◌, ◌++◌, length, take, drop, get_or, set, refl, sym, ap, ◌∙◌, subst, arith, append_assoc, append-nil}
 use Rattle.std.proofs.lemmas.List.{take_more, take_more_set, drop-drop, get_or-drop, map-append, drop-set-lt}
 use Rattle.rx_note.specs.declared.given.Given.{Given}
 use Rattle.rx_note.specs.declared.note.Note.{Note}

@@ -1,5 +1,5 @@
 -- A step that is refused: the hub and what was given stay.
-use Rattle.std.proofs.Common.{◌≡◌, ℕ, Bool, true, false, cond, ◌&&◌, ◌==◌, not, is_some, nat_lt, max, List, [], ◌++◌, length, Option, None, Some, Result, Ok, Err, refl, sym, ap, ◌∙◌, append-nil}
+use Rattle.std.proofs.Common.{◌≡◌, ℕ, Bool, true, false, cond, ◌&&◌, ◌==◌, not, is_some, nat_lt, List, [], ◌++◌, length, Option, None, Some, Result, Ok, Err, refl, sym, ap, ◌∙◌, append-nil}
 use Rattle.std.proofs.lemmas.List.{length-map}
 use Rattle.std.specs.Option.{option_map}
 use Rattle.std.specs.List.{flat_map}
@@ -13,7 +13,7 @@ use Rattle.rx_note.specs.declared.answer.Answer.TheVariants.{Admitted, Joined}
 use Rattle.rx_note.specs.declared.refusal.Refusal.{Refusal}
 use Rattle.rx_note.specs.declared.refusal.Refusal.TheVariants as refused
 use Rattle.rx_note.specs.Signals.{Signals, ◌▸◌, Requested}
-use Rattle.rx_history.specs.Histories.{History, ◌▹◌, Entry, Roster, end_of, is_ended, stamp, joins, held, is_held, may_join, with_one_more, roster_of, followed_by, signalled, opened, may_request, signals, answer, outs, terminal_in}
+use Rattle.rx_history.specs.Histories.{History, ◌▹◌, Entry, Roster, is_ended, joins, held, is_held, may_join, with_one_more, roster_of, followed_by, signalled, opened, may_request, signals, answer, outs}
 use Rattle.rx_subject.specs.Subjects.{SubjectState}
 use Rattle.rx_subject.specs.Subjects as subjects
 use Rattle.rx_subject.proofs.Standing.{stands_request, stands_not_joined, stands_refused}

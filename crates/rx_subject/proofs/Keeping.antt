@@ -1,10 +1,10 @@
 -- What a window keeps of items whose stamps rise.
-use Rattle.std.proofs.Common.{◌≡◌, ℕ, zero, suc, ◌+◌, ◌-◌, ◌<◌, ◌≤◌, Bool, true, false, cond, ltb, List, [], ◌∷◌, ◌++◌, length, map, take, drop, Option, None, Some, ◌⊎◌, inl, inr, refl, sym, ap, ◌∙◌, arith, add-one}
+use Rattle.std.proofs.Common.{◌≡◌, ℕ, zero, suc, ◌+◌, ◌-◌, ◌<◌, ◌≤◌, Bool, true, false, cond, List, [], ◌∷◌, ◌++◌, length, map, drop, Option, None, Some, ◌⊎◌, inl, inr, refl, sym, ap, ◌∙◌, arith, add-one}
 use Rattle.std.specs.Prelude.{slice_get}
 use Rattle.std.proofs.Math.Seq.{drop-nil}
 use Rattle.std.proofs.lemmas.Bool.{cases_lt}
 use Rattle.std.proofs.lemmas.Bool.Decides.{nat_tests}
-use Rattle.std.proofs.lemmas.List.{length-append, length-drop, length-map, map-append, drop-append-le, drop-drop, drop_all, drop-map}
+use Rattle.std.proofs.lemmas.List.{length-append, length-drop, length-map, map-append, drop-append-le, drop-drop, drop-map}
 use Rattle.std.proofs.lemmas.List.Elements.{filter-append}
 use Rattle.std.specs.List.{filter}
 use Rattle.rx_note.specs.declared.item.Item.{Item}

@@ -1,5 +1,5 @@
 -- The stamps of a subject's items rise, and none is above the subject's own.
-use Rattle.std.proofs.Common.{◌≡◌, ℕ, zero, suc, ◌≤◌, max, Bool, true, false, cond, List, [], ◌∷◌, ◌++◌, map, drop, refl, sym, subst, arith, append-nil}
+use Rattle.std.proofs.Common.{ℕ, zero, suc, ◌≤◌, max, Bool, true, false, cond, List, [], ◌∷◌, ◌++◌, map, drop, sym, subst, arith, append-nil}
 use Rattle.std.proofs.Math.Nat.{le-max_left}
 use Rattle.std.specs.List.{filter}
 use Rattle.rx_note.specs.declared.item.Item.{Item}

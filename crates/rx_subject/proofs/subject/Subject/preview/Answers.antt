@@ -1,4 +1,4 @@
-use Rattle.std.proofs.Common.{◌≡◌, false, ◌++◌, map, take, Some, is_some, option_to_list, sym, ap, ◌∙◌}
+use Rattle.std.proofs.Common.{◌≡◌, false, ◌++◌, map, take, Some, is_some, sym, ap, ◌∙◌}
 use Rattle.rx_note.specs.Signals.{Offered}
 use Rattle.rx_history.specs.Histories.{unstamped, terminal_in, offers_by, ended_by}
 use Rattle.rx_subject.specs.Offers.{offer_signals}

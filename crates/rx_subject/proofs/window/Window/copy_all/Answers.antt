@@ -1,4 +1,3 @@
-use Rattle.std.proofs.Common.{sym}
 use Rattle.rx_subject.specs.Windows.{stamped_of}
 use Rattle.rx_subject.proofs.Keeping.{from_young-none}
 use Rattle.rx_subject.proofs.window.Window.copy_all.Goals as goal

@@ -1,5 +1,3 @@
-use Rattle.std.proofs.Common.{◌∷◌, [], ◌++◌, map, length, ap, ◌∙◌}
-use Rattle.rx_subject.specs.Windows.{stamped_by, stamped_of, limit_of}
 use Rattle.rx_subject.proofs.Keeping.{ring_keeps}
 use Rattle.rx_subject.proofs.window.Window.push.Goals as goal
 
