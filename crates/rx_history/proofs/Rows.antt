@@ -182,3 +182,13 @@ replay_age_stops_at_the_end = refl
 stamps_never_fall : told (of_kind (Replay None (Some 10))) NoEvents (emits_at 20 a ∷ emits_at 5 b ∷ joins_at 29 ∷ joins_at 30 ∷ [])
     ≡ ((Ok Admitted, []) ∷ (Ok Admitted, []) ∷ (Ok (Joined 0), to0 (next a) ∷ to0 (next b) ∷ []) ∷ (Ok (Joined 1), []) ∷ [])
 stamps_never_fall = refl
+
+publish_after_its_end : told default NoEvents (Join plain 1 0 ∷ Emit Completed 0 ∷ Join plain 1 0 ∷ [])
+    ≡ ((Ok (Joined 0), []) ∷ (Ok Admitted, to0 Completed ∷ []) ∷ (Ok (Joined 1), to1 Completed ∷ []) ∷ [])
+publish_after_its_end = refl
+
+replay_by_both_bounds : told (of_kind (Replay (Some 2) (Some 10))) NoEvents
+    (emits_at 0 a ∷ emits_at 5 b ∷ emits_at 6 c ∷ emits_at 7 d ∷ joins_at 9 ∷ joins_at 16 ∷ [])
+    ≡ ((Ok Admitted, []) ∷ (Ok Admitted, []) ∷ (Ok Admitted, []) ∷ (Ok Admitted, [])
+    ∷ (Ok (Joined 0), to0 (next c) ∷ to0 (next d) ∷ []) ∷ (Ok (Joined 1), to1 (next d) ∷ []) ∷ [])
+replay_by_both_bounds = refl
