@@ -1,14 +1,25 @@
 //! Events drawn by a fixed rule.
 
-use crate::signs::{emit, item, policy_of};
+use crate::signs::{item, policy_of};
 use rx_heap::Heap;
 use rx_note::{Event, Note, Strategy};
 use std::test::Fail;
+
+// How many events are drawn.
+const EVENTS: u32 = 400;
+
+// The first event that may be an item.
+const FIRST_ITEM: u32 = 20;
+
+// The first event that may be the end.
+const FIRST_END: u32 = 300;
 
 /// Draws events.
 #[derive(Drop)]
 struct Draw {
     state: u64,
+    // The greatest moment so far, in milliseconds.
+    moment: u64,
     // Whether each join is under Buffer, whatever strategy was drawn for it.
     buffers: bool,
 }
@@ -35,18 +46,26 @@ impl Draw {
         }
     }
 
+    // The next moment. One in eight steps back.
+    fn at(&mut self) -> u64 {
+        if self.below(8) == 0 {
+            let back = u64::from(self.below(30));
+            return self.moment.saturating_sub(back);
+        }
+        let step = u64::from(self.below(12));
+        self.moment = self.moment.saturating_add(step);
+        self.moment
+    }
+
     fn join(&mut self) -> Result<Event, Fail> {
         let policy = policy_of(self.strategy())?;
         let first = self.below(4);
-        Ok(Event::Join {
-            policy,
-            first,
-            at: 0,
-        })
+        let at = self.at();
+        Ok(Event::Join { policy, first, at })
     }
 
     fn request(&mut self) -> Event {
-        let who = self.below(24);
+        let who = self.below(34);
         let n = self.below(4);
         Event::Request { who, n }
     }
@@ -60,25 +79,40 @@ impl Draw {
         }
     }
 
-    // The next event; `end` says whether it may be the end.
-    fn event(&mut self, heap: &Heap, end: bool) -> Result<Event, Fail> {
-        match self.below(if end { 12 } else { 11 }) {
-            0 | 1 => self.join(),
-            2 | 3 | 4 | 5 => Ok(self.request()),
-            11 => Ok(emit(Note::Completed)),
-            _ => Ok(emit(Note::Next(item(heap, self.text())?))),
+    fn emit(&mut self, note: Note) -> Event {
+        let at = self.at();
+        Event::Emit { note, at }
+    }
+
+    // The event at a place. Joins are drawn more often where there is no item yet, and where there may be the end.
+    fn event(&mut self, heap: &Heap, place: u32) -> Result<Event, Fail> {
+        let has_items = place >= FIRST_ITEM;
+        let may_end = place >= FIRST_END;
+        match self.below(48) {
+            0..=2 => self.join(),
+            3..=8 if !has_items || may_end => self.join(),
+            9 | 10 if may_end => Ok(self.emit(Note::Completed)),
+            27..=47 if has_items => {
+                let item = item(heap, self.text())?;
+                Ok(self.emit(Note::Next(item)))
+            }
+            _ => Ok(self.request()),
         }
     }
 }
 
-/// The 400 events that are drawn for a run, each with the port that it comes by. The end may come among the last 100.
-/// `buffers` puts each join under Buffer.
+/// The 400 events that are drawn for a run, each with the port that it comes by. No item comes among the first 20; the end
+/// may come among the last 100. `buffers` puts each join under Buffer.
 pub(crate) fn drawn(heap: &Heap, buffers: bool) -> Result<Vec<(u32, Event), Heap>, Fail> {
-    let mut draw = Draw { state: 11, buffers };
+    let mut draw = Draw {
+        state: 11,
+        moment: 0,
+        buffers,
+    };
     let mut events = Vec::new(heap.clone()?);
-    for place in 0..400 {
+    for place in 0..EVENTS {
         let port = draw.below(3);
-        events.push((port, draw.event(heap, place >= 300)?))?;
+        events.push((port, draw.event(heap, place)?))?;
     }
     Ok(events)
 }

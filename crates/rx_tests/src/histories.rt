@@ -1,13 +1,13 @@
 //! Stored histories. In a script `+` joins an observer, a digit requests so many items for observer 0, and any other sign
 //! emits its note.
 //!
-//! Told is the number of events and, of an observer, its line, what it was given and what waits for it, each with a space
-//! before it; `N` stands where there is no observer, `M` for want of memory.
+//! Told is the number of events and, of observer 0 and then of observer 1, its line, what it was given and what waits for
+//! it, each with a space before it; `N` stands where there is no observer, `M` for want of memory.
 
-use crate::signs::{digit_of, event_of, policy_of, put_notes, rules_of};
+use crate::signs::{Named, digit_of, event_of, kind_of, policy_of, put_notes, rules_of};
 use rx_heap::Heap;
 use rx_history::{History, LineError};
-use rx_note::{Kind, Note, Rules, Strategy};
+use rx_note::{Note, Rules, Strategy};
 use std::test::Fail;
 
 fn history_of(heap: &Heap, strategy: Strategy, first: u32, script: &[u8]) -> Result<History, Fail> {
@@ -28,66 +28,115 @@ fn put(told: &mut Vec<u8, Heap>, notes: &Result<Vec<Note, Heap>, LineError>) -> 
     }
 }
 
-fn told_of(heap: &Heap, history: &History, rules: &Rules, who: u32) -> Result<Vec<u8, Heap>, Fail> {
-    let mut told = Vec::new(heap.clone()?);
+fn put_observer(
+    told: &mut Vec<u8, Heap>,
+    history: &History,
+    rules: &Rules,
+    who: u32,
+) -> Result<(), Fail> {
+    put(told, &history.line(rules, who))?;
+    put(told, &history.given(rules, who))?;
+    put(told, &history.waiting(rules, who))
+}
+
+fn put_history(told: &mut Vec<u8, Heap>, history: &History, rules: &Rules) -> Result<(), Fail> {
     told.push(digit_of(history.len()))?;
-    put(&mut told, &history.line(rules, who))?;
-    put(&mut told, &history.given(rules, who))?;
-    put(&mut told, &history.waiting(rules, who))?;
+    put_observer(told, history, rules, 0)?;
+    put_observer(told, history, rules, 1)
+}
+
+fn told_by(heap: &Heap, history: &History, rules: &Rules) -> Result<Vec<u8, Heap>, Fail> {
+    let mut told = Vec::new(heap.clone()?);
+    put_history(&mut told, history, rules)?;
     Ok(told)
 }
 
+fn told_of(
+    heap: &Heap,
+    named: Named,
+    strategy: Strategy,
+    first: u32,
+    script: &[u8],
+) -> Result<Vec<u8, Heap>, Fail> {
+    let rules = rules_of(kind_of(heap, named)?);
+    let history = history_of(heap, strategy, first, script)?;
+    told_by(heap, &history, &rules)
+}
+
+// A row: its name, the kind, the strategy and the first request of the joins, the script, and what is told.
+type Row = (
+    &'static str,
+    Named,
+    Strategy,
+    u32,
+    &'static str,
+    &'static str,
+);
+
+const ROWS: [Row; 7] = [
+    (
+        "line_of_a_waiting_end",
+        Named::Publish,
+        Strategy::Buffer,
+        1,
+        "+ab.",
+        "4 ab. a b. N N N",
+    ),
+    (
+        "audit_of_latest",
+        Named::Publish,
+        Strategy::Latest(2),
+        1,
+        "+abcd",
+        "5 acd a cd N N N",
+    ),
+    (
+        "drop_two",
+        Named::Publish,
+        Strategy::Drop(2),
+        0,
+        "+abcde",
+        "6 ab  ab N N N",
+    ),
+    (
+        "drop_two",
+        Named::Publish,
+        Strategy::Drop(2),
+        0,
+        "+abcde9",
+        "7 ab ab  N N N",
+    ),
+    (
+        "drop_zero_honours_demand",
+        Named::Publish,
+        Strategy::Drop(0),
+        0,
+        "+a1b",
+        "4 b b  N N N",
+    ),
+    (
+        "replay_count_into_drop",
+        Named::Replay(Some(2), None),
+        Strategy::Drop(1),
+        0,
+        "abc+2",
+        "5 b b  N N N",
+    ),
+    (
+        "async_after_completion",
+        Named::Async,
+        Strategy::Buffer,
+        0,
+        "+ab.+1",
+        "6 b. b.  b.  b.",
+    ),
+];
+
 #[test]
 fn histories_of_one_observer(rt: HostRuntime) -> Result<(), Fail> {
-    let heap = rt.alloc();
-    let rules = rules_of(Kind::Publish);
-    for (name, strategy, first, script, first_observer, second_observer) in [
-        (
-            "line_of_a_waiting_end",
-            Strategy::Buffer,
-            1,
-            "+ab.",
-            "4 ab. a b.",
-            "4 N N N",
-        ),
-        (
-            "audit_of_latest",
-            Strategy::Latest(2),
-            1,
-            "+abcd",
-            "5 acd a cd",
-            "5 N N N",
-        ),
-        (
-            "drop_two",
-            Strategy::Drop(2),
-            0,
-            "+abcde",
-            "6 ab  ab",
-            "6 N N N",
-        ),
-        (
-            "drop_two",
-            Strategy::Drop(2),
-            0,
-            "+abcde9",
-            "7 ab ab ",
-            "7 N N N",
-        ),
-        (
-            "drop_zero_honours_demand",
-            Strategy::Drop(0),
-            0,
-            "+a1b",
-            "4 b b ",
-            "4 N N N",
-        ),
-    ] {
-        let history = history_of(&heap, strategy, first, script.as_bytes())?;
-        let told = told_of(&heap, &history, &rules, 0)?;
-        assert_eq!(rt; told.as_slice(), first_observer.as_bytes(), "{name}");
-        let told = told_of(&heap, &history, &rules, 1)?;
-        assert_eq!(rt; told.as_slice(), second_observer.as_bytes(), "{name}");
+    for (name, named, strategy, first, script, wanted) in &ROWS {
+        let told = told_of(&rt.alloc(), *named, *strategy, *first, script.as_bytes())?;
+        assert_eq!(rt; told.as_slice(), wanted.as_bytes(), "{name}");
     }
     Ok(())
 }

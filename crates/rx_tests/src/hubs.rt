@@ -5,7 +5,7 @@
 //! request that was taken; a refusal is `!`.
 
 use crate::drawing::drawn;
-use crate::signs::{digit_of, event_of, policy_of, rules_of, sign_of};
+use crate::signs::{Named, SEED_PORT, digit_of, event_of, kind_of, policy_of, rules_of, sign_of};
 use rx_heap::Heap;
 use rx_history::History;
 use rx_hub::{Hub, NoObserver, Run, Step};
@@ -89,17 +89,22 @@ fn run_of_the_first_rows_events(rt: HostRuntime) -> Result<(), Fail> {
     Ok(())
 }
 
-const DRAWN_RULES: Rules = Rules {
-    kind: Kind::Publish,
-    limits: Limits {
-        observers: 18,
-        joins: 20,
-    },
-};
+const OBSERVERS: u32 = 32;
+
+// The rules of a drawn run.
+fn drawn_rules(heap: &Heap, named: Named) -> Result<Rules, Fail> {
+    let kind = kind_of(heap, named)?;
+    let limits = Limits {
+        observers: OBSERVERS,
+        joins: 34,
+    };
+    Ok(Rules { kind, limits })
+}
 
 /// A run of the drawn events, the hub behind it, and the history of the same events.
 #[derive(Drop)]
 struct Drawn {
+    rules: Rules,
     run: Run,
     hub: Hub,
     history: History,
@@ -113,11 +118,17 @@ fn history_of(heap: &Heap, buffers: bool) -> Result<History, Fail> {
     Ok(history)
 }
 
-fn run_drawn(heap: &Heap) -> Result<Drawn, Fail> {
+fn run_drawn(heap: &Heap, named: Named) -> Result<Drawn, Fail> {
+    let rules = drawn_rules(heap, named)?;
     let history = history_of(heap, false)?;
-    let mut hub = hub_of(heap, DRAWN_RULES)?;
+    let mut hub = hub_of(heap, drawn_rules(heap, named)?)?;
     let run = run_of(heap, &mut hub, drawn(heap, false)?)?;
-    Ok(Drawn { run, hub, history })
+    Ok(Drawn {
+        rules,
+        run,
+        hub,
+        history,
+    })
 }
 
 // How many observers joined, where each was told the number after the one before.
@@ -146,11 +157,67 @@ fn refused(steps: &[Step]) -> Option<u32> {
     Some(refused)
 }
 
+// How many observers joined after an emission had been refused since the subject had ended.
+fn joined_after_end(steps: &[Step]) -> u32 {
+    let mut is_ended = false;
+    let mut joined: u32 = 0;
+    for step in steps {
+        match step.result {
+            Err(Refusal::Ended) => is_ended = true,
+            Ok(Answer::Joined(_)) if is_ended => joined = joined.saturating_add(1),
+            _ => {}
+        }
+    }
+    joined
+}
+
+// How many observers were given an item as they joined.
+fn opened_with_items(steps: &[Step], outs: &[Given]) -> u32 {
+    let mut outs_to: usize = 0;
+    let mut opened: u32 = 0;
+    for step in steps {
+        let is_join = matches!(step.result, Ok(Answer::Joined(_)));
+        if is_join && step.outs_to > outs_to && is_item(outs.get(outs_to)) {
+            opened = opened.saturating_add(1);
+        }
+        outs_to = step.outs_to;
+    }
+    opened
+}
+
+fn is_item(given: Option<&Given>) -> bool {
+    match given {
+        Some(given) => matches!(&given.note, Note::Next(_)),
+        None => false,
+    }
+}
+
+// How often a seed was given.
+fn seeds(outs: &[Given]) -> u32 {
+    let mut seeds: u32 = 0;
+    for given in outs {
+        match &given.note {
+            Note::Next(item) if item.from == SEED_PORT => seeds = seeds.saturating_add(1),
+            _ => {}
+        }
+    }
+    seeds
+}
+
+// The sign of a port: `*` for that of a seed, else a digit.
+fn port_sign(port: u32) -> u8 {
+    if port == SEED_PORT {
+        b'*'
+    } else {
+        digit_of(port as usize)
+    }
+}
+
 // Puts a note whole: an item with its port before its text.
 fn put_whole(told: &mut Vec<u8, Heap>, note: &Note) -> Result<(), Fail> {
     match note {
         Note::Next(item) => {
-            told.push(digit_of(item.from as usize))?;
+            told.push(port_sign(item.from))?;
             told.extend_from_slice(item.text.as_bytes())?;
         }
         Note::Completed => told.push(b'.')?,
@@ -174,9 +241,14 @@ fn given_by_run(heap: &Heap, outs: &[Given], who: u32) -> Result<Vec<u8, Heap>, 
 }
 
 // What a history says that it was given.
-fn given_by_history(heap: &Heap, history: &History, who: u32) -> Result<Vec<u8, Heap>, Fail> {
+fn given_by_history(
+    heap: &Heap,
+    history: &History,
+    rules: &Rules,
+    who: u32,
+) -> Result<Vec<u8, Heap>, Fail> {
     let mut told = Vec::new(heap.clone()?);
-    let given = history.given(&DRAWN_RULES, who)?;
+    let given = history.given(rules, who)?;
     for note in given.as_slice() {
         put_whole(&mut told, note)?;
     }
@@ -187,53 +259,177 @@ impl Drawn {
     // Whether an observer was given what the history says.
     fn gave(&self, heap: &Heap, who: u32) -> Result<bool, Fail> {
         let by_run = given_by_run(heap, self.run.outs.as_slice(), who)?;
-        let by_history = given_by_history(heap, &self.history, who)?;
+        let by_history = given_by_history(heap, &self.history, &self.rules, who)?;
         Ok(by_run.as_slice() == by_history.as_slice())
     }
 
     // Whether as many notes wait for an observer as the history says.
     fn holds(&self, who: u32) -> Result<bool, Fail> {
-        let waiting = self.history.waiting(&DRAWN_RULES, who)?;
+        let waiting = self.history.waiting(&self.rules, who)?;
         Ok(self.hub.waiting_of(who) == Ok(waiting.len()))
+    }
+
+    // The first observer for whom the run and the history differ.
+    fn differs(&self, heap: &Heap) -> Result<Option<u32>, Fail> {
+        for who in 0..self.hub.observers() {
+            if !self.gave(heap, who)? || !self.holds(who)? {
+                return Ok(Some(who));
+            }
+        }
+        Ok(None)
+    }
+
+    fn shown(&self, heap: &Heap) -> Result<Shown, Fail> {
+        let steps = self.run.steps.as_slice();
+        let outs = self.run.outs.as_slice();
+        let observers = self.hub.observers();
+        Ok(Shown {
+            answers: steps.len(),
+            outs: outs.len(),
+            joined: joined(steps),
+            refused: refused(steps),
+            joined_after_end: joined_after_end(steps),
+            opened_with_items: opened_with_items(steps, outs),
+            seeds: seeds(outs),
+            observers,
+            past_them: self.hub.waiting_of(observers),
+            differs: self.differs(heap)?,
+        })
     }
 }
 
+/// What a drawn run shows: numbers of answers, of notes given and of observers, by the answers and by the hub, how many
+/// notes wait for the observer past them, and the first one for whom the run and the history differ.
+#[derive(Clone, Copy)]
+struct Shown {
+    answers: usize,
+    outs: usize,
+    joined: Option<u32>,
+    refused: Option<u32>,
+    joined_after_end: u32,
+    opened_with_items: u32,
+    seeds: u32,
+    observers: u32,
+    past_them: Result<usize, NoObserver>,
+    differs: Option<u32>,
+}
+
+fn shown_of(heap: &Heap, named: Named) -> Result<Shown, Fail> {
+    let drawn = run_drawn(heap, named)?;
+    drawn.shown(heap)
+}
+
+// What is wrong with the run of a kind that is to give so many notes at least, items to joiners or none, and seeds or none;
+// no text where nothing is.
+fn fault_of(shown: &Shown, fewest_outs: usize, opens: bool, seeds: bool) -> &'static str {
+    if shown.answers != 400 {
+        "answers"
+    } else if shown.outs < fewest_outs {
+        "notes given"
+    } else if shown.joined != Some(shown.observers) || shown.observers < 10 {
+        "observers"
+    } else if shown.refused < Some(10) {
+        "refusals"
+    } else if shown.joined_after_end == 0 {
+        "joins after the end"
+    } else if (shown.opened_with_items > 0) != opens {
+        "items given to joiners"
+    } else if (shown.seeds > 0) != seeds {
+        "seeds"
+    } else if shown.past_them != Err(NoObserver) {
+        "an observer past the last"
+    } else {
+        ""
+    }
+}
+
+// The kinds of the drawn runs; of each how many notes it gives at least, whether it gives items to joiners, and whether it
+// gives seeds.
+const DRAWN_KINDS: [(Named, usize, bool, bool); 8] = [
+    (Named::Publish, 100, false, false),
+    (Named::Behavior(Some(b'z')), 100, true, true),
+    (Named::Behavior(None), 100, true, false),
+    (Named::Async, 20, true, false),
+    (Named::Replay(None, None), 100, true, false),
+    (Named::Replay(Some(3), None), 100, true, false),
+    (Named::Replay(None, Some(20)), 100, true, false),
+    (Named::Replay(Some(3), Some(20)), 100, true, false),
+];
+
 #[test]
 fn a_run_gives_what_the_history_says(rt: HostRuntime) -> Result<(), Fail> {
-    let heap = rt.alloc();
-    let drawn = run_drawn(&heap)?;
-    let steps = drawn.run.steps.as_slice();
-    let observers = joined(steps).ok_or("a number out of turn")?;
-    assert_eq!(rt; steps.len(), 400);
-    assert!(rt; observers >= 10);
-    assert!(rt; refused(steps) >= Some(10));
-    assert!(rt; drawn.run.outs.len() >= 100);
-    assert_eq!(rt; drawn.hub.observers(), observers);
-    assert_eq!(rt; drawn.hub.waiting_of(observers), Err(NoObserver));
-    for who in 0..observers {
-        assert!(rt; drawn.gave(&heap, who)?, "observer {who}");
-        assert!(rt; drawn.holds(who)?, "observer {who}");
+    for (named, fewest_outs, opens, seeds) in &DRAWN_KINDS {
+        let shown = shown_of(&rt.alloc(), *named)?;
+        let fault = fault_of(&shown, *fewest_outs, *opens, *seeds);
+        assert_eq!(rt; fault, "", "{named:?}");
+        assert_eq!(rt; shown.differs, None, "{named:?}");
     }
     Ok(())
 }
 
-// Whether an observer's line under its own strategy is shorter than the line under Buffer.
-fn loses(history: &History, whole: &History, who: u32) -> Result<bool, Fail> {
-    let line = history.line(&DRAWN_RULES, who)?.len();
-    Ok(line < whole.line(&DRAWN_RULES, who)?.len())
+/// A history, and the rules that it is read by.
+#[derive(Drop)]
+struct Reading {
+    history: History,
+    rules: Rules,
 }
 
-#[test]
-fn observers_of_the_drawn_events_lose_items(rt: HostRuntime) -> Result<(), Fail> {
-    let heap = rt.alloc();
-    let history = history_of(&heap, false)?;
-    let whole = history_of(&heap, true)?;
-    let mut losing: u32 = 0;
-    for who in 0..DRAWN_RULES.limits.observers {
-        if loses(&history, &whole, who)? {
-            losing = losing.saturating_add(1);
-        }
+fn reading_of(heap: &Heap, named: Named, buffers: bool) -> Result<Reading, Fail> {
+    let history = history_of(heap, buffers)?;
+    let rules = drawn_rules(heap, named)?;
+    Ok(Reading { history, rules })
+}
+
+impl Reading {
+    fn line_len(&self, who: u32) -> Result<usize, Fail> {
+        Ok(self.history.line(&self.rules, who)?.len())
     }
+
+    // How many observers have a shorter line than by another reading.
+    fn shorter_than(&self, whole: &Reading) -> Result<u32, Fail> {
+        let mut shorter: u32 = 0;
+        for who in 0..OBSERVERS {
+            if self.line_len(who)? < whole.line_len(who)? {
+                shorter = shorter.saturating_add(1);
+            }
+        }
+        Ok(shorter)
+    }
+}
+
+// How many observers of the drawn events have a shorter line by the first kind than by the second, where the joins under
+// the first are put under Buffer or not, and under the second they are.
+fn shorter(heap: &Heap, less: Named, buffers: bool, more: Named) -> Result<u32, Fail> {
+    let reading = reading_of(heap, less, buffers)?;
+    let whole = reading_of(heap, more, true)?;
+    reading.shorter_than(&whole)
+}
+
+// Kinds by whose rules lines are shorter than by those of the kind behind.
+const SHORTER_KINDS: [(Named, Named); 8] = [
+    (Named::Async, Named::Publish),
+    (Named::Publish, Named::Behavior(None)),
+    (Named::Behavior(None), Named::Behavior(Some(b'z'))),
+    (Named::Publish, Named::Replay(Some(3), Some(20))),
+    (
+        Named::Replay(Some(3), Some(20)),
+        Named::Replay(Some(3), None),
+    ),
+    (
+        Named::Replay(Some(3), Some(20)),
+        Named::Replay(None, Some(20)),
+    ),
+    (Named::Replay(Some(3), None), Named::Replay(None, None)),
+    (Named::Replay(None, Some(20)), Named::Replay(None, None)),
+];
+
+#[test]
+fn lines_of_the_drawn_events_are_shorter(rt: HostRuntime) -> Result<(), Fail> {
+    let losing = shorter(&rt.alloc(), Named::Publish, false, Named::Publish)?;
     assert!(rt; losing >= 10);
+    for (less, more) in &SHORTER_KINDS {
+        let fewer = shorter(&rt.alloc(), *less, true, *more)?;
+        assert!(rt; fewer >= 1, "{less:?} and {more:?}");
+    }
     Ok(())
 }

@@ -17,3 +17,5 @@ mod hubs;
 mod lanes;
 #[cfg(test)]
 mod signs;
+#[cfg(test)]
+mod subjects;

@@ -1,5 +1,5 @@
-//! The signs of which scripts and what is told of them are made: a letter is the item of port 0 with this text, `.` the
-//! completion, a digit a number.
+//! The signs of which scripts and what is told of them are made: a letter is the item of port 0 with this text, a capital
+//! letter a seed whose text is the small one, `.` the completion, `!` the failure `x`, a digit a number.
 
 use rx_heap::Heap;
 use rx_note::{Errors, Event, Item, Kind, Limits, Note, Policy, Rules, Strategy, Text};
@@ -16,6 +16,33 @@ pub(crate) fn policy_of(strategy: Strategy) -> Result<Policy, Fail> {
     Ok(Policy::new(strategy, Errors::Delay)?)
 }
 
+/// The port of a seed, which came by none.
+pub(crate) const SEED_PORT: u32 = 4_294_967_295;
+
+/// A kind as a table names it. It owns no memory: a seed is told by its one letter.
+#[derive(Clone, Copy, Debug)]
+pub(crate) enum Named {
+    Publish,
+    Behavior(Option<u8>),
+    Async,
+    /// By its count and its age.
+    Replay(Option<u16>, Option<u64>),
+}
+
+/// The kind of this name.
+pub(crate) fn kind_of(heap: &Heap, named: Named) -> Result<Kind, Fail> {
+    match named {
+        Named::Publish => Ok(Kind::Publish),
+        Named::Behavior(None) => Ok(Kind::Behavior(None)),
+        Named::Behavior(Some(letter)) => {
+            let seed = Text::new(heap.clone()?, &[letter])?;
+            Ok(Kind::Behavior(Some(seed)))
+        }
+        Named::Async => Ok(Kind::Async),
+        Named::Replay(count, age) => Ok(Kind::Replay { count, age }),
+    }
+}
+
 /// The rules of a kind, with the widest limits.
 pub(crate) fn rules_of(kind: Kind) -> Rules {
     let limits = Limits {
@@ -23,6 +50,15 @@ pub(crate) fn rules_of(kind: Kind) -> Rules {
         joins: 4_294_967_295,
     };
     Rules { kind, limits }
+}
+
+/// The note of a sign.
+pub(crate) fn note_of(heap: &Heap, sign: u8) -> Result<Note, Fail> {
+    match sign {
+        b'.' => Ok(Note::Completed),
+        b'!' => Ok(Note::Failed(Text::new(heap.clone()?, b"x")?)),
+        letter => Ok(Note::Next(item(heap, &[letter])?)),
+    }
 }
 
 /// The event of a sign: `+` joins an observer by this policy with a first request, a digit requests so many items for
@@ -38,8 +74,7 @@ pub(crate) fn event_of(heap: &Heap, policy: Policy, first: u32, sign: u8) -> Res
             who: 0,
             n: u32::from(sign - b'0'),
         }),
-        b'.' => Ok(emit(Note::Completed)),
-        letter => Ok(emit(Note::Next(item(heap, &[letter])?))),
+        other => Ok(emit(note_of(heap, other)?)),
     }
 }
 
@@ -48,15 +83,22 @@ pub(crate) fn emit(note: Note) -> Event {
     Event::Emit { note, at: 0 }
 }
 
+/// The sign of an item; `?` where it has none.
+pub(crate) fn sign_of_item(item: &Item) -> u8 {
+    match item.text.as_bytes() {
+        [letter] if item.from == 0 => *letter,
+        [letter] if item.from == SEED_PORT => letter.to_ascii_uppercase(),
+        _ => b'?',
+    }
+}
+
 /// The sign of a note; `?` where it has none.
 pub(crate) fn sign_of(note: &Note) -> u8 {
     match note {
-        Note::Next(item) if item.from == 0 => match item.text.as_bytes() {
-            [letter] => *letter,
-            _ => b'?',
-        },
+        Note::Next(item) => sign_of_item(item),
         Note::Completed => b'.',
-        _ => b'?',
+        Note::Failed(text) if text.as_bytes() == b"x".as_slice() => b'!',
+        Note::Failed(_) => b'?',
     }
 }
 
