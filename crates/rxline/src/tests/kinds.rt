@@ -52,7 +52,7 @@ fn run(
 }
 
 // Of each run the name, the kind, the script and what is written.
-const RUNS: [(&str, Named, &[u8], &[u8]); 8] = [
+const RUNS: [(&str, Named, &[u8], &[u8]); 9] = [
     (
         "publish_after_its_end",
         Named::Publish,
@@ -100,6 +100,12 @@ const RUNS: [(&str, Named, &[u8], &[u8]); 8] = [
         Named::Replay(None, Some(10)),
         b"AT 20\nPUB s a\nAT 5\nPUB s b\nAT 29\nJOIN s BUFFER DELAY 9\nAT 30\nJOIN s BUFFER DELAY 9\n",
         b"OK\nOK\nOK\nOK\nOK\nOK 0\ns 0 NEXT a\ns 0 NEXT b\nOK\nOK 1\n",
+    ),
+    (
+        "replay_by_both_bounds",
+        Named::Replay(Some(2), Some(10)),
+        b"AT 0\nPUB s a\nAT 5\nPUB s b\nAT 6\nPUB s c\nAT 7\nPUB s d\nAT 9\nJOIN s BUFFER DELAY 9\nAT 16\nJOIN s BUFFER DELAY 9\n",
+        b"OK\nOK\nOK\nOK\nOK\nOK\nOK\nOK\nOK\nOK 0\ns 0 NEXT c\ns 0 NEXT d\nOK\nOK 1\ns 1 NEXT d\n",
     ),
 ];
 
