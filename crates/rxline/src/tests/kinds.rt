@@ -8,6 +8,8 @@ use rx_heap::Heap;
 use rx_note::{Kind, Text};
 use std::test::Fail;
 
+const MAX_READS: u64 = 4_294_967_296;
+
 // A kind as the table names it. It owns no memory.
 #[derive(Clone, Copy)]
 enum Named {
@@ -40,82 +42,83 @@ fn config_of(heap: &Heap, named: Named) -> Result<Config, Fail> {
     Ok(config)
 }
 
-fn run(
-    heap: &Heap,
-    named: Named,
-    script: &[u8],
-    written: &mut Vec<u8, Heap>,
-) -> Result<SessionEnd, Fail> {
+// What is written for a script; `?` stands behind it where the run did not end with the input.
+fn written_for(heap: &Heap, named: Named, script: &[u8]) -> Result<Vec<u8, Heap>, Fail> {
     let config = config_of(heap, named)?;
     let mut reader = script;
-    Ok(run_script(heap.clone()?, config, &mut reader, written, 4_294_967_296)?)
+    let mut written = Vec::new(heap.clone()?);
+    let end = run_script(heap.clone()?, config, &mut reader, &mut written, MAX_READS)?;
+    if end != SessionEnd::EndOfInput {
+        written.push(b'?')?;
+    }
+    Ok(written)
 }
 
-// Of each run the name, the kind, the script and what is written.
-const RUNS: [(&str, Named, &[u8], &[u8]); 9] = [
-    (
-        "publish_after_its_end",
-        Named::Publish,
-        b"JOIN s BUFFER DELAY 1\nEND s\nJOIN s BUFFER DELAY 1\n",
-        b"OK 0\nOK\ns 0 DONE\nOK 1\ns 1 DONE\n",
-    ),
-    (
-        "behavior_before_and_after_end",
-        Named::Behavior,
-        b"JOIN s BUFFER DELAY 9\nPUB s a\nJOIN s BUFFER DELAY 9\nEND s\nJOIN s BUFFER DELAY 9\n",
-        b"OK 0\ns 0 NEXT z\nOK\ns 0 NEXT a\nOK 1\ns 1 NEXT a\nOK\ns 0 DONE\ns 1 DONE\nOK 2\ns 2 DONE\n",
-    ),
-    (
-        "async_last_item",
-        Named::Async,
-        b"JOIN s BUFFER DELAY 1\nPUB s a\nPUB s b\nEND s\nJOIN s BUFFER DELAY 1\n",
-        b"OK 0\nOK\nOK\nOK\ns 0 NEXT b\ns 0 DONE\nOK 1\ns 1 NEXT b\ns 1 DONE\n",
-    ),
-    (
-        "async_empty",
-        Named::Async,
-        b"JOIN s BUFFER DELAY 1\nEND s\n",
-        b"OK 0\nOK\ns 0 DONE\n",
-    ),
-    (
-        "async_failed",
-        Named::Async,
-        b"JOIN s BUFFER DELAY 1\nPUB s a\nFAIL s x\n",
-        b"OK 0\nOK\nOK\ns 0 FAILED x\n",
-    ),
-    (
-        "replay_count_into_drop",
-        Named::Replay(Some(2), None),
-        b"PUB s a\nPUB s b\nPUB s c\nJOIN s DROP:1 DELAY 0\nREQUEST s 0 2\n",
-        b"OK\nOK\nOK\nOK 0\nOK\ns 0 NEXT b\n",
-    ),
-    (
-        "replay_age_stops_at_the_end",
-        Named::Replay(None, Some(10)),
-        b"AT 0\nPUB s a\nAT 5\nPUB s b\nAT 10\nPUB s c\nJOIN s BUFFER DELAY 9\nAT 15\nJOIN s BUFFER DELAY 9\nEND s\nAT 1000\nJOIN s BUFFER DELAY 9\n",
-        b"OK\nOK\nOK\nOK\nOK\nOK\nOK 0\ns 0 NEXT b\ns 0 NEXT c\nOK\nOK 1\ns 1 NEXT c\nOK\ns 0 DONE\ns 1 DONE\nOK\nOK 2\ns 2 NEXT c\ns 2 DONE\n",
-    ),
-    (
-        "stamps_never_fall",
-        Named::Replay(None, Some(10)),
-        b"AT 20\nPUB s a\nAT 5\nPUB s b\nAT 29\nJOIN s BUFFER DELAY 9\nAT 30\nJOIN s BUFFER DELAY 9\n",
-        b"OK\nOK\nOK\nOK\nOK\nOK 0\ns 0 NEXT a\ns 0 NEXT b\nOK\nOK 1\n",
-    ),
-    (
-        "replay_by_both_bounds",
-        Named::Replay(Some(2), Some(10)),
-        b"AT 0\nPUB s a\nAT 5\nPUB s b\nAT 6\nPUB s c\nAT 7\nPUB s d\nAT 9\nJOIN s BUFFER DELAY 9\nAT 16\nJOIN s BUFFER DELAY 9\n",
-        b"OK\nOK\nOK\nOK\nOK\nOK\nOK\nOK\nOK\nOK 0\ns 0 NEXT c\ns 0 NEXT d\nOK\nOK 1\ns 1 NEXT d\n",
-    ),
+// A worked run: what is written for a script over the subject of a kind.
+#[derive(Clone, Copy)]
+struct Run {
+    name: &'static str,
+    kind: Named,
+    script: &'static [u8],
+    answers: &'static [u8],
+}
+
+const RUNS: [Run; 8] = [
+    Run {
+        name: "publish_after_its_end",
+        kind: Named::Publish,
+        script: b"JOIN s BUFFER DELAY 1\nEND s\nJOIN s BUFFER DELAY 1\n",
+        answers: b"OK 0\nOK\ns 0 DONE\nOK 1\ns 1 DONE\n",
+    },
+    Run {
+        name: "behavior_before_and_after_end",
+        kind: Named::Behavior,
+        script: b"JOIN s BUFFER DELAY 9\nPUB s a\nJOIN s BUFFER DELAY 9\nEND s\nJOIN s BUFFER DELAY 9\n",
+        answers: b"OK 0\ns 0 NEXT z\nOK\ns 0 NEXT a\nOK 1\ns 1 NEXT a\nOK\ns 0 DONE\ns 1 DONE\nOK 2\ns 2 DONE\n",
+    },
+    Run {
+        name: "async_last_item",
+        kind: Named::Async,
+        script: b"JOIN s BUFFER DELAY 1\nPUB s a\nPUB s b\nEND s\nJOIN s BUFFER DELAY 1\n",
+        answers: b"OK 0\nOK\nOK\nOK\ns 0 NEXT b\ns 0 DONE\nOK 1\ns 1 NEXT b\ns 1 DONE\n",
+    },
+    Run {
+        name: "async_empty",
+        kind: Named::Async,
+        script: b"JOIN s BUFFER DELAY 1\nEND s\n",
+        answers: b"OK 0\nOK\ns 0 DONE\n",
+    },
+    Run {
+        name: "async_failed",
+        kind: Named::Async,
+        script: b"JOIN s BUFFER DELAY 1\nPUB s a\nFAIL s x\n",
+        answers: b"OK 0\nOK\nOK\ns 0 FAILED x\n",
+    },
+    Run {
+        name: "replay_count_into_drop",
+        kind: Named::Replay(Some(2), None),
+        script: b"PUB s a\nPUB s b\nPUB s c\nJOIN s DROP:1 DELAY 0\nREQUEST s 0 2\n",
+        answers: b"OK\nOK\nOK\nOK 0\nOK\ns 0 NEXT b\n",
+    },
+    Run {
+        name: "replay_age_stops_at_the_end",
+        kind: Named::Replay(None, Some(10)),
+        script: b"AT 0\nPUB s a\nAT 5\nPUB s b\nAT 10\nPUB s c\nJOIN s BUFFER DELAY 9\nAT 15\nJOIN s BUFFER DELAY 9\nEND s\nAT 1000\nJOIN s BUFFER DELAY 9\n",
+        answers: b"OK\nOK\nOK\nOK\nOK\nOK\nOK 0\ns 0 NEXT b\ns 0 NEXT c\nOK\nOK 1\ns 1 NEXT c\nOK\ns 0 DONE\ns 1 DONE\nOK\nOK 2\ns 2 NEXT c\ns 2 DONE\n",
+    },
+    Run {
+        name: "stamps_never_fall",
+        kind: Named::Replay(None, Some(10)),
+        script: b"AT 20\nPUB s a\nAT 5\nPUB s b\nAT 29\nJOIN s BUFFER DELAY 9\nAT 30\nJOIN s BUFFER DELAY 9\n",
+        answers: b"OK\nOK\nOK\nOK\nOK\nOK 0\ns 0 NEXT a\ns 0 NEXT b\nOK\nOK 1\n",
+    },
 ];
 
 #[test]
 fn worked_runs_of_the_kinds(rt: HostRuntime) -> Result<(), Fail> {
-    for (name, named, script, answers) in &RUNS {
-        let mut written = Vec::new(rt.alloc());
-        let end = run(&rt.alloc(), *named, script, &mut written)?;
-        assert_eq!(rt; end, SessionEnd::EndOfInput, "{name}");
-        assert_eq!(rt; written.as_slice(), *answers, "{name}");
+    for run in &RUNS {
+        let written = written_for(&rt.alloc(), run.kind, run.script)?;
+        assert_eq!(rt; written.as_slice(), run.answers, "{}", run.name);
     }
     Ok(())
 }
