@@ -63,7 +63,7 @@ struct Run {
     answers: &'static [u8],
 }
 
-const RUNS: [Run; 8] = [
+const RUNS: [Run; 9] = [
     Run {
         name: "publish_after_its_end",
         kind: Named::Publish,
@@ -111,6 +111,12 @@ const RUNS: [Run; 8] = [
         kind: Named::Replay(None, Some(10)),
         script: b"AT 20\nPUB s a\nAT 5\nPUB s b\nAT 29\nJOIN s BUFFER DELAY 9\nAT 30\nJOIN s BUFFER DELAY 9\n",
         answers: b"OK\nOK\nOK\nOK\nOK\nOK 0\ns 0 NEXT a\ns 0 NEXT b\nOK\nOK 1\n",
+    },
+    Run {
+        name: "replay_by_both_bounds",
+        kind: Named::Replay(Some(2), Some(10)),
+        script: b"AT 0\nPUB s a\nAT 5\nPUB s b\nAT 6\nPUB s c\nAT 7\nPUB s d\nAT 9\nJOIN s BUFFER DELAY 9\nAT 16\nJOIN s BUFFER DELAY 9\n",
+        answers: b"OK\nOK\nOK\nOK\nOK\nOK\nOK\nOK\nOK\nOK 0\ns 0 NEXT c\ns 0 NEXT d\nOK\nOK 1\ns 1 NEXT d\n",
     },
 ];
 
