@@ -2,5 +2,6 @@
 
 mod audits;
 mod faults;
+mod kinds;
 mod lines;
 mod rows;
