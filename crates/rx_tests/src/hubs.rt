@@ -386,7 +386,7 @@ impl Reading {
     }
 
     // How many observers have a shorter line than by another reading.
-    fn shorter_than(&self, whole: &Reading) -> Result<u32, Fail> {
+    fn count_shorter(&self, whole: &Reading) -> Result<u32, Fail> {
         let mut shorter: u32 = 0;
         for who in 0..OBSERVERS {
             if self.line_len(who)? < whole.line_len(who)? {
@@ -395,41 +395,60 @@ impl Reading {
         }
         Ok(shorter)
     }
+
+    // How many observers have a shorter line than by this kind, with all joins under Buffer.
+    fn shorter_than(&self, heap: &Heap, named: Named) -> Result<u32, Fail> {
+        let whole = reading_of(heap, named, true)?;
+        self.count_shorter(&whole)
+    }
 }
 
-// How many observers of the drawn events have a shorter line by the first kind than by the second, where the joins under
-// the first are put under Buffer or not, and under the second they are.
-fn shorter(heap: &Heap, less: Named, buffers: bool, more: Named) -> Result<u32, Fail> {
-    let reading = reading_of(heap, less, buffers)?;
-    let whole = reading_of(heap, more, true)?;
-    reading.shorter_than(&whole)
-}
+// Two readings of the drawn events: the first by this kind, its joins put under Buffer or not; the second by this kind, all
+// joins under Buffer; and how many observers at least have a shorter line by the first.
+type Pair = (Named, bool, Named, u32);
 
-// Kinds by whose rules lines are shorter than by those of the kind behind.
-const SHORTER_KINDS: [(Named, Named); 8] = [
-    (Named::Async, Named::Publish),
-    (Named::Publish, Named::Behavior(None)),
-    (Named::Behavior(None), Named::Behavior(Some(b'z'))),
-    (Named::Publish, Named::Replay(Some(3), Some(20))),
+const PAIRS: [Pair; 9] = [
+    (Named::Publish, false, Named::Publish, 10),
+    (Named::Async, true, Named::Publish, 1),
+    (Named::Publish, true, Named::Behavior(None), 1),
+    (Named::Behavior(None), true, Named::Behavior(Some(b'z')), 1),
+    (Named::Publish, true, Named::Replay(Some(3), Some(20)), 1),
     (
         Named::Replay(Some(3), Some(20)),
+        true,
         Named::Replay(Some(3), None),
+        1,
     ),
     (
         Named::Replay(Some(3), Some(20)),
+        true,
         Named::Replay(None, Some(20)),
+        1,
     ),
-    (Named::Replay(Some(3), None), Named::Replay(None, None)),
-    (Named::Replay(None, Some(20)), Named::Replay(None, None)),
+    (
+        Named::Replay(Some(3), None),
+        true,
+        Named::Replay(None, None),
+        1,
+    ),
+    (
+        Named::Replay(None, Some(20)),
+        true,
+        Named::Replay(None, None),
+        1,
+    ),
 ];
+
+fn shorter(heap: &Heap, pair: &Pair) -> Result<u32, Fail> {
+    let reading = reading_of(heap, pair.0, pair.1)?;
+    reading.shorter_than(heap, pair.2)
+}
 
 #[test]
 fn lines_of_the_drawn_events_are_shorter(rt: HostRuntime) -> Result<(), Fail> {
-    let losing = shorter(&rt.alloc(), Named::Publish, false, Named::Publish)?;
-    assert!(rt; losing >= 10);
-    for (less, more) in &SHORTER_KINDS {
-        let fewer = shorter(&rt.alloc(), *less, true, *more)?;
-        assert!(rt; fewer >= 1, "{less:?} and {more:?}");
+    for pair in &PAIRS {
+        let fewer = shorter(&rt.alloc(), pair)?;
+        assert!(rt; fewer >= pair.3, "{:?} and {:?}", pair.0, pair.2);
     }
     Ok(())
 }
