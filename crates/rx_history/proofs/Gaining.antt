@@ -77,7 +77,7 @@ first_absent : (b rest : Bool) → (b || rest) ≡ false → b ≡ false
 first_absent true rest none = cc
 first_absent false rest none = refl
 
-absent_differ : (o : ℕ) (ks : List ℕ) → list_any (λ k. k == o) ks ≡ false → AllDiffer o ks
+pub absent_differ : (o : ℕ) (ks : List ℕ) → list_any (λ k. k == o) ks ≡ false → AllDiffer o ks
 absent_differ o [] none = tt
 absent_differ o (k ∷ ks) none = let other : (k == o) ≡ false = first_absent (k == o) (list_any (λ k. k == o) ks) none in
     (other, absent_differ o ks (any_later (k == o) k o ks false refl other none))

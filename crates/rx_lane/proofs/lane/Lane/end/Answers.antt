@@ -1,9 +1,7 @@
-use Rattle.std.proofs.Common.{◌≡◌, ◌<◌, true, false, length, sym, subst, ◌∙◌, option_to_list, arith}
+use Rattle.std.proofs.Common.{◌≡◌, ◌<◌, true, false, length, sym, ◌∙◌, arith}
 use Rattle.std.proofs.lemmas.Bool.Decides.{nat_tests}
-use Rattle.rx_note.specs.Choices.{Choice}
 use Rattle.rx_note.specs.Signals.{goes_ahead}
-use Rattle.rx_lane.specs.Lanes.{LaneState, StandsFor}
-use Rattle.rx_lane.specs.Queues.{items_of, strategy_of}
+use Rattle.rx_lane.specs.Queues.{items_of}
 use Rattle.rx_lane.proofs.Steps.{stands_as, end_first, end_now, end_later}
 use Rattle.rx_lane.proofs.lane.Lane.end.Goals as goal
 
