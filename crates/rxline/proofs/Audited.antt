@@ -2,15 +2,16 @@
 use Rattle.std.proofs.Common.{◌≡◌, ℕ, true, false, cond, List, [], ◌++◌, Option, None, Some, Result, Ok, Err, refl, sym, ap, subst, ◌∙◌, append_assoc}
 use Rattle.std.proofs.KnownBytes.{Appends-nil, Appends-trans, Consumes-trans, Consumes-nil}
 use Rattle.std.specs.Io.KnownBytes.{Consumes, Appends}
-use Rattle.rxline.specs.declared.line_error.BadLine.{BadLine}
+use Rattle.rx_proto.specs.declared.line_error.BadLine.{BadLine}
 use Rattle.rxline.specs.declared.line_state.LineState.{LineState}
-use Rattle.rxline.specs.declared.script_line.ScriptLine.{ScriptLine}
+use Rattle.rx_proto.specs.declared.script_line.ScriptLine.{ScriptLine}
 use Rattle.rxline.specs.declared.session_end.SessionEnd.{SessionEnd}
 use Rattle.rxline.specs.declared.session_end.SessionEnd.TheVariants as ends
 use Rattle.rxline.specs.Audits.{Audits, audited, audit_written, prints, Prints, Learns, Enters, Follows}
-use Rattle.rxline.specs.Bytes.{AppendsPrefix, Holds, Writes}
+use Rattle.rx_proto.specs.Bytes.{AppendsPrefix, Writes}
+use Rattle.rxline.specs.Bytes.{Holds}
 use Rattle.rxline.specs.Lines.{lines_of, TakesLine, TakesNoLine, without_cr}
-use Rattle.rxline.specs.Reading.{line_read}
+use Rattle.rx_proto.specs.Reading.{script_read}
 use Rattle.rxline.specs.Steps.{unread, GoesOn}
 use Rattle.rxline.specs.Transcripts.{Subject, State, new_state, after_line, has_end}
 use Rattle.rxline.proofs.LinesOf.{lines_of-first, lines_of-taken, lines_of-none}
@@ -26,15 +27,15 @@ taken read_old read_new before after says then so takes =
 -- a line that was taken is entered
 pub follows : (end : Option SessionEnd) (state now : State) (read_old read_new : Option (List ℕ)) (before after : LineState)
     (reading : Result ScriptLine BadLine) (says : List ℕ → Type 0)
-    → ((line : List ℕ) → says line → line_read line ≡ reading) → TakesLine read_old read_new (unread before) (unread after) says → GoesOn before after
+    → ((line : List ℕ) → says line → script_read line ≡ reading) → TakesLine read_old read_new (unread before) (unread after) says → GoesOn before after
     → Enters end state now reading → Follows end state now read_old read_new before after
 follows None state now read_old read_new before after reading says so takes goes_on enters = (
-  taken read_old read_new (unread before) (unread after) says (λ line. Enters None state now (line_read line))
+  taken read_old read_new (unread before) (unread after) says (λ line. Enters None state now (script_read line))
       (λ line said. subst (λ (r : Result ScriptLine BadLine). Enters None state now r) (sym (so line said)) enters) takes,
   goes_on,
 )
 follows (Some ends.Quit) state now read_old read_new before after reading says so takes goes_on enters =
-    taken read_old read_new (unread before) (unread after) says (λ line. Enters (Some ends.Quit) state now (line_read line))
+    taken read_old read_new (unread before) (unread after) says (λ line. Enters (Some ends.Quit) state now (script_read line))
     (λ line said. subst (λ (r : Result ScriptLine BadLine). Enters (Some ends.Quit) state now r) (sym (so line said)) enters) takes
 follows (Some ends.EndOfInput) state now read_old read_new before after reading says so takes goes_on enters = let e = enters.0 in cc
 follows (Some ends.ReadFault) state now read_old read_new before after reading says so takes goes_on enters = let e = enters.0 in cc
@@ -62,11 +63,11 @@ LearnsSoFar-begun first read rest none = record {
 -- a line was entered
 pub LearnsSoFar-line : (first now next : State) (read_old read_now read_new : Option (List ℕ)) (rest rest_after : List ℕ)
     → LearnsSoFar first now read_old read_now rest
-    → TakesLine read_now read_new rest rest_after (λ line. Enters None now next (line_read line))
+    → TakesLine read_now read_new rest rest_after (λ line. Enters None now next (script_read line))
     → LearnsSoFar first next read_old read_new rest_after
 LearnsSoFar-line first now next read_old read_now read_new rest rest_after h takes =
     let read = takes.read in
-    let line = line_read (without_cr takes.line) in
+    let line = script_read (without_cr takes.line) in
     record {
       read = h.read ++ read;
       consumed = Consumes-trans read_old read_now read_new h.read read h.consumed takes.told;
@@ -94,7 +95,7 @@ pub learns : (end : SessionEnd) (first now last : State) (read_old read_now read
     → LearnsSoFar first now read_old read_now (unread before) → Follows (Some end) now last read_now read_new before later
     → Learns first last.subjects end read_old read_new
 learns ends.Quit first now last read_old read_now read_new before later h takes =
-    let line = line_read (without_cr takes.line) in
+    let line = script_read (without_cr takes.line) in
     let parted = lines_of-first (unread before ++ takes.read) takes.line (unread later) takes.begins in
     record {
       read = h.read ++ takes.read;

@@ -5,7 +5,7 @@ use Rattle.std.proofs.lemmas.Bool.Decides.{nat_tests}
 use Rattle.std.proofs.lemmas.List.Quantifiers.{position-Some}
 use Rattle.rx_hub.proofs.Positions.{position-None}
 use Rattle.rx_note.specs.declared.event.Event.{Event}
-use Rattle.rx_note.specs.declared.event.Event.TheVariants.{Emit, Join, Request}
+use Rattle.rx_note.specs.declared.event.Event.TheVariants.{Emit, Join, Request, Dispose}
 use Rattle.rx_note.specs.declared.limits.Limits.{Limits}
 use Rattle.rx_note.specs.declared.note.Note.{Note}
 use Rattle.rx_note.specs.declared.rules.Rules.{Rules}
@@ -16,7 +16,7 @@ use Rattle.rx_history.proofs.Extending.{extended-push}
 use Rattle.rxline.specs.declared.ledger.Ledger.{Ledger}
 use Rattle.rxline.specs.Audits.{subject_in, subjects_in, observer_written, observers_written, observed_lines, subject_written}
 use Rattle.rxline.specs.Bytes.{Loses}
-use Rattle.rxline.specs.Reading.{same_word}
+use Rattle.rx_proto.specs.Reading.{same_word}
 use Rattle.rxline.specs.Transcripts.{Subject, taking, all_taking}
 use Rattle.rxline.proofs.Written.{Loses-more}
 
@@ -26,10 +26,10 @@ use Rattle.rxline.proofs.Written.{Loses-more}
 pub subject_in-added : (ledger : Ledger) (history : List Entry) (event : Event) → history ≡ ledger.history ++ (0, event) ∷ []
     → subject_in (record ledger { history = history }) ≡ taking (subject_in ledger) event
 subject_in-added ledger history event is =
-    ap (λ (H : History). record { name = ledger.name; rules = ledger.rules; history = H }) (ap history_of is ∙ extended-push NoEvents ledger.history (0, event))
+    ap (λ (H : History). record { name = ledger.subject.name; rules = ledger.subject.rules; history = H }) (ap history_of is ∙ extended-push NoEvents ledger.history (0, event))
 
 entered_at : (ledgers : List Ledger) (name : List ℕ) (place : ℕ) (d after : Ledger) (event : Event) → place < length ledgers
-    → same_word (get_or ledgers place d).name name ≡ true → ((k : ℕ) → k < place → same_word (get_or ledgers k d).name name ≡ false)
+    → same_word (get_or ledgers place d).subject.name name ≡ true → ((k : ℕ) → k < place → same_word (get_or ledgers k d).subject.name name ≡ false)
     → subject_in after ≡ taking (subject_in (get_or ledgers place d)) event
     → subjects_in (set ledgers place after) ≡ all_taking (subjects_in ledgers) name event
 entered_at [] name place d after event lt here before is = absurd (omega arith)
@@ -42,15 +42,15 @@ entered_at (l ∷ ledgers) name (suc place) d after event lt here before is =
 
 -- the first ledger of the name has the event
 pub entered : (ledgers : List Ledger) (name : List ℕ) (place : ℕ) (d after : Ledger) (event : Event)
-    → position (λ (ledger : Ledger). same_word ledger.name name) ledgers ≡ Some place
+    → position (λ (ledger : Ledger). same_word ledger.subject.name name) ledgers ≡ Some place
     → subject_in after ≡ taking (subject_in (get_or ledgers place d)) event
     → subjects_in (set ledgers place after) ≡ all_taking (subjects_in ledgers) name event
 entered ledgers name place d after event found is =
-    let at = position-Some (λ (ledger : Ledger). same_word ledger.name name) ledgers place d found in
+    let at = position-Some (λ (ledger : Ledger). same_word ledger.subject.name name) ledgers place d found in
     entered_at ledgers name place d after event at.0 at.1 at.2 is
 
 unnamed : (ledgers : List Ledger) (name : List ℕ) (event : Event)
-    → ((k : ℕ) (d : Ledger) → k < length ledgers → same_word (get_or ledgers k d).name name ≡ false)
+    → ((k : ℕ) (d : Ledger) → k < length ledgers → same_word (get_or ledgers k d).subject.name name ≡ false)
     → subjects_in ledgers ≡ all_taking (subjects_in ledgers) name event
 unnamed [] name event none = refl
 unnamed (l ∷ ledgers) name event none =
@@ -59,10 +59,10 @@ unnamed (l ∷ ledgers) name event none =
 
 -- no ledger has the name
 pub not_entered : (ledgers : List Ledger) (name : List ℕ) (event : Event)
-    → position (λ (ledger : Ledger). same_word ledger.name name) ledgers ≡ None
+    → position (λ (ledger : Ledger). same_word ledger.subject.name name) ledgers ≡ None
     → subjects_in ledgers ≡ all_taking (subjects_in ledgers) name event
 not_entered ledgers name event none =
-    unnamed ledgers name event (λ k d lt. position-None (λ (ledger : Ledger). same_word ledger.name name) ledgers none k d lt)
+    unnamed ledgers name event (λ k d lt. position-None (λ (ledger : Ledger). same_word ledger.subject.name name) ledgers none k d lt)
 
 -- THE OBSERVERS
 
@@ -84,6 +84,7 @@ joins_within limits (H ▹ (port, Emit note at)) = joins_within limits H
 joins_within limits (H ▹ (port, Join policy first at)) =
     one_more (admits limits (roster_of limits H)) limits (roster_of limits H) refl (joins_within limits H)
 joins_within limits (H ▹ (port, Request who n)) = joins_within limits H
+joins_within limits (H ▹ (port, Dispose who)) = joins_within limits H
 
 -- an observer that has signals was made by an accepted Join
 pub made : (rules : Rules) (H : History) (o : ℕ) → is_some (signals rules H o) ≡ true → o < joins rules H

@@ -7,9 +7,10 @@ use Rattle.rxline.specs.declared.script.Script.{Script}
 use Rattle.rxline.specs.declared.session_end.SessionEnd.{SessionEnd}
 use Rattle.rxline.specs.declared.session_end.SessionEnd.TheVariants as ends
 use Rattle.rxline.specs.declared.topic.Topic.{Topic}
-use Rattle.rxline.specs.Bytes.{AppendsPrefix, Holds, Loses}
+use Rattle.rx_proto.specs.Bytes.{AppendsPrefix}
+use Rattle.rxline.specs.Bytes.{Holds, Loses}
 use Rattle.rxline.specs.Lines.{HasNoLf, without_cr, lines_of, BeginsWithLine, TakesLine, TakesNoLine}
-use Rattle.rxline.specs.Reading.{line_read}
+use Rattle.rx_proto.specs.Reading.{script_read}
 use Rattle.rxline.specs.Scripts.{AllStand, Runs}
 use Rattle.rxline.specs.Steps.{unread}
 use Rattle.rxline.specs.Tellings.{IsIn, Turns, TellsOn}
@@ -77,14 +78,14 @@ SoFar-put subjects read_old read_now w0 w1 w2 script after rest rest_after h sam
 -- a line was told
 pub SoFar-line : (subjects : List Subject) (read_old read_now read_new w0 w1 w2 : Option (List ℕ)) (script after : Script) (rest rest_after : List ℕ)
     → SoFar subjects read_old read_now w0 w1 script rest
-    → TakesLine read_now read_new rest rest_after (λ line. TellsOn None script after w1 w2 (line_read line))
+    → TakesLine read_now read_new rest rest_after (λ line. TellsOn None script after w1 w2 (script_read line))
     → SoFar subjects read_old read_new w0 w2 after rest_after
 SoFar-line subjects read_old read_now read_new w0 w1 w2 script after rest rest_after h takes =
     let read = takes.read in
     let line = without_cr takes.line in
     let tells = takes.said h.now h.is_in in
-    let said = line_written h.now (line_read line) tells.0 in
-    let now = after_line h.now (line_read line) tells.0 in
+    let said = line_written h.now (script_read line) tells.0 in
+    let now = after_line h.now (script_read line) tells.0 in
     let done : (h.written ++ tells.1.written) ++ after.outbox ≡ (h.written ++ script.outbox) ++ said =
     append_assoc h.written tells.1.written after.outbox ∙ ap (λ xs. h.written ++ xs) tells.1.parts ∙ sym (append_assoc h.written script.outbox said) in
     record {
@@ -132,8 +133,8 @@ Runs-fault subjects read_old read_now w0 w1 w2 script rest after h loses =
 whole : (subjects : List Subject) (read_old read_now read_new w0 w1 : Option (List ℕ)) (script : Script) (rest rest_after : List ℕ)
     → (h : SoFar subjects read_old read_now w0 w1 script rest) → (missed : Bool) (read line : List ℕ) → BeginsWithLine (rest ++ read) line rest_after
     → (all : List Bool) × (transcript (new_state subjects) all (lines_of (h.read ++ read))
-    ≡ (h.written ++ script.outbox) ++ (line_written h.now (line_read (without_cr line)) missed
-    ++ cond (ends_script (line_read (without_cr line))) [] (transcript (after_line h.now (line_read (without_cr line)) missed) [] (lines_of rest_after))))
+    ≡ (h.written ++ script.outbox) ++ (line_written h.now (script_read (without_cr line)) missed
+    ++ cond (ends_script (script_read (without_cr line))) [] (transcript (after_line h.now (script_read (without_cr line)) missed) [] (lines_of rest_after))))
 whole subjects read_old read_now read_new w0 w1 script rest rest_after h missed read line begins =
     let so = h.goes_on (missed ∷ []) read in
     (so.0, so.1 ∙ ap (λ ls. (h.written ++ script.outbox) ++ transcript h.now (missed ∷ []) ls) (lines_of-first (rest ++ read) line rest_after begins))
@@ -160,11 +161,11 @@ pub Runs-end : (end : SessionEnd) (subjects : List Subject) (read_old read_now r
     → Turns (Some end) script after w1 w2 read_now read_new before later → Runs subjects end read_old read_new w0 w2
 Runs-end ends.Quit subjects read_old read_now read_new w0 w1 w2 script after before later h empty takes =
     let tells = takes.said h.now h.is_in in
-    let said = line_written h.now (line_read (without_cr takes.line)) tells.0 in
+    let said = line_written h.now (script_read (without_cr takes.line)) tells.0 in
     let all = whole subjects read_old read_now read_new w0 w1 script (unread before) (unread later) h tells.0 takes.read takes.line takes.begins in
     let done : h.written ++ (script.outbox ++ said) ≡ transcript (new_state subjects) all.0 (lines_of (h.read ++ takes.read)) =
     sym (append_assoc h.written script.outbox said) ∙ ap (λ xs. (h.written ++ script.outbox) ++ xs) (sym (append-nil said))
-    ∙ sym (all.1 ∙ ap (λ b. (h.written ++ script.outbox) ++ (said ++ cond b [] (transcript (after_line h.now (line_read (without_cr takes.line)) tells.0) [] (lines_of (unread later))))) tells.2) in
+    ∙ sym (all.1 ∙ ap (λ b. (h.written ++ script.outbox) ++ (said ++ cond b [] (transcript (after_line h.now (script_read (without_cr takes.line)) tells.0) [] (lines_of (unread later))))) tells.2) in
     record {
       read = h.read ++ takes.read;
       marks = all.0;
@@ -193,8 +194,8 @@ Runs-end ends.ReadFault subjects read_old read_now read_new w0 w1 w2 script afte
     }
 Runs-end ends.WriteFault subjects read_old read_now read_new w0 w1 w2 script after before later h empty takes =
     let tells = takes.said h.now h.is_in in
-    let said = line_written h.now (line_read (without_cr takes.line)) tells.0 in
-    let then = cond (ends_script (line_read (without_cr takes.line))) [] (transcript (after_line h.now (line_read (without_cr takes.line)) tells.0) [] (lines_of (unread later))) in
+    let said = line_written h.now (script_read (without_cr takes.line)) tells.0 in
+    let then = cond (ends_script (script_read (without_cr takes.line))) [] (transcript (after_line h.now (script_read (without_cr takes.line)) tells.0) [] (lines_of (unread later))) in
     let all = whole subjects read_old read_now read_new w0 w1 script (unread before) (unread later) h tells.0 takes.read takes.line takes.begins in
     let done : (h.written ++ (script.outbox ++ said)) ++ then ≡ transcript (new_state subjects) all.0 (lines_of (h.read ++ takes.read)) =
     ap (λ xs. xs ++ then) (sym (append_assoc h.written script.outbox said)) ∙ append_assoc (h.written ++ script.outbox) said then ∙ sym all.1 in

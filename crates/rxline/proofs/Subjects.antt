@@ -6,7 +6,7 @@ use Rattle.rx_hub.proofs.Positions.{position-None}
 use Rattle.rxline.specs.declared.asked.Asked.TheVariants as asked
 use Rattle.rxline.specs.declared.script.Script.{Script}
 use Rattle.rxline.specs.declared.topic.Topic.{Topic}
-use Rattle.rxline.specs.Reading.{same_word}
+use Rattle.rx_proto.specs.Reading.{same_word}
 use Rattle.rxline.specs.Scripts.{Stands, AllStand}
 use Rattle.rxline.specs.Tellings.{IsIn}
 use Rattle.rxline.specs.Transcripts.{Subject, State, subject_of, taking, all_taking, after_asked}

@@ -1,5 +1,5 @@
 -- What a topic does that takes an event, told by the history of its subject.
-use Rattle.std.proofs.Common.{◌≡◌, ◌≢◌, ℕ, Bool, true, false, cond, ◌⊎◌, inl, inr, List, [], ◌∷◌, ◌++◌, length, get_or, Result, Ok, Err, IsOk, is_ok, refl, sym, ap, subst, ◌∙◌, append-nil, ◌+◌, ◌<◌, take, drop}
+use Rattle.std.proofs.Common.{◌≡◌, ◌≢◌, ℕ, Bool, true, false, cond, ◌&&◌, ◌⊎◌, inl, inr, List, [], ◌∷◌, ◌++◌, length, get_or, Result, Ok, Err, is_ok, refl, sym, ap, subst, ◌∙◌, append-nil, ◌+◌, ◌<◌, take, drop}
 use Rattle.std.proofs.lemmas.List.{take_more, take-append-drop}
 use Rattle.std.proofs.lemmas.Grind.{flat_map-append}
 use Rattle.std.specs.List.{flat_map}
@@ -10,13 +10,14 @@ use Rattle.rx_note.specs.declared.answer.Answer.{Answer}
 use Rattle.rx_note.specs.declared.refusal.Refusal.{Refusal}
 use Rattle.rx_note.specs.declared.refusal.Refusal.TheVariants as refused
 use Rattle.rx_history.specs.Histories.{History, answer, outs}
-use Rattle.rx_hub.specs.Hubs.{HubState, HubView, StandsFor, Steps}
+use Rattle.rx_hub.specs.Hubs.{HubState, HubView, StandsFor, Steps, MayMiss, takes_memory}
 use Rattle.rxline.specs.declared.topic.Topic.{Topic}
-use Rattle.rxline.specs.declared.response.Response.TheVariants.{Refused}
-use Rattle.rxline.specs.declared.word.Word.TheVariants as words
-use Rattle.rxline.specs.Printing.{reply_line, given_line}
+use Rattle.rx_proto.specs.declared.response.Response.TheVariants.{Refused}
+use Rattle.rx_proto.specs.declared.word.Word.TheVariants as words
+use Rattle.rx_proto.specs.Printing.{reply_line}
+use Rattle.rxline.specs.Printing.{given_line}
 use Rattle.rxline.specs.Scripts.{Stands}
-use Rattle.rxline.specs.Transcripts.{Subject, response_to, given_lines, event_written, accepts, taking}
+use Rattle.rxline.specs.Transcripts.{Subject, response_to, given_lines, event_written, takes_it_with_memory, taking}
 
 -- an answer is Memory or another
 pub is_memory : (result : Result Answer Refusal) → (result ≡ Err refused.Memory) ⊎ (result ≢ Err refused.Memory)
@@ -32,22 +33,30 @@ is_memory (Err refused.Memory) = inl refl
 -- what a step of a topic's hub is in a script
 pub record Told (topic : Topic) (hub : HubView) (event : Event) (answered : Result Answer Refusal) (given : List Given) (subject : Subject) : Type 0 where
   pub missed : Bool
-  pub accepted : missed ≡ true → accepts event subject ≡ true
+  pub accepted : missed ≡ true → takes_it_with_memory event subject ≡ true
   pub written : reply_line (response_to answered) ++ given_lines topic.name given
       ≡ cond missed (reply_line (Refused words.Memory)) (event_written subject event)
   pub stands : Stands (record topic { hub = hub }) (cond missed subject (taking subject event))
+
+both : (a b : Bool) → a ≡ true → b ≡ true → (a && b) ≡ true
+both true true p q = refl
+both true false p q = q
+both false b p q = p
 
 -- by the clauses of the step
 pub told : (topic : Topic) (hub : HubView) (event : Event) (answered : Result Answer Refusal) (given : List Given) (subject : Subject)
     → (answered ≢ Err refused.Memory → (H : History) → StandsFor topic.hub.state H → Steps topic.hub.state hub.state [] given answered H (0, event))
     → (answered ≡ Err refused.Memory → (hub.state ≡ topic.hub.state) × (given ≡ []))
-    → (answered ≡ Err refused.Memory → (H : History) → StandsFor topic.hub.state H → IsOk (answer topic.hub.state.rules H event))
+    → (answered ≡ Err refused.Memory → (H : History) → StandsFor topic.hub.state H → MayMiss topic.hub.state.rules H (0, event))
     → hub.state.rules ≡ topic.hub.state.rules
     → Stands topic subject → Told topic hub event answered given subject
 told topic hub event answered given subject steps misses accepted rules stands = elim (is_memory answered) [
   | inl missed ↦ record {
     missed = true;
-    accepted = λ _. ap (λ (r : Rules). is_ok (answer r subject.history event)) (sym stands.rules) ∙ accepted missed subject.history stands.history;
+    accepted = λ _.
+        let may = accepted missed subject.history stands.history in
+        both (takes_memory event) (is_ok (answer subject.rules subject.history event)) may.0
+        (ap (λ (r : Rules). is_ok (answer r subject.history event)) (sym stands.rules) ∙ may.1);
     written =
         ap (λ r. reply_line (response_to r) ++ given_lines topic.name given) missed
         ∙ ap (λ gs. reply_line (Refused words.Memory) ++ given_lines topic.name gs) (misses missed).1

@@ -1,24 +1,23 @@
 -- One turn of a script: a line that was read is told.
-use Rattle.std.proofs.Common.{◌≡◌, ℕ, ◌<◌, Bool, true, cond, nat_lt, List, ◌++◌, length, Option, None, Some, MatchOption, Result, Ok, Err, sym, ap, subst, ◌∙◌, arith, codes}
+use Rattle.std.proofs.Common.{◌≡◌, ℕ, ◌<◌, Bool, List, ◌++◌, length, Option, None, Some, MatchOption, Result, Err, inl, sym, ap, subst, ◌∙◌}
 use Rattle.std.proofs.KnownBytes.{Appends-trans}
-use Rattle.std.proofs.lemmas.Bool.Decides.{nat_tests}
 use Rattle.std.specs.Io.KnownBytes.{Appends}
 use Rattle.rxline.specs.declared.input_end.InputEnd.{InputEnd}
-use Rattle.rxline.specs.declared.line_error.BadLine.{BadLine}
-use Rattle.rxline.specs.declared.line_error.BadLine.TheVariants.{Long}
+use Rattle.rx_proto.specs.declared.line_error.BadLine.{BadLine}
+use Rattle.rx_proto.specs.declared.line_error.BadLine.TheVariants.{Long}
 use Rattle.rxline.specs.declared.line_state.LineState.{LineState}
 use Rattle.rxline.specs.declared.script.Script.{Script}
-use Rattle.rxline.specs.declared.script_line.ScriptLine.{ScriptLine}
+use Rattle.rx_proto.specs.declared.script_line.ScriptLine.{ScriptLine}
 use Rattle.rxline.specs.declared.session_end.SessionEnd.{SessionEnd}
 use Rattle.rxline.specs.declared.session_end.SessionEnd.TheVariants as ends
 use Rattle.rxline.specs.declared.step.Step.{Step}
 use Rattle.rxline.specs.declared.told.Told.{Told}
 use Rattle.rxline.specs.declared.told.Told.TheVariants as told
-use Rattle.rxline.specs.Bytes.{AppendsPrefix, Holds}
+use Rattle.rx_proto.specs.Bytes.{AppendsPrefix}
+use Rattle.rxline.specs.Bytes.{Holds}
 use Rattle.rxline.specs.Lines.{TakesLine, without_cr}
-use Rattle.rxline.specs.Reading.{line_read, same_word, cut_read, words_read, ◌>>=◌}
-use Rattle.rxline.specs.declared.script_line.ScriptLine.TheVariants.{Command}
-use Rattle.rxline.specs.declared.command.Command.TheVariants.{Quit}
+use Rattle.rx_proto.specs.Reading.{script_read}
+use Rattle.rx_proto.proofs.Exact.{script_exact}
 use Rattle.rxline.specs.Steps.{unread, GoesOn, Goes, Advances}
 use Rattle.rxline.specs.Tellings.{IsIn, Quits, TellsOn, Turns, is_last}
 use Rattle.rxline.specs.Transcripts.{State, line_written, after_line, ends_script}
@@ -53,11 +52,8 @@ pub goes_by : (step : Step) (old new : Option (List ℕ)) (before after : LineSt
 goes_by step old new before after none advances = none_match before.end _ _ none advances
 
 -- a line of more than 1,100 bytes is refused
-pub line_read-long : (line : List ℕ) → 1100 < length line → line_read line ≡ Err Long
-unfolding line_read
-line_read-long line long =
-    let is : nat_lt 1100 (length line) ≡ true = grind (arith, nat_tests) in
-    ap (λ b. cond b (Err Long) (cond (same_word line (codes "QUIT")) (Ok (Command Quit)) (cut_read line >>= λ parts. words_read parts.0 parts.1))) is
+pub script_read-long : (line : List ℕ) → 1100 < length line → script_read line ≡ Err Long
+script_read-long line long = (script_exact.long line).1 (inl long)
 
 taken : (read_old read_new : Option (List ℕ)) (before after : List ℕ) (says then : List ℕ → Type 0) → ((line : List ℕ) → says line → then line)
     → TakesLine read_old read_new before after says → TakesLine read_old read_new before after then
@@ -67,19 +63,19 @@ taken read_old read_new before after says then so takes =
 -- a line that was taken is told
 pub turned : (result : Option SessionEnd) (before after : Script) (old new read_old read_new : Option (List ℕ)) (lines lines_after : LineState)
     (reading : Result ScriptLine BadLine) (says : List ℕ → Type 0)
-    → ((line : List ℕ) → says line → line_read line ≡ reading) → TakesLine read_old read_new (unread lines) (unread lines_after) says → GoesOn lines lines_after
+    → ((line : List ℕ) → says line → script_read line ≡ reading) → TakesLine read_old read_new (unread lines) (unread lines_after) says → GoesOn lines lines_after
     → TellsOn result before after old new reading → Turns result before after old new read_old read_new lines lines_after
 turned None before after old new read_old read_new lines lines_after reading says so takes goes_on tells = (
-  taken read_old read_new (unread lines) (unread lines_after) says (λ line. TellsOn None before after old new (line_read line))
+  taken read_old read_new (unread lines) (unread lines_after) says (λ line. TellsOn None before after old new (script_read line))
       (λ line said. subst (λ (r : Result ScriptLine BadLine). TellsOn None before after old new r) (sym (so line said)) tells) takes,
   goes_on,
 )
 turned (Some ends.Quit) before after old new read_old read_new lines lines_after reading says so takes goes_on tells =
-    taken read_old read_new (unread lines) (unread lines_after) says (λ line. TellsOn (Some ends.Quit) before after old new (line_read line))
+    taken read_old read_new (unread lines) (unread lines_after) says (λ line. TellsOn (Some ends.Quit) before after old new (script_read line))
     (λ line said. subst (λ (r : Result ScriptLine BadLine). TellsOn (Some ends.Quit) before after old new r) (sym (so line said)) tells) takes
 turned (Some ends.EndOfInput) before after old new read_old read_new lines lines_after reading says so takes goes_on tells = absurd tells
 turned (Some ends.ReadFault) before after old new read_old read_new lines lines_after reading says so takes goes_on tells = absurd tells
 turned (Some ends.WriteFault) before after old new read_old read_new lines lines_after reading says so takes goes_on tells =
-    taken read_old read_new (unread lines) (unread lines_after) says (λ line. TellsOn (Some ends.WriteFault) before after old new (line_read line))
+    taken read_old read_new (unread lines) (unread lines_after) says (λ line. TellsOn (Some ends.WriteFault) before after old new (script_read line))
     (λ line said. subst (λ (r : Result ScriptLine BadLine). TellsOn (Some ends.WriteFault) before after old new r) (sym (so line said)) tells) takes
 turned (Some ends.TooManyReads) before after old new read_old read_new lines lines_after reading says so takes goes_on tells = absurd tells

@@ -4,7 +4,8 @@ use Rattle.std.proofs.KnownBytes.{Appends-trans, Appends-nil, Appends-kept}
 use Rattle.std.proofs.lemmas.Result.{MatchResult-from_err}
 use Rattle.std.specs.Result.{IsErr}
 use Rattle.std.specs.Io.KnownBytes.{Appends, Keeps}
-use Rattle.rxline.specs.Bytes.{AppendsPrefix, Writes, Holds, Loses, Puts}
+use Rattle.rx_proto.specs.Bytes.{AppendsPrefix, Writes}
+use Rattle.rxline.specs.Bytes.{Holds, Loses, Puts}
 
 -- all of the bytes is a front of them
 pub Prefix-all : (old new : Option (List ℕ)) (bytes : List ℕ) → Appends old new bytes → AppendsPrefix old new bytes

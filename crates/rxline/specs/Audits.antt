@@ -9,16 +9,16 @@ use Rattle.rx_history.specs.Stored.{history_of}
 use Rattle.rxline.specs.declared.asked.Asked.{Asked}
 use Rattle.rxline.specs.declared.audit.Audit.{Audit}
 use Rattle.rxline.specs.declared.ledger.Ledger.{Ledger}
-use Rattle.rxline.specs.declared.line_error.BadLine.{BadLine}
+use Rattle.rx_proto.specs.declared.line_error.BadLine.{BadLine}
 use Rattle.rxline.specs.declared.line_state.LineState.{LineState}
 use Rattle.rxline.specs.declared.observed.Observed.{Observed}
-use Rattle.rxline.specs.declared.script_line.ScriptLine.{ScriptLine}
+use Rattle.rx_proto.specs.declared.script_line.ScriptLine.{ScriptLine}
 use Rattle.rxline.specs.declared.session_end.SessionEnd.{SessionEnd}
 use Rattle.rxline.specs.declared.session_end.SessionEnd.TheVariants as ends
-use Rattle.rxline.specs.Bytes.{AppendsPrefix}
+use Rattle.rx_proto.specs.Bytes.{AppendsPrefix}
 use Rattle.rxline.specs.Lines.{lines_of, TakesLine, TakesNoLine}
-use Rattle.rxline.specs.Printing.{note_line}
-use Rattle.rxline.specs.Reading.{line_read}
+use Rattle.rx_proto.specs.Printing.{note_line}
+use Rattle.rx_proto.specs.Reading.{script_read}
 use Rattle.rxline.specs.Scripts.{EndsSo}
 use Rattle.rxline.specs.Steps.{unread, GoesOn}
 use Rattle.rxline.specs.Transcripts.{Subject, State, new_state, after_asked, after_line, ends_script, is_quit}
@@ -29,7 +29,7 @@ use Rattle.rxline.specs.Transcripts.{Subject, State, new_state, after_asked, aft
 abbrev pub audited : State → List (List ℕ) → List Subject
 audited state [] = state.subjects
 audited state (line ∷ lines) =
-    if ends_script (line_read line) then state.subjects else audited (after_line state (line_read line) false) lines
+    if ends_script (script_read line) then state.subjects else audited (after_line state (script_read line) false) lines
 
 -- WHAT IS PRINTED
 
@@ -101,7 +101,7 @@ BreaksOff subjects read_old read_new written_old written_new =
 
 -- the subject of a ledger
 abbrev pub subject_in : Ledger → Subject
-subject_in ledger = record { name = ledger.name; rules = ledger.rules; history = history_of ledger.history }
+subject_in ledger = record { name = ledger.subject.name; rules = ledger.subject.rules; history = history_of ledger.history }
 
 -- the subjects of ledgers
 abbrev pub subjects_in : List Ledger → List Subject
@@ -139,9 +139,9 @@ Enters (Some end) state after line = (end ≡ ends.Quit) × (ends_script line �
 -- the next line was taken and what it asks done, or there was none and an end
 abbrev pub Follows : Option SessionEnd → State → State → Option (List ℕ) → Option (List ℕ) → LineState → LineState → Type 0
 Follows None state now read_old read_new before after =
-    TakesLine read_old read_new (unread before) (unread after) (λ line. Enters None state now (line_read line)) × GoesOn before after
+    TakesLine read_old read_new (unread before) (unread after) (λ line. Enters None state now (script_read line)) × GoesOn before after
 Follows (Some ends.Quit) state now read_old read_new before after =
-    TakesLine read_old read_new (unread before) (unread after) (λ line. Enters (Some ends.Quit) state now (line_read line))
+    TakesLine read_old read_new (unread before) (unread after) (λ line. Enters (Some ends.Quit) state now (script_read line))
 Follows (Some ends.EndOfInput) state now read_old read_new before after =
     TakesNoLine read_old read_new (unread before) × IsAtEnd read_new × (now ≡ state)
 Follows (Some ends.ReadFault) state now read_old read_new before after = TakesNoLine read_old read_new (unread before) × (now ≡ state)

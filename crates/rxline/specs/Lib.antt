@@ -1,11 +1,8 @@
 pub mod Audits
 pub mod Bytes
-pub mod Grammar
 pub mod Laws
 pub mod Lines
-pub mod Names
 pub mod Printing
-pub mod Reading
 pub mod Reads
 pub mod Scripts
 pub mod Steps

@@ -4,18 +4,19 @@ use Rattle.std.specs.Io.KnownBytes.{Consumes, Appends, IsAtEnd}
 use Rattle.rx_history.specs.Histories.{NoEvents}
 use Rattle.rx_hub.specs.Hubs.{StandsFor}
 use Rattle.rx_note.specs.declared.event.Event.{Event}
-use Rattle.rxline.specs.declared.response.Response.TheVariants.{Refused}
-use Rattle.rxline.specs.declared.word.Word.TheVariants as words
+use Rattle.rx_proto.specs.declared.response.Response.TheVariants.{Refused}
+use Rattle.rx_proto.specs.declared.word.Word.TheVariants as words
 use Rattle.rxline.specs.declared.session_end.SessionEnd.{SessionEnd}
 use Rattle.rxline.specs.declared.session_end.SessionEnd.TheVariants as ends
 use Rattle.rxline.specs.declared.subject_config.SubjectConfig.{SubjectConfig}
 use Rattle.rxline.specs.declared.told.Told.{Told}
 use Rattle.rxline.specs.declared.topic.Topic.{Topic}
-use Rattle.rxline.specs.declared.outbox.WriteFault.{WriteFault}
-use Rattle.rxline.specs.Bytes.{AppendsPrefix, Puts}
+use Rattle.rx_proto.specs.declared.writing.WriteFault.{WriteFault}
+use Rattle.rx_proto.specs.Bytes.{AppendsPrefix}
+use Rattle.rxline.specs.Bytes.{Puts}
 use Rattle.rxline.specs.Lines.{lines_of}
-use Rattle.rxline.specs.Printing.{reply_line}
-use Rattle.rxline.specs.Transcripts.{Subject, new_state, accepts, taking, event_written, transcript, has_end}
+use Rattle.rx_proto.specs.Printing.{reply_line}
+use Rattle.rxline.specs.Transcripts.{Subject, new_state, takes_it_with_memory, taking, event_written, transcript, has_end}
 
 -- THE WHOLE RUN
 
@@ -72,7 +73,7 @@ AllStand (topic ∷ topics) (subject ∷ subjects) = Stands topic subject × All
 abbrev pub TakesEvent : Result (Unit {0}) WriteFault → Topic → Topic → Event → List ℕ → List ℕ → Option (List ℕ) → Option (List ℕ) → Type 0
 TakesEvent result topic topic_after event held held_after old new =
     (subject : Subject) → Stands topic subject
-    → (missed : Bool) × (missed ≡ true → accepts event subject ≡ true)
+    → (missed : Bool) × (missed ≡ true → takes_it_with_memory event subject ≡ true)
     × Puts result held held_after old new (if missed then reply_line (Refused words.Memory) else event_written subject event)
     × Stands topic_after (if missed then subject else taking subject event)
 
@@ -80,6 +81,6 @@ TakesEvent result topic topic_after event held held_after old new =
 abbrev pub TakesAt : Result Told WriteFault → List Topic → List Topic → ℕ → Topic → Event → List ℕ → List ℕ → Option (List ℕ) → Option (List ℕ) → Type 0
 TakesAt result topics topics_after place d event held held_after old new =
     (subject : Subject) → Stands (slice_index_or topics place d) subject
-    → (missed : Bool) × (missed ≡ true → accepts event subject ≡ true)
+    → (missed : Bool) × (missed ≡ true → takes_it_with_memory event subject ≡ true)
     × Puts result held held_after old new (if missed then reply_line (Refused words.Memory) else event_written subject event)
     × (topic_after : Topic) × (topics_after ≡ slice_set topics place topic_after) × Stands topic_after (if missed then subject else taking subject event)

@@ -3,25 +3,26 @@ use Rattle.std.specs.Prelude.{◌≡◌, ℕ, Bool, true, false, List, ◌++◌,
 use Rattle.std.specs.Io.KnownBytes.{Appends, IsAtEnd}
 use Rattle.std.specs.Borrow.{Bor}
 use Rattle.rxline.specs.declared.asked.Asked.{Asked}
-use Rattle.rxline.specs.declared.response.Response.TheVariants.{Refused}
-use Rattle.rxline.specs.declared.word.Word.TheVariants as words
+use Rattle.rx_proto.specs.declared.response.Response.TheVariants.{Refused}
+use Rattle.rx_proto.specs.declared.word.Word.TheVariants as words
 use Rattle.rxline.specs.declared.script.Script.{Script}
-use Rattle.rxline.specs.declared.script_line.ScriptLine.{ScriptLine}
-use Rattle.rxline.specs.declared.line_error.BadLine.{BadLine}
-use Rattle.rxline.specs.declared.line_error.BadLine.TheVariants.{Long}
+use Rattle.rx_proto.specs.declared.script_line.ScriptLine.{ScriptLine}
+use Rattle.rx_proto.specs.declared.line_error.BadLine.{BadLine}
+use Rattle.rx_proto.specs.declared.line_error.BadLine.TheVariants.{Long}
 use Rattle.rxline.specs.declared.line_state.LineState.{LineState}
 use Rattle.rxline.specs.declared.session_end.SessionEnd.{SessionEnd}
 use Rattle.rxline.specs.declared.session_end.SessionEnd.TheVariants as ends
 use Rattle.rxline.specs.declared.told.Told.{Told}
 use Rattle.rxline.specs.declared.told.Told.TheVariants as told
-use Rattle.rxline.specs.declared.outbox.WriteFault.{WriteFault}
-use Rattle.rxline.specs.Bytes.{AppendsPrefix, Holds, Puts}
+use Rattle.rx_proto.specs.declared.writing.WriteFault.{WriteFault}
+use Rattle.rx_proto.specs.Bytes.{AppendsPrefix}
+use Rattle.rxline.specs.Bytes.{Holds, Puts}
 use Rattle.rxline.specs.Lines.{TakesLine, TakesNoLine}
-use Rattle.rxline.specs.Reading.{line_read}
+use Rattle.rx_proto.specs.Reading.{script_read}
 use Rattle.rxline.specs.Scripts.{AllStand}
 use Rattle.rxline.specs.Steps.{unread, GoesOn}
-use Rattle.rxline.specs.Printing.{reply_line}
-use Rattle.rxline.specs.Transcripts.{State, is_accepted, is_quit, asked_written, after_asked, line_written, after_line, ends_script}
+use Rattle.rx_proto.specs.Printing.{reply_line}
+use Rattle.rxline.specs.Transcripts.{State, wants_memory, is_quit, asked_written, after_asked, line_written, after_line, ends_script}
 
 -- the run of a script is in a state: its topics stand for the subjects, and the moment is the same
 pub record IsIn (script : Script) (state : State) : Type 0 where
@@ -46,13 +47,13 @@ Tells result before after old new line =
 abbrev pub CarriesOut : Result Told WriteFault → Script → Script → Option (List ℕ) → Option (List ℕ) → Asked → Type 0
 CarriesOut result before after old new asked =
     (state : State) → IsIn before state
-    → (missed : Bool) × (missed ≡ true → is_accepted state.subjects asked ≡ true)
+    → (missed : Bool) × (missed ≡ true → wants_memory state.subjects asked ≡ true)
     × Puts result before.outbox after.outbox old new (if missed then reply_line (Refused words.Memory) else asked_written state.subjects asked)
     × MatchResult result (λ told. (is_last told ≡ is_quit asked) × IsIn after (if missed then state else after_asked state asked)) (λ _. Unit {0})
 
 -- what is read of a line that is told, or of one that is too long
 abbrev pub reading_of : Option (Bor (List ℕ)) → Result ScriptLine BadLine
-reading_of (Some line) = line_read line.now
+reading_of (Some line) = script_read line.now
 reading_of None = Err Long
 
 -- ending a script that said so writes all that is held, or meets a fault
@@ -81,14 +82,14 @@ TellsOn (Some ends.TooManyReads) before after old new line = ⊥
 -- what one turn did: it took the next line and told it, or it found none and an end
 abbrev pub Turns : Option SessionEnd → Script → Script → Option (List ℕ) → Option (List ℕ) → Option (List ℕ) → Option (List ℕ) → LineState → LineState → Type 0
 Turns None before after old new read_old read_new lines lines_after =
-    TakesLine read_old read_new (unread lines) (unread lines_after) (λ line. TellsOn None before after old new (line_read line)) × GoesOn lines lines_after
+    TakesLine read_old read_new (unread lines) (unread lines_after) (λ line. TellsOn None before after old new (script_read line)) × GoesOn lines lines_after
 Turns (Some ends.Quit) before after old new read_old read_new lines lines_after =
-    TakesLine read_old read_new (unread lines) (unread lines_after) (λ line. TellsOn (Some ends.Quit) before after old new (line_read line))
+    TakesLine read_old read_new (unread lines) (unread lines_after) (λ line. TellsOn (Some ends.Quit) before after old new (script_read line))
 Turns (Some ends.EndOfInput) before after old new read_old read_new lines lines_after =
     TakesNoLine read_old read_new (unread lines) × IsAtEnd read_new × (new ≡ old)
 Turns (Some ends.ReadFault) before after old new read_old read_new lines lines_after =
     TakesNoLine read_old read_new (unread lines) × (new ≡ old)
 Turns (Some ends.WriteFault) before after old new read_old read_new lines lines_after =
-    TakesLine read_old read_new (unread lines) (unread lines_after) (λ line. TellsOn (Some ends.WriteFault) before after old new (line_read line))
+    TakesLine read_old read_new (unread lines) (unread lines_after) (λ line. TellsOn (Some ends.WriteFault) before after old new (script_read line))
 Turns (Some ends.TooManyReads) before after old new read_old read_new lines lines_after =
     TakesNoLine read_old read_new (unread lines) × (new ≡ old)

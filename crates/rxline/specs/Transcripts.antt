@@ -13,20 +13,22 @@ use Rattle.rx_note.specs.declared.answer.Answer.{Answer}
 use Rattle.rx_note.specs.declared.answer.Answer.TheVariants as answers
 use Rattle.rx_note.specs.declared.refusal.Refusal.{Refusal}
 use Rattle.rx_note.specs.declared.refusal.Refusal.TheVariants as refused
+use Rattle.rx_hub.specs.Hubs as hubs
 use Rattle.rx_history.specs.Histories.{History, ◌▹◌, answer, outs}
 use Rattle.rxline.specs.declared.asked.Asked.{Asked}
 use Rattle.rxline.specs.declared.asked.Asked.TheVariants as asked
-use Rattle.rxline.specs.declared.response.Response.{Response}
-use Rattle.rxline.specs.declared.response.Response.TheVariants as responses
-use Rattle.rxline.specs.declared.word.Word.{Word}
-use Rattle.rxline.specs.declared.word.Word.TheVariants as words
-use Rattle.rxline.specs.declared.command.Command.TheVariants.{Pub, End, Fail, Quit}
-use Rattle.rxline.specs.declared.script_line.ScriptLine.{ScriptLine}
-use Rattle.rxline.specs.declared.script_line.ScriptLine.TheVariants.{Command, At, Join, Request}
-use Rattle.rxline.specs.declared.line_error.BadLine.{BadLine}
-use Rattle.rxline.specs.declared.line_error.BadLine.TheVariants.{Long, Syntax}
-use Rattle.rxline.specs.Printing.{reply_line, given_line}
-use Rattle.rxline.specs.Reading.{line_read, same_word}
+use Rattle.rx_proto.specs.declared.response.Response.{Response}
+use Rattle.rx_proto.specs.declared.response.Response.TheVariants as responses
+use Rattle.rx_proto.specs.declared.word.Word.{Word}
+use Rattle.rx_proto.specs.declared.word.Word.TheVariants as words
+use Rattle.rx_proto.specs.declared.command.Command.TheVariants.{Pub, End, Fail, Sub, Quit}
+use Rattle.rx_proto.specs.declared.script_line.ScriptLine.{ScriptLine}
+use Rattle.rx_proto.specs.declared.script_line.ScriptLine.TheVariants.{Command, At, Join, Request, Dispose}
+use Rattle.rx_proto.specs.declared.line_error.BadLine.{BadLine}
+use Rattle.rx_proto.specs.declared.line_error.BadLine.TheVariants.{Long, Syntax}
+use Rattle.rx_proto.specs.Printing.{reply_line}
+use Rattle.rxline.specs.Printing.{given_line}
+use Rattle.rx_proto.specs.Reading.{script_read, same_word}
 
 -- a subject of a script: its name, its rules and the history that the lines so far have made
 pub record Subject : Type 0 where
@@ -45,25 +47,29 @@ new_state subjects = record { subjects = subjects; moment = 0 }
 
 -- WHAT A LINE ASKS
 
--- what a line asks at a moment, at which its event comes
+-- what a line asks at a moment, at which its event comes; a SUB, which no script has, would join with a request for none
 abbrev pub asks : ℕ → ScriptLine → Asked
 asks moment (Command (Pub name text)) = asked.Event name (events.Emit (Next (record { from = 0; text = text })) moment)
 asks moment (Command (End name)) = asked.Event name (events.Emit Completed moment)
 asks moment (Command (Fail name text)) = asked.Event name (events.Emit (Failed text) moment)
+asks moment (Command (Sub name policy)) = asked.Event name (events.Join policy 0 moment)
 asks moment (Command Quit) = asked.Quit
 asks moment (At next) = asked.At next
 asks moment (Join name policy first) = asked.Event name (events.Join policy first moment)
 asks moment (Request name who n) = asked.Event name (events.Request who n)
+asks moment (Dispose name who) = asked.Event name (events.Dispose who)
 
 -- whether a line has a text, for which it takes memory
 abbrev pub has_text : ScriptLine → Bool
 has_text (Command (Pub name text)) = true
 has_text (Command (End name)) = false
 has_text (Command (Fail name text)) = true
+has_text (Command (Sub name policy)) = false
 has_text (Command Quit) = false
 has_text (At moment) = false
 has_text (Join name policy first) = false
 has_text (Request name who n) = false
+has_text (Dispose name who) = false
 
 -- THE ANSWERS
 
@@ -82,6 +88,7 @@ abbrev pub response_to : Result Answer Refusal → Response
 response_to (Ok answers.Admitted) = responses.Done
 response_to (Ok (answers.Joined who)) = responses.Joined who
 response_to (Ok answers.Asked) = responses.Done
+response_to (Ok answers.Left) = responses.Done
 response_to (Err refusal) = responses.Refused (word_of refusal)
 
 -- the response to a line without a meaning
@@ -116,17 +123,17 @@ event_written subject event =
     reply_line (response_to (answer subject.rules subject.history event))
     ++ given_lines subject.name (outs subject.rules subject.history (0, event))
 
--- whether the subject accepts an event
-abbrev pub accepts : Event → Subject → Bool
-accepts event subject = is_ok (answer subject.rules subject.history event)
+-- whether the subject accepts an event, and memory is taken for it
+abbrev pub takes_it_with_memory : Event → Subject → Bool
+takes_it_with_memory event subject = hubs.takes_memory event && is_ok (answer subject.rules subject.history event)
 
 -- WHAT A LINE DOES
 
--- whether what a line asks is an event that its subject accepts
-abbrev pub is_accepted : List Subject → Asked → Bool
-is_accepted subjects (asked.Event name event) = option_map_or (accepts event) (subject_of subjects name) false
-is_accepted subjects (asked.At moment) = false
-is_accepted subjects asked.Quit = false
+-- whether what a line asks is an event that its subject accepts, and takes memory for
+abbrev pub wants_memory : List Subject → Asked → Bool
+wants_memory subjects (asked.Event name event) = option_map_or (takes_it_with_memory event) (subject_of subjects name) false
+wants_memory subjects (asked.At moment) = false
+wants_memory subjects asked.Quit = false
 
 -- whether what a line asks is the end
 abbrev pub is_quit : Asked → Bool
@@ -134,9 +141,9 @@ is_quit (asked.Event name event) = false
 is_quit (asked.At moment) = false
 is_quit asked.Quit = true
 
--- whether a line takes memory: for its text, or for an event that is accepted
+-- whether a line takes memory: for its text, or for its event
 abbrev pub takes_memory : State → ScriptLine → Bool
-takes_memory state line = has_text line || is_accepted state.subjects (asks state.moment line)
+takes_memory state line = has_text line || wants_memory state.subjects (asks state.moment line)
 
 -- whether a line met want of memory; only one that takes memory can
 abbrev pub misses : State → ScriptLine → Bool → Bool
@@ -187,10 +194,10 @@ later_marks (mark ∷ marks) = marks
 abbrev pub transcript : State → List Bool → List (List ℕ) → List ℕ
 transcript state marks [] = []
 transcript state marks (line ∷ lines) =
-    line_written state (line_read line) (first_mark marks)
-    ++ (if ends_script (line_read line) then [] else transcript (after_line state (line_read line) (first_mark marks)) (later_marks marks) lines)
+    line_written state (script_read line) (first_mark marks)
+    ++ (if ends_script (script_read line) then [] else transcript (after_line state (script_read line) (first_mark marks)) (later_marks marks) lines)
 
 -- whether one of the lines ends the script
 abbrev pub has_end : List (List ℕ) → Bool
 has_end [] = false
-has_end (line ∷ lines) = if ends_script (line_read line) then true else has_end lines
+has_end (line ∷ lines) = if ends_script (script_read line) then true else has_end lines

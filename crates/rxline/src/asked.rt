@@ -1,11 +1,9 @@
 ghost use Rattle.std.specs.Prelude.{◌≡◌};
-ghost use Rattle.rx_note.specs.declared.event.Event.TheVariants.{Emit};
+ghost use Rattle.rx_note.specs.declared.event.Event.TheVariants.{Emit, Join};
 ghost use Rattle.rxline.specs.Transcripts.{asks};
 
-use crate::command::Command;
-use crate::name::Name;
-use crate::script_line::ScriptLine;
-use rx_note::{Event, Item, Note};
+use rx_note::{Event, Item, Note, Policy};
+use rx_proto::{Command, Name, ScriptLine};
 
 /// What a line asks of a run.
 #[derive(Drop)]
@@ -30,22 +28,30 @@ pub fn asked_by(line: ScriptLine, moment: u64) -> Asked
         ScriptLine::Command(Command::Fail { name, text }) => {
             emitted(name, Note::Failed(text), moment)
         }
+        ScriptLine::Command(Command::Sub { name, policy }) => joined(name, policy, 0, moment),
         ScriptLine::Command(Command::Quit) => Asked::Quit,
         ScriptLine::At(next) => Asked::At(next),
         ScriptLine::Join {
             name,
             policy,
             first,
-        } => Asked::Event(
-            name,
-            Event::Join {
-                policy,
-                first,
-                at: moment,
-            },
-        ),
+        } => joined(name, policy, first, moment),
         ScriptLine::Request { name, who, n } => Asked::Event(name, Event::Request { who, n }),
+        ScriptLine::Dispose { name, who } => Asked::Event(name, Event::Dispose { who }),
     }
+}
+
+fn joined(name: Name, policy: Policy, first: u32, moment: u64) -> Asked
+    ensures { result ≡ Asked.Event name (Join policy first moment) }
+{
+    Asked::Event(
+        name,
+        Event::Join {
+            policy,
+            first,
+            at: moment,
+        },
+    )
 }
 
 fn emitted(name: Name, note: Note, moment: u64) -> Asked

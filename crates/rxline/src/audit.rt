@@ -1,23 +1,23 @@
 ghost use Rattle.std.specs.Prelude.{◌≡◌, ◌++◌, None, IfOk, MatchResult};
 ghost use Rattle.rxline.specs.Audits.{Audits, BreaksOff, Enters, EntersAsked, Follows, Learns, audit_written, note_lines, observed_lines, prints, state_in, subject_in, subject_written, subjects_in};
-ghost use Rattle.rxline.specs.Bytes.{AppendsPrefix, Puts, Writes};
-ghost use Rattle.rxline.specs.Reading.{line_read};
+ghost use Rattle.rx_proto.specs.Bytes.{AppendsPrefix, Writes};
+ghost use Rattle.rxline.specs.Bytes.{Puts};
+ghost use Rattle.rx_proto.specs.Reading.{script_read};
 ghost use Rattle.rxline.specs.Scripts.{new_subjects};
 
 use crate::asked::{Asked, asked_by};
 use crate::config::Config;
-use crate::ledger::{Ledger, enter, ledgers_of};
-use crate::line_error::LineError;
+use crate::ledger::Ledger;
+use crate::ledger_list::{enter, ledgers_of};
 use crate::line_state::LineState;
-use crate::name::Name;
 use crate::observed::Observed;
-use crate::outbox::{Outbox, WriteFault};
-use crate::parsing::parse_script;
+use crate::outbox::Outbox;
 use crate::printing::{put_marked, put_observer};
 use crate::session_end::SessionEnd;
 use crate::step::Step;
 use rx_heap::{Heap, Memory};
 use rx_note::Note;
+use rx_proto::{LineError, Name, WriteFault, parse_script};
 use std::io::{Read, Write};
 
 /// An audit that reads: its ledgers, and the moment of the events that follow, in milliseconds.
@@ -102,7 +102,7 @@ fn enter_next<R: Read>(
 
 // Does what a line asks, if it has a meaning.
 fn enter_line(alloc: &Heap, audit: &mut Audit, line: &[u8]) -> Result<Option<SessionEnd>, Memory>
-    ensures { IfOk result (λ end. Enters end (state_in audit.old) (state_in audit.new) (line_read line.now)) }
+    ensures { IfOk result (λ end. Enters end (state_in audit.old) (state_in audit.new) (script_read line.now)) }
 {
     match parse_script(alloc, line) {
         Ok(line) => enter_asked(audit, asked_by(line, audit.moment)),
@@ -153,11 +153,11 @@ fn put_ledger<W: Write>(
 ) -> Result<Result<(), WriteFault>, Memory>
     ensures { MatchResult result (λ put. Puts put outbox.old outbox.new (W.contents writer.old) (W.contents writer.new) (subject_written (subject_in ledger.now))) (λ _. AppendsPrefix (W.contents writer.old) (W.contents writer.new) (outbox.old ++ subject_written (subject_in ledger.now))) }
 {
-    for who in 0..ledger.rules.limits.joins {
+    for who in 0..ledger.subject.rules.limits.joins {
         let Some(observed) = ledger.observed(who)? else {
             return Ok(Ok(()));
         };
-        if let Err(fault) = put_observed(outbox, writer, &ledger.name, who, &observed) {
+        if let Err(fault) = put_observed(outbox, writer, &ledger.subject.name, who, &observed) {
             return Ok(Err(fault));
         }
     }

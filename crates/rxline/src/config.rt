@@ -1,7 +1,7 @@
-use crate::name::Name;
 use crate::subject_config::SubjectConfig;
 use rx_heap::{Heap, Memory};
 use rx_note::{Kind, Limits, Rules};
+use rx_proto::Name;
 
 /// What a run is made of. The limits are this project's own.
 #[derive(Drop, Debug)]

@@ -1,16 +1,14 @@
 ghost use Rattle.std.specs.Prelude.{◌≡◌, []};
 ghost use Rattle.std.specs.Io.KnownBytes.{Keeps};
-ghost use Rattle.rxline.specs.Bytes.{Puts, Writes};
+ghost use Rattle.rx_proto.specs.Bytes.{Writes};
+ghost use Rattle.rxline.specs.Bytes.{Puts};
 
+use rx_proto::{WriteFault, write_bytes};
 use std::io::Write;
 use std::marker::Model;
 
 /// The bytes that an outbox holds at most.
 pub const BLOCK: usize = 16384;
-
-/// A writer did not take what was written. It has a prefix of that.
-#[derive(Clone, Copy, Debug, PartialEq, Eq)]
-pub struct WriteFault;
 
 /// Gathers what is to be written by a writer that stands beside it. It takes no memory. Contracts see an outbox as the
 /// list of the bytes that it holds.
@@ -100,19 +98,4 @@ fn flushed<W: Write>(writer: &mut W) -> Result<(), WriteFault>
         Ok(()) => Ok(()),
         Err(_) => Err(WriteFault),
     }
-}
-
-// Writes all of the bytes. A write that fails or takes none is a fault.
-fn write_bytes<W: Write>(writer: &mut W, bytes: &[u8]) -> Result<(), WriteFault>
-    ensures { Writes result (W.contents writer.old) (W.contents writer.new) bytes.now }
-{
-    let mut rest = bytes;
-    while !rest.is_empty() {
-        match writer.write(rest) {
-            Ok(0) => return Err(WriteFault),
-            Ok(n) => rest = &rest[n..],
-            Err(_) => return Err(WriteFault),
-        }
-    }
-    Ok(())
 }

@@ -1,14 +1,12 @@
 ghost use Rattle.std.specs.Prelude.{◌≡◌, ◌++◌, ◌∷◌, [], codes, decimal};
 ghost use Rattle.rxline.specs.Audits.{observer_line};
 ghost use Rattle.rxline.specs.Bytes.{Puts};
-ghost use Rattle.rxline.specs.Printing.{letters_of, reply_line, note_line, given_line};
+ghost use Rattle.rx_proto.specs.Printing.{reply_line, note_line};
+ghost use Rattle.rxline.specs.Printing.{given_line};
 
-use crate::decimal::{MAX_DIGITS, write_digits};
-use crate::name::Name;
-use crate::outbox::{Outbox, WriteFault};
-use crate::response::Response;
-use crate::word::Word;
+use crate::outbox::Outbox;
 use rx_note::Note;
+use rx_proto::{MAX_DIGITS, Name, Response, WriteFault, reply_line, write_digits};
 use std::io::Write;
 
 const LF: &[u8] = b"\n";
@@ -23,11 +21,7 @@ pub fn put_reply<W: Write>(
 ) -> Result<(), WriteFault>
     ensures { Puts result outbox.old outbox.new (W.contents writer.old) (W.contents writer.new) (reply_line response) }
 {
-    match response {
-        Response::Done => outbox.put(writer, b"OK\n"),
-        Response::Joined(who) => put_joined(outbox, writer, who),
-        Response::Refused(word) => put_framed(outbox, writer, b"ERR ", letters_of(word)),
-    }
+    outbox.put(writer, reply_line(response).as_bytes())
 }
 
 /// Puts the line of a note.
@@ -93,15 +87,6 @@ pub fn put_marked<W: Write>(
     put_note(outbox, writer, note)
 }
 
-// Puts the line of a Join that made this observer.
-fn put_joined<W: Write>(outbox: &mut Outbox, writer: &mut W, who: u32) -> Result<(), WriteFault>
-    ensures { Puts result outbox.old outbox.new (W.contents writer.old) (W.contents writer.new) (codes "OK " ++ (decimal who ++ 10 ∷ [])) }
-{
-    outbox.put(writer, b"OK ")?;
-    put_decimal(outbox, writer, who)?;
-    outbox.put(writer, LF)
-}
-
 // Puts a line of a first word with its space and what stands behind it.
 #[inline]
 fn put_framed<W: Write>(
@@ -128,21 +113,4 @@ fn put_decimal<W: Write>(outbox: &mut Outbox, writer: &mut W, number: u32) -> Re
     let mut digits = [0; MAX_DIGITS];
     let start = write_digits(number, &mut digits);
     outbox.put(writer, &digits[start..])
-}
-
-fn letters_of(word: Word) -> &'static [u8]
-    ensures { result.now ≡ letters_of word }
-{
-    match word {
-        Word::Long => b"LONG",
-        Word::Syntax => b"SYNTAX",
-        Word::Subject => b"SUBJECT",
-        Word::Ended => b"ENDED",
-        Word::Full => b"FULL",
-        Word::Spent => b"SPENT",
-        Word::Zero => b"ZERO",
-        Word::Observer => b"OBSERVER",
-        Word::TooMuch => b"TOOMUCH",
-        Word::Memory => b"MEMORY",
-    }
 }

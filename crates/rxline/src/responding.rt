@@ -1,9 +1,8 @@
 ghost use Rattle.std.specs.Prelude.{◌≡◌};
 ghost use Rattle.rxline.specs.Transcripts.{response_to, word_of};
 
-use crate::response::Response;
-use crate::word::Word;
 use rx_note::{Answer, Refusal};
+use rx_proto::{Response, Word};
 
 /// What the line of an event is answered.
 pub fn response_to(answered: Result<Answer, Refusal>) -> Response
@@ -13,6 +12,7 @@ pub fn response_to(answered: Result<Answer, Refusal>) -> Response
         Ok(Answer::Joined(who)) => Response::Joined(who),
         Ok(Answer::Admitted) => Response::Done,
         Ok(Answer::Asked) => Response::Done,
+        Ok(Answer::Left) => Response::Done,
         Err(refusal) => Response::Refused(word_of(refusal)),
     }
 }

@@ -1,28 +1,25 @@
 ghost use Rattle.std.specs.Prelude.{◌≡◌, ◌<◌, ◌++◌, [], None, IfOk, OnOk, length};
 ghost use Rattle.rxline.specs.declared.topic.Topic.{Topic};
-ghost use Rattle.rxline.specs.Bytes.{Puts, Writes};
+ghost use Rattle.rx_proto.specs.Bytes.{Writes};
+ghost use Rattle.rxline.specs.Bytes.{Puts};
 ghost use Rattle.rxline.specs.Lines.{HasNoLf};
-ghost use Rattle.rxline.specs.Printing.{reply_line};
+ghost use Rattle.rx_proto.specs.Printing.{reply_line};
 ghost use Rattle.rxline.specs.Scripts.{Runs, TakesEvent, new_subjects};
 ghost use Rattle.rxline.specs.Transcripts.{given_lines, response_to};
 
 use crate::asked::{Asked, asked_by};
 use crate::config::Config;
-use crate::line_error::LineError;
 use crate::line_state::LineState;
-use crate::name::Name;
-use crate::outbox::{Outbox, WriteFault};
-use crate::parsing::parse_script;
+use crate::outbox::Outbox;
 use crate::printing::{put_given, put_reply};
 use crate::responding::response_to;
-use crate::response::Response;
 use crate::session_end::SessionEnd;
 use crate::step::Step;
 use crate::told::Told;
 use crate::topic::{Topic, place_of, topics_of};
-use crate::word::Word;
 use rx_heap::{Heap, Memory};
 use rx_note::{Answer, Event, Given, Refusal};
+use rx_proto::{LineError, Name, Response, Word, WriteFault, parse_script};
 use std::io::{Read, Write};
 
 /// Runs the lines of a script over the subjects of a configuration, and answers each by its response and a line for

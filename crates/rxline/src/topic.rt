@@ -1,11 +1,11 @@
 ghost use Rattle.std.specs.Prelude.{◌≡◌, IfOk, position};
-ghost use Rattle.rxline.specs.Reading.{same_word};
+ghost use Rattle.rx_proto.specs.Reading.{same_word};
 ghost use Rattle.rxline.specs.Scripts.{Stands, AllStand, new_subject, new_subjects};
 
-use crate::name::Name;
 use crate::subject_config::SubjectConfig;
 use rx_heap::{Heap, Memory};
 use rx_hub::{Hub, HubError};
+use rx_proto::Name;
 
 /// A subject of a script: its name and its hub.
 #[derive(Drop)]

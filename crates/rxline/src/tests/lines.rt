@@ -1,15 +1,9 @@
-use crate::command::Command;
-use crate::line_error::LineError;
 use crate::line_state::LineState;
-use crate::name::Name;
 use crate::outbox::Outbox;
-use crate::parsing::parse_script;
 use crate::printing::{put_given, put_reply};
-use crate::response::Response;
-use crate::script_line::ScriptLine;
 use crate::step::Step;
-use crate::word::Word;
 use rx_note::{Item, Note, Strategy, Text};
+use rx_proto::{Command, LineError, Name, Response, ScriptLine, Word, parse_script};
 use std::test::Fail;
 
 #[test]

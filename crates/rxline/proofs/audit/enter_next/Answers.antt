@@ -1,12 +1,12 @@
 use Rattle.std.proofs.Common.{◌<◌, ℕ, List, length, ap, sym, ◌∙◌, refl, Err, None}
 use Rattle.std.proofs.lemmas.Result.{IfOk-weaker}
 use Rattle.rxline.specs.Audits.{state_in}
-use Rattle.rxline.specs.declared.line_error.BadLine.TheVariants as bad
+use Rattle.rx_proto.specs.declared.line_error.BadLine.TheVariants as bad
 use Rattle.rxline.specs.declared.step.Step.TheVariants.{Line, Long}
-use Rattle.rxline.specs.Reading.{line_read}
+use Rattle.rx_proto.specs.Reading.{script_read}
 use Rattle.rxline.specs.Steps.{IsTold}
 use Rattle.rxline.proofs.Audited.{follows}
-use Rattle.rxline.proofs.Turning.{goes_by, line_read-long}
+use Rattle.rxline.proofs.Turning.{goes_by, script_read-long}
 use Rattle.rxline.proofs.audit.enter_next.Goals as goal
 
 pub returns-in-Line : goal.returns-in-Line
@@ -18,8 +18,8 @@ returns-in-Line g c =
     let goes = goes_by (Line c.in-Line.len) read_old read_new before after c.requires c.in-Line.ensures.advances in
     let says : List ℕ → Type 0 = λ line. IsTold line c.in-Line.len after.window in
     IfOk-weaker c.enter_line.result _ _
-    (λ end enters. follows end (state_in c.args.audit.now) (state_in c.enter_line.new.audit) read_old read_new before after (line_read c.line.result.now) says
-    (λ line said. ap line_read (sym said.bytes ∙ sym c.line.ensures)) goes.0 goes.1 enters)
+    (λ end enters. follows end (state_in c.args.audit.now) (state_in c.enter_line.new.audit) read_old read_new before after (script_read c.line.result.now) says
+    (λ line said. ap script_read (sym said.bytes ∙ sym c.line.ensures)) goes.0 goes.1 enters)
     c.enter_line.ensures
 
 pub returns-in-Long : goal.returns-in-Long
@@ -30,4 +30,4 @@ returns-in-Long g c =
     let after = c.advance.new.self in
     let goes = goes_by Long read_old read_new before after c.requires c.in-Long.ensures.advances in
     let says : List ℕ → Type 0 = λ line. 1100 < length line in
-    follows None (state_in c.args.audit.now) (state_in c.args.audit.now) read_old read_new before after (Err bad.Long) says line_read-long goes.0 goes.1 (refl, refl)
+    follows None (state_in c.args.audit.now) (state_in c.args.audit.now) read_old read_new before after (Err bad.Long) says script_read-long goes.0 goes.1 (refl, refl)

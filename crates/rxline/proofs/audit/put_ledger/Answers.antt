@@ -2,7 +2,8 @@ use Rattle.std.proofs.Common.{◌≤◌, ◌<◌, ◌++◌, ℕ, List, Option, s
 use Rattle.rx_history.specs.Histories.{joins}
 use Rattle.rx_history.proofs.Entries.{signals_none}
 use Rattle.rxline.specs.Audits.{Observes, subject_in, observers_written}
-use Rattle.rxline.specs.Bytes.{AppendsPrefix, Holds, Loses}
+use Rattle.rx_proto.specs.Bytes.{AppendsPrefix}
+use Rattle.rxline.specs.Bytes.{Holds, Loses}
 use Rattle.rxline.specs.declared.observed.Observed.{Observed}
 use Rattle.rxline.proofs.Ledgers.{joins_within, made, observers_front, observers-all, observers-lost, observers-next}
 use Rattle.rxline.proofs.Written.{Holds-then, Loses-then, Prefix-cut}

@@ -8,4 +8,4 @@ use Rattle.rxline.proofs.audit.put_ledger.Given as goal
 abbrev pub invariant-loop-who : goal.invariant-loop-who
 invariant-loop-who g l =
     Holds l.initial.outbox l.outbox (g.W.Write.contents l.initial.writer) (g.W.Write.contents l.writer) (observers_written (subject_in l.ledger) l.who)
-    × (l.who ≤ joins l.ledger.rules (history_of l.ledger.history))
+    × (l.who ≤ joins l.ledger.subject.rules (history_of l.ledger.history))

@@ -1,7 +1,7 @@
 use Rattle.std.proofs.Common.{◌<◌, ℕ, List, ◌++◌, length, ap, ◌∙◌, arith}
 use Rattle.rx_note.specs.declared.note.Note.{Note}
 use Rattle.rxline.specs.Audits.{note_lines}
-use Rattle.rxline.specs.Printing.{note_line}
+use Rattle.rx_proto.specs.Printing.{note_line}
 use Rattle.rxline.proofs.Pieces.{flat_map-next, flat_map-parts}
 use Rattle.rxline.proofs.Written.{Holds-then, Loses-then, Loses-more, Puts-as, Puts-fault}
 use Rattle.rxline.proofs.audit.put_notes.Goals as goal

@@ -3,9 +3,10 @@ use Rattle.std.proofs.lemmas.List.{take_all}
 use Rattle.std.proofs.lemmas.List.Folds.{flat_map-map}
 use Rattle.std.specs.List.{flat_map}
 use Rattle.rxline.specs.Audits.{subject_in, subject_written}
-use Rattle.rxline.specs.Bytes.{AppendsPrefix, Holds, Loses, Puts}
+use Rattle.rx_proto.specs.Bytes.{AppendsPrefix}
+use Rattle.rxline.specs.Bytes.{Holds, Loses, Puts}
 use Rattle.rxline.specs.declared.ledger.Ledger.{Ledger}
-use Rattle.rxline.specs.declared.outbox.WriteFault.{WriteFault}
+use Rattle.rx_proto.specs.declared.writing.WriteFault.{WriteFault}
 use Rattle.rxline.proofs.Audited.{Writes-held}
 use Rattle.rxline.proofs.Pieces.{flat_map-next, flat_map-parts}
 use Rattle.rxline.proofs.Written.{Holds-then, Loses-more, Loses-then}

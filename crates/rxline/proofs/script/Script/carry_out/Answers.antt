@@ -3,12 +3,12 @@ use Rattle.std.specs.Option.{option_map_or}
 use Rattle.rxline.specs.declared.asked.Asked.{Asked}
 use Rattle.rxline.specs.declared.told.Told.TheVariants as told
 use Rattle.rxline.specs.declared.topic.Topic.{Topic}
-use Rattle.rxline.specs.declared.response.Response.TheVariants.{Refused}
-use Rattle.rxline.specs.declared.word.Word.TheVariants as words
-use Rattle.rxline.specs.Printing.{reply_line}
+use Rattle.rx_proto.specs.declared.response.Response.TheVariants.{Refused}
+use Rattle.rx_proto.specs.declared.word.Word.TheVariants as words
+use Rattle.rx_proto.specs.Printing.{reply_line}
 use Rattle.rxline.specs.Tellings.{CarriesOut, is_last}
-use Rattle.rxline.specs.Transcripts.{event_written, accepts}
-use Rattle.rxline.specs.Reading.{same_word}
+use Rattle.rxline.specs.Transcripts.{event_written, takes_it_with_memory}
+use Rattle.rx_proto.specs.Reading.{same_word}
 use Rattle.rx_hub.proofs.Positions.{position-within}
 use Rattle.rxline.proofs.Written.{Puts-as}
 use Rattle.rxline.proofs.Subjects.{found_at, unknown_to, some_topic, IsIn-after, IsIn-unknown, match_ok}
@@ -27,7 +27,7 @@ returns-in-Some g c =
     let f = (found_at topics state.subjects c.in-Event.name c.in-Some.place d is_in.subjects (sym c.in-Some.ensures)).1 in
     let t = c.take.ensures.took d f.subject f.stands in (
       t.0,
-      λ missed. ap (λ s. option_map_or (accepts c.in-Event.event) s false) f.is ∙ t.1 missed,
+      λ missed. ap (λ s. option_map_or (takes_it_with_memory c.in-Event.event) s false) f.is ∙ t.1 missed,
       Puts-as c.take.result old new before.outbox after.outbox _ _
           (ap (λ s. cond t.0 (reply_line (Refused words.Memory)) (option_map_or (λ subject. event_written subject c.in-Event.event) s (reply_line (Refused words.Subject)))) (sym f.is)) t.2,
       match_ok c.take.result (λ x. x ≡ told.More) _ c.take.ensures.more (λ x more. (

@@ -1,8 +1,8 @@
 use Rattle.std.proofs.Common.{◌<◌, ℕ, List, length, ap, sym, ◌∙◌}
 use Rattle.rxline.specs.declared.step.Step.TheVariants.{Line, Long}
-use Rattle.rxline.specs.Reading.{line_read}
+use Rattle.rx_proto.specs.Reading.{script_read}
 use Rattle.rxline.specs.Steps.{IsTold}
-use Rattle.rxline.proofs.Turning.{turned, goes_by, line_read-long}
+use Rattle.rxline.proofs.Turning.{turned, goes_by, script_read-long}
 use Rattle.rxline.proofs.script.Script.turn.Goals as goal
 
 pub returns-in-Line : goal.returns-in-Line
@@ -13,8 +13,8 @@ returns-in-Line g c =
     let after = c.advance.new.self in
     let goes = goes_by (Line c.in-Line.len) read_old read_new before after c.requires c.in-Line.ensures.advances in
     let says : List ℕ → Type 0 = λ line. IsTold line c.in-Line.len after.window in
-    turned c.tell_on.result _ _ _ _ read_old read_new before after (line_read c.line.result.now) says
-    (λ line said. ap line_read (sym said.bytes ∙ sym c.line.ensures)) goes.0 goes.1 c.tell_on.ensures
+    turned c.tell_on.result _ _ _ _ read_old read_new before after (script_read c.line.result.now) says
+    (λ line said. ap script_read (sym said.bytes ∙ sym c.line.ensures)) goes.0 goes.1 c.tell_on.ensures
 
 pub returns-in-Long : goal.returns-in-Long
 returns-in-Long g c =
@@ -24,4 +24,4 @@ returns-in-Long g c =
     let after = c.advance.new.self in
     let goes = goes_by Long read_old read_new before after c.requires c.in-Long.ensures.advances in
     let says : List ℕ → Type 0 = λ line. 1100 < length line in
-    turned c.tell_on-in-Long.result _ _ _ _ read_old read_new before after _ says line_read-long goes.0 goes.1 c.tell_on-in-Long.ensures
+    turned c.tell_on-in-Long.result _ _ _ _ read_old read_new before after _ says script_read-long goes.0 goes.1 c.tell_on-in-Long.ensures

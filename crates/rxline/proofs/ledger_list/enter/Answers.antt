@@ -3,18 +3,18 @@ use Rattle.std.proofs.lemmas.List.{get_or_default}
 use Rattle.std.proofs.lemmas.List.Quantifiers.{position-Some}
 use Rattle.rx_history.proofs.Agreeing.{on_ok}
 use Rattle.rxline.specs.Audits.{subject_in}
-use Rattle.rxline.specs.Reading.{same_word}
+use Rattle.rx_proto.specs.Reading.{same_word}
 use Rattle.rxline.specs.Transcripts.{taking}
 use Rattle.rxline.specs.declared.ledger.Ledger.{Ledger}
 use Rattle.rxline.proofs.Ledgers.{entered, not_entered, subject_in-added}
-use Rattle.rxline.proofs.ledger.enter.Goals as goal
+use Rattle.rxline.proofs.ledger_list.enter.Goals as goal
 
 pub returns-in-Some : goal.returns-in-Some
 returns-in-Some c =
     let ledgers = c.args.ledgers.now.items in
     let this = c.index_mut.result.now in
     let found = sym c.in-Some.ensures in
-    let within = (position-Some (λ (ledger : Ledger). same_word ledger.name c.args.name.now) ledgers c.in-Some.place this found).0 in
+    let within = (position-Some (λ (ledger : Ledger). same_word ledger.subject.name c.args.name.now) ledgers c.in-Some.place this found).0 in
     let at = c.index_mut.ensures.value ∙ get_or_default ledgers c.in-Some.place this this within in
     on_ok c.add.result
     (λ added. entered ledgers c.args.name.now c.in-Some.place this (record this { history = c.add.new.self }) c.args.event found
