@@ -3,17 +3,17 @@ use Rattle.std.specs.Prelude.{◌≡◌, ℕ, List, [], ◌∷◌, map, None, So
 use Rattle.rx_note.specs.Choices.{choice}
 use Rattle.rx_note.specs.declared.policy.Policy.{Policy}
 use Rattle.rx_note.specs.declared.strategy.Strategy.TheVariants.{Buffer, Drop, Latest}
-use Rattle.rx_note.specs.declared.errors.Errors.TheVariants.{Delay}
+use Rattle.rx_note.specs.declared.errors.Errors.TheVariants.{Ahead, Delay}
 use Rattle.rx_note.specs.declared.given.Given.{Given}
 use Rattle.rx_note.specs.declared.note.Note.{Note}
 use Rattle.rx_note.specs.declared.note.Note.TheVariants.{Next, Completed, Failed}
 use Rattle.rx_note.specs.declared.event.Event.{Event}
-use Rattle.rx_note.specs.declared.event.Event.TheVariants.{Emit, Join, Request}
+use Rattle.rx_note.specs.declared.event.Event.TheVariants.{Emit, Join, Request, Dispose}
 use Rattle.rx_note.specs.declared.rules.Rules.{Rules}
 use Rattle.rx_note.specs.declared.kind.Kind.{Kind}
 use Rattle.rx_note.specs.declared.kind.Kind.TheVariants.{Publish, Behavior, Async, Replay}
 use Rattle.rx_note.specs.declared.answer.Answer.{Answer}
-use Rattle.rx_note.specs.declared.answer.Answer.TheVariants.{Admitted, Joined, Asked}
+use Rattle.rx_note.specs.declared.answer.Answer.TheVariants.{Admitted, Joined, Asked, Left}
 use Rattle.rx_note.specs.declared.refusal.Refusal.{Refusal}
 use Rattle.rx_note.specs.declared.refusal.Refusal.TheVariants as refused
 use Rattle.rx_history.specs.Histories.{History, NoEvents, ◌▹◌, owed_to, answer, outs}
@@ -39,6 +39,10 @@ of_kind kind = record default { kind = kind }
 -- Buffer and Delay
 abbrev plain : Policy
 plain = choice Buffer Delay
+
+-- Buffer and Ahead
+abbrev ahead : Policy
+ahead = choice Buffer Ahead
 
 -- Drop, or Latest, with this room, and Delay
 abbrev dropping : ℕ → Policy
@@ -109,6 +113,30 @@ error_delayed : told default NoEvents
     ≡ ((Ok (Joined 0), []) ∷ (Ok Admitted, to0 (next a) ∷ []) ∷ (Ok Admitted, []) ∷ (Ok Admitted, []) ∷ (Ok Admitted, [])
     ∷ (Ok Asked, to0 (next b) ∷ to0 (next c) ∷ to0 (Failed x) ∷ []) ∷ [])
 error_delayed = refl
+
+error_ahead : told default NoEvents
+    (Join ahead 1 0 ∷ emits a ∷ emits b ∷ emits c ∷ Emit (Failed x) 0 ∷ Request 0 3 ∷ [])
+    ≡ ((Ok (Joined 0), []) ∷ (Ok Admitted, to0 (next a) ∷ []) ∷ (Ok Admitted, []) ∷ (Ok Admitted, [])
+    ∷ (Ok Admitted, to0 (Failed x) ∷ []) ∷ (Ok Asked, []) ∷ [])
+error_ahead = refl
+
+replay_of_a_failed_subject : told (of_kind (Replay None None)) NoEvents
+    (emits a ∷ Emit (Failed x) 0 ∷ Join ahead 0 0 ∷ Join plain 0 0 ∷ Request 1 1 ∷ [])
+    ≡ ((Ok Admitted, []) ∷ (Ok Admitted, []) ∷ (Ok (Joined 0), to0 (Failed x) ∷ []) ∷ (Ok (Joined 1), [])
+    ∷ (Ok Asked, to1 (next a) ∷ to1 (Failed x) ∷ []) ∷ [])
+replay_of_a_failed_subject = refl
+
+held_and_joined_limits : told (record default { limits = record { observers = 1; joins = 2 } }) NoEvents
+    (Join plain 0 0 ∷ Join plain 0 0 ∷ Dispose 0 ∷ Join plain 0 0 ∷ Dispose 1 ∷ Join plain 0 0 ∷ Dispose 1 ∷ [])
+    ≡ ((Ok (Joined 0), []) ∷ (Err refused.Full, []) ∷ (Ok Left, []) ∷ (Ok (Joined 1), []) ∷ (Ok Left, [])
+    ∷ (Err refused.Spent, []) ∷ (Err refused.NoObserver, []) ∷ [])
+held_and_joined_limits = refl
+
+refused_join_keeps_the_window : told (record { kind = Replay None (Some 10); limits = record { observers = 1; joins = 4294967295 } }) NoEvents
+    (emits_at 0 a ∷ joins_at 0 ∷ joins_at 50 ∷ Dispose 0 ∷ joins_at 5 ∷ [])
+    ≡ ((Ok Admitted, []) ∷ (Ok (Joined 0), to0 (next a) ∷ []) ∷ (Err refused.Full, []) ∷ (Ok Left, [])
+    ∷ (Ok (Joined 1), to1 (next a) ∷ []) ∷ [])
+refused_join_keeps_the_window = refl
 
 refusals_in_order : told default NoEvents
     (Join plain 0 0 ∷ Request 0 0 ∷ Request 7 0 ∷ Request 0 4294967295 ∷ Request 0 1 ∷ Request 7 1 ∷ Emit Completed 0

@@ -40,6 +40,12 @@ fn audits_of_whole_inputs(rt: HostRuntime) -> Result<(), Fail> {
             SessionEnd::EndOfInput,
         ),
         (
+            "audit_of_one_that_left",
+            b"JOIN s BUFFER DELAY 1\nJOIN s LATEST:1 AHEAD 0\nPUB s a\nPUB s b\nDISPOSE s 0\nPUB s c\nFAIL s x\n".as_slice(),
+            b"OBSERVER s 0\nGIVEN NEXT a\nOBSERVER s 1\nGIVEN FAILED x\n".as_slice(),
+            SessionEnd::EndOfInput,
+        ),
+        (
             "no_line",
             b"".as_slice(),
             b"".as_slice(),

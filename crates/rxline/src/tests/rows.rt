@@ -35,6 +35,11 @@ fn worked_runs(rt: HostRuntime) -> Result<(), Fail> {
             b"OK 0\nOK\ns 0 NEXT a\nOK\nOK\nOK\nOK\ns 0 NEXT b\ns 0 NEXT c\ns 0 FAILED x\n".as_slice(),
         ),
         (
+            "error_ahead",
+            b"JOIN s BUFFER AHEAD 1\nPUB s a\nPUB s b\nPUB s c\nFAIL s x\nREQUEST s 0 3\n".as_slice(),
+            b"OK 0\nOK\ns 0 NEXT a\nOK\nOK\nOK\ns 0 FAILED x\nOK\n".as_slice(),
+        ),
+        (
             "refusals_in_order",
             b"JOIN s BUFFER DELAY 0\nREQUEST s 0 0\nREQUEST s 7 0\nREQUEST s 0 4294967295\nREQUEST s 0 1\nREQUEST s 7 1\nEND s\nPUB s a\nPUB t a\n".as_slice(),
             b"OK 0\nERR ZERO\nERR ZERO\nOK\nERR TOOMUCH\nERR OBSERVER\nOK\ns 0 DONE\nERR ENDED\nERR SUBJECT\n".as_slice(),
