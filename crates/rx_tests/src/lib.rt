@@ -16,6 +16,8 @@ mod hubs;
 #[cfg(test)]
 mod lanes;
 #[cfg(test)]
+mod marbles;
+#[cfg(test)]
 mod signs;
 #[cfg(test)]
 mod subjects;

@@ -62,7 +62,7 @@ pub(crate) fn note_of(heap: &Heap, sign: u8) -> Result<Note, Fail> {
 }
 
 /// The event of a sign: `+` joins an observer by this policy with a first request, a digit requests so many items for
-/// observer 0, any other emits its note.
+/// observer 0, `-` has it leave, any other emits its note.
 pub(crate) fn event_of(heap: &Heap, policy: Policy, first: u32, sign: u8) -> Result<Event, Fail> {
     match sign {
         b'+' => Ok(Event::Join {
@@ -74,6 +74,7 @@ pub(crate) fn event_of(heap: &Heap, policy: Policy, first: u32, sign: u8) -> Res
             who: 0,
             n: u32::from(sign - b'0'),
         }),
+        b'-' => Ok(Event::Dispose { who: 0 }),
         other => Ok(emit(note_of(heap, other)?)),
     }
 }
