@@ -1,0 +1,9 @@
+pub mod Blocks
+pub mod Known
+pub mod Lfs
+pub mod LinesOf
+pub mod Answering
+pub mod Sheds
+pub mod SoFar
+pub mod Stepping
+pub mod Written
