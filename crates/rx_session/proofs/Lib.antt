@@ -1,5 +1,6 @@
 pub mod Blocks
 pub mod Known
+pub mod Lanes
 pub mod Lfs
 pub mod LinesOf
 pub mod Answering

@@ -15,6 +15,7 @@ mod line_state;
 mod next;
 mod outbox;
 mod reading;
+mod searching;
 mod serving;
 mod session_end;
 mod step;

@@ -166,12 +166,12 @@ fn follow<W: Write + Drop, D: Desk<W>>(
     ensures { (at : Place D W) → IsAt (parties D.emits D.follows W.contents) at (hands desk.old writer outbox.old)
         → Carries (parties D.emits D.follows W.contents) (Ok (Sub name.now policy)) at result desk.new outbox.new }
 {
-    let mut held = writer;
-    match outbox.flush(&mut held) {
+    let mut writer = writer;
+    match outbox.flush(&mut writer) {
         Ok(()) => {}
-        Err(_) => return Turned::Over(SessionEnd::WriteFault, Some(held)),
+        Err(_) => return Turned::Over(SessionEnd::WriteFault, Some(writer)),
     }
-    match desk.follow(name, policy, held) {
+    match desk.follow(name, policy, writer) {
         Follow::Taken => Turned::Over(SessionEnd::HandedOver, None),
         Follow::Back(response, back) => answer(outbox, back, response),
     }

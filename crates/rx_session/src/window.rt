@@ -1,14 +1,13 @@
 ghost use Rattle.std.specs.Prelude.{length, ◌≤◌, ◌<◌, ◌≡◌, drop, take, []};
 ghost use Rattle.rx_session.specs.Windows.{FindsLf, Fills, count_of};
 
+use crate::searching::first_lf;
 use std::io;
 use std::io::Read;
 use std::marker::Model;
 
 /// The bytes that a window has room for.
 pub const BLOCK: usize = 65536;
-
-const LF: u8 = b'\n';
 
 /// A window on the bytes of a reader: what was read and not yet let go. Contracts see a window as the list of those
 /// bytes.
@@ -125,15 +124,4 @@ fn count_of(read: &io::Result<usize>) -> usize
         Ok(count) => *count,
         Err(_) => 0,
     }
-}
-
-fn first_lf(bytes: &[u8]) -> Option<usize>
-    ensures { FindsLf result bytes.now }
-{
-    for (len, byte) in bytes.iter().enumerate() {
-        if *byte == LF {
-            return Some(len);
-        }
-    }
-    None
 }
