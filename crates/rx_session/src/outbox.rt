@@ -1,15 +1,19 @@
-ghost use Rattle.std.specs.Prelude.{◌≡◌, []};
+ghost use Rattle.std.specs.Prelude.{◌≡◌, ◌≤◌, ◌+◌, ◌++◌, [], OnOk, length};
 ghost use Rattle.std.specs.Io.KnownBytes.{Keeps};
 ghost use Rattle.rx_proto.specs.Bytes.{Writes};
-ghost use Rattle.rx_proto.specs.Printing.{reply_line};
+ghost use Rattle.rx_proto.specs.Printing.{note_line, reply_line};
 ghost use Rattle.rx_session.specs.Bytes.{Puts};
 
+use rx_note::Note;
 use rx_proto::{Response, WriteFault, reply_line, write_bytes};
 use std::io::Write;
 use std::marker::Model;
 
 /// The bytes that an outbox holds at most.
 pub const BLOCK: usize = 65536;
+
+// The room for any line that is written.
+const LINE_ROOM: usize = 2048;
 
 /// Gathers what is to be written by a writer that stands beside it. It takes no memory. Contracts see an outbox as the
 /// list of the bytes that it holds.
@@ -48,10 +52,51 @@ impl Outbox {
         if bytes.len() > BLOCK - self.len {
             return self.make_room(writer, bytes);
         }
+        self.push(bytes);
+        Ok(())
+    }
+
+    /// Makes room for 2,048 bytes more, which is more than any line that is written: where there is less, writes what it
+    /// holds. After a fault it holds nothing. A line that is pushed in pieces takes one test of room so.
+    #[inline]
+    pub fn ready<W: Write>(&mut self, writer: &mut W) -> Result<(), WriteFault>
+        ensures puts { Puts result self.old self.new (W.contents writer.old) (W.contents writer.new) [] }
+        ensures room { OnOk result (length self.new + 2048 ≤ 65536) }
+    {
+        if BLOCK - self.len >= LINE_ROOM {
+            return Ok(());
+        }
+        self.write_out(writer)
+    }
+
+    /// Holds these bytes too, for which there is room.
+    #[inline]
+    pub fn push(&mut self, bytes: &[u8])
+        requires { length self.old + length bytes.now ≤ 65536 }
+        ensures { self.new ≡ self.old ++ bytes.now }
+    {
         let len = self.len + bytes.len();
         self.block[self.len..len].copy_from_slice(bytes);
         self.len = len;
-        Ok(())
+    }
+
+    /// Holds the line of a note too, for which there is room.
+    pub fn push_note(&mut self, note: &Note)
+        requires { length self.old + 1040 ≤ 65536 }
+        ensures { self.new ≡ self.old ++ note_line note.now }
+    {
+        match note {
+            Note::Next(item) => {
+                self.push(b"NEXT ");
+                self.push(item.text.as_bytes());
+            }
+            Note::Completed => self.push(b"DONE"),
+            Note::Failed(text) => {
+                self.push(b"FAILED ");
+                self.push(text.as_bytes());
+            }
+        }
+        self.push(b"\n");
     }
 
     /// Holds the line of a response too, as `put` does.
