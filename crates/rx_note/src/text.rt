@@ -59,9 +59,21 @@ impl Text {
         if bytes.contains(&LF) {
             return Err(TextError::HasLf);
         }
+        match Text::of_line(alloc, bytes) {
+            Ok(text) => Ok(text),
+            Err(_) => Err(TextError::Memory),
+        }
+    }
+
+    /// The text of bytes of a line that are known to be one, which are not looked through again.
+    pub fn of_line(alloc: Heap, bytes: &[u8]) -> Result<Text, Memory>
+        requires within { length bytes.now ≤ 1024 }
+        requires no_lf { list_any (λ b. nat_eq b 10) bytes.now ≡ false }
+        ensures { IfOk result (λ text. text ≡ bytes.now) }
+    {
         match ArcSlice::from_slice(alloc, bytes) {
             Ok(bytes) => Ok(Text { bytes }),
-            Err(_) => Err(TextError::Memory),
+            Err(_) => Err(Memory),
         }
     }
 

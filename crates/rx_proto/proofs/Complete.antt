@@ -11,7 +11,7 @@ use Rattle.rx_note.specs.declared.errors.Errors.TheVariants.{Ahead, Delay}
 use Rattle.rx_proto.specs.Grammar.{IsText, IsDigit, value_behind, SpellsNumber, SpellsRoom, SpellsStrategy, SpellsErrors, SpellsSub, SpellsJoin, SpellsRequest, SpellsDispose, Spells, HasLongText, IsLong}
 use Rattle.rx_proto.specs.LineFeeds.{HasNoLf}
 use Rattle.rx_proto.specs.Names.{IsName, IsNameByte}
-use Rattle.rx_proto.specs.Reading.{◌>>=◌, cut_read, same_word, name_read, named_read, text_read, digits_read, wide_number_read, number_read, room_read, strategy_read, errors_read, policy_read, named_text_read, join_read, request_read, dispose_read, sub_read, words_read, line_read}
+use Rattle.rx_proto.specs.Reading.{◌>>=◌, cut_read, same_word, begins_with, pub_read, name_read, named_read, text_read, digits_read, wide_number_read, number_read, room_read, strategy_read, errors_read, policy_read, named_text_read, join_read, request_read, dispose_read, sub_read, words_read, line_read}
 use Rattle.rx_proto.specs.declared.command.Command.TheVariants.{Pub, End, Fail, Sub, Quit}
 use Rattle.rx_proto.specs.declared.line_error.BadLine.TheVariants.{Long}
 use Rattle.rx_proto.specs.declared.script_line.ScriptLine.{ScriptLine}
@@ -167,17 +167,20 @@ sub_read-words name policy line s =
       policy_read-words policy s.strategy s.errors s.strategy_is s.errors_is,
     ) refl
 
--- a line in its limit whose first word is no QUIT
+-- a line in its limit whose first word is neither PUB nor QUIT
 line_read-words : (command bytes line : List ℕ) → line ≡ command ++ (32 ∷ bytes) → length line ≤ 1100 → cut_read (command ++ (32 ∷ bytes)) ≡ Ok (command, bytes)
-    → same_word (command ++ (32 ∷ bytes)) (codes "QUIT") ≡ false → line_read line ≡ words_read command bytes
+    → begins_with (command ++ (32 ∷ bytes)) (codes "PUB ") ≡ false → same_word (command ++ (32 ∷ bytes)) (codes "QUIT") ≡ false → line_read line ≡ words_read command bytes
 unfolding line_read
-line_read-words command bytes line parts few cut other =
+line_read-words command bytes line parts few cut no_pub other =
     let fits : nat_lt 1100 (length line) ≡ false = grind (arith, nat_tests) in
-    rw (fits, parts, other, cut) refl
+    rw (fits, parts, no_pub, other, cut) refl
 
-pub_read : (bytes : List ℕ) → words_read (codes "PUB") bytes ≡ (named_text_read bytes >>= λ p. Ok (Command (Pub p.0 p.1)))
-unfolding words_read
-pub_read bytes = refl
+-- a line of PUB in its limit
+line_read-pub : (bytes line : List ℕ) → line ≡ codes "PUB" ++ (32 ∷ bytes) → length line ≤ 1100 → line_read line ≡ (named_text_read bytes >>= λ p. Ok (Command (Pub p.0 p.1)))
+unfolding line_read pub_read
+line_read-pub bytes line parts few =
+    let fits : nat_lt 1100 (length line) ≡ false = grind (arith, nat_tests) in
+    rw (fits, parts) refl
 
 end_read : (bytes : List ℕ) → words_read (codes "END") bytes ≡ (name_read bytes >>= λ name. Ok (Command (End name)))
 unfolding words_read
@@ -214,26 +217,26 @@ quit_read = refl
 -- every line in its limit that is spelled is read
 pub line_read-spelled : (line : List ℕ) (meaning : ScriptLine) → Spells meaning line → length line ≤ 1100 → line_read line ≡ Ok meaning
 line_read-spelled line (Command (Pub name text)) s few =
-    line_read-words (codes "PUB") (name ++ (32 ∷ text)) line s.words few refl refl ∙ pub_read (name ++ (32 ∷ text)) ∙ rw (named_text_read-text name text s.name_is s.text_is) refl
+    line_read-pub (name ++ (32 ∷ text)) line s.words few ∙ rw (named_text_read-text name text s.name_is s.text_is) refl
 line_read-spelled line (Command (End name)) s few =
-    line_read-words (codes "END") name line s.1 few refl refl ∙ end_read name ∙ rw (name_read-name name s.0) refl
+    line_read-words (codes "END") name line s.1 few refl refl refl ∙ end_read name ∙ rw (name_read-name name s.0) refl
 line_read-spelled line (Command (Fail name text)) s few =
-    line_read-words (codes "FAIL") (name ++ (32 ∷ text)) line s.words few refl refl ∙ fail_read (name ++ (32 ∷ text)) ∙ rw (named_text_read-text name text s.name_is s.text_is) refl
+    line_read-words (codes "FAIL") (name ++ (32 ∷ text)) line s.words few refl refl refl ∙ fail_read (name ++ (32 ∷ text)) ∙ rw (named_text_read-text name text s.name_is s.text_is) refl
 line_read-spelled line (Command (Sub name policy)) s few =
     let bytes = name ++ (32 ∷ (s.strategy ++ (32 ∷ s.errors))) in
-    line_read-words (codes "SUB") bytes line s.words few refl refl ∙ sub_words bytes ∙ sub_read-words name policy line s
+    line_read-words (codes "SUB") bytes line s.words few refl refl refl ∙ sub_words bytes ∙ sub_read-words name policy line s
 line_read-spelled line (Command Quit) s few = ap line_read s ∙ quit_read
 line_read-spelled line (At moment) s few =
-    line_read-words (codes "AT") s.number line s.words few refl refl ∙ at_words s.number ∙ rw (wide_number_read-number moment s.number s.number_is) refl
+    line_read-words (codes "AT") s.number line s.words few refl refl refl ∙ at_words s.number ∙ rw (wide_number_read-number moment s.number s.number_is) refl
 line_read-spelled line (Join name policy first) s few =
     let bytes = name ++ (32 ∷ (s.strategy ++ (32 ∷ (s.errors ++ (32 ∷ s.number))))) in
-    line_read-words (codes "JOIN") bytes line s.words few refl refl ∙ join_words bytes ∙ join_read-words name policy first line s
+    line_read-words (codes "JOIN") bytes line s.words few refl refl refl ∙ join_words bytes ∙ join_read-words name policy first line s
 line_read-spelled line (Request name who n) s few =
     let bytes = name ++ (32 ∷ (s.observer ++ (32 ∷ s.items))) in
-    line_read-words (codes "REQUEST") bytes line s.words few refl refl ∙ request_words bytes ∙ request_read-words name who n line s
+    line_read-words (codes "REQUEST") bytes line s.words few refl refl refl ∙ request_words bytes ∙ request_read-words name who n line s
 line_read-spelled line (Dispose name who) s few =
     let bytes = name ++ (32 ∷ s.observer) in
-    line_read-words (codes "DISPOSE") bytes line s.words few refl refl ∙ dispose_words bytes ∙ dispose_read-words name who line s
+    line_read-words (codes "DISPOSE") bytes line s.words few refl refl refl ∙ dispose_words bytes ∙ dispose_read-words name who line s
 
 -- a line of too many bytes is refused
 line_read-many : (line : List ℕ) → 1100 < length line → line_read line ≡ Err Long
@@ -245,9 +248,9 @@ line_read-text : (line : List ℕ) → HasLongText line → length line ≤ 1100
 line_read-text line h few =
     elim h.command_is [
       | inl is ↦ (let parts : line ≡ codes "PUB" ++ (32 ∷ (h.name ++ (32 ∷ h.text))) = h.words ∙ ap (λ c. c ++ (32 ∷ (h.name ++ (32 ∷ h.text)))) is in
-          line_read-words (codes "PUB") (h.name ++ (32 ∷ h.text)) line parts few refl refl ∙ pub_read (h.name ++ (32 ∷ h.text)) ∙ rw (named_text_read-long h.name h.text h.name_is h.long h.no_lf) refl)
+          line_read-pub (h.name ++ (32 ∷ h.text)) line parts few ∙ rw (named_text_read-long h.name h.text h.name_is h.long h.no_lf) refl)
       | inr is ↦ (let parts : line ≡ codes "FAIL" ++ (32 ∷ (h.name ++ (32 ∷ h.text))) = h.words ∙ ap (λ c. c ++ (32 ∷ (h.name ++ (32 ∷ h.text)))) is in
-          line_read-words (codes "FAIL") (h.name ++ (32 ∷ h.text)) line parts few refl refl ∙ fail_read (h.name ++ (32 ∷ h.text)) ∙ rw (named_text_read-long h.name h.text h.name_is h.long h.no_lf) refl)
+          line_read-words (codes "FAIL") (h.name ++ (32 ∷ h.text)) line parts few refl refl refl ∙ fail_read (h.name ++ (32 ∷ h.text)) ∙ rw (named_text_read-long h.name h.text h.name_is h.long h.no_lf) refl)
     ]
 
 -- every long line is refused as too long

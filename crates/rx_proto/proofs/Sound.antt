@@ -14,7 +14,7 @@ use Rattle.rx_note.specs.declared.errors.Errors.TheVariants.{Delay}
 use Rattle.rx_proto.specs.Grammar.{IsText, IsDigit, value_behind, SpellsNumber, SpellsRoom, SpellsStrategy, SpellsErrors, Spells, HasLongText, IsLong}
 use Rattle.rx_proto.specs.LineFeeds.{HasNoLf}
 use Rattle.rx_proto.specs.Names.{IsName}
-use Rattle.rx_proto.specs.Reading.{◌>>=◌, cut_read, same_word, begins_with, rest_behind, name_read, named_read, text_read, is_digit, digits_read, wide_number_read, number_read, room_read, strategy_read, errors_read, policy_read, named_text_read, join_read, request_read, dispose_read, sub_read, words_read, line_read}
+use Rattle.rx_proto.specs.Reading.{◌>>=◌, cut_read, same_word, begins_with, rest_behind, name_read, named_read, text_read, is_digit, digits_read, wide_number_read, number_read, room_read, strategy_read, errors_read, policy_read, named_text_read, pub_read, join_read, request_read, dispose_read, sub_read, words_read, line_read}
 use Rattle.rx_proto.specs.declared.command.Command.TheVariants.{Pub, End, Fail, Sub}
 use Rattle.rx_proto.specs.declared.line_error.BadLine.{BadLine}
 use Rattle.rx_proto.specs.declared.line_error.BadLine.TheVariants.{Long, Syntax}
@@ -322,17 +322,20 @@ at_command command this bytes is (Ok meaning) says = (let P : List ℕ → Type 
 at_command command this bytes is (Err Long) says = absurd says
 at_command command this bytes is (Err Syntax) says = tt
 
+pub_says : (bytes : List ℕ) → Says (pub_read bytes) (Behind (codes "PUB") bytes) (HasLongText (codes "PUB" ++ (32 ∷ bytes)))
+unfolding pub_read
+pub_says bytes =
+    let Goal : ScriptLine → Type 0 = Behind (codes "PUB") bytes in
+    Says-then (named_text_read bytes) (λ p. Ok (Command (Pub p.0 p.1))) (IsNamedText bytes) (IsNamedLong bytes) Goal (HasLongText (codes "PUB" ++ (32 ∷ bytes))) (named_text_says bytes)
+    (λ p h. record { name_is = h.0; text_is = h.1; words = ap (λ b. codes "PUB" ++ (32 ∷ b)) h.2 })
+    (long_text (codes "PUB") (codes "PUB") bytes refl (inl refl))
+
 words_says : (command bytes : List ℕ) → Says (words_read command bytes) (Behind command bytes) (HasLongText (command ++ (32 ∷ bytes)))
 unfolding words_read
 words_says command bytes =
     let Goal : ScriptLine → Type 0 = Behind command bytes in
     let Long_one : Type 0 = HasLongText (command ++ (32 ∷ bytes)) in
-    Says-test (same_word command (codes "PUB")) _ _ Goal Long_one
-    (λ is. let this = word_is command (codes "PUB") is in
-    Says-then (named_text_read bytes) (λ p. Ok (Command (Pub p.0 p.1))) (IsNamedText bytes) (IsNamedLong bytes) Goal Long_one (named_text_says bytes)
-    (λ p h. record { name_is = h.0; text_is = h.1; words = as_this command (codes "PUB") bytes (p.0 ++ (32 ∷ p.1)) this h.2 })
-    (long_text command (codes "PUB") bytes this (inl refl)))
-    (λ _. Says-test (same_word command (codes "REQUEST")) _ _ Goal Long_one
+    Says-test (same_word command (codes "REQUEST")) _ _ Goal Long_one
     (λ is. at_command command (codes "REQUEST") bytes (word_is command (codes "REQUEST") is) (request_read bytes) (request_says bytes))
     (λ _. Says-test (same_word command (codes "AT")) _ _ Goal Long_one
     (λ is. let this = word_is command (codes "AT") is in
@@ -353,7 +356,7 @@ words_says command bytes =
     (λ is. at_command command (codes "DISPOSE") bytes (word_is command (codes "DISPOSE") is) (dispose_read bytes) (dispose_says bytes))
     (λ _. Says-test (same_word command (codes "SUB")) _ _ Goal Long_one
     (λ is. at_command command (codes "SUB") bytes (word_is command (codes "SUB") is) (sub_read bytes) (sub_says bytes))
-    (λ _. tt))))))))
+    (λ _. tt)))))))
 
 -- what is read of a line
 abbrev pub IsRead : List ℕ → ScriptLine → Type 0
@@ -372,11 +375,13 @@ line_says line =
     Says-test (nat_lt 1100 (length line)) _ _ (IsRead line) (IsLong line)
     (λ long. inl (grind (arith, nat_tests)))
     (λ few. let fits : length line ≤ 1100 = grind (arith, nat_tests) in
-    Says-test (same_word line (codes "QUIT")) _ _ (IsRead line) (IsLong line)
+    Says-test (begins_with line (codes "PUB ")) _ _ (IsRead line) (IsLong line)
+    (λ is. Says-at line (codes "PUB") (rest_behind line (codes "PUB ")) (begins line (codes "PUB ") is) fits (pub_read (rest_behind line (codes "PUB "))) (pub_says (rest_behind line (codes "PUB "))))
+    (λ _. Says-test (same_word line (codes "QUIT")) _ _ (IsRead line) (IsLong line)
     (λ is. (word_is line (codes "QUIT") is, fits))
     (λ _. Says-then (cut_read line) (λ p. words_read p.0 p.1) (λ p. line ≡ p.0 ++ (32 ∷ p.1)) ⊥ (IsRead line) (IsLong line) (cut_says line)
     (λ p parts. Says-at line p.0 p.1 parts fits (words_read p.0 p.1) (words_says p.0 p.1))
-    (λ never. absurd never)))
+    (λ never. absurd never))))
 
 -- what is read of a line, from what was read
 pub Says-ok : {A : Type 0} (read : Result A BadLine) (P : A → Type 0) (Q : Type 0) (a : A) → Says read P Q → read ≡ Ok a → P a

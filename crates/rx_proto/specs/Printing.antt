@@ -2,6 +2,10 @@
 use Rattle.std.specs.Prelude.{ℕ, List, [], ◌∷◌, ◌++◌, codes, decimal}
 use Rattle.rx_note.specs.declared.note.Note.{Note}
 use Rattle.rx_note.specs.declared.note.Note.TheVariants.{Next, Completed, Failed}
+use Rattle.rx_proto.specs.declared.line_error.BadLine.{BadLine}
+use Rattle.rx_proto.specs.declared.line_error.BadLine.TheVariants.{Long, Syntax}
+use Rattle.rx_proto.specs.declared.line_error.LineError.{LineError}
+use Rattle.rx_proto.specs.declared.line_error.LineError.TheVariants as errors
 use Rattle.rx_proto.specs.declared.response.Response.{Response}
 use Rattle.rx_proto.specs.declared.response.Response.TheVariants.{Done, Joined, Refused}
 use Rattle.rx_proto.specs.declared.word.Word.{Word}
@@ -20,6 +24,17 @@ letters_of words.Observer = codes "OBSERVER"
 letters_of words.TooMuch = codes "TOOMUCH"
 letters_of words.Memory = codes "MEMORY"
 letters_of words.Gone = codes "GONE"
+
+-- the word of a refusal of a line
+abbrev pub word_of_fault : LineError → Word
+word_of_fault errors.Long = words.Long
+word_of_fault errors.Syntax = words.Syntax
+word_of_fault errors.Memory = words.Memory
+
+-- the response to a line without a meaning
+abbrev pub response_to_fault : BadLine → Response
+response_to_fault Long = Refused words.Long
+response_to_fault Syntax = Refused words.Syntax
 
 -- some bytes as a line, with its LF
 abbrev pub line : List ℕ → List ℕ

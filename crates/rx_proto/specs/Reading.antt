@@ -111,6 +111,10 @@ named_text_read bytes = do
   text ← text_read named.1
   Ok (named.0, text)
 
+-- the words of PUB
+unfoldable pub pub_read : List ℕ → Result ScriptLine BadLine
+pub_read bytes = named_text_read bytes >>= λ p. Ok (Command (Pub p.0 p.1))
+
 -- the words of JOIN
 unfoldable pub join_read : List ℕ → Result ScriptLine BadLine
 join_read bytes = do
@@ -145,11 +149,10 @@ sub_read bytes = do
   policy ← policy_read strategy.0 strategy.1
   Ok (Command (Sub named.0 policy))
 
--- the words behind a command
+-- the words behind a command other than PUB
 unfoldable pub words_read : List ℕ → List ℕ → Result ScriptLine BadLine
 words_read command bytes =
-    if same_word command (codes "PUB") then named_text_read bytes >>= (λ p. Ok (Command (Pub p.0 p.1)))
-    else if same_word command (codes "REQUEST") then request_read bytes
+    if same_word command (codes "REQUEST") then request_read bytes
     else if same_word command (codes "AT") then wide_number_read bytes >>= (λ moment. Ok (At moment))
     else if same_word command (codes "JOIN") then join_read bytes
     else if same_word command (codes "END") then name_read bytes >>= (λ name. Ok (Command (End name)))
@@ -162,6 +165,7 @@ words_read command bytes =
 unfoldable pub line_read : List ℕ → Result ScriptLine BadLine
 line_read line =
     if nat_lt 1100 (length line) then Err Long
+    else if begins_with line (codes "PUB ") then pub_read (rest_behind line (codes "PUB "))
     else if same_word line (codes "QUIT") then Ok (Command Quit)
     else cut_read line >>= λ parts. words_read parts.0 parts.1
 

@@ -1,3 +1,8 @@
+ghost use Rattle.std.specs.Prelude.{◌≡◌};
+ghost use Rattle.rx_proto.specs.Printing.{word_of_fault};
+
+use crate::Word;
+
 /// Why a line was refused, in the order in which the refusals come.
 #[derive(Clone, Copy, Debug, PartialEq, Eq)]
 pub enum LineError {
@@ -7,6 +12,19 @@ pub enum LineError {
     Syntax,
     /// There was no memory for its text.
     Memory,
+}
+
+impl LineError {
+    /// The word by which it is answered.
+    pub fn word(self) -> Word
+        ensures { result ≡ word_of_fault self }
+    {
+        match self {
+            LineError::Long => Word::Long,
+            LineError::Syntax => Word::Syntax,
+            LineError::Memory => Word::Memory,
+        }
+    }
 }
 
 /// Why a line has no meaning.

@@ -4,7 +4,7 @@ ghost use Rattle.rx_proto.specs.Reading.{HoldsText, LineHoldsText, Parses, in_sc
 
 use crate::{BadLine, Command, Line, LineError, Name, ScriptLine, read_line};
 use rx_heap::Heap;
-use rx_note::{Text, TextError};
+use rx_note::Text;
 
 /// What this line of a session says. Refused in the order `Long`, `Syntax`, `Memory`; only PUB and FAIL take memory.
 pub fn parse_line(alloc: &Heap, line: &[u8]) -> Result<Command, LineError>
@@ -115,10 +115,8 @@ fn hold(alloc: &Heap, text: &[u8]) -> Result<Text, LineError>
     let Ok(heap) = alloc.clone() else {
         return Err(LineError::Memory);
     };
-    match Text::new(heap, text) {
+    match Text::of_line(heap, text) {
         Ok(text) => Ok(text),
-        Err(TextError::Memory) => Err(LineError::Memory),
-        Err(TextError::TooLong) => unreachable!(),
-        Err(TextError::HasLf) => unreachable!(),
+        Err(_) => Err(LineError::Memory),
     }
 }

@@ -21,6 +21,18 @@ pub fn cut_at_space(bytes: &[u8]) -> Result<(&[u8], &[u8]), BadLine>
     }
 }
 
+// The same, byte by byte, which is quicker where the first space is near, as behind a name.
+fn cut_name(bytes: &[u8]) -> Result<(&[u8], &[u8]), BadLine>
+    ensures { Gives (λ parts. (parts.0.now, parts.1.now)) result (cut_read bytes.now) }
+{
+    for (len, byte) in bytes.iter().enumerate() {
+        if *byte == SPACE {
+            return Ok((&bytes[..len], &bytes[len + 1..]));
+        }
+    }
+    Err(BadLine::Syntax)
+}
+
 /// These bytes, if they are a name.
 pub fn name_of(bytes: &[u8]) -> Result<&[u8], BadLine>
     ensures { Gives (λ name. name.now) result (name_read bytes.now) }
@@ -37,7 +49,7 @@ pub fn name_of(bytes: &[u8]) -> Result<&[u8], BadLine>
 pub fn named(bytes: &[u8]) -> Result<(&[u8], &[u8]), BadLine>
     ensures { Gives (λ parts. (parts.0.now, parts.1.now)) result (named_read bytes.now) }
 {
-    let (word, rest) = cut_at_space(bytes)?;
+    let (word, rest) = cut_name(bytes)?;
     let name = name_of(word)?;
     Ok((name, rest))
 }

@@ -1,5 +1,5 @@
 //! Tests of the libraries by their public calls: worked runs, told as tables of scripts, drawn runs of a hub held against
-//! the stored history of the same events, and boxes between threads.
+//! the stored history of the same events, the line protocol, sessions over memory, and boxes between threads.
 //!
 //! There is no code here but tests, and nothing stands on it. It stands above all that it tests, so that none of those
 //! crates is proved a second time for tests of its own.
@@ -17,6 +17,10 @@ mod hubs;
 mod lanes;
 #[cfg(test)]
 mod marbles;
+#[cfg(test)]
+mod protocol;
+#[cfg(test)]
+mod sessions;
 #[cfg(test)]
 mod signs;
 #[cfg(test)]

@@ -1,0 +1,181 @@
+-- One line of a session: what each call of its code does, from the place where the session stands.
+use Rattle.std.proofs.Common.{◌≡◌, ◌<◌, ℕ, List, [], ◌++◌, length, Option, None, Some, MatchOption, Result, Ok, Err, refl, sym, ap, subst, ◌∙◌, append_assoc, inl, inr}
+use Rattle.std.proofs.KnownBytes.{Appends-trans}
+use Rattle.std.specs.Io.KnownBytes.{Appends}
+use Rattle.rx_note.specs.Choices.{Choice}
+use Rattle.rx_note.specs.declared.note.Note.{Note}
+use Rattle.rx_proto.proofs.Exact.{session_exact}
+use Rattle.rx_proto.specs.Bytes.{AppendsPrefix}
+use Rattle.rx_proto.specs.Printing.{reply_line, word_of_fault}
+use Rattle.rx_proto.specs.Reading.{HoldsText, Parses, session_read}
+use Rattle.rx_proto.specs.declared.command.Command.{Command}
+use Rattle.rx_proto.specs.declared.command.Command.TheVariants.{Pub, End, Fail, Sub, Quit}
+use Rattle.rx_proto.specs.declared.line_error.BadLine.{BadLine}
+use Rattle.rx_proto.specs.declared.line_error.BadLine.TheVariants as bad
+use Rattle.rx_proto.specs.declared.line_error.LineError.{LineError}
+use Rattle.rx_proto.specs.declared.line_error.LineError.TheVariants.{Long, Syntax, Memory}
+use Rattle.rx_proto.specs.declared.response.Response.{Response}
+use Rattle.rx_proto.specs.declared.response.Response.TheVariants.{Done, Refused}
+use Rattle.rx_session.specs.Lines.{TakesLine, without_cr}
+use Rattle.rx_session.specs.Sessions.{Parties, Place, Outcome, answered, Emits, Goes}
+use Rattle.rx_session.specs.Steps.{Advances, Goes as Steps}
+use Rattle.rx_session.specs.Turns.{hands, Tells, Quits, IsAt, Comes, Carries}
+use Rattle.rx_session.specs.declared.follow.Follow.TheVariants.{Back}
+use Rattle.rx_session.specs.declared.input_end.InputEnd.{InputEnd}
+use Rattle.rx_session.specs.declared.line_state.LineState.{LineState}
+use Rattle.rx_session.specs.declared.serving.Turned.{Turned}
+use Rattle.rx_session.specs.declared.serving.Turned.TheVariants.{On, Over}
+use Rattle.rx_session.specs.declared.session_end.SessionEnd.{SessionEnd}
+use Rattle.rx_session.specs.declared.session_end.SessionEnd.TheVariants as ends
+use Rattle.rx_session.specs.declared.step.Step.{Step}
+use Rattle.rx_session.proofs.Written.{Prefix-behind}
+
+-- two outcomes at a desk
+same_outcome : {D W : Type 0} (desk : D) (end end' : SessionEnd) (back back' : Option W) → end ≡ end' → back ≡ back'
+    → ◌≡◌ {A = Outcome D W} (record { end = end; desk = desk; back = back }) (record { end = end'; desk = desk; back = back' })
+same_outcome {D = D} {W = W} desk end end' back back' e b =
+    ap (λ (x : SessionEnd). record { end = x; desk = desk; back = back }) e ∙ ap (λ (y : Option W). record { end = end'; desk = desk; back = y }) b
+
+module _ {D W : Type 0} (p : Parties D W) where
+  -- what was told at the place, and bytes behind it
+  all_told : (at : Place D W) (desk : D) (writer : W) (held bytes : List ℕ) (is : IsAt p at (hands desk writer held)) → is.written ++ (held ++ bytes) ≡ at.told ++ bytes
+  all_told at desk writer held bytes is = sym (append_assoc is.written held bytes) ∙ ap (λ t. t ++ bytes) is.parts
+
+  -- a response is told
+  pub told : (at : Place D W) (desk after : D) (writer : W) (held held_after : List ℕ) (response : Response) (result : Turned W) (says : Place D W → Type 0)
+      → IsAt p at (hands desk writer held) → Tells p.contents result writer held held_after (reply_line response)
+      → says (answered at after response) → Comes p says result after held_after
+  told at desk after writer held held_after response (On now) says is tells there = (
+    answered at after response,
+    there,
+    record {
+      desk_is = refl;
+      written = is.written ++ tells.written;
+      since = Appends-trans (p.contents at.writer) (p.contents writer) (p.contents now) is.written tells.written is.since tells.told;
+      parts = append_assoc is.written tells.written held_after ∙ ap (λ t. is.written ++ t) tells.parts ∙ all_told at desk writer held (reply_line response) is;
+    },
+  )
+  told at desk after writer held held_after response (Over end back) says is tells there = (
+    answered at after response,
+    there,
+    (
+      tells.0,
+      subst (λ (bytes : List ℕ). AppendsPrefix (p.contents at.writer) (p.contents tells.0) bytes) (all_told at desk writer held (reply_line response) is)
+          (Prefix-behind (p.contents at.writer) (p.contents writer) (p.contents tells.0) is.written (held ++ reply_line response) is.since tells.3),
+      same_outcome after end ends.WriteFault back (Some tells.0) tells.1 tells.2,
+    ),
+  )
+
+  -- the desk emitted a note, and its response is told
+  pub emitted : (at : Place D W) (name : List ℕ) (note : Note) (desk after : D) (writer : W) (held held_after : List ℕ) (response : Response) (result : Turned W)
+      → IsAt p at (hands desk writer held) → p.emits desk name note response after → Tells p.contents result writer held held_after (reply_line response)
+      → Comes p (Emits p at name note) result after held_after
+  emitted at name note desk after writer held held_after response result is emits tells =
+      told at desk after writer held held_after response result (Emits p at name note) is tells
+      (response, after, subst (λ (d : D). p.emits d name note response after) (sym is.desk_is) emits, refl)
+
+  -- the writer came back
+  pub came_back : (at : Place D W) (name : List ℕ) (policy : Choice) (desk after : D) (writer mid back : W) (held none held_after : List ℕ) (response : Response) (result : Turned W)
+      → IsAt p at (hands desk writer held) → Appends (p.contents writer) (p.contents mid) held → none ≡ []
+      → p.follows desk name policy mid (Back response back) after → Tells p.contents result back none held_after (reply_line response)
+      → Carries p (Ok (Sub name policy)) at result after held_after
+  came_back at name policy desk after writer mid back held none held_after response result is flushed empty follows tells =
+      let now : Place D W = record { desk = after; writer = back; told = reply_line response } in
+      let caught : Appends (p.contents at.writer) (p.contents mid) at.told =
+      subst (λ (bytes : List ℕ). Appends (p.contents at.writer) (p.contents mid) bytes) is.parts
+      (Appends-trans (p.contents at.writer) (p.contents writer) (p.contents mid) is.written held is.since flushed) in
+      let goes : Goes p (Ok (Sub name policy)) at now =
+      (mid, response, caught, subst (λ (d : D). p.follows d name policy mid (Back response back) after) (sym is.desk_is) follows, refl) in
+      let P : Turned W → Type 0 = λ r. Tells p.contents r back none held_after (reply_line response) → Carries p (Ok (Sub name policy)) at r after held_after in
+      elim result as P [
+        | On last ↦ λ t. (now, goes, record { desk_is = refl; written = t.written; since = t.told; parts = t.parts ∙ ap (λ xs. xs ++ reply_line response) empty })
+        | Over end other ↦ λ t. inr (inr (
+          now,
+          goes,
+          (
+            t.0,
+            subst (λ (xs : List ℕ). AppendsPrefix (p.contents back) (p.contents t.0) (xs ++ reply_line response)) empty t.3,
+            same_outcome after end ends.WriteFault other (Some t.0) t.1 t.2,
+          ),
+        ))
+      ] tells
+
+  -- a line is carried out by what a session comes to
+  pub carries : (reading : Result Command BadLine) (at : Place D W) (says : Place D W → Type 0) (result : Turned W) (desk : D) (held : List ℕ)
+      → ((after : Place D W) → says after → Goes p reading at after) → Comes p says result desk held → Carries p reading at result desk held
+  carries reading at says (On writer) desk held goes comes = (comes.0, goes comes.0 comes.1, comes.2)
+  carries reading at says (Over end back) desk held goes comes = inr (inr (comes.0, goes comes.0 comes.1, comes.2))
+
+  -- the same of a line that was parsed
+  pub carries_parsed : (parsed : Result Command LineError) (command : Command) (reading : Result Command BadLine) (at : Place D W) (result : Turned W) (desk : D) (held : List ℕ)
+      → parsed ≡ Ok command → Parses HoldsText parsed reading → Carries p (Ok command) at result desk held → Carries p reading at result desk held
+  carries_parsed parsed command reading at result desk held is parses there =
+      let P : Result Command LineError → Type 0 = λ q. Parses HoldsText q reading in
+      let read : reading ≡ Ok command = subst P is parses in
+      let C : Result Command BadLine → Type 0 = λ r. Carries p r at result desk held in
+      subst C (sym read) there
+
+  -- a line that is refused
+  refused_goes : (fault : LineError) (reading : Result Command BadLine) (at after : Place D W) → Parses HoldsText (Err fault) reading
+      → after ≡ answered at at.desk (Refused (word_of_fault fault)) → Goes p reading at after
+  refused_goes Long reading at after is e = let C : Result Command BadLine → Type 0 = λ r. Goes p r at after in subst C (sym is) e
+  refused_goes Syntax reading at after is e = let C : Result Command BadLine → Type 0 = λ r. Goes p r at after in subst C (sym is) e
+  refused_goes Memory (Ok (Pub name text)) at after is e = inr e
+  refused_goes Memory (Ok (End name)) at after is e = absurd is
+  refused_goes Memory (Ok (Fail name text)) at after is e = inr e
+  refused_goes Memory (Ok (Sub name policy)) at after is e = absurd is
+  refused_goes Memory (Ok Quit) at after is e = absurd is
+  refused_goes Memory (Err fault) at after is e = absurd is
+
+  -- a refusal is told
+  pub refused : (parsed : Result Command LineError) (fault : LineError) (reading : Result Command BadLine) (at : Place D W) (desk : D) (writer : W) (held held_after : List ℕ) (response : Response) (result : Turned W)
+      → parsed ≡ Err fault → Parses HoldsText parsed reading → response ≡ Refused (word_of_fault fault) → IsAt p at (hands desk writer held)
+      → Tells p.contents result writer held held_after (reply_line response) → Carries p reading at result desk held_after
+  refused parsed fault reading at desk writer held held_after response result failed parses by is tells =
+      let P : Result Command LineError → Type 0 = λ q. Parses HoldsText q reading in
+      let says : Place D W → Type 0 = λ after. after ≡ answered at at.desk (Refused (word_of_fault fault)) in
+      carries reading at says result desk held_after (λ after e. refused_goes fault reading at after (subst P failed parses) e)
+      (told at desk desk writer held held_after response result says is tells
+      (ap (λ (d : D). answered at d response) (sym is.desk_is) ∙ ap (λ r. answered at at.desk r) by))
+
+  -- a session quits
+  pub quits : (at : Place D W) (desk : D) (writer : W) (held held_after : List ℕ) (result : Turned W) → IsAt p at (hands desk writer held) → Quits p.contents result writer held
+      → Carries p (Ok Quit) at result desk held_after
+  quits at desk writer held held_after (On after) is q = absurd q
+  quits at desk writer held held_after (Over end back) is q =
+      let then : Place D W = answered at at.desk Done in
+      let whole = all_told at desk writer held (reply_line Done) is in
+      let same : (e : SessionEnd) → end ≡ e → ◌≡◌ {A = Outcome D W} (record { end = end; desk = desk; back = back }) (record { end = e; desk = at.desk; back = Some q.0 }) =
+      λ e ended. same_outcome desk end e back (Some q.0) ended q.1 ∙ ap (λ (d : D). record { end = e; desk = d; back = Some q.0 }) (sym is.desk_is) in
+      inr (inl (elim q.2 [
+        | inl all ↦ inl (
+          q.0,
+          subst (λ (bytes : List ℕ). Appends (p.contents at.writer) (p.contents q.0) bytes) whole
+              (Appends-trans (p.contents at.writer) (p.contents writer) (p.contents q.0) is.written (held ++ reply_line Done) is.since all.1),
+          same ends.Quit all.0,
+        )
+        | inr fault ↦ inr (
+          q.0,
+          subst (λ (bytes : List ℕ). AppendsPrefix (p.contents at.writer) (p.contents q.0) bytes) whole
+              (Prefix-behind (p.contents at.writer) (p.contents writer) (p.contents q.0) is.written (held ++ reply_line Done) is.since fault.1),
+          same ends.WriteFault fault.0,
+        )
+      ]))
+
+none_match : (o : Option InputEnd) (P : Type 0) (Q : InputEnd → Type 0) → o ≡ None → MatchOption o P Q → P
+none_match None P Q e m = m
+none_match (Some x) P Q e m = cc
+
+-- a step that begins with no end
+pub steps_by : (step : Step) (old new : Option (List ℕ)) (before after : LineState) → before.end ≡ None → Advances step old new before after → Steps step old new before after
+steps_by step old new before after none advances = none_match before.end _ _ none advances
+
+-- a line of more than 1,100 bytes is refused
+pub long_read : (line : List ℕ) → 1100 < length line → session_read line ≡ Err bad.Long
+long_read line long = (session_exact.long line).1 (inl long)
+
+-- a line of which something is said is one of which something else is
+pub taken : (read_old read_new : Option (List ℕ)) (before after : List ℕ) (says then : List ℕ → Type 0) → ((line : List ℕ) → says line → then line)
+    → TakesLine read_old read_new before after says → TakesLine read_old read_new before after then
+taken read_old read_new before after says then so takes =
+    record { read = takes.read; line = takes.line; told = takes.told; begins = takes.begins; said = so (without_cr takes.line) takes.said }

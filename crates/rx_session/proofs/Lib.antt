@@ -1,0 +1,10 @@
+pub mod Blocks
+pub mod Known
+pub mod Lanes
+pub mod Lfs
+pub mod LinesOf
+pub mod Answering
+pub mod Sheds
+pub mod SoFar
+pub mod Stepping
+pub mod Written

@@ -1,0 +1,22 @@
+use Rattle.std.proofs.Common.{length, ◌∙◌, refl, arith, length-drop, ◌+◌, ap}
+use Rattle.rx_session.proofs.Stepping.{none_from, TakesLine-long, TakesNoLine-shed, Goes-end}
+use Rattle.rx_session.proofs.line_state.LineState.advance.Goals as goal
+
+pub returns-in-LongLf-clause-advances : goal.returns-in-LongLf-clause-advances
+returns-in-LongLf-clause-advances g c =
+    let f = c.in-LongLf.ensures.found in
+    let still_open = none_from _ c.in_default.not-Some in
+    let takes = TakesLine-long _ _ _ _ f.0 c.in-LongLf.len f.1 f.2 f.3 in
+    rw still_open (
+      rw c.let_go.ensures.window at takes,
+      record {
+        no_end = c.let_go.ensures.end ∙ still_open;
+        fewer = omega (arith, f.3.within, f.4, length-drop (c.in-LongLf.len + 1) c.next_lf.new.window, ap length c.let_go.ensures.window, c.let_go.ensures.reads);
+      },
+    )
+
+pub returns-in-End-clause-advances : goal.returns-in-End-clause-advances
+returns-in-End-clause-advances g c =
+    let f = c.in-End.ensures.found in
+    let none = TakesNoLine-shed _ _ _ _ f.0 f.1 f.2 in
+    rw (none_from _ c.in_default.not-Some, c.told_end-in-End.ensures) (Goes-end c.in-End.end _ _ _ _ (rw c.let_go.ensures.window at none) refl f.3)

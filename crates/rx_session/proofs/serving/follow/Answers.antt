@@ -1,0 +1,9 @@
+use Rattle.rx_session.specs.Sessions.{parties}
+use Rattle.rx_session.proofs.Answering.{came_back}
+use Rattle.rx_session.proofs.serving.follow.Goals as goal
+
+pub returns-in-Back : goal.returns-in-Back
+returns-in-Back g c at is =
+    let p = parties g.D.Desk.emits g.D.Desk.follows g.W.Write.contents in
+    came_back p at c.args.name.now c.args.policy c.args.desk.now c.follow.new.self c.args.writer c.flush.new.writer c.in-Back.back c.args.outbox.now c.flush.new.self c.answer.new.outbox
+    c.in-Back.response c.answer.result is c.in-Ok.ensures.written c.flush.ensures.empty c.in-Back.ensures c.answer.ensures

@@ -1,0 +1,19 @@
+use Rattle.std.proofs.Common.{◌<◌, length, Err, refl, inl}
+use Rattle.rx_proto.specs.Reading.{session_read}
+use Rattle.rx_proto.specs.declared.line_error.LineError.TheVariants as errors
+use Rattle.rx_session.specs.Sessions.{parties}
+use Rattle.rx_session.specs.declared.step.Step.TheVariants.{Long}
+use Rattle.rx_session.proofs.Answering.{steps_by, long_read, taken, refused}
+use Rattle.rx_session.proofs.serving.turn.Goals as goal
+
+pub returns-in-Long : goal.returns-in-Long
+returns-in-Long g c =
+    let p = parties g.D.Desk.emits g.D.Desk.follows g.W.Write.contents in
+    let steps = steps_by Long (g.R.Read.remaining c.args.reader.now) (g.R.Read.remaining c.advance.new.reader) c.args.lines.now c.advance.new.self c.requires c.in-Long.ensures.advances in
+    inl (record {
+      takes = taken _ _ _ _ (λ line. 1100 < length line) _
+          (λ line long at is. refused p (Err errors.Long) errors.Long (session_read line) at c.args.desk.now c.args.writer c.args.outbox.now c.answer.new.outbox _ c.answer.result
+          refl (long_read line long) refl is c.answer.ensures)
+          steps.0;
+      goes_on = steps.1;
+    })

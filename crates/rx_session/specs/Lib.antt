@@ -1,0 +1,9 @@
+pub mod Bytes
+pub mod Laws
+pub mod Lines
+pub mod Nexts
+pub mod Reads
+pub mod Sessions
+pub mod Steps
+pub mod Turns
+pub mod Windows

@@ -1,0 +1,34 @@
+//! Sessions: the lines of a reader, each carried out by a desk and answered on a writer.
+//!
+//! What a desk does is its own: the crates above bring one. They rest on the contracts of [`serve_lines`], the session's
+//! bytes, and of [`LineState`] and [`Outbox`], by which a script is read and answered too. [`laws`] says what the lines of
+//! some bytes are.
+#![tactic(auto)]
+
+mod carriage;
+mod desk;
+mod follow;
+mod input_end;
+pub mod laws;
+mod line_reader;
+mod line_state;
+mod next;
+mod outbox;
+mod reading;
+mod searching;
+mod serving;
+mod session_end;
+mod step;
+mod telling;
+mod window;
+
+pub use desk::Desk;
+pub use follow::Follow;
+pub use input_end::InputEnd;
+pub use line_reader::LineReader;
+pub use line_state::LineState;
+pub use next::Next;
+pub use outbox::Outbox;
+pub use serving::{serve, serve_lines};
+pub use session_end::SessionEnd;
+pub use step::Step;

@@ -1,0 +1,101 @@
+ghost use Rattle.std.specs.Prelude.{length, ◌≡◌, ◌≤◌};
+
+use crate::carriage::len_without_cr;
+use crate::input_end::InputEnd;
+use crate::reading::{Found, next_lf};
+use crate::step::Step;
+use crate::telling::told_end;
+use crate::window::Window;
+use rx_proto::MAX_LINE;
+use std::io::Read;
+
+/// Reads the lines of a reader that stands beside it. It takes no memory.
+#[derive(Drop)]
+pub struct LineState {
+    window: Window,
+    taken: usize,
+    reads: u64,
+    end: Option<InputEnd>,
+    ghost taken_here: { taken ≤ length window },
+}
+
+impl LineState {
+    ghost use Rattle.std.specs.Prelude.{◌↔◌, IsTrue, take, [], None};
+    ghost use Rattle.rx_proto.specs.LineFeeds.{HasLf};
+    ghost use Rattle.rx_session.specs.Steps.{unread, Advances};
+
+    /// No line was read yet, and at most `max_reads` reads may be made.
+    pub fn new(max_reads: u64) -> LineState
+        ensures unread { unread result ≡ [] }
+        ensures reads { result.reads ≡ max_reads }
+        ensures end { result.end ≡ None }
+    {
+        LineState {
+            window: Window::new(),
+            taken: 0,
+            reads: max_reads,
+            end: None,
+        }
+    }
+
+    /// Whether the next line was read to its LF already, so that the next step makes no read. Lets go of the line last
+    /// told.
+    pub fn has_line(&mut self) -> bool
+        ensures has { IsTrue result ↔ HasLf (unread self.new) }
+        ensures unread { unread self.new ≡ unread self.old }
+        ensures reads { self.new.reads ≡ self.old.reads }
+        ensures end { self.new.end ≡ self.old.end }
+    {
+        self.let_go();
+        self.window.find_lf().is_some()
+    }
+
+    /// Tells the next line, for which it reads as often as it must, or the end. After an end no further read is made,
+    /// and the same end is told again.
+    pub fn advance<R: Read>(&mut self, reader: &mut R) -> Step
+        ensures advances { Advances result (R.remaining reader.old) (R.remaining reader.new) self.old self.new }
+        ensures no_read { HasLf (unread self.old) → self.new.reads ≡ self.old.reads }
+    {
+        if let Some(end) = self.end {
+            return told_end(end);
+        }
+        self.let_go();
+        match next_lf(&mut self.window, &mut self.reads, reader) {
+            Found::Lf(len) => {
+                self.taken = len + 1;
+                let line = len_without_cr(self.window.front(len));
+                if line > MAX_LINE {
+                    Step::Long
+                } else {
+                    Step::Line(line)
+                }
+            }
+            Found::LongLf(len) => {
+                self.taken = len + 1;
+                Step::Long
+            }
+            Found::End(end) => {
+                self.end = Some(end);
+                told_end(end)
+            }
+        }
+    }
+
+    /// The line last told, of so many bytes.
+    pub fn line(&self, len: usize) -> &[u8]
+        requires { len ≤ length self.now.window }
+        ensures { result.now ≡ take len self.now.window }
+    {
+        self.window.front(len)
+    }
+
+    fn let_go(&mut self)
+        ensures taken { self.new.taken ≡ 0 }
+        ensures window { self.new.window ≡ unread self.old }
+        ensures reads { self.new.reads ≡ self.old.reads }
+        ensures end { self.new.end ≡ self.old.end }
+    {
+        self.window.drop_front(self.taken);
+        self.taken = 0;
+    }
+}

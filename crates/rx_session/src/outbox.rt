@@ -1,0 +1,158 @@
+ghost use Rattle.std.specs.Prelude.{◌≡◌, ◌≤◌, ◌+◌, ◌++◌, [], OnOk, length};
+ghost use Rattle.std.specs.Io.KnownBytes.{Keeps};
+ghost use Rattle.rx_proto.specs.Bytes.{Writes};
+ghost use Rattle.rx_proto.specs.Printing.{note_line, reply_line};
+ghost use Rattle.rx_session.specs.Bytes.{Puts};
+
+use rx_note::Note;
+use rx_proto::{Response, WriteFault, reply_line, write_bytes};
+use std::io::Write;
+use std::marker::Model;
+
+/// The bytes that an outbox holds at most.
+pub const BLOCK: usize = 65536;
+
+// The room for any line that is written.
+const LINE_ROOM: usize = 2048;
+
+/// Gathers what is to be written by a writer that stands beside it. It takes no memory. Contracts see an outbox as the
+/// list of the bytes that it holds.
+#[derive(Drop)]
+pub struct Outbox {
+    block: [u8; BLOCK],
+    len: usize,
+}
+
+impl Model for Outbox {
+    ghost use Rattle.std.specs.Prelude.{List, ℕ, take, ◌≤◌};
+
+    ghost Value = { List ℕ };
+
+    ghost view = { λ o. take o.len o.block };
+
+    ghost invariant = { λ o. o.len ≤ 65536 };
+}
+
+impl Outbox {
+    /// The outbox that holds nothing.
+    pub fn new() -> Outbox
+        ensures { result ≡ [] }
+    {
+        Outbox {
+            block: [0; BLOCK],
+            len: 0,
+        }
+    }
+
+    /// Holds these bytes too, and writes first where there is no room for them. After a fault it holds nothing.
+    #[inline]
+    pub fn put<W: Write>(&mut self, writer: &mut W, bytes: &[u8]) -> Result<(), WriteFault>
+        ensures { Puts result self.old self.new (W.contents writer.old) (W.contents writer.new) bytes.now }
+    {
+        if bytes.len() > BLOCK - self.len {
+            return self.make_room(writer, bytes);
+        }
+        self.push(bytes);
+        Ok(())
+    }
+
+    /// Makes room for 2,048 bytes more, which is more than any line that is written: where there is less, writes what it
+    /// holds. After a fault it holds nothing. A line that is pushed in pieces takes one test of room so.
+    #[inline]
+    pub fn ready<W: Write>(&mut self, writer: &mut W) -> Result<(), WriteFault>
+        ensures puts { Puts result self.old self.new (W.contents writer.old) (W.contents writer.new) [] }
+        ensures room { OnOk result (length self.new + 2048 ≤ 65536) }
+    {
+        if BLOCK - self.len >= LINE_ROOM {
+            return Ok(());
+        }
+        self.write_out(writer)
+    }
+
+    /// Holds these bytes too, for which there is room.
+    #[inline]
+    pub fn push(&mut self, bytes: &[u8])
+        requires { length self.old + length bytes.now ≤ 65536 }
+        ensures { self.new ≡ self.old ++ bytes.now }
+    {
+        let len = self.len + bytes.len();
+        self.block[self.len..len].copy_from_slice(bytes);
+        self.len = len;
+    }
+
+    /// Holds the line of a note too, for which there is room.
+    pub fn push_note(&mut self, note: &Note)
+        requires { length self.old + 1040 ≤ 65536 }
+        ensures { self.new ≡ self.old ++ note_line note.now }
+    {
+        match note {
+            Note::Next(item) => {
+                self.push(b"NEXT ");
+                self.push(item.text.as_bytes());
+            }
+            Note::Completed => self.push(b"DONE"),
+            Note::Failed(text) => {
+                self.push(b"FAILED ");
+                self.push(text.as_bytes());
+            }
+        }
+        self.push(b"\n");
+    }
+
+    /// Holds the line of a response too, as `put` does.
+    pub fn put_reply<W: Write>(
+        &mut self,
+        writer: &mut W,
+        response: Response,
+    ) -> Result<(), WriteFault>
+        ensures { Puts result self.old self.new (W.contents writer.old) (W.contents writer.new) (reply_line response) }
+    {
+        self.put(writer, reply_line(response).as_bytes())
+    }
+
+    /// Writes what it holds and flushes the writer. It holds nothing afterwards.
+    pub fn flush<W: Write>(&mut self, writer: &mut W) -> Result<(), WriteFault>
+        ensures written { Writes result (W.contents writer.old) (W.contents writer.new) self.old }
+        ensures empty { self.new ≡ [] }
+    {
+        match self.write_out(writer) {
+            Ok(()) => flushed(writer),
+            Err(fault) => Err(fault),
+        }
+    }
+
+    #[cold]
+    fn make_room<W: Write>(&mut self, writer: &mut W, bytes: &[u8]) -> Result<(), WriteFault>
+        ensures { Puts result self.old self.new (W.contents writer.old) (W.contents writer.new) bytes.now }
+    {
+        match self.write_out(writer) {
+            Ok(()) => {}
+            Err(fault) => return Err(fault),
+        }
+        if bytes.len() > BLOCK {
+            return write_bytes(writer, bytes);
+        }
+        self.block[..bytes.len()].copy_from_slice(bytes);
+        self.len = bytes.len();
+        Ok(())
+    }
+
+    fn write_out<W: Write>(&mut self, writer: &mut W) -> Result<(), WriteFault>
+        ensures written { Writes result (W.contents writer.old) (W.contents writer.new) self.old }
+        ensures empty { self.new ≡ [] }
+    {
+        let len = self.len;
+        self.len = 0;
+        write_bytes(writer, &self.block[..len])
+    }
+}
+
+// Flushes the writer, which keeps what it holds.
+fn flushed<W: Write>(writer: &mut W) -> Result<(), WriteFault>
+    ensures { Keeps (W.contents writer.old) (W.contents writer.new) }
+{
+    match writer.flush() {
+        Ok(()) => Ok(()),
+        Err(_) => Err(WriteFault),
+    }
+}

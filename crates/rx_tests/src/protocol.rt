@@ -1,0 +1,198 @@
+//! The line protocol: which lines are read, told by a sign each, and what is printed.
+//!
+//! The signs: P, E, F, S and Q for PUB, END, FAIL, SUB and QUIT, A for AT, J for JOIN, R for REQUEST, D for DISPOSE; `l`
+//! for a line that is too long, `-` for no line, and `m` for want of memory.
+
+use rx_heap::Heap;
+use rx_note::{Item, Note, Text};
+use rx_proto::{
+    Command, LineError, Name, Response, ScriptLine, Word, parse_line, parse_script, write_note,
+    write_reply,
+};
+use std::test::Fail;
+
+fn sign_of_fault(fault: LineError) -> u8 {
+    match fault {
+        LineError::Long => b'l',
+        LineError::Syntax => b'-',
+        LineError::Memory => b'm',
+    }
+}
+
+fn sign_of_command(command: &Command) -> u8 {
+    match command {
+        Command::Pub { .. } => b'P',
+        Command::End { .. } => b'E',
+        Command::Fail { .. } => b'F',
+        Command::Sub { .. } => b'S',
+        Command::Quit => b'Q',
+    }
+}
+
+fn sign_in_session(heap: &Heap, line: &[u8]) -> u8 {
+    match &parse_line(heap, line) {
+        Ok(command) => sign_of_command(command),
+        Err(fault) => sign_of_fault(*fault),
+    }
+}
+
+fn sign_in_script(heap: &Heap, line: &[u8]) -> u8 {
+    match &parse_script(heap, line) {
+        Ok(ScriptLine::Command(command)) => sign_of_command(command),
+        Ok(ScriptLine::At(_)) => b'A',
+        Ok(ScriptLine::Join { .. }) => b'J',
+        Ok(ScriptLine::Request { .. }) => b'R',
+        Ok(ScriptLine::Dispose { .. }) => b'D',
+        Err(fault) => sign_of_fault(*fault),
+    }
+}
+
+#[test]
+fn lines_are_read_in_their_place(rt: HostRuntime) {
+    let heap = rt.alloc();
+    for (line, in_session, in_script) in [
+        ("PUB s a", b'P', b'P'),
+        ("PUB s-1 a b ", b'P', b'P'),
+        ("PUB s ", b'P', b'P'),
+        ("FAIL s ", b'F', b'F'),
+        ("END s", b'E', b'E'),
+        ("QUIT", b'Q', b'Q'),
+        ("SUB s BUFFER AHEAD", b'S', b'-'),
+        ("SUB s DROP:0 DELAY", b'S', b'-'),
+        ("SUB s LATEST:0001024 DELAY", b'S', b'-'),
+        ("SUB s LATEST:0 DELAY", b'-', b'-'),
+        ("SUB s DROP:1025 DELAY", b'-', b'-'),
+        ("SUB s BUFFER DELAY 1", b'-', b'-'),
+        ("SUB s BUFFER", b'-', b'-'),
+        ("JOIN s BUFFER AHEAD 0", b'-', b'J'),
+        ("JOIN s DROP:2 DELAY 4294967295", b'-', b'J'),
+        ("JOIN s BUFFER DELAY 4294967296", b'-', b'-'),
+        ("JOIN s BUFFER LATE 0", b'-', b'-'),
+        ("JOIN s BUFFER  DELAY 1", b'-', b'-'),
+        ("REQUEST s 00007 4294967295", b'-', b'R'),
+        ("REQUEST s 1 000000000000000000001", b'-', b'-'),
+        ("REQUEST s 1 +1", b'-', b'-'),
+        ("DISPOSE s 4294967295", b'-', b'D'),
+        ("DISPOSE s 4294967296", b'-', b'-'),
+        ("DISPOSE s", b'-', b'-'),
+        ("DISPOSE s 1 ", b'-', b'-'),
+        ("AT 18446744073709551615", b'-', b'A'),
+        ("AT 18446744073709551616", b'-', b'-'),
+        ("", b'-', b'-'),
+        (" ", b'-', b'-'),
+        ("PUB s", b'-', b'-'),
+        ("PUB  s a", b'-', b'-'),
+        ("PUB S a", b'-', b'-'),
+        ("PUB s a\nb", b'-', b'-'),
+        ("END s ", b'-', b'-'),
+        ("quit", b'-', b'-'),
+    ] {
+        assert_eq!(rt;
+            sign_in_session(&heap, line.as_bytes()),
+            in_session,
+            "{line}"
+        );
+        assert_eq!(rt; sign_in_script(&heap, line.as_bytes()), in_script, "{line}");
+    }
+}
+
+// A front and so many letters x behind it.
+fn filled(heap: &Heap, front: &[u8], len: usize) -> Result<Vec<u8, Heap>, Fail> {
+    let mut line = Vec::new(heap.clone()?);
+    line.extend_from_slice(front)?;
+    for _ in 0..len {
+        line.push(b'x')?;
+    }
+    Ok(line)
+}
+
+#[test]
+fn text_limits_on_the_line(rt: HostRuntime) -> Result<(), Fail> {
+    let heap = rt.alloc();
+    for (front, len, sign) in [
+        ("PUB s ", 1024, b'P'),
+        ("PUB s ", 1025, b'l'),
+        ("FAIL s ", 1025, b'l'),
+        ("PUB S ", 1025, b'-'),
+        ("PUB s \n", 1024, b'-'),
+        ("END ", 32, b'E'),
+        ("END ", 33, b'-'),
+        ("", 1100, b'-'),
+        ("", 1101, b'l'),
+    ] {
+        let line = filled(&heap, front.as_bytes(), len)?;
+        assert_eq!(rt;
+            sign_in_session(&heap, line.as_slice()),
+            sign,
+            "{front} {len}"
+        );
+        assert_eq!(rt;
+            sign_in_script(&heap, line.as_slice()),
+            sign,
+            "{front} {len}"
+        );
+    }
+    Ok(())
+}
+
+#[test]
+fn a_pub_has_its_name_and_text(rt: HostRuntime) -> Result<(), Fail> {
+    match &parse_line(&rt.alloc(), b"PUB s-1 a b ")? {
+        Command::Pub { name, text } => {
+            assert_eq!(rt; name.as_bytes(), b"s-1".as_slice());
+            assert_eq!(rt; text.as_bytes(), b"a b ".as_slice());
+        }
+        _ => assert!(rt; false),
+    }
+    Ok(())
+}
+
+#[test]
+fn names_have_1_to_32_bytes(rt: HostRuntime) {
+    assert!(rt; Name::new(b"").is_none());
+    assert!(rt; Name::new(b"abcdefghijklmnopqrstuvwxyz-01234").is_some());
+    assert!(rt; Name::new(b"abcdefghijklmnopqrstuvwxyz-012345").is_none());
+    assert!(rt; Name::new(b"a_b").is_none());
+}
+
+// The line of a response, as it is written.
+fn written(heap: &Heap, response: Response) -> Result<Vec<u8, Heap>, Fail> {
+    let mut writer = Vec::new(heap.clone()?);
+    write_reply(&mut writer, response)?;
+    Ok(writer)
+}
+
+#[test]
+fn responses_are_printed(rt: HostRuntime) -> Result<(), Fail> {
+    let heap = rt.alloc();
+    for (response, line) in [
+        (Response::Done, "OK\n"),
+        (Response::Joined(0), "OK 0\n"),
+        (Response::Joined(4_294_967_295), "OK 4294967295\n"),
+        (Response::Refused(Word::Long), "ERR LONG\n"),
+        (Response::Refused(Word::Syntax), "ERR SYNTAX\n"),
+        (Response::Refused(Word::Subject), "ERR SUBJECT\n"),
+        (Response::Refused(Word::Ended), "ERR ENDED\n"),
+        (Response::Refused(Word::Full), "ERR FULL\n"),
+        (Response::Refused(Word::Spent), "ERR SPENT\n"),
+        (Response::Refused(Word::Zero), "ERR ZERO\n"),
+        (Response::Refused(Word::Observer), "ERR OBSERVER\n"),
+        (Response::Refused(Word::TooMuch), "ERR TOOMUCH\n"),
+        (Response::Refused(Word::Memory), "ERR MEMORY\n"),
+        (Response::Refused(Word::Gone), "ERR GONE\n"),
+    ] {
+        assert_eq!(rt; written(&heap, response)?.as_slice(), line.as_bytes());
+    }
+    Ok(())
+}
+
+#[test]
+fn notes_are_printed(rt: HostRuntime) -> Result<(), Fail> {
+    let mut writer = Vec::new(rt.alloc());
+    let text = Text::new(rt.alloc(), b"a b")?;
+    write_note(&mut writer, &Note::Next(Item { from: 7, text }))?;
+    write_note(&mut writer, &Note::Completed)?;
+    write_note(&mut writer, &Note::Failed(Text::new(rt.alloc(), b"x")?))?;
+    assert_eq!(rt; writer.as_slice(), b"NEXT a b\nDONE\nFAILED x\n".as_slice());
+    Ok(())
+}

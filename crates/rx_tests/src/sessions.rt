@@ -1,0 +1,287 @@
+//! Sessions over memory: a reader that gives its bytes in pieces, a writer with a bounded room, and a desk that answers all
+//! alike.
+//!
+//! Told is how a session ended (Q for QUIT, E for the end of the input, H for handed over, R for a fault of the reader, W for
+//! one of the writer, T for too many reads), then what was written, and behind `|` what the desk was asked: `n`, `c` and `f`
+//! for an item, completion and an error, and `s` for a Join.
+
+use rx_heap::Heap;
+use rx_note::{Note, Policy};
+use rx_proto::{Name, Response, Word};
+use rx_session::{Desk, Follow, LineReader, Next, SessionEnd, serve_lines};
+use std::io::{self, ErrorKind, Read, Write};
+use std::test::Fail;
+
+/// Gives its bytes so many at a time. The first reads are interrupted, and one fails.
+#[derive(Drop)]
+struct Drips {
+    rest: &'static [u8],
+    step: usize,
+    interrupted: u64,
+    fails_at: u64,
+    kind: ErrorKind,
+    reads: u64,
+}
+
+impl Read for Drips {
+    fn read(&mut self, buf: &mut [u8]) -> io::Result<usize> {
+        self.reads = self.reads.saturating_add(1);
+        if self.reads <= self.interrupted {
+            return Err(io::Error::from(ErrorKind::Interrupted));
+        }
+        if self.reads == self.fails_at {
+            return Err(io::Error::from(self.kind));
+        }
+        let len = self.step.min(self.rest.len()).min(buf.len());
+        buf[..len].copy_from_slice(&self.rest[..len]);
+        self.rest = &self.rest[len..];
+        Ok(len)
+    }
+}
+
+fn dripping(rest: &'static [u8], step: usize) -> Drips {
+    Drips {
+        rest,
+        step,
+        interrupted: 0,
+        fails_at: 0,
+        kind: ErrorKind::Other,
+        reads: 0,
+    }
+}
+
+/// Takes one byte a call until it is full, and counts its flushes, one of which fails.
+#[derive(Drop)]
+struct Sheet {
+    held: Vec<u8, Heap>,
+    room: usize,
+    flushes: u64,
+    fails_at: u64,
+}
+
+impl Write for Sheet {
+    fn write(&mut self, buf: &[u8]) -> io::Result<usize> {
+        if self.held.len() >= self.room {
+            return Err(io::Error::from(ErrorKind::Other));
+        }
+        let len = buf.len().min(1);
+        self.held.extend_from_slice(&buf[..len])?;
+        Ok(len)
+    }
+
+    fn flush(&mut self) -> io::Result<()> {
+        self.flushes = self.flushes.saturating_add(1);
+        if self.flushes == self.fails_at {
+            return Err(io::Error::from(ErrorKind::Other));
+        }
+        Ok(())
+    }
+}
+
+fn blank(heap: &Heap, room: usize) -> Result<Sheet, Fail> {
+    Ok(Sheet {
+        held: Vec::new(heap.clone()?),
+        room,
+        flushes: 0,
+        fails_at: 0,
+    })
+}
+
+/// Answers each note alike, keeps a writer or gives it back, and notes what it was asked.
+#[derive(Drop)]
+struct Clerk {
+    asked: Vec<u8, Heap>,
+    takes: bool,
+}
+
+fn noted(asked: &mut Vec<u8, Heap>, sign: u8) -> Response {
+    match asked.push(sign) {
+        Ok(()) => Response::Done,
+        Err(_) => Response::Refused(Word::Memory),
+    }
+}
+
+impl<W: Drop> Desk<W> for Clerk {
+    ghost use Rattle.std.specs.Prelude.{◌≡◌};
+
+    ghost emits = { λ old name note response new. Unit {0} };
+
+    ghost follows = { λ old name policy writer answer new. Unit {0} };
+
+    fn emit(&mut self, _name: &Name, note: Note) -> Response {
+        noted(&mut self.asked, sign_of(&note))
+    }
+
+    fn follow(&mut self, _name: &Name, _policy: Policy, writer: W) -> Follow<W> {
+        let _ = noted(&mut self.asked, b's');
+        if self.takes {
+            Follow::Taken
+        } else {
+            Follow::Back(Response::Refused(Word::Full), writer)
+        }
+    }
+}
+
+fn sign_of(note: &Note) -> u8 {
+    match note {
+        Note::Next(_) => b'n',
+        Note::Completed => b'c',
+        Note::Failed(_) => b'f',
+    }
+}
+
+fn sign_of_end(end: SessionEnd) -> u8 {
+    match end {
+        SessionEnd::Quit => b'Q',
+        SessionEnd::EndOfInput => b'E',
+        SessionEnd::HandedOver => b'H',
+        SessionEnd::ReadFault => b'R',
+        SessionEnd::WriteFault => b'W',
+        SessionEnd::TooManyReads => b'T',
+    }
+}
+
+// What a session came to.
+fn told_of(
+    heap: &Heap,
+    reader: &mut Drips,
+    writer: Sheet,
+    takes: bool,
+    max_reads: u64,
+) -> Result<Vec<u8, Heap>, Fail> {
+    let mut clerk = Clerk {
+        asked: Vec::new(heap.clone()?),
+        takes,
+    };
+    let (end, back) = serve_lines(heap, reader, writer, &mut clerk, max_reads);
+    let mut told = Vec::new(heap.clone()?);
+    told.push(sign_of_end(end))?;
+    if let Some(sheet) = &back {
+        told.extend_from_slice(sheet.held.as_slice())?;
+    }
+    told.push(b'|')?;
+    told.extend_from_slice(clerk.asked.as_slice())?;
+    Ok(told)
+}
+
+#[test]
+fn session_over_memory(rt: HostRuntime) -> Result<(), Fail> {
+    let heap = rt.alloc();
+    for (input, step, takes, max_reads, told) in [
+        (
+            "PUB s a\nNOPE\nQUIT\nPUB s b\n",
+            7,
+            true,
+            99,
+            "QOK\nERR SYNTAX\nOK\n|n",
+        ),
+        ("SUB s BUFFER DELAY\nPUB s a\n", 64, true, 99, "H|s"),
+        (
+            "SUB s BUFFER DELAY\nFAIL s a\nEND s\n",
+            7,
+            false,
+            99,
+            "EERR FULL\nOK\nOK\n|sfc",
+        ),
+        ("PUB s a\r\nPUB s b", 3, true, 99, "EOK\n|n"),
+        (
+            "\n\n\n\n\n\n\n",
+            1,
+            true,
+            5,
+            "TERR SYNTAX\nERR SYNTAX\nERR SYNTAX\nERR SYNTAX\nERR SYNTAX\n|",
+        ),
+        ("", 1, true, 1, "E|"),
+        ("", 1, true, 0, "T|"),
+    ] {
+        let mut reader = dripping(input.as_bytes(), step);
+        let told_now = told_of(&heap, &mut reader, blank(&heap, 4096)?, takes, max_reads)?;
+        assert_eq!(rt; told_now.as_slice(), told.as_bytes(), "{input}");
+    }
+    Ok(())
+}
+
+// A read that was interrupted is made again, and counts; no other that failed is.
+#[test]
+fn reads_that_fail(rt: HostRuntime) -> Result<(), Fail> {
+    let heap = rt.alloc();
+    for (interrupted, fails_at, kind, max_reads, told, reads) in [
+        (2, 0, ErrorKind::Other, 3, "QOK\n|", 3),
+        (2, 0, ErrorKind::Other, 2, "T|", 2),
+        (2, 3, ErrorKind::Other, 9, "R|", 3),
+        (0, 1, ErrorKind::WouldBlock, 9, "R|", 1),
+        (0, 1, ErrorKind::WouldBlock, 1, "R|", 1),
+    ] {
+        let mut reader = dripping(b"QUIT\n", 16);
+        reader.interrupted = interrupted;
+        reader.fails_at = fails_at;
+        reader.kind = kind;
+        let told_now = told_of(&heap, &mut reader, blank(&heap, 4096)?, true, max_reads)?;
+        assert_eq!(rt; told_now.as_slice(), told.as_bytes());
+        assert_eq!(rt; reader.reads, reads);
+    }
+    Ok(())
+}
+
+const LINES: &[u8] = b"END s\nEND s\nQUIT\n";
+
+#[test]
+fn writer_fails_at_each_byte(rt: HostRuntime) -> Result<(), Fail> {
+    let heap = rt.alloc();
+    for (room, told) in [
+        (0, "W|c"),
+        (1, "WO|c"),
+        (2, "WOK|c"),
+        (3, "WOK\n|cc"),
+        (5, "WOK\nOK|cc"),
+        (8, "WOK\nOK\nOK|cc"),
+        (9, "QOK\nOK\nOK\n|cc"),
+    ] {
+        let mut reader = dripping(LINES, 6);
+        let told_now = told_of(&heap, &mut reader, blank(&heap, room)?, true, 99)?;
+        assert_eq!(rt; told_now.as_slice(), told.as_bytes(), "{room}");
+    }
+    Ok(())
+}
+
+// All is flushed before each read and at the end, and a flush that fails ends the session.
+#[test]
+fn flushes_are_made(rt: HostRuntime) -> Result<(), Fail> {
+    let heap = rt.alloc();
+    for (fails_at, told) in [
+        (0, "QOK\nOK\nOK\n|cc"),
+        (1, "W|"),
+        (2, "WOK\n|c"),
+        (3, "WOK\nOK\n|cc"),
+        (4, "WOK\nOK\nOK\n|cc"),
+        (5, "QOK\nOK\nOK\n|cc"),
+    ] {
+        let mut writer = blank(&heap, 4096)?;
+        writer.fails_at = fails_at;
+        let mut reader = dripping(LINES, 6);
+        let told_now = told_of(&heap, &mut reader, writer, true, 99)?;
+        assert_eq!(rt; told_now.as_slice(), told.as_bytes(), "{fails_at}");
+    }
+    Ok(())
+}
+
+// What a reader of lines tells next: the length of a line, or a letter.
+fn told_next(lines: &mut LineReader<Drips>) -> u64 {
+    match lines.next() {
+        Next::Line(line) => line.len() as u64,
+        Next::Long => 10_000,
+        Next::EndOfInput => 20_000,
+        Next::ReadFault => 30_000,
+        Next::TooManyReads => 40_000,
+    }
+}
+
+#[test]
+fn lines_are_told_however_reads_are_cut(rt: HostRuntime) {
+    for step in [1, 2, 3, 7, 64] {
+        let mut lines = LineReader::new(dripping(b"ab\r\n\r\r\n\nabc\nd", step), 99);
+        for told in [2, 1, 0, 3, 20_000, 20_000] {
+            assert_eq!(rt; told_next(&mut lines), told, "by {step}");
+        }
+    }
+}
