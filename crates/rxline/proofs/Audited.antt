@@ -3,19 +3,19 @@ use Rattle.std.proofs.Common.{◌≡◌, ℕ, true, false, cond, List, [], ◌++
 use Rattle.std.proofs.KnownBytes.{Appends-nil, Appends-trans, Consumes-trans, Consumes-nil}
 use Rattle.std.specs.Io.KnownBytes.{Consumes, Appends}
 use Rattle.rx_proto.specs.declared.line_error.BadLine.{BadLine}
-use Rattle.rxline.specs.declared.line_state.LineState.{LineState}
+use Rattle.rx_session.specs.declared.line_state.LineState.{LineState}
 use Rattle.rx_proto.specs.declared.script_line.ScriptLine.{ScriptLine}
-use Rattle.rxline.specs.declared.session_end.SessionEnd.{SessionEnd}
-use Rattle.rxline.specs.declared.session_end.SessionEnd.TheVariants as ends
+use Rattle.rx_session.specs.declared.session_end.SessionEnd.{SessionEnd}
+use Rattle.rx_session.specs.declared.session_end.SessionEnd.TheVariants as ends
 use Rattle.rxline.specs.Audits.{Audits, audited, audit_written, prints, Prints, Learns, Enters, Follows}
 use Rattle.rx_proto.specs.Bytes.{AppendsPrefix, Writes}
-use Rattle.rxline.specs.Bytes.{Holds}
-use Rattle.rxline.specs.Lines.{lines_of, TakesLine, TakesNoLine, without_cr}
+use Rattle.rx_session.specs.Bytes.{Holds}
+use Rattle.rx_session.specs.Lines.{lines_of, TakesLine, TakesNoLine, without_cr}
 use Rattle.rx_proto.specs.Reading.{script_read}
-use Rattle.rxline.specs.Steps.{unread, GoesOn}
+use Rattle.rx_session.specs.Steps.{unread, GoesOn}
 use Rattle.rxline.specs.Transcripts.{Subject, State, new_state, after_line, has_end}
-use Rattle.rxline.proofs.LinesOf.{lines_of-first, lines_of-taken, lines_of-none}
-use Rattle.rxline.proofs.Written.{Prefix-behind, Prefix-none}
+use Rattle.rx_session.proofs.LinesOf.{lines_of-first, lines_of-taken, lines_of-none}
+use Rattle.rx_session.proofs.Written.{Prefix-behind, Prefix-none}
 
 -- ONE LINE
 
@@ -38,6 +38,7 @@ follows (Some ends.Quit) state now read_old read_new before after reading says s
     taken read_old read_new (unread before) (unread after) says (λ line. Enters (Some ends.Quit) state now (script_read line))
     (λ line said. subst (λ (r : Result ScriptLine BadLine). Enters (Some ends.Quit) state now r) (sym (so line said)) enters) takes
 follows (Some ends.EndOfInput) state now read_old read_new before after reading says so takes goes_on enters = let e = enters.0 in cc
+follows (Some ends.HandedOver) state now read_old read_new before after reading says so takes goes_on enters = let e = enters.0 in cc
 follows (Some ends.ReadFault) state now read_old read_new before after reading says so takes goes_on enters = let e = enters.0 in cc
 follows (Some ends.WriteFault) state now read_old read_new before after reading says so takes goes_on enters = let e = enters.0 in cc
 follows (Some ends.TooManyReads) state now read_old read_new before after reading says so takes goes_on enters = let e = enters.0 in cc
@@ -111,6 +112,7 @@ learns ends.EndOfInput first now last read_old read_now read_new before later h 
       are = left.0;
       ends = (left.1, takes.1);
     }
+learns ends.HandedOver first now last read_old read_now read_new before later h takes = absurd takes
 learns ends.ReadFault first now last read_old read_now read_new before later h takes =
     let left = none_left first now last read_old read_now read_new (unread before) h takes.0 takes.1 in
     record {
@@ -151,6 +153,7 @@ learns-on answer first now next read_old read_now read_new before later is h goe
 pub Prints-all : (end : SessionEnd) (old new : Option (List ℕ)) (bytes : List ℕ) → prints end ≡ true → Appends old new bytes → Prints end old new bytes
 Prints-all ends.Quit old new bytes is told = told
 Prints-all ends.EndOfInput old new bytes is told = told
+Prints-all ends.HandedOver old new bytes is told = cc
 Prints-all ends.ReadFault old new bytes is told = cc
 Prints-all ends.WriteFault old new bytes is told = cc
 Prints-all ends.TooManyReads old new bytes is told = cc
@@ -167,6 +170,7 @@ Writes-held (Err e) old mid new held bytes holds front =
 pub Prints-none : (end : SessionEnd) (known : Option (List ℕ)) (bytes : List ℕ) → prints end ≡ false → Prints end known known bytes
 Prints-none ends.Quit known bytes is = cc
 Prints-none ends.EndOfInput known bytes is = cc
+Prints-none ends.HandedOver known bytes is = refl
 Prints-none ends.ReadFault known bytes is = refl
 Prints-none ends.WriteFault known bytes is = Prefix-none known known [] bytes bytes refl (Appends-nil known)
 Prints-none ends.TooManyReads known bytes is = refl

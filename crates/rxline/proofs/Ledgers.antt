@@ -15,10 +15,10 @@ use Rattle.rx_history.proofs.Entries.{is_some-signals}
 use Rattle.rx_history.proofs.Extending.{extended-push}
 use Rattle.rxline.specs.declared.ledger.Ledger.{Ledger}
 use Rattle.rxline.specs.Audits.{subject_in, subjects_in, observer_written, observers_written, observed_lines, subject_written}
-use Rattle.rxline.specs.Bytes.{Loses}
+use Rattle.rx_session.specs.Bytes.{Loses}
 use Rattle.rx_proto.specs.Reading.{same_word}
 use Rattle.rxline.specs.Transcripts.{Subject, taking, all_taking}
-use Rattle.rxline.proofs.Written.{Loses-more}
+use Rattle.rx_session.proofs.Written.{Loses-more}
 
 -- THE EVENT
 

@@ -1,14 +1,7 @@
 pub mod Audited
-pub mod Blocks
-pub mod Known
 pub mod Ledgers
-pub mod Lfs
-pub mod LinesOf
 pub mod Pieces
-pub mod Sheds
 pub mod SoFar
-pub mod Stepping
 pub mod Subjects
 pub mod Tellings
 pub mod Turning
-pub mod Written

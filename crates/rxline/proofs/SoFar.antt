@@ -2,22 +2,23 @@
 use Rattle.std.proofs.Common.{◌≡◌, ℕ, Bool, true, false, cond, List, [], ◌∷◌, ◌++◌, Option, None, Some, sym, ap, subst, ◌∙◌, append_assoc, append-nil}
 use Rattle.std.proofs.KnownBytes.{Appends-trans, Appends-nil, Consumes-trans, Consumes-nil}
 use Rattle.std.specs.Io.KnownBytes.{Consumes, Appends}
-use Rattle.rxline.specs.declared.line_state.LineState.{LineState}
+use Rattle.rx_session.specs.declared.line_state.LineState.{LineState}
 use Rattle.rxline.specs.declared.script.Script.{Script}
-use Rattle.rxline.specs.declared.session_end.SessionEnd.{SessionEnd}
-use Rattle.rxline.specs.declared.session_end.SessionEnd.TheVariants as ends
+use Rattle.rx_session.specs.declared.session_end.SessionEnd.{SessionEnd}
+use Rattle.rx_session.specs.declared.session_end.SessionEnd.TheVariants as ends
 use Rattle.rxline.specs.declared.topic.Topic.{Topic}
 use Rattle.rx_proto.specs.Bytes.{AppendsPrefix}
-use Rattle.rxline.specs.Bytes.{Holds, Loses}
-use Rattle.rxline.specs.Lines.{HasNoLf, without_cr, lines_of, BeginsWithLine, TakesLine, TakesNoLine}
+use Rattle.rx_session.specs.Bytes.{Holds, Loses}
+use Rattle.rx_proto.specs.LineFeeds.{HasNoLf}
+use Rattle.rx_session.specs.Lines.{without_cr, lines_of, BeginsWithLine, TakesLine, TakesNoLine}
 use Rattle.rx_proto.specs.Reading.{script_read}
 use Rattle.rxline.specs.Scripts.{AllStand, Runs}
-use Rattle.rxline.specs.Steps.{unread}
+use Rattle.rx_session.specs.Steps.{unread}
 use Rattle.rxline.specs.Tellings.{IsIn, Turns, TellsOn}
 use Rattle.rxline.specs.Transcripts.{Subject, State, new_state, line_written, after_line, ends_script, transcript, has_end}
-use Rattle.rxline.proofs.LinesOf.{lines_of-first, lines_of-taken, lines_of-none}
-use Rattle.rxline.proofs.Lfs.{HasNoLf-front}
-use Rattle.rxline.proofs.Written.{Prefix-behind, Prefix-more}
+use Rattle.rx_session.proofs.LinesOf.{lines_of-first, lines_of-taken, lines_of-none}
+use Rattle.rx_session.proofs.Lfs.{HasNoLf-front}
+use Rattle.rx_session.proofs.Written.{Prefix-behind, Prefix-more}
 
 -- some bytes were read and some written; what was written and what is held is the transcript so far, which goes on from
 -- the state as it is now over the bytes that are unread
@@ -183,6 +184,7 @@ Runs-end ends.EndOfInput subjects read_old read_now read_new w0 w1 w2 script aft
       written = left.1;
       ends = (left.2, takes.1);
     }
+Runs-end ends.HandedOver subjects read_old read_now read_new w0 w1 w2 script after before later h empty takes = absurd takes
 Runs-end ends.ReadFault subjects read_old read_now read_new w0 w1 w2 script after before later h empty takes =
     let left = none_left subjects read_old read_now read_new w0 w1 w2 script (unread before) h takes.0 takes.1 empty in
     record {

@@ -2,26 +2,26 @@
 use Rattle.std.proofs.Common.{◌≡◌, ℕ, ◌<◌, Bool, List, ◌++◌, length, Option, None, Some, MatchOption, Result, Err, inl, sym, ap, subst, ◌∙◌}
 use Rattle.std.proofs.KnownBytes.{Appends-trans}
 use Rattle.std.specs.Io.KnownBytes.{Appends}
-use Rattle.rxline.specs.declared.input_end.InputEnd.{InputEnd}
+use Rattle.rx_session.specs.declared.input_end.InputEnd.{InputEnd}
 use Rattle.rx_proto.specs.declared.line_error.BadLine.{BadLine}
 use Rattle.rx_proto.specs.declared.line_error.BadLine.TheVariants.{Long}
-use Rattle.rxline.specs.declared.line_state.LineState.{LineState}
+use Rattle.rx_session.specs.declared.line_state.LineState.{LineState}
 use Rattle.rxline.specs.declared.script.Script.{Script}
 use Rattle.rx_proto.specs.declared.script_line.ScriptLine.{ScriptLine}
-use Rattle.rxline.specs.declared.session_end.SessionEnd.{SessionEnd}
-use Rattle.rxline.specs.declared.session_end.SessionEnd.TheVariants as ends
-use Rattle.rxline.specs.declared.step.Step.{Step}
+use Rattle.rx_session.specs.declared.session_end.SessionEnd.{SessionEnd}
+use Rattle.rx_session.specs.declared.session_end.SessionEnd.TheVariants as ends
+use Rattle.rx_session.specs.declared.step.Step.{Step}
 use Rattle.rxline.specs.declared.told.Told.{Told}
 use Rattle.rxline.specs.declared.told.Told.TheVariants as told
 use Rattle.rx_proto.specs.Bytes.{AppendsPrefix}
-use Rattle.rxline.specs.Bytes.{Holds}
-use Rattle.rxline.specs.Lines.{TakesLine, without_cr}
+use Rattle.rx_session.specs.Bytes.{Holds}
+use Rattle.rx_session.specs.Lines.{TakesLine, without_cr}
 use Rattle.rx_proto.specs.Reading.{script_read}
 use Rattle.rx_proto.proofs.Exact.{script_exact}
-use Rattle.rxline.specs.Steps.{unread, GoesOn, Goes, Advances}
+use Rattle.rx_session.specs.Steps.{unread, GoesOn, Goes, Advances}
 use Rattle.rxline.specs.Tellings.{IsIn, Quits, TellsOn, Turns, is_last}
 use Rattle.rxline.specs.Transcripts.{State, line_written, after_line, ends_script}
-use Rattle.rxline.proofs.Written.{Prefix-behind}
+use Rattle.rx_session.proofs.Written.{Prefix-behind}
 
 -- what was held and then written is what was put
 appended : (old mid new : Option (List ℕ)) (held then bytes : List ℕ) → Holds held then old mid bytes → Appends mid new then → Appends old new (held ++ bytes)
@@ -37,6 +37,7 @@ pub quit_tells : (end : SessionEnd) (before mid after : Script) (old now new : O
 quit_tells ends.Quit before mid after old now new line t is all tells = λ state is_in.
     let one = tells state is_in in (one.0, appended old now new before.outbox mid.outbox (line_written state line one.0) one.1 all, sym one.2.0 ∙ ap is_last is)
 quit_tells ends.EndOfInput before mid after old now new line t is all tells = absurd all
+quit_tells ends.HandedOver before mid after old now new line t is all tells = absurd all
 quit_tells ends.ReadFault before mid after old now new line t is all tells = absurd all
 quit_tells ends.WriteFault before mid after old now new line t is all tells = λ state is_in.
     let one = tells state is_in in
@@ -74,6 +75,7 @@ turned (Some ends.Quit) before after old new read_old read_new lines lines_after
     taken read_old read_new (unread lines) (unread lines_after) says (λ line. TellsOn (Some ends.Quit) before after old new (script_read line))
     (λ line said. subst (λ (r : Result ScriptLine BadLine). TellsOn (Some ends.Quit) before after old new r) (sym (so line said)) tells) takes
 turned (Some ends.EndOfInput) before after old new read_old read_new lines lines_after reading says so takes goes_on tells = absurd tells
+turned (Some ends.HandedOver) before after old new read_old read_new lines lines_after reading says so takes goes_on tells = absurd tells
 turned (Some ends.ReadFault) before after old new read_old read_new lines lines_after reading says so takes goes_on tells = absurd tells
 turned (Some ends.WriteFault) before after old new read_old read_new lines lines_after reading says so takes goes_on tells =
     taken read_old read_new (unread lines) (unread lines_after) says (λ line. TellsOn (Some ends.WriteFault) before after old new (script_read line))

@@ -10,17 +10,17 @@ use Rattle.rxline.specs.declared.asked.Asked.{Asked}
 use Rattle.rxline.specs.declared.audit.Audit.{Audit}
 use Rattle.rxline.specs.declared.ledger.Ledger.{Ledger}
 use Rattle.rx_proto.specs.declared.line_error.BadLine.{BadLine}
-use Rattle.rxline.specs.declared.line_state.LineState.{LineState}
+use Rattle.rx_session.specs.declared.line_state.LineState.{LineState}
 use Rattle.rxline.specs.declared.observed.Observed.{Observed}
 use Rattle.rx_proto.specs.declared.script_line.ScriptLine.{ScriptLine}
-use Rattle.rxline.specs.declared.session_end.SessionEnd.{SessionEnd}
-use Rattle.rxline.specs.declared.session_end.SessionEnd.TheVariants as ends
+use Rattle.rx_session.specs.declared.session_end.SessionEnd.{SessionEnd}
+use Rattle.rx_session.specs.declared.session_end.SessionEnd.TheVariants as ends
 use Rattle.rx_proto.specs.Bytes.{AppendsPrefix}
-use Rattle.rxline.specs.Lines.{lines_of, TakesLine, TakesNoLine}
+use Rattle.rx_session.specs.Lines.{lines_of, TakesLine, TakesNoLine}
 use Rattle.rx_proto.specs.Printing.{note_line}
 use Rattle.rx_proto.specs.Reading.{script_read}
 use Rattle.rxline.specs.Scripts.{EndsSo}
-use Rattle.rxline.specs.Steps.{unread, GoesOn}
+use Rattle.rx_session.specs.Steps.{unread, GoesOn}
 use Rattle.rxline.specs.Transcripts.{Subject, State, new_state, after_asked, after_line, ends_script, is_quit}
 
 -- THE SUBJECTS AFTER THE LINES
@@ -69,6 +69,7 @@ audit_written subjects = flat_map subject_written subjects
 abbrev pub prints : SessionEnd → Bool
 prints ends.Quit = true
 prints ends.EndOfInput = true
+prints ends.HandedOver = false
 prints ends.ReadFault = false
 prints ends.WriteFault = false
 prints ends.TooManyReads = false
@@ -78,6 +79,7 @@ prints ends.TooManyReads = false
 abbrev pub Prints : SessionEnd → Option (List ℕ) → Option (List ℕ) → List ℕ → Type 0
 Prints ends.Quit old new bytes = Appends old new bytes
 Prints ends.EndOfInput old new bytes = Appends old new bytes
+Prints ends.HandedOver old new bytes = new ≡ old
 Prints ends.ReadFault old new bytes = new ≡ old
 Prints ends.WriteFault old new bytes = AppendsPrefix old new bytes
 Prints ends.TooManyReads old new bytes = new ≡ old
@@ -144,6 +146,7 @@ Follows (Some ends.Quit) state now read_old read_new before after =
     TakesLine read_old read_new (unread before) (unread after) (λ line. Enters (Some ends.Quit) state now (script_read line))
 Follows (Some ends.EndOfInput) state now read_old read_new before after =
     TakesNoLine read_old read_new (unread before) × IsAtEnd read_new × (now ≡ state)
+Follows (Some ends.HandedOver) state now read_old read_new before after = ⊥
 Follows (Some ends.ReadFault) state now read_old read_new before after = TakesNoLine read_old read_new (unread before) × (now ≡ state)
 Follows (Some ends.WriteFault) state now read_old read_new before after = ⊥
 Follows (Some ends.TooManyReads) state now read_old read_new before after = TakesNoLine read_old read_new (unread before) × (now ≡ state)

@@ -1,11 +1,5 @@
 pub mod Audits
-pub mod Bytes
-pub mod Laws
-pub mod Lines
 pub mod Printing
-pub mod Reads
 pub mod Scripts
-pub mod Steps
 pub mod Tellings
 pub mod Transcripts
-pub mod Windows

@@ -6,15 +6,15 @@ use Rattle.rx_hub.specs.Hubs.{StandsFor}
 use Rattle.rx_note.specs.declared.event.Event.{Event}
 use Rattle.rx_proto.specs.declared.response.Response.TheVariants.{Refused}
 use Rattle.rx_proto.specs.declared.word.Word.TheVariants as words
-use Rattle.rxline.specs.declared.session_end.SessionEnd.{SessionEnd}
-use Rattle.rxline.specs.declared.session_end.SessionEnd.TheVariants as ends
+use Rattle.rx_session.specs.declared.session_end.SessionEnd.{SessionEnd}
+use Rattle.rx_session.specs.declared.session_end.SessionEnd.TheVariants as ends
 use Rattle.rxline.specs.declared.subject_config.SubjectConfig.{SubjectConfig}
 use Rattle.rxline.specs.declared.told.Told.{Told}
 use Rattle.rxline.specs.declared.topic.Topic.{Topic}
 use Rattle.rx_proto.specs.declared.writing.WriteFault.{WriteFault}
 use Rattle.rx_proto.specs.Bytes.{AppendsPrefix}
-use Rattle.rxline.specs.Bytes.{Puts}
-use Rattle.rxline.specs.Lines.{lines_of}
+use Rattle.rx_session.specs.Bytes.{Puts}
+use Rattle.rx_session.specs.Lines.{lines_of}
 use Rattle.rx_proto.specs.Printing.{reply_line}
 use Rattle.rxline.specs.Transcripts.{Subject, new_state, takes_it_with_memory, taking, event_written, transcript, has_end}
 
@@ -32,14 +32,16 @@ new_subjects configs = map new_subject configs
 abbrev pub Wrote : SessionEnd → Option (List ℕ) → Option (List ℕ) → List ℕ → Type 0
 Wrote ends.Quit old new bytes = Appends old new bytes
 Wrote ends.EndOfInput old new bytes = Appends old new bytes
+Wrote ends.HandedOver old new bytes = ⊥
 Wrote ends.ReadFault old new bytes = Appends old new bytes
 Wrote ends.WriteFault old new bytes = AppendsPrefix old new bytes
 Wrote ends.TooManyReads old new bytes = Appends old new bytes
 
--- the end is the one that the input gives
+-- the end is the one that the input gives; a script is never handed over
 abbrev pub EndsSo : SessionEnd → Option (List ℕ) → List (List ℕ) → Type 0
 EndsSo ends.Quit left lines = has_end lines ≡ true
 EndsSo ends.EndOfInput left lines = (has_end lines ≡ false) × IsAtEnd left
+EndsSo ends.HandedOver left lines = ⊥
 EndsSo ends.ReadFault left lines = has_end lines ≡ false
 EndsSo ends.WriteFault left lines = Unit {0}
 EndsSo ends.TooManyReads left lines = has_end lines ≡ false

@@ -9,18 +9,18 @@ use Rattle.rxline.specs.declared.script.Script.{Script}
 use Rattle.rx_proto.specs.declared.script_line.ScriptLine.{ScriptLine}
 use Rattle.rx_proto.specs.declared.line_error.BadLine.{BadLine}
 use Rattle.rx_proto.specs.declared.line_error.BadLine.TheVariants.{Long}
-use Rattle.rxline.specs.declared.line_state.LineState.{LineState}
-use Rattle.rxline.specs.declared.session_end.SessionEnd.{SessionEnd}
-use Rattle.rxline.specs.declared.session_end.SessionEnd.TheVariants as ends
+use Rattle.rx_session.specs.declared.line_state.LineState.{LineState}
+use Rattle.rx_session.specs.declared.session_end.SessionEnd.{SessionEnd}
+use Rattle.rx_session.specs.declared.session_end.SessionEnd.TheVariants as ends
 use Rattle.rxline.specs.declared.told.Told.{Told}
 use Rattle.rxline.specs.declared.told.Told.TheVariants as told
 use Rattle.rx_proto.specs.declared.writing.WriteFault.{WriteFault}
 use Rattle.rx_proto.specs.Bytes.{AppendsPrefix}
-use Rattle.rxline.specs.Bytes.{Holds, Puts}
-use Rattle.rxline.specs.Lines.{TakesLine, TakesNoLine}
+use Rattle.rx_session.specs.Bytes.{Holds, Puts}
+use Rattle.rx_session.specs.Lines.{TakesLine, TakesNoLine}
 use Rattle.rx_proto.specs.Reading.{script_read}
 use Rattle.rxline.specs.Scripts.{AllStand}
-use Rattle.rxline.specs.Steps.{unread, GoesOn}
+use Rattle.rx_session.specs.Steps.{unread, GoesOn}
 use Rattle.rx_proto.specs.Printing.{reply_line}
 use Rattle.rxline.specs.Transcripts.{State, wants_memory, is_quit, asked_written, after_asked, line_written, after_line, ends_script}
 
@@ -60,6 +60,7 @@ reading_of None = Err Long
 abbrev pub Quits : SessionEnd → Option (List ℕ) → Option (List ℕ) → List ℕ → Type 0
 Quits ends.Quit old new held = Appends old new held
 Quits ends.EndOfInput old new held = ⊥
+Quits ends.HandedOver old new held = ⊥
 Quits ends.ReadFault old new held = ⊥
 Quits ends.WriteFault old new held = AppendsPrefix old new held
 Quits ends.TooManyReads old new held = ⊥
@@ -74,6 +75,7 @@ TellsOn (Some ends.Quit) before after old new line =
     (state : State) → IsIn before state
     → (missed : Bool) × Appends old new (before.outbox ++ line_written state line missed) × (ends_script line ≡ true)
 TellsOn (Some ends.EndOfInput) before after old new line = ⊥
+TellsOn (Some ends.HandedOver) before after old new line = ⊥
 TellsOn (Some ends.ReadFault) before after old new line = ⊥
 TellsOn (Some ends.WriteFault) before after old new line =
     (state : State) → IsIn before state → (missed : Bool) × AppendsPrefix old new (before.outbox ++ line_written state line missed)
@@ -87,6 +89,7 @@ Turns (Some ends.Quit) before after old new read_old read_new lines lines_after 
     TakesLine read_old read_new (unread lines) (unread lines_after) (λ line. TellsOn (Some ends.Quit) before after old new (script_read line))
 Turns (Some ends.EndOfInput) before after old new read_old read_new lines lines_after =
     TakesNoLine read_old read_new (unread lines) × IsAtEnd read_new × (new ≡ old)
+Turns (Some ends.HandedOver) before after old new read_old read_new lines lines_after = ⊥
 Turns (Some ends.ReadFault) before after old new read_old read_new lines lines_after =
     TakesNoLine read_old read_new (unread lines) × (new ≡ old)
 Turns (Some ends.WriteFault) before after old new read_old read_new lines lines_after =

@@ -1,7 +1,7 @@
 ghost use Rattle.std.specs.Prelude.{◌≡◌, ◌++◌, None, IfOk, MatchResult};
 ghost use Rattle.rxline.specs.Audits.{Audits, BreaksOff, Enters, EntersAsked, Follows, Learns, audit_written, note_lines, observed_lines, prints, state_in, subject_in, subject_written, subjects_in};
 ghost use Rattle.rx_proto.specs.Bytes.{AppendsPrefix, Writes};
-ghost use Rattle.rxline.specs.Bytes.{Puts};
+ghost use Rattle.rx_session.specs.Bytes.{Puts};
 ghost use Rattle.rx_proto.specs.Reading.{script_read};
 ghost use Rattle.rxline.specs.Scripts.{new_subjects};
 
@@ -9,15 +9,12 @@ use crate::asked::{Asked, asked_by};
 use crate::config::Config;
 use crate::ledger::Ledger;
 use crate::ledger_list::{enter, ledgers_of};
-use crate::line_state::LineState;
 use crate::observed::Observed;
-use crate::outbox::Outbox;
 use crate::printing::{put_marked, put_observer};
-use crate::session_end::SessionEnd;
-use crate::step::Step;
 use rx_heap::{Heap, Memory};
 use rx_note::Note;
 use rx_proto::{LineError, Name, WriteFault, parse_script};
+use rx_session::{LineState, Outbox, SessionEnd, Step};
 use std::io::{Read, Write};
 
 /// An audit that reads: its ledgers, and the moment of the events that follow, in milliseconds.
@@ -60,7 +57,10 @@ fn prints(end: SessionEnd) -> bool
 {
     match end {
         SessionEnd::Quit | SessionEnd::EndOfInput => true,
-        SessionEnd::ReadFault | SessionEnd::WriteFault | SessionEnd::TooManyReads => false,
+        SessionEnd::HandedOver
+        | SessionEnd::ReadFault
+        | SessionEnd::WriteFault
+        | SessionEnd::TooManyReads => false,
     }
 }
 

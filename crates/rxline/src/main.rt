@@ -5,32 +5,22 @@
 
 mod asked;
 pub mod audit;
-mod carriage;
 pub mod config;
-mod input_end;
-mod laws;
 mod ledger;
 mod ledger_list;
-mod line_state;
 mod observed;
-mod outbox;
 mod printing;
-mod reading;
 mod responding;
 pub mod script;
-pub mod session_end;
-mod step;
 pub mod subject_config;
-mod telling;
 #[cfg(test)]
 mod tests;
 mod told;
 mod topic;
-mod window;
 
 use config::Config;
 use script::run_script;
-use session_end::SessionEnd;
+use rx_session::SessionEnd;
 use std::env;
 use std::process::ExitCode;
 
@@ -51,6 +41,7 @@ fn main(rt: HostRuntime) -> ExitCode {
     let mut writer = rt.stdout();
     match run_script(rt.alloc(), config, &mut reader, &mut writer, MAX_READS) {
         Ok(SessionEnd::Quit) | Ok(SessionEnd::EndOfInput) => ExitCode::SUCCESS,
+        Ok(SessionEnd::HandedOver) => unreachable!(),
         Ok(SessionEnd::ReadFault) => fault(&rt, "read fault"),
         Ok(SessionEnd::WriteFault) => fault(&rt, "write fault"),
         Ok(SessionEnd::TooManyReads) => fault(&rt, "too many reads"),

@@ -1,12 +1,12 @@
 ghost use Rattle.std.specs.Prelude.{◌≡◌, ◌++◌, ◌∷◌, [], codes, decimal};
 ghost use Rattle.rxline.specs.Audits.{observer_line};
-ghost use Rattle.rxline.specs.Bytes.{Puts};
+ghost use Rattle.rx_session.specs.Bytes.{Puts};
 ghost use Rattle.rx_proto.specs.Printing.{reply_line, note_line};
 ghost use Rattle.rxline.specs.Printing.{given_line};
 
-use crate::outbox::Outbox;
 use rx_note::Note;
 use rx_proto::{MAX_DIGITS, Name, Response, WriteFault, reply_line, write_digits};
+use rx_session::Outbox;
 use std::io::Write;
 
 const LF: &[u8] = b"\n";

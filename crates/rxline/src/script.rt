@@ -1,25 +1,22 @@
 ghost use Rattle.std.specs.Prelude.{◌≡◌, ◌<◌, ◌++◌, [], None, IfOk, OnOk, length};
 ghost use Rattle.rxline.specs.declared.topic.Topic.{Topic};
 ghost use Rattle.rx_proto.specs.Bytes.{Writes};
-ghost use Rattle.rxline.specs.Bytes.{Puts};
-ghost use Rattle.rxline.specs.Lines.{HasNoLf};
+ghost use Rattle.rx_session.specs.Bytes.{Puts};
+ghost use Rattle.rx_proto.specs.LineFeeds.{HasNoLf};
 ghost use Rattle.rx_proto.specs.Printing.{reply_line};
 ghost use Rattle.rxline.specs.Scripts.{Runs, TakesEvent, new_subjects};
 ghost use Rattle.rxline.specs.Transcripts.{given_lines, response_to};
 
 use crate::asked::{Asked, asked_by};
 use crate::config::Config;
-use crate::line_state::LineState;
-use crate::outbox::Outbox;
 use crate::printing::{put_given, put_reply};
 use crate::responding::response_to;
-use crate::session_end::SessionEnd;
-use crate::step::Step;
 use crate::told::Told;
 use crate::topic::{Topic, place_of, topics_of};
 use rx_heap::{Heap, Memory};
 use rx_note::{Answer, Event, Given, Refusal};
 use rx_proto::{LineError, Name, Response, Word, WriteFault, parse_script};
+use rx_session::{LineState, Outbox, SessionEnd, Step};
 use std::io::{Read, Write};
 
 /// Runs the lines of a script over the subjects of a configuration, and answers each by its response and a line for
@@ -60,7 +57,7 @@ pub(crate) struct Script {
 
 impl Script {
     ghost use Rattle.rxline.specs.Scripts.{TakesAt};
-    ghost use Rattle.rxline.specs.Steps.{unread};
+    ghost use Rattle.rx_session.specs.Steps.{unread};
     ghost use Rattle.rxline.specs.Tellings.{CarriesOut, IsIn, Quits, Tells, TellsOn, Turns, reading_of};
     ghost use Rattle.rxline.specs.Transcripts.{new_state};
 

@@ -1,7 +1,6 @@
 //! What no clause says: each public call on its happy path, the printed text, and readers and writers that fail midway.
 
 mod audits;
-mod faults;
 mod kinds;
 mod lines;
 mod rows;

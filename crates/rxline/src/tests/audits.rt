@@ -1,9 +1,9 @@
 use crate::audit::run_audit;
 use crate::config::Config;
-use crate::session_end::SessionEnd;
 use crate::subject_config::SubjectConfig;
 use rx_note::{Kind, Limits, Rules};
 use rx_proto::Name;
+use rx_session::SessionEnd;
 use std::io::{self, ErrorKind, Read, Write};
 use std::test::Fail;
 

@@ -6,9 +6,9 @@ ghost use Rattle.rx_hub.specs.Hubs.{are_in_range};
 
 use crate::config::Config;
 use crate::script::run_script;
-use crate::session_end::SessionEnd;
 use rx_heap::Heap;
 use rx_note::{Kind, Limits, Rules, Text};
+use rx_session::SessionEnd;
 use std::test::Fail;
 
 const MAX_READS: u64 = 4_294_967_296;

@@ -1,9 +1,7 @@
-use crate::line_state::LineState;
-use crate::outbox::Outbox;
 use crate::printing::{put_given, put_reply};
-use crate::step::Step;
 use rx_note::{Item, Note, Strategy, Text};
 use rx_proto::{Command, LineError, Name, Response, ScriptLine, Word, parse_script};
+use rx_session::{LineState, Outbox, Step};
 use std::test::Fail;
 
 #[test]

@@ -2,7 +2,7 @@
 
 use crate::config::Config;
 use crate::script::run_script;
-use crate::session_end::SessionEnd;
+use rx_session::SessionEnd;
 use std::io::{self, ErrorKind, Read, Write};
 use std::test::Fail;
 

@@ -1,7 +1,7 @@
 use Rattle.std.proofs.Common.{◌≡◌, None}
 use Rattle.rxline.specs.Audits.{state_in}
-use Rattle.rxline.specs.Reads.{ahead}
-use Rattle.rxline.specs.Steps.{unread}
+use Rattle.rx_session.specs.Reads.{ahead}
+use Rattle.rx_session.specs.Steps.{unread}
 use Rattle.rxline.proofs.Audited.{LearnsSoFar}
 use Rattle.rxline.proofs.audit.enter_all.Given as goal
 

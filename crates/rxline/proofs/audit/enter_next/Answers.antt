@@ -2,9 +2,9 @@ use Rattle.std.proofs.Common.{◌<◌, ℕ, List, length, ap, sym, ◌∙◌, re
 use Rattle.std.proofs.lemmas.Result.{IfOk-weaker}
 use Rattle.rxline.specs.Audits.{state_in}
 use Rattle.rx_proto.specs.declared.line_error.BadLine.TheVariants as bad
-use Rattle.rxline.specs.declared.step.Step.TheVariants.{Line, Long}
+use Rattle.rx_session.specs.declared.step.Step.TheVariants.{Line, Long}
 use Rattle.rx_proto.specs.Reading.{script_read}
-use Rattle.rxline.specs.Steps.{IsTold}
+use Rattle.rx_session.specs.Steps.{IsTold}
 use Rattle.rxline.proofs.Audited.{follows}
 use Rattle.rxline.proofs.Turning.{goes_by, script_read-long}
 use Rattle.rxline.proofs.audit.enter_next.Goals as goal

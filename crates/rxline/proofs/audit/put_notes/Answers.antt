@@ -3,7 +3,7 @@ use Rattle.rx_note.specs.declared.note.Note.{Note}
 use Rattle.rxline.specs.Audits.{note_lines}
 use Rattle.rx_proto.specs.Printing.{note_line}
 use Rattle.rxline.proofs.Pieces.{flat_map-next, flat_map-parts}
-use Rattle.rxline.proofs.Written.{Holds-then, Loses-then, Loses-more, Puts-as, Puts-fault}
+use Rattle.rx_session.proofs.Written.{Holds-then, Loses-then, Loses-more, Puts-as, Puts-fault}
 use Rattle.rxline.proofs.audit.put_notes.Goals as goal
 
 pub returns-in_err-put_marked : goal.returns-in_err-put_marked

@@ -1,6 +1,6 @@
 use Rattle.std.proofs.Common.{take}
 use Rattle.rxline.specs.Audits.{note_lines}
-use Rattle.rxline.specs.Bytes.{Holds}
+use Rattle.rx_session.specs.Bytes.{Holds}
 use Rattle.rxline.proofs.audit.put_notes.Given as goal
 
 abbrev pub invariant-loop-note : goal.invariant-loop-note

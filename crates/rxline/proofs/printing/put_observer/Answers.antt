@@ -1,4 +1,4 @@
-use Rattle.rxline.proofs.Written.{Loses-more, Loses-then, Puts-fault, Puts-then}
+use Rattle.rx_session.proofs.Written.{Loses-more, Loses-then, Puts-fault, Puts-then}
 use Rattle.rxline.proofs.printing.put_observer.Goals as goal
 
 pub returns-in_err-put : goal.returns-in_err-put

@@ -1,7 +1,7 @@
 use Rattle.std.proofs.Common.{◌<◌, length, ap, ◌∙◌, arith}
 use Rattle.rxline.specs.Transcripts.{given_lines}
 use Rattle.rxline.proofs.Tellings.{given_lines-more, given_lines-parts}
-use Rattle.rxline.proofs.Written.{Holds-then, Loses-then, Loses-more, Puts-as, Puts-fault}
+use Rattle.rx_session.proofs.Written.{Holds-then, Loses-then, Loses-more, Puts-as, Puts-fault}
 use Rattle.rxline.proofs.script.put_all.Goals as goal
 
 pub returns-in_err-put_given : goal.returns-in_err-put_given

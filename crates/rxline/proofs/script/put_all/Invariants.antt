@@ -1,5 +1,5 @@
 use Rattle.std.proofs.Common.{take}
-use Rattle.rxline.specs.Bytes.{Holds}
+use Rattle.rx_session.specs.Bytes.{Holds}
 use Rattle.rxline.specs.Transcripts.{given_lines}
 use Rattle.rxline.proofs.script.put_all.Given as goal
 

@@ -1,4 +1,4 @@
-use Rattle.rxline.proofs.Written.{Loses-more, Puts-fault, Puts-then}
+use Rattle.rx_session.proofs.Written.{Loses-more, Puts-fault, Puts-then}
 use Rattle.rxline.proofs.script.put_answer.Goals as goal
 
 pub returns-in_err-put_reply : goal.returns-in_err-put_reply

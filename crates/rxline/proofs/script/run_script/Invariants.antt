@@ -1,7 +1,7 @@
 use Rattle.std.proofs.Common.{◌≡◌, None}
-use Rattle.rxline.specs.Reads.{ahead}
+use Rattle.rx_session.specs.Reads.{ahead}
 use Rattle.rxline.specs.Scripts.{new_subjects}
-use Rattle.rxline.specs.Steps.{unread}
+use Rattle.rx_session.specs.Steps.{unread}
 use Rattle.rxline.proofs.SoFar.{SoFar}
 use Rattle.rxline.proofs.script.run_script.Given as goal
 

@@ -2,7 +2,7 @@ use Rattle.std.proofs.Common.{ap, subst, List, ◌∙◌}
 use Rattle.rx_note.specs.declared.given.Given.{Given}
 use Rattle.rx_hub.specs.Hubs.{HubView, Steps}
 use Rattle.rxline.proofs.Tellings.{told}
-use Rattle.rxline.proofs.Written.{Puts-as}
+use Rattle.rx_session.proofs.Written.{Puts-as}
 use Rattle.rxline.proofs.script.take_event.Goals as goal
 
 pub returns-clause-took : goal.returns-clause-took

@@ -10,7 +10,7 @@ use Rattle.rxline.specs.Tellings.{CarriesOut, is_last}
 use Rattle.rxline.specs.Transcripts.{event_written, takes_it_with_memory}
 use Rattle.rx_proto.specs.Reading.{same_word}
 use Rattle.rx_hub.proofs.Positions.{position-within}
-use Rattle.rxline.proofs.Written.{Puts-as}
+use Rattle.rx_session.proofs.Written.{Puts-as}
 use Rattle.rxline.proofs.Subjects.{found_at, unknown_to, some_topic, IsIn-after, IsIn-unknown, match_ok}
 use Rattle.rxline.proofs.script.Script.carry_out.Goals as goal
 

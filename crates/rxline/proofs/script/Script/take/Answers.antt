@@ -2,7 +2,7 @@ use Rattle.std.proofs.Common.{refl, sym, subst, ◌∙◌}
 use Rattle.std.proofs.lemmas.List.{get_or_default}
 use Rattle.rxline.specs.declared.topic.Topic.{Topic}
 use Rattle.rxline.specs.Scripts.{Stands}
-use Rattle.rxline.proofs.Written.{Puts-fault}
+use Rattle.rx_session.proofs.Written.{Puts-fault}
 use Rattle.rxline.proofs.script.Script.take.Goals as goal
 
 pub returns-in_err-take_event-clause-took : goal.returns-in_err-take_event-clause-took

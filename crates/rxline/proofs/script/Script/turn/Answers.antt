@@ -1,7 +1,7 @@
 use Rattle.std.proofs.Common.{◌<◌, ℕ, List, length, ap, sym, ◌∙◌}
-use Rattle.rxline.specs.declared.step.Step.TheVariants.{Line, Long}
+use Rattle.rx_session.specs.declared.step.Step.TheVariants.{Line, Long}
 use Rattle.rx_proto.specs.Reading.{script_read}
-use Rattle.rxline.specs.Steps.{IsTold}
+use Rattle.rx_session.specs.Steps.{IsTold}
 use Rattle.rxline.proofs.Turning.{turned, goes_by, script_read-long}
 use Rattle.rxline.proofs.script.Script.turn.Goals as goal
 

@@ -1,6 +1,0 @@
-use Rattle.std.proofs.Common.{take}
-use Rattle.rxline.specs.Lines.{HasNoLf}
-use Rattle.rxline.proofs.window.first_lf.Given as goal
-
-abbrev pub invariant-loop-len : goal.invariant-loop-len
-invariant-loop-len l = HasNoLf (take l.len l.bytes)
