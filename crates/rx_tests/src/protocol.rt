@@ -196,3 +196,55 @@ fn notes_are_printed(rt: HostRuntime) -> Result<(), Fail> {
     assert_eq!(rt; writer.as_slice(), b"NEXT a b\nDONE\nFAILED x\n".as_slice());
     Ok(())
 }
+
+#[test]
+fn a_request_has_its_numbers(rt: HostRuntime) -> Result<(), Fail> {
+    let line = parse_script(&rt.alloc(), b"REQUEST s 00007 4294967295")?;
+    match &line {
+        ScriptLine::Request { name, who, n } => {
+            assert_eq!(rt; name.as_bytes(), b"s".as_slice());
+            assert_eq!(rt; *who, 7);
+            assert_eq!(rt; *n, 4_294_967_295);
+        }
+        _ => assert!(rt; false),
+    }
+    Ok(())
+}
+
+#[test]
+fn strategies_are_read_or_refused(rt: HostRuntime) -> Result<(), Fail> {
+    let refused = Err(LineError::Syntax);
+    for (word, strategy) in [
+        ("BUFFER", Ok(Strategy::Buffer)),
+        ("DROP:0", Ok(Strategy::Drop(0))),
+        ("DROP:0001024", Ok(Strategy::Drop(1024))),
+        ("LATEST:1", Ok(Strategy::Latest(1))),
+        ("LATEST:1024", Ok(Strategy::Latest(1024))),
+        ("DROP:1025", refused),
+        ("LATEST:0", refused),
+        ("LATEST:1025", refused),
+        ("DROP:", refused),
+        ("DROP", refused),
+        ("LATEST: 2", refused),
+        ("DROP:-1", refused),
+        ("DROP:65536", refused),
+        ("DROP:4294967296", refused),
+        ("DROP:000000000000000000001", refused),
+        ("drop:1", refused),
+        ("DROP:2:3", refused),
+        ("BUFFER:1", refused),
+    ] {
+        let mut line = Vec::new(rt.alloc());
+        line.extend_from_slice(b"JOIN s ")?;
+        line.extend_from_slice(word.as_bytes())?;
+        line.extend_from_slice(b" DELAY 0")?;
+        match &parse_script(&rt.alloc(), line.as_slice()) {
+            Ok(ScriptLine::Join { policy, .. }) => {
+                assert_eq!(rt; Ok(policy.strategy()), strategy, "{word}");
+            }
+            Ok(_) => assert!(rt; false, "{word}"),
+            Err(error) => assert_eq!(rt; Err(*error), strategy, "{word}"),
+        }
+    }
+    Ok(())
+}

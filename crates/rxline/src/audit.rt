@@ -1,4 +1,4 @@
-ghost use Rattle.std.specs.Prelude.{◌≡◌, ◌++◌, None, IfOk, MatchResult};
+ghost use Rattle.std.specs.Prelude.{◌≡◌, ◌≤◌, length, ◌++◌, None, IfOk, MatchResult};
 ghost use Rattle.rxline.specs.Audits.{Audits, BreaksOff, Enters, EntersAsked, Follows, Learns, audit_written, note_lines, observed_lines, prints, state_in, subject_in, subject_written, subjects_in};
 ghost use Rattle.rx_proto.specs.Bytes.{AppendsPrefix, Writes};
 ghost use Rattle.rx_session.specs.Bytes.{Puts};
@@ -179,13 +179,14 @@ fn put_observed<W: Write>(
     put_notes(outbox, writer, b"WAITING ", &observed.waiting)
 }
 
-// Puts a line for each note, with this mark before it.
+// Puts a line for each note, with this mark before it, of at most 16 bytes.
 fn put_notes<W: Write>(
     outbox: &mut Outbox,
     writer: &mut W,
     mark: &[u8],
     notes: &Vec<Note, Heap>,
 ) -> Result<(), WriteFault>
+    requires { length mark.now ≤ 16 }
     ensures { Puts result outbox.old outbox.new (W.contents writer.old) (W.contents writer.new) (note_lines mark.now notes.now.items) }
 {
     for note in notes.iter() {

@@ -19,8 +19,8 @@ mod told;
 mod topic;
 
 use config::Config;
-use script::run_script;
 use rx_session::SessionEnd;
+use script::run_script;
 use std::env;
 use std::process::ExitCode;
 

@@ -9,7 +9,7 @@ ghost use Rattle.rxline.specs.Transcripts.{given_lines, response_to};
 
 use crate::asked::{Asked, asked_by};
 use crate::config::Config;
-use crate::printing::{put_given, put_reply};
+use crate::printing::put_given;
 use crate::responding::response_to;
 use crate::told::Told;
 use crate::topic::{Topic, place_of, topics_of};
@@ -156,12 +156,12 @@ impl Script {
     {
         match asked {
             Asked::Quit => {
-                put_reply(&mut self.outbox, writer, Response::Done)?;
+                self.outbox.put_reply(writer, Response::Done)?;
                 Ok(Told::Quit)
             }
             Asked::At(moment) => {
                 self.moment = moment;
-                put_reply(&mut self.outbox, writer, Response::Done)?;
+                self.outbox.put_reply(writer, Response::Done)?;
                 Ok(Told::More)
             }
             Asked::Event(name, event) => match place_of(&self.topics, &name) {
@@ -178,7 +178,7 @@ impl Script {
         ensures moment { self.new.moment ≡ self.old.moment }
         ensures more { IfOk result (λ told. told ≡ Told.More) }
     {
-        put_reply(&mut self.outbox, writer, Response::Refused(word))?;
+        self.outbox.put_reply(writer, Response::Refused(word))?;
         Ok(Told::More)
     }
 
@@ -243,7 +243,7 @@ fn put_answer<W: Write>(
 ) -> Result<(), WriteFault>
     ensures { Puts result outbox.old outbox.new (W.contents writer.old) (W.contents writer.new) (reply_line (response_to answered) ++ given_lines name.now outs.now.items) }
 {
-    put_reply(outbox, writer, response_to(answered))?;
+    outbox.put_reply(writer, response_to(answered))?;
     put_all(outbox, writer, name, outs)
 }
 

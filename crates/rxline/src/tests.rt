@@ -2,5 +2,4 @@
 
 mod audits;
 mod kinds;
-mod lines;
 mod rows;
