@@ -4,7 +4,7 @@
 //! for a line that is too long, `-` for no line, and `m` for want of memory.
 
 use rx_heap::Heap;
-use rx_note::{Item, Note, Text};
+use rx_note::{Item, Note, Strategy, Text};
 use rx_proto::{
     Command, LineError, Name, Response, ScriptLine, Word, parse_line, parse_script, write_note,
     write_reply,
