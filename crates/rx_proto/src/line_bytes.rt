@@ -1,4 +1,4 @@
-ghost use Rattle.std.specs.Prelude.{◌≡◌, ◌≤◌, ◌+◌, ◌++◌, [], length};
+ghost use Rattle.std.specs.Prelude.{◌≡◌, ◌≤◌, ◌+◌, ◌++◌, [], length, take};
 
 use std::marker::Model;
 
@@ -37,7 +37,17 @@ impl<const N: usize> LineBytes<N> {
         &self.bytes[..self.len]
     }
 
+    /// Its bytes at the front of a block of fixed size, and how many they are.
+    #[inline]
+    pub fn padded(&self) -> (&[u8; N], usize)
+        ensures bytes { take result.1 result.0.now ≡ self.now }
+        ensures within { result.1 ≤ N }
+    {
+        (&self.bytes, self.len)
+    }
+
     // Puts these bytes behind those that it has.
+    #[inline]
     pub(crate) fn put(&mut self, bytes: &[u8])
         requires { length self.old + length bytes.now ≤ N }
         ensures { self.new ≡ self.old ++ bytes.now }

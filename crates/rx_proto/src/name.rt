@@ -1,4 +1,4 @@
-ghost use Rattle.std.specs.Prelude.{◌≡◌, ◌↔◌, IsTrue, SomeIff, nat_eq};
+ghost use Rattle.std.specs.Prelude.{◌≡◌, ◌≤◌, ◌↔◌, take, IsTrue, SomeIff, nat_eq};
 ghost use Rattle.std.specs.Cmp.{partial_equiv_from_equiv};
 ghost use Rattle.std.specs.Cmp.Lexicographic.{nat_list_eq_equiv, pointwise};
 ghost use Rattle.rx_proto.specs.Names.{IsName, IsNameByte};
@@ -55,6 +55,15 @@ impl Name {
         ensures name { IsName self.now }
     {
         &self.bytes[..self.len]
+    }
+
+    /// Its bytes at the front of a block of fixed size, and how many they are.
+    #[inline]
+    pub fn padded(&self) -> (&[u8; MAX_NAME], usize)
+        ensures bytes { take result.1 result.0.now ≡ self.now }
+        ensures within { result.1 ≤ 32 }
+    {
+        (&self.bytes, self.len)
     }
 }
 

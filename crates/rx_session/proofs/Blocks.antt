@@ -2,9 +2,9 @@
 use Rattle.std.proofs.Common.{◌≡◌, ℕ, ◌+◌, ◌-◌, ◌<◌, ◌≤◌, max, inl, inr, List, ◌++◌, length, take, drop, Option, Result, Ok, Err, refl, sym, ap, ◌∙◌, subst, arith}
 use Rattle.std.proofs.lemmas.List.{take-take, drop-drop, drop-take, length-take-le, drop_at, take_at, take-append-le, append-nil}
 use Rattle.std.proofs.lemmas.List.Edits.{between_none, length-between}
-use Rattle.std.proofs.lemmas.Slice.{between_is, take-put_mid_below}
+use Rattle.std.proofs.lemmas.Slice.{between_is, take-put_mid, take-put_mid_below}
 use Rattle.std.proofs.lemmas.Bool.{cases_lt}
-use Rattle.std.proofs.Math.Seq.{take-add}
+use Rattle.std.proofs.Math.Seq.{take-add, take-append-add}
 use Rattle.rx_session.specs.declared.window.Window.TheInside.{Inside}
 use borrow.Rule.Slice.PartMut.{put_mid, post_of}
 use Rattle.std.specs.List.{between, copy_within}
@@ -176,3 +176,12 @@ IsReady-read (Ok n) old new block start searched end bytes buf ready size bound 
 IsReady-read (Err fault) old new block start searched end bytes buf ready size bound told =
     let filled = IsReady-filled block start searched end bytes buf 0 (end + 0) ready size (omega arith) refl in
     record { window = filled.0; fills = (told, filled.1 ∙ append-nil bytes) }
+
+-- the front of a block behind which some bytes were put, with the first of these
+pub take-put_front : (block bytes : List ℕ) (a k len : ℕ) → a ≤ length block → len ≤ length bytes → take (a + len) (put_mid a k block bytes) ≡ take a block ++ take len bytes
+take-put_front block bytes a k len within few =
+    let all : take (a + length bytes) (put_mid a k block bytes) ≡ take a block ++ bytes = take-put_mid a k block bytes (a + length bytes) refl within in
+    sym (take-take (a + len) (a + length bytes) (put_mid a k block bytes) (omega arith))
+    ∙ ap (take (a + len)) all
+    ∙ ap (λ n. take (n + len) (take a block ++ bytes)) (sym (length-take-le a block within))
+    ∙ take-append-add (take a block) bytes len

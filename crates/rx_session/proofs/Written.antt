@@ -86,3 +86,11 @@ Puts-as result old new held after xs ys same puts = subst (λ (bytes : List ℕ)
 pub Prefix-put : (old mid new : Option (List ℕ)) (held then bytes : List ℕ) → Holds held then old mid bytes → AppendsPrefix mid new then → AppendsPrefix old new (held ++ bytes)
 Prefix-put old mid new held then bytes holds front =
     subst (λ (xs : List ℕ). AppendsPrefix old new xs) holds.parts (Prefix-behind old mid new holds.written then holds.told front)
+
+-- bytes that were pushed into the room that was made
+pub Holds-pushed : (old new : Option (List ℕ)) (held then after bytes : List ℕ) → Holds held then old new [] → after ≡ then ++ bytes → Holds held after old new bytes
+Holds-pushed old new held then after bytes holds pushed = record {
+  written = holds.written;
+  told = holds.told;
+  parts = ap (λ t. holds.written ++ t) pushed ∙ sym (append_assoc holds.written then bytes) ∙ ap (λ t. t ++ bytes) (holds.parts ∙ append-nil held);
+}

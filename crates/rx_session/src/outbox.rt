@@ -1,4 +1,4 @@
-ghost use Rattle.std.specs.Prelude.{◌≡◌, ◌≤◌, ◌+◌, ◌++◌, [], OnOk, length};
+ghost use Rattle.std.specs.Prelude.{◌≡◌, ◌≤◌, ◌+◌, ◌++◌, [], OnOk, length, take};
 ghost use Rattle.std.specs.Io.KnownBytes.{Keeps};
 ghost use Rattle.rx_proto.specs.Bytes.{Writes};
 ghost use Rattle.rx_proto.specs.Printing.{note_line, reply_line};
@@ -80,6 +80,18 @@ impl Outbox {
         self.len = len;
     }
 
+    /// Holds the first of these bytes too, so many, and has room for all of them: a copy of fixed size is quicker than one
+    /// of the bytes that count.
+    #[inline]
+    pub fn push_padded<const N: usize>(&mut self, bytes: &[u8; N], len: usize)
+        requires room { length self.old + N ≤ 65536 }
+        requires within { len ≤ N }
+        ensures { self.new ≡ self.old ++ take len bytes.now }
+    {
+        self.block[self.len..self.len + N].copy_from_slice(bytes.as_slice());
+        self.len += len;
+    }
+
     /// Holds the line of a note too, for which there is room.
     pub fn push_note(&mut self, note: &Note)
         requires { length self.old + 1040 ≤ 65536 }
@@ -107,7 +119,14 @@ impl Outbox {
     ) -> Result<(), WriteFault>
         ensures { Puts result self.old self.new (W.contents writer.old) (W.contents writer.new) (reply_line response) }
     {
-        self.put(writer, reply_line(response).as_bytes())
+        match self.ready(writer) {
+            Ok(()) => {}
+            Err(fault) => return Err(fault),
+        }
+        let line = reply_line(response);
+        let (bytes, len) = line.padded();
+        self.push_padded(bytes, len);
+        Ok(())
     }
 
     /// Writes what it holds and flushes the writer. It holds nothing afterwards.
