@@ -1,4 +1,4 @@
-ghost use Rattle.std.specs.Prelude.{◌≡◌, ◌<◌, ◌++◌, [], None, IfOk, OnOk, length};
+ghost use Rattle.std.specs.Prelude.{◌≡◌, ◌<◌, ◌++◌, [], None, IfOk, OnErr, OnOk, length};
 ghost use Rattle.rxline.specs.declared.topic.Topic.{Topic};
 ghost use Rattle.rx_proto.specs.Bytes.{Writes};
 ghost use Rattle.rx_session.specs.Bytes.{Puts};
@@ -30,7 +30,8 @@ pub fn run_script<R: Read, W: Write>(
     writer: &mut W,
     max_reads: u64,
 ) -> Result<SessionEnd, Memory>
-    ensures { IfOk result (λ end. Runs (new_subjects config.subjects.items) end (R.remaining reader.old) (R.remaining reader.new) (W.contents writer.old) (W.contents writer.new)) }
+    ensures runs { IfOk result (λ end. Runs (new_subjects config.subjects.items) end (R.remaining reader.old) (R.remaining reader.new) (W.contents writer.old) (W.contents writer.new)) }
+    ensures unmade { OnErr result ((R.remaining reader.new ≡ R.remaining reader.old) × (W.contents writer.new ≡ W.contents writer.old)) }
 {
     let mut script = Script::new(alloc, config)?;
     let mut lines = LineState::new(max_reads);
