@@ -88,3 +88,7 @@ session_exact = exact session_read SpellsCommand
 -- what is read of a line is spelled by one
 pub read-spelled : (line : List ℕ) (meaning : ScriptLine) → line_read line ≡ Ok meaning → IsSpelled meaning
 read-spelled line meaning is = (line, (Says-ok (line_read line) (IsRead line) (IsLong line) meaning (line_says line) is).0)
+
+-- the same in a script
+pub script_read-spelled : (line : List ℕ) (meaning : ScriptLine) → script_read line ≡ Ok meaning → IsSpelled meaning
+script_read-spelled line meaning is = (line, (script_exact.sound line meaning is).0.0)

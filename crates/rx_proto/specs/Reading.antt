@@ -1,5 +1,5 @@
 -- The reading of a line, as a function of its bytes: of any line, and of one that stands in a script or in a session.
-use Rattle.std.specs.Prelude.{◌≡◌, ◌==◌, ◌+◌, ◌-◌, ◌*◌, ◌&&◌, ◌||◌, ℕ, Bool, List, [], ◌∷◌, if◌then◌else◌, nat_eq, nat_lt, nat_le, length, take, drop, codes, Result, Ok, Err, MatchResult}
+use Rattle.std.specs.Prelude.{◌≡◌, ◌==◌, ◌+◌, ◌-◌, ◌*◌, ◌&&◌, ◌||◌, ℕ, Bool, true, false, List, [], ◌∷◌, if◌then◌else◌, nat_eq, nat_lt, nat_le, length, take, drop, codes, Result, Ok, Err, MatchResult}
 use Rattle.std.specs.List.{list_all, list_any}
 use Rattle.rx_note.specs.Choices.{Choice, choice, is_in_limits}
 use Rattle.rx_note.specs.declared.strategy.Strategy.{Strategy}
@@ -168,6 +168,11 @@ line_read line =
     else if begins_with line (codes "PUB ") then pub_read (rest_behind line (codes "PUB "))
     else if same_word line (codes "QUIT") then Ok (Command Quit)
     else cut_read line >>= λ parts. words_read parts.0 parts.1
+
+-- whether a line is a SUB
+abbrev pub is_sub : ScriptLine → Bool
+is_sub (Command (Sub name policy)) = true
+is_sub _ = false
 
 -- what was read, where it may stand in a script: any line but SUB
 abbrev pub in_script : ScriptLine → Result ScriptLine BadLine

@@ -1,4 +1,5 @@
-ghost use Rattle.rx_proto.specs.Reading.{Gives, meaning_of, line_read, words_read, pub_read, join_read, request_read, dispose_read, sub_read};
+ghost use Rattle.std.specs.Prelude.{◌≡◌};
+ghost use Rattle.rx_proto.specs.Reading.{Gives, meaning_of, is_sub, line_read, script_read, words_read, pub_read, join_read, request_read, dispose_read, sub_read};
 
 use crate::words::{
     cut_at_space, name_of, named, named_text, number_of, policy_of, wide_number_of,
@@ -25,6 +26,32 @@ pub fn read_line(line: &[u8]) -> Result<Line<'_>, BadLine>
     }
     let (command, rest) = cut_at_space(line)?;
     read_words(command, rest)
+}
+
+/// What these bytes mean as a line of a script, which is never `Sub`. Refused in the order `Long`, `Syntax`. It takes no
+/// memory, so that who asks may look for the subject before a text is made.
+pub fn read_script(line: &[u8]) -> Result<Line<'_>, BadLine>
+    ensures { Gives meaning_of result (script_read line.now) }
+{
+    match read_line(line) {
+        Ok(read) => {
+            if is_sub(&read) {
+                Err(BadLine::Syntax)
+            } else {
+                Ok(read)
+            }
+        }
+        Err(fault) => Err(fault),
+    }
+}
+
+fn is_sub(line: &Line<'_>) -> bool
+    ensures { result ≡ is_sub (meaning_of line.now) }
+{
+    match line {
+        Line::Sub { .. } => true,
+        _ => false,
+    }
 }
 
 #[tactic(auto, unfolding(crate::specs::Reading::pub_read))]

@@ -23,7 +23,7 @@ mod writing;
 
 pub use command::Command;
 pub use decimal::{MAX_DIGITS, write_digits};
-pub use grammar::{MAX_LINE, read_line};
+pub use grammar::{MAX_LINE, read_line, read_script};
 pub use line::Line;
 pub use line_bytes::LineBytes;
 pub use line_error::{BadLine, LineError};

@@ -1,8 +1,8 @@
-ghost use Rattle.std.specs.Prelude.{◌≡◌, MatchResult};
+ghost use Rattle.std.specs.Prelude.{◌≡◌, MatchResult, Ok};
 ghost use Rattle.rx_proto.specs.Grammar.{IsSpelled, IsText};
-ghost use Rattle.rx_proto.specs.Reading.{HoldsText, LineHoldsText, Parses, in_script, in_session, meaning_of, refusal_of, said_by, script_read, session_read};
+ghost use Rattle.rx_proto.specs.Reading.{HoldsText, LineHoldsText, Parses, in_session, meaning_of, refusal_of, said_by, script_read, session_read};
 
-use crate::{BadLine, Command, Line, LineError, Name, ScriptLine, read_line};
+use crate::{BadLine, Command, Line, LineError, Name, ScriptLine, read_line, read_script};
 use rx_heap::Heap;
 use rx_note::Text;
 
@@ -20,7 +20,7 @@ pub fn parse_line(alloc: &Heap, line: &[u8]) -> Result<Command, LineError>
 pub fn parse_script(alloc: &Heap, line: &[u8]) -> Result<ScriptLine, LineError>
     ensures { Parses LineHoldsText result (script_read line.now) }
 {
-    match read_line(line) {
+    match read_script(line) {
         Ok(line) => script_line_of(alloc, &line),
         Err(fault) => Err(refusal_of(fault)),
     }
@@ -35,10 +35,10 @@ fn refusal_of(fault: BadLine) -> LineError
     }
 }
 
-// What a line means that may stand in a script.
+// What a line of a script means.
 fn script_line_of(alloc: &Heap, line: &Line<'_>) -> Result<ScriptLine, LineError>
     requires { IsSpelled (meaning_of line.now) }
-    ensures { Parses LineHoldsText result (in_script (meaning_of line.now)) }
+    ensures { Parses LineHoldsText result (Ok (meaning_of line.now)) }
 {
     match line {
         Line::At(moment) => Ok(ScriptLine::At(*moment)),
@@ -60,7 +60,6 @@ fn script_line_of(alloc: &Heap, line: &Line<'_>) -> Result<ScriptLine, LineError
             name: Name::of(name),
             who: *who,
         }),
-        Line::Sub { .. } => Err(LineError::Syntax),
         _ => said_by(command_of(alloc, line)),
     }
 }
