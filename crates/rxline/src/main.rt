@@ -39,6 +39,7 @@ mod word;
 mod words;
 
 use config::Config;
+use rx_heap::{Heap, Memory};
 use script::run_script;
 use session_end::SessionEnd;
 use std::env;
@@ -54,12 +55,13 @@ fn main(rt: HostRuntime) -> ExitCode {
         let _ = eprintln!(rt; "usage: rxline < SCRIPT");
         return ExitCode::from(2);
     }
-    let Ok(config) = Config::standard(rt.alloc()) else {
+    let heap = Heap::unlimited(rt.alloc());
+    let Ok(config) = configure(&heap) else {
         return fault(&rt, "out of memory");
     };
     let mut reader = rt.stdin();
     let mut writer = rt.stdout();
-    match run_script(rt.alloc(), config, &mut reader, &mut writer, MAX_READS) {
+    match run_script(heap, config, &mut reader, &mut writer, MAX_READS) {
         Ok(SessionEnd::Quit) | Ok(SessionEnd::EndOfInput) => ExitCode::SUCCESS,
         Ok(SessionEnd::ReadFault) => fault(&rt, "read fault"),
         Ok(SessionEnd::WriteFault) => fault(&rt, "write fault"),
@@ -74,6 +76,10 @@ fn has_no_words(rt: &HostRuntime) -> bool {
         Ok(words) => words.count() <= 1,
         Err(_) => false,
     }
+}
+
+fn configure(heap: &Heap) -> Result<Config, Memory> {
+    Config::standard(heap.clone()?)
 }
 
 // Tells a fault on standard error.

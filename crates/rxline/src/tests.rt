@@ -5,3 +5,10 @@ mod faults;
 mod kinds;
 mod lines;
 mod rows;
+
+use rx_heap::Heap;
+
+// The memory of a test: the runtime's, without a limit.
+fn unlimited(rt: &HostRuntime) -> Heap {
+    Heap::unlimited(rt.alloc())
+}

@@ -4,6 +4,7 @@
 use crate::config::Config;
 use crate::script::run_script;
 use crate::session_end::SessionEnd;
+use crate::tests::unlimited;
 use rx_heap::Heap;
 use rx_note::{Kind, Text};
 use std::test::Fail;
@@ -123,7 +124,7 @@ const RUNS: [Run; 9] = [
 #[test]
 fn worked_runs_of_the_kinds(rt: HostRuntime) -> Result<(), Fail> {
     for run in &RUNS {
-        let written = written_for(&rt.alloc(), run.kind, run.script)?;
+        let written = written_for(&unlimited(&rt), run.kind, run.script)?;
         assert_eq!(rt; written.as_slice(), run.answers, "{}", run.name);
     }
     Ok(())

@@ -8,13 +8,14 @@ use crate::printing::{put_given, put_reply};
 use crate::response::Response;
 use crate::script_line::ScriptLine;
 use crate::step::Step;
+use crate::tests::unlimited;
 use crate::word::Word;
 use rx_note::{Item, Note, Strategy, Text};
 use std::test::Fail;
 
 #[test]
 fn a_pub_has_its_name_and_text(rt: HostRuntime) -> Result<(), Fail> {
-    let line = parse_script(&rt.alloc(), b"PUB s-1 a b ")?;
+    let line = parse_script(&unlimited(&rt), b"PUB s-1 a b ")?;
     match &line {
         ScriptLine::Command(Command::Pub { name, text }) => {
             assert_eq!(rt; name.as_bytes(), b"s-1".as_slice());
@@ -27,7 +28,7 @@ fn a_pub_has_its_name_and_text(rt: HostRuntime) -> Result<(), Fail> {
 
 #[test]
 fn a_request_has_its_numbers(rt: HostRuntime) -> Result<(), Fail> {
-    let line = parse_script(&rt.alloc(), b"REQUEST s 00007 4294967295")?;
+    let line = parse_script(&unlimited(&rt), b"REQUEST s 00007 4294967295")?;
     match &line {
         ScriptLine::Request { name, who, n } => {
             assert_eq!(rt; name.as_bytes(), b"s".as_slice());
@@ -72,7 +73,7 @@ fn lines_are_read_or_refused(rt: HostRuntime) {
         (b"AT 5 ".as_slice(), refused),
         (b"AT  5".as_slice(), refused),
     ] {
-        assert_eq!(rt; parse_script(&rt.alloc(), line).err(), error);
+        assert_eq!(rt; parse_script(&unlimited(&rt), line).err(), error);
     }
 }
 
@@ -103,7 +104,7 @@ fn strategies_are_read_or_refused(rt: HostRuntime) -> Result<(), Fail> {
         line.extend_from_slice(b"JOIN s ")?;
         line.extend_from_slice(word.as_bytes())?;
         line.extend_from_slice(b" DELAY 0")?;
-        match &parse_script(&rt.alloc(), line.as_slice()) {
+        match &parse_script(&unlimited(&rt), line.as_slice()) {
             Ok(ScriptLine::Join { policy, .. }) => {
                 assert_eq!(rt; Ok(policy.strategy()), strategy, "{word}");
             }
@@ -147,7 +148,7 @@ fn lines_are_printed(rt: HostRuntime) -> Result<(), Fail> {
     let mut writer = Vec::new(rt.alloc());
     let mut outbox = Outbox::new();
     let name = Name::new(b"s").ok_or("name")?;
-    let text = Text::new(rt.alloc(), b"a b")?;
+    let text = Text::new(unlimited(&rt), b"a b")?;
     put_reply(&mut outbox, &mut writer, Response::Done)?;
     put_reply(&mut outbox, &mut writer, Response::Joined(4_294_967_295))?;
     put_reply(&mut outbox, &mut writer, Response::Refused(Word::TooMuch))?;
