@@ -4,6 +4,7 @@
 //! Told is the number of events and, of observer 0 and then of observer 1, its line, what it was given and what waits for
 //! it, each with a space before it; `N` stands where there is no observer, `M` for want of memory.
 
+use crate::heaps::unlimited;
 use crate::signs::{Named, digit_of, event_of, kind_of, policy_of, put_notes, rules_of};
 use rx_heap::Heap;
 use rx_history::{History, LineError};
@@ -135,7 +136,13 @@ const ROWS: [Row; 7] = [
 #[test]
 fn histories_of_one_observer(rt: HostRuntime) -> Result<(), Fail> {
     for (name, named, strategy, first, script, wanted) in &ROWS {
-        let told = told_of(&rt.alloc(), *named, *strategy, *first, script.as_bytes())?;
+        let told = told_of(
+            &unlimited(&rt),
+            *named,
+            *strategy,
+            *first,
+            script.as_bytes(),
+        )?;
         assert_eq!(rt; told.as_slice(), wanted.as_bytes(), "{name}");
     }
     Ok(())

@@ -5,6 +5,7 @@
 //! request that was taken; a refusal is `!`.
 
 use crate::drawing::drawn;
+use crate::heaps::unlimited;
 use crate::signs::{Named, SEED_PORT, digit_of, event_of, kind_of, policy_of, rules_of, sign_of};
 use rx_heap::Heap;
 use rx_history::History;
@@ -81,7 +82,7 @@ fn new_run_of(heap: &Heap, rules: Rules, events: Vec<(u32, Event), Heap>) -> Res
 
 #[test]
 fn run_of_the_first_rows_events(rt: HostRuntime) -> Result<(), Fail> {
-    let heap = rt.alloc();
+    let heap = unlimited(&rt);
     let events = events_of(&heap, Strategy::Buffer, 0, b"+ab1.5")?;
     let run = new_run_of(&heap, rules_of(Kind::Publish), events)?;
     let wanted = "J0:0 A:0 A:0 R:1 A:1 R:3 0a0b0.";
@@ -101,13 +102,13 @@ fn drawn_rules(heap: &Heap, named: Named) -> Result<Rules, Fail> {
     Ok(Rules { kind, limits })
 }
 
-/// A run of the drawn events, the hub behind it, and the history of the same events.
+/// A run of some events, the hub behind it, and the history of the same events, with the rules that it is read by.
 #[derive(Drop)]
-struct Drawn {
-    rules: Rules,
-    run: Run,
-    hub: Hub,
-    history: History,
+pub(crate) struct Ran {
+    pub(crate) rules: Rules,
+    pub(crate) run: Run,
+    pub(crate) hub: Hub,
+    pub(crate) history: History,
 }
 
 fn history_of(heap: &Heap, buffers: bool) -> Result<History, Fail> {
@@ -118,12 +119,12 @@ fn history_of(heap: &Heap, buffers: bool) -> Result<History, Fail> {
     Ok(history)
 }
 
-fn run_drawn(heap: &Heap, named: Named) -> Result<Drawn, Fail> {
+fn run_drawn(heap: &Heap, named: Named) -> Result<Ran, Fail> {
     let rules = drawn_rules(heap, named)?;
     let history = history_of(heap, false)?;
     let mut hub = hub_of(heap, drawn_rules(heap, named)?)?;
     let run = run_of(heap, &mut hub, drawn(heap, false)?)?;
-    Ok(Drawn {
+    Ok(Ran {
         rules,
         run,
         hub,
@@ -255,7 +256,7 @@ fn given_by_history(
     Ok(told)
 }
 
-impl Drawn {
+impl Ran {
     // Whether an observer was given what the history says.
     fn gave(&self, heap: &Heap, who: u32) -> Result<bool, Fail> {
         let by_run = given_by_run(heap, self.run.outs.as_slice(), who)?;
@@ -270,7 +271,7 @@ impl Drawn {
     }
 
     // The first observer for whom the run and the history differ.
-    fn differs(&self, heap: &Heap) -> Result<Option<u32>, Fail> {
+    pub(crate) fn differs(&self, heap: &Heap) -> Result<Option<u32>, Fail> {
         for who in 0..self.hub.observers() {
             if !self.gave(heap, who)? || !self.holds(who)? {
                 return Ok(Some(who));
@@ -359,7 +360,7 @@ const DRAWN_KINDS: [(Named, usize, bool, bool); 8] = [
 #[test]
 fn a_run_gives_what_the_history_says(rt: HostRuntime) -> Result<(), Fail> {
     for (named, fewest_outs, opens, seeds) in &DRAWN_KINDS {
-        let shown = shown_of(&rt.alloc(), *named)?;
+        let shown = shown_of(&unlimited(&rt), *named)?;
         let fault = fault_of(&shown, *fewest_outs, *opens, *seeds);
         assert_eq!(rt; fault, "", "{named:?}");
         assert_eq!(rt; shown.differs, None, "{named:?}");
@@ -447,7 +448,7 @@ fn shorter(heap: &Heap, pair: &Pair) -> Result<u32, Fail> {
 #[test]
 fn lines_of_the_drawn_events_are_shorter(rt: HostRuntime) -> Result<(), Fail> {
     for pair in &PAIRS {
-        let fewer = shorter(&rt.alloc(), pair)?;
+        let fewer = shorter(&unlimited(&rt), pair)?;
         assert!(rt; fewer >= pair.3, "{:?} and {:?}", pair.0, pair.2);
     }
     Ok(())

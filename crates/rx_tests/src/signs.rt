@@ -64,23 +64,28 @@ pub(crate) fn note_of(heap: &Heap, sign: u8) -> Result<Note, Fail> {
 /// The event of a sign: `+` joins an observer by this policy with a first request, a digit requests so many items for
 /// observer 0, any other emits its note.
 pub(crate) fn event_of(heap: &Heap, policy: Policy, first: u32, sign: u8) -> Result<Event, Fail> {
+    event_at(heap, policy, first, 0, sign)
+}
+
+/// The event of a sign at a moment, in milliseconds.
+pub(crate) fn event_at(
+    heap: &Heap,
+    policy: Policy,
+    first: u32,
+    at: u64,
+    sign: u8,
+) -> Result<Event, Fail> {
     match sign {
-        b'+' => Ok(Event::Join {
-            policy,
-            first,
-            at: 0,
-        }),
+        b'+' => Ok(Event::Join { policy, first, at }),
         b'0'..=b'9' => Ok(Event::Request {
             who: 0,
             n: u32::from(sign - b'0'),
         }),
-        other => Ok(emit(note_of(heap, other)?)),
+        other => Ok(Event::Emit {
+            note: note_of(heap, other)?,
+            at,
+        }),
     }
-}
-
-/// A note is emitted.
-pub(crate) fn emit(note: Note) -> Event {
-    Event::Emit { note, at: 0 }
 }
 
 /// The sign of an item; `?` where it has none.
