@@ -1,13 +1,17 @@
 //! The memory that every call which grows is handed, and the refusal where it gives none.
 //!
-//! A call that may grow takes a [`Heap`] first, and a type that holds a collection keeps its own. Every collection and
-//! constructor of the crates above names `Heap`, so that what it is may change here alone: today it is the allocator of
-//! the runtime, with no limit of its own.
+//! A call that may grow takes a [`Heap`] first, and a type that holds a collection keeps its own. A `Heap` hands out the
+//! runtime's memory: all of it, or no more than a budget of bytes, which all clones of the handle share.
 #![tactic(auto)]
 
+mod budget;
+mod limit;
+mod limited;
 mod refused;
 
+pub use limited::Limited;
 pub use refused::Memory;
 
-/// The memory handle. Nothing above relies on its being `Copy`: a second owner clones it.
-pub type Heap = std::alloc::Global;
+/// The memory handle: the allocator of the runtime under a limit. Nothing above relies on its being `Copy`: a second owner
+/// clones it, and shares its limit.
+pub type Heap = Limited<std::alloc::Global>;

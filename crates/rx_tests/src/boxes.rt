@@ -7,6 +7,7 @@ ghost use Rattle.rx_mailbox.specs.Boxes.{outgoing, incoming, with_post, AreOf};
 ghost use Rattle.rx_mailbox.specs.Settling.{GotAll};
 ghost use Rattle.rx_tests.specs.Bodies.{all_of, after_all};
 
+use crate::heaps::unlimited;
 use rx_heap::Heap;
 use rx_mailbox::{
     EndedPort, Gone, Inbox, MAX_CAPACITY, MAX_PORTS, OpenError, Port, Post, SettleCause, Settled,
@@ -172,25 +173,25 @@ fn run_on_one_thread<B: Sample>(rt: &(impl Wait + Abort), alloc: &Heap) {
 
 #[test]
 fn mailbox_on_one_thread(rt: HostRuntime) {
-    run_on_one_thread::<u32>(&rt, &rt.alloc());
-    run_on_one_thread::<Words>(&rt, &rt.alloc());
+    run_on_one_thread::<u32>(&rt, &unlimited(&rt));
+    run_on_one_thread::<Words>(&rt, &unlimited(&rt));
 }
 
 #[test]
 fn sizes_of_a_box(rt: HostRuntime) {
     for (capacity, senders) in [(0, 1), (1, 0), (1, MAX_PORTS + 1), (MAX_CAPACITY + 1, 1)] {
-        match open::<u32>(rt.alloc(), capacity, senders) {
+        match open::<u32>(unlimited(&rt), capacity, senders) {
             Ok(_) => panic!(rt; "a box of {capacity} letters with {senders} ports"),
             Err(error) => assert_eq!(rt; error, OpenError::BadSize),
         }
     }
-    assert!(rt; open::<u32>(rt.alloc(), 1, MAX_PORTS).is_ok());
-    assert!(rt; open::<u32>(rt.alloc(), MAX_CAPACITY, 1).is_ok());
+    assert!(rt; open::<u32>(unlimited(&rt), 1, MAX_PORTS).is_ok());
+    assert!(rt; open::<u32>(unlimited(&rt), MAX_CAPACITY, 1).is_ok());
 }
 
 #[test]
 fn a_box_whose_inbox_is_gone(rt: HostRuntime) {
-    let (inbox, mut first, second) = two::<u32>(&rt, rt.alloc(), 8);
+    let (inbox, mut first, second) = two::<u32>(&rt, unlimited(&rt), 8);
     drop(inbox);
     assert_eq!(rt; first.send(&rt, 7), Err(7));
     assert!(rt; second.finish(&rt).is_err());
@@ -198,7 +199,7 @@ fn a_box_whose_inbox_is_gone(rt: HostRuntime) {
 
 #[test]
 fn a_box_whose_ports_are_gone(rt: HostRuntime) {
-    let (mut inbox, mut first, second) = two::<u32>(&rt, rt.alloc(), 8);
+    let (mut inbox, mut first, second) = two::<u32>(&rt, unlimited(&rt), 8);
     send(&rt, &mut first, 7);
     drop(first);
     drop(finish(&rt, second));
@@ -309,6 +310,6 @@ fn settle_two(
 
 #[test]
 fn two_ports_two_threads(rt: HostRuntime) {
-    let settled = exchange(&rt, &rt.alloc());
+    let settled = exchange(&rt, &unlimited(&rt));
     assert_eq!(rt; settled.letters(), 2_002);
 }

@@ -1,8 +1,8 @@
 //! Events drawn by a fixed rule.
 
-use crate::signs::{item, policy_of};
+use crate::signs::{item, policy_by};
 use rx_heap::Heap;
-use rx_note::{Event, Note, Strategy};
+use rx_note::{Errors, Event, Note, Strategy, Text};
 use std::test::Fail;
 
 // How many events are drawn.
@@ -46,6 +46,13 @@ impl Draw {
         }
     }
 
+    fn errors(&mut self) -> Errors {
+        match self.below(2) {
+            0 => Errors::Ahead,
+            _ => Errors::Delay,
+        }
+    }
+
     // The next moment. One in eight steps back.
     fn at(&mut self) -> u64 {
         if self.below(8) == 0 {
@@ -58,7 +65,8 @@ impl Draw {
     }
 
     fn join(&mut self) -> Result<Event, Fail> {
-        let policy = policy_of(self.strategy())?;
+        let strategy = self.strategy();
+        let policy = policy_by(strategy, self.errors())?;
         let first = self.below(4);
         let at = self.at();
         Ok(Event::Join { policy, first, at })
@@ -68,6 +76,20 @@ impl Draw {
         let who = self.below(34);
         let n = self.below(4);
         Event::Request { who, n }
+    }
+
+    fn dispose(&mut self) -> Event {
+        let who = self.below(34);
+        Event::Dispose { who }
+    }
+
+    // The end: in one of two cases an error.
+    fn end(&mut self, heap: &Heap) -> Result<Event, Fail> {
+        let note = match self.below(2) {
+            0 => Note::Completed,
+            _ => Note::Failed(Text::new(heap.clone()?, b"x")?),
+        };
+        Ok(self.emit(note))
     }
 
     fn text(&mut self) -> &'static [u8] {
@@ -91,7 +113,8 @@ impl Draw {
         match self.below(48) {
             0..=2 => self.join(),
             3..=8 if !has_items || may_end => self.join(),
-            9 | 10 if may_end => Ok(self.emit(Note::Completed)),
+            9 | 10 if may_end => self.end(heap),
+            11 | 12 => Ok(self.dispose()),
             27..=47 if has_items => {
                 let item = item(heap, self.text())?;
                 Ok(self.emit(Note::Next(item)))

@@ -1,17 +1,19 @@
-//! Stored histories. In a script `+` joins an observer, a digit requests so many items for observer 0, and any other sign
-//! emits its note.
+//! Stored histories. In a script `+` joins an observer, a digit requests so many items for observer 0, `-` has it leave, and
+//! any other sign emits its note.
 //!
 //! Told is the number of events and, of observer 0 and then of observer 1, its line, what it was given and what waits for
 //! it, each with a space before it; `N` stands where there is no observer, `M` for want of memory.
 
-use crate::signs::{Named, digit_of, event_of, kind_of, policy_of, put_notes, rules_of};
+ghost use Rattle.std.specs.Prelude.{◌≤◌};
+
+use crate::heaps::unlimited;
+use crate::signs::{Named, digit_of, event_of, kind_of, policy_by, put_notes, rules_of};
 use rx_heap::Heap;
 use rx_history::{History, LineError};
-use rx_note::{Note, Rules, Strategy};
+use rx_note::{Errors, Note, Policy, Rules, Strategy};
 use std::test::Fail;
 
-fn history_of(heap: &Heap, strategy: Strategy, first: u32, script: &[u8]) -> Result<History, Fail> {
-    let policy = policy_of(strategy)?;
+fn history_of(heap: &Heap, policy: Policy, first: u32, script: &[u8]) -> Result<History, Fail> {
     let mut history = History::new(heap.clone()?);
     for sign in script {
         history.add(0, event_of(heap, policy, first, *sign)?)?;
@@ -33,19 +35,25 @@ fn put_observer(
     history: &History,
     rules: &Rules,
     who: u32,
-) -> Result<(), Fail> {
+) -> Result<(), Fail>
+    requires { rules.now.limits.observers ≤ 64 }
+{
     put(told, &history.line(rules, who))?;
     put(told, &history.given(rules, who))?;
     put(told, &history.waiting(rules, who))
 }
 
-fn put_history(told: &mut Vec<u8, Heap>, history: &History, rules: &Rules) -> Result<(), Fail> {
+fn put_history(told: &mut Vec<u8, Heap>, history: &History, rules: &Rules) -> Result<(), Fail>
+    requires { rules.now.limits.observers ≤ 64 }
+{
     told.push(digit_of(history.len()))?;
     put_observer(told, history, rules, 0)?;
     put_observer(told, history, rules, 1)
 }
 
-fn told_by(heap: &Heap, history: &History, rules: &Rules) -> Result<Vec<u8, Heap>, Fail> {
+fn told_by(heap: &Heap, history: &History, rules: &Rules) -> Result<Vec<u8, Heap>, Fail>
+    requires { rules.now.limits.observers ≤ 64 }
+{
     let mut told = Vec::new(heap.clone()?);
     put_history(&mut told, history, rules)?;
     Ok(told)
@@ -54,30 +62,32 @@ fn told_by(heap: &Heap, history: &History, rules: &Rules) -> Result<Vec<u8, Heap
 fn told_of(
     heap: &Heap,
     named: Named,
-    strategy: Strategy,
+    policy: Policy,
     first: u32,
     script: &[u8],
 ) -> Result<Vec<u8, Heap>, Fail> {
     let rules = rules_of(kind_of(heap, named)?);
-    let history = history_of(heap, strategy, first, script)?;
+    let history = history_of(heap, policy, first, script)?;
     told_by(heap, &history, &rules)
 }
 
-// A row: its name, the kind, the strategy and the first request of the joins, the script, and what is told.
+// A row: its name, the kind, the strategy, the error mode and the first request of the joins, the script, and what is told.
 type Row = (
     &'static str,
     Named,
     Strategy,
+    Errors,
     u32,
     &'static str,
     &'static str,
 );
 
-const ROWS: [Row; 7] = [
+const ROWS: [Row; 12] = [
     (
         "line_of_a_waiting_end",
         Named::Publish,
         Strategy::Buffer,
+        Errors::Delay,
         1,
         "+ab.",
         "4 ab. a b. N N N",
@@ -86,6 +96,7 @@ const ROWS: [Row; 7] = [
         "audit_of_latest",
         Named::Publish,
         Strategy::Latest(2),
+        Errors::Delay,
         1,
         "+abcd",
         "5 acd a cd N N N",
@@ -94,6 +105,7 @@ const ROWS: [Row; 7] = [
         "drop_two",
         Named::Publish,
         Strategy::Drop(2),
+        Errors::Delay,
         0,
         "+abcde",
         "6 ab  ab N N N",
@@ -102,6 +114,7 @@ const ROWS: [Row; 7] = [
         "drop_two",
         Named::Publish,
         Strategy::Drop(2),
+        Errors::Delay,
         0,
         "+abcde9",
         "7 ab ab  N N N",
@@ -110,6 +123,7 @@ const ROWS: [Row; 7] = [
         "drop_zero_honours_demand",
         Named::Publish,
         Strategy::Drop(0),
+        Errors::Delay,
         0,
         "+a1b",
         "4 b b  N N N",
@@ -118,6 +132,7 @@ const ROWS: [Row; 7] = [
         "replay_count_into_drop",
         Named::Replay(Some(2), None),
         Strategy::Drop(1),
+        Errors::Delay,
         0,
         "abc+2",
         "5 b b  N N N",
@@ -126,16 +141,63 @@ const ROWS: [Row; 7] = [
         "async_after_completion",
         Named::Async,
         Strategy::Buffer,
+        Errors::Delay,
         0,
         "+ab.+1",
         "6 b. b.  b.  b.",
+    ),
+    (
+        "error_ahead",
+        Named::Publish,
+        Strategy::Buffer,
+        Errors::Ahead,
+        1,
+        "+abc!3",
+        "6 a! a!  N N N",
+    ),
+    (
+        "completion_waits_by_ahead",
+        Named::Publish,
+        Strategy::Buffer,
+        Errors::Ahead,
+        1,
+        "+abc.",
+        "5 abc. a bc. N N N",
+    ),
+    (
+        "replay_of_a_failed_subject",
+        Named::Replay(None, None),
+        Strategy::Buffer,
+        Errors::Ahead,
+        0,
+        "a!+",
+        "3 ! !  N N N",
+    ),
+    (
+        "line_of_one_that_left",
+        Named::Publish,
+        Strategy::Buffer,
+        Errors::Delay,
+        1,
+        "+ab-c.+2",
+        "8 a a  . . ",
+    ),
+    (
+        "left_with_the_end_waiting",
+        Named::Publish,
+        Strategy::Latest(1),
+        Errors::Delay,
+        1,
+        "+abc.-",
+        "6 a a  N N N",
     ),
 ];
 
 #[test]
 fn histories_of_one_observer(rt: HostRuntime) -> Result<(), Fail> {
-    for (name, named, strategy, first, script, wanted) in &ROWS {
-        let told = told_of(&rt.alloc(), *named, *strategy, *first, script.as_bytes())?;
+    for (name, named, strategy, errors, first, script, wanted) in &ROWS {
+        let policy = policy_by(*strategy, *errors)?;
+        let told = told_of(&unlimited(&rt), *named, policy, *first, script.as_bytes())?;
         assert_eq!(rt; told.as_slice(), wanted.as_bytes(), "{name}");
     }
     Ok(())

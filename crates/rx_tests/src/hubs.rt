@@ -4,7 +4,10 @@
 //! Answers are `A` for an emission that was admitted, `J` with the number of the observer that joined, `R` for a request
 //! that was taken and `L` for an observer that left; a refusal is `!`.
 
+ghost use Rattle.std.specs.Prelude.{◌≤◌, IfOk};
+
 use crate::drawing::drawn;
+use crate::heaps::unlimited;
 use crate::signs::{Named, SEED_PORT, digit_of, event_of, kind_of, policy_of, rules_of, sign_of};
 use rx_heap::Heap;
 use rx_history::History;
@@ -82,7 +85,7 @@ fn new_run_of(heap: &Heap, rules: Rules, events: Vec<(u32, Event), Heap>) -> Res
 
 #[test]
 fn run_of_the_first_rows_events(rt: HostRuntime) -> Result<(), Fail> {
-    let heap = rt.alloc();
+    let heap = unlimited(&rt);
     let events = events_of(&heap, Strategy::Buffer, 0, b"+ab1.5")?;
     let run = new_run_of(&heap, rules_of(Kind::Publish), events)?;
     let wanted = "J0:0 A:0 A:0 R:1 A:1 R:3 0a0b0.";
@@ -93,7 +96,9 @@ fn run_of_the_first_rows_events(rt: HostRuntime) -> Result<(), Fail> {
 const OBSERVERS: u32 = 32;
 
 // The rules of a drawn run.
-fn drawn_rules(heap: &Heap, named: Named) -> Result<Rules, Fail> {
+fn drawn_rules(heap: &Heap, named: Named) -> Result<Rules, Fail>
+    ensures { IfOk result (λ rules. rules.limits.observers ≤ 64) }
+{
     let kind = kind_of(heap, named)?;
     let limits = Limits {
         observers: OBSERVERS,
@@ -102,13 +107,14 @@ fn drawn_rules(heap: &Heap, named: Named) -> Result<Rules, Fail> {
     Ok(Rules { kind, limits })
 }
 
-/// A run of the drawn events, the hub behind it, and the history of the same events.
+/// A run of some events, the hub behind it, and the history of the same events, with the rules that it is read by.
 #[derive(Drop)]
-struct Drawn {
-    rules: Rules,
-    run: Run,
-    hub: Hub,
-    history: History,
+pub(crate) struct Ran {
+    pub(crate) rules: Rules,
+    pub(crate) run: Run,
+    pub(crate) hub: Hub,
+    pub(crate) history: History,
+    pub(crate) ghost limited: { rules.limits.observers ≤ 64 },
 }
 
 fn history_of(heap: &Heap, buffers: bool) -> Result<History, Fail> {
@@ -119,12 +125,12 @@ fn history_of(heap: &Heap, buffers: bool) -> Result<History, Fail> {
     Ok(history)
 }
 
-fn run_drawn(heap: &Heap, named: Named) -> Result<Drawn, Fail> {
+fn run_drawn(heap: &Heap, named: Named) -> Result<Ran, Fail> {
     let rules = drawn_rules(heap, named)?;
     let history = history_of(heap, false)?;
     let mut hub = hub_of(heap, drawn_rules(heap, named)?)?;
     let run = run_of(heap, &mut hub, drawn(heap, false)?)?;
-    Ok(Drawn {
+    Ok(Ran {
         rules,
         run,
         hub,
@@ -143,6 +149,17 @@ fn joined(steps: &[Step]) -> Option<u32> {
         }
     }
     Some(joined)
+}
+
+// How many observers left.
+fn left(steps: &[Step]) -> u32 {
+    let mut left: u32 = 0;
+    for step in steps {
+        if step.result == Ok(Answer::Left) {
+            left = left.saturating_add(1);
+        }
+    }
+    left
 }
 
 // How many events were refused, where none was for want of memory.
@@ -247,7 +264,9 @@ fn given_by_history(
     history: &History,
     rules: &Rules,
     who: u32,
-) -> Result<Vec<u8, Heap>, Fail> {
+) -> Result<Vec<u8, Heap>, Fail>
+    requires { rules.now.limits.observers ≤ 64 }
+{
     let mut told = Vec::new(heap.clone()?);
     let given = history.given(rules, who)?;
     for note in given.as_slice() {
@@ -256,7 +275,7 @@ fn given_by_history(
     Ok(told)
 }
 
-impl Drawn {
+impl Ran {
     // Whether an observer was given what the history says.
     fn gave(&self, heap: &Heap, who: u32) -> Result<bool, Fail> {
         let by_run = given_by_run(heap, self.run.outs.as_slice(), who)?;
@@ -267,12 +286,15 @@ impl Drawn {
     // Whether as many notes wait for an observer as the history says.
     fn holds(&self, who: u32) -> Result<bool, Fail> {
         let waiting = self.history.waiting(&self.rules, who)?;
-        Ok(self.hub.waiting_of(who) == Ok(waiting.len()))
+        match self.hub.waiting_of(who) {
+            Ok(count) => Ok(count == waiting.len()),
+            Err(NoObserver) => Ok(waiting.is_empty()),
+        }
     }
 
     // The first observer for whom the run and the history differ.
-    fn differs(&self, heap: &Heap) -> Result<Option<u32>, Fail> {
-        for who in 0..self.hub.observers() {
+    pub(crate) fn differs(&self, heap: &Heap) -> Result<Option<u32>, Fail> {
+        for who in 0..joined(self.run.steps.as_slice()).unwrap_or(0) {
             if !self.gave(heap, who)? || !self.holds(who)? {
                 return Ok(Some(who));
             }
@@ -288,12 +310,13 @@ impl Drawn {
             answers: steps.len(),
             outs: outs.len(),
             joined: joined(steps),
+            left: left(steps),
             refused: refused(steps),
             joined_after_end: joined_after_end(steps),
             opened_with_items: opened_with_items(steps, outs),
             seeds: seeds(outs),
             observers,
-            past_them: self.hub.waiting_of(observers),
+            past_them: self.hub.waiting_of(joined(steps).unwrap_or(0)),
             differs: self.differs(heap)?,
         })
     }
@@ -306,6 +329,7 @@ struct Shown {
     answers: usize,
     outs: usize,
     joined: Option<u32>,
+    left: u32,
     refused: Option<u32>,
     joined_after_end: u32,
     opened_with_items: u32,
@@ -327,8 +351,10 @@ fn fault_of(shown: &Shown, fewest_outs: usize, opens: bool, seeds: bool) -> &'st
         "answers"
     } else if shown.outs < fewest_outs {
         "notes given"
-    } else if shown.joined != Some(shown.observers) || shown.observers < 10 {
+    } else if shown.joined != Some(shown.observers.saturating_add(shown.left)) {
         "observers"
+    } else if shown.observers < 10 || shown.left < 3 {
+        "observers held and left"
     } else if shown.refused < Some(10) {
         "refusals"
     } else if shown.joined_after_end == 0 {
@@ -360,7 +386,7 @@ const DRAWN_KINDS: [(Named, usize, bool, bool); 8] = [
 #[test]
 fn a_run_gives_what_the_history_says(rt: HostRuntime) -> Result<(), Fail> {
     for (named, fewest_outs, opens, seeds) in &DRAWN_KINDS {
-        let shown = shown_of(&rt.alloc(), *named)?;
+        let shown = shown_of(&unlimited(&rt), *named)?;
         let fault = fault_of(&shown, *fewest_outs, *opens, *seeds);
         assert_eq!(rt; fault, "", "{named:?}");
         assert_eq!(rt; shown.differs, None, "{named:?}");
@@ -373,6 +399,7 @@ fn a_run_gives_what_the_history_says(rt: HostRuntime) -> Result<(), Fail> {
 struct Reading {
     history: History,
     rules: Rules,
+    ghost limited: { rules.limits.observers ≤ 64 },
 }
 
 fn reading_of(heap: &Heap, named: Named, buffers: bool) -> Result<Reading, Fail> {
@@ -448,7 +475,7 @@ fn shorter(heap: &Heap, pair: &Pair) -> Result<u32, Fail> {
 #[test]
 fn lines_of_the_drawn_events_are_shorter(rt: HostRuntime) -> Result<(), Fail> {
     for pair in &PAIRS {
-        let fewer = shorter(&rt.alloc(), pair)?;
+        let fewer = shorter(&unlimited(&rt), pair)?;
         assert!(rt; fewer >= pair.3, "{:?} and {:?}", pair.0, pair.2);
     }
     Ok(())

@@ -1,5 +1,6 @@
 //! Tests of the libraries by their public calls: worked runs, told as tables of scripts, drawn runs of a hub held against
-//! the stored history of the same events, the line protocol, sessions over memory, and boxes between threads.
+//! the stored history of the same events, runs with each growth refused in its turn, the line protocol, sessions over memory,
+//! and boxes and budgets between threads.
 //!
 //! There is no code here but tests, and nothing stands on it. It stands above all that it tests, so that none of those
 //! crates is proved a second time for tests of its own.
@@ -8,17 +9,25 @@
 #[cfg(test)]
 mod boxes;
 #[cfg(test)]
+mod budgets;
+#[cfg(test)]
 mod drawing;
+#[cfg(test)]
+mod heaps;
 #[cfg(test)]
 mod histories;
 #[cfg(test)]
 mod hubs;
+#[cfg(test)]
+mod in_turn;
 #[cfg(test)]
 mod lanes;
 #[cfg(test)]
 mod marbles;
 #[cfg(test)]
 mod protocol;
+#[cfg(test)]
+mod refusals;
 #[cfg(test)]
 mod sessions;
 #[cfg(test)]

@@ -5,6 +5,7 @@
 //! line what it is given, in brackets where several notes come at once. `|` is the completion, `#` an error, a capital
 //! letter a seed.
 
+use crate::heaps::unlimited;
 use crate::signs::{Named, digit_of, event_of, kind_of, rules_of, sign_of};
 use rx_heap::Heap;
 use rx_hub::{Hub, Run};
@@ -376,7 +377,7 @@ const PICTURES: [Picture; 10] = [
 #[test]
 fn runs_are_drawn(rt: HostRuntime) -> Result<(), Fail> {
     for picture in &PICTURES {
-        assert!(rt; are_drawn(&rt.alloc(), picture)?, "{}", picture.name);
+        assert!(rt; are_drawn(&unlimited(&rt), picture)?, "{}", picture.name);
     }
     Ok(())
 }

@@ -3,6 +3,7 @@
 //! The signs: P, E, F, S and Q for PUB, END, FAIL, SUB and QUIT, A for AT, J for JOIN, R for REQUEST, D for DISPOSE; `l`
 //! for a line that is too long, `-` for no line, and `m` for want of memory.
 
+use crate::heaps::unlimited;
 use rx_heap::Heap;
 use rx_note::{Item, Note, Strategy, Text};
 use rx_proto::{
@@ -49,7 +50,7 @@ fn sign_in_script(heap: &Heap, line: &[u8]) -> u8 {
 
 #[test]
 fn lines_are_read_in_their_place(rt: HostRuntime) {
-    let heap = rt.alloc();
+    let heap = unlimited(&rt);
     for (line, in_session, in_script) in [
         ("PUB s a", b'P', b'P'),
         ("PUB s-1 a b ", b'P', b'P'),
@@ -108,7 +109,7 @@ fn filled(heap: &Heap, front: &[u8], len: usize) -> Result<Vec<u8, Heap>, Fail> 
 
 #[test]
 fn text_limits_on_the_line(rt: HostRuntime) -> Result<(), Fail> {
-    let heap = rt.alloc();
+    let heap = unlimited(&rt);
     for (front, len, sign) in [
         ("PUB s ", 1024, b'P'),
         ("PUB s ", 1025, b'l'),
@@ -137,7 +138,7 @@ fn text_limits_on_the_line(rt: HostRuntime) -> Result<(), Fail> {
 
 #[test]
 fn a_pub_has_its_name_and_text(rt: HostRuntime) -> Result<(), Fail> {
-    match &parse_line(&rt.alloc(), b"PUB s-1 a b ")? {
+    match &parse_line(&unlimited(&rt), b"PUB s-1 a b ")? {
         Command::Pub { name, text } => {
             assert_eq!(rt; name.as_bytes(), b"s-1".as_slice());
             assert_eq!(rt; text.as_bytes(), b"a b ".as_slice());
@@ -164,7 +165,7 @@ fn written(heap: &Heap, response: Response) -> Result<Vec<u8, Heap>, Fail> {
 
 #[test]
 fn responses_are_printed(rt: HostRuntime) -> Result<(), Fail> {
-    let heap = rt.alloc();
+    let heap = unlimited(&rt);
     for (response, line) in [
         (Response::Done, "OK\n"),
         (Response::Joined(0), "OK 0\n"),
@@ -188,18 +189,18 @@ fn responses_are_printed(rt: HostRuntime) -> Result<(), Fail> {
 
 #[test]
 fn notes_are_printed(rt: HostRuntime) -> Result<(), Fail> {
-    let mut writer = Vec::new(rt.alloc());
-    let text = Text::new(rt.alloc(), b"a b")?;
+    let mut writer = Vec::new(unlimited(&rt));
+    let text = Text::new(unlimited(&rt), b"a b")?;
     write_note(&mut writer, &Note::Next(Item { from: 7, text }))?;
     write_note(&mut writer, &Note::Completed)?;
-    write_note(&mut writer, &Note::Failed(Text::new(rt.alloc(), b"x")?))?;
+    write_note(&mut writer, &Note::Failed(Text::new(unlimited(&rt), b"x")?))?;
     assert_eq!(rt; writer.as_slice(), b"NEXT a b\nDONE\nFAILED x\n".as_slice());
     Ok(())
 }
 
 #[test]
 fn a_request_has_its_numbers(rt: HostRuntime) -> Result<(), Fail> {
-    let line = parse_script(&rt.alloc(), b"REQUEST s 00007 4294967295")?;
+    let line = parse_script(&unlimited(&rt), b"REQUEST s 00007 4294967295")?;
     match &line {
         ScriptLine::Request { name, who, n } => {
             assert_eq!(rt; name.as_bytes(), b"s".as_slice());
@@ -234,11 +235,11 @@ fn strategies_are_read_or_refused(rt: HostRuntime) -> Result<(), Fail> {
         ("DROP:2:3", refused),
         ("BUFFER:1", refused),
     ] {
-        let mut line = Vec::new(rt.alloc());
+        let mut line = Vec::new(unlimited(&rt));
         line.extend_from_slice(b"JOIN s ")?;
         line.extend_from_slice(word.as_bytes())?;
         line.extend_from_slice(b" DELAY 0")?;
-        match &parse_script(&rt.alloc(), line.as_slice()) {
+        match &parse_script(&unlimited(&rt), line.as_slice()) {
             Ok(ScriptLine::Join { policy, .. }) => {
                 assert_eq!(rt; Ok(policy.strategy()), strategy, "{word}");
             }

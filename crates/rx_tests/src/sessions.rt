@@ -5,6 +5,7 @@
 //! one of the writer, T for too many reads), then what was written, and behind `|` what the desk was asked: `n`, `c` and `f`
 //! for an item, completion and an error, and `s` for a Join.
 
+use crate::heaps::unlimited;
 use rx_heap::Heap;
 use rx_note::{Note, Policy};
 use rx_proto::{Name, Response, Word};
@@ -166,7 +167,7 @@ fn told_of(
 
 #[test]
 fn session_over_memory(rt: HostRuntime) -> Result<(), Fail> {
-    let heap = rt.alloc();
+    let heap = unlimited(&rt);
     for (input, step, takes, max_reads, told) in [
         (
             "PUB s a\nNOPE\nQUIT\nPUB s b\n",
@@ -204,7 +205,7 @@ fn session_over_memory(rt: HostRuntime) -> Result<(), Fail> {
 // A read that was interrupted is made again, and counts; no other that failed is.
 #[test]
 fn reads_that_fail(rt: HostRuntime) -> Result<(), Fail> {
-    let heap = rt.alloc();
+    let heap = unlimited(&rt);
     for (interrupted, fails_at, kind, max_reads, told, reads) in [
         (2, 0, ErrorKind::Other, 3, "QOK\n|", 3),
         (2, 0, ErrorKind::Other, 2, "T|", 2),
@@ -227,7 +228,7 @@ const LINES: &[u8] = b"END s\nEND s\nQUIT\n";
 
 #[test]
 fn writer_fails_at_each_byte(rt: HostRuntime) -> Result<(), Fail> {
-    let heap = rt.alloc();
+    let heap = unlimited(&rt);
     for (room, told) in [
         (0, "W|c"),
         (1, "WO|c"),
@@ -247,7 +248,7 @@ fn writer_fails_at_each_byte(rt: HostRuntime) -> Result<(), Fail> {
 // All is flushed before each read and at the end, and a flush that fails ends the session.
 #[test]
 fn flushes_are_made(rt: HostRuntime) -> Result<(), Fail> {
-    let heap = rt.alloc();
+    let heap = unlimited(&rt);
     for (fails_at, told) in [
         (0, "QOK\nOK\nOK\n|cc"),
         (1, "W|"),

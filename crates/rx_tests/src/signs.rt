@@ -1,6 +1,8 @@
 //! The signs of which scripts and what is told of them are made: a letter is the item of port 0 with this text, a capital
 //! letter a seed whose text is the small one, `.` the completion, `!` the failure `x`, a digit a number.
 
+ghost use Rattle.std.specs.Prelude.{◌≤◌};
+
 use rx_heap::Heap;
 use rx_note::{Errors, Event, Item, Kind, Limits, Note, Policy, Rules, Strategy, Text};
 use std::test::Fail;
@@ -13,7 +15,12 @@ pub(crate) fn item(heap: &Heap, text: &[u8]) -> Result<Item, Fail> {
 
 /// The policy of a strategy, with errors behind the items.
 pub(crate) fn policy_of(strategy: Strategy) -> Result<Policy, Fail> {
-    Ok(Policy::new(strategy, Errors::Delay)?)
+    policy_by(strategy, Errors::Delay)
+}
+
+/// The policy of a strategy and an error mode.
+pub(crate) fn policy_by(strategy: Strategy, errors: Errors) -> Result<Policy, Fail> {
+    Ok(Policy::new(strategy, errors)?)
 }
 
 /// The port of a seed, which came by none.
@@ -44,7 +51,9 @@ pub(crate) fn kind_of(heap: &Heap, named: Named) -> Result<Kind, Fail> {
 }
 
 /// The rules of a kind, with the widest limits.
-pub(crate) fn rules_of(kind: Kind) -> Rules {
+pub(crate) fn rules_of(kind: Kind) -> Rules
+    ensures { result.limits.observers ≤ 64 }
+{
     let limits = Limits {
         observers: 64,
         joins: 4_294_967_295,
@@ -64,24 +73,29 @@ pub(crate) fn note_of(heap: &Heap, sign: u8) -> Result<Note, Fail> {
 /// The event of a sign: `+` joins an observer by this policy with a first request, a digit requests so many items for
 /// observer 0, `-` has it leave, any other emits its note.
 pub(crate) fn event_of(heap: &Heap, policy: Policy, first: u32, sign: u8) -> Result<Event, Fail> {
+    event_at(heap, policy, first, 0, sign)
+}
+
+/// The event of a sign at a moment, in milliseconds.
+pub(crate) fn event_at(
+    heap: &Heap,
+    policy: Policy,
+    first: u32,
+    at: u64,
+    sign: u8,
+) -> Result<Event, Fail> {
     match sign {
-        b'+' => Ok(Event::Join {
-            policy,
-            first,
-            at: 0,
-        }),
+        b'+' => Ok(Event::Join { policy, first, at }),
         b'0'..=b'9' => Ok(Event::Request {
             who: 0,
             n: u32::from(sign - b'0'),
         }),
         b'-' => Ok(Event::Dispose { who: 0 }),
-        other => Ok(emit(note_of(heap, other)?)),
+        other => Ok(Event::Emit {
+            note: note_of(heap, other)?,
+            at,
+        }),
     }
-}
-
-/// A note is emitted.
-pub(crate) fn emit(note: Note) -> Event {
-    Event::Emit { note, at: 0 }
 }
 
 /// The sign of an item; `?` where it has none.

@@ -6,9 +6,11 @@
 //! opening; of the state the stamp, and `!` where the subject has ended, else `-`. Of a kind that is out of its limits
 //! nothing is told but `C` for its count, `A` for its age.
 
+use crate::heaps::unlimited;
+use crate::in_turn::{Refusable, Seen, refuse_in_turn};
 use crate::signs::{Named, digit_of, kind_of, note_of, sign_of, sign_of_item};
 use rx_heap::Heap;
-use rx_note::{Item, Kind, KindError, Note};
+use rx_note::{Item, KindError, Note};
 use rx_subject::{AdmitError, Offer, Opening, Subject};
 use std::test::Fail;
 
@@ -44,14 +46,15 @@ fn put_opening(told: &mut Vec<u8, Heap>, opening: &Opening) -> Result<(), Fail> 
     put_end(told, &opening.end)
 }
 
-/// A subject that is tried, the moment of the next call, in milliseconds, whether the next note is only previewed, and
-/// what is told.
+/// A subject that is tried, the moment of the next call, in milliseconds, whether the next note is only previewed, what is
+/// told, and how many calls were refused for want of memory and then made again.
 #[derive(Drop)]
 struct Tried {
     subject: Subject,
     moment: u64,
     previews: bool,
     told: Vec<u8, Heap>,
+    misses: u64,
 }
 
 impl Tried {
@@ -67,20 +70,39 @@ impl Tried {
         Ok(self.told.push(b' ')?)
     }
 
-    fn admit(&mut self, note: Note) -> Result<(), Fail> {
-        let offered = self.subject.admit(0, note, self.moment);
+    fn count_miss(&mut self) {
+        self.misses = self.misses.saturating_add(1);
+    }
+
+    fn admit(&mut self, heap: &Heap, sign: u8) -> Result<(), Fail> {
+        let mut offered = self.subject.admit(0, note_of(heap, sign)?, self.moment);
+        if is_memory(&offered) {
+            self.count_miss();
+            offered = self.subject.admit(0, note_of(heap, sign)?, self.moment);
+        }
         put_offered(&mut self.told, &offered)
     }
 
     fn preview(&mut self, note: &Note) -> Result<(), Fail> {
         self.previews = false;
-        let offered = self.subject.preview(0, note);
+        let mut offered = self.subject.preview(0, note);
+        if is_memory(&offered) {
+            self.count_miss();
+            offered = self.subject.preview(0, note);
+        }
         put_offered(&mut self.told, &offered)
     }
 
     fn open(&mut self) -> Result<(), Fail> {
-        let opening = self.subject.opening(self.moment)?;
-        put_opening(&mut self.told, &opening)
+        let mut opened = self.subject.opening(self.moment);
+        if opened.is_err() {
+            self.count_miss();
+            opened = self.subject.opening(self.moment);
+        }
+        match &opened {
+            Ok(opening) => put_opening(&mut self.told, opening),
+            Err(_) => Ok(self.told.push(b'M')?),
+        }
     }
 
     fn put_state(&mut self) -> Result<(), Fail> {
@@ -90,11 +112,11 @@ impl Tried {
         Ok(())
     }
 
-    fn take(&mut self, note: Note) -> Result<(), Fail> {
+    fn take(&mut self, heap: &Heap, sign: u8) -> Result<(), Fail> {
         if self.previews {
-            self.preview(&note)
+            self.preview(&note_of(heap, sign)?)
         } else {
-            self.admit(note)
+            self.admit(heap, sign)
         }
     }
 
@@ -106,37 +128,85 @@ impl Tried {
             b'?' => self.open()?,
             b'+' => self.subject.joined(self.moment),
             b'=' => self.put_state()?,
-            other => self.take(note_of(heap, other)?)?,
+            other => self.take(heap, other)?,
         }
         Ok(())
     }
 }
 
-fn start(heap: &Heap, kind: Kind) -> Result<Tried, Fail> {
-    let told = Vec::new(heap.clone()?);
-    let subject = Subject::new(heap.clone()?, kind)?;
+fn is_memory(offered: &Result<Offer, AdmitError>) -> bool {
+    matches!(offered, Err(AdmitError::Memory))
+}
+
+fn start(free: &Heap, tight: &Heap, named: Named) -> Result<Tried, Fail> {
+    let mut misses = 0;
+    let subject = match Subject::new(tight.clone()?, kind_of(free, named)?) {
+        Ok(subject) => subject,
+        Err(_) => {
+            misses = 1;
+            Subject::new(tight.clone()?, kind_of(free, named)?)?
+        }
+    };
     Ok(Tried {
         subject,
         moment: 0,
         previews: false,
-        told,
+        told: Vec::new(free.clone()?),
+        misses,
     })
 }
 
-fn run(heap: &Heap, kind: Kind, script: &[u8]) -> Result<Vec<u8, Heap>, Fail> {
-    let mut tried = start(heap, kind)?;
-    for sign in script {
-        tried.step(heap, *sign)?;
-    }
-    Ok(tried.told)
+/// A script for a subject of a kind, and what is told of it.
+#[derive(Clone, Copy)]
+struct Row {
+    named: Named,
+    script: &'static str,
+    told: &'static str,
 }
 
-fn told_of(heap: &Heap, named: Named, script: &[u8]) -> Result<Vec<u8, Heap>, Fail> {
-    let kind = kind_of(heap, named)?;
-    match kind.check() {
-        Ok(()) => run(heap, kind, script),
-        Err(KindError::BadCount) => Ok(vec![in heap.clone()?; b'C']?),
-        Err(KindError::BadAge) => Ok(vec![in heap.clone()?; b'A']?),
+/// What is told, and how many calls were refused for want of memory.
+#[derive(Drop)]
+struct Told {
+    told: Vec<u8, Heap>,
+    misses: u64,
+}
+
+fn told_alone(heap: &Heap, sign: u8) -> Result<Told, Fail> {
+    let told = vec![in heap.clone()?; sign]?;
+    Ok(Told { told, misses: 0 })
+}
+
+impl Row {
+    fn run(&self, free: &Heap, tight: &Heap) -> Result<Told, Fail> {
+        let mut tried = start(free, tight, self.named)?;
+        for sign in self.script.as_bytes() {
+            tried.step(free, *sign)?;
+        }
+        Ok(Told {
+            told: tried.told,
+            misses: tried.misses,
+        })
+    }
+
+    // Tries a subject that grows by `tight`, while all else is made by `free`.
+    fn told_by(&self, free: &Heap, tight: &Heap) -> Result<Told, Fail> {
+        let kind = kind_of(free, self.named)?;
+        match kind.check() {
+            Ok(()) => self.run(free, tight),
+            Err(KindError::BadCount) => told_alone(free, b'C'),
+            Err(KindError::BadAge) => told_alone(free, b'A'),
+        }
+    }
+}
+
+impl Refusable for Row {
+    fn run_by(&self, free: &Heap, tight: &Heap) -> Result<Seen, Fail> {
+        let told = self.told_by(free, tight)?;
+        Ok(Seen {
+            is_made: true,
+            misses: told.misses,
+            is_right: told.told.as_slice() == self.told.as_bytes(),
+        })
     }
 }
 
@@ -198,11 +268,22 @@ const ROWS: [(Named, &str, &str); 23] = [
 #[test]
 fn subject_call_by_call(rt: HostRuntime) -> Result<(), Fail> {
     for (named, script, wanted) in &ROWS {
-        let told = told_of(&rt.alloc(), *named, script.as_bytes())?;
+        let row = Row {
+            named: *named,
+            script,
+            told: wanted,
+        };
+        let heap = unlimited(&rt);
+        let told = row.told_by(&heap, &heap)?;
         assert_eq!(rt;
-            told.as_slice(),
+            told.told.as_slice(),
             wanted.as_bytes(),
             "{named:?} {script}, wanted {wanted}"
+        );
+        assert_eq!(rt;
+            refuse_in_turn(&row, rt.alloc())?.fault,
+            "",
+            "{named:?} {script}"
         );
     }
     Ok(())

@@ -19,6 +19,7 @@ mod told;
 mod topic;
 
 use config::Config;
+use rx_heap::{Heap, Memory};
 use rx_session::SessionEnd;
 use script::run_script;
 use std::env;
@@ -34,12 +35,13 @@ fn main(rt: HostRuntime) -> ExitCode {
         let _ = eprintln!(rt; "usage: rxline < SCRIPT");
         return ExitCode::from(2);
     }
-    let Ok(config) = Config::standard(rt.alloc()) else {
+    let heap = Heap::unlimited(rt.alloc());
+    let Ok(config) = configure(&heap) else {
         return fault(&rt, "out of memory");
     };
     let mut reader = rt.stdin();
     let mut writer = rt.stdout();
-    match run_script(rt.alloc(), config, &mut reader, &mut writer, MAX_READS) {
+    match run_script(heap, config, &mut reader, &mut writer, MAX_READS) {
         Ok(SessionEnd::Quit) | Ok(SessionEnd::EndOfInput) => ExitCode::SUCCESS,
         Ok(SessionEnd::HandedOver) => unreachable!(),
         Ok(SessionEnd::ReadFault) => fault(&rt, "read fault"),
@@ -55,6 +57,10 @@ fn has_no_words(rt: &HostRuntime) -> bool {
         Ok(words) => words.count() <= 1,
         Err(_) => false,
     }
+}
+
+fn configure(heap: &Heap) -> Result<Config, Memory> {
+    Config::standard(heap.clone()?)
 }
 
 // Tells a fault on standard error.

@@ -3,3 +3,10 @@
 mod audits;
 mod kinds;
 mod rows;
+
+use rx_heap::Heap;
+
+// The memory of a test: the runtime's, without a limit.
+fn unlimited(rt: &HostRuntime) -> Heap {
+    Heap::unlimited(rt.alloc())
+}

@@ -1,6 +1,7 @@
 use crate::audit::run_audit;
 use crate::config::Config;
 use crate::subject_config::SubjectConfig;
+use crate::tests::unlimited;
 use rx_note::{Kind, Limits, Rules};
 use rx_proto::Name;
 use rx_session::SessionEnd;
@@ -20,8 +21,9 @@ fn audit<R: Read, W: Write>(
     writer: &mut W,
     max_reads: u64,
 ) -> Result<SessionEnd, Fail> {
-    let config = Config::standard(rt.alloc())?;
-    Ok(run_audit(rt.alloc(), config, reader, writer, max_reads)?)
+    let heap = unlimited(rt);
+    let config = Config::standard(heap.clone()?)?;
+    Ok(run_audit(heap, config, reader, writer, max_reads)?)
 }
 
 #[test]
@@ -75,7 +77,8 @@ fn audits_of_whole_inputs(rt: HostRuntime) -> Result<(), Fail> {
 
 #[test]
 fn subjects_in_the_order_of_the_configuration(rt: HostRuntime) -> Result<(), Fail> {
-    let mut config = Config::standard(rt.alloc())?;
+    let heap = unlimited(&rt);
+    let mut config = Config::standard(heap.clone()?)?;
     let Some(name) = Name::new(b"a") else {
         unreachable!()
     };
@@ -90,7 +93,7 @@ fn subjects_in_the_order_of_the_configuration(rt: HostRuntime) -> Result<(), Fai
     let mut reader =
         b"JOIN a BUFFER DELAY 1\nJOIN s BUFFER DELAY 0\nJOIN a BUFFER DELAY 2\nPUB a x\nPUB s y\n".as_slice();
     let mut written = Vec::new(rt.alloc());
-    run_audit(rt.alloc(), config, &mut reader, &mut written, MAX_READS)?;
+    run_audit(heap, config, &mut reader, &mut written, MAX_READS)?;
     let audit = b"OBSERVER s 0\nWAITING NEXT y\nOBSERVER a 0\nGIVEN NEXT x\n";
     assert_eq!(rt; written.as_slice(), audit.as_slice());
     Ok(())

@@ -6,6 +6,7 @@ ghost use Rattle.rx_hub.specs.Hubs.{are_in_range};
 
 use crate::config::Config;
 use crate::script::run_script;
+use crate::tests::unlimited;
 use rx_heap::Heap;
 use rx_note::{Kind, Limits, Rules, Text};
 use rx_session::SessionEnd;
@@ -180,7 +181,7 @@ const RUNS: [Run; 12] = [
 #[test]
 fn worked_runs_of_the_kinds_and_the_limits(rt: HostRuntime) -> Result<(), Fail> {
     for run in &RUNS {
-        let written = written_for(&rt.alloc(), run)?;
+        let written = written_for(&unlimited(&rt), run)?;
         assert_eq!(rt; written.as_slice(), run.answers, "{}", run.name);
     }
     Ok(())

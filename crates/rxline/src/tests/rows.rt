@@ -2,6 +2,7 @@
 
 use crate::config::Config;
 use crate::script::run_script;
+use crate::tests::unlimited;
 use rx_session::SessionEnd;
 use std::io::{self, ErrorKind, Read, Write};
 use std::test::Fail;
@@ -20,8 +21,9 @@ fn run<R: Read, W: Write>(
     writer: &mut W,
     max_reads: u64,
 ) -> Result<SessionEnd, Fail> {
-    let config = Config::standard(rt.alloc())?;
-    Ok(run_script(rt.alloc(), config, reader, writer, max_reads)?)
+    let heap = unlimited(rt);
+    let config = Config::standard(heap.clone()?)?;
+    Ok(run_script(heap, config, reader, writer, max_reads)?)
 }
 
 #[test]

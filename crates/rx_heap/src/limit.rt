@@ -1,0 +1,75 @@
+use crate::budget::Budget;
+use crate::refused::Memory;
+use std::alloc::Global;
+use std::marker::Model;
+use std::sync::Arc;
+
+/// What the clones of one handle have in common: nothing, or a budget.
+#[derive(Clone)]
+pub(crate) struct Limit {
+    budget: Option<Arc<Budget, Global>>,
+}
+
+// No clause can tell what a budget allows, so a proof sees one and the same value in every limit.
+impl Model for Limit {
+    ghost Value = { Unit {0} };
+
+    ghost view = { λ _. tt };
+}
+
+// Written out so that it is one call to those that let a handle go, and no case of theirs.
+impl Drop for Limit {
+    #[inline]
+    fn drop(self) {
+        let Self { budget: _ } = self;
+    }
+}
+
+impl Limit {
+    /// No limit. It allocates nothing.
+    pub(crate) fn none() -> Limit {
+        Limit { budget: None }
+    }
+
+    /// The limit of a budget, which is held in memory of `alloc`.
+    ///
+    /// # Errors
+    ///
+    /// `Memory`: there was none for the budget itself.
+    pub(crate) fn of(alloc: Global, budget: Budget) -> Result<Limit, Memory> {
+        let shared = Arc::new(alloc, budget)?;
+        Ok(Limit {
+            budget: Some(shared),
+        })
+    }
+
+    /// Whether a growth of `size` bytes is refused. Where it is not, the bytes are taken.
+    pub(crate) fn refuses(&self, size: usize) -> bool {
+        match &self.budget {
+            None => false,
+            Some(budget) => !budget.takes(size as u64),
+        }
+    }
+
+    /// Takes back the `size` bytes of a growth that was not refused.
+    pub(crate) fn regains(&self, size: usize) {
+        match &self.budget {
+            None => {}
+            Some(budget) => budget.regains(size as u64),
+        }
+    }
+
+    pub(crate) fn used(&self) -> u64 {
+        match &self.budget {
+            None => 0,
+            Some(budget) => budget.used(),
+        }
+    }
+
+    pub(crate) fn asked(&self) -> u64 {
+        match &self.budget {
+            None => 0,
+            Some(budget) => budget.asked(),
+        }
+    }
+}

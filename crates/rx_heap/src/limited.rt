@@ -1,0 +1,89 @@
+use crate::budget::Budget;
+use crate::limit::Limit;
+use crate::refused::Memory;
+use std::alloc::{AllocError, Allocator, Global};
+
+/// An allocator under a limit, which its clones share.
+///
+/// A block is charged to the handle that allocated it, with the bytes that were asked for, and its bytes come back when it is
+/// given back. So a text is charged to the heap that it was made over, whoever holds a copy of it. A collection that grows
+/// has its old block until it has the new one, so it needs the bytes of both for that moment.
+#[derive(Clone, Drop)]
+pub struct Limited<B: Allocator> {
+    inner: B,
+    limit: Limit,
+}
+
+impl Limited<Global> {
+    /// All memory of `alloc`: it refuses only what `alloc` does, and counts nothing. Making it takes no memory.
+    pub fn unlimited(alloc: Global) -> Limited<Global> {
+        Limited {
+            inner: alloc,
+            limit: Limit::none(),
+        }
+    }
+
+    /// No more than `bytes` bytes of `alloc` at a time, for all clones together and from any thread; at most 2^48.
+    ///
+    /// It errs on the safe side: two threads never get the same bytes, but one may be refused while a refusal of the other's
+    /// is under way.
+    ///
+    /// # Errors
+    ///
+    /// `Memory`: there was none for the count itself, which is not charged to the budget.
+    pub fn with_budget(alloc: Global, bytes: u64) -> Result<Limited<Global>, Memory> {
+        Limited::under(alloc, Budget::of_bytes(bytes))
+    }
+
+    /// All memory of `alloc`, but the growth of this number alone is refused: counted from 0, over all clones, whether it
+    /// allocates a block anew or resizes one. For tests of what a refusal leaves.
+    ///
+    /// # Errors
+    ///
+    /// `Memory`: there was none for the count itself.
+    pub fn refusing(alloc: Global, growth: u64) -> Result<Limited<Global>, Memory> {
+        Limited::under(alloc, Budget::refusing(growth))
+    }
+
+    fn under(alloc: Global, budget: Budget) -> Result<Limited<Global>, Memory> {
+        let limit = Limit::of(alloc, budget)?;
+        Ok(Limited {
+            inner: alloc,
+            limit,
+        })
+    }
+
+    /// The bytes that all clones hold together at this moment, refused growths that are under way counted in; 0 where there
+    /// is no limit.
+    pub fn used(&self) -> u64 {
+        self.limit.used()
+    }
+
+    /// The growths that all clones have asked for so far, refused ones counted in; 0 where there is no limit.
+    pub fn asked(&self) -> u64 {
+        self.limit.asked()
+    }
+}
+
+// `grow` and `shrink` are the trait's: a new block, a copy, and the old block given back.
+unsafe impl<B: Allocator> Allocator for Limited<B> {
+    ghost dealloc_token = { λ heap ty ptr. B.dealloc_token heap.inner ty ptr };
+
+    fn allocate(&self, size: usize, align: usize) -> Result<*mut u8, AllocError> {
+        if self.limit.refuses(size) {
+            return Err(AllocError);
+        }
+        match self.inner.allocate(size, align) {
+            Ok(block) => Ok(block),
+            Err(refused) => {
+                self.limit.regains(size);
+                Err(refused)
+            }
+        }
+    }
+
+    unsafe fn deallocate(&self, ptr: *mut u8, size: usize, align: usize) {
+        self.limit.regains(size);
+        self.inner.deallocate(ptr, size, align);
+    }
+}

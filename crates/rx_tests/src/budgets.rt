@@ -1,0 +1,90 @@
+//! A hub over a budget of bytes in use.
+
+use crate::heaps::unlimited;
+use crate::signs::{item, policy_of};
+use rx_heap::Heap;
+use rx_hub::Hub;
+use rx_note::{Answer, Event, Given, Kind, Limits, Note, Refusal, Strategy};
+use std::test::Fail;
+
+const BUDGET: u64 = 4_096;
+
+// No hub admits as many items within the budget.
+const MAX_ITEMS: u32 = 1_000;
+
+/// A hub with one observer that grows by a budget, and what it gave. The budget bears what waits; the items that are
+/// emitted and the list of what is given are made by `free`.
+#[derive(Drop)]
+struct Waiting {
+    free: Heap,
+    hub: Hub,
+    outs: Vec<Given, Heap>,
+}
+
+fn hub_of(tight: &Heap) -> Result<Hub, Fail> {
+    let limits = Limits {
+        observers: 1,
+        joins: 1,
+    };
+    Ok(Hub::new(tight.clone()?, Kind::Publish, limits)?)
+}
+
+impl Waiting {
+    fn new(free: Heap, tight: &Heap) -> Result<Waiting, Fail> {
+        let hub = hub_of(tight)?;
+        let outs = Vec::new(free.clone()?);
+        Ok(Waiting { free, hub, outs })
+    }
+
+    fn step(&mut self, event: Event) -> Result<Answer, Refusal> {
+        self.hub.step(0, event, &mut self.outs)
+    }
+
+    fn join(&mut self) -> Result<Result<Answer, Refusal>, Fail> {
+        let policy = policy_of(Strategy::Buffer)?;
+        Ok(self.step(Event::Join {
+            policy,
+            first: 0,
+            at: 0,
+        }))
+    }
+
+    fn request(&mut self, n: u32) -> Result<Answer, Refusal> {
+        self.step(Event::Request { who: 0, n })
+    }
+
+    fn emit(&mut self) -> Result<Result<Answer, Refusal>, Fail> {
+        let note = Note::Next(item(&self.free, b"a")?);
+        Ok(self.step(Event::Emit { note, at: 0 }))
+    }
+
+    // Emits until want of memory: how many items were admitted; none where no emission found that.
+    fn fill(&mut self) -> Result<Option<u32>, Fail> {
+        for admitted in 0..MAX_ITEMS {
+            if self.emit()? == Err(Refusal::Memory) {
+                return Ok(Some(admitted));
+            }
+        }
+        Ok(None)
+    }
+}
+
+#[test]
+fn what_waits_fills_a_budget(rt: HostRuntime) -> Result<(), Fail> {
+    let tight = Heap::with_budget(rt.alloc(), BUDGET)?;
+    let mut waiting = Waiting::new(unlimited(&rt), &tight)?;
+    assert_eq!(rt; waiting.join()?, Ok(Answer::Joined(0)));
+    let first = waiting.fill()?.unwrap_or(0);
+    assert!(rt; first > 10);
+    assert_eq!(rt; waiting.emit()?, Err(Refusal::Memory));
+    assert_eq!(rt; waiting.hub.misses(), 2);
+    assert!(rt; tight.used() <= BUDGET);
+    assert_eq!(rt; waiting.request(3), Ok(Answer::Asked));
+    assert_eq!(rt; waiting.fill()?, Some(3));
+    assert_eq!(rt; waiting.request(MAX_ITEMS), Ok(Answer::Asked));
+    assert_eq!(rt; waiting.outs.len(), first as usize + 3);
+    assert_eq!(rt; waiting.emit()?, Ok(Answer::Admitted));
+    drop(waiting);
+    assert_eq!(rt; tight.used(), 0);
+    Ok(())
+}

@@ -1,0 +1,171 @@
+//! Handles under a limit: a budget is kept and given back, a growth is refused in its turn, and two threads never have the
+//! same bytes.
+//!
+//! In a script a digit takes a block of so many times ten bytes, and `-` gives the last one back. Told is `!` where a block
+//! was refused, behind `?` the bytes used, in tens, and behind `#` how many growths were asked for.
+
+use crate::signs::digit_of;
+use rx_heap::Heap;
+use std::alloc::Global;
+use std::sync::atomic::{AtomicU64, Ordering};
+use std::test::Fail;
+use std::thread::join;
+
+/// The memory of a test: the runtime's, without a limit.
+pub(crate) fn unlimited(rt: &HostRuntime) -> Heap {
+    Heap::unlimited(rt.alloc())
+}
+
+/// A handle that is tried, the blocks that were taken by it, and what is told.
+#[derive(Drop)]
+struct Tried {
+    heap: Heap,
+    blocks: Vec<Vec<u8, Heap>>,
+    told: Vec<u8>,
+}
+
+impl Tried {
+    fn take(&mut self, bytes: usize) -> Result<(), Fail> {
+        match Vec::with_capacity(self.heap.clone()?, bytes) {
+            Ok(block) => Ok(self.blocks.push(block)?),
+            Err(_) => Ok(self.told.push(b'!')?),
+        }
+    }
+
+    fn put_number(&mut self, number: u64) -> Result<(), Fail> {
+        Ok(self.told.push(digit_of(number as usize))?)
+    }
+
+    fn step(&mut self, sign: u8) -> Result<(), Fail> {
+        match sign {
+            b'0'..=b'9' => self.take(10 * usize::from(sign - b'0')),
+            b'?' => {
+                let used = self.heap.used();
+                self.put_number(used / 10)
+            }
+            b'#' => {
+                let asked = self.heap.asked();
+                self.put_number(asked)
+            }
+            _ => {
+                drop(self.blocks.pop());
+                Ok(())
+            }
+        }
+    }
+}
+
+fn heap_of(alloc: Global, budget: Option<u64>) -> Result<Heap, Fail> {
+    match budget {
+        None => Ok(Heap::unlimited(alloc)),
+        Some(bytes) => Ok(Heap::with_budget(alloc, bytes)?),
+    }
+}
+
+fn told_of(alloc: Global, budget: Option<u64>, script: &[u8]) -> Result<Vec<u8>, Fail> {
+    let mut tried = Tried {
+        heap: heap_of(alloc, budget)?,
+        blocks: Vec::new(alloc),
+        told: Vec::new(alloc),
+    };
+    for sign in script {
+        tried.step(*sign)?;
+    }
+    Ok(tried.told)
+}
+
+#[test]
+fn a_budget_is_kept_and_given_back(rt: HostRuntime) -> Result<(), Fail> {
+    for (budget, script, wanted) in [
+        (Some(90), "6?4?3?1?-?-?9?1-?", "6!69!9609!0"),
+        (Some(90), "96#?", "!29"),
+        (Some(0), "1?0#", "!01"),
+        (Some(u64::MAX), "9?", "9"),
+        (None, "99?#", "00"),
+    ] {
+        let told = told_of(rt.alloc(), budget, script.as_bytes())?;
+        assert_eq!(rt; told.as_slice(), wanted.as_bytes(), "{script}");
+    }
+    Ok(())
+}
+
+/// What is seen of a list that grows while one growth is refused.
+#[derive(Clone, Copy, Debug, PartialEq, Eq)]
+struct Growing {
+    refused: u32,
+    // Whether it holds in the end what was pushed.
+    is_whole: bool,
+}
+
+// Pushes ten bytes, each once more where it was refused.
+fn grow(heap: &Heap) -> Result<Growing, Fail> {
+    let mut bytes = Vec::new(heap.clone()?);
+    let mut refused: u32 = 0;
+    for byte in b"0123456789" {
+        if bytes.push(*byte).is_err() {
+            refused = refused.saturating_add(1);
+            bytes.push(*byte)?;
+        }
+    }
+    let is_whole = bytes.as_slice() == b"0123456789".as_slice();
+    Ok(Growing { refused, is_whole })
+}
+
+#[test]
+fn each_growth_of_a_list_is_refused_in_turn(rt: HostRuntime) -> Result<(), Fail> {
+    let mut met: u64 = 0;
+    for growth in 0..100 {
+        let heap = Heap::refusing(rt.alloc(), growth)?;
+        let seen = grow(&heap)?;
+        assert!(rt; seen.is_whole, "growth {growth}");
+        assert_eq!(rt; heap.used(), 0, "growth {growth}");
+        assert_eq!(rt; seen.refused == 1, heap.asked() > growth, "growth {growth}");
+        met = met.saturating_add(u64::from(seen.refused));
+    }
+    assert!(rt; met >= 2);
+    Ok(())
+}
+
+/// How often a thread had its block, and how often another one had its own at the same time.
+#[derive(Clone, Copy)]
+struct Turns {
+    had: u64,
+    shared: u64,
+}
+
+fn block(heap: &Heap, bytes: usize) -> Option<Vec<u8, Heap>> {
+    let heap = heap.clone().ok()?;
+    Vec::with_capacity(heap, bytes).ok()
+}
+
+// Takes a block and gives it back, a thousand times. More than one block is more than the budget.
+fn take_turns(heap: &Heap, holders: &AtomicU64) -> Turns {
+    let mut turns = Turns { had: 0, shared: 0 };
+    for _ in 0..1_000 {
+        let block = block(heap, 60);
+        if block.is_some() {
+            turns.had = turns.had.saturating_add(1);
+            let others = holders.fetch_add(1, Ordering::SeqCst);
+            turns.shared = turns.shared.saturating_add(others);
+            holders.fetch_sub(1, Ordering::SeqCst);
+        }
+        drop(block);
+    }
+    turns
+}
+
+#[test]
+fn two_threads_over_one_budget(rt: HostRuntime) -> Result<(), Fail> {
+    let heap = Heap::with_budget(rt.alloc(), 100)?;
+    let holders = AtomicU64::new(0);
+    let (first, second) = join(
+        &rt,
+        || take_turns(&heap, &holders),
+        || take_turns(&heap, &holders),
+    );
+    assert!(rt; first.had > 0 || second.had > 0);
+    assert_eq!(rt; (first.shared, second.shared), (0, 0));
+    assert_eq!(rt; heap.asked(), 2_000);
+    assert_eq!(rt; heap.used(), 0);
+    Ok(())
+}

@@ -1,0 +1,201 @@
+//! Worked runs of a hub with each of its growths refused in turn: either there is no hub or no list of its steps, or the
+//! hub answers and gives what the history of the other events says.
+//!
+//! A run is told by the moments of its parts, in milliseconds, each with the signs of its events.
+
+ghost use Rattle.std.specs.Prelude.{◌≤◌, IfOk};
+
+use crate::hubs::Ran;
+use crate::in_turn::{Refusable, Seen, refuse_in_turn};
+use crate::signs::{Named, event_at, kind_of, policy_of, rules_of};
+use rx_heap::Heap;
+use rx_history::History;
+use rx_hub::{Hub, HubError, Step};
+use rx_note::{Event, Refusal, Rules, Strategy};
+use std::test::Fail;
+
+/// A worked run: the kind of its subject, the strategy and the first request of each observer, and its events.
+struct Row {
+    name: &'static str,
+    kind: Named,
+    strategy: Strategy,
+    first: u32,
+    parts: &'static [(u64, &'static str)],
+}
+
+const ROWS: [Row; 11] = [
+    Row {
+        name: "first_run",
+        kind: Named::Publish,
+        strategy: Strategy::Buffer,
+        first: 0,
+        parts: &[(0, "+ab1.5")],
+    },
+    Row {
+        name: "latest_two",
+        kind: Named::Publish,
+        strategy: Strategy::Latest(2),
+        first: 1,
+        parts: &[(0, "+abcd5e")],
+    },
+    Row {
+        name: "behavior_before_and_after_end",
+        kind: Named::Behavior(Some(b'z')),
+        strategy: Strategy::Buffer,
+        first: 9,
+        parts: &[(0, "+a+.+")],
+    },
+    Row {
+        name: "async_last_item",
+        kind: Named::Async,
+        strategy: Strategy::Buffer,
+        first: 1,
+        parts: &[(0, "+ab.+")],
+    },
+    Row {
+        name: "async_empty",
+        kind: Named::Async,
+        strategy: Strategy::Buffer,
+        first: 1,
+        parts: &[(0, "+.")],
+    },
+    Row {
+        name: "async_failed",
+        kind: Named::Async,
+        strategy: Strategy::Buffer,
+        first: 1,
+        parts: &[(0, "+a!")],
+    },
+    Row {
+        name: "replay_count_into_drop",
+        kind: Named::Replay(Some(2), None),
+        strategy: Strategy::Drop(1),
+        first: 0,
+        parts: &[(0, "abc+2")],
+    },
+    Row {
+        name: "replay_age_stops_at_the_end",
+        kind: Named::Replay(None, Some(10)),
+        strategy: Strategy::Buffer,
+        first: 9,
+        parts: &[(0, "a"), (5, "b"), (10, "c+"), (15, "+."), (1000, "+")],
+    },
+    Row {
+        name: "replay_of_a_failed_subject",
+        kind: Named::Replay(None, None),
+        strategy: Strategy::Buffer,
+        first: 0,
+        parts: &[(0, "a!++1")],
+    },
+    Row {
+        name: "left_and_joined_again",
+        kind: Named::Replay(None, None),
+        strategy: Strategy::Buffer,
+        first: 1,
+        parts: &[(0, "+ab-c+1.")],
+    },
+    Row {
+        name: "stamps_never_fall",
+        kind: Named::Replay(None, Some(10)),
+        strategy: Strategy::Buffer,
+        first: 9,
+        parts: &[(20, "a"), (5, "b"), (29, "+"), (30, "+")],
+    },
+];
+
+impl Row {
+    fn rules(&self, heap: &Heap) -> Result<Rules, Fail>
+        ensures { IfOk result (λ rules. rules.limits.observers ≤ 64) }
+    {
+        Ok(rules_of(kind_of(heap, self.kind)?))
+    }
+
+    fn events(&self, heap: &Heap) -> Result<Vec<(u32, Event), Heap>, Fail> {
+        let policy = policy_of(self.strategy)?;
+        let mut events = Vec::new(heap.clone()?);
+        for (at, signs) in self.parts {
+            for sign in signs.as_bytes() {
+                events.push((0, event_at(heap, policy, self.first, *at, *sign)?))?;
+            }
+        }
+        Ok(events)
+    }
+
+    // The history of the events that were not refused for want of memory.
+    fn taken(&self, heap: &Heap, steps: &[Step]) -> Result<History, Fail> {
+        let mut history = History::new(heap.clone()?);
+        let mut steps = steps.iter();
+        for (port, event) in self.events(heap)? {
+            if !is_missed(steps.next()) {
+                history.add(port, event)?;
+            }
+        }
+        Ok(history)
+    }
+
+    fn hub(&self, free: &Heap, tight: &Heap) -> Result<Option<Hub>, Fail> {
+        let Rules { kind, limits } = self.rules(free)?;
+        match Hub::new(tight.clone()?, kind, limits) {
+            Ok(hub) => Ok(Some(hub)),
+            Err(HubError::Memory) => Ok(None),
+            Err(HubError::BadLimits) => Err(Fail::from("limits")),
+        }
+    }
+
+    // The run of a hub that grows by `tight`, while all else is made by `free`; none where the hub or the list of its steps
+    // found no memory.
+    fn run(&self, free: &Heap, tight: &Heap) -> Result<Option<Ran>, Fail> {
+        let Some(mut hub) = self.hub(free, tight)? else {
+            return Ok(None);
+        };
+        let Ok(run) = hub.run(tight.clone()?, self.events(free)?) else {
+            return Ok(None);
+        };
+        let history = self.taken(free, run.steps.as_slice())?;
+        let rules = self.rules(free)?;
+        Ok(Some(Ran {
+            rules,
+            run,
+            hub,
+            history,
+        }))
+    }
+}
+
+fn is_missed(step: Option<&Step>) -> bool {
+    match step {
+        Some(step) => step.result == Err(Refusal::Memory),
+        None => false,
+    }
+}
+
+impl Refusable for Row {
+    fn run_by(&self, free: &Heap, tight: &Heap) -> Result<Seen, Fail> {
+        match &self.run(free, tight)? {
+            None => Ok(Seen {
+                is_made: false,
+                misses: 0,
+                is_right: true,
+            }),
+            Some(ran) => Ok(Seen {
+                is_made: true,
+                misses: ran.hub.misses(),
+                is_right: ran.differs(free)?.is_none(),
+            }),
+        }
+    }
+}
+
+#[test]
+fn worked_runs_with_each_growth_refused(rt: HostRuntime) -> Result<(), Fail> {
+    for row in &ROWS {
+        let refusals = refuse_in_turn(row, rt.alloc())?;
+        assert_eq!(rt; refusals.fault, "", "{}", row.name);
+        assert!(rt;
+            refusals.unmade >= 1 && refusals.missed >= 1,
+            "{}",
+            row.name
+        );
+    }
+    Ok(())
+}
