@@ -36,6 +36,10 @@ impl Budget {
     ///
     /// It adds first and looks then, so that two threads never get the same bytes. So a thread may be refused while another
     /// one's refusal is under way, which errs on the safe side.
+    ///
+    /// It is kept out of line, and `regains` in line, so that a growth without a limit stays short.
+    #[cold]
+    #[inline(never)]
     pub(crate) fn takes(&self, size: u64) -> bool {
         let growth = self.asked.fetch_add(1, Ordering::SeqCst);
         if self.refused == Some(growth) || size > self.most {
@@ -50,6 +54,7 @@ impl Budget {
     }
 
     /// Takes `size` bytes back.
+    #[inline(always)]
     pub(crate) fn regains(&self, size: u64) {
         self.used.fetch_sub(size, Ordering::SeqCst);
     }

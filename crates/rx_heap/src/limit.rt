@@ -2,6 +2,7 @@ use crate::budget::Budget;
 use crate::refused::Memory;
 use std::alloc::Global;
 use std::marker::Model;
+use std::mem::forget;
 use std::sync::Arc;
 
 /// What the clones of one handle have in common: nothing, or a budget.
@@ -17,11 +18,13 @@ impl Model for Limit {
     ghost view = { λ _. tt };
 }
 
-// Written out so that it is one call to those that let a handle go, and no case of theirs.
+// A budget stays until the program ends: a handle is let go with each text and each collection, where it is to cost nothing
+// and to be no case of its own.
 impl Drop for Limit {
     #[inline]
     fn drop(self) {
-        let Self { budget: _ } = self;
+        let Self { budget } = self;
+        forget(budget);
     }
 }
 
@@ -49,6 +52,19 @@ impl Limit {
             None => false,
             Some(budget) => !budget.takes(size as u64),
         }
+    }
+
+    /// Whether the growth of a block from `old` items of `size` bytes to `new` ones is refused. Where it is not, the bytes
+    /// that it has more are taken.
+    #[inline]
+    pub(crate) fn refuses_change(&self, old: usize, new: usize, size: usize) -> bool {
+        self.refuses(new.saturating_sub(old).saturating_mul(size))
+    }
+
+    /// Takes back what such a growth took.
+    #[inline]
+    pub(crate) fn regains_change(&self, old: usize, new: usize, size: usize) {
+        self.regains(new.saturating_sub(old).saturating_mul(size));
     }
 
     /// Takes back the `size` bytes of a growth that was not refused.

@@ -2,12 +2,13 @@ use crate::budget::Budget;
 use crate::limit::Limit;
 use crate::refused::Memory;
 use std::alloc::{AllocError, Allocator, Global};
+use std::mem::size_of;
 
 /// An allocator under a limit, which its clones share.
 ///
 /// A block is charged to the handle that allocated it, with the bytes that were asked for, and its bytes come back when it is
 /// given back. So a text is charged to the heap that it was made over, whoever holds a copy of it. A collection that grows
-/// has its old block until it has the new one, so it needs the bytes of both for that moment.
+/// needs the bytes that it has more; one that is cut to its length needs its new block and its old one for a moment.
 #[derive(Clone, Drop)]
 pub struct Limited<B: Allocator> {
     inner: B,
@@ -26,7 +27,8 @@ impl Limited<Global> {
     /// No more than `bytes` bytes of `alloc` at a time, for all clones together and from any thread; at most 2^48.
     ///
     /// It errs on the safe side: two threads never get the same bytes, but one may be refused while a refusal of the other's
-    /// is under way.
+    /// is under way. The count itself, some 50 bytes, stays until the program ends: make one for a part of the program, and
+    /// none for each call.
     ///
     /// # Errors
     ///
@@ -65,7 +67,7 @@ impl Limited<Global> {
     }
 }
 
-// `grow` and `shrink` are the trait's: a new block, a copy, and the old block given back.
+// `shrink` is the trait's: a new block, a copy, and the old block given back.
 unsafe impl<B: Allocator> Allocator for Limited<B> {
     ghost dealloc_token = { λ heap ty ptr. B.dealloc_token heap.inner ty ptr };
 
@@ -85,5 +87,24 @@ unsafe impl<B: Allocator> Allocator for Limited<B> {
     unsafe fn deallocate(&self, ptr: *mut u8, size: usize, align: usize) {
         self.limit.regains(size);
         self.inner.deallocate(ptr, size, align);
+    }
+
+    unsafe fn grow<T>(
+        &self,
+        ptr: *mut T,
+        len: usize,
+        old_cap: usize,
+        new_cap: usize,
+    ) -> Result<*mut T, AllocError> {
+        if self.limit.refuses_change(old_cap, new_cap, size_of::<T>()) {
+            return Err(AllocError);
+        }
+        match self.inner.grow(ptr, len, old_cap, new_cap) {
+            Ok(block) => Ok(block),
+            Err(refused) => {
+                self.limit.regains_change(old_cap, new_cap, size_of::<T>());
+                Err(refused)
+            }
+        }
     }
 }
