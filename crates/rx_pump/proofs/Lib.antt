@@ -1,0 +1,4 @@
+pub mod Placing
+pub mod Putting
+pub mod Giving
+pub mod Calls
