@@ -34,3 +34,12 @@ module _ {X : Type 0} where
   pub option_map-then : (f g h : X → X) (o : Option X) → ((x : X) → g (f x) ≡ h x) → option_map g (option_map f o) ≡ option_map h o
   option_map-then f g h None same = refl
   option_map-then f g h (Some x) same = ap Some (same x)
+
+  -- lists with the same element at each place are the same
+  pub same_by_place : (xs ys : List X) → ((i : ℕ) → slice_get xs i ≡ slice_get ys i) → xs ≡ ys
+  same_by_place [] [] same = refl
+  same_by_place [] (y ∷ ys) same = let none = same 0 in cc
+  same_by_place (x ∷ xs) [] same = let none = same 0 in cc
+  same_by_place (x ∷ xs) (y ∷ ys) same =
+      let first : x ≡ y = let some = same 0 in cc in
+      let rest : xs ≡ ys = same_by_place xs ys (λ i. same (suc i)) in cc

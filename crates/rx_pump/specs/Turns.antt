@@ -18,22 +18,22 @@ use Rattle.rx_pump.specs.Sends.{Puts, PutsFor, StopsAt}
 -- the ports of a pump, in the order of their places
 pub record Ports (S : Type 0) : Type 0 where
   pub drainers : List (Outgoing (Out S))
-  pub callers : List (Outgoing (Reply S))
+  pub replies : List (Outgoing (Reply S))
 
 module _ {S : Type 0} where
   -- the ports among the parts of a pump
   abbrev pub ports_of : PumpParts S → Ports S
-  ports_of parts = record { drainers = parts.drainers.items; callers = parts.replies.items }
+  ports_of parts = record { drainers = parts.drainers.items; replies = parts.replies.items }
 
   -- the ports put the outs, and then the reply to the calls from a port; at a fault they stop there
   abbrev pub Sends : Option PumpFault → List (Out S) → ℕ → Reply S → Ports S → Ports S → Type 0
   Sends None outs port reply before after =
-      PutsFor outs before.drainers after.drainers × Puts (λ p. to_port port p reply) before.callers after.callers
+      PutsFor outs before.drainers after.drainers × Puts (λ p. to_port port p reply) before.replies after.replies
   Sends (Some InboxGone) outs port reply before after = ⊥
   Sends (Some (DrainerGone place)) outs port reply before after =
-      StopsAt outs place before.drainers after.drainers × (after.callers ≡ before.callers)
+      StopsAt outs place before.drainers after.drainers × (after.replies ≡ before.replies)
   Sends (Some (CallerGone place)) outs port reply before after =
-      PutsFor outs before.drainers after.drainers × (after.callers ≡ before.callers) × (place ≡ port) × (port < length before.callers)
+      PutsFor outs before.drainers after.drainers × (after.replies ≡ before.replies) × (place ≡ port) × (port < length before.replies)
 
   -- a call from a port was made after H: the hub took its event, and what it gave and answered was sent
   pub record IsMade (hub hub_after : HubView) (before after : Ports S) (fault : Option PumpFault) (port : ℕ) (call : Call S) (H : History) : Type 0 where

@@ -4,13 +4,16 @@
 mod call;
 mod handling;
 mod out;
+mod pump;
 mod pump_fault;
 mod pump_parts;
 mod reply;
+mod room;
 mod sending;
 
 pub use call::Call;
 pub use out::Out;
+pub use pump::Pump;
 pub use pump_fault::PumpFault;
 pub use pump_parts::PumpParts;
 pub use reply::Reply;
