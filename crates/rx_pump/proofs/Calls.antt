@@ -45,7 +45,7 @@ module _ {S : Type 0} where
   made hub after before then answered given fault port call H stepped other stands sends =
       let step = stepped.step other H stands in
       let sent : outs_for answered given call ≡ sent_by hub.state.rules H port call =
-          ap (λ a. attached a call.sink ++ map give given) step.answers ∙ ap (λ l. attached (answer hub.state.rules H call.event) call.sink ++ map give l) step.gives in
+      ap (λ a. attached a call.sink ++ map give given) step.answers ∙ ap (λ l. attached (answer hub.state.rules H call.event) call.sink ++ map give l) step.gives in
       record {
         goes_on = step.goes_on;
         misses = stepped.kept other;
@@ -77,7 +77,7 @@ module _ {S : Type 0} where
   handled hub after before then answered given fault port call stepped sends = record {
     rules = stepped.rules;
     took = λ H stands. elim (miss_or_not answered) [
-        inl (memory, test) ↦ rw test (refused hub after before then answered given fault port call H stepped memory stands sends)
+      | inl (memory, test) ↦ rw test (refused hub after before then answered given fault port call H stepped memory stands sends)
       | inr (other, test) ↦ rw test (made hub after before then answered given fault port call H stepped other stands sends)
     ];
   }

@@ -43,8 +43,8 @@ module _ {S : Type 0} where
       → start ≡ reverse all → old ≡ left ++ given ∷ [] → Gave (reverse start) old a b → StopsAt (give given ∷ []) place b c → StopsAt (map give all) place a c
   Gave-stop all start old left given place a b c turned popped p q =
       let order : p.done ++ given ∷ reverse left ≡ all =
-          sym (append_assoc p.done (given ∷ []) (reverse left)) ∙ sym (parts-more p.done left given) ∙ ap (λ l. p.done ++ reverse l) (sym popped)
-          ∙ p.parts ∙ ap reverse turned ∙ reverse-reverse all in
+      sym (append_assoc p.done (given ∷ []) (reverse left)) ∙ sym (parts-more p.done left given) ∙ ap (λ l. p.done ++ reverse l) (sym popped)
+      ∙ p.parts ∙ ap reverse turned ∙ reverse-reverse all in
       let outs : map give p.done ++ map give (given ∷ reverse left) ≡ map give all = sym (map-append give p.done (given ∷ reverse left)) ∙ ap (map give) order in
       subst (λ (all_outs : List (Out S)). StopsAt all_outs place a c) outs
       (StopsAt-then (map give p.done) _ place a b c p.put (StopsAt-more (give given ∷ []) (map give (reverse left)) place b c q))

@@ -4,3 +4,6 @@ pub mod Giving
 pub mod Calls
 pub mod Pumping
 pub mod Turning
+pub mod Ending
+pub mod Leaving
+pub mod Desking

@@ -1,8 +1,11 @@
 -- Lists read by place.
-use Rattle.std.proofs.Common.{◌≡◌, ◌≢◌, ◌∙◌, sym, refl, ap, ℕ, zero, suc, ◌<◌, ◌==◌, Bool, true, false, cond, List, [], ◌∷◌, ◌++◌, length, map, Option, Some, None, slice_get, arith}
+use Rattle.std.proofs.Common.{◌≡◌, ◌≢◌, ◌∙◌, sym, refl, ap, ℕ, zero, suc, ◌+◌, zero-add, ◌<◌, ◌==◌, Bool, true, false, cond, List, [], ◌∷◌, ◌++◌, length, map, Option, Some, None, slice_get, arith}
 use Rattle.std.proofs.Math.ListN.{set}
 use Rattle.std.proofs.lemmas.Bool.{eqb-true, eqb-false}
 use Rattle.std.specs.Option.{option_map}
+
+suc-place : (n i : ℕ) → suc n + i ≡ suc (n + i)
+suc-place n i = omega arith
 
 module _ {X : Type 0} where
   -- at its place stands what was written
@@ -43,3 +46,14 @@ module _ {X : Type 0} where
   same_by_place (x ∷ xs) (y ∷ ys) same =
       let first : x ≡ y = let some = same 0 in cc in
       let rest : xs ≡ ys = same_by_place xs ys (λ i. same (suc i)) in cc
+
+  -- the first of two lists joined
+  pub slice_get-append_left : (xs ys : List X) (i : ℕ) (x : X) → slice_get xs i ≡ Some x → slice_get (xs ++ ys) i ≡ Some x
+  slice_get-append_left [] ys i x is = cc
+  slice_get-append_left (z ∷ zs) ys zero x is = is
+  slice_get-append_left (z ∷ zs) ys (suc i) x is = slice_get-append_left zs ys i x is
+
+  -- the second of two lists joined
+  pub slice_get-append_right : (xs ys : List X) (i : ℕ) → slice_get (xs ++ ys) (length xs + i) ≡ slice_get ys i
+  slice_get-append_right [] ys i = ap (slice_get ys) (zero-add i)
+  slice_get-append_right (z ∷ zs) ys i = ap (slice_get (z ∷ (zs ++ ys))) (suc-place (length zs) i) ∙ slice_get-append_right zs ys i

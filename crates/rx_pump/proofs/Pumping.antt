@@ -26,7 +26,7 @@ use Rattle.rx_pump.proofs.Placing.{same_by_place}
 use Rattle.rx_pump.proofs.Putting.{Puts-none}
 
 -- what a map gave it gave of something
-option_map_some : {A B : Type 0} (f : A → B) (o : Option A) (y : B) → option_map f o ≡ Some y → (x : A) × (o ≡ Some x) × (f x ≡ y)
+pub option_map_some : {A B : Type 0} (f : A → B) (o : Option A) (y : B) → option_map f o ≡ Some y → (x : A) × (o ≡ Some x) × (f x ≡ y)
 option_map_some f None y is = cc
 option_map_some f (Some x) y is = (x, refl, cc)
 
@@ -54,11 +54,12 @@ module _ {X : Type 0} where
   -- the ports put some of what more there is
   pub HavePut-cut : (all some rest : ℕ → List X) (before after : List (Outgoing X))
       → HavePut false all before → Puts some before after → HavePut true (λ d. all d ++ (some d ++ rest d)) after
-  HavePut-cut all some rest before after have put d port is =
-      (posts port.number (rest d),
-        ap (λ own. own ++ posts port.number (rest d)) (HavePut-puts all some before after have put d port is)
+  HavePut-cut all some rest before after have put d port is = (
+    posts port.number (rest d),
+    ap (λ own. own ++ posts port.number (rest d)) (HavePut-puts all some before after have put d port is)
         ∙ sym (map-append (λ body. letter port.number (Body body)) (all d ++ some d) (rest d))
-        ∙ ap (posts port.number) (append_assoc (all d) (some d) (rest d)))
+        ∙ ap (posts port.number) (append_assoc (all d) (some d) (rest d)),
+  )
 
   -- the same bodies
   pub HavePut-same : (cut : Bool) (first second : ℕ → List X) (ports : List (Outgoing X)) → ((d : ℕ) → first d ≡ second d) → HavePut cut first ports → HavePut cut second ports
@@ -138,4 +139,3 @@ module _ {S : Type 0} where
         callers = ap (map place_of) sends.1;
         named = subst (λ (k : ℕ). k < length before.replies) (sym sends.2) sends.3;
       }
-

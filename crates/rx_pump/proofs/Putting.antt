@@ -48,12 +48,12 @@ module _ {X : Type 0} where
   Puts-one ports place port x is = record {
     count = length-set ports place _;
     at = λ d. elim (eqb_tells place d) [
-        inl (test, same) ↦
-            rw test (
-              subst (λ k. slice_get (set ports place (with_bodies (x ∷ []) port)) k ≡ option_map (with_bodies (x ∷ [])) (slice_get ports k)) same
-              (slice_get-set_same ports place port _ is ∙ sym (ap (option_map (with_bodies (x ∷ []))) is)))
+      | inl (test, same) ↦
+          rw test (
+          subst (λ k. slice_get (set ports place (with_bodies (x ∷ []) port)) k ≡ option_map (with_bodies (x ∷ [])) (slice_get ports k)) same
+          (slice_get-set_same ports place port _ is ∙ sym (ap (option_map (with_bodies (x ∷ []))) is)))
       | inr (test, other) ↦
-            rw test (slice_get-set_other ports place d _ other ∙ option_map-same (with_bodies []) (slice_get ports d) with_bodies-none)
+          rw test (slice_get-set_other ports place d _ other ∙ option_map-same (with_bodies []) (slice_get ports d) with_bodies-none)
     ];
   }
 
@@ -67,14 +67,14 @@ module _ {X : Type 0} where
   -- there is no port at this place
   pub Puts-no_place : (ports : List (Outgoing X)) (place : ℕ) (x : X) → length ports ≤ place → Puts (λ d. to_port place d x) ports ports
   Puts-no_place ports place x past =
-    let is : slice_get ports place ≡ None = slice_get_past ports place past in
-    record {
-    count = refl;
-    at = λ d. elim (eqb_tells place d) [
-        inl (test, same) ↦ rw test (subst (λ k. slice_get ports k ≡ option_map (with_bodies (x ∷ [])) (slice_get ports k)) same (is ∙ sym (ap (option_map (with_bodies (x ∷ []))) is)))
-      | inr (test, other) ↦ rw test (option_map-same (with_bodies []) (slice_get ports d) with_bodies-none)
-    ];
-  }
+      let is : slice_get ports place ≡ None = slice_get_past ports place past in
+      record {
+        count = refl;
+        at = λ d. elim (eqb_tells place d) [
+          | inl (test, same) ↦ rw test (subst (λ k. slice_get ports k ≡ option_map (with_bodies (x ∷ [])) (slice_get ports k)) same (is ∙ sym (ap (option_map (with_bodies (x ∷ []))) is)))
+          | inr (test, other) ↦ rw test (option_map-same (with_bodies []) (slice_get ports d) with_bodies-none)
+        ];
+      }
 
 module _ {S : Type 0} where
   -- nothing is sent

@@ -29,47 +29,53 @@ module _ {S : Type 0} where
   pub IsPumped-fresh : (hub : HubView) (inbox : Incoming (Call S)) (drainers : List (Outgoing (Out S))) (callers : List (Outgoing (Reply S))) (misses : ℕ)
       → AreFresh hub inbox drainers callers → misses ≡ hub.misses → misses < 2 ^ 64
       → IsPumped (record (fresh_pump hub inbox drainers callers) { misses_before = misses })
-  IsPumped-fresh hub inbox drainers callers misses fresh misses_are fits =
-      (NoLetters, record {
-        accounts = record { letters = sym fresh.inbox_is; stands = fresh.hub_is; misses = omega (arith, misses_are, fits); acceptable = tt };
-        calls = refl;
-        refused = refl;
-        routed = HavePut-fresh false drainers refl fresh.drainers_are;
-        replied = HavePut-fresh false callers refl fresh.callers_are;
-        fault = tt;
-      })
+  IsPumped-fresh hub inbox drainers callers misses fresh misses_are fits = (
+    NoLetters,
+    record {
+      accounts = record { letters = sym fresh.inbox_is; stands = fresh.hub_is; misses = omega (arith, misses_are, fits); acceptable = tt };
+      calls = refl;
+      refused = refl;
+      routed = HavePut-fresh false drainers refl fresh.drainers_are;
+      replied = HavePut-fresh false callers refl fresh.callers_are;
+      fault = tt;
+    },
+  )
 
   -- no letter came
   pub IsPumped-gone : (before after : PumpView S) → before.fault ≡ None → after ≡ record before { fault = Some InboxGone } → IsPumped before → IsPumped after
   IsPumped-gone before after whole after_is (B, p) =
-      subst (λ (pump : PumpView S). IsPumped pump) (sym after_is)
-      (B, record {
-        accounts = p.accounts;
-        calls = p.calls;
-        refused = p.refused;
-        routed = subst (λ (f : Option PumpFault). HavePut (is_cut f) (λ d. route before.hub.state.rules (length before.drainers) d B) before.drainers) whole p.routed;
-        replied = subst (λ (f : Option PumpFault). HavePut (is_cut f) (λ q. replies before.hub.state.rules q B) before.replies) whole p.replied;
-        fault = tt;
-      })
+      subst (λ (pump : PumpView S). IsPumped pump) (sym after_is) (
+        B,
+        record {
+          accounts = p.accounts;
+          calls = p.calls;
+          refused = p.refused;
+          routed = subst (λ (f : Option PumpFault). HavePut (is_cut f) (λ d. route before.hub.state.rules (length before.drainers) d B) before.drainers) whole p.routed;
+          replied = subst (λ (f : Option PumpFault). HavePut (is_cut f) (λ q. replies before.hub.state.rules q B) before.replies) whole p.replied;
+          fault = tt;
+        },
+      )
 
   -- a Bye came
   pub IsPumped-bye : (before after : PumpView S) (x : Letter (Call S)) → x.post ≡ Bye → after ≡ record before { inbox = with_letter before.inbox x } → IsPumped before → IsPumped after
   IsPumped-bye before after x bye after_is (B, p) =
       let x_is : x ≡ letter x.from Bye = ap (λ post. letter x.from post) bye in
-      subst (λ (pump : PumpView S). IsPumped pump) (sym after_is)
-      (Ended B x.from, record {
-        accounts = record {
-          letters = ap (λ letters. letters ++ letter x.from Bye ∷ []) p.accounts.letters ∙ ap (λ (l : Letter (Call S)). before.inbox.received ++ l ∷ []) (sym x_is);
-          stands = p.accounts.stands;
-          misses = p.accounts.misses;
-          acceptable = p.accounts.acceptable;
-        };
-        calls = p.calls;
-        refused = p.refused;
-        routed = p.routed;
-        replied = p.replied;
-        fault = p.fault;
-      })
+      subst (λ (pump : PumpView S). IsPumped pump) (sym after_is) (
+        Ended B x.from,
+        record {
+          accounts = record {
+            letters = ap (λ letters. letters ++ letter x.from Bye ∷ []) p.accounts.letters ∙ ap (λ (l : Letter (Call S)). before.inbox.received ++ l ∷ []) (sym x_is);
+            stands = p.accounts.stands;
+            misses = p.accounts.misses;
+            acceptable = p.accounts.acceptable;
+          };
+          calls = p.calls;
+          refused = p.refused;
+          routed = p.routed;
+          replied = p.replied;
+          fault = p.fault;
+        },
+      )
 
   -- what is told by the rules and the number of drainers of before is told by those of after
   told : {rules rules_after : Rules} {n n_after : ℕ} (cut : Bool) (B : Marked S) (ports : List (Outgoing (Out S))) → rules_after ≡ rules → n_after ≡ n
@@ -136,7 +142,7 @@ module _ {S : Type 0} where
         refused = took.refused ∙ ap (λ n. min (n + 1) (2 ^ 64 - 1)) p.refused ∙ counted-more (refused_in B);
         routed = told (is_cut after.fault) (Refused B port call) after.drainers rules (AreSame-length before.drainers after.drainers sent_now.drainers)
             (HavePut-same (is_cut after.fault) _ _ after.drainers
-                (λ d. ap (λ outs. for_drainer (length before.drainers) d outs) (append-nil (sent before.hub.state.rules B))) sent_now.routed);
+            (λ d. ap (λ outs. for_drainer (length before.drainers) d outs) (append-nil (sent before.hub.state.rules B))) sent_now.routed);
         replied = subst (λ (r : Rules). HavePut (is_cut after.fault) (λ q. replies r q (Refused B port call)) after.replies) (sym rules) sent_now.replied;
         fault = subst (λ (n : ℕ). NamesPort after.fault n (length after.replies)) (sym (AreSame-length before.drainers after.drainers sent_now.drainers))
             (subst (λ (n : ℕ). NamesPort after.fault (length before.drainers) n) (sym (AreSame-length before.replies after.replies sent_now.callers)) sent_now.named);

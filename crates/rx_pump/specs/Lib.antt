@@ -2,3 +2,5 @@ pub mod Marks
 pub mod Sends
 pub mod Turns
 pub mod Pumps
+pub mod Serving
+pub mod Desks

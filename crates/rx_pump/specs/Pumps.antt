@@ -110,15 +110,27 @@ module _ {S : Type 0} where
   -- the pump of these, before its first turn
   abbrev pub fresh_pump : HubView → Incoming (Call S) → List (Outgoing (Out S)) → List (Outgoing (Reply S)) → PumpView S
   fresh_pump hub inbox drainers callers = record {
-    hub = hub; inbox = inbox; drainers = drainers; replies = callers;
-    calls = 0; refused = 0; misses_before = hub.misses; fault = None;
+    hub = hub;
+    inbox = inbox;
+    drainers = drainers;
+    replies = callers;
+    calls = 0;
+    refused = 0;
+    misses_before = hub.misses;
+    fault = None;
   }
 
   -- the pump with these parts, counts and fault
   abbrev pub pump_of : PumpParts S → ℕ → ℕ → ℕ → Option PumpFault → PumpView S
   pump_of parts calls refused misses_before fault = record {
-    hub = parts.hub; inbox = parts.inbox; drainers = parts.drainers.items; replies = parts.replies.items;
-    calls = calls; refused = refused; misses_before = misses_before; fault = fault;
+    hub = parts.hub;
+    inbox = parts.inbox;
+    drainers = parts.drainers.items;
+    replies = parts.replies.items;
+    calls = calls;
+    refused = refused;
+    misses_before = misses_before;
+    fault = fault;
   }
 
   -- what no turn changes: the subject's rules, and which boxes the inbox and the ports belong to

@@ -6,9 +6,9 @@ ghost use Rattle.rx_pump.specs.Sends.{Puts};
 ghost use Rattle.rx_pump.specs.Turns.{Handles, Sends, ports_of};
 
 use crate::call::Call;
+use crate::out::Out;
 use crate::pump_fault::PumpFault;
 use crate::pump_parts::PumpParts;
-use crate::out::Out;
 use crate::reply::Reply;
 use crate::sending::{part, send_all};
 use rx_heap::Heap;

@@ -2,10 +2,13 @@ ghost use Rattle.std.specs.Prelude.{◌≡◌, ◌+◌, ◌-◌, ◌^◌, ◌<�
 ghost use Rattle.rx_pump.specs.Pumps.{AreFresh};
 
 use crate::call::Call;
+use crate::finishing::finish_all;
 use crate::handling::handle;
 use crate::out::Out;
+use crate::pump_end::PumpEnd;
 use crate::pump_fault::PumpFault;
 use crate::pump_parts::PumpParts;
+use crate::pump_stop::PumpStop;
 use crate::reply::Reply;
 use crate::room::room;
 use rx_heap::Heap;
@@ -47,6 +50,8 @@ impl<S: Drop> Model for Pump<S> {
 
 impl<S: Drop> Pump<S> {
     ghost use Rattle.rx_pump.specs.Pumps.{IsPumped, KeepsPlaces, TakesOne, fresh_pump};
+    ghost use Rattle.rx_pump.specs.Serving.{HasServed, HasStopped};
+    ghost use Rattle.rx_mailbox.specs.Boxes.{HasEachBye};
 
     /// A pump of new parts. `Err` gives them back where there was no memory for it.
     pub fn new(
@@ -118,6 +123,101 @@ impl<S: Drop> Pump<S> {
         outcome(handled.fault)
     }
 
+    /// Takes letters until the Bye of each port came, and waits while there is none; then ends its own ports, each to a
+    /// drainer and then each for replies. `Err` at a fault, with the parts that are left.
+    pub fn serve<R: Wait>(self, rt: &R) -> Result<PumpEnd<S>, PumpStop<S>>
+        ensures { MatchResult result (λ left. HasServed self left) (λ stop. HasStopped self stop) }
+    {
+        let mut pump = self;
+        match pump.take_all(rt) {
+            Ok(()) => pump.finish(rt),
+            Err(fault) => Err(pump.stop(fault)),
+        }
+    }
+
+    /// The parts, as the turns so far left them.
+    pub fn into_parts(self) -> PumpParts<S>
+        ensures hub { result.hub ≡ self.hub }
+        ensures inbox { result.inbox ≡ self.inbox }
+        ensures drainers { result.drainers.items ≡ self.drainers }
+        ensures replies { result.replies.items ≡ self.replies }
+        ensures pumped { IsPumped self }
+    {
+        self.parts
+    }
+
+    // Takes letters until the Bye of each port came.
+    fn take_all<R: Wait>(&mut self, rt: &R) -> Result<(), PumpFault>
+        ensures fault { MatchResult result (λ _. self.new.fault ≡ None) (λ fault. self.new.fault ≡ Some fault) }
+        ensures each_bye { OnOk result (HasEachBye self.new.inbox) }
+        ensures kept { KeepsPlaces self.old self.new }
+    {
+        if let Some(fault) = self.fault {
+            return Err(fault);
+        }
+        for _ in rt.forever() {
+            if self.parts.inbox.has_each_bye() {
+                return Ok(());
+            }
+            self.turn(rt)?;
+        }
+        unreachable!()
+    }
+
+    // Ends the ports.
+    fn finish<R: Wait>(self, rt: &R) -> Result<PumpEnd<S>, PumpStop<S>>
+        requires whole { self.fault ≡ None }
+        requires each_bye { HasEachBye self.inbox }
+        ensures { MatchResult result (λ left. HasServed self left) (λ stop. HasStopped self stop) }
+    {
+        let Pump {
+            mut parts,
+            outs: _,
+            mut ended_drainers,
+            mut ended_replies,
+            calls,
+            refused,
+            misses_before: _,
+            fault: _,
+        } = self;
+        if let Err(place) = finish_all(rt, &mut parts.drainers, &mut ended_drainers) {
+            return Err(PumpStop {
+                fault: PumpFault::DrainerGone(place),
+                parts,
+                ended_drainers,
+                ended_replies,
+            });
+        }
+        if let Err(place) = finish_all(rt, &mut parts.replies, &mut ended_replies) {
+            return Err(PumpStop {
+                fault: PumpFault::CallerGone(place),
+                parts,
+                ended_drainers,
+                ended_replies,
+            });
+        }
+        Ok(PumpEnd {
+            hub: parts.hub,
+            inbox: parts.inbox,
+            drainers: ended_drainers,
+            replies: ended_replies,
+            calls,
+            refused,
+        })
+    }
+
+    // What is left at a fault of a turn.
+    fn stop(self, fault: PumpFault) -> PumpStop<S>
+        ensures { HasStopped self result }
+    {
+        PumpStop {
+            fault,
+            parts: self.parts,
+            ended_drainers: self.ended_drainers,
+            ended_replies: self.ended_replies,
+        }
+    }
+
     /// How many calls it took. The count stays at the greatest `u64`.
     pub fn calls(&self) -> u64
         ensures { result ≡ self.now.calls }
@@ -137,7 +237,11 @@ impl<S: Drop> Pump<S> {
 fn raised(count: u64, counts: bool) -> u64
     ensures { result ≡ (if counts then min (count + 1) (2 ^ 64 - 1) else count) }
 {
-    if counts { count.saturating_add(1) } else { count }
+    if counts {
+        count.saturating_add(1)
+    } else {
+        count
+    }
 }
 
 fn outcome(fault: Option<PumpFault>) -> Result<(), PumpFault>

@@ -14,13 +14,13 @@ returns-clause-handles g c =
     let none = c.clear.ensures.items in
     subst (λ (after : HubView). Handles hub after before then c.is_memory.result c.send-fault.result c.args.port c.args.call) (sym c.send-fault.ensures.hub)
     (handled_with hub step.new.self before then step.result step.new.outs.items c.part-first.result.0 c.part-first.result.1
-        c.is_memory.result c.send-fault.result c.args.port c.args.call
-        c.is_memory.ensures c.part-first.ensures.attached c.part-first.ensures.back
-        (record {
-          step = λ other H stands. subst (λ (old : List Given). Steps hub.state step.new.self.state old step.new.outs.items step.result H (c.args.port, c.args.call.event)) none (step.ensures.step other H stands);
-          kept = step.ensures.kept;
-          missed = λ memory. ((step.ensures.missed memory).0, (step.ensures.missed memory).1 ∙ none);
-          accepted = step.ensures.accepted;
-          rules = step.ensures.rules;
-        })
-        c.send-fault.ensures.sends)
+    c.is_memory.result c.send-fault.result c.args.port c.args.call
+    c.is_memory.ensures c.part-first.ensures.attached c.part-first.ensures.back
+    (record {
+      step = λ other H stands. subst (λ (old : List Given). Steps hub.state step.new.self.state old step.new.outs.items step.result H (c.args.port, c.args.call.event)) none (step.ensures.step other H stands);
+      kept = step.ensures.kept;
+      missed = λ memory. ((step.ensures.missed memory).0, (step.ensures.missed memory).1 ∙ none);
+      accepted = step.ensures.accepted;
+      rules = step.ensures.rules;
+    })
+    c.send-fault.ensures.sends)
