@@ -3,7 +3,7 @@ use Rattle.std.proofs.Common.{◌≡◌, ℕ, ◌==◌, max, Bool, true, false, 
 use Rattle.std.specs.Option.{option_map}
 use Rattle.rx_note.specs.declared.item.Item.{Item}
 use Rattle.rx_note.specs.declared.note.Note.{Note}
-use Rattle.rx_note.specs.declared.event.Event.TheVariants.{Emit, Join, Request}
+use Rattle.rx_note.specs.declared.event.Event.TheVariants.{Emit, Join, Request, Dispose}
 use Rattle.rx_note.specs.declared.rules.Rules.{Rules}
 use Rattle.rx_note.specs.Signals.{Requested, Offered, Signals, Start, ◌▸◌, terminal_of}
 use Rattle.rx_history.specs.Histories.{History, NoEvents, ◌▹◌, terminal_in, end_of, is_ended, joins, is_held, may_join, stamp, opening_by, followed_by, ended_by, opened, last_item, offers_by, signalled, may_request, signals}
@@ -47,3 +47,4 @@ signals_open rules (H ▹ (port, Request who n)) o s unended is =
           ap terminal_of (sym found.2) ∙ terminal_of-request (may_request n found.0) found.0 n ∙ signals_open rules H o found.0 unended found.1
       | inr same ↦ signals_open rules H o s unended same.1
     ]
+signals_open rules (H ▹ (port, Dispose who)) o s unended is = signals_open rules H o s unended is

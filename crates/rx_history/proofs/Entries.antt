@@ -1,54 +1,17 @@
--- What an entry makes of the joins, and of the signals of an observer.
-use Rattle.std.proofs.Common.{◌≡◌, ℕ, ◌+◌, ◌≤◌, ◌==◌, Bool, true, false, cond, ◌&&◌, ◌||◌, not, ltb, List, [], ◌∷◌, length, Option, None, Some, is_some, inl, inr, refl, sym, ap, ◌∙◌, arith}
-use Rattle.std.specs.List.{list_any}
+-- What an entry makes of the observers that are held, and of the signals of each.
+use Rattle.std.proofs.Common.{◌≡◌, ℕ, ◌≤◌, ◌==◌, Bool, true, false, cond, ◌&&◌, ◌||◌, not, ltb, List, [], ◌∷◌, Option, None, Some, is_some, inl, inr, refl, sym, ap, ◌∙◌, arith}
+use Rattle.std.specs.List.{list_any, filter}
 use Rattle.std.specs.Option.{option_map, option_map_or}
-use Rattle.std.proofs.lemmas.List.{length-append}
 use Rattle.std.proofs.lemmas.Bool.{cases_lt, le-ltb, lt-ltb}
 use Rattle.std.proofs.lemmas.Bool.Decides.{nat_tests}
 use Rattle.std.proofs.lemmas.List.Folds.{list_any-append}
 use Rattle.rx_note.specs.declared.note.Note.{Note}
-use Rattle.rx_note.specs.declared.event.Event.TheVariants.{Emit, Join, Request}
+use Rattle.rx_note.specs.declared.event.Event.TheVariants.{Emit, Join, Request, Dispose}
 use Rattle.rx_note.specs.declared.rules.Rules.{Rules}
-use Rattle.rx_note.specs.declared.limits.Limits.{Limits}
 use Rattle.rx_note.specs.Choices.{Choice}
 use Rattle.rx_note.specs.Signals.{Signal, Requested, Signals, ◌▸◌, line, waiting}
 use Rattle.rx_history.specs.Histories.{History, NoEvents, ◌▹◌, Roster, with_one_more, roster_of, joins, held, is_held, is_ended, end_of, may_join, followed_by, signalled, opened, may_request, signals, line_of, given_to, waiting_for}
 use Rattle.rx_history.proofs.Numbers.{signals_unmade}
-
--- as nobody leaves, as many are held as have joined
-length_one_more : (b : Bool) (roster : Roster) → length roster.held ≡ roster.joins → length (cond b (with_one_more roster) roster).held ≡ (cond b (with_one_more roster) roster).joins
-length_one_more true roster same = omega (arith, length-append roster.held (roster.joins ∷ []))
-length_one_more false roster same = same
-
-pub length-held : (rules : Rules) (H : History) → length (held rules H) ≡ joins rules H
-length-held rules NoEvents = refl
-length-held rules (H ▹ (port, Emit note at)) = length-held rules H
-length-held rules (H ▹ (port, Join policy first at)) = length_one_more (may_join rules H) (roster_of rules.limits H) (length-held rules H)
-length-held rules (H ▹ (port, Request who n)) = length-held rules H
-
--- so that the count of the Joins tells whether the next is accepted
-pub may_join-joins : (rules : Rules) (H : History) → may_join rules H ≡ (ltb (joins rules H) rules.limits.observers && ltb (joins rules H) rules.limits.joins)
-may_join-joins rules H = ap (λ n. ltb n rules.limits.observers && ltb (joins rules H) rules.limits.joins) (length-held rules H)
-
--- whether the next Join is accepted after so many
-abbrev pub accepts : Limits → ℕ → Bool
-accepts limits joined = ltb joined limits.observers && ltb joined limits.joins
-
--- an accepted Join is one more
-pub joins-joined : (rules : Rules) (H : History) (port : ℕ) (policy : Choice) (first at joined : ℕ) → joined ≡ joins rules H → accepts rules.limits joined ≡ true
-    → joined + 1 ≡ joins rules (H ▹ (port, Join policy first at))
-joins-joined rules H port policy first at joined same accepted =
-    ap (λ n. n + 1) same
-    ∙ sym (ap (λ b. (cond b (with_one_more (roster_of rules.limits H)) (roster_of rules.limits H)).joins)
-    (may_join-joins rules H ∙ ap (accepts rules.limits) (sym same) ∙ accepted))
-
--- one that is refused is none
-pub joins-refused : (rules : Rules) (H : History) (port : ℕ) (policy : Choice) (first at joined : ℕ) → joined ≡ joins rules H → accepts rules.limits joined ≡ false
-    → joined ≡ joins rules (H ▹ (port, Join policy first at))
-joins-refused rules H port policy first at joined same denied =
-    same
-    ∙ sym (ap (λ b. (cond b (with_one_more (roster_of rules.limits H)) (roster_of rules.limits H)).joins)
-    (may_join-joins rules H ∙ ap (accepts rules.limits) (sym same) ∙ denied))
 
 or_true : (b : Bool) → (b || true) ≡ true
 or_true true = refl
@@ -58,36 +21,80 @@ or_false : (b : Bool) → (b || false) ≡ b
 or_false true = refl
 or_false false = refl
 
--- an observer is held exactly where there are signals of it
-found_fed : (b : Bool) (f : Signals → Signals) (before : Option Signals) → is_some (cond b (option_map f before) before) ≡ is_some before
+-- an observer that has signals keeps them, and one that has none gets none, but by its Join
+pub found_fed : (b : Bool) (f : Signals → Signals) (before : Option Signals) → is_some (cond b (option_map f before) before) ≡ is_some before
 found_fed true f None = refl
 found_fed true f (Some s) = refl
 found_fed false f before = refl
 
 held_joined : (same admitted : Bool) (roster : Roster) (o : ℕ) (made : Signals) (before : Option Signals)
-    → list_any (λ k. k == o) (roster.joins ∷ []) ≡ (same || false) → list_any (λ k. k == o) roster.held ≡ is_some before
-    → list_any (λ k. k == o) (cond admitted (with_one_more roster) roster).held ≡ is_some (cond (same && admitted) (Some made) before)
-held_joined true true roster o made before one others =
+    → list_any (λ k. k == o) (roster.joins ∷ []) ≡ (same || false) → (list_any (λ k. k == o) roster.held ≡ true → is_some before ≡ true)
+    → list_any (λ k. k == o) (cond admitted (with_one_more roster) roster).held ≡ true → is_some (cond (same && admitted) (Some made) before) ≡ true
+held_joined true true roster o made before one others held = refl
+held_joined false true roster o made before one others held =
+    others
+    (sym (or_false (list_any (λ k. k == o) roster.held))
+    ∙ ap (λ b. list_any (λ k. k == o) roster.held || b) (sym one)
+    ∙ sym (list_any-append (λ k. k == o) roster.held (roster.joins ∷ []))
+    ∙ held)
+held_joined true false roster o made before one others held = others held
+held_joined false false roster o made before one others held = others held
+
+-- of those that stay, each was there
+any_kept : (b : Bool) (p : ℕ → Bool) (k : ℕ) (ks : List ℕ) → list_any p (cond b (k ∷ ks) ks) ≡ true → (p k || list_any p ks) ≡ true
+any_kept true p k ks any = any
+any_kept false p k ks any = ap (λ c. p k || c) any ∙ or_true (p k)
+
+any_first : (first rest more : Bool) → (rest ≡ true → more ≡ true) → (first || rest) ≡ true → (first || more) ≡ true
+any_first true rest more later any = refl
+any_first false rest more later any = later any
+
+any_filter : (p q : ℕ → Bool) (ks : List ℕ) → list_any p (filter q ks) ≡ true → list_any p ks ≡ true
+any_filter p q [] any = any
+any_filter p q (k ∷ ks) any =
+    any_first (p k) (list_any p (filter q ks)) (list_any p ks) (any_filter p q ks) (any_kept (q k) p k (filter q ks) any)
+
+-- an observer that is held after a Dispose was held before it
+pub held_before : (rules : Rules) (H : History) (port who o : ℕ) → is_held rules (H ▹ (port, Dispose who)) o ≡ true → is_held rules H o ≡ true
+held_before rules H port who o held = any_filter (λ k. k == o) (λ k. not (k == who)) (roster_of rules.limits H).held held
+
+-- an observer that is held has joined
+pub held_made : (rules : Rules) (H : History) (o : ℕ) → is_held rules H o ≡ true → is_some (signals rules H o) ≡ true
+held_made rules NoEvents o held = held
+held_made rules (H ▹ (port, Emit note at)) o held =
+    found_fed (is_held rules H o && not (is_ended H)) (λ s. followed_by s (signalled rules H port note)) (signals rules H o)
+    ∙ held_made rules H o held
+held_made rules (H ▹ (port, Join policy first at)) o held =
+    held_joined (joins rules H == o) (may_join rules H) (roster_of rules.limits H) o (opened rules H policy first at) (signals rules H o) refl (held_made rules H o) held
+held_made rules (H ▹ (port, Request who n)) o held =
+    found_fed ((who == o) && is_held rules H o) (λ s. cond (may_request n s) (s ▸ Requested n) s) (signals rules H o)
+    ∙ held_made rules H o held
+held_made rules (H ▹ (port, Dispose who)) o held = held_made rules H o (held_before rules H port who o held)
+
+-- an observer that a Join makes is held, and a Join leaves all others
+held_join : (same admitted : Bool) (roster : Roster) (o : ℕ) → list_any (λ k. k == o) (roster.joins ∷ []) ≡ (same || false) → (same && admitted) ≡ true
+    → list_any (λ k. k == o) (cond admitted (with_one_more roster) roster).held ≡ true
+held_join true true roster o one it =
     list_any-append (λ k. k == o) roster.held (roster.joins ∷ []) ∙ ap (λ b. list_any (λ k. k == o) roster.held || b) one ∙ or_true (list_any (λ k. k == o) roster.held)
-held_joined false true roster o made before one others =
-    list_any-append (λ k. k == o) roster.held (roster.joins ∷ []) ∙ ap (λ b. list_any (λ k. k == o) roster.held || b) one ∙ or_false (list_any (λ k. k == o) roster.held) ∙ others
-held_joined true false roster o made before one others = others
-held_joined false false roster o made before one others = others
+held_join true false roster o one it = cc
+held_join false admitted roster o one it = cc
 
-pub is_held-signals : (rules : Rules) (H : History) (o : ℕ) → is_held rules H o ≡ is_some (signals rules H o)
-is_held-signals rules NoEvents o = refl
-is_held-signals rules (H ▹ (port, Emit note at)) o =
-    is_held-signals rules H o
-    ∙ sym (found_fed (is_held rules H o && not (is_ended H)) (λ s. followed_by s (signalled rules H port note)) (signals rules H o))
-is_held-signals rules (H ▹ (port, Join policy first at)) o =
-    held_joined (joins rules H == o) (may_join rules H) (roster_of rules.limits H) o (opened rules H policy first at) (signals rules H o) refl (is_held-signals rules H o)
-is_held-signals rules (H ▹ (port, Request who n)) o =
-    is_held-signals rules H o
-    ∙ sym (found_fed ((who == o) && is_held rules H o) (λ s. cond (may_request n s) (s ▸ Requested n) s) (signals rules H o))
+held_others : (same admitted : Bool) (roster : Roster) (o : ℕ) → list_any (λ k. k == o) (roster.joins ∷ []) ≡ (same || false) → (same && admitted) ≡ false
+    → list_any (λ k. k == o) (cond admitted (with_one_more roster) roster).held ≡ list_any (λ k. k == o) roster.held
+held_others true true roster o one not_it = cc
+held_others false true roster o one not_it =
+    list_any-append (λ k. k == o) roster.held (roster.joins ∷ [])
+    ∙ ap (λ b. list_any (λ k. k == o) roster.held || b) one
+    ∙ or_false (list_any (λ k. k == o) roster.held)
+held_others same false roster o one not_it = refl
 
-fed_once : (f : Signals → Signals) (before : Option Signals) → cond (is_some before) (option_map f before) before ≡ option_map f before
-fed_once f None = refl
-fed_once f (Some s) = refl
+pub is_held-joined : (rules : Rules) (H : History) (port : ℕ) (policy : Choice) (first at o : ℕ) → ((joins rules H == o) && may_join rules H) ≡ true
+    → is_held rules (H ▹ (port, Join policy first at)) o ≡ true
+is_held-joined rules H port policy first at o it = held_join (joins rules H == o) (may_join rules H) (roster_of rules.limits H) o refl it
+
+pub is_held-not_joined : (rules : Rules) (H : History) (port : ℕ) (policy : Choice) (first at o : ℕ) → ((joins rules H == o) && may_join rules H) ≡ false
+    → is_held rules (H ▹ (port, Join policy first at)) o ≡ is_held rules H o
+is_held-not_joined rules H port policy first at o not_it = held_others (joins rules H == o) (may_join rules H) (roster_of rules.limits H) o refl not_it
 
 and_true : (b : Bool) → (b && true) ≡ b
 and_true true = refl
@@ -97,15 +104,21 @@ pub and_false : (b : Bool) → (b && false) ≡ false
 and_false true = refl
 and_false false = refl
 
--- an accepted note is signalled to the observer, if it is held
-pub signals-emitted : (rules : Rules) (H : History) (port : ℕ) (note : Note) (at o : ℕ) → end_of H ≡ None
+-- an accepted note is signalled to an observer that is held
+pub signals-emitted : (rules : Rules) (H : History) (port : ℕ) (note : Note) (at o : ℕ) → end_of H ≡ None → is_held rules H o ≡ true
     → signals rules (H ▹ (port, Emit note at)) o ≡ option_map (λ s. followed_by s (signalled rules H port note)) (signals rules H o)
-signals-emitted rules H port note at o unended =
+signals-emitted rules H port note at o unended held =
     let S = signals rules H o in
     let fed : List Signal → Option Signals = λ more. option_map (λ s. followed_by s more) S in
     ap (λ end. cond (is_held rules H o && not (is_some end)) (fed (signalled rules H port note)) S) unended
-    ∙ ap (λ b. cond b (fed (signalled rules H port note)) S) (and_true (is_held rules H o) ∙ is_held-signals rules H o)
-    ∙ fed_once (λ s. followed_by s (signalled rules H port note)) S
+    ∙ ap (λ b. cond (b && true) (fed (signalled rules H port note)) S) held
+
+-- and to no other
+pub signals-passed_by : (rules : Rules) (H : History) (port : ℕ) (note : Note) (at o : ℕ) → is_held rules H o ≡ false
+    → signals rules (H ▹ (port, Emit note at)) o ≡ signals rules H o
+signals-passed_by rules H port note at o left =
+    let S = signals rules H o in
+    ap (λ b. cond (b && not (is_ended H)) (option_map (λ s. followed_by s (signalled rules H port note)) S) S) left
 
 -- a note after the end changes nothing
 pub signals-refused : (rules : Rules) (H : History) (port : ℕ) (note : Note) (at o : ℕ) → is_ended H ≡ true
@@ -127,21 +140,19 @@ pub signals-joined : (rules : Rules) (H : History) (port : ℕ) (policy : Choice
 signals-joined rules H port policy first at o it =
     ap (λ b. cond b (Some (opened rules H policy first at)) (signals rules H o)) it
 
--- the request of another changes nothing
-pub signals-not_requested : (rules : Rules) (H : History) (port who n o : ℕ) → (who == o) ≡ false
+-- the request of another, or of one that is not held, changes nothing
+pub signals-not_requested : (rules : Rules) (H : History) (port who n o : ℕ) → ((who == o) && is_held rules H o) ≡ false
     → signals rules (H ▹ (port, Request who n)) o ≡ signals rules H o
 signals-not_requested rules H port who n o other =
     let S = signals rules H o in
-    ap (λ b. cond (b && is_held rules H o) (option_map (λ s. cond (may_request n s) (s ▸ Requested n) s) S) S) other
+    ap (λ b. cond b (option_map (λ s. cond (may_request n s) (s ▸ Requested n) s) S) S) other
 
--- its own is added where it may be
-pub signals-requested : (rules : Rules) (H : History) (port who n o : ℕ) → (who == o) ≡ true
+-- its own is added where it is held and may request so many
+pub signals-requested : (rules : Rules) (H : History) (port who n o : ℕ) → ((who == o) && is_held rules H o) ≡ true
     → signals rules (H ▹ (port, Request who n)) o ≡ option_map (λ s. cond (may_request n s) (s ▸ Requested n) s) (signals rules H o)
 signals-requested rules H port who n o own =
     let S = signals rules H o in
-    ap (λ b. cond (b && is_held rules H o) (option_map (λ s. cond (may_request n s) (s ▸ Requested n) s) S) S) own
-    ∙ ap (λ b. cond b (option_map (λ s. cond (may_request n s) (s ▸ Requested n) s) S) S) (is_held-signals rules H o)
-    ∙ fed_once (λ s. cond (may_request n s) (s ▸ Requested n) s) S
+    ap (λ b. cond b (option_map (λ s. cond (may_request n s) (s ▸ Requested n) s) S) S) own
 
 -- an observer that has no signals has not joined
 none_fed : (b : Bool) (f : Signals → Signals) (before : Option Signals) → cond b (option_map f before) before ≡ None → before ≡ None
@@ -169,6 +180,7 @@ signals_none rules (H ▹ (port, Join policy first at)) o none =
 signals_none rules (H ▹ (port, Request who n)) o none =
     signals_none rules H o
     (none_fed ((who == o) && is_held rules H o) (λ s. cond (may_request n s) (s ▸ Requested n) s) (signals rules H o) none)
+signals_none rules (H ▹ (port, Dispose who)) o none = signals_none rules H o none
 
 signals_below : (rules : Rules) (H : History) (o : ℕ) (s : Option Signals) → signals rules H o ≡ s → is_some s ≡ ltb o (joins rules H)
 signals_below rules H o None none = sym (le-ltb o (joins rules H) (signals_none rules H o none))
@@ -182,16 +194,18 @@ signals_below rules H o (Some s) is =
 pub is_some-signals : (rules : Rules) (H : History) (o : ℕ) → is_some (signals rules H o) ≡ ltb o (joins rules H)
 is_some-signals rules H o = signals_below rules H o (signals rules H o) refl
 
--- today an observer that joined is held, so that it is to be given its line
-held_where : (rules : Rules) (H : History) (o : ℕ) (s : Signals) → signals rules H o ≡ Some s → is_held rules H o ≡ true
-held_where rules H o s is = is_held-signals rules H o ∙ ap is_some is
+-- an observer that is held is to be given its line, and what it was not given waits
+pub line_of-held : (rules : Rules) (H : History) (o : ℕ) (s : Signals) → signals rules H o ≡ Some s → is_held rules H o ≡ true → line_of rules H o ≡ line s
+line_of-held rules H o s is held =
+    ap (λ b. cond b (option_map_or line (signals rules H o) []) (given_to rules H o)) held ∙ ap (λ t. option_map_or line t []) is
 
-pub line_of-signals : (rules : Rules) (H : History) (o : ℕ) (s : Signals) → signals rules H o ≡ Some s → line_of rules H o ≡ line s
-line_of-signals rules H o s is =
-    ap (λ b. cond b (option_map_or line (signals rules H o) []) (given_to rules H o)) (held_where rules H o s is)
-    ∙ ap (λ t. option_map_or line t []) is
+pub waiting_for-held : (rules : Rules) (H : History) (o : ℕ) (s : Signals) → signals rules H o ≡ Some s → is_held rules H o ≡ true → waiting_for rules H o ≡ waiting s
+waiting_for-held rules H o s is held =
+    ap (λ b. cond b (option_map_or waiting (signals rules H o) []) []) held ∙ ap (λ t. option_map_or waiting t []) is
 
-pub waiting_for-signals : (rules : Rules) (H : History) (o : ℕ) (s : Signals) → signals rules H o ≡ Some s → waiting_for rules H o ≡ waiting s
-waiting_for-signals rules H o s is =
-    ap (λ b. cond b (option_map_or waiting (signals rules H o) []) []) (held_where rules H o s is)
-    ∙ ap (λ t. option_map_or waiting t []) is
+-- one that is not has the line that it was given, and nothing waits
+pub line_of-left : (rules : Rules) (H : History) (o : ℕ) → is_held rules H o ≡ false → line_of rules H o ≡ given_to rules H o
+line_of-left rules H o left = ap (λ b. cond b (option_map_or line (signals rules H o) []) (given_to rules H o)) left
+
+pub waiting_for-left : (rules : Rules) (H : History) (o : ℕ) → is_held rules H o ≡ false → waiting_for rules H o ≡ []
+waiting_for-left rules H o left = ap (λ b. cond b (option_map_or waiting (signals rules H o) []) []) left

@@ -1,16 +1,14 @@
 -- What an entry gives to an observer is what its given gains.
-use Rattle.std.proofs.Common.{◌≡◌, ℕ, ◌+◌, ◌==◌, Bool, true, false, cond, ◌||◌, List, [], ◌∷◌, ◌++◌, length, drop, Option, None, Some, is_some, refl, sym, ap, ◌∙◌, arith, append-nil}
+use Rattle.std.proofs.Common.{◌≡◌, ℕ, ◌+◌, ◌==◌, Bool, true, false, cond, ◌||◌, List, [], ◌∷◌, ◌++◌, length, drop, refl, sym, ap, ◌∙◌, arith, append-nil}
 use Rattle.std.specs.List.{list_any, flat_map}
-use Rattle.std.specs.Option.{option_map_or}
 use Rattle.std.proofs.lemmas.Bool.Decides.{nat_tests}
 use Rattle.rx_note.specs.declared.given.Given.{Given}
 use Rattle.rx_note.specs.declared.note.Note.{Note}
 use Rattle.rx_note.specs.declared.rules.Rules.{Rules}
-use Rattle.rx_note.specs.Signals.{Signals, given}
-use Rattle.rx_history.specs.Histories.{Entry, History, ◌▹◌, held, is_held, signals, given_to, addressed, outs}
+use Rattle.rx_note.specs.Signals.{given}
+use Rattle.rx_history.specs.Histories.{Entry, History, ◌▹◌, held, is_held, given_to, addressed, outs}
 use Rattle.rx_history.specs.Delivery.{notes_for, OutsAreGiven}
-use Rattle.rx_history.proofs.Delivered.{given_only_grows, first_empty}
-use Rattle.rx_history.proofs.Entries.{is_held-signals}
+use Rattle.rx_history.proofs.Delivered.{given_only_grows, given_to-left}
 use Rattle.rx_history.proofs.Numbers.{Rises, AllDiffer, differ_below, held_rises}
 
 -- a note more at the front, where it is this observer's
@@ -75,16 +73,11 @@ drop-front : (front more : List Note) → drop (length front) (front ++ more) �
 drop-front [] more = refl
 drop-front (note ∷ front) more = drop-front front more
 
--- an observer that is not held has been given nothing
-given_to-none : (rules : Rules) (H : History) (o : ℕ) (s : Option Signals) → signals rules H o ≡ s → is_some s ≡ false → given_to rules H o ≡ []
-given_to-none rules H o None is none = ap (λ s. option_map_or given s []) is
-given_to-none rules H o (Some s) is none = cc
-
 first_absent : (b rest : Bool) → (b || rest) ≡ false → b ≡ false
 first_absent true rest none = cc
 first_absent false rest none = refl
 
-absent_differ : (o : ℕ) (ks : List ℕ) → list_any (λ k. k == o) ks ≡ false → AllDiffer o ks
+pub absent_differ : (o : ℕ) (ks : List ℕ) → list_any (λ k. k == o) ks ≡ false → AllDiffer o ks
 absent_differ o [] none = tt
 absent_differ o (k ∷ ks) none = let other : (k == o) ≡ false = first_absent (k == o) (list_any (λ k. k == o) ks) none in
     (other, absent_differ o ks (any_later (k == o) k o ks false refl other none))
@@ -103,13 +96,10 @@ outs_given_by rules H o entry true is =
     ∙ drop-front (given_to rules H o) grown.0 in
     grown.1 ∙ ap (λ notes. given_to rules H o ++ notes) (sym new)
 outs_given_by rules H o entry false is =
-    let grown = given_only_grows rules H o entry in
-    let none : given_to rules (H ▹ entry) o ≡ [] =
-    given_to-none rules (H ▹ entry) o (signals rules (H ▹ entry) o) refl (sym (is_held-signals rules (H ▹ entry) o) ∙ is) in
-    let before : given_to rules H o ≡ [] = first_empty (given_to rules H o) grown.0 (sym grown.1 ∙ none) in
-    none
-    ∙ sym (ap (λ notes. notes ++ notes_for o (outs rules H entry)) before
-    ∙ notes_for-differ o (gained rules H entry) (held rules (H ▹ entry)) (absent_differ o (held rules (H ▹ entry)) is))
+    given_to-left rules H o entry is
+    ∙ sym (ap (λ notes. given_to rules H o ++ notes)
+    (notes_for-differ o (gained rules H entry) (held rules (H ▹ entry)) (absent_differ o (held rules (H ▹ entry)) is))
+    ∙ append-nil (given_to rules H o))
 
 pub outs_are_given : OutsAreGiven
 outs_are_given rules H o entry = outs_given_by rules H o entry (is_held rules (H ▹ entry) o) refl

@@ -6,6 +6,7 @@ pub mod Endings
 pub mod Entries
 pub mod Extending
 pub mod Gaining
+pub mod Leaving
 pub mod Numbers
 pub mod Offers
 pub mod Queueing

@@ -1,8 +1,9 @@
 -- The numbers of the observers that are held: they rise, and the next one is above them.
 use Rattle.std.proofs.Common.{◌≡◌, ℕ, zero, suc, ◌+◌, ◌<◌, ◌≤◌, ◌==◌, Bool, true, false, cond, ◌&&◌, not, List, [], ◌∷◌, ◌++◌, length, take, drop, get_or, Option, None, Some, refl, ap, ◌∙◌, arith, add-one}
 use Rattle.std.proofs.lemmas.Bool.Decides.{nat_tests}
+use Rattle.std.specs.List.{filter}
 use Rattle.std.specs.Option.{option_map}
-use Rattle.rx_note.specs.declared.event.Event.TheVariants.{Emit, Join, Request}
+use Rattle.rx_note.specs.declared.event.Event.TheVariants.{Emit, Join, Request, Dispose}
 use Rattle.rx_note.specs.declared.rules.Rules.{Rules}
 use Rattle.rx_note.specs.declared.limits.Limits.{Limits}
 use Rattle.rx_note.specs.Signals.{Signals, ◌▸◌, Requested}
@@ -62,6 +63,19 @@ differ_beyond low (k ∷ ks) high (suc i) d h lt = differ_beyond (k + 1) ks high
 pub differ_after : (low : ℕ) (ks : List ℕ) (high i d : ℕ) → Rises low ks high → i < length ks → AllDiffer (get_or ks i d) (drop (i + 1) ks)
 differ_after low ks high i d h lt = rw add-one (differ_beyond low ks high i d h lt)
 
+Rises-from : (low lower : ℕ) (ks : List ℕ) (high : ℕ) → lower ≤ low → Rises low ks high → Rises lower ks high
+Rises-from low lower [] high le h = omega arith
+Rises-from low lower (k ∷ ks) high le h = let above : low ≤ k = h.0 in (omega arith, h.1)
+
+Rises-kept : (b : Bool) (low k : ℕ) (ks : List ℕ) (high : ℕ) → low ≤ k → Rises (k + 1) ks high → Rises low (cond b (k ∷ ks) ks) high
+Rises-kept true low k ks high le h = (le, h)
+Rises-kept false low k ks high le h = Rises-from (k + 1) low ks high (omega arith) h
+
+-- some of the numbers rise too
+pub Rises-filter : (p : ℕ → Bool) (low : ℕ) (ks : List ℕ) (high : ℕ) → Rises low ks high → Rises low (filter p ks) high
+Rises-filter p low [] high h = h
+Rises-filter p low (k ∷ ks) high h = Rises-kept (p k) low k (filter p ks) high h.0 (Rises-filter p (k + 1) ks high h.1)
+
 Rises-chosen : (b : Bool) (x y : Roster) → Rises 0 x.held x.joins → Rises 0 y.held y.joins → Rises 0 (cond b x y).held (cond b x y).joins
 Rises-chosen true x y one other = one
 Rises-chosen false x y one other = other
@@ -75,6 +89,8 @@ held_rises limits (H ▹ (port, Join policy first at)) =
     Rises-chosen (admits limits (roster_of limits H)) (with_one_more (roster_of limits H)) (roster_of limits H)
     (Rises-push 0 (roster_of limits H).held (roster_of limits H).joins before) before
 held_rises limits (H ▹ (port, Request who n)) = held_rises limits H
+held_rises limits (H ▹ (port, Dispose who)) =
+    Rises-filter (λ o. not (o == who)) 0 (roster_of limits H).held (roster_of limits H).joins (held_rises limits H)
 
 unmade_fed : (b : Bool) (f : Signals → Signals) (before : Option Signals) → before ≡ None → cond b (option_map f before) before ≡ None
 unmade_fed true f before none = ap (option_map f) none
@@ -101,3 +117,4 @@ signals_unmade rules (H ▹ (port, Join policy first at)) o le =
     unmade_joined (may_join rules H) (roster_of rules.limits H) o (Some (opened rules H policy first at)) (signals rules H o) le (signals_unmade rules H o)
 signals_unmade rules (H ▹ (port, Request who n)) o le =
     unmade_fed ((who == o) && is_held rules H o) (λ s. cond (may_request n s) (s ▸ Requested n) s) (signals rules H o) (signals_unmade rules H o le)
+signals_unmade rules (H ▹ (port, Dispose who)) o le = signals_unmade rules H o le

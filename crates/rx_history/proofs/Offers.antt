@@ -5,7 +5,7 @@ use Rattle.std.proofs.lemmas.List.{append-nil, append_assoc, map-append}
 use Rattle.rx_note.specs.declared.item.Item.{Item}
 use Rattle.rx_note.specs.declared.note.Note.{Note}
 use Rattle.rx_note.specs.declared.note.Note.TheVariants.{Next, Completed, Failed}
-use Rattle.rx_note.specs.declared.event.Event.TheVariants.{Emit, Join, Request}
+use Rattle.rx_note.specs.declared.event.Event.TheVariants.{Emit, Join, Request, Dispose}
 use Rattle.rx_note.specs.declared.kind.Kind.{Kind}
 use Rattle.rx_note.specs.declared.kind.Kind.TheVariants.{Publish, Behavior, Async, Replay}
 use Rattle.rx_note.specs.declared.rules.Rules.{Rules}
@@ -14,7 +14,7 @@ use Rattle.rx_note.specs.Signals.{Requested, Offered, Signals, Start, ◌▸◌}
 use Rattle.rx_history.specs.Histories.{History, NoEvents, ◌▹◌, terminal_in, end_of, is_ended, is_completion, joins, is_held, may_join, stamp, Stamped, item_in, items, unstamped, newest, last_item, or_else, seed_item, is_young, young, at_most, age_moment, opening_by, offers_by, followed_by, ended_by, may_request, signals}
 use Rattle.rx_history.specs.Delivery.{offered, offered_to, emitted, seed_of, all_items, offers_at_once, IsSubsequence, AsyncOffersTheLast}
 use Rattle.rx_history.proofs.Subsequences.{along, none_of, all_of, both_of, some_of_some, filter_of, drop_of}
-use Rattle.rx_history.proofs.Entries.{is_held-signals, signals-emitted, signals-refused, signals-not_joined, signals-joined, signals-not_requested, signals-requested}
+use Rattle.rx_history.proofs.Entries.{held_made, held_before, is_held-not_joined, signals-emitted, signals-passed_by, signals-refused, signals-not_joined, signals-joined, signals-not_requested, signals-requested}
 
 -- WHAT SIGNALS OFFER
 
@@ -32,23 +32,19 @@ offered-request false s n = refl
 abbrev offered_of : Option Signals → List Item
 offered_of s = option_map_or offered s []
 
--- the same, where there are signals, and none where there are none
-abbrev where_made : Option Signals → List Item → List Item
-where_made s offers = cond (is_some s) offers []
-
-offered-fed : (before : Option Signals) (offers : List Item) (end : Option Note)
-    → offered_of (option_map (λ s. followed_by s (map Offered offers ++ ended_by end)) before) ≡ where_made before (offered_of before ++ offers)
-offered-fed None offers end = refl
-offered-fed (Some s) offers end = offered-followed s offers end
+offered-fed : (before : Option Signals) (offers : List Item) (end : Option Note) → is_some before ≡ true
+    → offered_of (option_map (λ s. followed_by s (map Offered offers ++ ended_by end)) before) ≡ offered_of before ++ offers
+offered-fed None offers end made = cc
+offered-fed (Some s) offers end made = offered-followed s offers end
 
 -- WHAT EACH ENTRY OFFERS
 
--- an accepted note offers what its kind says, to an observer that has joined
-offered_to-emitted : (rules : Rules) (H : History) (o port : ℕ) (note : Note) (at : ℕ) → end_of H ≡ None
-    → offered_to rules (H ▹ (port, Emit note at)) o ≡ where_made (signals rules H o) (offered_to rules H o ++ offers_by rules.kind (last_item rules H) port note)
-offered_to-emitted rules H o port note at unended =
-    ap offered_of (signals-emitted rules H port note at o unended)
-    ∙ offered-fed (signals rules H o) (offers_by rules.kind (last_item rules H) port note) (terminal_in note)
+-- an accepted note offers what its kind says, to an observer that is held
+offered_to-emitted : (rules : Rules) (H : History) (o port : ℕ) (note : Note) (at : ℕ) → end_of H ≡ None → is_held rules H o ≡ true
+    → offered_to rules (H ▹ (port, Emit note at)) o ≡ offered_to rules H o ++ offers_by rules.kind (last_item rules H) port note
+offered_to-emitted rules H o port note at unended held =
+    ap offered_of (signals-emitted rules H port note at o unended held)
+    ∙ offered-fed (signals rules H o) (offers_by rules.kind (last_item rules H) port note) (terminal_in note) (held_made rules H o held)
 
 -- a Join offers the opening to the observer that it makes
 offered_to-joined : (rules : Rules) (H : History) (o port : ℕ) (policy : Choice) (first at : ℕ) → ((joins rules H == o) && may_join rules H) ≡ true
@@ -62,7 +58,7 @@ asked_same None n = refl
 asked_same (Some s) n = offered-request (may_request n s) s n
 
 -- a request offers nothing
-offered_to-request : (rules : Rules) (H : History) (port who n o : ℕ) (b : Bool) → (who == o) ≡ b → offered_to rules (H ▹ (port, Request who n)) o ≡ offered_to rules H o
+offered_to-request : (rules : Rules) (H : History) (port who n o : ℕ) (b : Bool) → ((who == o) && is_held rules H o) ≡ b → offered_to rules (H ▹ (port, Request who n)) o ≡ offered_to rules H o
 offered_to-request rules H port who n o true own = ap offered_of (signals-requested rules H port who n o own) ∙ asked_same (signals rules H o) n
 offered_to-request rules H port who n o false other = ap offered_of (signals-not_requested rules H port who n o other)
 
@@ -76,8 +72,7 @@ now_offered (Replay count age) last port note once = refl
 pub each_is_offered : (rules : Rules) (H : History) (o port : ℕ) (note : Note) (at : ℕ) → offers_at_once rules.kind ≡ true → is_held rules H o ≡ true → end_of H ≡ None
     → offered_to rules (H ▹ (port, Emit note at)) o ≡ offered_to rules H o ++ item_in port note
 each_is_offered rules H o port note at once held unended =
-    offered_to-emitted rules H o port note at unended
-    ∙ ap (λ b. cond b (offered_to rules H o ++ offers_by rules.kind (last_item rules H) port note) []) (sym (is_held-signals rules H o) ∙ held)
+    offered_to-emitted rules H o port note at unended held
     ∙ ap (λ offers. offered_to rules H o ++ offers) (now_offered rules.kind (last_item rules H) port note once)
 
 -- THE ITEMS OF A HISTORY
@@ -110,14 +105,13 @@ emitted-refused rules H port note at ended = ap unstamped (items-refused rules H
 
 -- ASYNC
 
--- the last item where the subject completed, for an observer that has joined
-abbrev last_alone : Bool → Rules → History → List Item
-last_alone made rules H = cond made (cond (is_completion (end_of H)) (last_item rules H) []) []
+-- the last item where the subject completed
+abbrev last_alone : Rules → History → List Item
+last_alone rules H = cond (is_completion (end_of H)) (last_item rules H) []
 
 -- before the end it is none
-nothing_yet : (made : Bool) (rules : Rules) (H : History) → end_of H ≡ None → last_alone made rules H ≡ []
-nothing_yet true rules H unended = ap (λ end. cond (is_completion end) (last_item rules H) []) unended
-nothing_yet false rules H unended = refl
+nothing_yet : (rules : Rules) (H : History) → end_of H ≡ None → last_alone rules H ≡ []
+nothing_yet rules H unended = ap (λ end. cond (is_completion end) (last_item rules H) []) unended
 
 -- a completion brings no item of its own
 async_note : (rules : Rules) (H : History) (port : ℕ) (note : Note) (at : ℕ) → is_ended H ≡ false
@@ -127,63 +121,46 @@ async_note rules H port Completed at open_now =
     ap (λ xs. unstamped (newest 1 xs)) (sym (items-accepted rules H port Completed at open_now ∙ append-nil (items rules H)))
 async_note rules H port (Failed text) at open_now = refl
 
--- who has joined stays so at a note and at a request
-made_at-note : (rules : Rules) (H : History) (o port : ℕ) (note : Note) (at : ℕ) → is_some (signals rules (H ▹ (port, Emit note at)) o) ≡ is_some (signals rules H o)
-made_at-note rules H o port note at = sym (is_held-signals rules (H ▹ (port, Emit note at)) o) ∙ is_held-signals rules H o
-
-made_at-request : (rules : Rules) (H : History) (o port who n : ℕ) → is_some (signals rules (H ▹ (port, Request who n)) o) ≡ is_some (signals rules H o)
-made_at-request rules H o port who n = sym (is_held-signals rules (H ▹ (port, Request who n)) o) ∙ is_held-signals rules H o
-
-async-emitted : (rules : Rules) (H : History) (o port : ℕ) (note : Note) (at : ℕ) (end : Option Note) → rules.kind ≡ Async → end_of H ≡ end
-    → offered_to rules H o ≡ last_alone (is_some (signals rules H o)) rules H
-    → offered_to rules (H ▹ (port, Emit note at)) o ≡ last_alone (is_some (signals rules (H ▹ (port, Emit note at)) o)) rules (H ▹ (port, Emit note at))
-async-emitted rules H o port note at None kind unended was =
+async-emitted : (rules : Rules) (H : History) (o port : ℕ) (note : Note) (at : ℕ) (end : Option Note) → rules.kind ≡ Async → is_held rules H o ≡ true → end_of H ≡ end
+    → offered_to rules H o ≡ last_alone rules H
+    → offered_to rules (H ▹ (port, Emit note at)) o ≡ last_alone rules (H ▹ (port, Emit note at))
+async-emitted rules H o port note at None kind held unended was =
     let later = H ▹ (port, Emit note at) in
-    let before : offered_to rules H o ≡ [] = was ∙ nothing_yet (is_some (signals rules H o)) rules H unended in
     let end : end_of later ≡ terminal_in note = ap (λ e. option_or e (terminal_in note)) unended in
-    offered_to-emitted rules H o port note at unended
-    ∙ ap (λ xs. where_made (signals rules H o) (xs ++ offers_by rules.kind (last_item rules H) port note)) before
-    ∙ ap (λ k. where_made (signals rules H o) (offers_by k (last_item rules H) port note)) kind
-    ∙ ap (where_made (signals rules H o)) (async_note rules H port note at (ap is_some unended))
-    ∙ ap (λ e. where_made (signals rules H o) (cond (is_completion e) (last_item rules later) [])) (sym end)
-    ∙ ap (λ b. last_alone b rules later) (sym (made_at-note rules H o port note at))
-async-emitted rules H o port note at (Some end) kind ended was =
+    offered_to-emitted rules H o port note at unended held
+    ∙ ap (λ xs. xs ++ offers_by rules.kind (last_item rules H) port note) (was ∙ nothing_yet rules H unended)
+    ∙ ap (λ k. offers_by k (last_item rules H) port note) kind
+    ∙ async_note rules H port note at (ap is_some unended)
+    ∙ ap (λ e. cond (is_completion e) (last_item rules later) []) (sym end)
+async-emitted rules H o port note at (Some end) kind held ended was =
     let later = H ▹ (port, Emit note at) in
     let same : end_of later ≡ end_of H = ap (λ e. option_or e (terminal_in note)) ended ∙ sym ended in
     ap offered_of (signals-refused rules H port note at o (ap is_some ended))
     ∙ was
-    ∙ ap (λ b. last_alone b rules H) (sym (made_at-note rules H o port note at))
-    ∙ ap (λ e. cond (is_some (signals rules later o)) (cond (is_completion e) (last_item rules H) []) []) (sym same)
-    ∙ ap (λ xs. cond (is_some (signals rules later o)) (cond (is_completion (end_of later)) (unstamped (newest 1 xs)) []) [])
+    ∙ ap (λ e. cond (is_completion e) (last_item rules H) []) (sym same)
+    ∙ ap (λ xs. cond (is_completion (end_of later)) (unstamped (newest 1 xs)) [])
     (sym (items-refused rules H port note at (ap is_some ended)))
 
 async-joined : (rules : Rules) (H : History) (o port : ℕ) (policy : Choice) (first at : ℕ) (b : Bool) → rules.kind ≡ Async → ((joins rules H == o) && may_join rules H) ≡ b
-    → offered_to rules H o ≡ last_alone (is_some (signals rules H o)) rules H
-    → offered_to rules (H ▹ (port, Join policy first at)) o ≡ last_alone (is_some (signals rules (H ▹ (port, Join policy first at)) o)) rules H
+    → (b ≡ false → offered_to rules H o ≡ last_alone rules H)
+    → offered_to rules (H ▹ (port, Join policy first at)) o ≡ last_alone rules H
 async-joined rules H o port policy first at true kind it was =
     offered_to-joined rules H o port policy first at it
     ∙ ap (λ k. opening_by k rules H (max (stamp rules H) at)) kind
-    ∙ ap (λ s. last_alone (is_some s) rules H) (sym (signals-joined rules H port policy first at o it))
 async-joined rules H o port policy first at false kind not_it was =
-    ap offered_of (signals-not_joined rules H port policy first at o not_it)
-    ∙ was
-    ∙ ap (λ s. last_alone (is_some s) rules H) (sym (signals-not_joined rules H port policy first at o not_it))
-
-async_offers : (rules : Rules) (H : History) (o : ℕ) → rules.kind ≡ Async → offered_to rules H o ≡ last_alone (is_some (signals rules H o)) rules H
-async_offers rules NoEvents o kind = refl
-async_offers rules (H ▹ (port, Emit note at)) o kind = async-emitted rules H o port note at (end_of H) kind refl (async_offers rules H o kind)
-async_offers rules (H ▹ (port, Join policy first at)) o kind =
-    async-joined rules H o port policy first at ((joins rules H == o) && may_join rules H) kind refl (async_offers rules H o kind)
-async_offers rules (H ▹ (port, Request who n)) o kind =
-    offered_to-request rules H port who n o (who == o) refl
-    ∙ async_offers rules H o kind
-    ∙ ap (λ b. last_alone b rules H) (sym (made_at-request rules H o port who n))
+    ap offered_of (signals-not_joined rules H port policy first at o not_it) ∙ was refl
 
 -- of an Async subject an observer that is held is offered the last item alone, once the subject completed
 pub async_offers_the_last : AsyncOffersTheLast
-async_offers_the_last rules H o kind held =
-    async_offers rules H o kind
-    ∙ ap (λ b. last_alone b rules H) (sym (is_held-signals rules H o) ∙ held)
+async_offers_the_last rules NoEvents o kind held = refl
+async_offers_the_last rules (H ▹ (port, Emit note at)) o kind held =
+    async-emitted rules H o port note at (end_of H) kind held refl (async_offers_the_last rules H o kind held)
+async_offers_the_last rules (H ▹ (port, Join policy first at)) o kind held =
+    async-joined rules H o port policy first at ((joins rules H == o) && may_join rules H) kind refl
+    (λ not_it. async_offers_the_last rules H o kind (sym (is_held-not_joined rules H port policy first at o not_it) ∙ held))
+async_offers_the_last rules (H ▹ (port, Request who n)) o kind held =
+    offered_to-request rules H port who n o ((who == o) && is_held rules H o) refl ∙ async_offers_the_last rules H o kind held
+async_offers_the_last rules (H ▹ (port, Dispose who)) o kind held = async_offers_the_last rules H o kind (held_before rules H port who o held)
 
 -- IN ORDER
 
@@ -216,60 +193,68 @@ opening_in_order (Replay count age) rules H z =
     some_of_some (unstamped (at_most count in_time)) (unstamped in_time) (emitted rules H)
     (kept_in_order count in_time) (filter_of (λ each. is_young age (age_moment rules H z - each.1)) (items rules H))
 
-made_in_order : (s : Option Signals) (offers all : List Item) → IsSubsequence offers all → IsSubsequence (where_made s offers) all
-made_in_order None offers all of = none_of all
-made_in_order (Some s) offers all of = of
+-- what an accepted note offers to an observer that is held comes behind what it was offered
+kind_in_order : (rules : Rules) (H : History) (o port : ℕ) (note : Note) (kind : Kind) → rules.kind ≡ kind → is_held rules H o ≡ true → end_of H ≡ None
+    → IsSubsequence (offered_to rules H o) (all_items rules H)
+    → IsSubsequence (offered_to rules H o ++ offers_by kind (last_item rules H) port note) (all_items rules H ++ item_in port note)
+kind_in_order rules H o port note Publish is held unended of = both_of _ _ _ _ of (all_of (item_in port note))
+kind_in_order rules H o port note (Behavior seed) is held unended of = both_of _ _ _ _ of (all_of (item_in port note))
+kind_in_order rules H o port note (Replay count age) is held unended of = both_of _ _ _ _ of (all_of (item_in port note))
+kind_in_order rules H o port note Async is held unended of =
+    let last = cond (is_completion (terminal_in note)) (last_item rules H) [] in
+    let none : offered_to rules H o ≡ [] = async_offers_the_last rules H o is held ∙ nothing_yet rules H unended in
+    let all : all_items rules H ≡ emitted rules H = ap (λ k. seed_of k ++ emitted rules H) is in
+    along (last ++ []) (emitted rules H ++ item_in port note) _ _
+    (ap (λ xs. xs ++ last) none ∙ sym (append-nil last))
+    (ap (λ xs. xs ++ item_in port note) all)
+    (both_of last (emitted rules H) [] (item_in port note)
+    (chosen_in_order (is_completion (terminal_in note)) (last_item rules H) [] (emitted rules H) (newest_in_order (items rules H) 1) (none_of (emitted rules H)))
+    (none_of (item_in port note)))
 
-once-emitted : (rules : Rules) (H : History) (o port : ℕ) (note : Note) (at : ℕ) (end : Option Note) → offers_at_once rules.kind ≡ true → end_of H ≡ end
+all_items-accepted : (rules : Rules) (H : History) (port : ℕ) (note : Note) (at : ℕ) → end_of H ≡ None
+    → all_items rules (H ▹ (port, Emit note at)) ≡ all_items rules H ++ item_in port note
+all_items-accepted rules H port note at unended =
+    ap (λ xs. seed_of rules.kind ++ xs) (emitted-accepted rules H port note at (ap is_some unended))
+    ∙ sym (append_assoc (seed_of rules.kind) (emitted rules H) (item_in port note))
+
+accepted_in_order : (rules : Rules) (H : History) (o port : ℕ) (note : Note) (at : ℕ) (held : Bool) → is_held rules H o ≡ held → end_of H ≡ None
     → IsSubsequence (offered_to rules H o) (all_items rules H)
     → IsSubsequence (offered_to rules (H ▹ (port, Emit note at)) o) (all_items rules (H ▹ (port, Emit note at)))
-once-emitted rules H o port note at None once unended of =
-    let more = item_in port note in
-    along (where_made (signals rules H o) (offered_to rules H o ++ more)) (all_items rules H ++ more) _ _
-    (offered_to-emitted rules H o port note at unended
-    ∙ ap (λ offers. where_made (signals rules H o) (offered_to rules H o ++ offers)) (now_offered rules.kind (last_item rules H) port note once))
-    (ap (λ xs. seed_of rules.kind ++ xs) (emitted-accepted rules H port note at (ap is_some unended)) ∙ sym (append_assoc (seed_of rules.kind) (emitted rules H) more))
-    (made_in_order (signals rules H o) (offered_to rules H o ++ more) (all_items rules H ++ more)
-    (both_of (offered_to rules H o) (all_items rules H) more more of (all_of more)))
-once-emitted rules H o port note at (Some end) once ended of =
+accepted_in_order rules H o port note at true held unended of =
+    along _ _ _ _ (offered_to-emitted rules H o port note at unended held) (all_items-accepted rules H port note at unended)
+    (kind_in_order rules H o port note rules.kind refl held unended of)
+accepted_in_order rules H o port note at false left unended of =
+    along (offered_to rules H o ++ []) (all_items rules H ++ item_in port note) _ _
+    (ap offered_of (signals-passed_by rules H port note at o left) ∙ sym (append-nil (offered_to rules H o)))
+    (all_items-accepted rules H port note at unended)
+    (both_of (offered_to rules H o) (all_items rules H) [] (item_in port note) of (none_of (item_in port note)))
+
+emitted_in_order : (rules : Rules) (H : History) (o port : ℕ) (note : Note) (at : ℕ) (end : Option Note) → end_of H ≡ end
+    → IsSubsequence (offered_to rules H o) (all_items rules H)
+    → IsSubsequence (offered_to rules (H ▹ (port, Emit note at)) o) (all_items rules (H ▹ (port, Emit note at)))
+emitted_in_order rules H o port note at None unended of = accepted_in_order rules H o port note at (is_held rules H o) refl unended of
+emitted_in_order rules H o port note at (Some end) ended of =
     along (offered_to rules H o) (all_items rules H) _ _
     (ap offered_of (signals-refused rules H port note at o (ap is_some ended)))
     (ap (λ xs. seed_of rules.kind ++ xs) (emitted-refused rules H port note at (ap is_some ended))) of
 
-once-joined : (rules : Rules) (H : History) (o port : ℕ) (policy : Choice) (first at : ℕ) (b : Bool) → ((joins rules H == o) && may_join rules H) ≡ b
+joined_in_order : (rules : Rules) (H : History) (o port : ℕ) (policy : Choice) (first at : ℕ) (b : Bool) → ((joins rules H == o) && may_join rules H) ≡ b
     → IsSubsequence (offered_to rules H o) (all_items rules H) → IsSubsequence (offered_to rules (H ▹ (port, Join policy first at)) o) (all_items rules H)
-once-joined rules H o port policy first at true it of =
+joined_in_order rules H o port policy first at true it of =
     let z = max (stamp rules H) at in
     along (opening_by rules.kind rules H z) (all_items rules H) _ _
     (offered_to-joined rules H o port policy first at it) refl (opening_in_order rules.kind rules H z)
-once-joined rules H o port policy first at false not_it of =
+joined_in_order rules H o port policy first at false not_it of =
     along (offered_to rules H o) (all_items rules H) _ _
     (ap offered_of (signals-not_joined rules H port policy first at o not_it)) refl of
 
--- the items that are offered as they come stand in the order of all
-once_in_order : (rules : Rules) (H : History) (o : ℕ) → offers_at_once rules.kind ≡ true → IsSubsequence (offered_to rules H o) (all_items rules H)
-once_in_order rules NoEvents o once = none_of (all_items rules NoEvents)
-once_in_order rules (H ▹ (port, Emit note at)) o once = once-emitted rules H o port note at (end_of H) once refl (once_in_order rules H o once)
-once_in_order rules (H ▹ (port, Join policy first at)) o once =
-    once-joined rules H o port policy first at ((joins rules H == o) && may_join rules H) refl (once_in_order rules H o once)
-once_in_order rules (H ▹ (port, Request who n)) o once =
-    along (offered_to rules H o) (all_items rules H) _ _ (offered_to-request rules H port who n o (who == o) refl) refl (once_in_order rules H o once)
-
--- and so does the last item alone
-last_in_order : (rules : Rules) (H : History) (o : ℕ) → rules.kind ≡ Async → IsSubsequence (offered_to rules H o) (all_items rules H)
-last_in_order rules H o kind =
-    along (last_alone (is_some (signals rules H o)) rules H) (emitted rules H) _ _
-    (async_offers rules H o kind) (ap (λ k. seed_of k ++ emitted rules H) kind)
-    (chosen_in_order (is_some (signals rules H o)) _ [] (emitted rules H)
-    (chosen_in_order (is_completion (end_of H)) (last_item rules H) [] (emitted rules H) (newest_in_order (items rules H) 1) (none_of (emitted rules H)))
-    (none_of (emitted rules H)))
-
-in_order_by : (rules : Rules) (H : History) (o : ℕ) (kind : Kind) → rules.kind ≡ kind → IsSubsequence (offered_to rules H o) (all_items rules H)
-in_order_by rules H o Publish is = once_in_order rules H o (ap offers_at_once is)
-in_order_by rules H o (Behavior seed) is = once_in_order rules H o (ap offers_at_once is)
-in_order_by rules H o Async is = last_in_order rules H o is
-in_order_by rules H o (Replay count age) is = once_in_order rules H o (ap offers_at_once is)
-
 -- the items offered are the seed and items of the accepted Emits, in their order
 pub offers_in_order : (rules : Rules) (H : History) (o : ℕ) → IsSubsequence (offered_to rules H o) (all_items rules H)
-offers_in_order rules H o = in_order_by rules H o rules.kind refl
+offers_in_order rules NoEvents o = none_of (all_items rules NoEvents)
+offers_in_order rules (H ▹ (port, Emit note at)) o = emitted_in_order rules H o port note at (end_of H) refl (offers_in_order rules H o)
+offers_in_order rules (H ▹ (port, Join policy first at)) o =
+    joined_in_order rules H o port policy first at ((joins rules H == o) && may_join rules H) refl (offers_in_order rules H o)
+offers_in_order rules (H ▹ (port, Request who n)) o =
+    along (offered_to rules H o) (all_items rules H) _ _
+    (offered_to-request rules H port who n o ((who == o) && is_held rules H o) refl) refl (offers_in_order rules H o)
+offers_in_order rules (H ▹ (port, Dispose who)) o = offers_in_order rules H o

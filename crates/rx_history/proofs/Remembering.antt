@@ -2,7 +2,7 @@
 use Rattle.std.proofs.Common.{◌≡◌, ℕ, ◌-◌, max, true, false, List, length, drop, ap, ◌∙◌, arith}
 use Rattle.std.proofs.lemmas.Grind.{common_steps}
 use Rattle.std.proofs.lemmas.List.{length-map, drop-map}
-use Rattle.rx_note.specs.declared.event.Event.TheVariants.{Join, Request}
+use Rattle.rx_note.specs.declared.event.Event.TheVariants.{Join, Request, Dispose}
 use Rattle.rx_note.specs.declared.rules.Rules.{Rules}
 use Rattle.rx_note.specs.Choices.{Choice}
 use Rattle.rx_history.specs.Histories.{History, ◌▹◌, may_join, stamp, Stamped, unstamped, newest, age_moment}
@@ -27,6 +27,14 @@ remembers_not_joined rules past H port policy first at refused was = record {
 -- so does a request
 pub remembers_requested : (rules : Rules) (past : Past) (H : History) (port who n : ℕ) → Remembers rules past H → Remembers rules past (H ▹ (port, Request who n))
 remembers_requested rules past H port who n was = record {
+  has_end = was.has_end;
+  has_moment = grind (arith, common_steps);
+  has_items = was.has_items;
+}
+
+-- and an observer that leaves
+pub remembers_left : (rules : Rules) (past : Past) (H : History) (port who : ℕ) → Remembers rules past H → Remembers rules past (H ▹ (port, Dispose who))
+remembers_left rules past H port who was = record {
   has_end = was.has_end;
   has_moment = grind (arith, common_steps);
   has_items = was.has_items;

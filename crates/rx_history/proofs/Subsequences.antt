@@ -1,5 +1,5 @@
 -- Subsequences: some items of a list in the list's order.
-use Rattle.std.proofs.Common.{◌≡◌, ℕ, zero, suc, Bool, true, false, cond, List, [], ◌∷◌, ◌++◌, length, drop, refl, sym, ap, subst, ◌∙◌, arith}
+use Rattle.std.proofs.Common.{◌≡◌, ℕ, zero, suc, Bool, true, false, cond, List, [], ◌∷◌, ◌++◌, length, take, drop, refl, sym, ap, subst, ◌∙◌, arith}
 use Rattle.std.specs.List.{filter, items_where_true}
 use Rattle.std.proofs.lemmas.List.{length-append}
 use Rattle.rx_note.specs.declared.item.Item.{Item}
@@ -29,6 +29,12 @@ none_of xs = picked [] xs
 pub all_of : (xs : List Item) → IsSubsequence xs xs
 all_of [] = ([], refl, refl)
 all_of (x ∷ xs) = let rest = all_of xs in (true ∷ rest.0, omega (arith, rest.1), ap (λ ys. x ∷ ys) rest.2)
+
+-- so are the first ones
+pub take_of : (n : ℕ) (xs : List Item) → IsSubsequence (take n xs) xs
+take_of zero xs = none_of xs
+take_of (suc n) [] = none_of []
+take_of (suc n) (x ∷ xs) = let rest = take_of n xs in (true ∷ rest.0, omega (arith, rest.1), ap (λ ys. x ∷ ys) rest.2)
 
 picked-append : (bs cs : List Bool) (xs ys : List Item) → length bs ≡ length xs → items_where_true (bs ++ cs) (xs ++ ys) ≡ items_where_true bs xs ++ items_where_true cs ys
 picked-append [] cs [] ys h = refl

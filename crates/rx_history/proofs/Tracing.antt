@@ -1,18 +1,24 @@
 -- A trace keeps up with the signals: what each of them makes of it.
-use Rattle.std.proofs.Common.{◌≡◌, ℕ, zero, suc, ◌+◌, ◌-◌, ◌<◌, ◌≤◌, List, [], ◌∷◌, ◌++◌, length, map, take, drop, Option, None, Some, option_to_list, refl, sym, ap, subst, ◌∙◌, arith}
-use Rattle.std.proofs.lemmas.List.{append-nil, map-append, length-take, length-append, drop_at}
+use Rattle.std.proofs.Common.{◌≡◌, ℕ, zero, suc, ◌+◌, ◌-◌, ◌<◌, ◌≤◌, Bool, true, false, List, [], ◌∷◌, ◌++◌, length, cond, map, take, drop, Option, None, Some, option_to_list, refl, sym, ap, subst, ◌∙◌, arith}
+use Rattle.std.proofs.lemmas.List.{append-nil, map-append, length-take, length-append, take_all, drop_at}
 use Rattle.rx_note.specs.declared.item.Item.{Item}
 use Rattle.rx_note.specs.declared.note.Note.{Note}
 use Rattle.rx_note.specs.declared.note.Note.TheVariants.{Next}
 use Rattle.rx_note.specs.Choices.{Choice}
 use Rattle.rx_history.specs.Histories.{followed_by, ended_by}
-use Rattle.rx_note.specs.Signals.{Signal, Start, Requested, Offered, Ended, Signals, ◌▸◌, policy_of, demand, beyond_room, terminal_of, line_items, line, given, waiting_items, waiting}
+use Rattle.rx_note.specs.Signals.{Signal, Start, Requested, Offered, Ended, Signals, ◌▸◌, policy_of, demand, beyond_room, terminal_of, goes_ahead, line_items, line, given, waiting_items, waiting}
 use Rattle.rx_note.specs.Queues.{queued}
-use Rattle.rx_note.proofs.Lines.{line_items-owed, line_items-queued, line_items-ended, stays_behind, owed-rest, given-waiting}
+use Rattle.rx_note.proofs.Lines.{line_items-owed, line_items-queued, line_items-ended, line_items-ahead, owed-rest, given-waiting}
 use Rattle.rx_history.proofs.Endings.{terminal_of-offers}
 use Rattle.rx_history.proofs.Rooms.{waits_in_room}
 use Rattle.rx_history.specs.declared.trace.Trace.{Trace}
 use Rattle.rx_history.specs.Traces.{Traces}
+
+-- as many of the first items as there are of the first n are the first n
+take_length : (n : ℕ) (xs : List Item) → take (length (take n xs)) xs ≡ take n xs
+take_length zero xs = refl
+take_length (suc n) [] = refl
+take_length (suc n) (x ∷ xs) = ap (λ ys. x ∷ ys) (take_length n xs)
 
 take-nil : (n : ℕ) → take {A = Item} n [] ≡ []
 take-nil zero = refl
@@ -20,9 +26,9 @@ take-nil (suc n) = refl
 
 -- an item that is owed is given at once, and all the items are then given
 pub offer_given : (old new : Trace) (item : Item) (s : Signals) → Traces old s → terminal_of s ≡ None → 0 < old.owed
-    → new.strategy ≡ old.strategy → new.items.items ≡ old.items.items ++ item ∷ [] → new.given ≡ length new.items.items → new.owed ≡ old.owed - 1 → new.end ≡ old.end
+    → new.strategy ≡ old.strategy → new.errors ≡ old.errors → new.items.items ≡ old.items.items ++ item ∷ [] → new.given ≡ length new.items.items → new.owed ≡ old.owed - 1 → new.end ≡ old.end
     → Traces new (s ▸ Offered item)
-offer_given old new item s was open_now owes is_strategy is_items is_given is_owed is_end =
+offer_given old new item s was open_now owes is_strategy is_errors is_items is_given is_owed is_end =
     let short : length (line_items s) < demand s = omega (arith, owed-rest s, was.has_owed) in
     let behind : line_items (s ▸ Offered item) ≡ line_items s ++ item ∷ [] = line_items-owed s item open_now short in
     let longer = ap length behind ∙ length-append (line_items s) (item ∷ []) in
@@ -31,6 +37,7 @@ offer_given old new item s was open_now owes is_strategy is_items is_given is_ow
     let cut = length-take (demand s) (line_items (s ▸ Offered item)) in
     record {
       has_strategy = is_strategy ∙ was.has_strategy;
+      has_errors = is_errors ∙ was.has_errors;
       has_items = has_items;
       has_given = omega (arith, longer, all, cut, owed-rest s, was.has_owed);
       has_owed = omega (arith, longer, cut, owed-rest s, was.has_owed);
@@ -39,12 +46,12 @@ offer_given old new item s was open_now owes is_strategy is_items is_given is_ow
 
 -- an item that is not owed is queued by the strategy behind those given
 pub offer_waits : (old new : Trace) (item : Item) (s : Signals) → Traces old s → terminal_of s ≡ None → old.owed ≡ 0
-    → new.strategy ≡ old.strategy
+    → new.strategy ≡ old.strategy → new.errors ≡ old.errors
     → (beyond_room old.strategy (length (drop old.given old.items.items)) ≡ 0
     → new.items.items ≡ take old.given old.items.items ++ queued old.strategy (drop old.given old.items.items) item)
     → new.given ≡ old.given → new.owed ≡ old.owed → new.end ≡ old.end
     → Traces new (s ▸ Offered item)
-offer_waits old new item s was open_now owes is_strategy queues is_given is_owed is_end =
+offer_waits old new item s was open_now owes is_strategy is_errors queues is_given is_owed is_end =
     let g = (policy_of s).strategy in
     let front = take (demand s) (line_items s) in
     let back = queued g (waiting_items s) item in
@@ -68,31 +75,57 @@ offer_waits old new item s was open_now owes is_strategy queues is_given is_owed
     let cut = length-take (demand s) (line_items (s ▸ Offered item)) in
     record {
       has_strategy = is_strategy ∙ was.has_strategy;
+      has_errors = is_errors ∙ was.has_errors;
       has_items = is_items ∙ sym parts;
       has_given = omega (arith, longer, before, cut, place);
       has_owed = omega (arith, longer, before, cut, owed-rest s, was.has_owed);
       has_end = is_end ∙ was.has_end;
     }
 
--- the end leaves all but the end
+-- the end leaves the items, but that an error that goes ahead leaves of them those that were given
+kept_by : (b : Bool) (g : ℕ) (xs : List Item) (n : ℕ) → g ≡ length (take n xs) → take (cond b g (length xs)) xs ≡ cond b (take n xs) xs
+kept_by true g xs n given = ap (λ k. take k xs) given ∙ take_length n xs
+kept_by false g xs n given = take_all (length xs) xs (omega arith)
+
+cut_twice : (b : Bool) (n : ℕ) (xs : List Item) → take n (cond b (take n xs) xs) ≡ take n xs
+cut_twice true n xs = take_all n (take n xs) (omega (arith, length-take n xs))
+cut_twice false n xs = refl
+
+line_items-end : (b : Bool) (s : Signals) (terminal : Note) → goes_ahead (policy_of s).errors terminal ≡ b → terminal_of s ≡ None
+    → line_items (s ▸ Ended terminal) ≡ cond b (take (demand s) (line_items s)) (line_items s)
+line_items-end true s terminal ahead open_now = line_items-ahead s terminal ahead open_now
+line_items-end false s terminal behind open_now = line_items-ended s terminal behind open_now
+
 pub ends : (old new : Trace) (terminal : Note) (s : Signals) → Traces old s → terminal_of s ≡ None
-    → new.strategy ≡ old.strategy → new.items.items ≡ old.items.items → new.given ≡ old.given → new.owed ≡ old.owed → new.end ≡ Some terminal
+    → new.strategy ≡ old.strategy → new.errors ≡ old.errors
+    → new.items.items ≡ take (cond (goes_ahead old.errors terminal) old.given (length old.items.items)) old.items.items
+    → new.given ≡ old.given → new.owed ≡ old.owed → new.end ≡ Some terminal
     → Traces new (s ▸ Ended terminal)
-ends old new terminal s was open_now is_strategy is_items is_given is_owed is_end =
-    let same : line_items (s ▸ Ended terminal) ≡ line_items s = line_items-ended s terminal (stays_behind (policy_of s).errors terminal) open_now in
+ends old new terminal s was open_now is_strategy is_errors is_items is_given is_owed is_end =
+    let b = goes_ahead old.errors terminal in
+    let xs = line_items s in
+    let left : line_items (s ▸ Ended terminal) ≡ cond b (take (demand s) xs) xs =
+    line_items-end b s terminal (ap (λ e. goes_ahead e terminal) (sym was.has_errors)) open_now in
+    let cut : take (demand s) (line_items (s ▸ Ended terminal)) ≡ take (demand s) xs = ap (take (demand s)) left ∙ cut_twice b (demand s) xs in
     record {
       has_strategy = is_strategy ∙ was.has_strategy;
-      has_items = is_items ∙ was.has_items ∙ sym same;
-      has_given = is_given ∙ was.has_given ∙ ap (λ xs. length (take (demand s) xs)) (sym same);
-      has_owed = is_owed ∙ was.has_owed ∙ ap (λ xs. demand s - length (take (demand s) xs)) (sym same);
+      has_errors = is_errors ∙ was.has_errors;
+      has_items =
+          is_items
+          ∙ ap (λ ys. take (cond b old.given (length ys)) ys) was.has_items
+          ∙ kept_by b old.given xs (demand s) was.has_given
+          ∙ sym left;
+      has_given = is_given ∙ was.has_given ∙ ap length (sym cut);
+      has_owed = is_owed ∙ was.has_owed ∙ ap (λ ys. demand s - length ys) (sym cut);
       has_end = is_end;
     }
 
 -- an observer that joins has requested its first items
-pub opens : (new : Trace) (policy : Choice) (first : ℕ) → new.strategy ≡ policy.strategy → new.items.items ≡ [] → new.given ≡ 0 → new.owed ≡ first → new.end ≡ None
+pub opens : (new : Trace) (policy : Choice) (first : ℕ) → new.strategy ≡ policy.strategy → new.errors ≡ policy.errors → new.items.items ≡ [] → new.given ≡ 0 → new.owed ≡ first → new.end ≡ None
     → Traces new (Start policy ▸ Requested first)
-opens new policy first is_strategy is_items is_given is_owed is_end = record {
+opens new policy first is_strategy is_errors is_items is_given is_owed is_end = record {
   has_strategy = is_strategy;
+  has_errors = is_errors;
   has_items = is_items;
   has_given = is_given ∙ sym (ap length (take-nil (0 + first)));
   has_owed = omega (arith, ap length (take-nil (0 + first)));

@@ -9,16 +9,18 @@ use Rattle.rx_note.specs.declared.given.Given.{Given}
 use Rattle.rx_note.specs.declared.item.Item.{Item}
 use Rattle.rx_note.specs.declared.note.Note.{Note}
 use Rattle.rx_note.specs.declared.note.Note.TheVariants.{Next, Completed, Failed}
-use Rattle.rx_note.specs.declared.event.Event.TheVariants.{Emit}
+use Rattle.rx_note.specs.declared.event.Event.TheVariants.{Emit, Dispose}
 use Rattle.rx_note.specs.declared.rules.Rules.{Rules}
 use Rattle.rx_note.specs.declared.kind.Kind.{Kind}
 use Rattle.rx_note.specs.declared.kind.Kind.TheVariants.{Publish, Behavior, Async, Replay}
 use Rattle.rx_note.specs.declared.strategy.Strategy.{Strategy}
 use Rattle.rx_note.specs.declared.strategy.Strategy.TheVariants.{Buffer, Drop, Latest}
-use Rattle.rx_note.specs.declared.errors.Errors.TheVariants.{Delay}
+use Rattle.rx_note.specs.declared.text.Text.{Text}
+use Rattle.rx_note.specs.declared.errors.Errors.{Errors}
+use Rattle.rx_note.specs.declared.errors.Errors.TheVariants.{Ahead, Delay}
 use Rattle.rx_note.specs.Choices.{Choice, choice}
 use Rattle.rx_note.specs.Signals.{Requested, Offered, Ended, Signals, Start, ◌▸◌, policy_of, demand}
-use Rattle.rx_history.specs.Histories.{Entry, History, ◌▹◌, terminal_in, end_of, is_ended, is_completion, is_held, item_in, items, unstamped, last_item, seed_item, signals, given_to, line_of, waiting_for, owed_to, outs}
+use Rattle.rx_history.specs.Histories.{Entry, History, ◌▹◌, terminal_in, end_of, is_ended, is_completion, joins, is_held, item_in, items, unstamped, last_item, seed_item, signals, given_to, line_of, waiting_for, owed_to, outs}
 
 -- THE WORDS
 
@@ -60,6 +62,10 @@ policy_by rules H o = option_map policy_of (signals rules H o)
 -- the strategy of that policy
 abbrev pub strategy_by : Rules → History → ℕ → Option Strategy
 strategy_by rules H o = option_map (λ policy. policy.strategy) (policy_by rules H o)
+
+-- the error mode of that policy
+abbrev pub errors_by : Rules → History → ℕ → Option Errors
+errors_by rules H o = option_map (λ policy. policy.errors) (policy_by rules H o)
 
 -- the items of the accepted Emits
 abbrev pub emitted : Rules → History → List Item
@@ -160,6 +166,30 @@ abbrev pub NothingFollowsTheEnd : Type 0
 NothingFollowsTheEnd =
     (rules : Rules) (H : History) (o : ℕ) (entry : Entry) → is_held rules H o ≡ true → is_ended H ≡ true
     → waiting_for rules H o ≡ [] → given_to rules (H ▹ entry) o ≡ given_to rules H o
+
+-- an error that is emitted is given at once to an observer by Ahead that is held, whatever it requested, and nothing waits
+-- for it any more
+abbrev pub ErrorGoesAhead : Type 0
+ErrorGoesAhead =
+    (rules : Rules) (H : History) (o port : ℕ) (text : Text) (at : ℕ) → is_held rules H o ≡ true → errors_by rules H o ≡ Some Ahead → is_ended H ≡ false
+    → (given_to rules (H ▹ (port, Emit (Failed text) at)) o ≡ given_to rules H o ++ Failed text ∷ [])
+    × (waiting_for rules (H ▹ (port, Emit (Failed text) at)) o ≡ [])
+
+-- THE DISPOSED
+
+-- an observer that leaves is given nothing by that, nothing waits for it any more, and its line is what it was given
+abbrev pub DisposeDiscards : Type 0
+DisposeDiscards =
+    (rules : Rules) (H : History) (o port : ℕ)
+    → (given_to rules (H ▹ (port, Dispose o)) o ≡ given_to rules H o)
+    × (waiting_for rules (H ▹ (port, Dispose o)) o ≡ [])
+    × (line_of rules (H ▹ (port, Dispose o)) o ≡ given_to rules H o)
+
+-- whatever comes then, it is given nothing more, and it is not held again
+abbrev pub NothingFollowsADispose : Type 0
+NothingFollowsADispose =
+    (rules : Rules) (H : History) (o : ℕ) (entry : Entry) → o < joins rules H → is_held rules H o ≡ false
+    → (given_to rules (H ▹ entry) o ≡ given_to rules H o) × (is_held rules (H ▹ entry) o ≡ false)
 
 -- BOUNDED WAITING
 

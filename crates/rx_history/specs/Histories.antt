@@ -12,14 +12,14 @@ use Rattle.rx_note.specs.declared.given.Given.{Given}
 use Rattle.rx_note.specs.declared.note.Note.{Note}
 use Rattle.rx_note.specs.declared.note.Note.TheVariants.{Next, Completed, Failed}
 use Rattle.rx_note.specs.declared.event.Event.{Event}
-use Rattle.rx_note.specs.declared.event.Event.TheVariants.{Emit, Join, Request}
+use Rattle.rx_note.specs.declared.event.Event.TheVariants.{Emit, Join, Request, Dispose}
 use Rattle.rx_note.specs.declared.rules.Rules.{Rules}
 use Rattle.rx_note.specs.declared.limits.Limits.{Limits}
 use Rattle.rx_note.specs.declared.policy.Policy.{Policy}
 use Rattle.rx_note.specs.declared.kind.Kind.{Kind}
 use Rattle.rx_note.specs.declared.kind.Kind.TheVariants.{Publish, Behavior, Async, Replay}
 use Rattle.rx_note.specs.declared.answer.Answer.{Answer}
-use Rattle.rx_note.specs.declared.answer.Answer.TheVariants.{Admitted, Joined, Asked}
+use Rattle.rx_note.specs.declared.answer.Answer.TheVariants.{Admitted, Joined, Asked, Left}
 use Rattle.rx_note.specs.declared.refusal.Refusal.{Refusal}
 use Rattle.rx_note.specs.declared.refusal.Refusal.TheVariants as refused
 use Rattle.rx_note.specs.Signals.{Signal, Requested, Offered, Ended, Signals, Start, ◌▸◌, line, given, waiting, owed}
@@ -48,6 +48,7 @@ end_of NoEvents = None
 end_of (H ▹ (port, Emit note at)) = option_or (end_of H) (terminal_in note)
 end_of (H ▹ (port, Join policy first at)) = end_of H
 end_of (H ▹ (port, Request who n)) = end_of H
+end_of (H ▹ (port, Dispose who)) = end_of H
 
 -- whether the subject ended; an Emit is accepted where it had not
 abbrev pub is_ended : History → Bool
@@ -80,6 +81,10 @@ admits limits roster = nat_lt (length roster.held) limits.observers && nat_lt ro
 abbrev pub with_one_more : Roster → Roster
 with_one_more roster = record { joins = roster.joins + 1; held = roster.held ++ roster.joins ∷ [] }
 
+-- the roster without one observer
+abbrev pub without_one : ℕ → Roster → Roster
+without_one who roster = record roster { held = filter (λ o. not (o == who)) roster.held }
+
 -- the roster that a history leaves
 abbrev pub roster_of : Limits → History → Roster
 roster_of limits NoEvents = record { joins = 0; held = [] }
@@ -87,6 +92,7 @@ roster_of limits (H ▹ (port, Emit note at)) = roster_of limits H
 roster_of limits (H ▹ (port, Join policy first at)) =
     if admits limits (roster_of limits H) then with_one_more (roster_of limits H) else roster_of limits H
 roster_of limits (H ▹ (port, Request who n)) = roster_of limits H
+roster_of limits (H ▹ (port, Dispose who)) = without_one who (roster_of limits H)
 
 -- how many Joins were accepted
 abbrev pub joins : Rules → History → ℕ
@@ -112,6 +118,7 @@ stamp rules NoEvents = 0
 stamp rules (H ▹ (port, Emit note at)) = if is_ended H then stamp rules H else max (stamp rules H) at
 stamp rules (H ▹ (port, Join policy first at)) = if may_join rules H then max (stamp rules H) at else stamp rules H
 stamp rules (H ▹ (port, Request who n)) = stamp rules H
+stamp rules (H ▹ (port, Dispose who)) = stamp rules H
 
 -- an item and the stamp at its place
 abbrev pub Stamped : Type 0
@@ -130,6 +137,7 @@ items rules (H ▹ (port, Emit note at)) =
     if is_ended H then items rules H else items rules H ++ map (λ item. (item, max (stamp rules H) at)) (item_in port note)
 items rules (H ▹ (port, Join policy first at)) = items rules H
 items rules (H ▹ (port, Request who n)) = items rules H
+items rules (H ▹ (port, Dispose who)) = items rules H
 
 -- items without their stamps
 abbrev pub unstamped : List Stamped → List Item
@@ -219,6 +227,7 @@ signals rules (H ▹ (port, Join policy first at)) o =
     if (joins rules H == o) && may_join rules H then Some (opened rules H policy first at) else signals rules H o
 signals rules (H ▹ (port, Request who n)) o =
     if (who == o) && is_held rules H o then option_map (λ s. if may_request n s then s ▸ Requested n else s) (signals rules H o) else signals rules H o
+signals rules (H ▹ (port, Dispose who)) o = signals rules H o
 
 -- THE HEADLINE: what an observer is to be given, what it was given, what waits for it
 
@@ -250,6 +259,7 @@ answer rules H (Request who n) =
     if n == 0 then Err refused.ZeroRequest
     else (if not (is_held rules H who) then Err refused.NoObserver
     else (if nat_le (owed_to rules H who + n) 4294967295 then Ok Asked else Err refused.TooMuch))
+answer rules H (Dispose who) = if is_held rules H who then Ok Left else Err refused.NoObserver
 
 -- notes addressed to an observer
 abbrev pub addressed : ℕ → List Note → List Given

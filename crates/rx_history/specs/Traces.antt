@@ -5,9 +5,10 @@ use Rattle.rx_note.specs.declared.rules.Rules.{Rules}
 use Rattle.rx_history.specs.Histories.{History, signals}
 use Rattle.rx_history.specs.declared.trace.Trace.{Trace}
 
--- the trace has the strategy of these signals, their line, how many of its items were given, and how many more are owed
+-- the trace has the policy of these signals, their line, how many of its items were given, and how many more are owed
 pub record Traces (trace : Trace) (s : Signals) : Type 0 where
   pub has_strategy : trace.strategy ≡ (policy_of s).strategy
+  pub has_errors : trace.errors ≡ (policy_of s).errors
   pub has_items : trace.items.items ≡ line_items s
   pub has_given : trace.given ≡ length (take (demand s) (line_items s))
   pub has_owed : trace.owed ≡ owed s

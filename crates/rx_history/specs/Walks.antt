@@ -1,14 +1,14 @@
 -- What a walk over stored events has found out, and the history that it agrees with.
 use Rattle.std.specs.Prelude.{◌≡◌}
 use Rattle.rx_note.specs.declared.rules.Rules.{Rules}
-use Rattle.rx_history.specs.Histories.{History, Entry, ◌▹◌, joins, signals}
+use Rattle.rx_history.specs.Histories.{History, Entry, ◌▹◌, roster_of, signals}
 use Rattle.rx_history.specs.Pasts.{Remembers}
 use Rattle.rx_history.specs.Traces.{MayTrace}
 use Rattle.rx_history.specs.declared.walk.Walk.{Walk}
 
--- the walk has the joins and the past of the history, and the trace of its observer
+-- the walk has the observers and the past of the history, and the trace of its observer
 pub record Agrees (rules : Rules) (walk : Walk) (H : History) : Type 0 where
-  pub has_joins : walk.joins ≡ joins rules H
+  pub has_roster : walk.roster ≡ roster_of rules.limits H
   pub has_past : Remembers rules walk.past H
   pub has_trace : MayTrace walk.trace (signals rules H walk.who)
 

@@ -1,7 +1,7 @@
 //! The laws of delivery, for every history: each function does nothing, and its contract is one law of
 //! `specs/Delivery.antt`.
 
-ghost use Rattle.rx_history.specs.Delivery.{LineIsInOrder, OffersAreInOrder, EachPortIsInOrder, EachItemIsOffered, AsyncOffersTheLast, GivenThenWaiting, GivenOnlyGrows, OutsAreGiven, TerminalIsLast, LineEndsAsTheSubject, NothingFollowsATerminal, NothingFollowsTheEnd, GivenAndOwed, GivenWithinRequests, NothingWaitsWhileOwed, WaitsWithinRoom, BufferKeepsAll};
+ghost use Rattle.rx_history.specs.Delivery.{LineIsInOrder, OffersAreInOrder, EachPortIsInOrder, EachItemIsOffered, AsyncOffersTheLast, GivenThenWaiting, GivenOnlyGrows, OutsAreGiven, TerminalIsLast, LineEndsAsTheSubject, NothingFollowsATerminal, NothingFollowsTheEnd, ErrorGoesAhead, DisposeDiscards, NothingFollowsADispose, GivenAndOwed, GivenWithinRequests, NothingWaitsWhileOwed, WaitsWithinRoom, BufferKeepsAll};
 
 /// The items of a line are items offered to the observer, in their order and none twice.
 pub fn line_is_in_order()
@@ -61,6 +61,21 @@ pub fn nothing_follows_a_terminal()
 /// Once the subject ended and nothing waits, nothing more is given to an observer that is held.
 pub fn nothing_follows_the_end()
     ensures { NothingFollowsTheEnd }
+{}
+
+/// An error that is emitted is given at once to an observer by Ahead, and nothing waits for it any more.
+pub fn error_goes_ahead()
+    ensures { ErrorGoesAhead }
+{}
+
+/// An observer that leaves is given nothing by that, and what waited for it is discarded.
+pub fn dispose_discards()
+    ensures { DisposeDiscards }
+{}
+
+/// Once an observer has left, nothing more is given to it.
+pub fn nothing_follows_a_dispose()
+    ensures { NothingFollowsADispose }
 {}
 
 /// The items given and those owed are as many as were requested.

@@ -12,6 +12,7 @@ mod history;
 pub mod laws;
 mod line_error;
 mod past;
+mod roster;
 mod trace;
 mod walk;
 

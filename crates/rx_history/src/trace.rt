@@ -1,17 +1,18 @@
 ghost use Rattle.std.specs.Prelude.{◌≡◌, ◌≤◌, ◌++◌, if◌then◌else◌, length, map, take, drop, None, IfOk, OnOk, vec_len, option_to_list};
 ghost use Rattle.rx_note.specs.declared.note.Note.TheVariants.{Next};
 ghost use Rattle.rx_note.specs.Queues.{queued};
-ghost use Rattle.rx_note.specs.Signals.{Signals, Start, ◌▸◌, Requested, Offered, Ended, beyond_room, terminal_of, line, given, waiting};
+ghost use Rattle.rx_note.specs.Signals.{Signals, Start, ◌▸◌, Requested, Offered, Ended, beyond_room, terminal_of, goes_ahead, line, given, waiting};
 ghost use Rattle.rx_history.specs.Histories.{may_request, followed_by, ended_by};
 
 use rx_heap::{Heap, Memory};
-use rx_note::{Item, Note, Policy, Strategy};
+use rx_note::{Errors, Item, Note, Policy, Strategy};
 
-/// What the events so far mean for one observer: its strategy, the items of its line, how many of these were given, how
+/// What the events so far mean for one observer: its policy, the items of its line, how many of these were given, how
 /// many items more it is owed, and the end.
 #[derive(Drop)]
 pub(crate) struct Trace {
     pub(crate) strategy: Strategy,
+    pub(crate) errors: Errors,
     pub(crate) items: Vec<Item, Heap>,
     pub(crate) given: usize,
     pub(crate) owed: u32,
@@ -28,6 +29,7 @@ impl Trace {
     {
         Trace {
             strategy: policy.strategy(),
+            errors: policy.errors(),
             items: Vec::new(alloc),
             given: 0,
             owed: first,
@@ -67,11 +69,24 @@ impl Trace {
         Ok(())
     }
 
-    // The subject ends.
+    // The subject ends. An error that goes ahead leaves of the items those that were given.
     fn end(&mut self, terminal: Note)
         ensures { (s : Signals) → terminal_of s ≡ None → Traces self.old s → Traces self.new (s ▸ Ended terminal) }
     {
+        let kept = self.kept_at(&terminal);
+        self.items.truncate(kept);
         self.end = Some(terminal);
+    }
+
+    // How many items of the line are left where the subject ends.
+    fn kept_at(&self, terminal: &Note) -> usize
+        ensures { result ≡ (if goes_ahead self.now.errors terminal.now then self.now.given else length self.now.items.items) }
+    {
+        if self.errors.goes_ahead(terminal) {
+            self.given
+        } else {
+            self.items.len()
+        }
     }
 
     /// The observer requests `n` items more. A request for none, or for more than may be owed, changes nothing.
@@ -95,6 +110,7 @@ impl Trace {
     {
         let Trace {
             strategy: _,
+            errors: _,
             items,
             given: _,
             owed: _,

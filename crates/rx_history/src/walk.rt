@@ -1,22 +1,23 @@
-ghost use Rattle.std.specs.Prelude.{ℕ, ◌≡◌, ◌+◌, ◌^◌, ◌<◌, ◌&&◌, ◌++◌, map, nat_lt, true, if◌then◌else◌, Option, IfOk, OnOk};
+ghost use Rattle.std.specs.Prelude.{ℕ, ◌≡◌, ◌≤◌, ◌++◌, map, if◌then◌else◌, Option, IfOk, OnOk};
 ghost use Rattle.std.specs.Option.{option_map};
 ghost use Rattle.rx_note.specs.declared.event.Event.TheVariants.{Emit, Join, Request};
 ghost use Rattle.rx_note.specs.Signals.{Signals, ◌▸◌, Requested, Offered};
-ghost use Rattle.rx_history.specs.Histories.{History, ◌▹◌, joins as joins_in, followed_by, ended_by, may_request, signals as signals_in};
+ghost use Rattle.rx_history.specs.Histories.{roster_of as roster_after, followed_by, ended_by, may_request, signals as signals_in};
 ghost use Rattle.rx_history.specs.Stored.{history_of};
 ghost use Rattle.rx_history.specs.Traces.{MayTrace, AreOpen};
 
 use crate::past::{Past, terminal_in};
+use crate::roster::Roster;
 use crate::trace::Trace;
 use rx_heap::{Heap, Memory};
-use rx_note::{Event, Item, Limits, Note, Policy, Rules, copy_of};
+use rx_note::{Event, Item, Note, Policy, Rules, copy_of};
 
-/// A walk over the events of a subject, from the first one on, for the sake of one observer: how many Joins were
-/// accepted, the past of the subject, and the trace of the observer once it has joined.
+/// A walk over the events of a subject, from the first one on, for the sake of one observer: the observers that are held,
+/// the past of the subject, and the trace of the observer once it has joined.
 #[derive(Drop)]
 pub(crate) struct Walk {
     pub(crate) who: u32,
-    pub(crate) joins: u32,
+    pub(crate) roster: Roster,
     pub(crate) past: Past,
     pub(crate) trace: Option<Trace>,
 }
@@ -26,6 +27,7 @@ impl Walk {
 
     /// Goes on over one event from a port.
     fn turn(&mut self, heap: &Heap, rules: &Rules, port: u32, event: &Event) -> Result<(), Memory>
+        requires { rules.now.limits.observers ≤ 64 }
         ensures passes { OnOk result (Passes rules.now self.old self.new (port, event.now)) }
         ensures who { self.new.who ≡ self.old.who }
     {
@@ -34,6 +36,10 @@ impl Walk {
             Event::Join { policy, first, at } => self.join(heap, rules, *policy, *first, *at),
             Event::Request { who, n } => {
                 self.request(*who, *n);
+                Ok(())
+            }
+            Event::Dispose { who } => {
+                self.roster.leave(*who);
                 Ok(())
             }
         }
@@ -47,6 +53,9 @@ impl Walk {
     {
         if self.past.end.is_some() {
             return Ok(());
+        }
+        if !self.roster.holds(self.who) {
+            return self.past.emit(port, note, at);
         }
         let offers = self.past.offers(&rules.kind, port, note)?;
         follow(&mut self.trace, offers, terminal_in(note)?)?;
@@ -62,14 +71,15 @@ impl Walk {
         first: u32,
         at: u64,
     ) -> Result<(), Memory>
+        requires { rules.now.limits.observers ≤ 64 }
         ensures passes { OnOk result ((port : ℕ) → Passes rules.now self.old self.new (port, Join policy first at)) }
         ensures who { self.new.who ≡ self.old.who }
     {
-        if !admits(&rules.limits, self.joins) {
+        if !self.roster.admits(&rules.limits) {
             return Ok(());
         }
-        let who = self.joins;
-        self.joins += 1;
+        let who = self.roster.joins();
+        self.roster.join();
         self.past.join(at);
         if who == self.who {
             let mut trace = Trace::joined(heap.clone()?, policy, first);
@@ -84,7 +94,7 @@ impl Walk {
         ensures passes { (rules : Rules) (port : ℕ) → Passes rules self.old self.new (port, Request who n) }
         ensures who { self.new.who ≡ self.old.who }
     {
-        if who == self.who {
+        if who == self.who && self.roster.holds(who) {
             request_by(&mut self.trace, n);
         }
     }
@@ -115,39 +125,16 @@ fn request_by(trace: &mut Option<Trace>, n: u32)
     }
 }
 
-// Whether a Join is accepted after so many; nobody leaves, so that as many are held.
-fn admits(limits: &Limits, joins: u32) -> bool
-    ensures admitted { result ≡ (nat_lt joins limits.now.observers && nat_lt joins limits.now.joins) }
-    ensures more { result ≡ true → joins + 1 < 2 ^ 32 }
+/// The observers after these entries.
+pub(crate) fn roster_of(rules: &Rules, entries: &[(u32, Event)]) -> Roster
+    requires { rules.now.limits.observers ≤ 64 }
+    ensures { result ≡ roster_after rules.now.limits (history_of entries.now) }
 {
-    joins < limits.observers && joins < limits.joins
-}
-
-// The count of the accepted Joins with one event more.
-fn joins_after(rules: &Rules, joins: u32, event: &Event) -> u32
-    ensures { (H : History) (port : ℕ) → joins ≡ joins_in rules.now H → result ≡ joins_in rules.now (H ▹ (port, event.now)) }
-{
-    match event {
-        Event::Join { .. } => {
-            if admits(&rules.limits, joins) {
-                joins + 1
-            } else {
-                joins
-            }
-        }
-        Event::Emit { .. } | Event::Request { .. } => joins,
-    }
-}
-
-/// How many Joins are accepted in these entries.
-pub(crate) fn joins_of(rules: &Rules, entries: &[(u32, Event)]) -> u32
-    ensures { result ≡ joins_in rules.now (history_of entries.now) }
-{
-    let mut joins = 0;
+    let mut roster = Roster::new();
     for entry in entries {
-        joins = joins_after(rules, joins, &entry.1);
+        roster.turn(&rules.limits, &entry.1);
     }
-    joins
+    roster
 }
 
 /// The trace of observer `who` after these entries; None where it has not joined.
@@ -157,11 +144,12 @@ pub(crate) fn trace_of(
     who: u32,
     entries: &[(u32, Event)],
 ) -> Result<Option<Trace>, Memory>
+    requires { rules.now.limits.observers ≤ 64 }
     ensures { IfOk result (λ trace. MayTrace trace (signals_in rules.now (history_of entries.now) who)) }
 {
     let mut walk = Walk {
         who,
-        joins: 0,
+        roster: Roster::new(),
         past: Past::new(heap.clone()?),
         trace: None,
     };
@@ -170,7 +158,7 @@ pub(crate) fn trace_of(
     }
     let Walk {
         who: _,
-        joins: _,
+        roster: _,
         past: _,
         trace,
     } = walk;

@@ -246,8 +246,11 @@ request_missed hub subscriptions news outs_so_far after port who n k old these l
     record {
       hub = ap (λ (os : List Observer). record hub { observers = os }) same_news;
       given = same_outs;
-      accepted = λ H stands. ok_asked (answer hub.rules H (Request who n))
-          (request_accepted hub H who n k (observer_of old) more (omega (arith, few, owing)) within (ap (λ (o : Observer). o.who) is ∙ named) stands);
+      accepted = λ H stands. (
+        refl,
+        ok_asked (answer hub.rules H (Request who n))
+            (request_accepted hub H who n k (observer_of old) more (omega (arith, few, owing)) within (ap (λ (o : Observer). o.who) is ∙ named) stands),
+      );
     }
   where
     ok_asked : (result : Result Answer Refusal) → result ≡ Ok Asked → IsOk result

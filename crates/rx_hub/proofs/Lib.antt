@@ -2,6 +2,7 @@ pub mod Asking
 pub mod Emitting
 pub mod Feeding
 pub mod Joining
+pub mod Leaving
 pub mod Positions
 pub mod Quiet
 pub mod Running

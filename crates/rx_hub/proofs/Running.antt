@@ -1,5 +1,5 @@
 -- A run grows by one step at its end.
-use Rattle.std.proofs.Common.{◌≡◌, ◌≢◌, ℕ, ◌+◌, ◌-◌, ◌^◌, Bool, true, false, cond, min, List, [], ◌∷◌, ◌++◌, length, Result, Ok, Err, IsOk, inl, inr, refl, sym, ap, subst, ◌∙◌, arith, append_assoc, append-nil, length-append}
+use Rattle.std.proofs.Common.{◌≡◌, ◌≢◌, ℕ, ◌+◌, ◌-◌, ◌^◌, Bool, true, false, cond, min, List, [], ◌∷◌, ◌++◌, length, Result, Ok, Err, inl, inr, refl, sym, ap, subst, ◌∙◌, arith, append_assoc, append-nil, length-append}
 use Rattle.std.proofs.lemmas.List.{map-append}
 use Rattle.rx_note.specs.declared.given.Given.{Given}
 use Rattle.rx_note.specs.declared.rules.Rules.{Rules}
@@ -8,7 +8,7 @@ use Rattle.rx_note.specs.declared.refusal.Refusal.{Refusal}
 use Rattle.rx_note.specs.declared.refusal.Refusal.TheVariants.{Ended, Full, Spent, ZeroRequest, NoObserver, TooMuch, Memory}
 use Rattle.rx_history.specs.Histories.{History, ◌▹◌, Entry, answer, outs}
 use Rattle.rx_hub.specs.declared.step.Step.{Step}
-use Rattle.rx_hub.specs.Hubs.{HubState, StandsFor, Steps, is_miss}
+use Rattle.rx_hub.specs.Hubs.{HubState, StandsFor, Steps, MayMiss, is_miss}
 use Rattle.rx_hub.specs.Runs.{made, step_outs, misses_with, IsAnswer, after_run, run_outs, run_places, AreAnswers, misses_after, results_of, places_of, Ran}
 
 -- THE LAST STEP OF THE DEFINITIONS
@@ -91,7 +91,7 @@ pub record Made (rules : Rules) (new : HubState) (before after : List Given) (re
 -- what a step made, by whether memory was wanting
 made_by : (hub new : HubState) (before after : List Given) (result : Result Answer Refusal) (K : History) (entry : Entry) (miss : Bool) → is_miss result ≡ miss
     → StandsFor hub K → (result ≢ Err Memory → Steps hub new before after result K entry)
-    → (result ≡ Err Memory → (new ≡ hub) × (after ≡ before)) → (result ≡ Err Memory → IsOk (answer hub.rules K entry.1))
+    → (result ≡ Err Memory → (new ≡ hub) × (after ≡ before)) → (result ≡ Err Memory → MayMiss hub.rules K entry)
     → Made hub.rules new before after result K entry
 made_by hub new before after result K entry true is stands steps stays accepted =
     let missed = is_memory result is in
@@ -129,7 +129,7 @@ pub Ran-push : (rules : Rules) (hub new : HubState) (H : History) (entries : Lis
     → hub.rules ≡ rules → Ran rules hub H entries steps before
     → (result ≢ Err Memory → (K : History) → StandsFor hub K → Steps hub new before after result K entry)
     → (result ≡ Err Memory → (new ≡ hub) × (after ≡ before))
-    → (result ≡ Err Memory → (K : History) → StandsFor hub K → IsOk (answer hub.rules K entry.1))
+    → (result ≡ Err Memory → (K : History) → StandsFor hub K → MayMiss hub.rules K entry)
     → Ran rules new H (entries ++ entry ∷ []) (steps ++ record { result = result; outs_to = length after } ∷ []) after
 Ran-push rules hub new H entries entry steps result before after same ran step stays accepted =
     let old = results_of steps in

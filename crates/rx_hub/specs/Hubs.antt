@@ -3,6 +3,8 @@ use Rattle.std.specs.Prelude.{◌≡◌, ◌&&◌, nat_le, ℕ, Bool, true, fals
 use Rattle.rx_note.specs.declared.given.Given.{Given}
 use Rattle.rx_note.specs.declared.rules.Rules.{Rules}
 use Rattle.rx_note.specs.declared.limits.Limits.{Limits}
+use Rattle.rx_note.specs.declared.event.Event.{Event}
+use Rattle.rx_note.specs.declared.event.Event.TheVariants.{Emit, Join, Request, Dispose}
 use Rattle.rx_note.specs.declared.answer.Answer.{Answer}
 use Rattle.rx_note.specs.declared.refusal.Refusal.{Refusal}
 use Rattle.rx_note.specs.declared.refusal.Refusal.TheVariants.{Ended, Full, Spent, ZeroRequest, NoObserver, TooMuch, Memory}
@@ -41,11 +43,22 @@ pub record Steps (old new : HubState) (before after : List Given) (result : Resu
   pub gives : after ≡ before ++ outs old.rules H entry
   pub goes_on : StandsFor new (H ▹ entry)
 
+-- whether an event takes memory: a Dispose takes none
+abbrev pub takes_memory : Event → Bool
+takes_memory (Emit note at) = true
+takes_memory (Join policy first at) = true
+takes_memory (Request who n) = true
+takes_memory (Dispose who) = false
+
+-- memory may be wanting for an entry that takes memory and would have been accepted
+abbrev pub MayMiss : Rules → History → Entry → Type 0
+MayMiss rules H entry = (takes_memory entry.1 ≡ true) × IsOk (answer rules H entry.1)
+
 -- no step for want of memory: the hub and what was given stay, and the event would have been accepted
 pub record Misses (old new : HubState) (before after : List Given) (entry : Entry) : Type 0 where
   pub hub : new ≡ old
   pub given : after ≡ before
-  pub accepted : (H : History) → StandsFor old H → IsOk (answer old.rules H entry.1)
+  pub accepted : (H : History) → StandsFor old H → MayMiss old.rules H entry
 
 -- whether memory was wanting
 abbrev pub is_miss : Result Answer Refusal → Bool

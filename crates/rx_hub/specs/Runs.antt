@@ -1,6 +1,6 @@
 -- A whole run: several events taken one after another, from a history on. A step refused for want of memory is not in
 -- the history that follows, and the run goes on.
-use Rattle.std.specs.Prelude.{◌≡◌, ◌⊎◌, ℕ, ◌+◌, ◌<◌, ◌-◌, ◌^◌, min, List, [], ◌∷◌, ◌++◌, length, map, take, get_or, Result, Err, IsOk, if◌then◌else◌}
+use Rattle.std.specs.Prelude.{◌≡◌, ◌⊎◌, ℕ, ◌+◌, ◌<◌, ◌-◌, ◌^◌, min, List, [], ◌∷◌, ◌++◌, length, map, take, get_or, Result, Err, if◌then◌else◌}
 use Rattle.rx_note.specs.declared.given.Given.{Given}
 use Rattle.rx_note.specs.declared.rules.Rules.{Rules}
 use Rattle.rx_note.specs.declared.answer.Answer.{Answer}
@@ -9,7 +9,7 @@ use Rattle.rx_note.specs.declared.refusal.Refusal.TheVariants.{Memory}
 use Rattle.rx_history.specs.Histories.{History, ◌▹◌, Entry, given_to, answer, outs}
 use Rattle.rx_history.specs.Delivery.{notes_for}
 use Rattle.rx_hub.specs.declared.step.Step.{Step}
-use Rattle.rx_hub.specs.Hubs.{HubState, StandsFor, is_miss}
+use Rattle.rx_hub.specs.Hubs.{HubState, StandsFor, MayMiss, is_miss}
 
 -- ONE STEP
 
@@ -25,9 +25,9 @@ step_outs rules H entry result = if is_miss result then [] else outs rules H ent
 abbrev pub misses_with : ℕ → Result Answer Refusal → ℕ
 misses_with misses result = if is_miss result then min (misses + 1) (2 ^ 64 - 1) else misses
 
--- the result is the answer of the definitions or, where they accept the event, Memory
+-- the result is the answer of the definitions or, where they accept the event and it takes memory, Memory
 abbrev pub IsAnswer : Rules → History → Entry → Result Answer Refusal → Type 0
-IsAnswer rules H entry result = (result ≡ answer rules H entry.1) ⊎ ((result ≡ Err Memory) × IsOk (answer rules H entry.1))
+IsAnswer rules H entry result = (result ≡ answer rules H entry.1) ⊎ ((result ≡ Err Memory) × MayMiss rules H entry)
 
 -- SEVERAL STEPS
 

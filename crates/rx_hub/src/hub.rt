@@ -39,7 +39,7 @@ impl Model for Hub {
 }
 
 impl Hub {
-    ghost use Rattle.rx_hub.specs.Hubs.{StandsFor, Steps, are_in_range};
+    ghost use Rattle.rx_hub.specs.Hubs.{StandsFor, Steps, MayMiss, are_in_range};
     ghost use Rattle.rx_hub.specs.Runs.{Ran, GivesEach, misses_after, results_of};
 
     /// A hub of this kind, with no event yet. Refused in the order `BadLimits`, `Memory`.
@@ -63,8 +63,8 @@ impl Hub {
 
     /// Takes one event from a port, and puts at the end of `outs` what it gives: by rising number of the observer, and
     /// to each observer in its order. Refused in the order of its kind: Emit Ended, Memory; Join Full, Spent, Memory;
-    /// Request ZeroRequest, NoObserver, TooMuch, Memory. A refusal leaves the hub and `outs`, but a Memory answer is
-    /// counted in `misses`.
+    /// Request ZeroRequest, NoObserver, TooMuch, Memory; Dispose NoObserver, for it takes no memory. A refusal leaves the hub
+    /// and `outs`, but a Memory answer is counted in `misses`.
     pub fn step(
         &mut self,
         port: u32,
@@ -76,7 +76,7 @@ impl Hub {
         ensures kept { result ≢ Err Refusal.Memory → self.new.misses ≡ self.old.misses }
         ensures missed { result ≡ Err Refusal.Memory
             → (self.new ≡ record { state = self.old.state; misses = min (self.old.misses + 1) (2 ^ 64 - 1) }) × (outs.new.items ≡ outs.old.items) }
-        ensures accepted { result ≡ Err Refusal.Memory → (H : History) → StandsFor self.old.state H → IsOk (answer self.old.state.rules H event) }
+        ensures accepted { result ≡ Err Refusal.Memory → (H : History) → StandsFor self.old.state H → MayMiss self.old.state.rules H (port, event) }
         ensures rules { self.new.state.rules ≡ self.old.state.rules }
     {
         let result = self.multicast.take(port, event, outs);

@@ -1,6 +1,7 @@
 ghost use Rattle.std.specs.Prelude.{◌≡◌, ◌+◌, ◌-◌, ◌*◌, ◌^◌, ◌<◌, ◌≤◌, ◌==◌, ℕ, List, length, position, OnOk, OnErr, IfOk, vec_len, vec_capacity};
 ghost use Rattle.std.specs.List.{All};
-ghost use Rattle.rx_note.specs.declared.event.Event.TheVariants.{Emit, Join, Request};
+ghost use Rattle.rx_note.specs.declared.event.Event.TheVariants.{Emit, Join, Request, Dispose};
+ghost use Rattle.rx_note.specs.declared.given.Given.{Given};
 ghost use Rattle.rx_note.specs.declared.rules.Rules.{Rules};
 ghost use Rattle.rx_note.specs.Signals.{Signal, Start, ◌▸◌, Requested};
 ghost use Rattle.rx_history.specs.Histories.{History, ◌▹◌};
@@ -67,6 +68,7 @@ impl Multicast {
             Event::Emit { note, at } => self.emit(port, note, at, outs),
             Event::Join { policy, first, at } => self.join(policy, first, at, outs),
             Event::Request { who, n } => self.request(who, n, outs),
+            Event::Dispose { who } => self.dispose(who),
         }
     }
 
@@ -156,6 +158,17 @@ impl Multicast {
             Err(AskError::TooMuch) => Err(Refusal::TooMuch),
             Err(AskError::Memory) => Err(Refusal::Memory),
         }
+    }
+
+    // An observer leaves. Its queue goes with what waits in it.
+    fn dispose(&mut self, who: u32) -> Result<Answer, Refusal>
+        ensures { (port : ℕ) (outs : List Given) → Takes (state_of self.old) (state_of self.new) outs outs result (port, Dispose who) }
+    {
+        let Some(place) = place_of(&self.subscriptions, who) else {
+            return Err(Refusal::NoObserver);
+        };
+        self.subscriptions.remove(place);
+        Ok(Answer::Left)
     }
 }
 

@@ -1,16 +1,15 @@
 -- What a lane gives and what it is then, by each way that its code takes.
-use Rattle.std.proofs.Common.{◌≡◌, ℕ, ◌+◌, ◌-◌, ◌<◌, ◌≤◌, true, cond, leb, List, [], ◌∷◌, ◌++◌, length, map, take, drop, None, refl, sym, subst, ap, ◌∙◌, arith}
+use Rattle.std.proofs.Common.{◌≡◌, ℕ, ◌+◌, ◌-◌, ◌<◌, ◌≤◌, Bool, true, false, cond, leb, List, [], ◌∷◌, ◌++◌, length, map, take, drop, None, refl, sym, subst, ap, ◌∙◌, arith}
 use Rattle.std.proofs.lemmas.Bool.{cond-true, cond-false, le-leb, lt-leb}
 use Rattle.std.proofs.lemmas.List.{take_all, drop_all}
 use Rattle.rx_note.specs.declared.item.Item.{Item}
 use Rattle.rx_note.specs.declared.note.Note.{Note}
 use Rattle.rx_note.specs.declared.note.Note.TheVariants.{Next}
-use Rattle.rx_note.specs.Signals.{Signal, Requested, Offered, Ended, Signals, ◌▸◌, policy_of, terminal_of, released, given}
+use Rattle.rx_note.specs.Signals.{Signal, Requested, Offered, Ended, Signals, ◌▸◌, policy_of, terminal_of, goes_ahead, released, given}
 use Rattle.rx_note.specs.Choices.{Choice}
 use Rattle.rx_note.specs.Queues.{queued}
-use Rattle.rx_note.proofs.Lines.{stays_behind}
 use Rattle.rx_note.proofs.Released.{released_all, released_part}
-use Rattle.rx_note.proofs.Steps.{Becomes, offer_given, offer_waits, end_given, end_waits, ask_releases}
+use Rattle.rx_note.proofs.Steps.{Becomes, waiting_end-open, offer_given, offer_waits, end_given, end_waits, end_ahead, ask_releases}
 use Rattle.rx_lane.specs.Lanes.{LaneState, LaneView, StandsFor}
 
 -- by this signal these notes are given, and the queue is then this one
@@ -52,10 +51,29 @@ offer_later lane item h s st open_now =
       };
     }
 
+-- whether a terminal goes ahead is told by the lane's policy
+by_policy : {b : Bool} (lane : LaneState) (terminal : Note) (s : Signals) → StandsFor lane s → goes_ahead lane.policy.errors terminal ≡ b → goes_ahead (policy_of s).errors terminal ≡ b
+by_policy lane terminal s st h = ap (λ (c : Choice). goes_ahead c.errors terminal) (sym st.policy) ∙ h
+
+-- an error ahead is given at once, and what waits is discarded
+pub end_first : (lane : LaneState) (terminal : Note) → goes_ahead lane.policy.errors terminal ≡ true → (s : Signals) → StandsFor lane s → terminal_of s ≡ None → Goes s (Ended terminal) (terminal ∷ []) (record lane { items = []; ended = true })
+end_first lane terminal ahead s st open_now =
+    let b = end_ahead s terminal (by_policy lane terminal s st ahead) open_now in
+    record {
+      gives = b.gives;
+      stands = record {
+        policy = st.policy;
+        items = sym b.leaves;
+        last = st.last ∙ waiting_end-open s open_now ∙ sym b.holds;
+        ended = refl;
+        owing = st.owing ∙ sym b.owes;
+      };
+    }
+
 -- a terminal is given where nothing waits
-pub end_now : (lane : LaneState) (terminal : Note) → length lane.items ≡ 0 → (s : Signals) → StandsFor lane s → terminal_of s ≡ None → Goes s (Ended terminal) (terminal ∷ []) (record lane { ended = true })
-end_now lane terminal h s st open_now =
-    let b = end_given s terminal (stays_behind (policy_of s).errors terminal) open_now (omega (arith, ap length st.items)) in
+pub end_now : (lane : LaneState) (terminal : Note) → goes_ahead lane.policy.errors terminal ≡ false → length lane.items ≡ 0 → (s : Signals) → StandsFor lane s → terminal_of s ≡ None → Goes s (Ended terminal) (terminal ∷ []) (record lane { ended = true })
+end_now lane terminal behind h s st open_now =
+    let b = end_given s terminal (by_policy lane terminal s st behind) open_now (omega (arith, ap length st.items)) in
     record {
       gives = b.gives;
       stands = record {
@@ -68,9 +86,9 @@ end_now lane terminal h s st open_now =
     }
 
 -- a terminal behind items waits
-pub end_later : (lane : LaneState) (terminal : Note) → 0 < length lane.items → (s : Signals) → StandsFor lane s → terminal_of s ≡ None → Goes s (Ended terminal) [] (record lane { last = terminal ∷ []; ended = true })
-end_later lane terminal h s st open_now =
-    let b = end_waits s terminal (stays_behind (policy_of s).errors terminal) open_now (omega (arith, ap length st.items)) in
+pub end_later : (lane : LaneState) (terminal : Note) → goes_ahead lane.policy.errors terminal ≡ false → 0 < length lane.items → (s : Signals) → StandsFor lane s → terminal_of s ≡ None → Goes s (Ended terminal) [] (record lane { last = terminal ∷ []; ended = true })
+end_later lane terminal behind h s st open_now =
+    let b = end_waits s terminal (by_policy lane terminal s st behind) open_now (omega (arith, ap length st.items)) in
     record {
       gives = b.gives;
       stands = record {

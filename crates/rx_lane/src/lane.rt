@@ -173,14 +173,18 @@ impl Lane {
         None
     }
 
-    /// Ends the lane by a terminal, which comes back where it is given at once; else it waits behind the items. It takes no
-    /// memory. It is meant once.
+    /// Ends the lane by a terminal, which comes back where it is given at once; else it waits behind the items. An error that
+    /// goes ahead of them discards them. It takes no memory. It is meant once.
     pub fn end(&mut self, note: Note) -> Option<Note>
         ensures gives { Gives self.old.state (Ended note) (option_to_list result) }
         ensures stands { GoesOn self.old.state self.new.state (Ended note) }
         ensures room { KeepsRoom self.old self.new 0 }
     {
         self.ended = true;
+        if self.errors.goes_ahead(&note) {
+            self.queue.clear();
+            return Some(note);
+        }
         if self.waiting_len() == 0 {
             return Some(note);
         }

@@ -82,6 +82,20 @@ impl Queue {
         }
     }
 
+    /// Discards the items, and keeps their room.
+    pub(crate) fn clear(&mut self)
+        ensures items { items_of self.new ≡ [] }
+        ensures strategy { strategy_of self.new ≡ strategy_of self.old }
+        ensures spare { spare_of self.old ≤ spare_of self.new }
+    {
+        match self {
+            Queue::Growing(items) => items.clear(),
+            Queue::Empty => {}
+            Queue::Dropping(ring) => ring.clear(),
+            Queue::Replacing(ring) => ring.clear(),
+        }
+    }
+
     /// Takes the item that has waited longest.
     pub(crate) fn pop(&mut self) -> Option<Item>
         ensures value { result ≡ slice_get (items_of self.old) 0 }

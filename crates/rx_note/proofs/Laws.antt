@@ -1,7 +1,7 @@
 -- What an observer can rely on, over its signals alone.
-use Rattle.std.proofs.Common.{◌≡◌, ◌+◌, ◌<◌, ◌≤◌, Bool, true, false, cond, leb, List, [], ◌∷◌, ◌++◌, length, map, take, None, Some, inl, inr, refl, sym, ap, ◌∙◌, arith}
+use Rattle.std.proofs.Common.{◌≡◌, ℕ, ◌+◌, ◌<◌, ◌≤◌, Bool, true, false, cond, leb, List, [], ◌∷◌, ◌++◌, length, map, take, None, Some, inl, inr, refl, sym, ap, ◌∙◌, arith}
 use Rattle.std.specs.List.{count_by}
-use Rattle.std.proofs.lemmas.Bool.{cases_lt, cond-true, le-leb}
+use Rattle.std.proofs.lemmas.Bool.{cases_Bool, cases_lt, cond-true, le-leb}
 use Rattle.std.proofs.lemmas.List.{append-nil, length-append, length-map, length-take, length-drop, drop_all}
 use Rattle.std.proofs.lemmas.List.Sums.{sum_by-append, sum_by-cons}
 use Rattle.rx_note.specs.declared.item.Item.{Item}
@@ -11,9 +11,9 @@ use Rattle.rx_note.specs.declared.strategy.Strategy.TheVariants.{Buffer}
 use Rattle.rx_note.specs.declared.errors.Errors.TheVariants.{Delay}
 use Rattle.rx_note.specs.Signals.{Signal, Requested, Offered, Ended, Signals, Start, ◌▸◌, policy_of, demand, terminal_of, without, kept, goes_ahead, line_items, ending, line, given, waiting_items, waiting_end, waiting, owed}
 use Rattle.rx_note.proofs.Kept.{kept-requested, kept-ended, kept-buffer}
-use Rattle.rx_note.proofs.Lines.{stays_behind, owed-rest}
+use Rattle.rx_note.proofs.Lines.{owed-rest}
 use Rattle.rx_note.proofs.Released.{released_all}
-use Rattle.rx_note.proofs.Steps.{offer_given, offer_waits, end_given, end_waits, ask_releases}
+use Rattle.rx_note.proofs.Steps.{offer_given, offer_waits, end_given, end_waits, end_ahead, ask_releases}
 
 -- whether a signal may come next: after the end only requests do
 abbrev pub ComesNext : Signals → Signal → Type 0
@@ -30,9 +30,13 @@ given-grows s (Offered item) next =
       | inr h ↦ (_, (offer_waits (policy_of s).strategy s item refl next (omega arith)).gives)
     ]
 given-grows s (Ended terminal) next =
-    elim (cases_lt 0 (length (waiting_items s))) [
-      | inl h ↦ (_, (end_waits s terminal (stays_behind (policy_of s).errors terminal) next h).gives)
-      | inr h ↦ (_, (end_given s terminal (stays_behind (policy_of s).errors terminal) next (omega arith)).gives)
+    elim (cases_Bool (goes_ahead (policy_of s).errors terminal)) [
+      | inl ahead ↦ (_, (end_ahead s terminal ahead next).gives)
+      | inr behind ↦
+          elim (cases_lt 0 (length (waiting_items s))) [
+            | inl h ↦ (_, (end_waits s terminal behind next h).gives)
+            | inr h ↦ (_, (end_given s terminal behind next (omega arith)).gives)
+          ]
     ]
 
 -- nothing waits while an item is owed
@@ -102,6 +106,18 @@ line_items-kept (s ▸ Requested n) behind = line_items-kept s behind ∙ sym (k
 line_items-kept (s ▸ Offered item) behind = refl
 line_items-kept (s ▸ Ended terminal) behind =
     ap (λ b. cond b (take (demand s) (kept s)) (kept s)) (behind terminal) ∙ sym (kept-ended s terminal)
+
+shortened : (b : Bool) (n : ℕ) (items : List Item) → length (cond b (take n items) items) ≤ length items
+shortened true n items = omega (arith, length-take n items)
+shortened false n items = omega arith
+
+-- by any error mode it has no item but those kept
+pub line_items-within : (s : Signals) → length (line_items s) ≤ length (kept s)
+line_items-within (Start policy) = omega arith
+line_items-within (s ▸ Requested n) = omega (arith, line_items-within s, ap length (kept-requested s n))
+line_items-within (s ▸ Offered item) = omega arith
+line_items-within (s ▸ Ended terminal) =
+    omega (arith, shortened (goes_ahead (policy_of s).errors terminal) (demand s) (kept s), ap length (kept-ended s terminal))
 
 -- under Buffer and Delay the line is all that was offered, and then the terminal
 pub line-whole : (s : Signals) → (policy_of s).strategy ≡ Buffer → (policy_of s).errors ≡ Delay → line s ≡ map Next (offered s) ++ ending s

@@ -1,11 +1,9 @@
 -- The line of an observer: what each signal makes of it, and how it parts into what was given and what waits.
-use Rattle.std.proofs.Common.{◌≡◌, ◌-◌, ◌<◌, ◌≤◌, false, cond, [], ◌∷◌, ◌++◌, length, take, drop, None, refl, sym, ap, ◌∙◌, arith}
+use Rattle.std.proofs.Common.{◌≡◌, ◌-◌, ◌<◌, ◌≤◌, true, false, cond, [], ◌∷◌, ◌++◌, length, take, drop, None, refl, sym, ap, ◌∙◌, arith}
 use Rattle.std.proofs.lemmas.List.{length-take, take_at}
 use Rattle.rx_note.specs.declared.item.Item.{Item}
 use Rattle.rx_note.specs.declared.note.Note.{Note}
 use Rattle.rx_note.specs.declared.strategy.Strategy.{Strategy}
-use Rattle.rx_note.specs.declared.errors.Errors.{Errors}
-use Rattle.rx_note.specs.declared.errors.Errors.TheVariants.{Delay}
 use Rattle.rx_note.specs.Signals.{Requested, Offered, Ended, Signals, Start, ◌▸◌, policy_of, demand, terminal_of, kept, goes_ahead, line_items, ending, line, given, waiting_items, waiting, owed}
 use Rattle.rx_note.specs.Queues.{queued}
 use Rattle.rx_note.proofs.Kept.{kept-requested, kept-owed, kept-queued}
@@ -31,14 +29,15 @@ line_items-queued g s item e open_now h =
     kept-queued g s item e (omega (arith, ap length same))
     ∙ ap (λ items. take (demand s) items ++ queued g (drop (demand s) items) item) (sym same)
 
--- today no terminal goes ahead
-pub stays_behind : (errors : Errors) (terminal : Note) → goes_ahead errors terminal ≡ false
-stays_behind Delay terminal = refl
-
 -- a terminal that stays behind leaves the items
 pub line_items-ended : (s : Signals) (terminal : Note) → goes_ahead (policy_of s).errors terminal ≡ false → terminal_of s ≡ None → line_items (s ▸ Ended terminal) ≡ line_items s
 line_items-ended s terminal behind open_now =
     ap (λ b. cond b (take (demand s) (kept s)) (kept s)) behind ∙ sym (line_items-open s open_now)
+
+-- one that goes ahead leaves of them those that were given
+pub line_items-ahead : (s : Signals) (terminal : Note) → goes_ahead (policy_of s).errors terminal ≡ true → terminal_of s ≡ None → line_items (s ▸ Ended terminal) ≡ take (demand s) (line_items s)
+line_items-ahead s terminal ahead open_now =
+    ap (λ b. cond b (take (demand s) (kept s)) (kept s)) ahead ∙ ap (take (demand s)) (sym (line_items-open s open_now))
 
 -- what is owed is what was demanded beyond the line
 pub owed-rest : (s : Signals) → owed s ≡ demand s - length (line_items s)

@@ -2,14 +2,14 @@
 use Rattle.std.proofs.Common.{◌≡◌, ℕ, ◌+◌, ◌-◌, ◌<◌, ◌≤◌, Bool, false, true, inl, inr, cond, leb, List, [], ◌∷◌, ◌++◌, length, map, take, drop, None, option_to_list, refl, sym, ap, ◌∙◌, arith}
 use Rattle.std.proofs.lemmas.Bool.{cases_lt, cond-true, cond-false, le-leb, lt-leb}
 use Rattle.std.proofs.lemmas.Bool.Decides.{nat_tests}
-use Rattle.std.proofs.lemmas.List.{append-nil, length-append, length-drop, length-take, take_at, drop_at, drop_all, drop-drop}
+use Rattle.std.proofs.lemmas.List.{append-nil, length-append, length-drop, length-take, take_all, take_at, drop_at, drop_all, drop-drop}
 use Rattle.rx_note.specs.declared.item.Item.{Item}
 use Rattle.rx_note.specs.declared.note.Note.{Note}
 use Rattle.rx_note.specs.declared.note.Note.TheVariants.{Next}
 use Rattle.rx_note.specs.declared.strategy.Strategy.{Strategy}
 use Rattle.rx_note.specs.Signals.{Signal, Requested, Offered, Ended, Signals, ◌▸◌, policy_of, demand, terminal_of, goes_ahead, line_items, ending, released, given, waiting_items, waiting_end, owed}
 use Rattle.rx_note.specs.Queues.{queued}
-use Rattle.rx_note.proofs.Lines.{line_items-owed, line_items-queued, line_items-ended, owed-rest}
+use Rattle.rx_note.proofs.Lines.{line_items-owed, line_items-queued, line_items-ended, line_items-ahead, owed-rest}
 use Rattle.rx_note.proofs.Released.{released-open, released-item, released-end, released-end_waits, released-more}
 
 cond_same : (b : Bool) (last : List Note) → cond b last last ≡ last
@@ -106,6 +106,26 @@ end_waits s terminal behind open_now h =
           ap (λ items. cond (leb (length items) (demand s)) [] (terminal ∷ [])) same
           ∙ cond-false (leb (length (line_items s)) (demand s)) [] (terminal ∷ []) (lt-leb (length (line_items s)) (demand s) long);
       owes = ap (λ items. demand s - length (take (demand s) items)) same;
+    }
+
+-- an error ahead is given at once, and nothing waits any more
+pub end_ahead : (s : Signals) (terminal : Note) → goes_ahead (policy_of s).errors terminal ≡ true → terminal_of s ≡ None → Becomes s (Ended terminal) (terminal ∷ []) [] [] (owed s)
+end_ahead s terminal ahead open_now =
+    let front : List Item = take (demand s) (line_items s) in
+    let cut : line_items (s ▸ Ended terminal) ≡ front = line_items-ahead s terminal ahead open_now in
+    let short : length front ≤ demand s = omega (arith, length-take (demand s) (line_items s)) in
+    let same : take (demand s) front ≡ front = take_all (demand s) front short in
+    record {
+      gives =
+          ap (λ items. released (demand s) items (terminal ∷ [])) cut
+          ∙ released-end (demand s) front (terminal ∷ []) short
+          ∙ ap (λ notes. notes ++ terminal ∷ []) (released-open (demand s) front ∙ ap (map Next) same ∙ sym (released-open (demand s) (line_items s)))
+          ∙ ap (λ last. released (demand s) (line_items s) last ++ terminal ∷ []) (sym (ap option_to_list open_now));
+      leaves = ap (drop (demand s)) cut ∙ drop_all (demand s) front short;
+      holds =
+          ap (λ items. cond (leb (length items) (demand s)) [] (terminal ∷ [])) cut
+          ∙ cond-true (leb (length front) (demand s)) [] (terminal ∷ []) (le-leb (length front) (demand s) short);
+      owes = ap (λ items. demand s - length (take (demand s) items)) cut ∙ ap (λ items. demand s - length items) same;
     }
 
 drop-owed : (s : Signals) (n : ℕ) → drop (demand s + n) (line_items s) ≡ drop (owed s + n) (waiting_items s)

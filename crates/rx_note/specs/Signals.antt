@@ -2,16 +2,16 @@
 -- From them follow the line that it is to be given in all, what of the line was given, and what waits.
 -- Demand and the end are those of the Observable Contract (reactivex.io/documentation/contract.html), strategies those
 -- of the Backpressure operators (reactivex.io/documentation/operators/backpressure.html); rooms and losses are this
--- project's own words.
-use Rattle.std.specs.Prelude.{ℕ, ◌+◌, ◌-◌, max, Bool, false, if◌then◌else◌, ◌==◌, nat_lt, nat_le, List, [], ◌∷◌, ◌++◌, length, map, take, drop, Option, None, Some, option_to_list}
+-- project's own words. That an error may go ahead of what waits is an operator's word (reactivex.io/documentation/operators/observeon.html).
+use Rattle.std.specs.Prelude.{ℕ, ◌+◌, ◌-◌, max, Bool, true, false, if◌then◌else◌, ◌==◌, nat_lt, nat_le, List, [], ◌∷◌, ◌++◌, length, map, take, drop, Option, None, Some, option_to_list}
 use Rattle.std.specs.List.{list_any}
 use Rattle.rx_note.specs.declared.item.Item.{Item}
 use Rattle.rx_note.specs.declared.note.Note.{Note}
-use Rattle.rx_note.specs.declared.note.Note.TheVariants.{Next}
+use Rattle.rx_note.specs.declared.note.Note.TheVariants.{Next, Completed, Failed}
 use Rattle.rx_note.specs.declared.strategy.Strategy.{Strategy}
 use Rattle.rx_note.specs.declared.strategy.Strategy.TheVariants.{Buffer, Drop, Latest}
 use Rattle.rx_note.specs.declared.errors.Errors.{Errors}
-use Rattle.rx_note.specs.declared.errors.Errors.TheVariants.{Delay}
+use Rattle.rx_note.specs.declared.errors.Errors.TheVariants.{Ahead, Delay}
 use Rattle.rx_note.specs.declared.policy.Policy.{Policy}
 
 -- one signal: n more items are requested, an item is offered, or the subject ended by this terminal
@@ -100,6 +100,9 @@ kept s = without (lost_places s) s
 -- whether a terminal goes ahead of the items that wait, which are then never given
 abbrev pub goes_ahead : Errors → Note → Bool
 goes_ahead Delay terminal = false
+goes_ahead Ahead (Next item) = false
+goes_ahead Ahead Completed = false
+goes_ahead Ahead (Failed text) = true
 
 -- the items of the line: those kept; an error that goes ahead leaves of them only what was requested before it
 abbrev pub line_items : Signals → List Item

@@ -7,4 +7,6 @@ pub enum Answer {
     Joined(u32),
     /// The Request was added to the demand.
     Asked,
+    /// The observer of the Dispose has left.
+    Left,
 }

@@ -9,4 +9,6 @@ pub enum Event {
     Join { policy: Policy, first: u32, at: u64 },
     /// Observer `who` requests `n` items more.
     Request { who: u32, n: u32 },
+    /// Observer `who` leaves: nothing more is given to it, and what waits for it is discarded.
+    Dispose { who: u32 },
 }

@@ -5,7 +5,7 @@ use Rattle.std.specs.List.{filter}
 use Rattle.rx_note.specs.declared.item.Item.{Item}
 use Rattle.rx_note.specs.declared.note.Note.{Note}
 use Rattle.rx_note.specs.declared.note.Note.TheVariants.{Next, Completed, Failed}
-use Rattle.rx_note.specs.declared.event.Event.TheVariants.{Emit, Join, Request}
+use Rattle.rx_note.specs.declared.event.Event.TheVariants.{Emit, Join, Request, Dispose}
 use Rattle.rx_note.specs.declared.rules.Rules.{Rules}
 use Rattle.rx_history.specs.Histories.{History, NoEvents, ◌▹◌, Stamped, is_ended, may_join, stamp, item_in, items}
 
@@ -63,3 +63,4 @@ items_rise rules NoEvents = omega arith
 items_rise rules (H ▹ (port, Emit note at)) = note_rises note (is_ended H) (items rules H) (stamp rules H) at port (items_rise rules H)
 items_rise rules (H ▹ (port, Join policy first at)) = join_rises (may_join rules H) (items rules H) (stamp rules H) at (items_rise rules H)
 items_rise rules (H ▹ (port, Request who n)) = items_rise rules H
+items_rise rules (H ▹ (port, Dispose who)) = items_rise rules H

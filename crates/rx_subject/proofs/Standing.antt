@@ -6,7 +6,7 @@ use Rattle.std.proofs.lemmas.List.{length-drop, drop_all, take_all}
 use Rattle.rx_note.specs.declared.item.Item.{Item}
 use Rattle.rx_note.specs.declared.note.Note.{Note}
 use Rattle.rx_note.specs.declared.note.Note.TheVariants.{Next, Completed, Failed}
-use Rattle.rx_note.specs.declared.event.Event.TheVariants.{Emit, Join, Request}
+use Rattle.rx_note.specs.declared.event.Event.TheVariants.{Emit, Join, Request, Dispose}
 use Rattle.rx_note.specs.declared.kind.Kind.{Kind}
 use Rattle.rx_note.specs.declared.kind.Kind.TheVariants.{Publish, Behavior, Async, Replay}
 use Rattle.rx_note.specs.declared.rules.Rules.{Rules}
@@ -243,6 +243,9 @@ still s rules H entry end stamped all stands = record {
 
 pub stands_request : (s : SubjectState) (rules : Rules) (H : History) (port who n : ℕ) → StandsFor s rules H → StandsFor s rules (H ▹ (port, Request who n))
 stands_request s rules H port who n stands = still s rules H (port, Request who n) refl refl refl stands
+
+pub stands_dispose : (s : SubjectState) (rules : Rules) (H : History) (port who : ℕ) → StandsFor s rules H → StandsFor s rules (H ▹ (port, Dispose who))
+stands_dispose s rules H port who stands = still s rules H (port, Dispose who) refl refl refl stands
 
 pub stands_not_joined : (s : SubjectState) (rules : Rules) (H : History) (port : ℕ) (policy : Choice) (first at : ℕ) → may_join rules H ≡ false → StandsFor s rules H
     → StandsFor s rules (H ▹ (port, Join policy first at))

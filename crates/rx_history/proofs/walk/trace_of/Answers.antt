@@ -5,7 +5,7 @@ use Rattle.rx_history.proofs.walk.trace_of.Goals as goal
 
 pub loop-entry-init : goal.loop-entry-init
 loop-entry-init c = record {
-  agrees = record { has_joins = refl; has_past = c.new.ensures c.args.rules.now; has_trace = tt };
+  agrees = record { has_roster = c.new.ensures; has_past = c.new-2.ensures c.args.rules.now; has_trace = tt };
   same_who = refl;
 }
 

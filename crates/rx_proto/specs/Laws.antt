@@ -1,0 +1,39 @@
+-- What the reading of a line and the grammar say of each other, and what is printed of what was meant.
+use Rattle.std.specs.Prelude.{◌≡◌, ◌<◌, ◌≤◌, ◌^◌, ◌↔◌, ℕ, List, length, Result, Ok, Err}
+use Rattle.rx_note.specs.declared.note.Note.{Note}
+use Rattle.rx_note.specs.declared.note.Note.TheVariants.{Next, Completed, Failed}
+use Rattle.rx_proto.specs.Grammar.{IsLong}
+use Rattle.rx_proto.specs.Printing.{reply_line, note_line}
+use Rattle.rx_proto.specs.declared.line_error.BadLine.{BadLine}
+use Rattle.rx_proto.specs.declared.line_error.BadLine.TheVariants.{Long, Syntax}
+use Rattle.rx_proto.specs.declared.response.Response.{Response}
+use Rattle.rx_proto.specs.declared.response.Response.TheVariants.{Done, Joined, Refused}
+
+-- THE EXACT GRAMMAR: what is read of a line is spelled by it; what a line in its limit spells is read of it; a line is
+-- refused as too long exactly where it is, and as no line exactly where it is not too long and spells nothing
+pub record IsExact {M : Type 0} (read : List ℕ → Result M BadLine) (spells : M → List ℕ → Type 0) : Type 0 where
+  pub sound : (line : List ℕ) (meaning : M) → read line ≡ Ok meaning → spells meaning line × (length line ≤ 1100)
+  pub complete : (line : List ℕ) (meaning : M) → spells meaning line → length line ≤ 1100 → read line ≡ Ok meaning
+  pub long : (line : List ℕ) → (read line ≡ Err Long) ↔ IsLong line
+  pub other : (line : List ℕ) → (read line ≡ Err Syntax) ↔ ((IsLong line → ⊥) × ((meaning : M) → spells meaning line → ⊥))
+
+-- a response whose number has 32 bits
+abbrev pub IsResponse : Response → Type 0
+IsResponse Done = Unit {0}
+IsResponse (Joined who) = who < 2 ^ 32
+IsResponse (Refused word) = Unit {0}
+
+-- two responses written alike are equal
+abbrev pub RepliesTell : Type 0
+RepliesTell = (a b : Response) → IsResponse a → IsResponse b → reply_line a ≡ reply_line b → a ≡ b
+
+-- two notes are equal but for the producers of their items
+abbrev pub AreAlike : Note → Note → Type 0
+AreAlike (Next a) (Next b) = a.text ≡ b.text
+AreAlike Completed Completed = Unit {0}
+AreAlike (Failed a) (Failed b) = a ≡ b
+AreAlike _ _ = ⊥
+
+-- two notes written alike are equal but for the producers of their items
+abbrev pub NotesTell : Type 0
+NotesTell = (a b : Note) → note_line a ≡ note_line b → AreAlike a b

@@ -1,0 +1,46 @@
+-- What is printed, byte by byte.
+use Rattle.std.specs.Prelude.{ℕ, List, [], ◌∷◌, ◌++◌, codes, decimal}
+use Rattle.rx_note.specs.declared.note.Note.{Note}
+use Rattle.rx_note.specs.declared.note.Note.TheVariants.{Next, Completed, Failed}
+use Rattle.rx_proto.specs.declared.response.Response.{Response}
+use Rattle.rx_proto.specs.declared.response.Response.TheVariants.{Done, Joined, Refused}
+use Rattle.rx_proto.specs.declared.word.Word.{Word}
+use Rattle.rx_proto.specs.declared.word.Word.TheVariants as words
+
+-- the letters of a word
+abbrev pub letters_of : Word → List ℕ
+letters_of words.Long = codes "LONG"
+letters_of words.Syntax = codes "SYNTAX"
+letters_of words.Subject = codes "SUBJECT"
+letters_of words.Ended = codes "ENDED"
+letters_of words.Full = codes "FULL"
+letters_of words.Spent = codes "SPENT"
+letters_of words.Zero = codes "ZERO"
+letters_of words.Observer = codes "OBSERVER"
+letters_of words.TooMuch = codes "TOOMUCH"
+letters_of words.Memory = codes "MEMORY"
+letters_of words.Gone = codes "GONE"
+
+-- some bytes as a line, with its LF
+abbrev pub line : List ℕ → List ℕ
+line bytes = bytes ++ 10 ∷ []
+
+-- what a response says
+abbrev pub reply_of : Response → List ℕ
+reply_of Done = codes "OK"
+reply_of (Joined who) = codes "OK " ++ decimal who
+reply_of (Refused word) = codes "ERR " ++ letters_of word
+
+-- the line of a response
+abbrev pub reply_line : Response → List ℕ
+reply_line response = line (reply_of response)
+
+-- what a note says
+abbrev pub saying_of : Note → List ℕ
+saying_of (Next item) = codes "NEXT " ++ item.text
+saying_of Completed = codes "DONE"
+saying_of (Failed text) = codes "FAILED " ++ text
+
+-- the line of a note
+abbrev pub note_line : Note → List ℕ
+note_line note = line (saying_of note)

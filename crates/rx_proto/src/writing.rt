@@ -1,0 +1,39 @@
+ghost use Rattle.rx_proto.specs.Bytes.{Writes};
+ghost use Rattle.rx_proto.specs.Printing.{reply_line, note_line};
+
+use crate::{Response, note_line, reply_line};
+use rx_note::Note;
+use std::io::Write;
+
+/// A writer did not take what was written. It has a prefix of that.
+#[derive(Clone, Copy, Debug, PartialEq, Eq)]
+pub struct WriteFault;
+
+/// Writes the line of a response.
+pub fn write_reply<W: Write>(writer: &mut W, response: Response) -> Result<(), WriteFault>
+    ensures { Writes result (W.contents writer.old) (W.contents writer.new) (reply_line response) }
+{
+    write_bytes(writer, reply_line(response).as_bytes())
+}
+
+/// Writes the line of a note.
+pub fn write_note<W: Write>(writer: &mut W, note: &Note) -> Result<(), WriteFault>
+    ensures { Writes result (W.contents writer.old) (W.contents writer.new) (note_line note.now) }
+{
+    write_bytes(writer, note_line(note).as_bytes())
+}
+
+/// Writes all of the bytes. A write that fails or takes none is a fault.
+pub fn write_bytes<W: Write>(writer: &mut W, bytes: &[u8]) -> Result<(), WriteFault>
+    ensures { Writes result (W.contents writer.old) (W.contents writer.new) bytes.now }
+{
+    let mut rest = bytes;
+    while !rest.is_empty() {
+        match writer.write(rest) {
+            Ok(0) => return Err(WriteFault),
+            Ok(n) => rest = &rest[n..],
+            Err(_) => return Err(WriteFault),
+        }
+    }
+    Ok(())
+}
