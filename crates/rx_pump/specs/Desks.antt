@@ -12,6 +12,7 @@ use Rattle.rx_pump.specs.declared.call_error.CallError.{CallError}
 use Rattle.rx_pump.specs.declared.call_error.CallError.TheVariants.{SubjectGone, Strange}
 use Rattle.rx_pump.specs.declared.reply.Reply.{Reply}
 use Rattle.rx_pump.specs.Marks.{to_port}
+use Rattle.rx_pump.specs.Pumps.{AreSame}
 use Rattle.rx_pump.specs.Sends.{Puts}
 
 -- a desk: its ports to subjects, the inbox of its replies, the ports that have ended, how many tickets it used, and
@@ -69,6 +70,13 @@ module _ {S : Type 0} where
   abbrev pub IsStrange : ℕ → ℕ → ℕ → Post (Reply S) → Option S → Type 0
   IsStrange subject ticket from (Body reply) sink = (sink ≡ reply.sink) × ¬ ((from ≡ subject) × (reply.ticket ≡ ticket))
   IsStrange subject ticket from Bye sink = sink ≡ None
+
+  -- what no call changes: which boxes the ports and the inbox belong to, and the ports that have ended
+  pub record KeepsDesk (before after : DeskView S) : Type 0 where
+    pub ports : AreSame before.ports after.ports
+    pub box : after.inbox.box ≡ before.inbox.box
+    pub count : after.inbox.ports ≡ before.inbox.ports
+    pub ended : after.ended ≡ before.ended
 
   -- what one call did, by its answer
   abbrev pub Called : DeskView S → DeskView S → ℕ → Event → Option S → Result (Reply S) (CallError S) → Type 0

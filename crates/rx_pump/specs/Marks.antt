@@ -1,16 +1,18 @@
 -- What the letters that a pump received mean: the history of its subject, what it sends the drainers, what it replies.
 -- Each body is marked: it was made, or it was refused for want of memory and is not in the history (this project's own
 -- rule).
-use Rattle.std.specs.Prelude.{ℕ, ◌+◌, ◌%◌, ◌==◌, if◌then◌else◌, List, [], ◌∷◌, ◌++◌, map, Option, None, Some, Result, Ok, Err, IsOk}
+use Rattle.std.specs.Prelude.{ℕ, ◌+◌, ◌%◌, ◌==◌, if◌then◌else◌, List, [], ◌∷◌, ◌++◌, map, Option, None, Some, Result, Ok, Err}
 use Rattle.std.specs.List.{filter}
 use Rattle.rx_note.specs.declared.answer.Answer.{Answer}
-use Rattle.rx_note.specs.declared.answer.Answer.TheVariants.{Admitted, Joined, Asked}
+use Rattle.rx_note.specs.declared.answer.Answer.TheVariants.{Admitted, Joined, Asked, Left}
 use Rattle.rx_note.specs.declared.event.Event.{Event}
+use Rattle.rx_note.specs.declared.event.Event.TheVariants.{Emit, Join, Request, Dispose}
 use Rattle.rx_note.specs.declared.given.Given.{Given}
 use Rattle.rx_note.specs.declared.refusal.Refusal.{Refusal}
 use Rattle.rx_note.specs.declared.refusal.Refusal.TheVariants.{Memory}
 use Rattle.rx_note.specs.declared.rules.Rules.{Rules}
 use Rattle.rx_history.specs.Histories.{History, NoEvents, ◌▹◌, answer, outs}
+use Rattle.rx_hub.specs.Hubs.{MayMiss}
 use Rattle.rx_mailbox.specs.declared.letter.Letter.{Letter}
 use Rattle.rx_mailbox.specs.declared.letter.Post.TheVariants.{Body, Bye}
 use Rattle.rx_mailbox.specs.Letters.{letter}
@@ -18,6 +20,13 @@ use Rattle.rx_pump.specs.declared.call.Call.{Call}
 use Rattle.rx_pump.specs.declared.reply.Reply.{Reply}
 use Rattle.rx_pump.specs.declared.out.Out.{Out}
 use Rattle.rx_pump.specs.declared.out.Out.TheVariants.{Attach, Give, Detach}
+
+-- the observer that an event asks to leave
+abbrev pub leaver : Event → Option ℕ
+leaver (Emit note at) = None
+leaver (Join policy first at) = None
+leaver (Request who n) = None
+leaver (Dispose who) = Some who
 
 -- THE LETTERS
 
@@ -59,11 +68,11 @@ module _ {S : Type 0} where
   history_of (Refused B port call) = history_of B
   history_of (Ended B port) = history_of B
 
-  -- a body was refused for want of memory only where the subject would have accepted its event
+  -- a body was refused for want of memory only where the subject would have accepted its event, and that is no Dispose
   abbrev pub AreAcceptable : Rules → Marked S → Type 0
   AreAcceptable rules NoLetters = Unit {0}
   AreAcceptable rules (Made B port call) = AreAcceptable rules B
-  AreAcceptable rules (Refused B port call) = AreAcceptable rules B × IsOk (answer rules (history_of B) call.event)
+  AreAcceptable rules (Refused B port call) = AreAcceptable rules B × MayMiss rules (history_of B) (port, call.event)
   AreAcceptable rules (Ended B port) = AreAcceptable rules B
 
   -- WHAT GOES TO THE DRAINERS
@@ -80,16 +89,24 @@ module _ {S : Type 0} where
   attached (Ok (Joined who)) None = []
   attached (Ok Admitted) sink = []
   attached (Ok Asked) sink = []
+  attached (Ok Left) sink = []
   attached (Err refusal) sink = []
 
   -- a note for an observer
   abbrev pub give : Given → Out S
   give given = Give given.who given.note
 
+  -- and what it sends last: that the observer left
+  abbrev pub detached : Option ℕ → Result Answer Refusal → List (Out S)
+  detached (Some who) (Ok answered) = Detach who ∷ []
+  detached (Some who) (Err refusal) = []
+  detached None answered = []
+
   -- what a call from a port sends after H, in its order
   abbrev pub sent_by : Rules → History → ℕ → Call S → List (Out S)
   sent_by rules H port call =
       attached (answer rules H call.event) call.sink ++ map give (outs rules H (port, call.event))
+      ++ detached (leaver call.event) (answer rules H call.event)
 
   -- all that the letters send
   abbrev pub sent : Rules → Marked S → List (Out S)
@@ -113,6 +130,7 @@ module _ {S : Type 0} where
   sent_back (Ok (Joined who)) sink = None
   sent_back (Ok Admitted) sink = sink
   sent_back (Ok Asked) sink = sink
+  sent_back (Ok Left) sink = sink
   sent_back (Err refusal) sink = sink
 
   -- the reply to a call that was answered so

@@ -1,10 +1,10 @@
 -- What one call does to the core of a pump, its hub and its ports (this project's own rule).
-use Rattle.std.specs.Prelude.{◌≡◌, ◌+◌, ◌-◌, ◌^◌, ◌<◌, min, ℕ, Bool, List, [], ◌∷◌, ◌++◌, length, Option, Some, None, Result, Ok, Err, IsOk, MatchBool}
+use Rattle.std.specs.Prelude.{◌≡◌, ◌+◌, ◌-◌, ◌^◌, ◌<◌, min, ℕ, Bool, List, [], ◌∷◌, ◌++◌, length, Option, Some, None, Result, Ok, Err, MatchBool}
 use Rattle.rx_note.specs.declared.answer.Answer.{Answer}
 use Rattle.rx_note.specs.declared.refusal.Refusal.{Refusal}
 use Rattle.rx_note.specs.declared.refusal.Refusal.TheVariants.{Memory}
 use Rattle.rx_history.specs.Histories.{History, ◌▹◌, answer}
-use Rattle.rx_hub.specs.Hubs.{HubView, StandsFor}
+use Rattle.rx_hub.specs.Hubs.{HubView, StandsFor, MayMiss}
 use Rattle.rx_mailbox.specs.Boxes.{Outgoing}
 use Rattle.rx_pump.specs.declared.call.Call.{Call}
 use Rattle.rx_pump.specs.declared.out.Out.{Out}
@@ -45,7 +45,7 @@ module _ {S : Type 0} where
   pub record IsRefused (hub hub_after : HubView) (before after : Ports S) (fault : Option PumpFault) (port : ℕ) (call : Call S) (H : History) : Type 0 where
     pub stays : StandsFor hub_after.state H
     pub misses : hub_after.misses ≡ min (hub.misses + 1) (2 ^ 64 - 1)
-    pub acceptable : IsOk (answer hub.state.rules H call.event)
+    pub acceptable : MayMiss hub.state.rules H (port, call.event)
     pub sends : Sends fault [] port (reply_to call (Err Memory)) before after
 
   -- a call was made or refused

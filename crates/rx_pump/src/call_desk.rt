@@ -44,7 +44,7 @@ impl<S: Drop> Model for CallDesk<S> {
 }
 
 impl<S: Drop> CallDesk<S> {
-    ghost use Rattle.rx_pump.specs.Desks.{Called, IsOver, fresh_desk};
+    ghost use Rattle.rx_pump.specs.Desks.{Called, IsOver, KeepsDesk, fresh_desk};
 
     /// A desk of new ports, one to each subject, and the inbox of their replies. `Err` gives them back where there was no
     /// memory for it.
@@ -83,6 +83,7 @@ impl<S: Drop> CallDesk<S> {
     ) -> Result<Reply<S>, CallError<S>>
         requires { subject < length self.old.ports + length self.old.ended }
         ensures called { Called self.old self.new subject event sink result }
+        ensures kept { KeepsDesk self.old self.new }
         ensures over { IsOver self.old → (result ≡ Err (CallError.SubjectGone sink)) × (self.new ≡ self.old) }
     {
         if self.is_over || self.tickets == u64::MAX {

@@ -10,7 +10,7 @@ use crate::out::Out;
 use crate::pump_fault::PumpFault;
 use crate::pump_parts::PumpParts;
 use crate::reply::Reply;
-use crate::sending::{part, send_all};
+use crate::sending::{detach, leaver, part, send_all};
 use rx_heap::Heap;
 use rx_mailbox::Port;
 use rx_note::{Answer, Given, Refusal};
@@ -41,6 +41,7 @@ pub fn handle<S: Drop, R: Wait>(
         event,
         sink,
     } = call;
+    let leaving = leaver(&event);
     outs.clear();
     let result = parts.hub.step(port, event, outs);
     let (first, sink) = part(result, sink);
@@ -49,7 +50,8 @@ pub fn handle<S: Drop, R: Wait>(
         result,
         sink,
     };
-    let fault = send(rt, parts, first, outs, port, reply);
+    let last = detach(leaving, result);
+    let fault = send(rt, parts, first, outs, last, port, reply);
     Handled {
         refused: is_memory(result),
         fault,
@@ -69,15 +71,16 @@ fn send<S: Drop, R: Wait>(
     parts: &mut PumpParts<S>,
     first: Option<Out<S>>,
     outs: &mut Vec<Given, Heap>,
+    last: Option<Out<S>>,
     port: u32,
     reply: Reply<S>,
 ) -> Option<PumpFault>
     requires { 0 < vec_len parts.old.drainers }
-    ensures sends { Sends result (option_to_list first ++ map give outs.old.items) port reply (ports_of parts.old) (ports_of parts.new) }
+    ensures sends { Sends result (option_to_list first ++ map give outs.old.items ++ option_to_list last) port reply (ports_of parts.old) (ports_of parts.new) }
     ensures inbox { parts.new.inbox ≡ parts.old.inbox }
     ensures hub { parts.new.hub ≡ parts.old.hub }
 {
-    if let Err(place) = send_all(rt, &mut parts.drainers, first, outs) {
+    if let Err(place) = send_all(rt, &mut parts.drainers, first, outs, last) {
         return Some(PumpFault::DrainerGone(place));
     }
     send_reply(rt, &mut parts.replies, port, reply)

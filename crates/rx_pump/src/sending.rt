@@ -1,12 +1,13 @@
 // What a pump sends its drainers for one call.
 ghost use Rattle.std.specs.Prelude.{◌≡◌, ◌<◌, [], ◌∷◌, ◌++◌, map, vec_len, option_to_list};
-ghost use Rattle.rx_pump.specs.Marks.{attached, give, sent_back};
+ghost use Rattle.rx_pump.specs.Marks.{attached, detached, give, sent_back};
+ghost use Rattle.rx_pump.specs.Marks as marks;
 ghost use Rattle.rx_pump.specs.Sends.{SendsAll};
 
 use crate::out::Out;
 use rx_heap::Heap;
 use rx_mailbox::Port;
-use rx_note::{Answer, Given, Refusal};
+use rx_note::{Answer, Event, Given, Refusal};
 use std::sync::Wait;
 
 pub type Drainers<S> = Vec<Port<Out<S>>, Heap>;
@@ -26,19 +27,41 @@ pub fn part<S: Drop>(
     }
 }
 
-// Sends what a call sends: the sink of the observer that it made, and the notes that it gave. `Err` has the place of the
-// drainer that is gone.
+// The observer that an event asks to leave.
+pub fn leaver(event: &Event) -> Option<u32>
+    ensures { result ≡ marks.leaver event.now }
+{
+    match event {
+        Event::Dispose { who } => Some(*who),
+        _ => None,
+    }
+}
+
+// What goes last to the drainer of an observer that was asked to leave, where that was answered so.
+pub fn detach<S: Drop>(leaver: Option<u32>, answered: Result<Answer, Refusal>) -> Option<Out<S>>
+    ensures { option_to_list result ≡ detached leaver answered }
+{
+    match (leaver, answered) {
+        (Some(who), Ok(_)) => Some(Out::Detach { who }),
+        _ => None,
+    }
+}
+
+// Sends what a call sends: the sink of the observer that it made, the notes that it gave, and that an observer left.
+// `Err` has the place of the drainer that is gone.
 pub fn send_all<S: Drop, R: Wait>(
     rt: &R,
     drainers: &mut Drainers<S>,
     first: Option<Out<S>>,
     outs: &mut Vec<Given, Heap>,
+    last: Option<Out<S>>,
 ) -> Result<(), usize>
     requires { 0 < vec_len drainers.old }
-    ensures { SendsAll (option_to_list first ++ map give outs.old.items) result drainers.old.items drainers.new.items }
+    ensures { SendsAll (option_to_list first ++ map give outs.old.items ++ option_to_list last) result drainers.old.items drainers.new.items }
 {
     send_any(rt, drainers, first)?;
-    give_all(rt, drainers, outs)
+    give_all(rt, drainers, outs)?;
+    send_any(rt, drainers, last)
 }
 
 // Sends the out, if there is one.
