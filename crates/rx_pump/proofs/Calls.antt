@@ -1,15 +1,14 @@
 -- One call: what the hub answered and gave, and what the ports put.
-use Rattle.std.proofs.Common.{◌≡◌, ◌≢◌, ◌⊎◌, ◌∙◌, sym, refl, ap, subst, ℕ, ◌+◌, ◌-◌, ◌^◌, min, Bool, true, false, List, [], ◌∷◌, ◌++◌, map, option_to_list, Option, Some, None, Result, Ok, Err, inl, inr}
+use Rattle.std.proofs.Common.{◌≡◌, ◌≢◌, ◌⊎◌, ◌∙◌, sym, refl, ap, subst, ℕ, ◌+◌, ◌-◌, ◌^◌, min, Bool, true, false, List, [], ◌++◌, map, option_to_list, Option, Some, None, Result, Ok, Err, inl, inr}
 use Rattle.rx_note.specs.declared.answer.Answer.{Answer}
 use Rattle.rx_note.specs.declared.given.Given.{Given}
 use Rattle.rx_note.specs.declared.refusal.Refusal.{Refusal}
 use Rattle.rx_note.specs.declared.refusal.Refusal.TheVariants as refusals
-use Rattle.rx_history.specs.Histories.{History, answer, outs}
+use Rattle.rx_history.specs.Histories.{History, answer}
 use Rattle.rx_hub.specs.Hubs.{HubView, StandsFor, Steps, MayMiss, is_miss}
 use Rattle.rx_pump.specs.declared.call.Call.{Call}
 use Rattle.rx_pump.specs.declared.out.Out.{Out}
 use Rattle.rx_pump.specs.declared.pump_fault.PumpFault.{PumpFault}
-use Rattle.rx_pump.specs.declared.reply.Reply.{Reply}
 use Rattle.rx_pump.specs.Marks.{attached, detached, leaver, give, sent_by, sent_back, reply_to}
 use Rattle.rx_pump.specs.Turns.{Ports, Sends, IsMade, IsRefused, Handles}
 

@@ -1,27 +1,21 @@
 -- What a pump did with the letters so far, and with one letter more.
-use Rattle.std.proofs.Common.{◌≡◌, ◌∙◌, sym, refl, ap, subst, ℕ, ◌+◌, ◌-◌, ◌^◌, ◌<◌, ◌%◌, ◌==◌, min, Bool, true, false, cond, List, [], ◌∷◌, ◌++◌, append_assoc, append-nil, length, map, Option, Some, None, Result, Err, MatchBool, slice_get, get_or, arith}
+use Rattle.std.proofs.Common.{◌≡◌, ◌∙◌, sym, refl, ap, subst, ℕ, ◌+◌, ◌-◌, ◌^◌, ◌<◌, ◌%◌, ◌==◌, min, Bool, true, false, List, [], ◌∷◌, ◌++◌, append_assoc, append-nil, length, map, Option, Some, None, slice_get, arith}
 use Rattle.std.proofs.lemmas.List.{map-append, length-map}
 use Rattle.std.proofs.lemmas.List.Elements.{filter-append}
 use Rattle.std.proofs.lemmas.Option.{slice_get_within, get_or_from_slice_get, slice_get-map}
 use Rattle.std.specs.List.{All}
 use Rattle.std.specs.Option.{option_map}
-use Rattle.rx_note.specs.declared.refusal.Refusal.TheVariants.{Memory}
-use Rattle.rx_note.specs.declared.rules.Rules.{Rules}
-use Rattle.rx_history.specs.Histories.{answer}
-use Rattle.rx_hub.specs.Hubs.{HubView, StandsFor}
-use Rattle.rx_mailbox.specs.declared.letter.Letter.{Letter}
-use Rattle.rx_mailbox.specs.declared.letter.Post.TheVariants.{Body, Bye}
+use Rattle.rx_mailbox.specs.declared.letter.Post.TheVariants.{Body}
 use Rattle.rx_mailbox.specs.Letters.{letter}
-use Rattle.rx_mailbox.specs.Boxes.{Outgoing, outgoing, Incoming, with_letter}
-use Rattle.rx_pump.specs.declared.call.Call.{Call}
+use Rattle.rx_mailbox.specs.Boxes.{Outgoing}
 use Rattle.rx_pump.specs.declared.out.Out.{Out}
 use Rattle.rx_pump.specs.declared.pump_fault.PumpFault.{PumpFault}
 use Rattle.rx_pump.specs.declared.pump_fault.PumpFault.TheVariants.{InboxGone, DrainerGone, CallerGone}
 use Rattle.rx_pump.specs.declared.reply.Reply.{Reply}
-use Rattle.rx_pump.specs.Marks.{Marked, NoLetters, Made, Refused, Ended, letters_of, bodies_in, refused_in, history_of, AreAcceptable, route, replies, sent, sent_by, for_drainer, who_of, reply_to, to_port}
-use Rattle.rx_pump.specs.Sends.{posts, with_bodies, Puts, PutsFor, StopsAt}
-use Rattle.rx_pump.specs.Turns.{Ports, Sends, IsMade, IsRefused, Handles}
-use Rattle.rx_pump.specs.Pumps.{counted, PumpView, IsPut, HavePut, IsFresh, place_of, AreSame, is_cut, NamesPort, Accounts, Pumps, IsPumped, AreFresh, fresh_pump}
+use Rattle.rx_pump.specs.Marks.{for_drainer, who_of, to_port}
+use Rattle.rx_pump.specs.Sends.{posts, with_bodies, Puts}
+use Rattle.rx_pump.specs.Turns.{Ports, Sends}
+use Rattle.rx_pump.specs.Pumps.{counted, IsPut, HavePut, IsFresh, place_of, AreSame, is_cut, NamesPort}
 use Rattle.rx_pump.proofs.Placing.{same_by_place}
 use Rattle.rx_pump.proofs.Putting.{Puts-none}
 

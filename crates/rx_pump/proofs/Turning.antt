@@ -1,11 +1,9 @@
 -- One turn of a pump.
-use Rattle.std.proofs.Common.{◌≡◌, ◌∙◌, sym, refl, ap, subst, ℕ, ◌+◌, ◌-◌, ◌^◌, ◌<◌, min, Bool, true, false, List, [], ◌∷◌, ◌++◌, append-nil, length, Option, Some, None, Result, Err, arith, if◌then◌else◌}
+use Rattle.std.proofs.Common.{◌≡◌, ◌∙◌, sym, refl, ap, subst, ℕ, ◌+◌, ◌-◌, ◌^◌, ◌<◌, min, Bool, true, false, List, [], ◌∷◌, ◌++◌, append-nil, length, Option, Some, None, Result, arith, if◌then◌else◌}
 use Rattle.rx_note.specs.declared.answer.Answer.{Answer}
 use Rattle.rx_note.specs.declared.refusal.Refusal.{Refusal}
-use Rattle.rx_note.specs.declared.refusal.Refusal.TheVariants.{Memory}
 use Rattle.rx_note.specs.declared.rules.Rules.{Rules}
-use Rattle.rx_history.specs.Histories.{answer}
-use Rattle.rx_hub.specs.Hubs.{HubView, StandsFor}
+use Rattle.rx_hub.specs.Hubs.{HubView}
 use Rattle.rx_mailbox.specs.declared.letter.Letter.{Letter}
 use Rattle.rx_mailbox.specs.declared.letter.Post.TheVariants.{Body, Bye}
 use Rattle.rx_mailbox.specs.Letters.{letter}
@@ -15,9 +13,9 @@ use Rattle.rx_pump.specs.declared.out.Out.{Out}
 use Rattle.rx_pump.specs.declared.pump_fault.PumpFault.{PumpFault}
 use Rattle.rx_pump.specs.declared.pump_fault.PumpFault.TheVariants.{InboxGone}
 use Rattle.rx_pump.specs.declared.reply.Reply.{Reply}
-use Rattle.rx_pump.specs.Marks.{Marked, NoLetters, Made, Refused, Ended, letters_of, bodies_in, refused_in, AreAcceptable, history_of, route, replies, sent, for_drainer, reply_to}
+use Rattle.rx_pump.specs.Marks.{Marked, NoLetters, Made, Refused, Ended, bodies_in, refused_in, AreAcceptable, history_of, route, replies, sent, for_drainer, reply_to}
 use Rattle.rx_pump.specs.Turns.{Ports, Sends, IsMade, IsRefused, Handles}
-use Rattle.rx_pump.specs.Pumps.{counted, PumpView, HavePut, is_cut, NamesPort, Accounts, Pumps, IsPumped, AreFresh, fresh_pump, KeepsPlaces}
+use Rattle.rx_pump.specs.Pumps.{counted, PumpView, HavePut, is_cut, NamesPort, Pumps, IsPumped, AreFresh, fresh_pump, KeepsPlaces}
 use Rattle.rx_pump.proofs.Pumping.{HavePut-fresh, HavePut-same, AreSame-length, HaveSent, HaveSent-of, counted-more, counted-plus}
 
 module _ {S : Type 0} where

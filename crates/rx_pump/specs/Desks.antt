@@ -1,5 +1,5 @@
 -- A desk, and what its calls do (this project's own rule).
-use Rattle.std.specs.Prelude.{◌≡◌, ◌≢◌, ◌+◌, ◌-◌, ◌^◌, ◌≤◌, ◌⊎◌, ℕ, Bool, true, false, List, [], ◌∷◌, ◌++◌, Option, None, Result, Ok, Err}
+use Rattle.std.specs.Prelude.{◌≡◌, ◌≢◌, ◌+◌, ◌-◌, ◌^◌, ◌≤◌, ◌⊎◌, ℕ, Bool, true, false, List, [], Option, None, Result, Ok, Err}
 use Rattle.std.specs.List.{All}
 use Rattle.rx_note.specs.declared.event.Event.{Event}
 use Rattle.rx_mailbox.specs.declared.letter.Letter.{Letter}

@@ -1,13 +1,10 @@
 -- A pump, and what it has done with the letters that it received (this project's own rule).
-use Rattle.std.specs.Prelude.{◌≡◌, ◌+◌, ◌-◌, ◌^◌, ◌<◌, ◌≤◌, min, ℕ, Bool, true, false, List, [], ◌∷◌, ◌++◌, length, map, Option, Some, None, slice_get}
+use Rattle.std.specs.Prelude.{◌≡◌, ◌+◌, ◌-◌, ◌^◌, ◌<◌, min, ℕ, Bool, true, false, List, [], ◌++◌, length, map, Option, Some, None, slice_get}
 use Rattle.std.specs.List.{All}
-use Rattle.std.specs.Option.{option_map}
 use Rattle.rx_history.specs.Histories.{NoEvents}
 use Rattle.rx_hub.specs.Hubs.{HubView, StandsFor}
 use Rattle.rx_mailbox.specs.declared.letter.Letter.{Letter}
-use Rattle.rx_mailbox.specs.declared.letter.Post.TheVariants.{Bye}
-use Rattle.rx_mailbox.specs.Letters.{letter}
-use Rattle.rx_mailbox.specs.Boxes.{Box, Outgoing, outgoing, Incoming, with_letter}
+use Rattle.rx_mailbox.specs.Boxes.{Box, Outgoing, Incoming, with_letter}
 use Rattle.rx_pump.specs.declared.call.Call.{Call}
 use Rattle.rx_pump.specs.declared.out.Out.{Out}
 use Rattle.rx_pump.specs.declared.pump_fault.PumpFault.{PumpFault}

@@ -1,4 +1,4 @@
-use Rattle.std.proofs.Common.{◌≡◌, ◌<◌, length, vec_len, reverse}
+use Rattle.std.proofs.Common.{◌<◌, vec_len, reverse}
 use Rattle.rx_pump.proofs.Giving.{Gave}
 use Rattle.rx_pump.proofs.sending.give_all.Given as goal
 

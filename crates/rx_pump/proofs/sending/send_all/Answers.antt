@@ -1,4 +1,4 @@
-use Rattle.std.proofs.Common.{◌++◌, map, option_to_list}
+use Rattle.std.proofs.Common.{map, option_to_list}
 use Rattle.std.proofs.lemmas.Result.{err_from_is_err_and}
 use Rattle.rx_pump.specs.Marks.{give}
 use Rattle.rx_pump.proofs.Putting.{PutsFor-then, StopsAt-then, StopsAt-more, SendsAll-then}

@@ -1,6 +1,5 @@
 use Rattle.std.proofs.Common.{◌≡◌, ◌+◌, ap, length, length-append, arith}
 use Rattle.std.proofs.lemmas.List.{length-map}
-use Rattle.rx_pump.specs.Sends.{with_bye}
 use Rattle.rx_pump.proofs.Desking.{AreUpTo-left}
 use Rattle.rx_pump.proofs.call_desk.CallDesk.finish.Goals as goal
 

@@ -1,4 +1,4 @@
-use Rattle.std.proofs.Common.{rules, arith}
+use Rattle.std.proofs.Common.{rules}
 use Rattle.rx_pump.proofs.Turning.{IsPumped-fresh}
 use Rattle.rx_pump.proofs.pump.Pump.new.Goals as goal
 

@@ -1,8 +1,7 @@
-use Rattle.std.proofs.Common.{◌≡◌, length, ◌∙◌, sym, ap, subst, refl, rules, arith}
+use Rattle.std.proofs.Common.{◌≡◌, length, ◌∙◌, ap, subst, refl, rules, arith}
 use Rattle.rx_mailbox.specs.Boxes.{with_letter}
 use Rattle.rx_mailbox.specs.Letters.{letter}
 use Rattle.rx_mailbox.specs.declared.letter.Letter.{Letter}
-use Rattle.rx_mailbox.specs.declared.letter.Post.TheVariants.{Body}
 use Rattle.rx_pump.specs.declared.call.Call.{Call}
 use Rattle.rx_pump.specs.Pumps.{PumpView, pump_of, KeepsPlaces}
 use Rattle.rx_pump.proofs.Pumping.{AreSame-length}
