@@ -1,4 +1,15 @@
-//! The thread that owns the core of one subject, and the callers' side of it.
+//! Pumps, calls and replies: who owns the core of a subject, and how others call it.
+//!
+//! A pump takes letters from its inbox one by one. It hands the event of each call to its hub, sends what the hub gives
+//! to the drainers of the observers, and the answer to the caller. A desk is a caller's side: it sends one call and waits
+//! for its reply. Neither starts a thread, and nothing is said of when a letter comes: a call that waits isn't promised to
+//! return.
+//!
+//! The crates above rest on the pump's history (`Pump::turn`, `Pump::serve`): for the letters that a pump received there
+//! are marks, which bodies were made and which were refused for want of memory, such that its hub stands for the history
+//! of those made, the list that it sent each drainer is the drainer's route, and the list that it sent each caller its
+//! replies. And on the desk's calls (`CallDesk::call`): one call is one new ticket and one letter received, its answer.
+//! `specs/Marks.antt` has the definitions, `Pumps.antt`, `Serving.antt` and `Desks.antt` the words of the contracts.
 #![tactic(auto)]
 
 mod asking;

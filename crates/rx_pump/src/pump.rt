@@ -94,9 +94,10 @@ impl<S: Drop> Pump<S> {
     }
 
     /// Takes one letter, and waits while there is none: hands a call to the hub, and sends what comes of it, which may
-    /// wait for room. In this order: for an accepted Join with a sink its `Attach`, the notes by rising number of the
-    /// observer, for an accepted Dispose its `Detach`, and the reply by the port at the place of the letter's port, if there is one. At a fault what was sent
-    /// is the first of that, and from then on each turn answers this fault and does nothing.
+    /// wait for room. In this order: for an accepted Join with a sink its `Attach`; the notes, by rising number of the
+    /// observer; for an accepted Dispose its `Detach`; and the reply, by the port at the place of the letter's port, if
+    /// there is one. At a fault what was sent is the first of that, and from then on each turn answers this fault and does
+    /// nothing.
     pub fn turn<R: Wait>(&mut self, rt: &R) -> Result<(), PumpFault>
         ensures pumped { IsPumped self.new }
         ensures fault { MatchResult result (λ _. self.new.fault ≡ None) (λ fault. self.new.fault ≡ Some fault) }
