@@ -7,3 +7,4 @@ pub mod Turning
 pub mod Ending
 pub mod Leaving
 pub mod Desking
+pub mod Replied

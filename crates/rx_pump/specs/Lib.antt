@@ -4,3 +4,4 @@ pub mod Turns
 pub mod Pumps
 pub mod Serving
 pub mod Desks
+pub mod Replying

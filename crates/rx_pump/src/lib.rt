@@ -20,6 +20,7 @@ mod desk_parts;
 mod ended_desk;
 mod finishing;
 mod handling;
+pub mod laws;
 mod out;
 mod pump;
 mod pump_end;
