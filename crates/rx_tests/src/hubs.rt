@@ -2,7 +2,7 @@
 //! behind all of them what was given, each note with the number of its observer before it.
 //!
 //! Answers are `A` for an emission that was admitted, `J` with the number of the observer that joined and `R` for a
-//! request that was taken; a refusal is `!`.
+//! request that was taken, `L` for an observer that left; a refusal is `!`.
 
 use crate::drawing::drawn;
 use crate::signs::{Named, SEED_PORT, digit_of, event_of, kind_of, policy_of, rules_of, sign_of};
@@ -30,6 +30,7 @@ fn put_answer(told: &mut Vec<u8, Heap>, answer: Result<Answer, Refusal>) -> Resu
     match answer {
         Ok(Answer::Admitted) => told.push(b'A')?,
         Ok(Answer::Asked) => told.push(b'R')?,
+        Ok(Answer::Left) => told.push(b'L')?,
         Ok(Answer::Joined(who)) => {
             told.push(b'J')?;
             told.push(digit_of(who as usize))?;
