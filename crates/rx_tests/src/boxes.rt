@@ -42,12 +42,16 @@ impl Sample for Words {
     }
 }
 
-fn copy(rt: &impl Abort, alloc: &Heap) -> Heap {
+pub(crate) fn copy(rt: &impl Abort, alloc: &Heap) -> Heap {
     alloc.clone().expect(rt, "a handle")
 }
 
 // A new box with two ports.
-fn two<B: Drop>(rt: &impl Abort, alloc: Heap, capacity: usize) -> (Inbox<B>, Port<B>, Port<B>)
+pub(crate) fn two<B: Drop>(
+    rt: &impl Abort,
+    alloc: Heap,
+    capacity: usize,
+) -> (Inbox<B>, Port<B>, Port<B>)
     ensures inbox { result.0 ≡ incoming result.0.box 2 [] }
     ensures first { result.1 ≡ outgoing result.0.box 0 [] }
     ensures second { result.2 ≡ outgoing result.0.box 1 [] }
@@ -58,13 +62,13 @@ fn two<B: Drop>(rt: &impl Abort, alloc: Heap, capacity: usize) -> (Inbox<B>, Por
     (inbox, first, second)
 }
 
-fn send<B: Drop>(rt: &(impl Wait + Abort), port: &mut Port<B>, body: B)
+pub(crate) fn send<B: Drop>(rt: &(impl Wait + Abort), port: &mut Port<B>, body: B)
     ensures { port.new ≡ with_post port.old (Post.Body body) }
 {
     assert!(rt; port.send(rt, body).is_ok());
 }
 
-fn finish<B: Drop>(rt: &(impl Wait + Abort), port: Port<B>) -> EndedPort<B>
+pub(crate) fn finish<B: Drop>(rt: &(impl Wait + Abort), port: Port<B>) -> EndedPort<B>
     ensures { result ≡ with_post port Post.Bye }
 {
     match port.finish(rt) {
@@ -128,7 +132,12 @@ fn refuse_alone<B: Drop>(
 }
 
 // The box settles, with so many letters.
-fn close<B: Drop>(rt: &impl Abort, inbox: Inbox<B>, ports: Vec<EndedPort<B>, Heap>, letters: u64)
+pub(crate) fn close<B: Drop>(
+    rt: &impl Abort,
+    inbox: Inbox<B>,
+    ports: Vec<EndedPort<B>, Heap>,
+    letters: u64,
+)
     requires { AreOf inbox ports.items }
 {
     match settle(inbox, ports) {

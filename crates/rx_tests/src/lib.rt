@@ -1,6 +1,6 @@
 //! Tests of the libraries by their public calls: worked runs, told as tables of scripts, drawn runs of a hub held against
 //! the stored history of the same events, runs with each growth refused in its turn, the line protocol, sessions over memory,
-//! and boxes and budgets between threads.
+//! boxes and budgets between threads, and pumps with their callers.
 //!
 //! There is no code here but tests, and nothing stands on it. It stands above all that it tests, so that none of those
 //! crates is proved a second time for tests of its own.
@@ -26,6 +26,8 @@ mod lanes;
 mod marbles;
 #[cfg(test)]
 mod protocol;
+#[cfg(test)]
+mod pumps;
 #[cfg(test)]
 mod refusals;
 #[cfg(test)]

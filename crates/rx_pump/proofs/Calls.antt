@@ -1,0 +1,113 @@
+-- One call: what the hub answered and gave, and what the ports put.
+use Rattle.std.proofs.Common.{◌≡◌, ◌≢◌, ◌⊎◌, ◌∙◌, sym, refl, ap, subst, ℕ, ◌+◌, ◌-◌, ◌^◌, min, Bool, true, false, List, [], ◌++◌, map, option_to_list, Option, Some, None, Result, Ok, Err, inl, inr}
+use Rattle.rx_note.specs.declared.answer.Answer.{Answer}
+use Rattle.rx_note.specs.declared.given.Given.{Given}
+use Rattle.rx_note.specs.declared.refusal.Refusal.{Refusal}
+use Rattle.rx_note.specs.declared.refusal.Refusal.TheVariants as refusals
+use Rattle.rx_history.specs.Histories.{History, answer}
+use Rattle.rx_hub.specs.Hubs.{HubView, StandsFor, Steps, MayMiss, is_miss}
+use Rattle.rx_pump.specs.declared.call.Call.{Call}
+use Rattle.rx_pump.specs.declared.out.Out.{Out}
+use Rattle.rx_pump.specs.declared.pump_fault.PumpFault.{PumpFault}
+use Rattle.rx_pump.specs.Marks.{attached, detached, leaver, give, sent_by, sent_back, reply_to}
+use Rattle.rx_pump.specs.Turns.{Ports, Sends, IsMade, IsRefused, Handles}
+
+-- an answer is Memory, or it is not
+pub miss_or_not : (answered : Result Answer Refusal)
+    → ((answered ≡ Err refusals.Memory) × (is_miss answered ≡ true)) ⊎ ((answered ≢ Err refusals.Memory) × (is_miss answered ≡ false))
+miss_or_not (Ok a) = inr ((λ same. cc), refl)
+miss_or_not (Err refusals.Ended) = inr ((λ same. cc), refl)
+miss_or_not (Err refusals.Full) = inr ((λ same. cc), refl)
+miss_or_not (Err refusals.Spent) = inr ((λ same. cc), refl)
+miss_or_not (Err refusals.ZeroRequest) = inr ((λ same. cc), refl)
+miss_or_not (Err refusals.NoObserver) = inr ((λ same. cc), refl)
+miss_or_not (Err refusals.TooMuch) = inr ((λ same. cc), refl)
+miss_or_not (Err refusals.Memory) = inl (refl, refl)
+
+module _ {S : Type 0} where
+  -- what the hub did with a call's event
+  pub record Stepped (hub after : HubView) (answered : Result Answer Refusal) (given : List Given) (port : ℕ) (call : Call S) : Type 0 where
+    pub step : answered ≢ Err refusals.Memory → (H : History) → StandsFor hub.state H → Steps hub.state after.state [] given answered H (port, call.event)
+    pub kept : answered ≢ Err refusals.Memory → after.misses ≡ hub.misses
+    pub missed : answered ≡ Err refusals.Memory → (after ≡ record { state = hub.state; misses = min (hub.misses + 1) (2 ^ 64 - 1) }) × (given ≡ [])
+    pub accepted : answered ≡ Err refusals.Memory → (H : History) → StandsFor hub.state H → MayMiss hub.state.rules H (port, call.event)
+    pub rules : after.state.rules ≡ hub.state.rules
+
+  -- what is sent for a call that was answered so and gave this
+  abbrev pub outs_for : Result Answer Refusal → List Given → Call S → List (Out S)
+  outs_for answered given call = attached answered call.sink ++ map give given ++ detached (leaver call.event) answered
+
+  -- nobody leaves by a refused call
+  no_detach : (leaving : Option ℕ) → detached {S = S} leaving (Err refusals.Memory) ≡ []
+  no_detach None = refl
+  no_detach (Some who) = refl
+
+  -- a call that was refused sends nothing
+  refused_sends : (given : List Given) (leaving : Option ℕ) (sink : Option S) (answered : Result Answer Refusal) → answered ≡ Err refusals.Memory → given ≡ []
+      → attached answered sink ++ map give given ++ detached leaving answered ≡ []
+  refused_sends given leaving sink answered memory none =
+      ap (λ a. attached a sink ++ map give given ++ detached leaving a) memory ∙ ap (λ l. map give l ++ detached leaving (Err refusals.Memory)) none ∙ no_detach leaving
+
+  made : (hub after : HubView) (before then : Ports S) (answered : Result Answer Refusal) (given : List Given) (fault : Option PumpFault) (port : ℕ) (call : Call S) (H : History)
+      → Stepped hub after answered given port call → answered ≢ Err refusals.Memory → StandsFor hub.state H
+      → Sends fault (outs_for answered given call) port (reply_to call answered) before then
+      → IsMade hub after before then fault port call H
+  made hub after before then answered given fault port call H stepped other stands sends =
+      let step = stepped.step other H stands in
+      let told = answer hub.state.rules H call.event in
+      let sent : outs_for answered given call ≡ sent_by hub.state.rules H port call =
+      ap (λ a. attached a call.sink ++ map give given ++ detached (leaver call.event) a) step.answers
+      ∙ ap (λ l. attached told call.sink ++ map give l ++ detached (leaver call.event) told) step.gives in
+      record {
+        goes_on = step.goes_on;
+        misses = stepped.kept other;
+        sends =
+            subst (λ (l : List (Out S)). Sends fault l port (reply_to call (answer hub.state.rules H call.event)) before then) sent
+            (subst (λ (a : Result Answer Refusal). Sends fault (outs_for answered given call) port (reply_to call a) before then) step.answers sends);
+      }
+
+  refused : (hub after : HubView) (before then : Ports S) (answered : Result Answer Refusal) (given : List Given) (fault : Option PumpFault) (port : ℕ) (call : Call S) (H : History)
+      → Stepped hub after answered given port call → answered ≡ Err refusals.Memory → StandsFor hub.state H
+      → Sends fault (outs_for answered given call) port (reply_to call answered) before then
+      → IsRefused hub after before then fault port call H
+  refused hub after before then answered given fault port call H stepped memory stands sends =
+      let missed = stepped.missed memory in
+      let nothing : outs_for answered given call ≡ [] = refused_sends given (leaver call.event) call.sink answered memory missed.1 in
+      record {
+        stays = subst (λ (hub_after : HubView). StandsFor hub_after.state H) (sym missed.0) stands;
+        misses = ap (λ (hub_after : HubView). hub_after.misses) missed.0;
+        acceptable = stepped.accepted memory H stands;
+        sends =
+            subst (λ (l : List (Out S)). Sends fault l port (reply_to call (Err refusals.Memory)) before then) nothing
+            (subst (λ (a : Result Answer Refusal). Sends fault (outs_for answered given call) port (reply_to call a) before then) memory sends);
+      }
+
+  handled : (hub after : HubView) (before then : Ports S) (answered : Result Answer Refusal) (given : List Given) (fault : Option PumpFault) (port : ℕ) (call : Call S)
+      → Stepped hub after answered given port call
+      → Sends fault (outs_for answered given call) port (reply_to call answered) before then
+      → Handles hub after before then (is_miss answered) fault port call
+  handled hub after before then answered given fault port call stepped sends = record {
+    rules = stepped.rules;
+    took = λ H stands. elim (miss_or_not answered) [
+      | inl (memory, test) ↦ rw test (refused hub after before then answered given fault port call H stepped memory stands sends)
+      | inr (other, test) ↦ rw test (made hub after before then answered given fault port call H stepped other stands sends)
+    ];
+  }
+
+  -- a call was handled, and its sink went either way
+  pub handled_with : (hub after : HubView) (before then : Ports S) (answered : Result Answer Refusal) (given : List Given) (first last : Option (Out S)) (back : Option S) (leaving : Option ℕ)
+      (was_refused : Bool) (fault : Option PumpFault) (port : ℕ) (call : Call S)
+      → was_refused ≡ is_miss answered → option_to_list first ≡ attached answered call.sink → back ≡ sent_back answered call.sink
+      → leaving ≡ leaver call.event → option_to_list last ≡ detached leaving answered
+      → Stepped hub after answered given port call
+      → Sends fault (option_to_list first ++ map give given ++ option_to_list last) port (record { ticket = call.ticket; result = answered; sink = back }) before then
+      → Handles hub after before then was_refused fault port call
+  handled_with hub after before then answered given first last back leaving was_refused fault port call refused_is first_is back_is leaving_is last_is stepped sends =
+      let last_of : option_to_list last ≡ detached (leaver call.event) answered = last_is ∙ ap (λ o. detached o answered) leaving_is in
+      let outs : option_to_list first ++ map give given ++ option_to_list last ≡ outs_for answered given call =
+      ap (λ l. l ++ map give given ++ option_to_list last) first_is ∙ ap (λ l. attached answered call.sink ++ map give given ++ l) last_of in
+      subst (λ (b : Bool). Handles hub after before then b fault port call) (sym refused_is)
+      (handled hub after before then answered given fault port call stepped
+      (subst (λ (l : List (Out S)). Sends fault l port (reply_to call answered) before then) outs
+      (subst (λ (sink : Option S). Sends fault (option_to_list first ++ map give given ++ option_to_list last) port (record { ticket = call.ticket; result = answered; sink = sink }) before then) back_is
+      sends)))

@@ -1,0 +1,10 @@
+pub mod Placing
+pub mod Putting
+pub mod Giving
+pub mod Calls
+pub mod Pumping
+pub mod Turning
+pub mod Ending
+pub mod Leaving
+pub mod Desking
+pub mod Replied

@@ -1,0 +1,143 @@
+-- What ports put, one body after another.
+use Rattle.std.proofs.Common.{◌≡◌, ◌∙◌, sym, refl, ap, subst, ℕ, ◌<◌, ◌≤◌, ◌%◌, ◌==◌, List, [], ◌∷◌, ◌++◌, append_assoc, append-nil, length, get_or, Some, None, slice_get, Result, Ok, Err, inl, inr, arith}
+use Rattle.std.proofs.Math.ListN.{set, length-set}
+use Rattle.std.proofs.lemmas.Bool.Decides.{eqb_tells}
+use Rattle.std.proofs.lemmas.List.{map-append, set-get_or}
+use Rattle.std.proofs.lemmas.List.Elements.{filter-append}
+use Rattle.std.proofs.lemmas.Option.{slice_get_read, slice_get_past}
+use Rattle.std.specs.Option.{option_map}
+use Rattle.rx_mailbox.specs.Boxes.{Outgoing, outgoing}
+use Rattle.rx_pump.specs.declared.out.Out.{Out}
+use Rattle.rx_pump.specs.Marks.{to_port, for_drainer, who_of}
+use Rattle.rx_pump.specs.Sends.{posts, with_bodies, Puts, PutsFor, StopsAt, SendsAll}
+use Rattle.rx_pump.proofs.Placing.{slice_get-set_same, slice_get-set_other, option_map-same, option_map-then}
+
+module _ {X : Type 0} where
+  -- no bodies leave the port
+  with_bodies-none : (port : Outgoing X) → with_bodies [] port ≡ port
+  with_bodies-none port = ap (λ own. outgoing port.box port.number own) (append-nil port.own)
+
+  -- bodies after bodies
+  with_bodies-then : (xs ys : List X) (port : Outgoing X) → with_bodies ys (with_bodies xs port) ≡ with_bodies (xs ++ ys) port
+  with_bodies-then xs ys port =
+      ap (λ own. outgoing port.box port.number own)
+      (append_assoc port.own (posts port.number xs) (posts port.number ys) ∙ ap (λ ps. port.own ++ ps) (sym (map-append _ xs ys)))
+
+  -- nobody puts anything
+  pub Puts-none : (ports : List (Outgoing X)) → Puts (λ _. []) ports ports
+  Puts-none ports = record { count = refl; at = λ d. option_map-same _ (slice_get ports d) with_bodies-none }
+
+  -- first these, then those
+  pub Puts-then : (first second : ℕ → List X) (a b c : List (Outgoing X)) → Puts first a b → Puts second b c → Puts (λ d. first d ++ second d) a c
+  Puts-then first second a b c p q = record {
+    count = q.count ∙ p.count;
+    at = λ d. q.at d ∙ ap (option_map (with_bodies (second d))) (p.at d)
+        ∙ option_map-then (with_bodies (first d)) (with_bodies (second d)) (with_bodies (first d ++ second d)) (slice_get a d) (with_bodies-then (first d) (second d));
+  }
+
+  -- the same bodies
+  pub Puts-same : (first second : ℕ → List X) (a b : List (Outgoing X)) → ((d : ℕ) → first d ≡ second d) → Puts first a b → Puts second a b
+  Puts-same first second a b same p = record {
+    count = p.count;
+    at = λ d. p.at d ∙ ap (λ bodies. option_map (with_bodies bodies) (slice_get a d)) (same d);
+  }
+
+  -- one port puts one body
+  pub Puts-one : (ports : List (Outgoing X)) (place : ℕ) (port : Outgoing X) (x : X)
+      → slice_get ports place ≡ Some port → Puts (λ d. to_port place d x) ports (set ports place (with_bodies (x ∷ []) port))
+  Puts-one ports place port x is = record {
+    count = length-set ports place _;
+    at = λ d. elim (eqb_tells place d) [
+      | inl (test, same) ↦
+          rw test (
+          subst (λ k. slice_get (set ports place (with_bodies (x ∷ []) port)) k ≡ option_map (with_bodies (x ∷ [])) (slice_get ports k)) same
+          (slice_get-set_same ports place port _ is ∙ sym (ap (option_map (with_bodies (x ∷ []))) is)))
+      | inr (test, other) ↦
+          rw test (slice_get-set_other ports place d _ other ∙ option_map-same (with_bodies []) (slice_get ports d) with_bodies-none)
+    ];
+  }
+
+  -- the port at a place puts one body
+  pub Puts-at : (ports : List (Outgoing X)) (place : ℕ) (port after : Outgoing X) (x : X)
+      → place < length ports → port ≡ get_or ports place port → after ≡ with_bodies (x ∷ []) port → Puts (λ d. to_port place d x) ports (set ports place after)
+  Puts-at ports place port after x within port_is after_is =
+      subst (λ (p : Outgoing X). Puts (λ d. to_port place d x) ports (set ports place p)) (sym after_is)
+      (Puts-one ports place port x (slice_get_read ports (length ports) place port refl within port_is))
+
+  -- there is no port at this place
+  pub Puts-no_place : (ports : List (Outgoing X)) (place : ℕ) (x : X) → length ports ≤ place → Puts (λ d. to_port place d x) ports ports
+  Puts-no_place ports place x past =
+      let is : slice_get ports place ≡ None = slice_get_past ports place past in
+      record {
+        count = refl;
+        at = λ d. elim (eqb_tells place d) [
+          | inl (test, same) ↦ rw test (subst (λ k. slice_get ports k ≡ option_map (with_bodies (x ∷ [])) (slice_get ports k)) same (is ∙ sym (ap (option_map (with_bodies (x ∷ []))) is)))
+          | inr (test, other) ↦ rw test (option_map-same (with_bodies []) (slice_get ports d) with_bodies-none)
+        ];
+      }
+
+module _ {S : Type 0} where
+  -- nothing is sent
+  pub PutsFor-none : (ports : List (Outgoing (Out S))) → PutsFor [] ports ports
+  PutsFor-none ports = Puts-none ports
+
+  -- one out is sent, by the port at the place of its drainer
+  pub PutsFor-one : (ports : List (Outgoing (Out S))) (who count : ℕ) (port after : Outgoing (Out S)) (out : Out S)
+      → who ≡ who_of out → count ≡ length ports → 0 < length ports → port ≡ get_or ports (who % count) port → after ≡ with_bodies (out ∷ []) port
+      → PutsFor (out ∷ []) ports (set ports (who % count) after)
+  PutsFor-one ports who count port after out who_is count_is some port_is after_is =
+      let place = who_of out % length ports in
+      let place_is : who % count ≡ place = cc in
+      let within : who % count < length ports = omega (arith, count_is) in
+      let at : slice_get ports place ≡ Some port = ap (slice_get ports) (sym place_is) ∙ slice_get_read ports (length ports) (who % count) port refl within port_is in
+      subst (λ (k : ℕ). PutsFor (out ∷ []) ports (set ports k after)) (sym place_is)
+      (subst (λ (p : Outgoing (Out S)). PutsFor (out ∷ []) ports (set ports place p)) (sym after_is) (Puts-one ports place port out at))
+
+  -- first these, then those
+  pub PutsFor-then : (first second : List (Out S)) (a b c : List (Outgoing (Out S))) → PutsFor first a b → PutsFor second b c → PutsFor (first ++ second) a c
+  PutsFor-then first second a b c p q =
+      let n : length b ≡ length a = p.count in
+      let second_put = subst (λ (k : ℕ). Puts (λ d. for_drainer k d second) b c) n q in
+      Puts-same _ _ a c (λ d. sym (filter-append (λ out. who_of out % length a == d) first second)) (Puts-then _ _ a b c p second_put)
+
+  -- it stops at the first of several outs
+  pub StopsAt-first : (out : Out S) (more : List (Out S)) (ports : List (Outgoing (Out S))) (place : ℕ)
+      → who_of out % length ports ≡ place → StopsAt (out ∷ more) place ports ports
+  StopsAt-first out more ports place gone = record { done = []; next = out; rest = more; parts = refl; gone = gone; put = PutsFor-none ports }
+
+  -- it stops at an out that the port at the place of its drainer hands back
+  pub StopsAt-here : (ports : List (Outgoing (Out S))) (who count : ℕ) (port after : Outgoing (Out S)) (out : Out S)
+      → who ≡ who_of out → count ≡ length ports → port ≡ get_or ports (who % count) port → after ≡ port
+      → StopsAt (out ∷ []) (who % count) ports (set ports (who % count) after)
+  StopsAt-here ports who count port after out who_is count_is port_is after_is =
+      let gone : who_of out % length ports ≡ who % count = cc in
+      let same : set ports (who % count) after ≡ ports = ap (set ports (who % count)) (after_is ∙ port_is) ∙ set-get_or ports (who % count) port in
+      subst (λ (now : List (Outgoing (Out S))). StopsAt (out ∷ []) (who % count) ports now) (sym same) (StopsAt-first out [] ports (who % count) gone)
+
+  -- all of these are sent, and it stops in those
+  pub StopsAt-then : (first second : List (Out S)) (place : ℕ) (a b c : List (Outgoing (Out S))) → PutsFor first a b → StopsAt second place b c → StopsAt (first ++ second) place a c
+  StopsAt-then first second place a b c p q = record {
+    done = first ++ q.done;
+    next = q.next;
+    rest = q.rest;
+    parts = append_assoc first q.done (q.next ∷ q.rest) ∙ ap (λ outs. first ++ outs) q.parts;
+    gone = ap (λ n. who_of q.next % n) (sym p.count) ∙ q.gone;
+    put = PutsFor-then first q.done a b c p q.put;
+  }
+
+  -- it stops in these, and more would follow
+  pub StopsAt-more : (outs more : List (Out S)) (place : ℕ) (a b : List (Outgoing (Out S))) → StopsAt outs place a b → StopsAt (outs ++ more) place a b
+  StopsAt-more outs more place a b p = record {
+    done = p.done;
+    next = p.next;
+    rest = p.rest ++ more;
+    parts = sym (append_assoc p.done (p.next ∷ p.rest) more) ∙ ap (λ all. all ++ more) p.parts;
+    gone = p.gone;
+    put = p.put;
+  }
+
+  -- all of these are sent, and what is sent of those
+  pub SendsAll-then : (first second : List (Out S)) (outcome : Result (Unit {0}) ℕ) (a b c : List (Outgoing (Out S)))
+      → PutsFor first a b → SendsAll second outcome b c → SendsAll (first ++ second) outcome a c
+  SendsAll-then first second (Ok _) a b c p q = PutsFor-then first second a b c p q
+  SendsAll-then first second (Err place) a b c p q = StopsAt-then first second place a b c p q

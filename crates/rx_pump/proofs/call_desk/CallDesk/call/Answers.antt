@@ -1,0 +1,25 @@
+use Rattle.std.proofs.Common.{◌+◌, refl, subst, arith}
+use Rattle.rx_pump.specs.Desks.{DeskView, KeepsDesk}
+use Rattle.rx_pump.proofs.Desking.{AreUpTo-sent, KeepsDesk-call}
+use Rattle.rx_pump.proofs.call_desk.CallDesk.call.Goals as goal
+
+pub invariant_of-self-2 : goal.invariant_of-self-2
+invariant_of-self-2 g c = (
+  AreUpTo-sent c.self.inside.tickets c.args.subject _ c.self.inside.ports.items c.send_call.new.ports.items refl c.in_default.ensures c.self.invariant.0,
+  λ _. c.self.invariant.1 c.if-self.false,
+  omega (arith, c.self.invariant.2, c.in_default.ensures.count),
+)
+
+pub returns-clause-kept : goal.returns-clause-kept
+returns-clause-kept g c =
+    let inside = c.self.inside in
+    let before : DeskView _ = record { ports = inside.ports.items; inbox = inside.inbox; ended = inside.ended.items; tickets = inside.tickets; is_over = inside.is_over } in
+    let after : DeskView _ = record {
+      ports = c.send_call.new.ports.items;
+      inbox = c.receive-answered.new.inbox;
+      ended = inside.ended.items;
+      tickets = inside.tickets + 1;
+      is_over = c.is_strange-self-inside.result;
+    } in
+    subst (λ (desk : DeskView _). KeepsDesk desk after) c.self.view_is
+    (KeepsDesk-call before after c.args.subject (inside.tickets + 1) _ c.receive-answered.result c.in_default.ensures c.receive-answered.ensures refl)

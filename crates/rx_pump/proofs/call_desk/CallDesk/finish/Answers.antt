@@ -1,0 +1,15 @@
+use Rattle.std.proofs.Common.{◌≡◌, ◌+◌, ap, length, length-append, arith}
+use Rattle.std.proofs.lemmas.List.{length-map}
+use Rattle.rx_pump.proofs.Desking.{AreUpTo-left}
+use Rattle.rx_pump.proofs.call_desk.CallDesk.finish.Goals as goal
+
+pub invariant_of-result : goal.invariant_of-result
+invariant_of-result g c =
+    let inside = c.self.inside in
+    let ends = c.in-Err.ensures.ended.0 in
+    let ports : length ends.done + length c.finish_all.new.ports.items ≡ length inside.ports.items = simp length-append at (ap length ends.parts) in
+    let ended : length c.finish_all.new.ended.items ≡ length inside.ended.items + length ends.done = simp (length-append, length-map) at (ap length ends.ended) in (
+      AreUpTo-left inside.tickets inside.ports.items c.finish_all.new.ports.items inside.ended.items c.finish_all.new.ended.items ends c.self.invariant.0,
+      λ wrong. cc,
+      omega (arith, c.self.invariant.2, c.in-Err.ensures.capacity, ports, ended),
+    )

@@ -1,0 +1,77 @@
+use Rattle.std.proofs.Common.{◌≡◌, length, ◌∙◌, ap, subst, refl, rules, arith}
+use Rattle.rx_mailbox.specs.Boxes.{with_letter}
+use Rattle.rx_mailbox.specs.Letters.{letter}
+use Rattle.rx_mailbox.specs.declared.letter.Letter.{Letter}
+use Rattle.rx_pump.specs.declared.call.Call.{Call}
+use Rattle.rx_pump.specs.Pumps.{PumpView, pump_of, KeepsPlaces}
+use Rattle.rx_pump.proofs.Pumping.{AreSame-length}
+use Rattle.rx_pump.proofs.Turning.{IsPumped-gone, IsPumped-bye, IsPumped-call, KeepsPlaces-call, TakesCall}
+use Rattle.rx_pump.proofs.pump.Pump.turn.Given as given
+use Rattle.rx_pump.proofs.pump.Pump.turn.Goals as goal
+
+pub invariant_of-self : goal.invariant_of-self
+invariant_of-self g c =
+    let before = pump_of c.self.inside.parts c.self.inside.calls c.self.inside.refused c.self.inside.misses_before c.self.inside.fault in (
+      IsPumped-gone before _ c.in_default.is (ap (λ inbox. record before { inbox = inbox; fault = _ }) c.in_default-recv.ensures.received) c.self.invariant.0,
+      c.self.invariant.1,
+      c.self.invariant.2,
+      c.self.invariant.3,
+      c.self.invariant.4,
+      c.self.invariant.5,
+    )
+
+pub returns-in_default-recv-clause-pumped : goal.returns-in_default-recv-clause-pumped
+returns-in_default-recv-clause-pumped g c = (invariant_of-self g c).0
+
+pub invariant_of-self-in-Bye : goal.invariant_of-self-in-Bye
+invariant_of-self-in-Bye g c =
+    let before = pump_of c.self.inside.parts c.self.inside.calls c.self.inside.refused c.self.inside.misses_before c.self.inside.fault in (
+      IsPumped-bye before _ c.in-Ok.letter c.in-Bye.is (ap (λ inbox. record before { inbox = inbox }) c.in-Ok.ensures.received) c.self.invariant.0,
+      c.self.invariant.1,
+      c.self.invariant.2,
+      c.self.invariant.3,
+      c.self.invariant.4,
+      c.self.invariant.5,
+    )
+
+pub returns-in-Bye-clause-pumped : goal.returns-in-Bye-clause-pumped
+returns-in-Bye-clause-pumped g c = (invariant_of-self-in-Bye g c).0
+
+-- the call that this turn took
+took : (g : given.Over) (c : goal.After-outcome g)
+    → TakesCall (pump_of c.self.inside.parts c.self.inside.calls c.self.inside.refused c.self.inside.misses_before c.self.inside.fault)
+    (pump_of c.handle-handled.new.parts c.saturating_add-self-inside.result c.raised-self-inside.result c.self.inside.misses_before c.handle-handled.result.fault)
+    c.handle-handled.result.refused c.in-Ok.letter.from c.in-Body.call
+took g c =
+    record {
+      some = omega (arith, c.self.invariant.1);
+      whole = c.in_default.is;
+      inbox =
+          c.handle-handled.ensures.inbox ∙ c.in-Ok.ensures.received
+          ∙ ap (λ (x : Letter (Call _)). with_letter c.self.inside.parts.inbox x) (ap (λ post. letter c.in-Ok.letter.from post) c.in-Body.is);
+      calls = search rules;
+      refused = c.raised-self-inside.ensures;
+      misses_before = refl;
+      handles = c.handle-handled.ensures.handles;
+    }
+
+pub invariant_of-self-2 : goal.invariant_of-self-2
+invariant_of-self-2 g c =
+    let kept = KeepsPlaces-call _ _ _ _ _ (took g c) c.self.invariant.0 in
+    let drainers : length c.handle-handled.new.parts.drainers.items ≡ length c.self.inside.parts.drainers.items = AreSame-length _ _ kept.drainers in
+    let callers : length c.handle-handled.new.parts.replies.items ≡ length c.self.inside.parts.replies.items = AreSame-length _ _ kept.callers in (
+      IsPumped-call _ _ _ _ _ (took g c) c.self.invariant.0,
+      omega (arith, c.self.invariant.1, drainers),
+      c.self.invariant.2,
+      omega (arith, c.self.invariant.3, drainers),
+      c.self.invariant.4,
+      omega (arith, c.self.invariant.5, callers),
+    )
+
+pub returns-clause-pumped : goal.returns-clause-pumped
+returns-clause-pumped g c = IsPumped-call _ _ _ _ _ (took g c) c.self.invariant.0
+
+pub returns-clause-kept : goal.returns-clause-kept
+returns-clause-kept g c =
+    let after = pump_of c.handle-handled.new.parts c.saturating_add-self-inside.result c.raised-self-inside.result c.self.inside.misses_before c.handle-handled.result.fault in
+    subst (λ (before : PumpView _). KeepsPlaces before after) c.self.view_is (KeepsPlaces-call _ _ _ _ _ (took g c) c.self.invariant.0)

@@ -1,0 +1,13 @@
+use Rattle.std.proofs.Common.{◌<◌, vec_len, reverse}
+use Rattle.rx_pump.proofs.Giving.{Gave}
+use Rattle.rx_pump.proofs.sending.give_all.Given as goal
+
+-- the notes before those that are left were sent
+abbrev pub invariant-loop-given : goal.invariant-loop-given
+invariant-loop-given g l = record {
+  some : 0 < vec_len l.drainers;
+  gave : Gave (reverse l.initial.outs.items) l.outs.items l.initial.drainers.items l.drainers.items;
+}
+
+abbrev pub decreases-loop-given : goal.decreases-loop-given
+decreases-loop-given g l = vec_len l.outs

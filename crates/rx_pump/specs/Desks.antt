@@ -1,0 +1,115 @@
+-- A desk, and what its calls do (this project's own rule).
+use Rattle.std.specs.Prelude.{◌≡◌, ◌≢◌, ◌+◌, ◌-◌, ◌^◌, ◌≤◌, ◌⊎◌, ℕ, Bool, true, false, List, [], Option, None, Result, Ok, Err}
+use Rattle.std.specs.List.{All}
+use Rattle.rx_note.specs.declared.event.Event.{Event}
+use Rattle.rx_mailbox.specs.declared.letter.Letter.{Letter}
+use Rattle.rx_mailbox.specs.declared.letter.Post.{Post}
+use Rattle.rx_mailbox.specs.declared.letter.Post.TheVariants.{Body, Bye}
+use Rattle.rx_mailbox.specs.Letters.{letter}
+use Rattle.rx_mailbox.specs.Boxes.{Outgoing, Incoming, with_letter}
+use Rattle.rx_pump.specs.declared.call.Call.{Call}
+use Rattle.rx_pump.specs.declared.call_error.CallError.{CallError}
+use Rattle.rx_pump.specs.declared.call_error.CallError.TheVariants.{SubjectGone, Strange}
+use Rattle.rx_pump.specs.declared.reply.Reply.{Reply}
+use Rattle.rx_pump.specs.Marks.{to_port}
+use Rattle.rx_pump.specs.Pumps.{AreSame}
+use Rattle.rx_pump.specs.Sends.{Puts}
+
+-- a desk: its ports to subjects, the inbox of its replies, the ports that have ended, how many tickets it used, and
+-- whether it makes no call any more
+pub record DeskView (S : Type 0) : Type 0 where
+  pub ports : List (Outgoing (Call S))
+  pub inbox : Incoming (Reply S)
+  pub ended : List (Outgoing (Call S))
+  pub tickets : ℕ
+  pub is_over : Bool
+
+module _ {S : Type 0} where
+  -- a desk before its first call
+  abbrev pub fresh_desk : List (Outgoing (Call S)) → Incoming (Reply S) → DeskView S
+  fresh_desk ports inbox = record { ports = ports; inbox = inbox; ended = []; tickets = 0; is_over = false }
+
+  -- TICKETS
+
+  -- a post has no ticket above this one
+  abbrev pub IsUpTo : ℕ → Post (Call S) → Type 0
+  IsUpTo ticket (Body call) = call.ticket ≤ ticket
+  IsUpTo ticket Bye = Unit {0}
+
+  -- no letter that the ports put has a ticket above this one
+  abbrev pub AreUpTo : ℕ → List (Outgoing (Call S)) → Type 0
+  AreUpTo ticket ports = All (λ port. All (λ x. IsUpTo ticket x.post) port.own) ports
+
+  -- a post has another ticket
+  abbrev pub HasOther : ℕ → Post (Call S) → Type 0
+  HasOther ticket (Body call) = call.ticket ≢ ticket
+  HasOther ticket Bye = Unit {0}
+
+  -- no letter that the ports put has this ticket
+  abbrev pub IsNew : ℕ → List (Outgoing (Call S)) → Type 0
+  IsNew ticket ports = All (λ port. All (λ x. HasOther ticket x.post) port.own) ports
+
+  -- ONE CALL
+
+  -- the desk makes no call any more: it is over, or it used its last ticket
+  abbrev pub IsOver : DeskView S → Type 0
+  IsOver desk = (desk.is_over ≡ true) ⊎ (desk.tickets ≡ 2 ^ 64 - 1)
+
+  -- the next call of a desk
+  abbrev pub next_call : DeskView S → Event → Option S → Call S
+  next_call desk event sink = record { ticket = desk.tickets + 1; event = event; sink = sink }
+
+  -- the desk put just its next call, to this subject, and the ticket is new
+  pub record IsSent (before after : DeskView S) (subject : ℕ) (event : Event) (sink : Option S) : Type 0 where
+    pub is_new : IsNew (before.tickets + 1) before.ports
+    pub put : Puts (λ place. to_port subject place (next_call before event sink)) before.ports after.ports
+    pub tickets : after.tickets ≡ before.tickets + 1
+    pub ended : after.ended ≡ before.ended
+
+  -- what came is no reply of this subject to this ticket, and this is its sink
+  abbrev pub IsStrange : ℕ → ℕ → ℕ → Post (Reply S) → Option S → Type 0
+  IsStrange subject ticket from (Body reply) sink = (sink ≡ reply.sink) × ¬ ((from ≡ subject) × (reply.ticket ≡ ticket))
+  IsStrange subject ticket from Bye sink = sink ≡ None
+
+  -- what no call changes: which boxes the ports and the inbox belong to, and the ports that have ended
+  pub record KeepsDesk (before after : DeskView S) : Type 0 where
+    pub ports : AreSame before.ports after.ports
+    pub box : after.inbox.box ≡ before.inbox.box
+    pub count : after.inbox.ports ≡ before.inbox.ports
+    pub ended : after.ended ≡ before.ended
+
+  -- what one call did, by its answer
+  abbrev pub Called : DeskView S → DeskView S → ℕ → Event → Option S → Result (Reply S) (CallError S) → Type 0
+  -- the call was put, and one letter received: the answer, from this subject and with this ticket
+  Called before after subject event sink (Ok reply) =
+      IsSent before after subject event sink
+      × (after.inbox ≡ with_letter before.inbox (letter subject (Body reply))) × (reply.ticket ≡ before.tickets + 1)
+      × (after.is_over ≡ before.is_over)
+  -- nothing was put and the sink comes back, or the call was put and no letter comes any more
+  Called before after subject event sink (Err (SubjectGone back)) =
+      ((after ≡ before) × (back ≡ sink))
+      ⊎ (IsSent before after subject event sink × (after.inbox ≡ before.inbox) × (after.is_over ≡ before.is_over) × (back ≡ None))
+  -- the call was put, and one letter received that is no reply to it: the desk is over
+  Called before after subject event sink (Err (Strange back)) =
+      IsSent before after subject event sink
+      × ((x : Letter (Reply S)) × (after.inbox ≡ with_letter before.inbox x) × IsStrange subject (before.tickets + 1) x.from x.post back)
+      × (after.is_over ≡ true)
+
+  -- the answer that a letter gives to a call
+  abbrev pub Reads : Letter (Reply S) → ℕ → ℕ → Result (Reply S) (CallError S) → Type 0
+  Reads x subject ticket (Ok reply) = (x ≡ letter subject (Body reply)) × (reply.ticket ≡ ticket)
+  Reads x subject ticket (Err (SubjectGone back)) = ⊥
+  Reads x subject ticket (Err (Strange back)) = IsStrange subject ticket x.from x.post back
+
+  -- what was received for a call, by its answer
+  abbrev pub Receives : Incoming (Reply S) → Incoming (Reply S) → ℕ → ℕ → Result (Reply S) (CallError S) → Type 0
+  Receives before after subject ticket (Ok reply) = (after ≡ with_letter before (letter subject (Body reply))) × (reply.ticket ≡ ticket)
+  Receives before after subject ticket (Err (SubjectGone back)) = (after ≡ before) × (back ≡ None)
+  Receives before after subject ticket (Err (Strange back)) =
+      (x : Letter (Reply S)) × (after ≡ with_letter before x) × IsStrange subject ticket x.from x.post back
+
+  -- an answer after which the desk is over
+  abbrev pub is_strange : Result (Reply S) (CallError S) → Bool
+  is_strange (Ok reply) = false
+  is_strange (Err (SubjectGone sink)) = false
+  is_strange (Err (Strange sink)) = true

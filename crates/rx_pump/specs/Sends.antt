@@ -1,0 +1,53 @@
+-- What several ports put, each its own bodies (this project's own rule).
+use Rattle.std.specs.Prelude.{◌≡◌, ◌<◌, ℕ, List, ◌∷◌, ◌++◌, length, map, slice_get, Result, Ok, Err, ◌%◌}
+use Rattle.std.specs.Option.{option_map}
+use Rattle.rx_mailbox.specs.declared.letter.Letter.{Letter}
+use Rattle.rx_mailbox.specs.declared.letter.Post.TheVariants.{Body, Bye}
+use Rattle.rx_mailbox.specs.Letters.{letter}
+use Rattle.rx_mailbox.specs.Boxes.{Outgoing, outgoing, with_post}
+use Rattle.rx_pump.specs.declared.out.Out.{Out}
+use Rattle.rx_pump.specs.Marks.{for_drainer, who_of}
+
+module _ {X : Type 0} where
+  -- the letters of a port with these bodies
+  abbrev pub posts : ℕ → List X → List (Letter X)
+  posts port bodies = map (λ body. letter port (Body body)) bodies
+
+  -- the port after it put these bodies
+  abbrev pub with_bodies : List X → Outgoing X → Outgoing X
+  with_bodies bodies port = outgoing port.box port.number (port.own ++ posts port.number bodies)
+
+  -- the port at each place put its bodies, and nothing else
+  pub record Puts (bodies : ℕ → List X) (before after : List (Outgoing X)) : Type 0 where
+    pub count : length after ≡ length before
+    pub at : (d : ℕ) → slice_get after d ≡ option_map (with_bodies (bodies d)) (slice_get before d)
+
+  -- the port after its Bye
+  abbrev pub with_bye : Outgoing X → Outgoing X
+  with_bye port = with_post port Bye
+
+  -- the first of the ports have ended, behind others, and at least one is left
+  pub record EndsSome (ports left before after : List (Outgoing X)) : Type 0 where
+    pub done : List (Outgoing X)
+    pub parts : done ++ left ≡ ports
+    pub ended : after ≡ before ++ map with_bye done
+    pub some : 0 < length left
+
+module _ {S : Type 0} where
+  -- each out was sent to the drainer of its observer, in the order of the outs
+  abbrev pub PutsFor : List (Out S) → List (Outgoing (Out S)) → List (Outgoing (Out S)) → Type 0
+  PutsFor outs before after = Puts (λ d. for_drainer (length before) d outs) before after
+
+  -- the drainer at this place is gone: the outs were sent up to the first one for it that was handed back
+  pub record StopsAt (outs : List (Out S)) (place : ℕ) (before after : List (Outgoing (Out S))) : Type 0 where
+    pub done : List (Out S)
+    pub next : Out S
+    pub rest : List (Out S)
+    pub parts : done ++ next ∷ rest ≡ outs
+    pub gone : who_of next % length before ≡ place
+    pub put : PutsFor done before after
+
+  -- the outs were sent, or a drainer is gone
+  abbrev pub SendsAll : List (Out S) → Result (Unit {0}) ℕ → List (Outgoing (Out S)) → List (Outgoing (Out S)) → Type 0
+  SendsAll outs (Ok _) before after = PutsFor outs before after
+  SendsAll outs (Err place) before after = StopsAt outs place before after

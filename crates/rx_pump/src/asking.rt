@@ -1,0 +1,71 @@
+// One call of a desk: what it sends, and what it receives.
+ghost use Rattle.std.specs.Prelude.{◌≡◌, ◌<◌, vec_len, MatchResult};
+ghost use Rattle.rx_pump.specs.Desks.{Reads, Receives};
+ghost use Rattle.rx_pump.specs.Desks as desks;
+ghost use Rattle.rx_pump.specs.Marks.{to_port};
+ghost use Rattle.rx_pump.specs.Sends.{Puts};
+
+use crate::call::Call;
+use crate::call_error::CallError;
+use crate::reply::Reply;
+use rx_heap::Heap;
+use rx_mailbox::{Inbox, Letter, Port, Post};
+use std::sync::Wait;
+
+// Sends a call to a subject. `Err` has the sink of a call that was handed back.
+pub fn send_call<S: Drop, R: Wait>(
+    rt: &R,
+    ports: &mut Vec<Port<Call<S>>, Heap>,
+    subject: usize,
+    call: Call<S>,
+) -> Result<(), Option<S>>
+    requires { subject < vec_len ports.old }
+    ensures { MatchResult result
+        (λ _. Puts (λ place. to_port subject place call) ports.old.items ports.new.items)
+        (λ back. (back ≡ call.sink) × (ports.new.items ≡ ports.old.items)) }
+{
+    match ports[subject].send(rt, call) {
+        Ok(()) => Ok(()),
+        Err(back) => Err(back.sink),
+    }
+}
+
+// Waits for the reply of a subject to a ticket.
+pub fn receive<S: Drop, R: Wait>(
+    rt: &R,
+    inbox: &mut Inbox<Reply<S>>,
+    subject: usize,
+    ticket: u64,
+) -> Result<Reply<S>, CallError<S>>
+    ensures { Receives inbox.old inbox.new subject ticket result }
+{
+    let Ok(letter) = inbox.recv(rt) else {
+        return Err(CallError::SubjectGone { sink: None });
+    };
+    read(letter, subject, ticket)
+}
+
+// Reads the reply of a subject to a ticket in a letter.
+fn read<S: Drop>(
+    letter: Letter<Reply<S>>,
+    subject: usize,
+    ticket: u64,
+) -> Result<Reply<S>, CallError<S>>
+    ensures { Reads letter subject ticket result }
+{
+    let Letter { from, post } = letter;
+    let Post::Body(reply) = post else {
+        return Err(CallError::Strange { sink: None });
+    };
+    if from as usize != subject || reply.ticket != ticket {
+        return Err(CallError::Strange { sink: reply.sink });
+    }
+    Ok(reply)
+}
+
+// Whether this answer ends the desk.
+pub fn is_strange<S>(answered: &Result<Reply<S>, CallError<S>>) -> bool
+    ensures { result ≡ desks.is_strange answered.now }
+{
+    matches!(answered, Err(CallError::Strange { sink: _ }))
+}

@@ -1,0 +1,136 @@
+ghost use Rattle.std.specs.Prelude.{◌≡◌, ◌+◌, ◌<◌, [], ◌++◌, true, map, length, Err, MatchResult};
+ghost use Rattle.std.specs.List.{All};
+ghost use Rattle.rx_pump.specs.Pumps.{IsFresh};
+ghost use Rattle.rx_pump.specs.Sends.{with_bye, EndsSome};
+
+use crate::asking::{is_strange, receive, send_call};
+use crate::call::Call;
+use crate::call_error::CallError;
+use crate::desk_parts::DeskParts;
+use crate::ended_desk::EndedDesk;
+use crate::finishing::finish_all;
+use crate::reply::Reply;
+use crate::room::room;
+use rx_heap::Heap;
+use rx_mailbox::{EndedPort, Inbox, Port};
+use rx_note::Event;
+use std::marker::Model;
+use std::sync::Wait;
+
+/// A caller's side: its ports to subjects, and the inbox of its replies. It makes one call at a time, each with the next
+/// ticket from 1 on.
+#[derive(Drop)]
+pub struct CallDesk<S: Drop> {
+    ports: Vec<Port<Call<S>>, Heap>,
+    inbox: Inbox<Reply<S>>,
+    // Room for each port once it has ended.
+    ended: Vec<EndedPort<Call<S>>, Heap>,
+    tickets: u64,
+    // It makes no call any more.
+    is_over: bool,
+}
+
+impl<S: Drop> Model for CallDesk<S> {
+    ghost use Rattle.std.specs.Prelude.{◌+◌, ◌≤◌, ◌≡◌, [], false, vec_len, vec_capacity};
+    ghost use Rattle.rx_pump.specs.Desks.{DeskView, AreUpTo};
+
+    ghost Value = { DeskView S };
+
+    ghost view = { λ d. record { ports = d.ports.items; inbox = d.inbox; ended = d.ended.items; tickets = d.tickets; is_over = d.is_over } };
+
+    ghost invariant = { λ d. AreUpTo d.tickets d.ports.items
+        × (d.is_over ≡ false → d.ended.items ≡ [])
+        × (vec_len d.ended + vec_len d.ports ≤ vec_capacity d.ended) };
+}
+
+impl<S: Drop> CallDesk<S> {
+    ghost use Rattle.rx_pump.specs.Desks.{Called, IsOver, KeepsDesk, fresh_desk};
+
+    /// A desk of new ports, one to each subject, and the inbox of their replies. `Err` gives them back where there was no
+    /// memory for it.
+    pub fn new(
+        alloc: Heap,
+        ports: Vec<Port<Call<S>>, Heap>,
+        inbox: Inbox<Reply<S>>,
+    ) -> Result<CallDesk<S>, DeskParts<S>>
+        requires ports { All IsFresh ports.items }
+        requires inbox { inbox.received ≡ [] }
+        ensures { MatchResult result
+            (λ desk. desk ≡ fresh_desk ports.items inbox)
+            (λ back. back ≡ record { ports = ports; inbox = inbox }) }
+    {
+        let Ok(ended) = room(&alloc, ports.len()) else {
+            return Err(DeskParts { ports, inbox });
+        };
+        Ok(CallDesk {
+            ports,
+            inbox,
+            ended,
+            tickets: 0,
+            is_over: false,
+        })
+    }
+
+    /// Sends a call to a subject, and waits for its reply. Refused in the order `SubjectGone`, `Strange`. After `Strange`,
+    /// after the ticket 18,446,744,073,709,551,615 and after a `finish` that came back, each call is `SubjectGone` with
+    /// its sink, and changes nothing.
+    pub fn call<R: Wait>(
+        &mut self,
+        rt: &R,
+        subject: usize,
+        event: Event,
+        sink: Option<S>,
+    ) -> Result<Reply<S>, CallError<S>>
+        requires { subject < length self.old.ports + length self.old.ended }
+        ensures called { Called self.old self.new subject event sink result }
+        ensures kept { KeepsDesk self.old self.new }
+        ensures over { IsOver self.old → (result ≡ Err (CallError.SubjectGone sink)) × (self.new ≡ self.old) }
+    {
+        if self.is_over || self.tickets == u64::MAX {
+            return Err(CallError::SubjectGone { sink });
+        }
+        let ticket = self.tickets + 1;
+        let call = Call {
+            ticket,
+            event,
+            sink,
+        };
+        if let Err(sink) = send_call(rt, &mut self.ports, subject, call) {
+            return Err(CallError::SubjectGone { sink });
+        }
+        self.tickets = ticket;
+        let answered = receive(rt, &mut self.inbox, subject, ticket);
+        self.is_over = is_strange(&answered);
+        answered
+    }
+
+    /// Ends the ports in their order. `Err` gives the desk back where a subject is gone: from then on each call is
+    /// `SubjectGone`, and a second `finish` goes on where this one stopped.
+    pub fn finish<R: Wait>(self, rt: &R) -> Result<EndedDesk<S>, CallDesk<S>>
+        ensures { MatchResult result
+            (λ ended. (ended.ports.items ≡ self.ended ++ map with_bye self.ports) × (ended.inbox ≡ self.inbox))
+            (λ back. EndsSome self.ports back.ports self.ended back.ended
+            × (back.inbox ≡ self.inbox) × (back.tickets ≡ self.tickets) × (back.is_over ≡ true)) }
+    {
+        let CallDesk {
+            mut ports,
+            inbox,
+            mut ended,
+            tickets,
+            is_over: _,
+        } = self;
+        match finish_all(rt, &mut ports, &mut ended) {
+            Ok(()) => Ok(EndedDesk {
+                ports: ended,
+                inbox,
+            }),
+            Err(_) => Err(CallDesk {
+                ports,
+                inbox,
+                ended,
+                tickets,
+                is_over: true,
+            }),
+        }
+    }
+}

@@ -1,0 +1,108 @@
+// One call: the hub takes its event, and the ports put what it gave and answered.
+ghost use Rattle.std.specs.Prelude.{◌≡◌, ◌<◌, ◌++◌, map, vec_len, option_to_list, MatchOption};
+ghost use Rattle.rx_hub.specs.Hubs.{is_miss};
+ghost use Rattle.rx_pump.specs.Marks.{give, to_port};
+ghost use Rattle.rx_pump.specs.Sends.{Puts};
+ghost use Rattle.rx_pump.specs.Turns.{Handles, Sends, ports_of};
+
+use crate::call::Call;
+use crate::out::Out;
+use crate::pump_fault::PumpFault;
+use crate::pump_parts::PumpParts;
+use crate::reply::Reply;
+use crate::sending::{detach, leaver, part, send_all};
+use rx_heap::Heap;
+use rx_mailbox::Port;
+use rx_note::{Answer, Given, Refusal};
+use std::sync::Wait;
+
+// What became of a call.
+#[derive(Clone, Copy)]
+pub struct Handled {
+    // It was refused for want of memory.
+    pub refused: bool,
+    pub fault: Option<PumpFault>,
+}
+
+// Hands a call from a port to the hub, and sends what comes of it. `outs` is but room.
+pub fn handle<S: Drop, R: Wait>(
+    rt: &R,
+    parts: &mut PumpParts<S>,
+    outs: &mut Vec<Given, Heap>,
+    port: u32,
+    call: Call<S>,
+) -> Handled
+    requires { 0 < vec_len parts.old.drainers }
+    ensures handles { Handles parts.old.hub parts.new.hub (ports_of parts.old) (ports_of parts.new) result.refused result.fault port call }
+    ensures inbox { parts.new.inbox ≡ parts.old.inbox }
+{
+    let Call {
+        ticket,
+        event,
+        sink,
+    } = call;
+    let leaving = leaver(&event);
+    outs.clear();
+    let result = parts.hub.step(port, event, outs);
+    let (first, sink) = part(result, sink);
+    let reply = Reply {
+        ticket,
+        result,
+        sink,
+    };
+    let last = detach(leaving, result);
+    let fault = send(rt, parts, first, outs, last, port, reply);
+    Handled {
+        refused: is_memory(result),
+        fault,
+    }
+}
+
+// Whether memory was wanting.
+fn is_memory(answered: Result<Answer, Refusal>) -> bool
+    ensures { result ≡ is_miss answered }
+{
+    matches!(answered, Err(Refusal::Memory))
+}
+
+// Sends what a call sends, and then its reply. It answers the fault, if there is one.
+fn send<S: Drop, R: Wait>(
+    rt: &R,
+    parts: &mut PumpParts<S>,
+    first: Option<Out<S>>,
+    outs: &mut Vec<Given, Heap>,
+    last: Option<Out<S>>,
+    port: u32,
+    reply: Reply<S>,
+) -> Option<PumpFault>
+    requires { 0 < vec_len parts.old.drainers }
+    ensures sends { Sends result (option_to_list first ++ map give outs.old.items ++ option_to_list last) port reply (ports_of parts.old) (ports_of parts.new) }
+    ensures inbox { parts.new.inbox ≡ parts.old.inbox }
+    ensures hub { parts.new.hub ≡ parts.old.hub }
+{
+    if let Err(place) = send_all(rt, &mut parts.drainers, first, outs, last) {
+        return Some(PumpFault::DrainerGone(place));
+    }
+    send_reply(rt, &mut parts.replies, port, reply)
+}
+
+// Sends a reply to the port's calls, if there is a port for it. It answers the fault, if there is one.
+fn send_reply<S: Drop, R: Wait>(
+    rt: &R,
+    callers: &mut Vec<Port<Reply<S>>, Heap>,
+    port: u32,
+    reply: Reply<S>,
+) -> Option<PumpFault>
+    ensures { MatchOption result
+        (Puts (λ p. to_port port p reply) callers.old.items callers.new.items)
+        (λ fault. (fault ≡ PumpFault.CallerGone port) × (callers.new.items ≡ callers.old.items) × (port < vec_len callers.old)) }
+{
+    let place = port as usize;
+    if place >= callers.len() {
+        return None;
+    }
+    let Ok(()) = callers[place].send(rt, reply) else {
+        return Some(PumpFault::CallerGone(place));
+    };
+    None
+}

@@ -1,0 +1,255 @@
+ghost use Rattle.std.specs.Prelude.{◌≡◌, ◌+◌, ◌-◌, ◌^◌, ◌<◌, ◌≤◌, min, [], vec_len, vec_capacity, if◌then◌else◌, Some, None, Err, MatchResult, IfOk, OnOk, IfSome};
+ghost use Rattle.rx_pump.specs.Pumps.{AreFresh};
+
+use crate::call::Call;
+use crate::finishing::finish_all;
+use crate::handling::handle;
+use crate::out::Out;
+use crate::pump_end::PumpEnd;
+use crate::pump_fault::PumpFault;
+use crate::pump_parts::PumpParts;
+use crate::pump_stop::PumpStop;
+use crate::reply::Reply;
+use crate::room::room;
+use rx_heap::Heap;
+use rx_hub::Hub;
+use rx_mailbox::{EndedPort, Inbox, Letter, Port, Post};
+use rx_note::Given;
+use std::marker::Model;
+use std::sync::Wait;
+
+/// The owner of a subject's hub: it takes the calls one by one, and sends what comes of them. It stores no letter.
+#[derive(Drop)]
+pub struct Pump<S: Drop> {
+    parts: PumpParts<S>,
+    // Room for what one call gives.
+    outs: Vec<Given, Heap>,
+    // Room for each port once it has ended.
+    ended_drainers: Vec<EndedPort<Out<S>>, Heap>,
+    ended_replies: Vec<EndedPort<Reply<S>>, Heap>,
+    calls: u64,
+    refused: u64,
+    // What the hub had counted when the pump was made.
+    misses_before: u64,
+    fault: Option<PumpFault>,
+}
+
+impl<S: Drop> Model for Pump<S> {
+    ghost use Rattle.std.specs.Prelude.{◌<◌, ◌≤◌, ◌≡◌, [], vec_len, vec_capacity};
+    ghost use Rattle.rx_pump.specs.Pumps.{PumpView, pump_of, IsPumped};
+
+    ghost Value = { PumpView S };
+
+    ghost view = { λ p. pump_of p.parts p.calls p.refused p.misses_before p.fault };
+
+    ghost invariant = { λ p. IsPumped (pump_of p.parts p.calls p.refused p.misses_before p.fault)
+        × (0 < vec_len p.parts.drainers)
+        × (p.ended_drainers.items ≡ []) × (vec_len p.parts.drainers ≤ vec_capacity p.ended_drainers)
+        × (p.ended_replies.items ≡ []) × (vec_len p.parts.replies ≤ vec_capacity p.ended_replies) };
+}
+
+impl<S: Drop> Pump<S> {
+    ghost use Rattle.rx_pump.specs.Pumps.{IsPumped, KeepsPlaces, TakesOne, fresh_pump};
+    ghost use Rattle.rx_pump.specs.Serving.{HasServed, HasStopped};
+    ghost use Rattle.rx_mailbox.specs.Boxes.{HasEachBye};
+
+    /// A pump of new parts. `Err` gives them back where there was no memory for it.
+    pub fn new(
+        alloc: Heap,
+        hub: Hub,
+        inbox: Inbox<Call<S>>,
+        drainers: Vec<Port<Out<S>>, Heap>,
+        replies: Vec<Port<Reply<S>>, Heap>,
+    ) -> Result<Pump<S>, PumpParts<S>>
+        requires some { 0 < vec_len drainers }
+        requires callers { vec_len replies ≤ inbox.ports }
+        requires fresh { AreFresh hub inbox drainers.items replies.items }
+        ensures { MatchResult result
+            (λ pump. pump ≡ fresh_pump hub inbox drainers.items replies.items)
+            (λ back. back ≡ record { hub = hub; inbox = inbox; drainers = drainers; replies = replies }) }
+    {
+        let parts = PumpParts {
+            hub,
+            inbox,
+            drainers,
+            replies,
+        };
+        let Ok(ended_drainers) = room(&alloc, parts.drainers.len()) else {
+            return Err(parts);
+        };
+        let Ok(ended_replies) = room(&alloc, parts.replies.len()) else {
+            return Err(parts);
+        };
+        let misses_before = parts.hub.misses();
+        Ok(Pump {
+            parts,
+            outs: Vec::new(alloc),
+            ended_drainers,
+            ended_replies,
+            calls: 0,
+            refused: 0,
+            misses_before,
+            fault: None,
+        })
+    }
+
+    /// Takes one letter, and waits while there is none: hands a call to the hub, and sends what comes of it, which may
+    /// wait for room. In this order: for an accepted Join with a sink its `Attach`; the notes, by rising number of the
+    /// observer; for an accepted Dispose its `Detach`; and the reply, by the port at the place of the letter's port, if
+    /// there is one. At a fault what was sent is the first of that, and from then on each turn answers this fault and does
+    /// nothing.
+    pub fn turn<R: Wait>(&mut self, rt: &R) -> Result<(), PumpFault>
+        ensures pumped { IsPumped self.new }
+        ensures fault { MatchResult result (λ _. self.new.fault ≡ None) (λ fault. self.new.fault ≡ Some fault) }
+        ensures took { OnOk result (TakesOne self.old.inbox self.new.inbox) }
+        ensures kept { KeepsPlaces self.old self.new }
+        ensures over { IfSome self.old.fault (λ fault. (result ≡ Err fault) × (self.new ≡ self.old)) }
+    {
+        if let Some(fault) = self.fault {
+            return Err(fault);
+        }
+        let Ok(letter) = self.parts.inbox.recv(rt) else {
+            self.fault = Some(PumpFault::InboxGone);
+            return Err(PumpFault::InboxGone);
+        };
+        let Letter { from, post } = letter;
+        let call = match post {
+            Post::Body(call) => call,
+            Post::Bye => return Ok(()),
+        };
+        let handled = handle(rt, &mut self.parts, &mut self.outs, from, call);
+        self.calls = self.calls.saturating_add(1);
+        self.refused = raised(self.refused, handled.refused);
+        self.fault = handled.fault;
+        outcome(handled.fault)
+    }
+
+    /// Takes letters until the Bye of each port came, and waits while there is none; then ends its own ports, each to a
+    /// drainer and then each for replies. `Err` at a fault, with the parts that are left.
+    pub fn serve<R: Wait>(self, rt: &R) -> Result<PumpEnd<S>, PumpStop<S>>
+        ensures { MatchResult result (λ left. HasServed self left) (λ stop. HasStopped self stop) }
+    {
+        let mut pump = self;
+        match pump.take_all(rt) {
+            Ok(()) => pump.finish(rt),
+            Err(fault) => Err(pump.stop(fault)),
+        }
+    }
+
+    /// The parts, as the turns so far left them.
+    pub fn into_parts(self) -> PumpParts<S>
+        ensures hub { result.hub ≡ self.hub }
+        ensures inbox { result.inbox ≡ self.inbox }
+        ensures drainers { result.drainers.items ≡ self.drainers }
+        ensures replies { result.replies.items ≡ self.replies }
+        ensures pumped { IsPumped self }
+    {
+        self.parts
+    }
+
+    // Takes letters until the Bye of each port came.
+    fn take_all<R: Wait>(&mut self, rt: &R) -> Result<(), PumpFault>
+        ensures fault { MatchResult result (λ _. self.new.fault ≡ None) (λ fault. self.new.fault ≡ Some fault) }
+        ensures each_bye { OnOk result (HasEachBye self.new.inbox) }
+        ensures kept { KeepsPlaces self.old self.new }
+    {
+        if let Some(fault) = self.fault {
+            return Err(fault);
+        }
+        for _ in rt.forever() {
+            if self.parts.inbox.has_each_bye() {
+                return Ok(());
+            }
+            self.turn(rt)?;
+        }
+        unreachable!()
+    }
+
+    // Ends the ports.
+    fn finish<R: Wait>(self, rt: &R) -> Result<PumpEnd<S>, PumpStop<S>>
+        requires whole { self.fault ≡ None }
+        requires each_bye { HasEachBye self.inbox }
+        ensures { MatchResult result (λ left. HasServed self left) (λ stop. HasStopped self stop) }
+    {
+        let Pump {
+            mut parts,
+            outs: _,
+            mut ended_drainers,
+            mut ended_replies,
+            calls,
+            refused,
+            misses_before: _,
+            fault: _,
+        } = self;
+        if let Err(place) = finish_all(rt, &mut parts.drainers, &mut ended_drainers) {
+            return Err(PumpStop {
+                fault: PumpFault::DrainerGone(place),
+                parts,
+                ended_drainers,
+                ended_replies,
+            });
+        }
+        if let Err(place) = finish_all(rt, &mut parts.replies, &mut ended_replies) {
+            return Err(PumpStop {
+                fault: PumpFault::CallerGone(place),
+                parts,
+                ended_drainers,
+                ended_replies,
+            });
+        }
+        Ok(PumpEnd {
+            hub: parts.hub,
+            inbox: parts.inbox,
+            drainers: ended_drainers,
+            replies: ended_replies,
+            calls,
+            refused,
+        })
+    }
+
+    // What is left at a fault of a turn.
+    fn stop(self, fault: PumpFault) -> PumpStop<S>
+        ensures { HasStopped self result }
+    {
+        PumpStop {
+            fault,
+            parts: self.parts,
+            ended_drainers: self.ended_drainers,
+            ended_replies: self.ended_replies,
+        }
+    }
+
+    /// How many calls it took. The count stays at the greatest `u64`.
+    pub fn calls(&self) -> u64
+        ensures { result ≡ self.now.calls }
+    {
+        self.calls
+    }
+
+    /// How many of its calls were refused for want of memory. The count stays at the greatest `u64`.
+    pub fn refused(&self) -> u64
+        ensures { result ≡ self.now.refused }
+    {
+        self.refused
+    }
+}
+
+// The count with one more, if it counts.
+fn raised(count: u64, counts: bool) -> u64
+    ensures { result ≡ (if counts then min (count + 1) (2 ^ 64 - 1) else count) }
+{
+    if counts {
+        count.saturating_add(1)
+    } else {
+        count
+    }
+}
+
+fn outcome(fault: Option<PumpFault>) -> Result<(), PumpFault>
+    ensures { MatchResult result (λ _. fault ≡ None) (λ met. fault ≡ Some met) }
+{
+    match fault {
+        None => Ok(()),
+        Some(fault) => Err(fault),
+    }
+}

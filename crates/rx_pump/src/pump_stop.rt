@@ -1,0 +1,18 @@
+use crate::out::Out;
+use crate::pump_fault::PumpFault;
+use crate::pump_parts::PumpParts;
+use crate::reply::Reply;
+use rx_heap::Heap;
+use rx_mailbox::EndedPort;
+
+/// What a pump leaves that could not go on.
+#[derive(Drop)]
+pub struct PumpStop<S: Drop> {
+    pub fault: PumpFault,
+    /// Its hub, its inbox, and the ports that have not ended, in their order.
+    pub parts: PumpParts<S>,
+    /// The first ports to drainers, which have ended, in their order.
+    pub ended_drainers: Vec<EndedPort<Out<S>>, Heap>,
+    /// The first reply ports, which have ended, in their order.
+    pub ended_replies: Vec<EndedPort<Reply<S>>, Heap>,
+}

@@ -1,0 +1,12 @@
+use rx_note::{Answer, Refusal};
+
+/// What a pump replies to a call.
+#[derive(Drop)]
+pub struct Reply<S> {
+    /// The call's.
+    pub ticket: u64,
+    /// What the subject answered.
+    pub result: Result<Answer, Refusal>,
+    /// The call's sink, unless it went to a drainer.
+    pub sink: Option<S>,
+}

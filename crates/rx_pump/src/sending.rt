@@ -1,0 +1,110 @@
+// What a pump sends its drainers for one call.
+ghost use Rattle.std.specs.Prelude.{◌≡◌, ◌<◌, [], ◌∷◌, ◌++◌, map, vec_len, option_to_list};
+ghost use Rattle.rx_pump.specs.Marks.{attached, detached, give, sent_back};
+ghost use Rattle.rx_pump.specs.Marks as marks;
+ghost use Rattle.rx_pump.specs.Sends.{SendsAll};
+
+use crate::out::Out;
+use rx_heap::Heap;
+use rx_mailbox::Port;
+use rx_note::{Answer, Event, Given, Refusal};
+use std::sync::Wait;
+
+pub type Drainers<S> = Vec<Port<Out<S>>, Heap>;
+
+// Splits the sink of a call that was answered so: what goes to the drainer of the observer that it made, and what goes
+// back.
+pub fn part<S: Drop>(
+    answered: Result<Answer, Refusal>,
+    sink: Option<S>,
+) -> (Option<Out<S>>, Option<S>)
+    ensures attached { option_to_list result.0 ≡ attached answered sink }
+    ensures back { result.1 ≡ sent_back answered sink }
+{
+    match (answered, sink) {
+        (Ok(Answer::Joined(who)), Some(sink)) => (Some(Out::Attach { who, sink }), None),
+        (_, sink) => (None, sink),
+    }
+}
+
+// The observer that an event asks to leave.
+pub fn leaver(event: &Event) -> Option<u32>
+    ensures { result ≡ marks.leaver event.now }
+{
+    match event {
+        Event::Dispose { who } => Some(*who),
+        _ => None,
+    }
+}
+
+// What goes last to the drainer of an observer that was asked to leave, where that was answered so.
+pub fn detach<S: Drop>(leaver: Option<u32>, answered: Result<Answer, Refusal>) -> Option<Out<S>>
+    ensures { option_to_list result ≡ detached leaver answered }
+{
+    match (leaver, answered) {
+        (Some(who), Ok(_)) => Some(Out::Detach { who }),
+        _ => None,
+    }
+}
+
+// Sends what a call sends: the sink of the observer that it made, the notes that it gave, and that an observer left.
+// `Err` has the place of the drainer that is gone.
+pub fn send_all<S: Drop, R: Wait>(
+    rt: &R,
+    drainers: &mut Drainers<S>,
+    first: Option<Out<S>>,
+    outs: &mut Vec<Given, Heap>,
+    last: Option<Out<S>>,
+) -> Result<(), usize>
+    requires { 0 < vec_len drainers.old }
+    ensures { SendsAll (option_to_list first ++ map give outs.old.items ++ option_to_list last) result drainers.old.items drainers.new.items }
+{
+    send_any(rt, drainers, first)?;
+    give_all(rt, drainers, outs)?;
+    send_any(rt, drainers, last)
+}
+
+// Sends the out, if there is one.
+fn send_any<S: Drop, R: Wait>(
+    rt: &R,
+    drainers: &mut Drainers<S>,
+    out: Option<Out<S>>,
+) -> Result<(), usize>
+    requires { 0 < vec_len drainers.old }
+    ensures { SendsAll (option_to_list out) result drainers.old.items drainers.new.items }
+{
+    match out {
+        Some(out) => send(rt, drainers, out),
+        None => Ok(()),
+    }
+}
+
+// Sends the notes, in their order.
+fn give_all<S: Drop, R: Wait>(
+    rt: &R,
+    drainers: &mut Drainers<S>,
+    outs: &mut Vec<Given, Heap>,
+) -> Result<(), usize>
+    requires { 0 < vec_len drainers.old }
+    ensures { SendsAll (map give outs.old.items) result drainers.old.items drainers.new.items }
+{
+    // From the back, so that each note is moved out, and the list keeps its room.
+    outs.reverse();
+    while let Some(given) = outs.pop() {
+        let Given { who, note } = given;
+        send(rt, drainers, Out::Give { who, note })?;
+    }
+    Ok(())
+}
+
+// Sends an out to the drainer of its observer.
+fn send<S: Drop, R: Wait>(rt: &R, drainers: &mut Drainers<S>, out: Out<S>) -> Result<(), usize>
+    requires { 0 < vec_len drainers.old }
+    ensures { SendsAll (out ∷ []) result drainers.old.items drainers.new.items }
+{
+    let place = out.who() as usize % drainers.len();
+    let Ok(()) = drainers[place].send(rt, out) else {
+        return Err(place);
+    };
+    Ok(())
+}

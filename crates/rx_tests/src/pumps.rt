@@ -1,0 +1,445 @@
+//! A pump with its drainers and its callers: a run on one thread, told letter by letter, and two desks with the pump on
+//! three threads.
+//!
+//! A letter is told by its signs and a space; a Bye is `.`. What a drainer receives is `+` with the observer and its sink,
+//! `=` with the observer and the sign of its note, `-` with the observer that left. A reply is its ticket, `A`, `L`, `R`
+//! or `J` with the observer for what was accepted, `n` for no such observer or `!` for another refusal, and the sink that
+//! came back or `_`.
+
+ghost use Rattle.std.specs.Prelude.{◌≡◌, ◌≤◌, ◌<◌, [], ◌∷◌, length, map, vec_len, IfOk};
+ghost use Rattle.std.specs.List.{All};
+ghost use Rattle.rx_mailbox.specs.Boxes.{AreOf, incoming, outgoing};
+ghost use Rattle.rx_pump.specs.Desks.{KeepsDesk, fresh_desk};
+ghost use Rattle.rx_pump.specs.Pumps.{IsFresh};
+ghost use Rattle.rx_pump.specs.Sends.{with_bye};
+ghost use Rattle.rx_pump.specs.Serving.{HasServed};
+ghost use Rattle.rx_tests.specs.Wiring.{boxes_of};
+
+use crate::boxes::{close, copy, finish, send, two};
+use crate::heaps::unlimited;
+use crate::signs::{digit_of, emit, event_of, policy_of, sign_of};
+use rx_heap::Heap;
+use rx_hub::Hub;
+use rx_mailbox::{EndedPort, Inbox, Port, Post, open};
+use rx_note::{Answer, Event, Item, Kind, Limits, Note, Refusal, Strategy, Text};
+use rx_pump::{Call, CallDesk, EndedDesk, Out, Pump, PumpEnd, Reply};
+use std::process::Abort;
+use std::sync::Wait;
+use std::test::Fail;
+use std::thread::{Threads, join};
+
+// What is told of a body.
+trait Told: Drop {
+    fn put(&self, told: &mut Vec<u8, Heap>) -> Result<(), Fail>;
+}
+
+impl Told for Out<u8> {
+    fn put(&self, told: &mut Vec<u8, Heap>) -> Result<(), Fail> {
+        told.push(match self {
+            Out::Attach { who: _, sink: _ } => b'+',
+            Out::Give { who: _, note: _ } => b'=',
+            Out::Detach { who: _ } => b'-',
+        })?;
+        told.push(digit_of(self.who() as usize))?;
+        match self {
+            Out::Attach { who: _, sink } => told.push(digit_of(*sink as usize))?,
+            Out::Give { who: _, note } => told.push(sign_of(note))?,
+            Out::Detach { who: _ } => (),
+        }
+        Ok(())
+    }
+}
+
+fn put_result(told: &mut Vec<u8, Heap>, answered: Result<Answer, Refusal>) -> Result<(), Fail> {
+    told.push(match answered {
+        Ok(Answer::Admitted) => b'A',
+        Ok(Answer::Joined(_)) => b'J',
+        Ok(Answer::Asked) => b'R',
+        Ok(Answer::Left) => b'L',
+        Err(Refusal::NoObserver) => b'n',
+        Err(_) => b'!',
+    })?;
+    if let Ok(Answer::Joined(who)) = answered {
+        told.push(digit_of(who as usize))?;
+    }
+    Ok(())
+}
+
+impl Told for Reply<u8> {
+    fn put(&self, told: &mut Vec<u8, Heap>) -> Result<(), Fail> {
+        told.push(digit_of(self.ticket as usize))?;
+        put_result(told, self.result)?;
+        told.push(match self.sink {
+            Some(sink) => digit_of(sink as usize),
+            None => b'_',
+        })?;
+        Ok(())
+    }
+}
+
+fn put_post<B: Told>(told: &mut Vec<u8, Heap>, post: &Post<B>) -> Result<(), Fail> {
+    match post {
+        Post::Body(body) => body.put(told)?,
+        Post::Bye => told.push(b'.')?,
+    }
+    Ok(told.push(b' ')?)
+}
+
+// The next letters, all of port 0.
+fn told_of<B: Told>(
+    rt: &(impl Wait + Abort),
+    heap: &Heap,
+    inbox: &mut Inbox<B>,
+    letters: usize,
+) -> Result<Vec<u8, Heap>, Fail> {
+    let mut told = Vec::new(heap.clone()?);
+    for _ in 0..letters {
+        let letter = inbox.recv(rt).expect(rt, "a letter");
+        assert_eq!(rt; letter.from, 0);
+        put_post(&mut told, &letter.post)?;
+    }
+    Ok(told)
+}
+
+// The call of a sign: `-` disposes of observer 0.
+fn call_of(heap: &Heap, ticket: u64, sign: u8, sink: Option<u8>) -> Result<Call<u8>, Fail> {
+    let event = match sign {
+        b'-' => Event::Dispose { who: 0 },
+        other => event_of(heap, policy_of(Strategy::Buffer)?, 1, other)?,
+    };
+    Ok(Call {
+        ticket,
+        event,
+        sink,
+    })
+}
+
+// Sends calls, each from port 0 or 1.
+fn send_calls(
+    rt: &(impl Wait + Abort),
+    heap: &Heap,
+    first: &mut Port<Call<u8>>,
+    second: &mut Port<Call<u8>>,
+    calls: &[(u8, u64, u8, Option<u8>)],
+) -> Result<(), Fail>
+    ensures first { first.new.box ≡ first.old.box }
+    ensures second { second.new.box ≡ second.old.box }
+{
+    for (port, ticket, sign, sink) in calls {
+        let call = call_of(heap, *ticket, *sign, *sink)?;
+        match port {
+            0 => send(rt, first, call),
+            _ => send(rt, second, call),
+        }
+    }
+    Ok(())
+}
+
+// A pump of a new Publish subject.
+fn pump_of(
+    rt: &impl Abort,
+    heap: &Heap,
+    inbox: Inbox<Call<u8>>,
+    drainer: Port<Out<u8>>,
+    callers: Vec<Port<Reply<u8>>, Heap>,
+) -> Pump<u8>
+    requires inbox { inbox.received ≡ [] }
+    requires drainer { drainer.own ≡ [] }
+    requires callers { All IsFresh callers.items }
+    requires ports { vec_len callers ≤ inbox.ports }
+    ensures inbox { result.inbox ≡ inbox }
+    ensures callers { result.replies ≡ callers.items }
+{
+    let limits = Limits {
+        observers: 1,
+        joins: 1,
+    };
+    let hub = Hub::new(copy(rt, heap), Kind::Publish, limits).expect(rt, "a hub");
+    let drainers = vec![in copy(rt, heap); drainer].expect(rt, "memory");
+    match Pump::new(copy(rt, heap), hub, inbox, drainers, callers) {
+        Ok(pump) => pump,
+        Err(_) => panic!(rt; "no memory for a pump"),
+    }
+}
+
+fn serve(rt: &(impl Wait + Abort), pump: Pump<u8>) -> PumpEnd<u8>
+    ensures { HasServed pump result }
+{
+    match pump.serve(rt) {
+        Ok(left) => left,
+        Err(_) => panic!(rt; "the pump stopped"),
+    }
+}
+
+// A new box with one port.
+fn one<B: Drop>(rt: &impl Abort, alloc: Heap, capacity: usize) -> (Inbox<B>, Port<B>)
+    ensures inbox { result.0 ≡ incoming result.0.box 1 [] }
+    ensures port { result.1 ≡ outgoing result.0.box 0 [] }
+{
+    let (inbox, mut ports) = open(alloc, capacity, 1).expect(rt, "a box");
+    let port = ports.pop().expect(rt, "port 0");
+    (inbox, port)
+}
+
+// What became of calls that were all sent before the pump served.
+#[derive(Drop)]
+struct Run {
+    inbox: Inbox<Call<u8>>,
+    ports: Vec<EndedPort<Call<u8>>, Heap>,
+    outs: Inbox<Out<u8>>,
+    replies: Inbox<Reply<u8>>,
+    calls: u64,
+    refused: u64,
+}
+
+// Two ports send calls and end, and the pump serves. Of the drainers' box the pump has port 0.
+fn run_of(
+    rt: &(impl Wait + Abort),
+    heap: &Heap,
+    calls: &[(u8, u64, u8, Option<u8>)],
+) -> Result<Run, Fail>
+    ensures { IfOk result (λ run. AreOf run.inbox run.ports.items) }
+{
+    let (inbox, mut first, mut second) = two::<Call<u8>>(rt, copy(rt, heap), 64);
+    let (outs, drainer, _) = two::<Out<u8>>(rt, copy(rt, heap), 16);
+    let (replies, caller) = one::<Reply<u8>>(rt, copy(rt, heap), 8);
+    let callers = vec![in copy(rt, heap); caller].expect(rt, "memory");
+    let pump = pump_of(rt, heap, inbox, drainer, callers);
+    send_calls(rt, heap, &mut first, &mut second, calls)?;
+    let first = finish(rt, first);
+    let second = finish(rt, second);
+    let left = serve(rt, pump);
+    Ok(Run {
+        inbox: left.inbox,
+        ports: vec![in copy(rt, heap); first, second].expect(rt, "memory"),
+        outs,
+        replies,
+        calls: left.calls,
+        refused: left.refused,
+    })
+}
+
+#[test]
+fn pump_letter_by_letter(rt: HostRuntime) -> Result<(), Fail> {
+    let heap = unlimited(&rt);
+    let calls = [
+        (0, 1, b'+', Some(7)),
+        (0, 2, b'a', None),
+        (1, 0, b'1', None),
+        (0, 3, b'-', None),
+        (0, 4, b'-', Some(9)),
+    ];
+    let run = run_of(&rt, &heap, calls.as_slice())?;
+    assert_eq!(rt; run.calls, 5);
+    assert_eq!(rt; run.refused, 0);
+    let mut outs = run.outs;
+    assert_eq!(rt;
+        told_of(&rt, &heap, &mut outs, 4)?.as_slice(),
+        b"+07 =0a -0 . ".as_slice()
+    );
+    let mut replies = run.replies;
+    assert_eq!(rt;
+        told_of(&rt, &heap, &mut replies, 5)?.as_slice(),
+        b"1J0_ 2A_ 3L_ 4n9 . ".as_slice()
+    );
+    close(&rt, run.inbox, run.ports, 7);
+    Ok(())
+}
+
+// How many items each of two desks emits.
+const ITEMS: u64 = 100;
+
+// A desk of one subject.
+fn desk_of(
+    rt: &impl Abort,
+    alloc: &Heap,
+    port: Port<Call<u8>>,
+    inbox: Inbox<Reply<u8>>,
+) -> CallDesk<u8>
+    requires port { port.own ≡ [] }
+    requires inbox { inbox.received ≡ [] }
+    ensures { result ≡ fresh_desk (port ∷ []) inbox }
+{
+    let ports = vec![in copy(rt, alloc); port].expect(rt, "memory");
+    match CallDesk::new(copy(rt, alloc), ports, inbox) {
+        Ok(desk) => desk,
+        Err(_) => panic!(rt; "no memory for a desk"),
+    }
+}
+
+// Emits an item, and looks that the subject admits it.
+fn admit(rt: &(impl Wait + Abort), alloc: &Heap, desk: &mut CallDesk<u8>)
+    requires { 0 < length desk.old.ports }
+    ensures { KeepsDesk desk.old desk.new }
+{
+    let text = Text::new(copy(rt, alloc), b"a").expect(rt, "a text");
+    let event = emit(Note::Next(Item { from: 0, text }));
+    match desk.call(rt, 0, event, None) {
+        Ok(reply) => assert_eq!(rt; reply.result, Ok(Answer::Admitted)),
+        Err(_) => panic!(rt; "no reply"),
+    }
+}
+
+// Ends the desk's ports.
+fn finish_desk(rt: &(impl Wait + Abort), desk: CallDesk<u8>) -> EndedDesk<u8>
+    requires { desk.ended ≡ [] }
+    ensures ports { result.ports.items ≡ map with_bye desk.ports }
+    ensures inbox { result.inbox ≡ desk.inbox }
+{
+    match desk.finish(rt) {
+        Ok(ended) => ended,
+        Err(_) => panic!(rt; "the desk came back"),
+    }
+}
+
+// Emits all items at a desk of one subject, and ends it.
+fn emit_all(
+    rt: &(impl Wait + Abort),
+    alloc: Heap,
+    port: Port<Call<u8>>,
+    inbox: Inbox<Reply<u8>>,
+) -> EndedDesk<u8>
+    requires port { port.own ≡ [] }
+    requires inbox { inbox.received ≡ [] }
+    ensures ports { boxes_of result.ports.items ≡ port.box ∷ [] }
+    ensures inbox { result.inbox.box ≡ inbox.box }
+{
+    let mut desk = desk_of(rt, &alloc, port, inbox);
+    for _ in 0..ITEMS {
+        admit(rt, &alloc, &mut desk);
+    }
+    finish_desk(rt, desk)
+}
+
+// The one port of a list.
+fn take_one<B: Drop>(rt: &impl Abort, ports: Vec<EndedPort<B>, Heap>) -> EndedPort<B>
+    ensures { ports.items ≡ result ∷ [] }
+{
+    let mut ports = ports;
+    let port = ports.pop().expect(rt, "a port");
+    assert_eq!(rt; ports.len(), 0);
+    port
+}
+
+// The two ports of a list.
+fn take_two<B: Drop>(
+    rt: &impl Abort,
+    ports: Vec<EndedPort<B>, Heap>,
+) -> (EndedPort<B>, EndedPort<B>)
+    ensures { ports.items ≡ result.0 ∷ result.1 ∷ [] }
+{
+    let mut ports = ports;
+    let second = ports.pop().expect(rt, "port 1");
+    let first = take_one(rt, ports);
+    (first, second)
+}
+
+// Receives the pump's Bye, and settles the box of a desk's replies.
+fn close_replies(
+    rt: &(impl Wait + Abort),
+    alloc: &Heap,
+    inbox: Inbox<Reply<u8>>,
+    port: EndedPort<Reply<u8>>,
+)
+    requires { port.box ≡ inbox.box }
+{
+    let mut inbox = inbox;
+    let letter = inbox.recv(rt).expect(rt, "a letter");
+    assert!(rt; matches!(letter.post, Post::Bye));
+    let ports = vec![in copy(rt, alloc); port].expect(rt, "memory");
+    close(rt, inbox, ports, ITEMS + 1);
+}
+
+// Settles the subject's box.
+fn close_subject(
+    rt: &impl Abort,
+    alloc: &Heap,
+    inbox: Inbox<Call<u8>>,
+    first: EndedPort<Call<u8>>,
+    second: EndedPort<Call<u8>>,
+)
+    requires first { first.box ≡ inbox.box }
+    requires second { second.box ≡ inbox.box }
+{
+    let ports = vec![in copy(rt, alloc); first, second].expect(rt, "memory");
+    close(rt, inbox, ports, 2 * ITEMS + 2);
+}
+
+// Two desks emit on threads of their own.
+fn emit_both<R: Threads + Wait + Abort + Sync>(
+    rt: &R,
+    alloc: &Heap,
+    first: Port<Call<u8>>,
+    second: Port<Call<u8>>,
+    first_inbox: Inbox<Reply<u8>>,
+    second_inbox: Inbox<Reply<u8>>,
+) -> (EndedDesk<u8>, EndedDesk<u8>)
+    requires ports { (first.own ≡ []) × (second.own ≡ []) }
+    requires inboxes { (first_inbox.received ≡ []) × (second_inbox.received ≡ []) }
+    ensures first { (boxes_of result.0.ports.items ≡ first.box ∷ []) × (result.0.inbox.box ≡ first_inbox.box) }
+    ensures second { (boxes_of result.1.ports.items ≡ second.box ∷ []) × (result.1.inbox.box ≡ second_inbox.box) }
+{
+    let first_alloc = copy(rt, alloc);
+    let second_alloc = copy(rt, alloc);
+    join(
+        rt,
+        || -> EndedDesk<u8>
+            requires { (first.own ≡ []) × (first_inbox.received ≡ []) }
+            ensures { (boxes_of result.ports.items ≡ first.box ∷ []) × (result.inbox.box ≡ first_inbox.box) }
+        { emit_all(rt, first_alloc, first, first_inbox) },
+        || -> EndedDesk<u8>
+            requires { (second.own ≡ []) × (second_inbox.received ≡ []) }
+            ensures { (boxes_of result.ports.items ≡ second.box ∷ []) × (result.inbox.box ≡ second_inbox.box) }
+        { emit_all(rt, second_alloc, second, second_inbox) },
+    )
+}
+
+// Settles all boxes, and gives the counts of the pump.
+fn close_all(
+    rt: &(impl Wait + Abort),
+    alloc: &Heap,
+    left: PumpEnd<u8>,
+    first: EndedDesk<u8>,
+    second: EndedDesk<u8>,
+) -> (u64, u64)
+    requires first { boxes_of first.ports.items ≡ left.inbox.box ∷ [] }
+    requires second { boxes_of second.ports.items ≡ left.inbox.box ∷ [] }
+    requires replies { boxes_of left.replies.items ≡ first.inbox.box ∷ second.inbox.box ∷ [] }
+{
+    let (first_caller, second_caller) = take_two(rt, left.replies);
+    close_replies(rt, alloc, first.inbox, first_caller);
+    close_replies(rt, alloc, second.inbox, second_caller);
+    let first = take_one(rt, first.ports);
+    let second = take_one(rt, second.ports);
+    close_subject(rt, alloc, left.inbox, first, second);
+    (left.calls, left.refused)
+}
+
+// Two desks emit, and the pump serves, each on a thread of its own; then their boxes settle.
+fn exchange<R: Threads + Wait + Abort + Sync>(rt: &R, alloc: &Heap) -> (u64, u64) {
+    let (inbox, first, second) = two::<Call<u8>>(rt, copy(rt, alloc), 8);
+    let (_outs, drainer, _) = two::<Out<u8>>(rt, copy(rt, alloc), 1);
+    let (first_inbox, first_caller) = one::<Reply<u8>>(rt, copy(rt, alloc), 1);
+    let (second_inbox, second_caller) = one::<Reply<u8>>(rt, copy(rt, alloc), 1);
+    let callers = vec![in copy(rt, alloc); first_caller, second_caller].expect(rt, "memory");
+    let pump = pump_of(rt, alloc, inbox, drainer, callers);
+    let ((first, second), left) = join(
+        rt,
+        || -> (EndedDesk<u8>, EndedDesk<u8>)
+            requires { (first.own ≡ []) × (second.own ≡ []) × (first_inbox.received ≡ []) × (second_inbox.received ≡ []) }
+            ensures { (boxes_of result.0.ports.items ≡ first.box ∷ []) × (boxes_of result.1.ports.items ≡ second.box ∷ [])
+                × (result.0.inbox.box ≡ first_inbox.box) × (result.1.inbox.box ≡ second_inbox.box) }
+        { emit_both(rt, alloc, first, second, first_inbox, second_inbox) },
+        || -> PumpEnd<u8>
+            ensures { HasServed pump result }
+        { serve(rt, pump) },
+    );
+    close_all(rt, alloc, left, first, second)
+}
+
+#[test]
+fn two_desks_all_admitted(rt: HostRuntime) {
+    let (calls, refused) = exchange(&rt, &unlimited(&rt));
+    assert_eq!(rt; calls, 2 * ITEMS);
+    assert_eq!(rt; refused, 0);
+}
