@@ -16,8 +16,8 @@ ghost use Rattle.rx_pump.specs.Serving.{HasServed};
 ghost use Rattle.rx_tests.specs.Wiring.{boxes_of};
 
 use crate::boxes::{close, copy, finish, send, two};
-use crate::heaps::unlimited;
-use crate::signs::{digit_of, emit, event_of, policy_of, sign_of};
+use crate::heaps::{unlimited, unlimited};
+use crate::signs::{digit_of, event_of, policy_of, sign_of};
 use rx_heap::Heap;
 use rx_hub::Hub;
 use rx_mailbox::{EndedPort, Inbox, Port, Post, open};
@@ -273,7 +273,8 @@ fn admit(rt: &(impl Wait + Abort), alloc: &Heap, desk: &mut CallDesk<u8>)
     ensures { KeepsDesk desk.old desk.new }
 {
     let text = Text::new(copy(rt, alloc), b"a").expect(rt, "a text");
-    let event = emit(Note::Next(Item { from: 0, text }));
+    let note = Note::Next(Item { from: 0, text });
+    let event = Event::Emit { note, at: 0 };
     match desk.call(rt, 0, event, None) {
         Ok(reply) => assert_eq!(rt; reply.result, Ok(Answer::Admitted)),
         Err(_) => panic!(rt; "no reply"),
