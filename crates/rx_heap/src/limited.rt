@@ -85,8 +85,8 @@ unsafe impl<B: Allocator> Allocator for Limited<B> {
     }
 
     unsafe fn deallocate(&self, ptr: *mut u8, size: usize, align: usize) {
-        self.limit.regains(size);
         self.inner.deallocate(ptr, size, align);
+        self.limit.regains(size);
     }
 
     unsafe fn grow<T>(
