@@ -16,7 +16,7 @@ ghost use Rattle.rx_pump.specs.Serving.{HasServed};
 ghost use Rattle.rx_tests.specs.Wiring.{boxes_of};
 
 use crate::boxes::{close, copy, finish, send, two};
-use crate::heaps::{unlimited, unlimited};
+use crate::heaps::unlimited;
 use crate::signs::{digit_of, event_of, policy_of, sign_of};
 use rx_heap::Heap;
 use rx_hub::Hub;
