@@ -22,6 +22,8 @@ struct Draw {
     moment: u64,
     // Whether each join is under Buffer, whatever strategy was drawn for it.
     buffers: bool,
+    // Whether the end is an error.
+    fails: bool,
 }
 
 impl Draw {
@@ -83,11 +85,11 @@ impl Draw {
         Event::Dispose { who }
     }
 
-    // The end: in one of two cases an error.
     fn end(&mut self, heap: &Heap) -> Result<Event, Fail> {
-        let note = match self.below(2) {
-            0 => Note::Completed,
-            _ => Note::Failed(Text::new(heap.clone()?, b"x")?),
+        let note = if self.fails {
+            Note::Failed(Text::new(heap.clone()?, b"x")?)
+        } else {
+            Note::Completed
         };
         Ok(self.emit(note))
     }
@@ -114,7 +116,7 @@ impl Draw {
             0..=2 => self.join(),
             3..=8 if !has_items || may_end => self.join(),
             9 | 10 if may_end => self.end(heap),
-            11 | 12 => Ok(self.dispose()),
+            11 => Ok(self.dispose()),
             27..=47 if has_items => {
                 let item = item(heap, self.text())?;
                 Ok(self.emit(Note::Next(item)))
@@ -125,12 +127,18 @@ impl Draw {
 }
 
 /// The 400 events that are drawn for a run, each with the port that it comes by. No item comes among the first 20; the end
-/// may come among the last 100. `buffers` puts each join under Buffer.
-pub(crate) fn drawn(heap: &Heap, buffers: bool) -> Result<Vec<(u32, Event), Heap>, Fail> {
+/// may come among the last 100. `buffers` puts each join under Buffer, `fails` makes the end an
+/// error.
+pub(crate) fn drawn(
+    heap: &Heap,
+    buffers: bool,
+    fails: bool,
+) -> Result<Vec<(u32, Event), Heap>, Fail> {
     let mut draw = Draw {
         state: 11,
         moment: 0,
         buffers,
+        fails,
     };
     let mut events = Vec::new(heap.clone()?);
     for place in 0..EVENTS {

@@ -117,19 +117,19 @@ pub(crate) struct Ran {
     pub(crate) ghost limited: { rules.limits.observers ≤ 64 },
 }
 
-fn history_of(heap: &Heap, buffers: bool) -> Result<History, Fail> {
+fn history_of(heap: &Heap, buffers: bool, fails: bool) -> Result<History, Fail> {
     let mut history = History::new(heap.clone()?);
-    for (port, event) in drawn(heap, buffers)? {
+    for (port, event) in drawn(heap, buffers, fails)? {
         history.add(port, event)?;
     }
     Ok(history)
 }
 
-fn run_drawn(heap: &Heap, named: Named) -> Result<Ran, Fail> {
+fn run_drawn(heap: &Heap, named: Named, fails: bool) -> Result<Ran, Fail> {
     let rules = drawn_rules(heap, named)?;
-    let history = history_of(heap, false)?;
+    let history = history_of(heap, false, fails)?;
     let mut hub = hub_of(heap, drawn_rules(heap, named)?)?;
-    let run = run_of(heap, &mut hub, drawn(heap, false)?)?;
+    let run = run_of(heap, &mut hub, drawn(heap, false, fails)?)?;
     Ok(Ran {
         rules,
         run,
@@ -339,8 +339,8 @@ struct Shown {
     differs: Option<u32>,
 }
 
-fn shown_of(heap: &Heap, named: Named) -> Result<Shown, Fail> {
-    let drawn = run_drawn(heap, named)?;
+fn shown_of(heap: &Heap, named: Named, fails: bool) -> Result<Shown, Fail> {
+    let drawn = run_drawn(heap, named, fails)?;
     drawn.shown(heap)
 }
 
@@ -370,23 +370,25 @@ fn fault_of(shown: &Shown, fewest_outs: usize, opens: bool, seeds: bool) -> &'st
     }
 }
 
-// The kinds of the drawn runs; of each how many notes it gives at least, whether it gives items to joiners, and whether it
-// gives seeds.
-const DRAWN_KINDS: [(Named, usize, bool, bool); 8] = [
-    (Named::Publish, 100, false, false),
-    (Named::Behavior(Some(b'z')), 100, true, true),
-    (Named::Behavior(None), 100, true, false),
-    (Named::Async, 20, true, false),
-    (Named::Replay(None, None), 100, true, false),
-    (Named::Replay(Some(3), None), 100, true, false),
-    (Named::Replay(None, Some(20)), 100, true, false),
-    (Named::Replay(Some(3), Some(20)), 100, true, false),
+// The kinds of the drawn runs; of each whether its end is an error, how many notes it gives at least, whether it gives items
+// to joiners, and whether it gives seeds.
+const DRAWN_KINDS: [(Named, bool, usize, bool, bool); 10] = [
+    (Named::Publish, false, 100, false, false),
+    (Named::Behavior(Some(b'z')), false, 100, true, true),
+    (Named::Behavior(None), false, 100, true, false),
+    (Named::Async, false, 20, true, false),
+    (Named::Replay(None, None), false, 100, true, false),
+    (Named::Replay(Some(3), None), false, 100, true, false),
+    (Named::Replay(None, Some(20)), false, 100, true, false),
+    (Named::Replay(Some(3), Some(20)), false, 100, true, false),
+    (Named::Async, true, 5, false, false),
+    (Named::Replay(Some(3), None), true, 100, true, false),
 ];
 
 #[test]
 fn a_run_gives_what_the_history_says(rt: HostRuntime) -> Result<(), Fail> {
-    for (named, fewest_outs, opens, seeds) in &DRAWN_KINDS {
-        let shown = shown_of(&unlimited(&rt), *named)?;
+    for (named, fails, fewest_outs, opens, seeds) in &DRAWN_KINDS {
+        let shown = shown_of(&unlimited(&rt), *named, *fails)?;
         let fault = fault_of(&shown, *fewest_outs, *opens, *seeds);
         assert_eq!(rt; fault, "", "{named:?}");
         assert_eq!(rt; shown.differs, None, "{named:?}");
@@ -403,7 +405,7 @@ struct Reading {
 }
 
 fn reading_of(heap: &Heap, named: Named, buffers: bool) -> Result<Reading, Fail> {
-    let history = history_of(heap, buffers)?;
+    let history = history_of(heap, buffers, false)?;
     let rules = drawn_rules(heap, named)?;
     Ok(Reading { history, rules })
 }
@@ -436,7 +438,7 @@ impl Reading {
 type Pair = (Named, bool, Named, u32);
 
 const PAIRS: [Pair; 9] = [
-    (Named::Publish, false, Named::Publish, 10),
+    (Named::Publish, false, Named::Publish, 5),
     (Named::Async, true, Named::Publish, 1),
     (Named::Publish, true, Named::Behavior(None), 1),
     (Named::Behavior(None), true, Named::Behavior(Some(b'z')), 1),
