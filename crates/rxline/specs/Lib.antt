@@ -1,4 +1,5 @@
 pub mod Audits
+pub mod CommandLines
 pub mod Printing
 pub mod Scripts
 pub mod Tellings

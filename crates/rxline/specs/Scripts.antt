@@ -8,7 +8,7 @@ use Rattle.rx_proto.specs.declared.response.Response.TheVariants.{Refused}
 use Rattle.rx_proto.specs.declared.word.Word.TheVariants as words
 use Rattle.rx_session.specs.declared.session_end.SessionEnd.{SessionEnd}
 use Rattle.rx_session.specs.declared.session_end.SessionEnd.TheVariants as ends
-use Rattle.rxline.specs.declared.subject_config.SubjectConfig.{SubjectConfig}
+use Rattle.rx_server.specs.declared.subject_config.SubjectConfig.{SubjectConfig}
 use Rattle.rxline.specs.declared.told.Told.{Told}
 use Rattle.rxline.specs.declared.topic.Topic.{Topic}
 use Rattle.rx_proto.specs.declared.writing.WriteFault.{WriteFault}

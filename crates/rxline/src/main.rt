@@ -1,70 +1,70 @@
 //! The line server: it reads script lines from standard input and answers on standard output.
 //!
-//! `run_script` is the run over any reader and writer; `main` hands it the standard streams.
+//! `read_words` says what a command line asks for, and `run_words` is the program over any streams; `main` hands it the
+//! standard ones. `run_script` and `run_audit` are its runs.
 #![tactic(auto)]
 
 mod asked;
 pub mod audit;
 pub mod config;
+mod config_file;
 mod ledger;
 mod ledger_list;
 mod observed;
 mod printing;
+pub mod program;
+pub mod program_fault;
 mod responding;
 pub mod script;
 pub mod subject_config;
+pub mod task;
 #[cfg(test)]
 mod tests;
 mod told;
 mod topic;
+pub mod words;
 
-use config::Config;
-use rx_heap::{Heap, Memory};
-use rx_session::SessionEnd;
-use script::run_script;
+use program::{run_words, tell};
+use program_fault::ProgramFault;
+use std::alloc::AllocError;
 use std::env;
+use std::io::{self, Write};
 use std::process::ExitCode;
 
-/// The most reads of one script.
-const MAX_READS: u64 = 4_294_967_296;
-
-const FAULT: ExitCode = ExitCode::FAILURE;
-
 fn main(rt: HostRuntime) -> ExitCode {
-    if !has_no_words(&rt) {
-        let _ = eprintln!(rt; "usage: rxline < SCRIPT");
-        return ExitCode::from(2);
-    }
-    let heap = Heap::unlimited(rt.alloc());
-    let Ok(config) = configure(&heap) else {
-        return fault(&rt, "out of memory");
+    let mut faults = rt.stderr();
+    let args = match args_of(&rt) {
+        Ok(args) => args,
+        Err(error) if error.kind() == io::ErrorKind::OutOfMemory => return no_memory(&mut faults),
+        Err(_) => {
+            let _ = writeln!(faults, "error: a word is not UTF-8");
+            return ExitCode::from(2);
+        }
+    };
+    let Ok(words) = words_of(&rt, &args) else {
+        return no_memory(&mut faults);
     };
     let mut reader = rt.stdin();
     let mut writer = rt.stdout();
-    match run_script(heap, config, &mut reader, &mut writer, MAX_READS) {
-        Ok(SessionEnd::Quit) | Ok(SessionEnd::EndOfInput) => ExitCode::SUCCESS,
-        Ok(SessionEnd::HandedOver) => unreachable!(),
-        Ok(SessionEnd::ReadFault) => fault(&rt, "read fault"),
-        Ok(SessionEnd::WriteFault) => fault(&rt, "write fault"),
-        Ok(SessionEnd::TooManyReads) => fault(&rt, "too many reads"),
-        Err(_) => fault(&rt, "out of memory"),
+    let status = run_words(&rt, words.as_slice(), &mut reader, &mut writer, &mut faults);
+    ExitCode::from(status)
+}
+
+// The words of the command line, the program's name first.
+fn args_of(rt: &HostRuntime) -> io::Result<Vec<String>> {
+    Ok(env::args(rt)?.collect(rt.alloc())?)
+}
+
+// The words behind the program's name.
+fn words_of<'a>(rt: &HostRuntime, args: &'a Vec<String>) -> Result<Vec<&'a str>, AllocError> {
+    let mut words = Vec::new(rt.alloc());
+    for arg in args.iter().skip(1) {
+        words.push(arg.as_str())?;
     }
+    Ok(words)
 }
 
-// Whether the command line has no word behind the program's name.
-fn has_no_words(rt: &HostRuntime) -> bool {
-    match env::args(rt) {
-        Ok(words) => words.count() <= 1,
-        Err(_) => false,
-    }
-}
-
-fn configure(heap: &Heap) -> Result<Config, Memory> {
-    Config::standard(heap.clone()?)
-}
-
-// Tells a fault on standard error.
-fn fault(rt: &HostRuntime, text: &str) -> ExitCode {
-    let _ = rt.eprintln(format_args!("rxline: {text}"));
-    FAULT
+fn no_memory<E: Write>(faults: &mut E) -> ExitCode {
+    tell(ProgramFault::Memory, faults);
+    ExitCode::FAILURE
 }

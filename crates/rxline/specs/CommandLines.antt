@@ -1,0 +1,35 @@
+-- The command line: the words that the program takes, and the task that they name.
+use Rattle.std.specs.Prelude.{◌≡◌, ℕ, List, Option, None, Some, codes, true}
+use Rattle.clap.specs.Simple.{on_top}
+use Rattle.clap.specs.Words.{App, Row, Rule, Shape, Text, first_of, new_app, new_rule, with_rule, with_subcommand}
+use Rattle.rxline.specs.declared.task.Task.{Task}
+use Rattle.rxline.specs.declared.task.Task.TheVariants.{Script, Audit}
+
+-- the path of a configuration, which a command needs
+abbrev pub path : Rule
+path = record (new_rule (codes "config")) { required = true }
+
+abbrev pub script_app : App
+script_app = with_rule (new_app (codes "script")) path
+
+abbrev pub audit_app : App
+audit_app = with_rule (new_app (codes "audit")) path
+
+-- the program, whose words come without its name
+abbrev pub top_app : App
+top_app = on_top (λ s. record s { no_binary_name = true }) (new_app (codes "rxline"))
+
+-- the program with its commands
+abbrev pub line_app : App
+line_app = with_subcommand (with_subcommand top_app script_app.top) audit_app.top
+
+-- a command of this name was named, with this path
+abbrev pub Named : List ℕ → List ℕ → Option (Text × List Row) → Type 0
+Named command file named = (rows : List Row) × (named ≡ Some (command, rows)) × (first_of (codes "config") rows ≡ Some file)
+
+-- the task is that of the command that was named, with its path as it was read; without a command it is a script over the
+-- standard configuration
+abbrev pub IsNamedBy : Option (Text × List Row) → Task → Type 0
+IsNamedBy named (Script None) = named ≡ None
+IsNamedBy named (Script (Some file)) = Named (codes "script") file.now named
+IsNamedBy named (Audit file) = Named (codes "audit") file.now named

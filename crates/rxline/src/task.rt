@@ -1,0 +1,8 @@
+/// What the words of a command line ask for.
+#[derive(Clone, Copy, Debug, PartialEq, Eq)]
+pub enum Task<'a> {
+    /// To run a script over the configuration in the file of this path; None: over the standard one.
+    Script(Option<&'a str>),
+    /// To audit a script over the configuration in the file of this path.
+    Audit(&'a str),
+}
