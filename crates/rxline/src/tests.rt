@@ -2,6 +2,7 @@
 
 mod audits;
 mod kinds;
+mod programs;
 mod rows;
 
 use rx_heap::Heap;

@@ -111,8 +111,8 @@ fn too_many_reads_print_nothing(rt: HostRuntime) -> Result<(), Fail> {
 
 /// Gives all of a script at once, and then fails.
 #[derive(Drop)]
-struct Fails {
-    rest: &'static [u8],
+pub(super) struct Fails {
+    pub(super) rest: &'static [u8],
 }
 
 impl Read for Fails {
