@@ -11,6 +11,8 @@ mod boxes;
 #[cfg(test)]
 mod budgets;
 #[cfg(test)]
+mod configurations;
+#[cfg(test)]
 mod drawing;
 #[cfg(test)]
 mod heaps;
