@@ -50,6 +50,10 @@ reply_of (Refused word) = codes "ERR " ++ letters_of word
 abbrev pub reply_line : Response → List ℕ
 reply_line response = line (reply_of response)
 
+-- the line that tells an observer its number
+abbrev pub joined_line : ℕ → List ℕ
+joined_line who = line (codes "JOINED " ++ decimal who)
+
 -- what a note says
 abbrev pub saying_of : Note → List ℕ
 saying_of (Next item) = codes "NEXT " ++ item.text

@@ -1,5 +1,5 @@
 ghost use Rattle.std.specs.Prelude.{◌≡◌, []};
-ghost use Rattle.rx_proto.specs.Printing.{reply_line, note_line};
+ghost use Rattle.rx_proto.specs.Printing.{reply_line, joined_line, note_line};
 
 use crate::decimal::{MAX_DIGITS, write_digits};
 use crate::{LineBytes, Response, Word};
@@ -7,6 +7,9 @@ use rx_note::Note;
 
 /// The most bytes of the line of a response.
 pub const REPLY_LINE: usize = 16;
+
+/// The most bytes of the line that tells an observer its number.
+pub const JOINED_LINE: usize = 18;
 
 /// The most bytes of the line of a note.
 pub const NOTE_LINE: usize = 1040;
@@ -48,6 +51,19 @@ fn put_refusal(line: &mut LineBytes<REPLY_LINE>, word: Word)
         Word::Memory => line.put(b"ERR MEMORY\n"),
         Word::Gone => line.put(b"ERR GONE\n"),
     }
+}
+
+/// The line that tells an observer its number, with its LF.
+pub fn joined_line(who: u32) -> LineBytes<JOINED_LINE>
+    ensures { result ≡ joined_line who }
+{
+    let mut line = LineBytes::new();
+    let mut number = [0; MAX_DIGITS];
+    let first = write_digits(who, &mut number);
+    line.put(b"JOINED ");
+    line.put(&number[first..]);
+    line.put(b"\n");
+    line
 }
 
 /// The line of a note, with its LF.

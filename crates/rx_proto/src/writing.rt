@@ -1,7 +1,7 @@
 ghost use Rattle.rx_proto.specs.Bytes.{Writes};
-ghost use Rattle.rx_proto.specs.Printing.{reply_line, note_line};
+ghost use Rattle.rx_proto.specs.Printing.{reply_line, joined_line, note_line};
 
-use crate::{Response, note_line, reply_line};
+use crate::{Response, joined_line, note_line, reply_line};
 use rx_note::Note;
 use std::io::Write;
 
@@ -14,6 +14,13 @@ pub fn write_reply<W: Write>(writer: &mut W, response: Response) -> Result<(), W
     ensures { Writes result (W.contents writer.old) (W.contents writer.new) (reply_line response) }
 {
     write_bytes(writer, reply_line(response).as_bytes())
+}
+
+/// Writes the line that tells an observer its number.
+pub fn write_joined<W: Write>(writer: &mut W, who: u32) -> Result<(), WriteFault>
+    ensures { Writes result (W.contents writer.old) (W.contents writer.new) (joined_line who) }
+{
+    write_bytes(writer, joined_line(who).as_bytes())
 }
 
 /// Writes the line of a note.

@@ -1,0 +1,147 @@
+-- What sinks have taken, note by note.
+use Rattle.std.proofs.Common.{◌≡◌, ◌∙◌, sym, refl, ap, subst, ℕ, ◌+◌, ◌-◌, ◌^◌, ◌<◌, min, ◌↔◌, IsTrue, Bool, true, false, List, [], ◌∷◌, ◌++◌, append_assoc, append-nil, length, map, Option, arith}
+use Rattle.std.proofs.KnownBytes.{Appends-nil, Appends-trans}
+use Rattle.std.specs.List.{concat}
+use Rattle.std.specs.Io.KnownBytes.{Appends}
+use Rattle.rx_note.specs.declared.note.Note.{Note}
+use Rattle.rx_proto.specs.Bytes.{AppendsPrefix}
+use Rattle.rx_proto.specs.Printing.{joined_line, note_line}
+use Rattle.rx_sink.specs.Acts.{Acts, Takes, Took, raised}
+use Rattle.rx_sink.specs.Attachments.{Attachment, Why, TookLast, Detached, Closed, FailedAtStart, FailedAt}
+use Rattle.rx_sink.specs.Stands.{Last}
+use Rattle.rx_sink.specs.Taken.{has_failed, lines_of, KeepsNotes, WritesLines, CountsNotes}
+
+module _ {S Rest : Type 0} (acts : Acts S Rest) where
+  -- NOTES THAT ARE KEPT
+
+  -- the calls of a kind of sink that keeps notes
+  pub record Keeping (notes : S → List Note) (items : Rest → List Note) : Type 0 where
+    pub started : (s : S) (who : ℕ) (t : S) → acts.started s who t → notes t ≡ notes s
+    pub start_faulted : (s : S) (who : ℕ) (t : S) → acts.start_faulted s who t → notes t ≡ notes s
+    pub took : (s : S) (note : Note) (t : S) → acts.took s note t → notes t ≡ notes s ++ note ∷ []
+    pub take_faulted : (s : S) (note : Note) (t : S) → acts.take_faulted s note t → notes t ≡ notes s
+    pub finished : (s : S) (rest : Rest) → acts.finished s rest → items rest ≡ notes s
+
+  takes_keep : (notes : S → List Note) (items : Rest → List Note) → Keeping notes items
+      → (s : S) (more : List Note) (t : S) → Takes acts s more t → notes t ≡ notes s ++ more
+  takes_keep notes items k s [] t took = sym (ap notes took) ∙ sym (append-nil (notes s))
+  takes_keep notes items k s (note ∷ more) t took =
+      takes_keep notes items k took.0 more t took.2 ∙ ap (λ l. l ++ more) (k.took s note took.0 took.1) ∙ append_assoc (notes s) (note ∷ []) more
+
+  took_keep : (notes : S → List Note) (items : Rest → List Note) → Keeping notes items
+      → (s : S) (who : ℕ) (more : List Note) (t : S) → notes s ≡ [] → Took acts s who more t → notes t ≡ more
+  took_keep notes items k s who more t none took =
+      takes_keep notes items k took.0 more t took.2 ∙ ap (λ l. l ++ more) (k.started s who took.0 took.1 ∙ none)
+
+  last_keep : (notes : S → List Note) (items : Rest → List Note) → Keeping notes items
+      → (a : Attachment S) (why : Why) (last : S) → notes a.sink ≡ [] → Last acts a why last → notes last ≡ a.taken
+  last_keep notes items k a TookLast last none was = took_keep notes items k a.sink a.who a.taken last none was
+  last_keep notes items k a Detached last none was = took_keep notes items k a.sink a.who a.taken last none was
+  last_keep notes items k a Closed last none was = took_keep notes items k a.sink a.who a.taken last none was
+  last_keep notes items k a FailedAtStart last none was = k.start_faulted a.sink a.who last was.1 ∙ none ∙ sym was.0
+  last_keep notes items k a (FailedAt note) last none was =
+      k.take_faulted was.0 note last was.2 ∙ took_keep notes items k a.sink a.who a.taken was.0 none was.1
+
+  pub keeps_notes : (notes : S → List Note) (items : Rest → List Note) → Keeping notes items → KeepsNotes acts notes items
+  keeps_notes notes items k a why last rest none was finished = k.finished last rest finished ∙ last_keep notes items k a why last none was
+
+  -- LINES THAT ARE WRITTEN
+
+  -- the calls of a kind of sink that writes lines
+  pub record Writing (bytes : S → Option (List ℕ)) : Type 0 where
+    pub started : (s : S) (who : ℕ) (t : S) → acts.started s who t → Appends (bytes s) (bytes t) (joined_line who)
+    pub start_faulted : (s : S) (who : ℕ) (t : S) → acts.start_faulted s who t → AppendsPrefix (bytes s) (bytes t) (joined_line who)
+    pub took : (s : S) (note : Note) (t : S) → acts.took s note t → Appends (bytes s) (bytes t) (note_line note)
+    pub take_faulted : (s : S) (note : Note) (t : S) → acts.take_faulted s note t → AppendsPrefix (bytes s) (bytes t) (note_line note)
+
+  takes_write : (bytes : S → Option (List ℕ)) → Writing bytes
+      → (s : S) (more : List Note) (t : S) → Takes acts s more t → Appends (bytes s) (bytes t) (concat (map note_line more))
+  takes_write bytes w s [] t took = subst (λ (u : S). Appends (bytes s) (bytes u) []) took (Appends-nil (bytes s))
+  takes_write bytes w s (note ∷ more) t took =
+      Appends-trans (bytes s) (bytes took.0) (bytes t) (note_line note) (concat (map note_line more)) (w.took s note took.0 took.1) (takes_write bytes w took.0 more t took.2)
+
+  took_write : (bytes : S → Option (List ℕ)) → Writing bytes
+      → (s : S) (who : ℕ) (more : List Note) (t : S) → Took acts s who more t → Appends (bytes s) (bytes t) (lines_of who more)
+  took_write bytes w s who more t took =
+      Appends-trans (bytes s) (bytes took.0) (bytes t) (joined_line who) (concat (map note_line more)) (w.started s who took.0 took.1) (takes_write bytes w took.0 more t took.2)
+
+  pub writes_lines : (bytes : S → Option (List ℕ)) → Writing bytes → WritesLines acts bytes
+  writes_lines bytes w a TookLast last was = took_write bytes w a.sink a.who a.taken last was
+  writes_lines bytes w a Detached last was = took_write bytes w a.sink a.who a.taken last was
+  writes_lines bytes w a Closed last was = took_write bytes w a.sink a.who a.taken last was
+  writes_lines bytes w a FailedAtStart last was =
+      let part = w.start_faulted a.sink a.who last was.1 in
+      record { front = part.front; back = part.back; parts = part.parts; told = part.told }
+  writes_lines bytes w a (FailedAt note) last was =
+      let part = w.take_faulted was.0 note last was.2 in
+      record {
+        front = part.front;
+        back = part.back;
+        parts = part.parts;
+        told = Appends-trans (bytes a.sink) (bytes was.0) (bytes last) (lines_of a.who a.taken) part.front (took_write bytes w a.sink a.who a.taken was.0 was.1) part.told;
+      }
+
+  -- NOTES THAT ARE COUNTED
+
+  -- the calls of a kind of sink that counts notes and faults
+  pub record Counting (count faults : S → ℕ) (notes : Rest → ℕ) (failed : Rest → Bool) : Type 0 where
+    pub started : (s : S) (who : ℕ) (t : S) → acts.started s who t → (count t ≡ count s) × (faults t ≡ faults s)
+    pub start_faulted : (s : S) (who : ℕ) (t : S) → acts.start_faulted s who t → (count t ≡ count s) × (faults t ≡ raised (faults s))
+    pub took : (s : S) (note : Note) (t : S) → acts.took s note t → (count t ≡ raised (count s)) × (faults t ≡ faults s)
+    pub take_faulted : (s : S) (note : Note) (t : S) → acts.take_faulted s note t → (count t ≡ count s) × (faults t ≡ raised (faults s))
+    pub finished : (s : S) (rest : Rest) → acts.finished s rest → (notes rest ≡ count s) × (IsTrue (failed rest) ↔ (0 < faults s))
+
+  takes_count : (count faults : S → ℕ) (notes : Rest → ℕ) (failed : Rest → Bool) → Counting count faults notes failed
+      → (s : S) (more : List Note) (t : S) (n : ℕ) → count s ≡ min n (2 ^ 64 - 1) → faults s ≡ 0 → Takes acts s more t
+      → (count t ≡ min (n + length more) (2 ^ 64 - 1)) × (faults t ≡ 0)
+  takes_count count faults notes failed k s [] t n had none took =
+      let e : count t ≡ count s = sym (ap count took) in
+      (omega (arith, e, had), sym (ap faults took) ∙ none)
+  takes_count count faults notes failed k s (note ∷ more) t n had none took =
+      let one = k.took s note took.0 took.1 in
+      let now : count took.0 ≡ min (n + 1) (2 ^ 64 - 1) = omega (arith, one.0, had) in
+      let rest = takes_count count faults notes failed k took.0 more t (n + 1) now (one.1 ∙ none) took.2 in
+      (omega (arith, rest.0), rest.1)
+
+  took_count : (count faults : S → ℕ) (notes : Rest → ℕ) (failed : Rest → Bool) → Counting count faults notes failed
+      → (s : S) (who : ℕ) (more : List Note) (t : S) → count s ≡ 0 → faults s ≡ 0 → Took acts s who more t
+      → (count t ≡ min (length more) (2 ^ 64 - 1)) × (faults t ≡ 0)
+  took_count count faults notes failed k s who more t zero_count none took =
+      let begun = k.started s who took.0 took.1 in
+      let now : count took.0 ≡ min 0 (2 ^ 64 - 1) = begun.0 ∙ zero_count in
+      let rest = takes_count count faults notes failed k took.0 more t 0 now (begun.1 ∙ none) took.2 in
+      (omega (arith, rest.0), rest.1)
+
+  -- a count of none does not tell a fault, and one of some does
+  told_none : (faults : ℕ) (failed : Bool) (why : Why) → has_failed why ≡ false → faults ≡ 0 → IsTrue failed ↔ (0 < faults) → IsTrue failed ↔ (has_failed why ≡ true)
+  told_none faults failed why fine none told = (
+    λ yes. absurd (omega (arith, told.0 yes, none)),
+    λ is. (let both : false ≡ true = sym fine ∙ is in cc),
+  )
+
+  told_some : (faults : ℕ) (failed : Bool) (why : Why) → has_failed why ≡ true → faults ≡ raised 0 → IsTrue failed ↔ (0 < faults) → IsTrue failed ↔ (has_failed why ≡ true)
+  told_some faults failed why bad some told = (λ yes. bad, λ is. told.1 (omega (arith, some)))
+
+  pub counts_notes : (count faults : S → ℕ) (notes : Rest → ℕ) (failed : Rest → Bool) → Counting count faults notes failed → CountsNotes acts count faults notes failed
+  counts_notes count faults notes failed k a TookLast last rest zero_count none was finished =
+      let c = took_count count faults notes failed k a.sink a.who a.taken last zero_count none was in
+      let f = k.finished last rest finished in
+      (f.0 ∙ c.0, told_none (faults last) (failed rest) TookLast refl c.1 f.1)
+  counts_notes count faults notes failed k a Detached last rest zero_count none was finished =
+      let c = took_count count faults notes failed k a.sink a.who a.taken last zero_count none was in
+      let f = k.finished last rest finished in
+      (f.0 ∙ c.0, told_none (faults last) (failed rest) Detached refl c.1 f.1)
+  counts_notes count faults notes failed k a Closed last rest zero_count none was finished =
+      let c = took_count count faults notes failed k a.sink a.who a.taken last zero_count none was in
+      let f = k.finished last rest finished in
+      (f.0 ∙ c.0, told_none (faults last) (failed rest) Closed refl c.1 f.1)
+  counts_notes count faults notes failed k a FailedAtStart last rest zero_count none was finished =
+      let c = k.start_faulted a.sink a.who last was.1 in
+      let f = k.finished last rest finished in
+      let empty : length a.taken ≡ 0 = ap length was.0 in
+      (omega (arith, f.0, c.0, zero_count, empty), told_some (faults last) (failed rest) FailedAtStart refl (c.1 ∙ ap raised none) f.1)
+  counts_notes count faults notes failed k a (FailedAt note) last rest zero_count none was finished =
+      let before = took_count count faults notes failed k a.sink a.who a.taken was.0 zero_count none was.1 in
+      let c = k.take_faulted was.0 note last was.2 in
+      let f = k.finished last rest finished in
+      (f.0 ∙ c.0 ∙ before.0, told_some (faults last) (failed rest) (FailedAt note) refl (c.1 ∙ ap raised before.1) f.1)

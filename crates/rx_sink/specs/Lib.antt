@@ -1,0 +1,5 @@
+pub mod Acts
+pub mod Attachments
+pub mod Stands
+pub mod Kinds
+pub mod Taken

@@ -1,0 +1,20 @@
+//! What the sinks of this crate have taken once they are put away. The functions do nothing: their clauses are the laws.
+ghost use Rattle.rx_sink.specs.Taken.{CountsNotes, KeepsNotes, WritesLines};
+
+use crate::{LineSink, MemorySink, Sink};
+use std::io::Write;
+
+/// The rest of a memory sink is the list of the notes that it took.
+pub fn memory_sinks_keep()
+    ensures { KeepsNotes ⟦<MemorySink as Sink>⟧.acts (λ s. s.notes.items) (λ rest. rest.items) }
+{}
+
+/// A line sink wrote the lines of its start and of the notes that it took, and after a fault a front of the next line.
+pub fn line_sinks_write<W: Write + Drop>()
+    ensures { WritesLines ⟦<LineSink<W> as Sink>⟧.acts (λ s. W.contents s.writer) }
+{}
+
+/// The rest of a line sink tells how many notes it took, and whether it had a fault.
+pub fn line_sinks_count<W: Write + Drop>()
+    ensures { CountsNotes ⟦<LineSink<W> as Sink>⟧.acts (λ s. s.notes) (λ s. s.faults) (λ rest. rest.notes) (λ rest. rest.failed) }
+{}

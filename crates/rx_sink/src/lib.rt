@@ -1,0 +1,30 @@
+//! Sinks, where the notes of an observer go, and the list of those that a drainer keeps.
+//!
+//! A sink is started for its observer, takes notes one by one until it has a fault or took the last, and is then finished.
+//! [`MemorySink`] keeps what it takes; [`LineSink`] writes it as lines. Nothing here receives a letter or sends one: what a
+//! letter does to the sinks that are kept and to those that were put away is done by functions on two lists.
+//!
+//! The crate above rests on those functions ([`attach`], [`give`], [`detach`], [`put_all_away`]): each does to the lists what
+//! the rules of one attachment say (`specs/Attachments.antt`), whatever kind of sink it is. `specs/Acts.antt` has the words in
+//! which a kind of sink tells what its calls do, `specs/Stands.antt` what the lists stand for. [`laws`] says what the sinks of
+//! this crate have taken.
+#![tactic(auto)]
+
+mod keeping;
+mod kept;
+pub mod laws;
+mod line_rest;
+mod line_sink;
+mod memory_sink;
+mod places;
+mod put_away;
+mod sink;
+
+pub use keeping::{attach, detach, give, put_all_away};
+pub use kept::Kept;
+pub use line_rest::LineRest;
+pub use line_sink::LineSink;
+pub use memory_sink::MemorySink;
+pub use places::Places;
+pub use put_away::PutAway;
+pub use sink::{Sink, SinkFault};

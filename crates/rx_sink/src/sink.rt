@@ -1,0 +1,38 @@
+ghost use Rattle.std.specs.Prelude.{◌≡◌, OnOk, OnErr};
+ghost use Rattle.rx_sink.specs.Acts.{Acts, raised};
+
+use rx_note::Note;
+
+/// A sink can't go on: it did not take what it was to take, and is to be finished.
+#[derive(Clone, Copy, Debug, PartialEq, Eq)]
+pub struct SinkFault;
+
+/// Where the notes of one observer go. A drainer calls `start` once, then `take` for each note in its order until one is a
+/// fault or the last, and then `finish`.
+///
+/// Each kind of sink tells by relations between its states what its calls do (`acts`), and how many faults it had: a fault
+/// is answered only where that number rose.
+pub trait Sink: Drop {
+    /// What is left of a sink that was finished.
+    type Rest: Drop;
+
+    ghost acts: { Acts Self Self.Rest };
+
+    /// Makes ready for the notes of this observer.
+    fn start(&mut self, who: u32) -> Result<(), SinkFault>
+        ensures ok { OnOk result (acts.started self.old who self.new) }
+        ensures fault { OnErr result (acts.start_faulted self.old who self.new) }
+        ensures same { OnOk result (acts.faults self.new ≡ acts.faults self.old) }
+        ensures rose { OnErr result (acts.faults self.new ≡ raised (acts.faults self.old)) };
+
+    /// Takes the next note.
+    fn take(&mut self, note: Note) -> Result<(), SinkFault>
+        ensures ok { OnOk result (acts.took self.old note self.new) }
+        ensures fault { OnErr result (acts.take_faulted self.old note self.new) }
+        ensures same { OnOk result (acts.faults self.new ≡ acts.faults self.old) }
+        ensures rose { OnErr result (acts.faults self.new ≡ raised (acts.faults self.old)) };
+
+    /// Ends the sink.
+    fn finish(self) -> Self::Rest
+        ensures { acts.finished self result };
+}
