@@ -6,8 +6,8 @@ use rx_heap::Heap;
 use rx_mailbox::{EndedPort, Port};
 use std::sync::Wait;
 
-// Ends the ports in their order, and moves each behind those that ended before, where there is room for all. `Err` where
-// the inbox of one is gone: it and those after it stay, and there are so many ended ports.
+/// Ends the ports in their order, and moves each behind those that ended before, where there is room for all. `Err` where
+/// the inbox of one is gone: it and those after it stay, and there are so many ended ports.
 pub fn finish_all<B: Drop, R: Wait>(
     rt: &R,
     ports: &mut Vec<Port<B>, Heap>,

@@ -36,6 +36,7 @@ pub use call_desk::CallDesk;
 pub use call_error::CallError;
 pub use desk_parts::DeskParts;
 pub use ended_desk::EndedDesk;
+pub use finishing::finish_all;
 pub use out::Out;
 pub use pump::Pump;
 pub use pump_end::PumpEnd;
