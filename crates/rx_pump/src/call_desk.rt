@@ -10,7 +10,7 @@ use crate::desk_parts::DeskParts;
 use crate::ended_desk::EndedDesk;
 use crate::finishing::finish_all;
 use crate::reply::Reply;
-use crate::room::room;
+use crate::rooms::room;
 use rx_heap::Heap;
 use rx_mailbox::{EndedPort, Inbox, Port};
 use rx_note::Event;

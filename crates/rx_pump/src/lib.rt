@@ -28,7 +28,7 @@ mod pump_fault;
 mod pump_parts;
 mod pump_stop;
 mod reply;
-mod room;
+mod rooms;
 mod sending;
 
 pub use call::Call;
@@ -44,3 +44,4 @@ pub use pump_fault::PumpFault;
 pub use pump_parts::PumpParts;
 pub use pump_stop::PumpStop;
 pub use reply::Reply;
+pub use rooms::room;

@@ -10,7 +10,7 @@ use crate::pump_fault::PumpFault;
 use crate::pump_parts::PumpParts;
 use crate::pump_stop::PumpStop;
 use crate::reply::Reply;
-use crate::room::room;
+use crate::rooms::room;
 use rx_heap::Heap;
 use rx_hub::Hub;
 use rx_mailbox::{EndedPort, Inbox, Letter, Port, Post};

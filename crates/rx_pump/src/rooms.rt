@@ -2,7 +2,7 @@ ghost use Rattle.std.specs.Prelude.{◌≡◌, ◌≤◌, [], vec_capacity, IfOk
 
 use rx_heap::{Heap, Memory};
 
-// An empty list with room for so many.
+/// An empty list with room for so many.
 pub fn room<T: Drop>(alloc: &Heap, count: usize) -> Result<Vec<T, Heap>, Memory>
     ensures items { IfOk result (λ room. room.items ≡ []) }
     ensures capacity { IfOk result (λ room. count ≤ vec_capacity room) }
