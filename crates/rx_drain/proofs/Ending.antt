@@ -1,0 +1,199 @@
+-- What a drainer is before its first turn, after each, and what it leaves.
+use Rattle.std.proofs.Common.{◌≡◌, ◌∙◌, sym, refl, ap, subst, ℕ, ◌+◌, ◌-◌, ◌^◌, ◌<◌, ◌==◌, ◌||◌, ◌&&◌, ◌⊎◌, inl, inr, cond, min, Bool, true, false, List, [], ◌∷◌, ◌++◌, append-nil, length, map, Option, Some, None, slice_get, arith}
+use Rattle.std.proofs.Math.Bool.{or-false}
+use Rattle.std.proofs.lemmas.List.Elements.{filter-append}
+use Rattle.std.proofs.lemmas.List.Folds.{list_any-append}
+use Rattle.std.specs.List.{All, AllZip}
+use Rattle.rx_mailbox.specs.declared.letter.Letter.{Letter}
+use Rattle.rx_mailbox.specs.declared.letter.Post.{Post}
+use Rattle.rx_mailbox.specs.declared.letter.Post.TheVariants.{Body, Bye}
+use Rattle.rx_mailbox.specs.Letters.{share, ends, has_bye}
+use Rattle.rx_mailbox.specs.Boxes.{Outgoing, Incoming, HasEachBye, with_letter}
+use Rattle.rx_pump.specs.declared.call.Call.{Call}
+use Rattle.rx_pump.specs.declared.out.Out.{Out}
+use Rattle.rx_pump.specs.Pumps.{AreSame, IsFresh, place_of}
+use Rattle.rx_pump.proofs.Pumping.{HavePut-fresh, AreSame-length}
+use Rattle.rx_sink.specs.declared.kept.Kept.{Kept}
+use Rattle.rx_sink.specs.declared.put_away.PutAway.{PutAway}
+use Rattle.rx_sink.specs.Acts.{Acts}
+use Rattle.rx_sink.specs.Attachments.{Attachment, Mark, unchanged}
+use Rattle.rx_sink.specs.Stands.{Stand, IsKept, IsPutAway}
+use Rattle.rx_drain.specs.declared.drain_end.DrainEnd.{DrainEnd}
+use Rattle.rx_drain.specs.declared.drain_fault.DrainFault.{DrainFault}
+use Rattle.rx_drain.specs.declared.drain_fault.DrainFault.TheVariants.{InboxGone, SubjectGone}
+use Rattle.rx_drain.specs.declared.drain_stop.DrainStop.{DrainStop}
+use Rattle.rx_drain.specs.Logs.{Log, NoLetters, Next, letters, has_left, letter_change, post_change, kept_in, owed}
+use Rattle.rx_drain.specs.Drainers.{DrainerView, is_cut, NamesSubject, HaveSent, Stands, Drains, IsDrained, Handles, KeepsPlaces, view_of}
+use Rattle.rx_drain.specs.Serving.{view_of_end, Serves, HasServed, Stops, HasStopped}
+
+bool_cases : (b : Bool) → (b ≡ true) ⊎ (b ≡ false)
+bool_cases true = inl refl
+bool_cases false = inr refl
+
+module _ {S Rest : Type 0} (acts : Acts S Rest) where
+  -- A NEW DRAINER
+
+  pub drained_fresh : (view : DrainerView S Rest) → view.inbox.received ≡ [] → All IsFresh view.ports → view.kept ≡ [] → view.away ≡ [] → view.misses ≡ 0
+      → view.left ≡ false → view.fault ≡ None → IsDrained acts view
+  drained_fresh view received fresh kept away misses left whole = (
+    NoLetters,
+    record {
+      received = received;
+      stands = record {
+        left = left;
+        sent = subst (λ (l : Bool). HaveSent (is_cut view.fault) l (λ d. []) view.ports) (sym left) (HavePut-fresh (is_cut view.fault) view.ports (ap is_cut whole) fresh);
+        sinks = record { kept_are = subst (AllZip (IsKept acts) []) (sym kept) tt; away_are = subst (AllZip (IsPutAway acts) []) (sym away) tt };
+        missed = misses;
+      };
+      fault = subst (λ (f : Option DrainFault). NamesSubject f (length view.ports)) (sym whole) tt;
+    },
+  )
+
+  -- A TURN
+
+  -- the same, whatever the inbox
+  stands_too : (leave : ℕ) (log : Log S) (before after : DrainerView S Rest) → after ≡ record before { inbox = after.inbox } → Stands acts leave log before → Stands acts leave log after
+  stands_too leave log before after is s =
+      subst (λ (v : DrainerView S Rest). Stands acts leave log v) (sym is) (record { left = s.left; sent = s.sent; sinks = s.sinks; missed = s.missed })
+
+  -- no letter came
+  pub drained_gone : (before after : DrainerView S Rest) → before.fault ≡ None → after ≡ record before { fault = Some InboxGone } → IsDrained acts before → IsDrained acts after
+  drained_gone before after whole is (log, d) =
+      subst (λ (v : DrainerView S Rest). IsDrained acts v) (sym is) (
+        log,
+        record {
+          received = d.received;
+          stands = record {
+            left = d.stands.left;
+            sent = subst (λ (k : Bool). HaveSent k before.left (owed (length before.ports) log) before.ports) (ap is_cut whole) d.stands.sent;
+            sinks = d.stands.sinks;
+            missed = d.stands.missed;
+          };
+          fault = tt;
+        },
+      )
+
+  -- a letter came
+  pub drained_letter : (before mid after : DrainerView S Rest) (x : Letter (Out S)) → before.fault ≡ None
+      → mid ≡ record before { inbox = mid.inbox; fault = None } → mid.inbox ≡ with_letter before.inbox x → after.inbox ≡ mid.inbox
+      → AreSame mid.ports after.ports → Handles acts x mid after → IsDrained acts before → IsDrained acts after
+  drained_letter before mid after x whole mid_is received kept same handles (log, d) =
+      let P : DrainerView S Rest → Type 0 = λ v. Stands acts (length v.ports) log v in
+      let base : P (record before { inbox = mid.inbox; fault = None }) = record {
+        left = d.stands.left;
+        sent = subst (λ (k : Bool). HaveSent k before.left (owed (length before.ports) log) before.ports) (ap is_cut whole) d.stands.sent;
+        sinks = d.stands.sinks;
+        missed = d.stands.missed;
+      } in
+      let next = handles.1 log (subst P (sym mid_is) base) in
+      let count : length mid.ports ≡ length after.ports = sym (AreSame-length mid.ports after.ports same) in (
+        Next log x next.0,
+        record {
+          received = ap (λ (i : Incoming (Out S)). i.received) (kept ∙ received) ∙ ap (λ (l : List (Letter (Out S))). l ++ x ∷ []) d.received;
+          stands = subst (λ (n : ℕ). Stands acts n (Next log x next.0) after) count next.1;
+          fault = subst (λ (n : ℕ). NamesSubject after.fault n) count handles.0;
+        },
+      )
+
+  -- AT THE END
+
+  -- the leave port's Bye came where it was received
+  left_step : (b : Bool) (x : Letter (Out S)) → has_bye (cond b (x ∷ []) []) ≡ (b && ends x.post)
+  left_step true x = or-false (ends x.post)
+  left_step false x = refl
+
+  pub left_by_bye : (leave : ℕ) (log : Log S) → has_left leave log ≡ has_bye (share leave (letters log))
+  left_by_bye leave NoLetters = refl
+  left_by_bye leave (Next log x mark) =
+      ap (λ b. b || (x.from == leave && ends x.post)) (left_by_bye leave log)
+      ∙ ap (λ b. has_bye (share leave (letters log)) || b) (sym (left_step (x.from == leave) x))
+      ∙ sym (list_any-append (λ (y : Letter (Out S)). ends y.post) (share leave (letters log)) (cond (x.from == leave) (x ∷ []) []))
+      ∙ ap has_bye (sym (filter-append (λ (y : Letter (Out S)). y.from == leave) (letters log) (x ∷ [])))
+
+  -- from then on no sink is kept
+  closed_by : (leave place from : ℕ) (post : Post (Out S)) (mark : Mark) (kept : List (Attachment S)) (b : Bool)
+      → (from == leave) ≡ b → (b && ends post) ≡ true → (post_change b place from post mark kept).kept ≡ []
+  closed_by leave place from (Body out) mark kept true is bye = cc
+  closed_by leave place from Bye mark kept true is bye = refl
+  closed_by leave place from post mark kept false is bye = cc
+
+  kept_step : (leave : ℕ) (log : Log S) (x : Letter (Out S)) (mark : Mark) (b : Bool) → has_left leave log ≡ b
+      → (b || (x.from == leave && ends x.post)) ≡ true → (has_left leave log ≡ true → kept_in leave log ≡ [])
+      → (letter_change b leave (length (letters log)) x mark (kept_in leave log)).kept ≡ []
+  kept_step leave log x mark true was is before = before was
+  kept_step leave log x mark false was is before = closed_by leave (length (letters log)) x.from x.post mark (kept_in leave log) (x.from == leave) refl is
+
+  pub kept_none : (leave : ℕ) (log : Log S) → has_left leave log ≡ true → kept_in leave log ≡ []
+  kept_none leave NoLetters is = refl
+  kept_none leave (Next log x mark) is = kept_step leave log x mark (has_left leave log) refl is (kept_none leave log)
+
+  empty_zip : (held : List (Attachment S)) (kept : List (Kept S)) → held ≡ [] → AllZip (IsKept acts) held kept → kept ≡ []
+  empty_zip [] [] is zip = refl
+  empty_zip [] (one ∷ kept) is zip = absurd zip
+  empty_zip (a ∷ held) kept is zip = cc
+
+  -- the drainer was told to leave
+  pub told_to_leave : (view : DrainerView S Rest) → view.inbox.ports ≡ length view.ports + 1 → HasEachBye view.inbox → IsDrained acts view → view.left ≡ true
+  told_to_leave view senders each (log, d) =
+      d.stands.left ∙ left_by_bye (length view.ports) log ∙ ap (λ (l : List (Letter (Out S))). has_bye (share (length view.ports) l)) (sym d.received)
+      ∙ each (length view.ports) (omega (arith, senders))
+
+  -- and keeps no sink
+  pub keeps_none : (view : DrainerView S Rest) → view.left ≡ true → IsDrained acts view → view.kept ≡ []
+  keeps_none view left_is (log, d) =
+      empty_zip (kept_in (length view.ports) log) view.kept (kept_none (length view.ports) log (sym d.stands.left ∙ left_is)) d.stands.sinks.kept_are
+
+  drains_end : (log : Log S) (inbox : Incoming (Out S)) (ports : List (Outgoing (Call S))) (away : List (PutAway Rest)) (misses : ℕ)
+      (all : List (Outgoing (Call S))) (kept : List (Kept S)) (left : Bool) (fault : Option DrainFault)
+      → all ≡ ports → kept ≡ [] → left ≡ true → fault ≡ None
+      → Drains acts (record { inbox = inbox; ports = all; kept = kept; away = away; misses = misses; left = left; fault = fault }) log
+      → Drains acts (record { inbox = inbox; ports = ports; kept = []; away = away; misses = misses; left = true; fault = None }) log
+  drains_end log inbox ports away misses all kept left fault all_is kept_is left_is fault_is d =
+      subst (λ (f : Option DrainFault). Drains acts (record { inbox = inbox; ports = ports; kept = []; away = away; misses = misses; left = true; fault = f }) log) fault_is
+      (subst (λ (l : Bool). Drains acts (record { inbox = inbox; ports = ports; kept = []; away = away; misses = misses; left = l; fault = fault }) log) left_is
+      (subst (λ (k : List (Kept S)). Drains acts (record { inbox = inbox; ports = ports; kept = k; away = away; misses = misses; left = left; fault = fault }) log) kept_is
+      (subst (λ (p : List (Outgoing (Call S))). Drains acts (record { inbox = inbox; ports = p; kept = kept; away = away; misses = misses; left = left; fault = fault }) log) all_is d)))
+
+  pub served_end : (view : DrainerView S Rest) (rest : List (Outgoing (Call S))) (end : DrainEnd S Rest)
+      → end.inbox ≡ view.inbox → view.ports ≡ end.ports.items ++ rest → rest ≡ [] → end.put_away.items ≡ view.away → end.places.misses ≡ view.misses
+      → view.left ≡ true → view.fault ≡ None → HasEachBye view.inbox → IsDrained acts view → HasServed acts view end
+  served_end view rest end inbox ports none away misses left_is whole each (log, d) =
+      let all : view.ports ≡ end.ports.items = ports ∙ ap (λ l. end.ports.items ++ l) none ∙ append-nil end.ports.items in
+      let drains = drains_end log view.inbox end.ports.items view.away view.misses view.ports view.kept view.left view.fault all (keeps_none view left_is (log, d)) left_is whole d in
+      let P : Incoming (Out S) → List (PutAway Rest) → ℕ → Type 0 =
+      λ i w m. Drains acts (record { inbox = i; ports = end.ports.items; kept = []; away = w; misses = m; left = true; fault = None }) log in (
+        log,
+        record {
+          drains = subst (λ i. P i end.put_away.items end.places.misses) (sym inbox) (subst (λ w. P view.inbox w end.places.misses) (sym away) (subst (λ m. P view.inbox view.away m) (sym misses) drains));
+          each_bye = subst (λ (i : Incoming (Out S)). HasEachBye i) (sym inbox) each;
+          places = record {
+            box = ap (λ (i : Incoming (Out S)). i.box) inbox;
+            count = ap (λ (i : Incoming (Out S)). i.ports) inbox;
+            ports = ap (map place_of) (sym all);
+          };
+        },
+      )
+
+  -- what a drainer leaves after some turns is what it leaves before them
+  pub served_kept : (before after : DrainerView S Rest) (end : DrainEnd S Rest) → KeepsPlaces before after → HasServed acts after end → HasServed acts before end
+  served_kept before after end kept (log, s) = (
+    log,
+    record {
+      drains = s.drains;
+      each_bye = s.each_bye;
+      places = record { box = s.places.box ∙ kept.box; count = s.places.count ∙ kept.count; ports = s.places.ports ∙ kept.ports };
+    },
+  )
+
+  -- the same of a drainer that stops
+  pub stopped_kept : (before after : DrainerView S Rest) (stop : DrainStop S Rest) → KeepsPlaces before after → HasStopped acts after stop → HasStopped acts before stop
+  stopped_kept before after stop kept (log, s) =
+      let count : length after.ports ≡ length before.ports = AreSame-length before.ports after.ports kept.ports in (
+        log,
+        record {
+          drains = subst (λ (n : ℕ). Drains acts (view_of stop.left (has_left n log) (Some stop.fault)) log) count s.drains;
+          places =
+              let p = subst (λ (n : ℕ). KeepsPlaces after (view_of stop.left (has_left n log) (Some stop.fault))) count s.places in
+              record { box = p.box ∙ kept.box; count = p.count ∙ kept.count; ports = p.ports ∙ kept.ports };
+        },
+      )

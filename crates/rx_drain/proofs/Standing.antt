@@ -1,0 +1,351 @@
+-- What a drainer stands for after one letter more.
+use Rattle.std.proofs.Common.{◌≡◌, ◌∙◌, sym, refl, ap, subst, ℕ, zero, suc, zero-add, ◌+◌, ◌-◌, ◌^◌, ◌<◌, ◌==◌, ◌||◌, ◌&&◌, ◌⊎◌, inl, inr, min, Bool, true, false, List, [], ◌∷◌, ◌++◌, append_assoc, append-nil, length, length-append, map, Option, Some, None, is_some, slice_get, eq-eqb, arith}
+use Rattle.std.proofs.lemmas.List.{map-append, length-map}
+use Rattle.std.specs.List.{AllZip}
+use Rattle.rx_mailbox.specs.declared.letter.Letter.{Letter}
+use Rattle.rx_mailbox.specs.declared.letter.Post.{Post}
+use Rattle.rx_mailbox.specs.declared.letter.Post.TheVariants.{Body, Bye}
+use Rattle.rx_mailbox.specs.Letters.{letter, ends}
+use Rattle.rx_mailbox.specs.Boxes.{Outgoing}
+use Rattle.rx_note.specs.declared.event.Event.{Event}
+use Rattle.rx_note.specs.declared.event.Event.TheVariants.{Dispose}
+use Rattle.rx_note.specs.declared.note.Note.{Note}
+use Rattle.rx_pump.specs.declared.call.Call.{Call}
+use Rattle.rx_pump.specs.declared.out.Out.{Out}
+use Rattle.rx_pump.specs.declared.out.Out.TheVariants.{Attach, Give, Detach}
+use Rattle.rx_pump.specs.Pumps.{IsPut, HavePut, AreSame, place_of}
+use Rattle.rx_pump.specs.Sends.{Puts, posts, with_bye, EndsSome}
+use Rattle.rx_pump.specs.Serving.{HaveEnded}
+use Rattle.rx_pump.proofs.Pumping.{HavePut-puts, HavePut-cut, HavePut-same, AreSame-puts}
+use Rattle.rx_pump.proofs.Leaving.{AreSame-byes, HaveEnded-byes, HaveStopped-some, EndsSome-first}
+use Rattle.rx_sink.specs.declared.kept.Kept.{Kept}
+use Rattle.rx_sink.specs.declared.put_away.PutAway.{PutAway}
+use Rattle.rx_sink.specs.Acts.{Acts, raised}
+use Rattle.rx_sink.specs.Attachments.{Attachment, Why, Mark, Fine, Fault, NoMemory, Sent, Change, kept_for, attached, given, served, detached, joined, unchanged, left, closed, dispose, is_last}
+use Rattle.rx_sink.specs.Stands.{Stand, Did, IsKept, IsPutAway, addressed, counted}
+use Rattle.rx_drain.specs.declared.drain_fault.DrainFault.{DrainFault}
+use Rattle.rx_drain.specs.declared.drain_fault.DrainFault.TheVariants.{InboxGone, SubjectGone}
+use Rattle.rx_drain.specs.Calls.{calls_to, disposal, SendsAll}
+use Rattle.rx_drain.specs.Logs.{Log, NoLetters, Next, letters, has_left, brought, out_change, post_change, letter_change, kept_in, change, gone_in, sent_in, missed_in, owed, put_by}
+use Rattle.rx_drain.specs.Drainers.{DrainerView, is_cut, NamesSubject, HaveSent, Stands, ServesOut, Handles}
+use Rattle.rx_drain.proofs.Events.{calls_to-append}
+
+-- MISSES
+
+module _ {S : Type 0} where
+  missed_served : (mark : Mark) (last : Bool) (subject who : ℕ) (note : Note) (a : Attachment S) (kept : List (Attachment S))
+      → (served mark last subject who note a kept).missed ≡ 0
+  missed_served Fine false subject who note a kept = refl
+  missed_served Fine true subject who note a kept = refl
+  missed_served Fault last subject who note a kept = refl
+  missed_served NoMemory last subject who note a kept = refl
+
+  -- a note misses nothing
+  pub missed_given : (mark : Mark) (subject who : ℕ) (note : Note) (o : Option (Attachment S)) (kept : List (Attachment S))
+      → (given mark subject who note o kept).missed ≡ 0
+  missed_given mark subject who note None kept = refl
+  missed_given mark subject who note (Some a) kept = missed_served mark (is_last note) subject who note a kept
+
+  -- nor does one who leaves
+  pub missed_detached : (subject who : ℕ) (o : Option (Attachment S)) (kept : List (Attachment S)) → (detached subject who o kept).missed ≡ 0
+  missed_detached subject who None kept = refl
+  missed_detached subject who (Some a) kept = refl
+
+  missed_attached : (mark : Mark) (a : Attachment S) (o : Option (Attachment S)) (kept : List (Attachment S))
+      → ((attached mark a o kept).missed ≡ 0) ⊎ ((attached mark a o kept).missed ≡ 1)
+  missed_attached mark a (Some other) kept = inl refl
+  missed_attached Fine a None kept = inl refl
+  missed_attached Fault a None kept = inl refl
+  missed_attached NoMemory a None kept = inr refl
+
+  -- a letter misses one sink at most
+  missed_out : (place subject : ℕ) (out : Out S) (mark : Mark) (kept : List (Attachment S))
+      → ((out_change place subject out mark kept).missed ≡ 0) ⊎ ((out_change place subject out mark kept).missed ≡ 1)
+  missed_out place subject (Attach who sink) mark kept = missed_attached mark (brought place subject who sink) (kept_for subject who kept) kept
+  missed_out place subject (Give who note) mark kept = inl (missed_given mark subject who note (kept_for subject who kept) kept)
+  missed_out place subject (Detach who) mark kept = inl (missed_detached subject who (kept_for subject who kept) kept)
+
+counted-more : (m n k : ℕ) → m ≡ min n (2 ^ 64 - 1) → (k ≡ 0) ⊎ (k ≡ 1) → counted m k ≡ min (n + k) (2 ^ 64 - 1)
+counted-more m n k is (inl none) = ap (counted m) none ∙ (let e : m ≡ min (n + k) (2 ^ 64 - 1) = omega (arith, is, none) in e)
+counted-more m n k is (inr one) = ap (counted m) one ∙ (let e : raised m ≡ min (n + k) (2 ^ 64 - 1) = omega (arith, is, one) in e)
+
+module _ {S Rest : Type 0} (acts : Acts S Rest) where
+  -- what came is this
+  pub serves_so : (place subject : ℕ) (o out : Out S) (held : List (Attachment S)) (gone : List (Attachment S × Why)) (kept : List (Kept S)) (away : List (PutAway Rest))
+      (misses misses_after : ℕ) (events : List (ℕ × Event)) → out ≡ o
+      → (mark : Mark) → Did acts (out_change place subject o mark held) gone kept away events → misses_after ≡ counted misses (out_change place subject o mark held).missed
+      → (m : Mark) × Did acts (out_change place subject out m held) gone kept away events × (misses_after ≡ counted misses (out_change place subject out m held).missed)
+  serves_so place subject o out held gone kept away misses misses_after events is mark did missed =
+      subst (λ (u : Out S). (m : Mark) × Did acts (out_change place subject u m held) gone kept away events × (misses_after ≡ counted misses (out_change place subject u m held).missed))
+      (sym is) (mark, did, missed)
+
+-- WHAT THE PORTS HAVE PUT
+
+-- an element of two lists joined is in the first, or in the second
+split_place : {X : Type 0} (xs ys : List X) (i : ℕ) (x : X) → slice_get (xs ++ ys) i ≡ Some x
+    → (slice_get xs i ≡ Some x) ⊎ ((j : ℕ) × (i ≡ length xs + j) × (slice_get ys j ≡ Some x))
+split_place [] ys i x is = inr (i, sym (zero-add i), is)
+split_place (y ∷ xs) ys zero x is = inl is
+split_place (y ∷ xs) ys (suc i) x is =
+    elim (split_place xs ys i x is) [
+      | inl here ↦ inl here
+      | inr there ↦ (let later : suc i ≡ suc (length xs) + there.0 = omega (arith, there.1) in inr (there.0, later, there.2))
+    ]
+
+module _ {S : Type 0} where
+  -- the same calls
+  have_same : (cut left : Bool) (first second : ℕ → List (Call S)) (ports : List (Outgoing (Call S)))
+      → ((d : ℕ) → first d ≡ second d) → HaveSent cut left first ports → HaveSent cut left second ports
+  have_same cut left first second ports same have d port is =
+      subst (λ (calls : List (Call S)). IsPut cut port.own (put_by left port.number calls)) (same d) (have d port is)
+
+  -- events were sent, or the first of them
+  have_more : (fault : Option DrainFault) (all : ℕ → List (Call S)) (events : List (ℕ × Event)) (a b : List (Outgoing (Call S)))
+      → HaveSent false false all a → SendsAll fault events a b → HaveSent (is_cut fault) false (λ d. all d ++ calls_to d events) b
+  have_more None all events a b have p = HavePut-puts all (λ d. calls_to d events) a b have p
+  have_more (Some InboxGone) all events a b have p = absurd p
+  have_more (Some (SubjectGone place)) all events a b have p =
+      HavePut-same true _ (λ d. all d ++ calls_to d events) b
+      (λ d. ap (λ l. all d ++ l) (sym (calls_to-append d p.done p.rest) ∙ ap (calls_to d) p.parts))
+      (HavePut-cut all (λ d. calls_to d p.done) (λ d. calls_to d p.rest) a b have p.put)
+
+  -- what is cut short is cut short of a Bye too
+  short_of_bye : (all : ℕ → List (Call S)) (ports : List (Outgoing (Call S))) → HaveSent true false all ports → HaveSent true true all ports
+  short_of_bye all ports have d port is =
+      let p = have d port is in (
+        p.0 ++ letter port.number Bye ∷ [],
+        sym (append_assoc port.own p.0 (letter port.number Bye ∷ [])) ∙ ap (λ (l : List (Letter (Call S))). l ++ letter port.number Bye ∷ []) p.1,
+      )
+
+  -- what is whole is cut short by nothing
+  whole_is_first : (all : ℕ → List (Call S)) (ports : List (Outgoing (Call S))) → HaveSent false true all ports → HaveSent true true all ports
+  whole_is_first all ports have d port is = ([], append-nil port.own ∙ have d port is)
+
+  -- the first ports and the others
+  joined_ports : (all : ℕ → List (Call S)) (ended rest : List (Outgoing (Call S)))
+      → HaveSent true true all ended → HaveSent true true (λ d. all (length ended + d)) rest → HaveSent true true all (ended ++ rest)
+  joined_ports all ended rest first second d port is =
+      elim (split_place ended rest d port is) [
+        | inl here ↦ first d port here
+        | inr there ↦ subst (λ (n : ℕ). IsPut true port.own (put_by true port.number (all n))) (sym there.1) (second there.0 port there.2)
+      ]
+
+  -- the ports are those before
+  pub same_sent : (fault : Option DrainFault) (events : List (ℕ × Event)) (ended a b : List (Outgoing (Call S))) → SendsAll fault events a b → AreSame (ended ++ a) (ended ++ b)
+  same_sent None events ended a b p =
+      map-append place_of ended b ∙ ap (λ l. map place_of ended ++ l) (AreSame-puts (λ d. calls_to d events) a b p) ∙ sym (map-append place_of ended a)
+  same_sent (Some InboxGone) events ended a b p = absurd p
+  same_sent (Some (SubjectGone place)) events ended a b p =
+      map-append place_of ended b ∙ ap (λ l. map place_of ended ++ l) (AreSame-puts (λ d. calls_to d p.done) a b p.put) ∙ sym (map-append place_of ended a)
+
+  -- a fault names one of them
+  pub named_sent : (fault : Option DrainFault) (events : List (ℕ × Event)) (ended a b : List (Outgoing (Call S))) → SendsAll fault events a b → NamesSubject fault (length (ended ++ a))
+  named_sent None events ended a b p = tt
+  named_sent (Some InboxGone) events ended a b p = tt
+  named_sent (Some (SubjectGone place)) events ended a b p = omega (arith, length-append ended a, p.named)
+
+  -- ENDING
+
+  -- the ports that are open before the drainer leaves are all
+  all_open : (ended a : List (Outgoing (Call S))) → ended ≡ [] → ended ++ a ≡ a
+  all_open ended a none = ap (λ l. l ++ a) none
+
+  -- all have ended
+  all_ended : (ended mid ended_after rest : List (Outgoing (Call S))) → ended ≡ [] → ended_after ≡ ended ++ map with_bye mid → rest ≡ [] → ended_after ++ rest ≡ map with_bye mid
+  all_ended ended mid ended_after rest none after_is empty =
+      ap (λ l. ended_after ++ l) empty ∙ append-nil ended_after ∙ after_is ∙ ap (λ l. l ++ map with_bye mid) none
+
+  pub same_ended : (events : List (ℕ × Event)) (ended a mid ended_after rest : List (Outgoing (Call S)))
+      → ended ≡ [] → SendsAll None events a mid → ended_after ≡ ended ++ map with_bye mid → rest ≡ [] → AreSame (ended ++ a) (ended_after ++ rest)
+  same_ended events ended a mid ended_after rest none put after_is empty =
+      ap (map place_of) (all_ended ended mid ended_after rest none after_is empty) ∙ AreSame-byes mid ∙ AreSame-puts (λ d. calls_to d events) a mid put
+      ∙ sym (ap (map place_of) (all_open ended a none))
+
+  pub same_half : (events : List (ℕ × Event)) (ended a mid ended_after rest : List (Outgoing (Call S)))
+      → ended ≡ [] → SendsAll None events a mid → EndsSome mid rest ended ended_after → AreSame (ended ++ a) (ended_after ++ rest)
+  same_half events ended a mid ended_after rest none put ends0 =
+      let ends = EndsSome-first mid rest ended ended_after none ends0 in
+      ap (λ (l : List (Outgoing (Call S))). map place_of (l ++ rest)) ends.ended ∙ map-append place_of (map with_bye ends.done) rest
+      ∙ ap (λ l. l ++ map place_of rest) (AreSame-byes ends.done) ∙ sym (map-append place_of ends.done rest) ∙ ap (map place_of) ends.parts
+      ∙ AreSame-puts (λ d. calls_to d events) a mid put ∙ sym (ap (map place_of) (all_open ended a none))
+
+  pub named_half : (place : ℕ) (events : List (ℕ × Event)) (ended a mid ended_after rest : List (Outgoing (Call S)))
+      → ended ≡ [] → SendsAll None events a mid → EndsSome mid rest ended ended_after → place ≡ length ended_after → place < length (ended ++ a)
+  named_half place events ended a mid ended_after rest none put ends0 place_is =
+      let ends = EndsSome-first mid rest ended ended_after none ends0 in
+      let done : length ended_after ≡ length ends.done = ap length ends.ended ∙ length-map ends.done with_bye in
+      let all : length ends.done + length rest ≡ length mid = sym (length-append ends.done rest) ∙ ap length ends.parts in
+      let same : length (ended ++ a) ≡ length mid = ap length (all_open ended a none) ∙ sym put.count in
+      omega (arith, place_is, done, all, same, ends.some)
+
+  -- the first disposals were sent, and no port ended
+  sent_stopped : (fault : DrainFault) (all : ℕ → List (Call S)) (events : List (ℕ × Event)) (ended a b : List (Outgoing (Call S)))
+      → ended ≡ [] → HaveSent false false all (ended ++ a) → SendsAll (Some fault) events a b
+      → HaveSent (is_cut (Some fault)) true (λ d. all d ++ calls_to d events) (ended ++ b)
+  sent_stopped InboxGone all events ended a b none have p = absurd p
+  sent_stopped (SubjectGone place) all events ended a b none have p =
+      subst (HaveSent true true (λ d. all d ++ calls_to d events)) (sym (all_open ended b none))
+      (short_of_bye _ b (have_more (Some (SubjectGone place)) all events a b (subst (HaveSent false false all) (all_open ended a none) have) p))
+
+  pub sent_in_part : (fault : Option DrainFault) (all : ℕ → List (Call S)) (events : List (ℕ × Event)) (ended a b : List (Outgoing (Call S)))
+      → is_some fault ≡ true → ended ≡ [] → HaveSent false false all (ended ++ a) → SendsAll fault events a b
+      → HaveSent (is_cut fault) true (λ d. all d ++ calls_to d events) (ended ++ b)
+  sent_in_part None all events ended a b some none have p = cc
+  sent_in_part (Some fault) all events ended a b some none have p = sent_stopped fault all events ended a b none have p
+
+  -- all were sent, and all ports have ended
+  pub sent_ended : (all : ℕ → List (Call S)) (events : List (ℕ × Event)) (ended a mid ended_after rest : List (Outgoing (Call S)))
+      → ended ≡ [] → HaveSent false false all (ended ++ a) → SendsAll None events a mid → ended_after ≡ ended ++ map with_bye mid → rest ≡ []
+      → HaveSent false true (λ d. all d ++ calls_to d events) (ended_after ++ rest)
+  sent_ended all events ended a mid ended_after rest none have put after_is empty =
+      subst (HaveSent false true (λ d. all d ++ calls_to d events)) (sym (all_ended ended mid ended_after rest none after_is empty))
+      (HaveEnded-byes _ mid (have_more None all events a mid (subst (HaveSent false false all) (all_open ended a none) have) put))
+
+  -- all were sent, and some ports have ended
+  pub sent_half : (all : ℕ → List (Call S)) (events : List (ℕ × Event)) (ended a mid ended_after rest : List (Outgoing (Call S)))
+      → ended ≡ [] → HaveSent false false all (ended ++ a) → SendsAll None events a mid → EndsSome mid rest ended ended_after
+      → HaveSent true true (λ d. all d ++ calls_to d events) (ended_after ++ rest)
+  sent_half all events ended a mid ended_after rest none have put ends0 =
+      let stopped = HaveStopped-some (λ d. all d ++ calls_to d events) mid rest ended_after
+      (have_more None all events a mid (subst (HaveSent false false all) (all_open ended a none) have) put)
+      (EndsSome-first mid rest ended ended_after none ends0) in
+      joined_ports _ ended_after rest (whole_is_first _ ended_after stopped.whole) (short_of_bye _ rest stopped.cut)
+
+  -- the calls with those of a letter more
+  owed_next : (leave : ℕ) (log : Log S) (x : Letter (Out S)) (mark : Mark) (d : ℕ)
+      → owed leave log d ++ calls_to d (addressed (change leave log x mark).sends) ≡ owed leave (Next log x mark) d
+  owed_next leave log x mark d =
+      sym (ap (calls_to d) (map-append _ (sent_in leave log) (change leave log x mark).sends)
+      ∙ calls_to-append d (addressed (sent_in leave log)) (addressed (change leave log x mark).sends))
+
+-- ONE LETTER MORE
+
+module _ {S Rest : Type 0} (acts : Acts S Rest) where
+  -- the sinks and the ports of a drainer after a change
+  record Changed (leave : ℕ) (log : Log S) (after : DrainerView S Rest) (c : Change S) : Type 0 where
+    pub sent : HaveSent (is_cut after.fault) after.left (λ d. owed leave log d ++ calls_to d (addressed c.sends)) after.ports
+    pub sinks : Stand acts c.kept (gone_in leave log ++ c.gone) after.kept after.away
+    pub missed : after.misses ≡ min (missed_in leave log + c.missed) (2 ^ 64 - 1)
+
+  stands_next : (leave : ℕ) (log : Log S) (x : Letter (Out S)) (mark : Mark) (after : DrainerView S Rest) (c : Change S)
+      → change leave log x mark ≡ c → after.left ≡ has_left leave (Next log x mark) → Changed leave log after c → Stands acts leave (Next log x mark) after
+  stands_next leave log x mark after c is left_is changed =
+      let now = subst (Changed leave log after) (sym is) changed in
+      record {
+        left = left_is;
+        sent = have_same (is_cut after.fault) after.left _ _ after.ports (owed_next leave log x mark) now.sent;
+        sinks = now.sinks;
+        missed = now.missed;
+      }
+
+  -- nothing changes
+  idle : (leave : ℕ) (log : Log S) (view : DrainerView S Rest) → Stands acts leave log view → Changed leave log view (unchanged (kept_in leave log))
+  idle leave log view s = record {
+    sent = have_same (is_cut view.fault) view.left _ _ view.ports (λ d. sym (append-nil (owed leave log d))) s.sent;
+    sinks = record {
+      kept_are = s.sinks.kept_are;
+      away_are = subst (λ (l : List (Attachment S × Why)). AllZip (IsPutAway acts) l view.away) (sym (append-nil (gone_in leave log))) s.sinks.away_are;
+    };
+    missed = omega (arith, s.missed);
+  }
+
+  -- a letter after the Bye of the leave port
+  pub stands_idle_left : (leave : ℕ) (log : Log S) (x : Letter (Out S)) (view : DrainerView S Rest) → view.left ≡ true → Stands acts leave log view → Stands acts leave (Next log x Fine) view
+  stands_idle_left leave log x view left_is s =
+      let was : has_left leave log ≡ true = sym s.left ∙ left_is in
+      stands_next leave log x Fine view _ (ap (λ b. letter_change b leave (length (letters log)) x Fine (kept_in leave log)) was)
+      (left_is ∙ sym (ap (λ b. b || (x.from == leave && ends x.post)) was)) (idle leave log view s)
+
+  -- a body of the leave port before that
+  pub stands_idle_leave : (leave : ℕ) (log : Log S) (from : ℕ) (out : Out S) (view : DrainerView S Rest)
+      → view.left ≡ false → (from == leave) ≡ true → Stands acts leave log view → Stands acts leave (Next log (letter from (Body out)) Fine) view
+  stands_idle_leave leave log from out view left_is test s =
+      let was : has_left leave log ≡ false = sym s.left ∙ left_is in
+      stands_next leave log (letter from (Body out)) Fine view _
+      (ap (λ b. letter_change b leave (length (letters log)) (letter from (Body out)) Fine (kept_in leave log)) was
+      ∙ ap (λ b. post_change b (length (letters log)) from (Body out) Fine (kept_in leave log)) test)
+      (left_is ∙ sym (ap (λ b. b || (from == leave && false)) was ∙ ap (λ b. b && false) test)) (idle leave log view s)
+
+  -- a Bye of a subject before that
+  pub stands_idle_bye : (leave : ℕ) (log : Log S) (from : ℕ) (view : DrainerView S Rest)
+      → view.left ≡ false → (from == leave) ≡ false → Stands acts leave log view → Stands acts leave (Next log (letter from Bye) Fine) view
+  stands_idle_bye leave log from view left_is test s =
+      let was : has_left leave log ≡ false = sym s.left ∙ left_is in
+      stands_next leave log (letter from Bye) Fine view _
+      (ap (λ b. letter_change b leave (length (letters log)) (letter from Bye) Fine (kept_in leave log)) was
+      ∙ ap (λ b. post_change b (length (letters log)) from Bye Fine (kept_in leave log)) test)
+      (left_is ∙ sym (ap (λ b. b || (from == leave && true)) was ∙ ap (λ b. b && true) test)) (idle leave log view s)
+
+  -- a letter of a subject before that
+  pub stands_served : (leave : ℕ) (log : Log S) (from : ℕ) (out : Out S) (before after : DrainerView S Rest) (ended a b : List (Outgoing (Call S))) (events : List Event)
+      → ended ≡ [] → before.ports ≡ ended ++ a → after.ports ≡ ended ++ b → before.left ≡ false → after.left ≡ false → before.fault ≡ None → (from == leave) ≡ false
+      → ServesOut acts from out before.kept after.kept before.away after.away before.misses after.misses events
+      → SendsAll after.fault (map (λ event. (from, event)) events) a b
+      → Stands acts leave log before → (mark : Mark) × Stands acts leave (Next log (letter from (Body out)) mark) after
+  stands_served leave log from out before after ended a b events none before_ports after_ports left_is left_after whole test serves sends s =
+      let was : has_left leave log ≡ false = sym s.left ∙ left_is in
+      let place = length (letters log) in
+      let did = serves place (kept_in leave log) (gone_in leave log) s.sinks in
+      let mark = did.0 in
+      let c = out_change place from out mark (kept_in leave log) in
+      let cut : is_cut before.fault ≡ false = ap is_cut whole in
+      let have : HaveSent false false (owed leave log) a =
+      subst (λ (k : Bool). HaveSent k false (owed leave log) a) cut
+      (subst (λ (l : Bool). HaveSent (is_cut before.fault) l (owed leave log) a) left_is
+      (subst (HaveSent (is_cut before.fault) before.left (owed leave log)) (before_ports ∙ all_open ended a none) s.sent)) in
+      let have_now : HaveSent (is_cut after.fault) false (λ d. owed leave log d ++ calls_to d (addressed c.sends)) b =
+      have_same (is_cut after.fault) false _ _ b (λ d. ap (λ (l : List (ℕ × Event)). owed leave log d ++ calls_to d l) did.1.sends) (have_more after.fault (owed leave log) _ a b have sends) in (
+        mark,
+        stands_next leave log (letter from (Body out)) mark after c
+            (ap (λ k. letter_change k leave place (letter from (Body out)) mark (kept_in leave log)) was ∙ ap (λ k. post_change k place from (Body out) mark (kept_in leave log)) test)
+            (left_after ∙ sym (ap (λ k. k || (from == leave && false)) was ∙ ap (λ k. k && false) test))
+            (record {
+              sent = subst (λ (l : Bool). HaveSent (is_cut after.fault) l (λ d. owed leave log d ++ calls_to d (addressed c.sends)) after.ports) (sym left_after)
+                  (subst (HaveSent (is_cut after.fault) false (λ d. owed leave log d ++ calls_to d (addressed c.sends))) (sym (after_ports ∙ all_open ended b none)) have_now);
+              sinks = did.1.stand;
+              missed = did.2 ∙ counted-more before.misses (missed_in leave log) c.missed s.missed (missed_out place from out mark (kept_in leave log));
+            }),
+      )
+
+  -- the observers of kept sinks are those of the attachments
+  disposals_are : (held : List (Attachment S)) (kept : List (Kept S)) → AllZip (IsKept acts) held kept → map disposal kept ≡ addressed (map dispose held)
+  disposals_are [] [] zip = refl
+  disposals_are [] (one ∷ kept) zip = absurd zip
+  disposals_are (a ∷ held) [] zip = absurd zip
+  disposals_are (a ∷ held) (one ∷ kept) zip =
+      ap (λ (n : ℕ). (n, Dispose one.who) ∷ map disposal kept) zip.0.subject ∙ ap (λ (n : ℕ). (a.subject, Dispose n) ∷ map disposal kept) zip.0.who
+      ∙ ap (λ (l : List (ℕ × Event)). (a.subject, Dispose a.who) ∷ l) (disposals_are held kept zip.1)
+
+  -- the Bye of the leave port
+  pub stands_left : (leave : ℕ) (log : Log S) (from : ℕ) (before after : DrainerView S Rest)
+      → from ≡ leave → before.left ≡ false → after.left ≡ true → after.kept ≡ [] → after.misses ≡ before.misses
+      → ((held : List (Attachment S)) (gone : List (Attachment S × Why)) → Stand acts held gone before.kept before.away → Stand acts [] (gone ++ closed held) after.kept after.away)
+      → (HaveSent (is_cut before.fault) before.left (owed leave log) before.ports
+      → HaveSent (is_cut after.fault) true (λ d. owed leave log d ++ calls_to d (map disposal before.kept)) after.ports)
+      → Stands acts leave log before → (mark : Mark) × Stands acts leave (Next log (letter from Bye) mark) after
+  stands_left leave log from before after from_is left_is left_after empty same_misses closes sends s =
+      let was : has_left leave log ≡ false = sym s.left ∙ left_is in
+      let test : (from == leave) ≡ true = eq-eqb from leave from_is in
+      let c = left (kept_in leave log) in
+      let events : map disposal before.kept ≡ addressed c.sends = disposals_are (kept_in leave log) before.kept s.sinks.kept_are in (
+        Fine,
+        stands_next leave log (letter from Bye) Fine after c
+            (ap (λ k. letter_change k leave (length (letters log)) (letter from Bye) Fine (kept_in leave log)) was ∙ ap (λ k. post_change k (length (letters log)) from Bye Fine (kept_in leave log)) test)
+            (left_after ∙ sym (ap (λ k. k || (from == leave && true)) was ∙ ap (λ k. k && true) test))
+            (record {
+              sent = subst (λ (l : Bool). HaveSent (is_cut after.fault) l (λ d. owed leave log d ++ calls_to d (addressed c.sends)) after.ports) (sym left_after)
+                  (have_same (is_cut after.fault) true _ _ after.ports (λ d. ap (λ (l : List (ℕ × Event)). owed leave log d ++ calls_to d l) events) (sends s.sent));
+              sinks = closes (kept_in leave log) (gone_in leave log) s.sinks;
+              missed = omega (arith, same_misses, s.missed);
+            }),
+      )
+
+  -- HANDLED
+
+  -- the letter is this body
+  pub handles_body : (x : Letter (Out S)) (out : Out S) (before after : DrainerView S Rest) → x.post ≡ Body out → Handles acts (letter x.from (Body out)) before after → Handles acts x before after
+  handles_body x out before after is h = subst (λ (post : Post (Out S)). Handles acts (letter x.from post) before after) (sym is) h
+
+  -- the letter is a Bye
+  pub handles_bye : (x : Letter (Out S)) (before after : DrainerView S Rest) → x.post ≡ Bye → Handles acts (letter x.from Bye) before after → Handles acts x before after
+  handles_bye x before after is h = subst (λ (post : Post (Out S)). Handles acts (letter x.from post) before after) (sym is) h

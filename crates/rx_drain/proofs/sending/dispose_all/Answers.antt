@@ -1,0 +1,16 @@
+use Rattle.std.proofs.Common.{◌∙◌, sym, arith}
+use Rattle.rx_drain.proofs.Events.{disposed_more, disposed_some, disposed_all}
+use Rattle.rx_drain.proofs.sending.dispose_all.Goals as goal
+
+pub loop-one-preserved : goal.loop-one-preserved
+loop-one-preserved g c =
+    disposed_more c.send-fault.result c.args.kept.now c.loop-one.one-index c.one-item.result c.args.subjects.now.items c.loop-one.subjects.items c.send-fault.new.subjects.items
+    (sym c.is_some.ensures ∙ c.if-is_some.false) (omega (arith, c.loop-one-test.true)) c.one-item.is c.loop-one.invariant c.send-fault.ensures
+
+pub returns-then-is_some : goal.returns-then-is_some
+returns-then-is_some g c =
+    disposed_some c.send-fault.result c.args.kept.now c.loop-one.one-index c.one-item.result c.args.subjects.now.items c.loop-one.subjects.items c.send-fault.new.subjects.items
+    (sym c.is_some.ensures ∙ c.if-is_some.true) (omega (arith, c.loop-one-test.true)) c.one-item.is c.loop-one.invariant c.send-fault.ensures
+
+pub returns : goal.returns
+returns g c = disposed_all c.args.kept.now c.loop-one.one-index c.args.subjects.now.items c.loop-one.subjects.items (omega (arith, c.loop-one-test.false)) c.loop-one.invariant

@@ -1,0 +1,122 @@
+-- A drainer, and what it has done with the letters that it received (this project's own rule).
+use Rattle.std.specs.Prelude.{◌≡◌, ◌+◌, ◌-◌, ◌^◌, ◌<◌, ◌≤◌, min, ℕ, Bool, true, false, List, [], ◌∷◌, ◌++◌, length, map, Option, Some, None, slice_get, vec_len, vec_capacity}
+use Rattle.rx_mailbox.specs.declared.letter.Letter.{Letter}
+use Rattle.rx_mailbox.specs.declared.letter.Post.TheVariants.{Bye}
+use Rattle.rx_mailbox.specs.Letters.{letter}
+use Rattle.rx_mailbox.specs.Boxes.{Outgoing, Incoming, with_letter}
+use Rattle.rx_note.specs.declared.event.Event.{Event}
+use Rattle.rx_pump.specs.declared.call.Call.{Call}
+use Rattle.rx_pump.specs.declared.out.Out.{Out}
+use Rattle.rx_pump.specs.Pumps.{IsPut, AreSame}
+use Rattle.rx_sink.specs.declared.kept.Kept.{Kept}
+use Rattle.rx_sink.specs.declared.put_away.PutAway.{PutAway}
+use Rattle.rx_sink.specs.Acts.{Acts}
+use Rattle.rx_sink.specs.Attachments.{Attachment, Why, Mark, closed}
+use Rattle.rx_sink.specs.Stands.{Stand, Did, counted}
+use Rattle.rx_drain.specs.declared.drain_fault.DrainFault.{DrainFault}
+use Rattle.rx_drain.specs.declared.drain_fault.DrainFault.TheVariants.{InboxGone, SubjectGone}
+use Rattle.rx_drain.specs.declared.drainer_left.DrainerLeft.{DrainerLeft}
+use Rattle.rx_drain.specs.Calls.{SendsAll, disposal}
+use Rattle.rx_drain.specs.Logs.{Log, NoLetters, Next, letters, has_left, out_change, kept_in, gone_in, missed_in, owed, put_by}
+
+-- a drainer: its inbox, its ports to subjects in their order, ended or not, the sinks that it keeps, what those left that it
+-- put away, how many sinks found no memory, whether it was told to leave, and the fault that it stopped at
+pub record DrainerView (S Rest : Type 0) : Type 0 where
+  pub inbox : Incoming (Out S)
+  pub ports : List (Outgoing (Call S))
+  pub kept : List (Kept S)
+  pub away : List (PutAway Rest)
+  pub misses : ℕ
+  pub left : Bool
+  pub fault : Option DrainFault
+
+-- at a fault of a port the lists of the ports are cut short
+abbrev pub is_cut : Option DrainFault → Bool
+is_cut None = false
+is_cut (Some InboxGone) = false
+is_cut (Some (SubjectGone place)) = true
+
+-- a fault names one of the ports
+abbrev pub NamesSubject : Option DrainFault → ℕ → Type 0
+NamesSubject None subjects = Unit {0}
+NamesSubject (Some InboxGone) subjects = Unit {0}
+NamesSubject (Some (SubjectGone place)) subjects = place < subjects
+
+module _ {S Rest : Type 0} where
+  -- the drainer with these parts
+  abbrev pub view_of : DrainerLeft S Rest → Bool → Option DrainFault → DrainerView S Rest
+  view_of hands left fault = record {
+    inbox = hands.parts.inbox;
+    ports = hands.ended.items ++ hands.parts.subjects.items;
+    kept = hands.kept.items;
+    away = hands.put_away.items;
+    misses = hands.places.misses;
+    left = left;
+    fault = fault;
+  }
+
+  -- there is room for each sink that is put away and each port that ends; no port ends before the drainer is told to leave,
+  -- and then all do, unless a subject is gone
+  pub record Fits (leave : ℕ) (left : Bool) (fault : Option DrainFault) (hands : DrainerLeft S Rest) : Type 0 where
+    pub leave_is : leave ≡ vec_len hands.ended + vec_len hands.parts.subjects
+    pub away_room : vec_len hands.put_away + vec_len hands.kept ≤ vec_capacity hands.put_away
+    pub ended_room : vec_len hands.ended + vec_len hands.parts.subjects ≤ vec_capacity hands.ended
+    pub open_ports : left ≡ false → hands.ended.items ≡ []
+    pub ended_ports : left ≡ true → fault ≡ None → hands.parts.subjects.items ≡ []
+
+module _ {S : Type 0} where
+  -- the own list of the port at each place is its calls, and once the drainer left a Bye; cut short, the first of that
+  abbrev pub HaveSent : Bool → Bool → (ℕ → List (Call S)) → List (Outgoing (Call S)) → Type 0
+  HaveSent cut left calls ports =
+      (d : ℕ) (port : Outgoing (Call S)) → slice_get ports d ≡ Some port → IsPut cut port.own (put_by left port.number (calls d))
+
+  -- one letter more was received
+  abbrev pub TakesOne : Incoming (Out S) → Incoming (Out S) → Type 0
+  TakesOne before after = (x : Letter (Out S)) × (after ≡ with_letter before x)
+
+module _ {S Rest : Type 0} (acts : Acts S Rest) where
+  -- the sinks and the ports of a drainer are what marked letters mean, where this is the number of the leave port
+  pub record Stands (leave : ℕ) (log : Log S) (view : DrainerView S Rest) : Type 0 where
+    pub left : view.left ≡ has_left leave log
+    pub sent : HaveSent (is_cut view.fault) view.left (owed leave log) view.ports
+    pub sinks : Stand acts (kept_in leave log) (gone_in leave log) view.kept view.away
+    pub missed : view.misses ≡ min (missed_in leave log) (2 ^ 64 - 1)
+
+  -- what a drainer did with the letters that it received is what the marked letters mean
+  pub record Drains (view : DrainerView S Rest) (log : Log S) : Type 0 where
+    pub received : view.inbox.received ≡ letters log
+    pub stands : Stands (length view.ports) log view
+    pub fault : NamesSubject view.fault (length view.ports)
+
+  -- there are such marks
+  abbrev pub IsDrained : DrainerView S Rest → Type 0
+  IsDrained view = (log : Log S) × Drains view log
+
+  -- ONE LETTER
+
+  -- a letter of a subject came to the sinks
+  abbrev pub ServesOut : ℕ → Out S → List (Kept S) → List (Kept S) → List (PutAway Rest) → List (PutAway Rest) → ℕ → ℕ → List Event → Type 0
+  ServesOut subject out kept kept_after away away_after misses misses_after events =
+      (place : ℕ) (held : List (Attachment S)) (gone : List (Attachment S × Why)) → Stand acts held gone kept away
+      → (mark : Mark) × Did acts (out_change place subject out mark held) gone kept_after away_after (map (λ event. (subject, event)) events)
+          × (misses_after ≡ counted misses (out_change place subject out mark held).missed)
+
+  -- a letter was handled: with a mark it is the next of all for which the drainer stood
+  abbrev pub Handles : Letter (Out S) → DrainerView S Rest → DrainerView S Rest → Type 0
+  Handles x before after =
+      NamesSubject after.fault (length before.ports)
+      × ((log : Log S) → Stands (length before.ports) log before → (mark : Mark) × Stands (length before.ports) (Next log x mark) after)
+
+-- A NEW DRAINER
+
+module _ {S Rest : Type 0} where
+  -- the drainer of these parts, before its first turn
+  abbrev pub fresh_drainer : Incoming (Out S) → List (Outgoing (Call S)) → DrainerView S Rest
+  fresh_drainer inbox ports = record { inbox = inbox; ports = ports; kept = []; away = []; misses = 0; left = false; fault = None }
+
+  -- what no turn changes: which boxes the inbox and the ports belong to
+  pub record KeepsPlaces (before after : DrainerView S Rest) : Type 0 where
+    pub box : after.inbox.box ≡ before.inbox.box
+    pub count : after.inbox.ports ≡ before.inbox.ports
+    pub ports : AreSame before.ports after.ports
+

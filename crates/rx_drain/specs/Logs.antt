@@ -1,0 +1,89 @@
+-- What the letters that a drainer received mean: which sinks are attached, what each took, why it was put away, and what is
+-- owed to each subject. Each letter is marked, how it went with it (this project's own rule).
+use Rattle.std.specs.Prelude.{◌==◌, ◌+◌, ◌||◌, ◌&&◌, ℕ, Bool, true, false, List, [], ◌∷◌, ◌++◌, length}
+use Rattle.rx_mailbox.specs.declared.letter.Letter.{Letter}
+use Rattle.rx_mailbox.specs.declared.letter.Post.{Post}
+use Rattle.rx_mailbox.specs.declared.letter.Post.TheVariants.{Body, Bye}
+use Rattle.rx_mailbox.specs.Letters.{letter, ends}
+use Rattle.rx_pump.specs.declared.call.Call.{Call}
+use Rattle.rx_pump.specs.declared.out.Out.{Out}
+use Rattle.rx_pump.specs.declared.out.Out.TheVariants.{Attach, Give, Detach}
+use Rattle.rx_pump.specs.Sends.{posts}
+use Rattle.rx_sink.specs.Attachments.{Attachment, Why, Mark, Sent, Change, kept_for, attached, given, detached, left, unchanged}
+use Rattle.rx_sink.specs.Stands.{addressed}
+use Rattle.rx_drain.specs.Calls.{calls_to}
+
+-- letters with their marks, the latest outermost
+pub data Log (S : Type 0) : Type 0 where
+  NoLetters : Log S
+  Next : Log S → Letter (Out S) → Mark → Log S
+
+module _ {S : Type 0} where
+  -- the letters without their marks
+  abbrev pub letters : Log S → List (Letter (Out S))
+  letters NoLetters = []
+  letters (Next log x mark) = letters log ++ x ∷ []
+
+  -- the Bye of the leave port came
+  abbrev pub has_left : ℕ → Log S → Bool
+  has_left leave NoLetters = false
+  has_left leave (Next log x mark) = has_left leave log || (x.from == leave && ends x.post)
+
+  -- ONE LETTER
+
+  -- the attachment that an Attach at this place makes
+  abbrev pub brought : ℕ → ℕ → ℕ → S → Attachment S
+  brought place subject who sink = record { place = place; subject = subject; who = who; sink = sink; taken = [] }
+
+  -- what a subject sends, at this place
+  abbrev pub out_change : ℕ → ℕ → Out S → Mark → List (Attachment S) → Change S
+  out_change place subject (Attach who sink) mark kept = attached mark (brought place subject who sink) (kept_for subject who kept) kept
+  out_change place subject (Give who note) mark kept = given mark subject who note (kept_for subject who kept) kept
+  out_change place subject (Detach who) mark kept = detached subject who (kept_for subject who kept) kept
+
+  -- a post, of the leave port or of a subject: of the leave port only the Bye counts, of a subject all but that
+  abbrev pub post_change : Bool → ℕ → ℕ → Post (Out S) → Mark → List (Attachment S) → Change S
+  post_change true place from (Body out) mark kept = unchanged kept
+  post_change true place from Bye mark kept = left kept
+  post_change false place from (Body out) mark kept = out_change place from out mark kept
+  post_change false place from Bye mark kept = unchanged kept
+
+  -- a letter, after the Bye of the leave port or before it: after it nothing happens any more
+  abbrev pub letter_change : Bool → ℕ → ℕ → Letter (Out S) → Mark → List (Attachment S) → Change S
+  letter_change true leave place x mark kept = unchanged kept
+  letter_change false leave place x mark kept = post_change (x.from == leave) place x.from x.post mark kept
+
+  -- ALL LETTERS
+
+  -- the attachments whose sinks are kept, in the order in which they came
+  abbrev pub kept_in : ℕ → Log S → List (Attachment S)
+  kept_in leave NoLetters = []
+  kept_in leave (Next log x mark) = (letter_change (has_left leave log) leave (length (letters log)) x mark (kept_in leave log)).kept
+
+  -- what a letter that comes next changes
+  abbrev pub change : ℕ → Log S → Letter (Out S) → Mark → Change S
+  change leave log x mark = letter_change (has_left leave log) leave (length (letters log)) x mark (kept_in leave log)
+
+  -- the attachments that have ended and why, in the order in which they did
+  abbrev pub gone_in : ℕ → Log S → List (Attachment S × Why)
+  gone_in leave NoLetters = []
+  gone_in leave (Next log x mark) = gone_in leave log ++ (change leave log x mark).gone
+
+  -- the events that are sent
+  abbrev pub sent_in : ℕ → Log S → List Sent
+  sent_in leave NoLetters = []
+  sent_in leave (Next log x mark) = sent_in leave log ++ (change leave log x mark).sends
+
+  -- how many sinks found no memory
+  abbrev pub missed_in : ℕ → Log S → ℕ
+  missed_in leave NoLetters = 0
+  missed_in leave (Next log x mark) = missed_in leave log + (change leave log x mark).missed
+
+  -- the calls that are owed to subject d
+  abbrev pub owed : ℕ → Log S → ℕ → List (Call S)
+  owed leave log d = calls_to d (addressed (sent_in leave log))
+
+  -- what a port has put that put these calls, and once the drainer left a Bye
+  abbrev pub put_by : Bool → ℕ → List (Call S) → List (Letter (Call S))
+  put_by false number calls = posts number calls
+  put_by true number calls = posts number calls ++ letter number Bye ∷ []

@@ -1,0 +1,42 @@
+-- What a drainer leaves that has served to its end, or to a fault (this project's own rule).
+use Rattle.std.specs.Prelude.{◌≡◌, ℕ, true, List, [], ◌++◌, length, Some, None}
+use Rattle.rx_mailbox.specs.Boxes.{HasEachBye}
+use Rattle.rx_sink.specs.Acts.{Acts}
+use Rattle.rx_drain.specs.declared.drain_end.DrainEnd.{DrainEnd}
+use Rattle.rx_drain.specs.declared.drain_stop.DrainStop.{DrainStop}
+use Rattle.rx_drain.specs.Logs.{Log, has_left}
+use Rattle.rx_drain.specs.Drainers.{DrainerView, Drains, KeepsPlaces, view_of}
+
+module _ {S Rest : Type 0} where
+  -- the drainer at its end: it was told to leave, keeps no sink, and all its ports have ended
+  abbrev pub view_of_end : DrainEnd S Rest → DrainerView S Rest
+  view_of_end end = record {
+    inbox = end.inbox;
+    ports = end.ports.items;
+    kept = [];
+    away = end.put_away.items;
+    misses = end.places.misses;
+    left = true;
+    fault = None;
+  }
+
+module _ {S Rest : Type 0} (acts : Acts S Rest) where
+  -- the drainer handed in took all letters of its box and ended its ports: what it left is what the marked letters mean
+  pub record Serves (drainer : DrainerView S Rest) (end : DrainEnd S Rest) (log : Log S) : Type 0 where
+    pub drains : Drains acts (view_of_end end) log
+    pub each_bye : HasEachBye end.inbox
+    pub places : KeepsPlaces drainer (view_of_end end)
+
+  -- there are such marks
+  abbrev pub HasServed : DrainerView S Rest → DrainEnd S Rest → Type 0
+  HasServed drainer end = (log : Log S) × Serves drainer end log
+
+  -- the drainer handed in stopped at a fault: what it left is what the marked letters mean, but that a port may lack the last
+  -- of its letters
+  pub record Stops (drainer : DrainerView S Rest) (stop : DrainStop S Rest) (log : Log S) : Type 0 where
+    pub drains : Drains acts (view_of stop.left (has_left (length drainer.ports) log) (Some stop.fault)) log
+    pub places : KeepsPlaces drainer (view_of stop.left (has_left (length drainer.ports) log) (Some stop.fault))
+
+  -- there are such marks
+  abbrev pub HasStopped : DrainerView S Rest → DrainStop S Rest → Type 0
+  HasStopped drainer stop = (log : Log S) × Stops drainer stop log

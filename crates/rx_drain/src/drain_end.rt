@@ -1,0 +1,16 @@
+use rx_heap::Heap;
+use rx_mailbox::{EndedPort, Inbox};
+use rx_pump::{Call, Out};
+use rx_sink::{Places, PutAway, Sink};
+
+/// What a drainer leaves once the Bye of each port came and its own ports have ended.
+#[derive(Drop)]
+pub struct DrainEnd<S: Sink> {
+    pub inbox: Inbox<Out<S>>,
+    /// In the order of the subjects.
+    pub ports: Vec<EndedPort<Call<S>>, Heap>,
+    /// What each sink left that found its place, in the order in which they were put away.
+    pub put_away: Vec<PutAway<S::Rest>, Heap>,
+    /// Where the sinks are counted that found no memory.
+    pub places: Places,
+}

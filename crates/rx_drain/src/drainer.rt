@@ -1,0 +1,193 @@
+ghost use Rattle.std.specs.Prelude.{◌≡◌, ◌+◌, ◌≤◌, [], Some, None, Err, vec_len, MatchResult, OnOk, IfSome};
+ghost use Rattle.std.specs.List.{All};
+ghost use Rattle.rx_pump.specs.Pumps.{IsFresh};
+
+use crate::drain_end::DrainEnd;
+use crate::drain_fault::DrainFault;
+use crate::drain_stop::DrainStop;
+use crate::drainer_left::DrainerLeft;
+use crate::drainer_parts::DrainerParts;
+use crate::handling::handle;
+use rx_heap::Heap;
+use rx_mailbox::{Inbox, Port};
+use rx_pump::{Call, Out, room};
+use rx_sink::{Places, Sink};
+use std::marker::Model;
+use std::sync::Wait;
+
+/// The owner of the sinks of some observers: it takes the letters of the subjects one by one, hands the notes to the sinks,
+/// and asks the subjects for more.
+#[derive(Drop)]
+pub struct Drainer<S: Sink> {
+    hands: DrainerLeft<S>,
+    // The number of the leave port in its box, which is that of its subjects.
+    leave: usize,
+    // The Bye of the leave port came.
+    left: bool,
+    fault: Option<DrainFault>,
+}
+
+impl<S: Sink> Model for Drainer<S> {
+    ghost use Rattle.std.specs.Prelude.{◌≡◌, ◌+◌};
+    ghost use Rattle.rx_drain.specs.Drainers.{DrainerView, Fits, IsDrained, view_of};
+
+    ghost Value = { DrainerView S S.Rest };
+
+    ghost view = { λ d. view_of d.hands d.left d.fault };
+
+    ghost invariant = { λ d. IsDrained S.acts (view_of d.hands d.left d.fault) × Fits d.leave d.left d.fault d.hands
+        × (d.hands.parts.inbox.ports ≡ d.leave + 1) };
+}
+
+impl<S: Sink> Drainer<S> {
+    ghost use Rattle.rx_mailbox.specs.Boxes.{HasEachBye};
+    ghost use Rattle.rx_drain.specs.Drainers.{IsDrained, KeepsPlaces, TakesOne, fresh_drainer, view_of};
+    ghost use Rattle.rx_drain.specs.Serving.{HasServed, HasStopped};
+
+    /// A drainer of new parts: one port to each subject, and an inbox with a port for each and one more, the leave port.
+    /// `Err` gives them back where there was no memory for it.
+    pub fn new(
+        alloc: Heap,
+        inbox: Inbox<Out<S>>,
+        subjects: Vec<Port<Call<S>>, Heap>,
+    ) -> Result<Drainer<S>, DrainerParts<S>>
+        requires senders { inbox.ports ≡ vec_len subjects + 1 }
+        requires received { inbox.received ≡ [] }
+        requires fresh { All IsFresh subjects.items }
+        ensures { MatchResult result
+            (λ drainer. drainer ≡ fresh_drainer inbox subjects.items)
+            (λ back. back ≡ record { inbox = inbox; subjects = subjects }) }
+    {
+        let parts = DrainerParts { inbox, subjects };
+        let leave = parts.subjects.len();
+        let Ok(ended) = room(&alloc, leave) else {
+            return Err(parts);
+        };
+        let Ok(kept) = room(&alloc, 0) else {
+            return Err(parts);
+        };
+        let hands = DrainerLeft {
+            parts,
+            ended,
+            kept,
+            put_away: Vec::new(alloc),
+            places: Places::new(),
+        };
+        Ok(Drainer {
+            hands,
+            leave,
+            left: false,
+            fault: None,
+        })
+    }
+
+    /// Takes one letter, and waits while there is none.
+    ///
+    /// A sink that a subject attaches is started and kept. A note goes to the sink that is kept for its observer; then the
+    /// subject is asked for one item more after an item, and after a terminal to let the observer go, whose sink is put away.
+    /// So it does after a fault of the sink, and where there was no memory for one that came. The sink of an observer that
+    /// left is put away. At the Bye of the leave port each observer is disposed of whose sink is kept, in the order in which
+    /// they came, all are put away, and the ports to subjects end. Unserved is a sink that comes later, from the leave port, or
+    /// while one is kept for its observer; what comes for an observer without a sink, and what else the leave port sends, is
+    /// discarded.
+    ///
+    /// At a fault what was sent is the first of that, and from then on each turn answers this fault and does nothing.
+    pub fn turn<R: Wait>(&mut self, rt: &R) -> Result<(), DrainFault>
+        ensures drained { IsDrained S.acts self.new }
+        ensures fault { MatchResult result (λ _. self.new.fault ≡ None) (λ fault. self.new.fault ≡ Some fault) }
+        ensures took { OnOk result (TakesOne self.old.inbox self.new.inbox) }
+        ensures kept { KeepsPlaces self.old self.new }
+        ensures over { IfSome self.old.fault (λ fault. (result ≡ Err fault) × (self.new ≡ self.old)) }
+    {
+        if let Some(fault) = self.fault {
+            return Err(fault);
+        }
+        let Ok(letter) = self.hands.parts.inbox.recv(rt) else {
+            self.fault = Some(DrainFault::InboxGone);
+            return Err(DrainFault::InboxGone);
+        };
+        let handled = handle(rt, &mut self.hands, self.leave, self.left, letter);
+        self.left = handled.left;
+        self.fault = handled.fault;
+        outcome(handled.fault)
+    }
+
+    /// Takes letters until the Bye of each port came, that of the leave port too, and waits while there is none. `Err` at a
+    /// fault, with the parts that are left.
+    pub fn serve<R: Wait>(self, rt: &R) -> Result<DrainEnd<S>, DrainStop<S>>
+        ensures { MatchResult result (λ end. HasServed S.acts self end) (λ stop. HasStopped S.acts self stop) }
+    {
+        let mut drainer = self;
+        match drainer.take_all(rt) {
+            Ok(()) => Ok(drainer.end()),
+            Err(fault) => Err(drainer.stop(fault)),
+        }
+    }
+
+    /// The parts, as the turns so far left them.
+    pub fn into_parts(self) -> DrainerLeft<S>
+        ensures parts { view_of result self.left self.fault ≡ self }
+        ensures drained { IsDrained S.acts self }
+    {
+        self.hands
+    }
+
+    // Takes letters until the Bye of each port came.
+    fn take_all<R: Wait>(&mut self, rt: &R) -> Result<(), DrainFault>
+        ensures fault { MatchResult result (λ _. self.new.fault ≡ None) (λ fault. self.new.fault ≡ Some fault) }
+        ensures each_bye { OnOk result (HasEachBye self.new.inbox) }
+        ensures kept { KeepsPlaces self.old self.new }
+    {
+        if let Some(fault) = self.fault {
+            return Err(fault);
+        }
+        for _ in rt.forever() {
+            if self.hands.parts.inbox.has_each_bye() {
+                return Ok(());
+            }
+            self.turn(rt)?;
+        }
+        unreachable!()
+    }
+
+    // What is left once the Bye of each port came.
+    fn end(self) -> DrainEnd<S>
+        requires whole { self.fault ≡ None }
+        requires each_bye { HasEachBye self.inbox }
+        ensures { HasServed S.acts self result }
+    {
+        let DrainerLeft {
+            parts,
+            ended,
+            kept: _,
+            put_away,
+            places,
+        } = self.hands;
+        DrainEnd {
+            inbox: parts.inbox,
+            ports: ended,
+            put_away,
+            places,
+        }
+    }
+
+    // What is left at a fault of a turn.
+    fn stop(self, fault: DrainFault) -> DrainStop<S>
+        requires { self.fault ≡ Some fault }
+        ensures { HasStopped S.acts self result }
+    {
+        DrainStop {
+            fault,
+            left: self.hands,
+        }
+    }
+}
+
+fn outcome(fault: Option<DrainFault>) -> Result<(), DrainFault>
+    ensures { MatchResult result (λ _. fault ≡ None) (λ met. fault ≡ Some met) }
+{
+    match fault {
+        None => Ok(()),
+        Some(fault) => Err(fault),
+    }
+}

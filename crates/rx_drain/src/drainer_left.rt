@@ -1,0 +1,20 @@
+use crate::DrainerParts;
+use rx_heap::Heap;
+use rx_mailbox::EndedPort;
+use rx_pump::Call;
+use rx_sink::{Kept, Places, PutAway, Sink};
+
+/// What is left of a drainer that goes no further.
+#[derive(Drop)]
+pub struct DrainerLeft<S: Sink> {
+    /// Its inbox, and the ports to subjects that have not ended, in their order.
+    pub parts: DrainerParts<S>,
+    /// The first ports to subjects, which have ended, in their order.
+    pub ended: Vec<EndedPort<Call<S>>, Heap>,
+    /// The sinks that it keeps, in the order in which they came.
+    pub kept: Vec<Kept<S>, Heap>,
+    /// What the sinks left that it put away, in the order in which it did so.
+    pub put_away: Vec<PutAway<S::Rest>, Heap>,
+    /// Where it counted the sinks that found no memory.
+    pub places: Places,
+}

@@ -1,0 +1,100 @@
+// One letter: the sinks take it, and the ports send what it owes.
+ghost use Rattle.std.specs.Prelude.{◌≡◌, true, false, None};
+ghost use Rattle.rx_mailbox.specs.declared.letter.Post.TheVariants.{Bye};
+ghost use Rattle.rx_mailbox.specs.Letters as letters;
+ghost use Rattle.rx_pump.specs.Pumps.{AreSame};
+ghost use Rattle.rx_drain.specs.Drainers.{Fits, Handles, view_of};
+
+use crate::sending::{dispose_all, send_any};
+use crate::serving_out::{pass_over, serve_out};
+use crate::{DrainFault, DrainerLeft};
+use rx_mailbox::{Letter, Post};
+use rx_pump::{Out, finish_all};
+use rx_sink::{Sink, put_all_away};
+use std::sync::Wait;
+
+// What became of a letter.
+#[derive(Clone, Copy)]
+pub struct Handled {
+    // The drainer was told to leave, now or before.
+    pub left: bool,
+    pub fault: Option<DrainFault>,
+}
+
+// Does what a letter asks. `leave` is the number of the leave port, and `left` says whether its Bye came before.
+pub fn handle<S: Sink, R: Wait>(
+    rt: &R,
+    hands: &mut DrainerLeft<S>,
+    leave: usize,
+    left: bool,
+    letter: Letter<Out<S>>,
+) -> Handled
+    requires { Fits leave left None hands.old }
+    ensures fits { Fits leave result.left result.fault hands.new }
+    ensures inbox { hands.new.parts.inbox ≡ hands.old.parts.inbox }
+    ensures ports { AreSame (view_of hands.old left None).ports (view_of hands.new result.left result.fault).ports }
+    ensures handles { Handles S.acts letter (view_of hands.old left None) (view_of hands.new result.left result.fault) }
+{
+    let Letter { from, post } = letter;
+    let out = match post {
+        Post::Bye => return hear_bye(rt, hands, leave, left, from),
+        Post::Body(out) => out,
+    };
+    if left || from as usize == leave {
+        pass_over(out);
+        return Handled { left, fault: None };
+    }
+    let event = serve_out(
+        &mut hands.kept,
+        &mut hands.put_away,
+        &mut hands.places,
+        from,
+        out,
+    );
+    let fault = send_any(rt, &mut hands.parts.subjects, from, event);
+    Handled { left, fault }
+}
+
+// Does what a Bye asks: the first of the leave port has the drainer leave.
+fn hear_bye<S: Sink, R: Wait>(
+    rt: &R,
+    hands: &mut DrainerLeft<S>,
+    leave: usize,
+    left: bool,
+    from: u32,
+) -> Handled
+    requires { Fits leave left None hands.old }
+    ensures fits { Fits leave result.left result.fault hands.new }
+    ensures inbox { hands.new.parts.inbox ≡ hands.old.parts.inbox }
+    ensures ports { AreSame (view_of hands.old left None).ports (view_of hands.new result.left result.fault).ports }
+    ensures handles { Handles S.acts (letters.letter from Bye) (view_of hands.old left None) (view_of hands.new result.left result.fault) }
+{
+    if left || from as usize != leave {
+        return Handled { left, fault: None };
+    }
+    let fault = leave_all(rt, hands, from);
+    Handled { left: true, fault }
+}
+
+// Has each observer disposed of whose sink is kept, puts all sinks away, and ends the ports.
+fn leave_all<S: Sink, R: Wait>(
+    rt: &R,
+    hands: &mut DrainerLeft<S>,
+    leave: u32,
+) -> Option<DrainFault>
+    requires { Fits leave false None hands.old }
+    ensures fits { Fits leave true result hands.new }
+    ensures inbox { hands.new.parts.inbox ≡ hands.old.parts.inbox }
+    ensures ports { AreSame (view_of hands.old false None).ports (view_of hands.new true result).ports }
+    ensures handles { Handles S.acts (letters.letter leave Bye) (view_of hands.old false None) (view_of hands.new true result) }
+{
+    let fault = dispose_all(rt, &mut hands.parts.subjects, hands.kept.as_slice());
+    put_all_away(&mut hands.kept, &mut hands.put_away);
+    if fault.is_some() {
+        return fault;
+    }
+    match finish_all(rt, &mut hands.parts.subjects, &mut hands.ended) {
+        Ok(()) => None,
+        Err(place) => Some(DrainFault::SubjectGone(place)),
+    }
+}

@@ -1,0 +1,37 @@
+// What a letter of a subject does to the sinks.
+ghost use Rattle.std.specs.Prelude.{◌+◌, ◌≤◌, vec_len, vec_capacity, option_to_list};
+ghost use Rattle.rx_drain.specs.Drainers.{ServesOut};
+
+use rx_heap::Heap;
+use rx_note::Event;
+use rx_pump::Out;
+use rx_sink::{Kept, Places, PutAway, Sink, attach, detach, give};
+
+// A sink, a note or the leaving of an observer comes from a subject. It answers what the subject is to be asked.
+pub fn serve_out<S: Sink>(
+    kept: &mut Vec<Kept<S>, Heap>,
+    away: &mut Vec<PutAway<S::Rest>, Heap>,
+    places: &mut Places,
+    subject: u32,
+    out: Out<S>,
+) -> Option<Event>
+    requires room { vec_len away.old + vec_len kept.old ≤ vec_capacity away.old }
+    ensures room { vec_len away.new + vec_len kept.new ≤ vec_capacity away.new }
+    ensures serves { ServesOut S.acts subject out kept.old.items kept.new.items away.old.items away.new.items places.old.misses places.new.misses (option_to_list result) }
+{
+    match out {
+        Out::Attach { who, sink } => attach(kept, away, places, subject, who, sink),
+        Out::Give { who, note } => give(kept, away, subject, who, note),
+        Out::Detach { who } => {
+            detach(kept, away, subject, who);
+            None
+        }
+    }
+}
+
+// Finishes a sink that is left unserved.
+pub fn pass_over<S: Sink>(out: Out<S>) {
+    if let Out::Attach { who: _, sink } = out {
+        let _rest = sink.finish();
+    }
+}
