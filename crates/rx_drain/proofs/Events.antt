@@ -1,5 +1,5 @@
 -- Events are sent one after another, each to its subject.
-use Rattle.std.proofs.Common.{◌≡◌, ◌∙◌, sym, refl, ap, subst, ℕ, ◌+◌, ◌<◌, ◌≤◌, List, [], ◌∷◌, ◌++◌, append_assoc, append-nil, length, map, get_or, take, drop, take-append-drop, Bool, true, false, Option, Some, None, is_some, slice_get, arith}
+use Rattle.std.proofs.Common.{◌≡◌, ◌∙◌, sym, refl, ap, subst, ℕ, ◌+◌, ◌<◌, ◌≤◌, List, [], ◌∷◌, ◌++◌, append_assoc, append-nil, length, map, get_or, take, drop, take-append-drop, true, false, Option, Some, None, is_some}
 use Rattle.std.proofs.Math.ListN.{set}
 use Rattle.std.proofs.lemmas.List.{map-append, set-get_or, take_all, take_more}
 use Rattle.rx_mailbox.specs.Boxes.{Outgoing}
@@ -11,7 +11,7 @@ use Rattle.rx_pump.proofs.Putting.{Puts-none, Puts-then, Puts-same, Puts-at, Put
 use Rattle.rx_sink.specs.declared.kept.Kept.{Kept}
 use Rattle.rx_drain.specs.declared.drain_fault.DrainFault.{DrainFault}
 use Rattle.rx_drain.specs.declared.drain_fault.DrainFault.TheVariants.{InboxGone, SubjectGone}
-use Rattle.rx_drain.specs.Calls.{call, calls_to, disposal, SendsSome, SendsAll}
+use Rattle.rx_drain.specs.Calls.{call, calls_to, disposal, SendsAll}
 
 module _ {S : Type 0} where
   -- calls after calls

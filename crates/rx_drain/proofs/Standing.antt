@@ -13,20 +13,19 @@ use Rattle.rx_note.specs.declared.note.Note.{Note}
 use Rattle.rx_pump.specs.declared.call.Call.{Call}
 use Rattle.rx_pump.specs.declared.out.Out.{Out}
 use Rattle.rx_pump.specs.declared.out.Out.TheVariants.{Attach, Give, Detach}
-use Rattle.rx_pump.specs.Pumps.{IsPut, HavePut, AreSame, place_of}
-use Rattle.rx_pump.specs.Sends.{Puts, posts, with_bye, EndsSome}
-use Rattle.rx_pump.specs.Serving.{HaveEnded}
+use Rattle.rx_pump.specs.Pumps.{IsPut, AreSame, place_of}
+use Rattle.rx_pump.specs.Sends.{with_bye, EndsSome}
 use Rattle.rx_pump.proofs.Pumping.{HavePut-puts, HavePut-cut, HavePut-same, AreSame-puts}
 use Rattle.rx_pump.proofs.Leaving.{AreSame-byes, HaveEnded-byes, HaveStopped-some, EndsSome-first}
 use Rattle.rx_sink.specs.declared.kept.Kept.{Kept}
 use Rattle.rx_sink.specs.declared.put_away.PutAway.{PutAway}
 use Rattle.rx_sink.specs.Acts.{Acts, raised}
-use Rattle.rx_sink.specs.Attachments.{Attachment, Why, Mark, Fine, Fault, NoMemory, Sent, Change, kept_for, attached, given, served, detached, joined, unchanged, left, closed, dispose, is_last}
+use Rattle.rx_sink.specs.Attachments.{Attachment, Why, Mark, Fine, Fault, NoMemory, Change, kept_for, attached, given, served, detached, unchanged, left, closed, dispose, is_last}
 use Rattle.rx_sink.specs.Stands.{Stand, Did, IsKept, IsPutAway, addressed, counted}
 use Rattle.rx_drain.specs.declared.drain_fault.DrainFault.{DrainFault}
 use Rattle.rx_drain.specs.declared.drain_fault.DrainFault.TheVariants.{InboxGone, SubjectGone}
 use Rattle.rx_drain.specs.Calls.{calls_to, disposal, SendsAll}
-use Rattle.rx_drain.specs.Logs.{Log, NoLetters, Next, letters, has_left, brought, out_change, post_change, letter_change, kept_in, change, gone_in, sent_in, missed_in, owed, put_by}
+use Rattle.rx_drain.specs.Logs.{Log, Next, letters, has_left, brought, out_change, post_change, letter_change, kept_in, change, gone_in, sent_in, missed_in, owed, put_by}
 use Rattle.rx_drain.specs.Drainers.{DrainerView, is_cut, NamesSubject, HaveSent, Stands, ServesOut, Handles}
 use Rattle.rx_drain.proofs.Events.{calls_to-append}
 

@@ -1,8 +1,6 @@
 -- A drainer, and what it has done with the letters that it received (this project's own rule).
-use Rattle.std.specs.Prelude.{◌≡◌, ◌+◌, ◌-◌, ◌^◌, ◌<◌, ◌≤◌, min, ℕ, Bool, true, false, List, [], ◌∷◌, ◌++◌, length, map, Option, Some, None, slice_get, vec_len, vec_capacity}
+use Rattle.std.specs.Prelude.{◌≡◌, ◌+◌, ◌-◌, ◌^◌, ◌<◌, ◌≤◌, min, ℕ, Bool, true, false, List, [], ◌++◌, length, map, Option, Some, None, slice_get, vec_len, vec_capacity}
 use Rattle.rx_mailbox.specs.declared.letter.Letter.{Letter}
-use Rattle.rx_mailbox.specs.declared.letter.Post.TheVariants.{Bye}
-use Rattle.rx_mailbox.specs.Letters.{letter}
 use Rattle.rx_mailbox.specs.Boxes.{Outgoing, Incoming, with_letter}
 use Rattle.rx_note.specs.declared.event.Event.{Event}
 use Rattle.rx_pump.specs.declared.call.Call.{Call}
@@ -11,13 +9,12 @@ use Rattle.rx_pump.specs.Pumps.{IsPut, AreSame}
 use Rattle.rx_sink.specs.declared.kept.Kept.{Kept}
 use Rattle.rx_sink.specs.declared.put_away.PutAway.{PutAway}
 use Rattle.rx_sink.specs.Acts.{Acts}
-use Rattle.rx_sink.specs.Attachments.{Attachment, Why, Mark, closed}
+use Rattle.rx_sink.specs.Attachments.{Attachment, Why, Mark}
 use Rattle.rx_sink.specs.Stands.{Stand, Did, counted}
 use Rattle.rx_drain.specs.declared.drain_fault.DrainFault.{DrainFault}
 use Rattle.rx_drain.specs.declared.drain_fault.DrainFault.TheVariants.{InboxGone, SubjectGone}
 use Rattle.rx_drain.specs.declared.drainer_left.DrainerLeft.{DrainerLeft}
-use Rattle.rx_drain.specs.Calls.{SendsAll, disposal}
-use Rattle.rx_drain.specs.Logs.{Log, NoLetters, Next, letters, has_left, out_change, kept_in, gone_in, missed_in, owed, put_by}
+use Rattle.rx_drain.specs.Logs.{Log, Next, letters, has_left, out_change, kept_in, gone_in, missed_in, owed, put_by}
 
 -- a drainer: its inbox, its ports to subjects in their order, ended or not, the sinks that it keeps, what those left that it
 -- put away, how many sinks found no memory, whether it was told to leave, and the fault that it stopped at
@@ -99,7 +96,7 @@ module _ {S Rest : Type 0} (acts : Acts S Rest) where
   ServesOut subject out kept kept_after away away_after misses misses_after events =
       (place : ℕ) (held : List (Attachment S)) (gone : List (Attachment S × Why)) → Stand acts held gone kept away
       → (mark : Mark) × Did acts (out_change place subject out mark held) gone kept_after away_after (map (λ event. (subject, event)) events)
-          × (misses_after ≡ counted misses (out_change place subject out mark held).missed)
+      × (misses_after ≡ counted misses (out_change place subject out mark held).missed)
 
   -- a letter was handled: with a mark it is the next of all for which the drainer stood
   abbrev pub Handles : Letter (Out S) → DrainerView S Rest → DrainerView S Rest → Type 0
@@ -119,4 +116,3 @@ module _ {S Rest : Type 0} where
     pub box : after.inbox.box ≡ before.inbox.box
     pub count : after.inbox.ports ≡ before.inbox.ports
     pub ports : AreSame before.ports after.ports
-

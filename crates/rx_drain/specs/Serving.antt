@@ -1,5 +1,5 @@
 -- What a drainer leaves that has served to its end, or to a fault (this project's own rule).
-use Rattle.std.specs.Prelude.{◌≡◌, ℕ, true, List, [], ◌++◌, length, Some, None}
+use Rattle.std.specs.Prelude.{true, [], length, Some, None}
 use Rattle.rx_mailbox.specs.Boxes.{HasEachBye}
 use Rattle.rx_sink.specs.Acts.{Acts}
 use Rattle.rx_drain.specs.declared.drain_end.DrainEnd.{DrainEnd}

@@ -77,11 +77,7 @@ fn hear_bye<S: Sink, R: Wait>(
 }
 
 // Has each observer disposed of whose sink is kept, puts all sinks away, and ends the ports.
-fn leave_all<S: Sink, R: Wait>(
-    rt: &R,
-    hands: &mut DrainerLeft<S>,
-    leave: u32,
-) -> Option<DrainFault>
+fn leave_all<S: Sink, R: Wait>(rt: &R, hands: &mut DrainerLeft<S>, leave: u32) -> Option<DrainFault>
     requires { Fits leave false None hands.old }
     ensures fits { Fits leave true result hands.new }
     ensures inbox { hands.new.parts.inbox ≡ hands.old.parts.inbox }

@@ -6,11 +6,10 @@ use crate::drain_stop::DrainStop;
 use crate::drainer::Drainer;
 use rx_sink::Sink;
 use std::error::Error;
-use std::fmt;
 use std::snapshot::Snapshot;
 use std::sync::Wait;
-use std::thread;
 use std::thread::{Promise, PromisedHandle, Threads};
+use std::{fmt, thread};
 
 /// A drainer has no thread: the system made none, or there was no memory for it. The drainer was given up.
 #[derive(Clone, Copy, Debug, PartialEq, Eq)]

@@ -16,5 +16,5 @@ returns-clause-handles g c =
     handles_body g.S.Sink.acts c.args.letter c.in-Body.out _ _ c.in-Body.is (
       named_sent c.send_any-fault.result (map (λ event. (c.args.letter.from, event)) (option_to_list c.serve_out-event.result)) ended a c.send_any-fault.new.subjects.items c.send_any-fault.ensures,
       λ log s. stands_served g.S.Sink.acts (length (ended ++ a)) log c.args.letter.from c.in-Body.out _ _ ended a c.send_any-fault.new.subjects.items (option_to_list c.serve_out-event.result)
-      (c.requires.open_ports c.if-left.false) refl refl c.if-left.false c.if-left.false refl test c.serve_out-event.ensures.serves c.send_any-fault.ensures s,
+          (c.requires.open_ports c.if-left.false) refl refl c.if-left.false c.if-left.false refl test c.serve_out-event.ensures.serves c.send_any-fault.ensures s,
     )

@@ -1,11 +1,9 @@
-use Rattle.std.proofs.Common.{◌≡◌, ◌∙◌, sym, refl, ap, subst, ℕ, List, ◌++◌, length, length-append, map, None, arith}
-use Rattle.rx_mailbox.specs.Boxes.{Outgoing}
+use Rattle.std.proofs.Common.{◌≡◌, ◌∙◌, sym, refl, subst, List, ◌++◌, length, length-append, map, arith}
 use Rattle.rx_sink.specs.declared.kept.Kept.{Kept}
 use Rattle.rx_drain.specs.Calls.{SendsAll, disposal}
 use Rattle.rx_drain.specs.Logs.{owed}
 use Rattle.rx_drain.proofs.Events.{sent_none}
 use Rattle.rx_drain.proofs.Standing.{same_sent, named_sent, same_ended, same_half, named_half, sent_in_part, sent_ended, sent_half, stands_left}
-use Rattle.rx_drain.proofs.handling.leave_all.Given as given
 use Rattle.rx_drain.proofs.handling.leave_all.Goals as goal
 
 pub returns-then-is_some-clause-ports : goal.returns-then-is_some-clause-ports
@@ -20,8 +18,8 @@ returns-then-is_some-clause-handles g c =
     let sends = subst (λ (kept : List (Kept _)). SendsAll c.dispose_all-fault.result (map disposal kept) a c.dispose_all-fault.new.subjects.items) c.as_slice.ensures.value c.dispose_all-fault.ensures in (
       named_sent c.dispose_all-fault.result (map disposal c.args.hands.now.kept.items) ended a c.dispose_all-fault.new.subjects.items sends,
       λ log s. stands_left g.S.Sink.acts (length (ended ++ a)) log c.args.leave _ _ leave_is refl refl c.put_all_away.ensures.kept refl c.put_all_away.ensures.closes
-      (λ have. sent_in_part c.dispose_all-fault.result (owed (length (ended ++ a)) log) (map disposal c.args.hands.now.kept.items) ended a c.dispose_all-fault.new.subjects.items
-      (sym c.is_some.ensures ∙ c.if-is_some.true) (c.requires.open_ports refl) have sends) s,
+          (λ have. sent_in_part c.dispose_all-fault.result (owed (length (ended ++ a)) log) (map disposal c.args.hands.now.kept.items) ended a c.dispose_all-fault.new.subjects.items
+          (sym c.is_some.ensures ∙ c.if-is_some.true) (c.requires.open_ports refl) have sends) s,
     )
 
 pub returns-in-Ok-clause-ports : goal.returns-in-Ok-clause-ports
@@ -39,8 +37,8 @@ returns-in-Ok-clause-handles g c =
     let fine = sent_none c.dispose_all-fault.result (map disposal c.args.hands.now.kept.items) a c.dispose_all-fault.new.subjects.items (sym c.is_some.ensures ∙ c.if-is_some.false) sends in (
       tt,
       λ log s. stands_left g.S.Sink.acts (length (ended ++ a)) log c.args.leave _ _ leave_is refl refl c.put_all_away.ensures.kept refl c.put_all_away.ensures.closes
-      (λ have. sent_ended (owed (length (ended ++ a)) log) (map disposal c.args.hands.now.kept.items) ended a c.dispose_all-fault.new.subjects.items c.finish_all.new.ended.items c.finish_all.new.ports.items
-      (c.requires.open_ports refl) have fine c.in-Ok.ensures.ended.0 c.in-Ok.ensures.ended.1) s,
+          (λ have. sent_ended (owed (length (ended ++ a)) log) (map disposal c.args.hands.now.kept.items) ended a c.dispose_all-fault.new.subjects.items c.finish_all.new.ended.items c.finish_all.new.ports.items
+          (c.requires.open_ports refl) have fine c.in-Ok.ensures.ended.0 c.in-Ok.ensures.ended.1) s,
     )
 
 pub returns-in-Err-clause-ports : goal.returns-in-Err-clause-ports
@@ -60,6 +58,6 @@ returns-in-Err-clause-handles g c =
       named_half c.in-Err.place (map disposal c.args.hands.now.kept.items) ended a c.dispose_all-fault.new.subjects.items c.finish_all.new.ended.items c.finish_all.new.ports.items
           (c.requires.open_ports refl) fine c.in-Err.ensures.ended.0 place_is,
       λ log s. stands_left g.S.Sink.acts (length (ended ++ a)) log c.args.leave _ _ leave_is refl refl c.put_all_away.ensures.kept refl c.put_all_away.ensures.closes
-      (λ have. sent_half (owed (length (ended ++ a)) log) (map disposal c.args.hands.now.kept.items) ended a c.dispose_all-fault.new.subjects.items c.finish_all.new.ended.items c.finish_all.new.ports.items
-      (c.requires.open_ports refl) have fine c.in-Err.ensures.ended.0) s,
+          (λ have. sent_half (owed (length (ended ++ a)) log) (map disposal c.args.hands.now.kept.items) ended a c.dispose_all-fault.new.subjects.items c.finish_all.new.ended.items c.finish_all.new.ports.items
+          (c.requires.open_ports refl) have fine c.in-Err.ensures.ended.0) s,
     )

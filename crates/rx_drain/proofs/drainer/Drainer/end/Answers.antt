@@ -1,4 +1,4 @@
-use Rattle.std.proofs.Common.{◌≡◌, ◌+◌, ◌++◌, ◌∙◌, sym, refl, ap, subst, true, length, length-append, arith}
+use Rattle.std.proofs.Common.{◌≡◌, ◌+◌, ◌∙◌, sym, refl, ap, subst, true, length, length-append, arith}
 use Rattle.rx_drain.specs.declared.drain_end.DrainEnd.{DrainEnd}
 use Rattle.rx_mailbox.specs.Boxes.{HasEachBye}
 use Rattle.rx_drain.specs.Drainers.{DrainerView, view_of}

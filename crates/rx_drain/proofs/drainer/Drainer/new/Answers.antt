@@ -1,4 +1,4 @@
-use Rattle.std.proofs.Common.{◌≡◌, ◌∙◌, sym, refl, ap, subst, List, [], ◌++◌, arith, rules}
+use Rattle.std.proofs.Common.{◌≡◌, sym, refl, subst, List, [], ◌++◌, arith, rules}
 use Rattle.std.specs.List.{All}
 use Rattle.rx_mailbox.specs.Boxes.{Outgoing}
 use Rattle.rx_pump.specs.Pumps.{IsFresh}

@@ -1,7 +1,6 @@
-use Rattle.std.proofs.Common.{◌∙◌, sym, refl, ap, subst}
-use Rattle.rx_mailbox.specs.Boxes.{Incoming}
-use Rattle.rx_drain.specs.Drainers.{DrainerView, IsDrained, view_of}
-use Rattle.rx_drain.proofs.Ending.{drained_gone, drained_letter}
+use Rattle.std.proofs.Common.{refl}
+use Rattle.rx_drain.specs.Drainers.{IsDrained, view_of}
+use Rattle.rx_drain.proofs.Ending.{drained_letter}
 use Rattle.rx_drain.proofs.drainer.Drainer.turn.Given as given
 use Rattle.rx_drain.proofs.drainer.Drainer.turn.Goals as goal
 
