@@ -36,7 +36,8 @@ impl<S: Sink> Promise<Result<DrainEnd<S>, DrainStop<S>>> for Served<S> {
         (λ stop. HasStopped S.acts p.0.value stop) };
 }
 
-/// A drainer that serves in a thread of its own.
+/// A drainer that serves in a thread of its own. One that is let go without a `join` is not waited for.
+#[derive(Drop)]
 pub struct RunningDrainer<S: Sink> {
     handle: PromisedHandle<Result<DrainEnd<S>, DrainStop<S>>, Served<S>>,
 }

@@ -1,6 +1,6 @@
 //! Tests of the libraries by their public calls: worked runs, told as tables of scripts, drawn runs of a hub held against
 //! the stored history of the same events, runs with each growth refused in its turn, the line protocol, sessions over memory,
-//! boxes and budgets between threads, and pumps with their callers.
+//! boxes and budgets between threads, pumps with their callers, and drainers with their sinks.
 //!
 //! There is no code here but tests, and nothing stands on it. It stands above all that it tests, so that none of those
 //! crates is proved a second time for tests of its own.
@@ -12,6 +12,8 @@ mod boxes;
 mod budgets;
 #[cfg(test)]
 mod configurations;
+#[cfg(test)]
+mod drainers;
 #[cfg(test)]
 mod drawing;
 #[cfg(test)]
