@@ -13,6 +13,10 @@ use Rattle.rx_mailbox.specs.Letters.{letter, share, has_bye}
 abbrev pub Box : Type 0 → Type 0
 Box B = TableId × Badge (Key (Letter B))
 
+-- how many letters the box holds at most: its channel has a slot for each
+abbrev pub capacity_of : {B : Type 0} → Box B → ℕ
+capacity_of box = box.0.slots
+
 -- a port: its box, its number, and the letters that it put, in their order
 pub record Outgoing (B : Type 0) : Type 0 where
   pub box : Box B

@@ -4,7 +4,7 @@ ghost use Rattle.crossbeam_channel.specs.Claims.{view, IsSeatAt};
 ghost use Rattle.crossbeam_channel.specs.Ends.{sends_on};
 ghost use Rattle.rx_mailbox.specs.declared.opening.OpenError.TheVariants.{BadSize};
 ghost use Rattle.rx_mailbox.specs.declared.rule.View.TheVariants.{Receives};
-ghost use Rattle.rx_mailbox.specs.Boxes.{incoming, outgoing, AreOf};
+ghost use Rattle.rx_mailbox.specs.Boxes.{capacity_of, incoming, outgoing, AreOf};
 ghost use Rattle.rx_mailbox.specs.Sizes.{IsSize};
 ghost use Rattle.rx_mailbox.specs.Passes.{box_of};
 
@@ -55,6 +55,7 @@ pub fn open<B: Drop>(
     ensures inbox { IfOk result (λ made. made.0 ≡ incoming made.0.box senders []) }
     ensures ports { IfOk result (λ made. made.1.items ≡ map (λ number. outgoing made.0.box number []) (range_with_len 0 senders)) }
     ensures parts { IfOk result (λ made. AreOf made.0 made.1.items) }
+    ensures capacity { IfOk result (λ made. capacity_of made.0.box ≡ capacity) }
 {
     if !is_size(capacity, senders) {
         return Err(OpenError::BadSize);
@@ -81,6 +82,7 @@ fn make<B: Drop>(
     ensures inbox { IfOk result (λ made. made.0 ≡ incoming made.0.box senders []) }
     ensures ports { IfOk result (λ made. made.1.items ≡ map (λ number. outgoing made.0.box number []) (range_with_len 0 senders)) }
     ensures parts { IfOk result (λ made. AreOf made.0 made.1.items) }
+    ensures capacity { IfOk result (λ made. capacity_of made.0.box ≡ capacity) }
 {
     let byes = vec![in alloc.clone()?; false; senders as usize]?;
     let mut ports = Vec::with_capacity(alloc.clone()?, senders as usize)?;
