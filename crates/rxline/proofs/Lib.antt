@@ -6,3 +6,4 @@ pub mod SoFar
 pub mod Subjects
 pub mod Tellings
 pub mod Turning
+pub mod Wanted

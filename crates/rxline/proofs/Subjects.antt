@@ -112,6 +112,13 @@ IsIn-unknown script after state name event is_in none topics moment = record {
   moment = moment ∙ is_in.moment;
 }
 
+-- the run after a line that was refused
+pub IsIn-same : (script after : Script) (state : State) → IsIn script state → after.topics.items ≡ script.topics.items → after.moment ≡ script.moment → IsIn after state
+IsIn-same script after state is_in topics moment = record {
+  subjects = subst (λ (ts : List Topic). AllStand ts state.subjects) (sym topics) is_in.subjects;
+  moment = moment ∙ is_in.moment;
+}
+
 -- what holds at Ok
 pub match_ok : {T E : Type 0} (result : Result T E) (P Q : T → Type 0) → IfOk result P → ((x : T) → P x → Q x) → MatchResult result Q (λ _. Unit {0})
 match_ok (Ok x) P Q one then = then x one

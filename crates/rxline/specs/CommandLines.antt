@@ -1,7 +1,7 @@
 -- The command line: the words that the program takes, and the task that they name.
 use Rattle.std.specs.Prelude.{◌≡◌, ℕ, List, Option, None, Some, codes, true}
 use Rattle.clap.specs.Simple.{on_top}
-use Rattle.clap.specs.Words.{App, Row, Rule, Shape, Text, first_of, new_app, new_rule, with_rule, with_subcommand}
+use Rattle.clap.specs.Words.{App, Row, Rule, Text, first_of, new_app, new_rule, with_rule, with_subcommand}
 use Rattle.rxline.specs.declared.task.Task.{Task}
 use Rattle.rxline.specs.declared.task.Task.TheVariants.{Script, Audit}
 

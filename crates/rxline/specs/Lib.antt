@@ -1,3 +1,4 @@
+pub mod Asking
 pub mod Audits
 pub mod CommandLines
 pub mod Printing

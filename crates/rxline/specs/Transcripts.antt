@@ -59,17 +59,14 @@ asks moment (Join name policy first) = asked.Event name (events.Join policy firs
 asks moment (Request name who n) = asked.Event name (events.Request who n)
 asks moment (Dispose name who) = asked.Event name (events.Dispose who)
 
--- whether a line has a text, for which it takes memory
-abbrev pub has_text : ScriptLine → Bool
-has_text (Command (Pub name text)) = true
-has_text (Command (End name)) = false
-has_text (Command (Fail name text)) = true
-has_text (Command (Sub name policy)) = false
-has_text (Command Quit) = false
-has_text (At moment) = false
-has_text (Join name policy first) = false
-has_text (Request name who n) = false
-has_text (Dispose name who) = false
+-- whether an event has a text, for which it takes memory
+abbrev pub has_text : Event → Bool
+has_text (events.Emit (Next item) at) = true
+has_text (events.Emit Completed at) = false
+has_text (events.Emit (Failed text) at) = true
+has_text (events.Join policy first at) = false
+has_text (events.Request who n) = false
+has_text (events.Dispose who) = false
 
 -- THE ANSWERS
 
@@ -129,9 +126,13 @@ takes_it_with_memory event subject = hubs.takes_memory event && is_ok (answer su
 
 -- WHAT A LINE DOES
 
--- whether what a line asks is an event that its subject accepts, and takes memory for
+-- whether memory is taken for an event of a subject: for its text, or for what the subject does
+abbrev pub wants_memory_for : Event → Subject → Bool
+wants_memory_for event subject = has_text event || takes_it_with_memory event subject
+
+-- whether memory is taken for what a line asks; none is for an event of a subject that nobody knows
 abbrev pub wants_memory : List Subject → Asked → Bool
-wants_memory subjects (asked.Event name event) = option_map_or (takes_it_with_memory event) (subject_of subjects name) false
+wants_memory subjects (asked.Event name event) = option_map_or (wants_memory_for event) (subject_of subjects name) false
 wants_memory subjects (asked.At moment) = false
 wants_memory subjects asked.Quit = false
 
@@ -141,13 +142,9 @@ is_quit (asked.Event name event) = false
 is_quit (asked.At moment) = false
 is_quit asked.Quit = true
 
--- whether a line takes memory: for its text, or for its event
-abbrev pub takes_memory : State → ScriptLine → Bool
-takes_memory state line = has_text line || wants_memory state.subjects (asks state.moment line)
-
 -- whether a line met want of memory; only one that takes memory can
 abbrev pub misses : State → ScriptLine → Bool → Bool
-misses state line missed = missed && takes_memory state line
+misses state line missed = missed && wants_memory state.subjects (asks state.moment line)
 
 -- what is written for what a line asks
 abbrev pub asked_written : List Subject → Asked → List ℕ

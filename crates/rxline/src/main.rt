@@ -5,6 +5,7 @@
 #![tactic(auto)]
 
 mod asked;
+mod asking;
 pub mod audit;
 pub mod config;
 mod config_file;

@@ -1,13 +1,16 @@
-ghost use Rattle.std.specs.Prelude.{◌≡◌, ◌<◌, ◌++◌, [], None, IfOk, OnErr, OnOk, length};
+ghost use Rattle.std.specs.Prelude.{◌≡◌, ◌<◌, ◌++◌, [], true, None, IfOk, OnErr, OnOk, length};
 ghost use Rattle.rxline.specs.declared.topic.Topic.{Topic};
 ghost use Rattle.rx_proto.specs.Bytes.{Writes};
 ghost use Rattle.rx_session.specs.Bytes.{Puts};
+ghost use Rattle.rx_proto.specs.Grammar.{IsSpelled};
 ghost use Rattle.rx_proto.specs.LineFeeds.{HasNoLf};
 ghost use Rattle.rx_proto.specs.Printing.{reply_line};
+ghost use Rattle.rx_proto.specs.Reading.{meaning_of};
+ghost use Rattle.rxline.specs.Asking.{names_subject};
 ghost use Rattle.rxline.specs.Scripts.{Runs, TakesEvent, new_subjects};
-ghost use Rattle.rxline.specs.Transcripts.{given_lines, response_to};
+ghost use Rattle.rxline.specs.Transcripts.{asks, given_lines, response_to};
 
-use crate::asked::{Asked, asked_by};
+use crate::asking::{event_in, name_in};
 use crate::config::Config;
 use crate::printing::put_given;
 use crate::responding::response_to;
@@ -15,7 +18,7 @@ use crate::told::Told;
 use crate::topic::{Topic, place_of, topics_of};
 use rx_heap::{Heap, Memory};
 use rx_note::{Answer, Event, Given, Refusal};
-use rx_proto::{LineError, Name, Response, Word, WriteFault, parse_script};
+use rx_proto::{BadLine, Line, Name, Response, Word, WriteFault, read_script};
 use rx_session::{LineState, Outbox, SessionEnd, Step};
 use std::io::{Read, Write};
 
@@ -52,7 +55,6 @@ pub(crate) struct Script {
     moment: u64,
     outs: Vec<Given, Heap>,
     outbox: Outbox,
-    heap: Heap,
     ghost nothing_left: { outs.items ≡ [] },
 }
 
@@ -70,9 +72,8 @@ impl Script {
         Ok(Script {
             topics: topics_of(&alloc, config.subjects)?,
             moment: 0,
-            outs: Vec::new(alloc.clone()?),
+            outs: Vec::new(alloc),
             outbox: Outbox::new(),
-            heap: alloc,
         })
     }
 
@@ -143,32 +144,44 @@ impl Script {
         let Some(line) = line else {
             return self.refuse(writer, Word::Long);
         };
-        match parse_script(&self.heap, line) {
-            Ok(line) => self.carry_out(writer, asked_by(line, self.moment)),
-            Err(LineError::Long) => self.refuse(writer, Word::Long),
-            Err(LineError::Syntax) => self.refuse(writer, Word::Syntax),
-            Err(LineError::Memory) => self.refuse(writer, Word::Memory),
+        match read_script(line) {
+            Ok(line) => self.carry_out(writer, &line),
+            Err(BadLine::Long) => self.refuse(writer, Word::Long),
+            Err(BadLine::Syntax) => self.refuse(writer, Word::Syntax),
         }
     }
 
     // Carries out what a line asks, and puts the answer.
-    fn carry_out<W: Write>(&mut self, writer: &mut W, asked: Asked) -> Result<Told, WriteFault>
-        ensures { CarriesOut result self.old self.new (W.contents writer.old) (W.contents writer.new) asked }
+    fn carry_out<W: Write>(&mut self, writer: &mut W, line: &Line<'_>) -> Result<Told, WriteFault>
+        requires { IsSpelled (meaning_of line.now) }
+        ensures { CarriesOut result self.old self.new (W.contents writer.old) (W.contents writer.new) (asks self.old.moment (meaning_of line.now)) }
     {
-        match asked {
-            Asked::Quit => {
+        match line {
+            Line::Quit => {
                 self.outbox.put_reply(writer, Response::Done)?;
                 Ok(Told::Quit)
             }
-            Asked::At(moment) => {
-                self.moment = moment;
+            Line::At(moment) => {
+                self.moment = *moment;
                 self.outbox.put_reply(writer, Response::Done)?;
                 Ok(Told::More)
             }
-            Asked::Event(name, event) => match place_of(&self.topics, &name) {
-                Some(place) => self.take(writer, place, event),
-                None => self.refuse(writer, Word::Subject),
-            },
+            _ => self.ask(writer, line),
+        }
+    }
+
+    // Asks of a subject what a line says. Its text is made only where there is the subject, over the memory of that.
+    fn ask<W: Write>(&mut self, writer: &mut W, line: &Line<'_>) -> Result<Told, WriteFault>
+        requires spelled { IsSpelled (meaning_of line.now) }
+        requires named { names_subject (meaning_of line.now) ≡ true }
+        ensures { CarriesOut result self.old self.new (W.contents writer.old) (W.contents writer.new) (asks self.old.moment (meaning_of line.now)) }
+    {
+        let Some(place) = place_of(&self.topics, name_in(line)) else {
+            return self.refuse(writer, Word::Subject);
+        };
+        match event_in(&self.topics[place].heap, line, self.moment) {
+            Ok(event) => self.take(writer, place, event),
+            Err(Memory) => self.refuse(writer, Word::Memory),
         }
     }
 

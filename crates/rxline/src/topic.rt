@@ -7,21 +7,22 @@ use rx_heap::{Heap, Memory};
 use rx_hub::{Hub, HubError};
 use rx_proto::Name;
 
-/// A subject of a script: its name and its hub.
+/// A subject of a script: its name, its hub, and the memory of the hub and of the texts that it is handed.
 #[derive(Drop)]
 pub struct Topic {
     pub name: Name,
     pub hub: Hub,
+    pub heap: Heap,
 }
 
 impl Topic {
     /// The topic of a subject, with no event yet.
-    fn new(alloc: Heap, subject: SubjectConfig) -> Result<Topic, Memory>
+    fn new(heap: Heap, subject: SubjectConfig) -> Result<Topic, Memory>
         ensures { IfOk result (λ topic. Stands topic (new_subject subject)) }
     {
         let SubjectConfig { name, rules } = subject;
-        match Hub::new(alloc, rules.kind, rules.limits) {
-            Ok(hub) => Ok(Topic { name, hub }),
+        match Hub::new(heap.clone()?, rules.kind, rules.limits) {
+            Ok(hub) => Ok(Topic { name, hub, heap }),
             Err(HubError::Memory) => Err(Memory),
             Err(HubError::BadLimits) => unreachable!(),
         }
@@ -43,8 +44,10 @@ pub fn topics_of(
 }
 
 /// The place of the first topic of this name.
-pub fn place_of(topics: &Vec<Topic, Heap>, name: &Name) -> Option<usize>
+pub fn place_of(topics: &Vec<Topic, Heap>, name: &[u8]) -> Option<usize>
     ensures { result ≡ position (λ topic. same_word topic.name name.now) topics.now.items }
 {
-    topics.iter().position(|topic| topic.name == *name)
+    topics
+        .iter()
+        .position(|topic| topic.name.as_bytes() == name)
 }
