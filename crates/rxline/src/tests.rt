@@ -1,8 +1,10 @@
-//! What no clause says: each public call on its happy path, the printed text, and readers and writers that fail midway.
+//! What no clause says: each public call on its happy path, the printed text, readers and writers that fail midway, and
+//! runs with each growth refused in its turn.
 
 mod audits;
 mod kinds;
 mod programs;
+mod refusals;
 mod rows;
 
 use rx_heap::Heap;

@@ -16,7 +16,7 @@ const MAX_READS: u64 = 4_294_967_296;
 
 // A kind as the table names it. It owns no memory.
 #[derive(Clone, Copy)]
-enum Named {
+pub(super) enum Named {
     Publish,
     // With the seed z.
     Behavior,
@@ -39,7 +39,7 @@ fn kind_of(heap: &Heap, named: Named) -> Result<Kind, Fail> {
 
 // How many observers a subject has room for.
 #[derive(Clone, Copy)]
-enum Room {
+pub(super) enum Room {
     // As many as the limits allow.
     Wide,
     // One at a time.
@@ -60,7 +60,7 @@ fn limits_of(room: Room) -> Limits
 }
 
 // The configuration of a run.
-fn config_of(heap: &Heap, run: &Run) -> Result<Config, Fail> {
+pub(super) fn config_of(heap: &Heap, run: &Run) -> Result<Config, Fail> {
     let mut config = Config::standard(heap.clone()?)?;
     let kind = kind_of(heap, run.kind)?;
     let limits = limits_of(run.room);
@@ -83,15 +83,15 @@ fn written_for(heap: &Heap, run: &Run) -> Result<Vec<u8, Heap>, Fail> {
 
 // A worked run: what is written for a script over a subject.
 #[derive(Clone, Copy)]
-struct Run {
-    name: &'static str,
-    kind: Named,
-    room: Room,
-    script: &'static [u8],
-    answers: &'static [u8],
+pub(super) struct Run {
+    pub(super) name: &'static str,
+    pub(super) kind: Named,
+    pub(super) room: Room,
+    pub(super) script: &'static [u8],
+    pub(super) answers: &'static [u8],
 }
 
-const RUNS: [Run; 12] = [
+pub(super) const RUNS: [Run; 12] = [
     Run {
         name: "publish_after_its_end",
         kind: Named::Publish,

@@ -26,57 +26,62 @@ fn run<R: Read, W: Write>(
     Ok(run_script(heap, config, reader, writer, max_reads)?)
 }
 
+/// A worked run: its name, its script, and what is written for it.
+pub(super) type Row = (&'static str, &'static [u8], &'static [u8]);
+
+pub(super) const ROWS: [Row; 10] = [
+    ("first_run", FIRST_RUN, FIRST_ANSWERS),
+    ("empty_input", b"", b""),
+    (
+        "error_delayed",
+        b"JOIN s BUFFER DELAY 1\nPUB s a\nPUB s b\nPUB s c\nFAIL s x\nREQUEST s 0 2\n",
+        b"OK 0\nOK\ns 0 NEXT a\nOK\nOK\nOK\nOK\ns 0 NEXT b\ns 0 NEXT c\ns 0 FAILED x\n",
+    ),
+    (
+        "error_ahead",
+        b"JOIN s BUFFER AHEAD 1\nPUB s a\nPUB s b\nPUB s c\nFAIL s x\nREQUEST s 0 3\n",
+        b"OK 0\nOK\ns 0 NEXT a\nOK\nOK\nOK\ns 0 FAILED x\nOK\n",
+    ),
+    (
+        "refusals_in_order",
+        b"JOIN s BUFFER DELAY 0\nREQUEST s 0 0\nREQUEST s 7 0\nREQUEST s 0 4294967295\nREQUEST s 0 1\nREQUEST s 7 1\nEND s\nPUB s a\nPUB t a\n",
+        b"OK 0\nERR ZERO\nERR ZERO\nOK\nERR TOOMUCH\nERR OBSERVER\nOK\ns 0 DONE\nERR ENDED\nERR SUBJECT\n",
+    ),
+    (
+        "moments_of_64_bits",
+        b"AT 5\nAT 18446744073709551615\nAT 18446744073709551616\nJOIN s BUFFER DELAY 1\nAT 0\nPUB s a\nAT\n",
+        b"OK\nOK\nERR SYNTAX\nOK 0\nOK\nOK\ns 0 NEXT a\nERR SYNTAX\n",
+    ),
+    (
+        "drop_zero_honours_demand",
+        b"JOIN s DROP:0 DELAY 0\nPUB s a\nREQUEST s 0 1\nPUB s b\n",
+        b"OK 0\nOK\nOK\nOK\ns 0 NEXT b\n",
+    ),
+    (
+        "drop_two",
+        b"JOIN s DROP:2 DELAY 0\nPUB s a\nPUB s b\nPUB s c\nPUB s d\nPUB s e\nREQUEST s 0 9\nREQUEST s 0 4294967289\n",
+        b"OK 0\nOK\nOK\nOK\nOK\nOK\nOK\ns 0 NEXT a\ns 0 NEXT b\nERR TOOMUCH\n",
+    ),
+    (
+        "latest_two",
+        b"JOIN s LATEST:2 DELAY 1\nPUB s a\nPUB s b\nPUB s c\nPUB s d\nREQUEST s 0 5\nPUB s e\n",
+        b"OK 0\nOK\ns 0 NEXT a\nOK\nOK\nOK\nOK\ns 0 NEXT c\ns 0 NEXT d\nOK\ns 0 NEXT e\n",
+    ),
+    (
+        "latest_one_then_done",
+        b"JOIN s LATEST:1 DELAY 0\nPUB s a\nPUB s b\nEND s\nREQUEST s 0 1\n",
+        b"OK 0\nOK\nOK\nOK\nOK\ns 0 NEXT b\ns 0 DONE\n",
+    ),
+];
+
 #[test]
 fn worked_runs(rt: HostRuntime) -> Result<(), Fail> {
-    for (name, script, answers) in [
-        ("first_run", FIRST_RUN, FIRST_ANSWERS),
-        ("empty_input", b"".as_slice(), b"".as_slice()),
-        (
-            "error_delayed",
-            b"JOIN s BUFFER DELAY 1\nPUB s a\nPUB s b\nPUB s c\nFAIL s x\nREQUEST s 0 2\n".as_slice(),
-            b"OK 0\nOK\ns 0 NEXT a\nOK\nOK\nOK\nOK\ns 0 NEXT b\ns 0 NEXT c\ns 0 FAILED x\n".as_slice(),
-        ),
-        (
-            "error_ahead",
-            b"JOIN s BUFFER AHEAD 1\nPUB s a\nPUB s b\nPUB s c\nFAIL s x\nREQUEST s 0 3\n".as_slice(),
-            b"OK 0\nOK\ns 0 NEXT a\nOK\nOK\nOK\ns 0 FAILED x\nOK\n".as_slice(),
-        ),
-        (
-            "refusals_in_order",
-            b"JOIN s BUFFER DELAY 0\nREQUEST s 0 0\nREQUEST s 7 0\nREQUEST s 0 4294967295\nREQUEST s 0 1\nREQUEST s 7 1\nEND s\nPUB s a\nPUB t a\n".as_slice(),
-            b"OK 0\nERR ZERO\nERR ZERO\nOK\nERR TOOMUCH\nERR OBSERVER\nOK\ns 0 DONE\nERR ENDED\nERR SUBJECT\n".as_slice(),
-        ),
-        (
-            "moments_of_64_bits",
-            b"AT 5\nAT 18446744073709551615\nAT 18446744073709551616\nJOIN s BUFFER DELAY 1\nAT 0\nPUB s a\nAT\n".as_slice(),
-            b"OK\nOK\nERR SYNTAX\nOK 0\nOK\nOK\ns 0 NEXT a\nERR SYNTAX\n".as_slice(),
-        ),
-        (
-            "drop_zero_honours_demand",
-            b"JOIN s DROP:0 DELAY 0\nPUB s a\nREQUEST s 0 1\nPUB s b\n".as_slice(),
-            b"OK 0\nOK\nOK\nOK\ns 0 NEXT b\n".as_slice(),
-        ),
-        (
-            "drop_two",
-            b"JOIN s DROP:2 DELAY 0\nPUB s a\nPUB s b\nPUB s c\nPUB s d\nPUB s e\nREQUEST s 0 9\nREQUEST s 0 4294967289\n".as_slice(),
-            b"OK 0\nOK\nOK\nOK\nOK\nOK\nOK\ns 0 NEXT a\ns 0 NEXT b\nERR TOOMUCH\n".as_slice(),
-        ),
-        (
-            "latest_two",
-            b"JOIN s LATEST:2 DELAY 1\nPUB s a\nPUB s b\nPUB s c\nPUB s d\nREQUEST s 0 5\nPUB s e\n".as_slice(),
-            b"OK 0\nOK\ns 0 NEXT a\nOK\nOK\nOK\nOK\ns 0 NEXT c\ns 0 NEXT d\nOK\ns 0 NEXT e\n".as_slice(),
-        ),
-        (
-            "latest_one_then_done",
-            b"JOIN s LATEST:1 DELAY 0\nPUB s a\nPUB s b\nEND s\nREQUEST s 0 1\n".as_slice(),
-            b"OK 0\nOK\nOK\nOK\nOK\ns 0 NEXT b\ns 0 DONE\n".as_slice(),
-        ),
-    ] {
-        let mut reader = script;
+    for (name, script, answers) in &ROWS {
+        let mut reader = *script;
         let mut written = Vec::new(rt.alloc());
         let end = run(&rt, &mut reader, &mut written, MAX_READS)?;
         assert_eq!(rt; end, SessionEnd::EndOfInput, "{name}");
-        assert_eq!(rt; written.as_slice(), answers, "{name}");
+        assert_eq!(rt; written.as_slice(), *answers, "{name}");
     }
     Ok(())
 }
