@@ -1,7 +1,8 @@
 -- What a configuration says: the settings that stand in the table of a TOML text, or the first cause for which it is
 -- refused. The keys, the ranges and the order are this project's own.
-use Rattle.std.specs.Prelude.{◌≡◌, ℕ, ℤ, suc, pos, negsuc, Bool, true, false, ◌&&◌, ◌||◌, not, nat_le, nat_eq, List, [], ◌∷◌, ◌++◌, map, length, codes, Option, None, Some, Result, Ok, Err, if◌then◌else◌, option_and_then, option_map}
+use Rattle.std.specs.Prelude.{◌≡◌, ◌⊎◌, ℕ, ℤ, suc, pos, negsuc, Bool, true, false, ◌&&◌, ◌||◌, not, nat_le, nat_eq, List, [], ◌∷◌, ◌++◌, map, length, codes, Option, None, Some, Result, Ok, Err, if◌then◌else◌, option_and_then, option_map}
 use Rattle.std.specs.List.{list_all, list_any}
+use Rattle.std.specs.Str.{IsUtf8}
 use Rattle.rx_note.specs.declared.kind.Kind.{Kind}
 use Rattle.rx_note.specs.declared.kind.Kind.TheVariants.{Publish, Behavior, Async, Replay}
 use Rattle.rx_note.specs.declared.limits.Limits.{Limits}
@@ -9,11 +10,12 @@ use Rattle.rx_note.specs.declared.rules.Rules.{Rules}
 use Rattle.rx_proto.specs.Reading.{is_name_byte, same_word}
 use Rattle.rx_server.specs.declared.config.Config.{Config}
 use Rattle.rx_server.specs.declared.config_error.ConfigError.{ConfigError}
-use Rattle.rx_server.specs.declared.config_error.ConfigError.TheVariants.{UnknownKey, BadPool, NoSubject, TooManySubjects, BadSubject, DuplicateName}
+use Rattle.rx_server.specs.declared.config_error.ConfigError.TheVariants.{Syntax, UnknownKey, BadPool, NoSubject, TooManySubjects, BadSubject, DuplicateName, Memory}
 use Rattle.rx_server.specs.declared.fault.Fault.{Fault}
 use Rattle.rx_server.specs.declared.fault.Fault.TheVariants as faults
 use Rattle.rx_server.specs.declared.pool.Pool.{Pool}
 use Rattle.rx_server.specs.declared.subject_config.SubjectConfig.{SubjectConfig}
+use Rattle.toml.specs.Parse.{parse_document}
 use Rattle.toml.specs.Data.{Data, Items, no_items, item, Members, no_members, member, get_member, as_str, as_integer, as_array, as_table}
 
 -- WHAT IS READ
@@ -240,6 +242,15 @@ settings_in members =
     if has_only top_keys members
     then and_then (λ pool. and_then (with_subjects pool) (subjects_at members)) (or_cause BadPool (pool_at members))
     else Err UnknownKey
+
+-- what the table of a TOML text says: settings, or the cause for which it is refused
+abbrev pub Says : List ℕ → Result Settings ConfigError → Type 0
+Says bytes said = (t : Members) × IsUtf8 bytes × (parse_document bytes ≡ Some t) × (settings_in t ≡ said)
+
+-- a text is refused: it is no TOML, or its table is refused for this cause; or there was no memory
+abbrev pub IsRefused : List ℕ → ConfigError → Type 0
+IsRefused bytes cause =
+    (cause ≡ Memory) ⊎ ((cause ≡ Syntax) × (IsUtf8 bytes → parse_document bytes ≡ None)) ⊎ Says bytes (Err cause)
 
 -- A READING
 

@@ -1,4 +1,5 @@
-ghost use Rattle.std.specs.Prelude.{◌≡◌, ◌&&◌, true, IfSome, nat_le, option_and_then, option_map};
+ghost use Rattle.std.specs.Prelude.{◌≡◌, ◌&&◌, true, IfOk, IfSome, Ok, nat_le, option_and_then, option_map};
+ghost use Rattle.rx_note.specs.Kinds.{is_count, kind_checked};
 ghost use Rattle.rx_hub.specs.Hubs.{are_in_range};
 ghost use Rattle.toml.specs.View.{view, table_view};
 ghost use Rattle.rx_server.specs.Configurations.{Reads, ReadsSubject, behavior_in, count_at, kind_in, kind_named, limits_in, name_in, plain_in, replay_in, subject_in, subject_of, text_at};
@@ -56,7 +57,8 @@ fn limits_in(table: &Table) -> Option<Limits>
 
 // The kind of a table, with the keys of that kind alone.
 fn kind_in(heap: &Heap, table: &Table) -> Result<Kind, Fault>
-    ensures { Reads (kind_in (table_view table.now)) result }
+    ensures reads { Reads (kind_in (table_view table.now)) result }
+    ensures checked { IfOk result (λ kind. kind_checked kind ≡ Ok tt) }
 {
     match text_at(table, "kind") {
         None => Err(Fault::Refused),
@@ -66,7 +68,8 @@ fn kind_in(heap: &Heap, table: &Table) -> Result<Kind, Fault>
 
 // The kind of this name.
 fn kind_named(heap: &Heap, table: &Table, word: &str) -> Result<Kind, Fault>
-    ensures { Reads (kind_named (table_view table.now) word.now) result }
+    ensures reads { Reads (kind_named (table_view table.now) word.now) result }
+    ensures checked { IfOk result (λ kind. kind_checked kind ≡ Ok tt) }
 {
     if word == "publish" {
         plain_in(table, Kind::Publish)
@@ -83,7 +86,9 @@ fn kind_named(heap: &Heap, table: &Table, word: &str) -> Result<Kind, Fault>
 
 // A kind that has no key of its own.
 fn plain_in(table: &Table, kind: Kind) -> Result<Kind, Fault>
-    ensures { Reads (plain_in kind (table_view table.now)) result }
+    requires { kind_checked kind ≡ Ok tt }
+    ensures reads { Reads (plain_in kind (table_view table.now)) result }
+    ensures checked { IfOk result (λ kind. kind_checked kind ≡ Ok tt) }
 {
     if !has_only(table, &["name", "kind", "observers", "joins"]) {
         return Err(Fault::Refused);
@@ -93,7 +98,8 @@ fn plain_in(table: &Table, kind: Kind) -> Result<Kind, Fault>
 
 // A Behavior with its seed.
 fn behavior_in(heap: &Heap, table: &Table) -> Result<Kind, Fault>
-    ensures { Reads (behavior_in (table_view table.now)) result }
+    ensures reads { Reads (behavior_in (table_view table.now)) result }
+    ensures checked { IfOk result (λ kind. kind_checked kind ≡ Ok tt) }
 {
     if !has_only(table, &["name", "kind", "observers", "joins", "seed"]) {
         return Err(Fault::Refused);
@@ -106,7 +112,8 @@ fn behavior_in(heap: &Heap, table: &Table) -> Result<Kind, Fault>
 
 // A Replay with its bounds.
 fn replay_in(table: &Table) -> Result<Kind, Fault>
-    ensures { Reads (replay_in (table_view table.now)) result }
+    ensures reads { Reads (replay_in (table_view table.now)) result }
+    ensures checked { IfOk result (λ kind. kind_checked kind ≡ Ok tt) }
 {
     if !has_only(
         table,
@@ -128,7 +135,8 @@ const MAX_AGE: u64 = 9_223_372_036_854_775_807;
 
 // The count of a Replay, which may be missing.
 fn count_at(table: &Table) -> Option<Option<u16>>
-    ensures { result ≡ count_at (table_view table.now) }
+    ensures count { result ≡ count_at (table_view table.now) }
+    ensures within { IfSome result (λ count. is_count count ≡ true) }
 {
     match value_at(table, "count") {
         None => Some(None),

@@ -1,4 +1,5 @@
-ghost use Rattle.std.specs.Prelude.{◌≡◌, ◌≤◌, IfSome, option_map};
+ghost use Rattle.std.specs.Prelude.{◌≡◌, ◌≤◌, IfSome, option_map, true};
+ghost use Rattle.rx_note.specs.Kinds.{is_age};
 ghost use Rattle.toml.specs.View.{view, table_view};
 ghost use Rattle.rx_server.specs.Configurations.{bound_at, natural_of, number_at, number_of};
 
@@ -22,7 +23,8 @@ pub(crate) fn number_at(table: &Table, key: &str, most: u32, missing: u32) -> Op
 
 /// The bound at a key, 1 to `most`, if one stands there. None: what stands there is no such number.
 pub(crate) fn bound_at(table: &Table, key: &str, most: u64) -> Option<Option<u64>>
-    ensures { result ≡ bound_at key.now most (table_view table.now) }
+    ensures bound { result ≡ bound_at key.now most (table_view table.now) }
+    ensures within { IfSome result (λ bound. is_age bound ≡ true) }
 {
     match value_at(table, key) {
         None => Some(None),
@@ -37,6 +39,7 @@ pub(crate) fn bound_at(table: &Table, key: &str, most: u64) -> Option<Option<u64
 pub(crate) fn number_of(value: &Value, most: u64) -> Option<u64>
     ensures number { result ≡ number_of most (view value.now) }
     ensures within { IfSome result (λ n. n ≤ most) }
+    ensures positive { IfSome result (λ n. 1 ≤ n) }
 {
     let Some(number) = value.as_integer() else {
         return None;

@@ -1,9 +1,6 @@
-ghost use Rattle.std.specs.Prelude.{◌≡◌, ◌≢◌, ◌⊎◌, None, Some, IfErr, IfOk, Err, Ok};
-ghost use Rattle.std.specs.Str.{IsUtf8};
-ghost use Rattle.toml.specs.Data.{Members};
-ghost use Rattle.toml.specs.Parse.{parse_document};
+ghost use Rattle.std.specs.Prelude.{◌≡◌, ◌≢◌, ◌⊎◌, IfErr, IfOk, MatchResult, Err, Ok};
 ghost use Rattle.toml.specs.View.{table_view};
-ghost use Rattle.rx_server.specs.Configurations.{settings_in, settings_of};
+ghost use Rattle.rx_server.specs.Configurations.{IsRefused, Says, settings_in, settings_of};
 
 use crate::config::Config;
 use crate::config_error::ConfigError;
@@ -23,10 +20,7 @@ use toml::Table;
 ///
 /// The first cause that holds, in the order of [`ConfigError`].
 pub fn read_config(alloc: Heap, runtime: Global, bytes: &[u8]) -> Result<Config, ConfigError>
-    ensures ok { IfOk result (λ config. (t : Members) × IsUtf8 bytes.now × (parse_document bytes.now ≡ Some t) × (settings_in t ≡ Ok (settings_of config))) }
-    ensures syntax { result ≡ Err ConfigError.Syntax → IsUtf8 bytes.now → parse_document bytes.now ≡ None }
-    ensures refused { IfErr result (λ cause. (cause ≡ ConfigError.Memory) ⊎ (cause ≡ ConfigError.Syntax)
-        ⊎ ((t : Members) × IsUtf8 bytes.now × (parse_document bytes.now ≡ Some t) × (settings_in t ≡ Err cause))) }
+    ensures { MatchResult result (λ config. Says bytes.now (Ok (settings_of config))) (IsRefused bytes.now) }
 {
     match toml::table_from_slice(runtime, bytes) {
         Ok(table) => config_in(alloc, &table),

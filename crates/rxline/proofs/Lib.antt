@@ -7,3 +7,4 @@ pub mod Subjects
 pub mod Tellings
 pub mod Turning
 pub mod Wanted
+pub mod Writes

@@ -1,7 +1,9 @@
--- The command line: the words that the program takes, and the task that they name.
-use Rattle.std.specs.Prelude.{◌≡◌, ℕ, List, Option, None, Some, codes, true}
+-- The command line: the words that the program takes, the task that they name, and what may be wrong with them.
+use Rattle.std.specs.Prelude.{◌≡◌, ◌⊎◌, ℕ, List, [], Option, None, Some, codes, true}
 use Rattle.clap.specs.Simple.{on_top}
-use Rattle.clap.specs.Words.{App, Row, Rule, Text, first_of, new_app, new_rule, with_rule, with_subcommand}
+use Rattle.clap.specs.Words.{App, IsAmong, Row, Rule, Text, fault_of, first_of, new_app, new_rule, subcommand_of, with_rule, with_subcommand}
+use Rattle.clap.specs.declared.error.kind.ErrorKind.{ErrorKind}
+use Rattle.clap.specs.declared.error.kind.ErrorKind.TheVariants.{DisplayHelp, DisplayVersion, InvalidSubcommand}
 use Rattle.rxline.specs.declared.task.Task.{Task}
 use Rattle.rxline.specs.declared.task.Task.TheVariants.{Script, Audit}
 
@@ -33,3 +35,21 @@ abbrev pub IsNamedBy : Option (Text × List Row) → Task → Type 0
 IsNamedBy named (Script None) = named ≡ None
 IsNamedBy named (Script (Some file)) = Named (codes "script") file.now named
 IsNamedBy named (Audit file) = Named (codes "audit") file.now named
+
+-- the words ask for a task: `clap` states no fault of them, and they name its command
+abbrev pub Asks : List Text → Task → Type 0
+Asks words task = (fault_of line_app words ≡ []) × IsNamedBy (subcommand_of line_app words) task
+
+-- the words name no task
+abbrev pub NamesNone : Option (Text × List Row) → Type 0
+NamesNone named = (task : Task) → ¬ IsNamedBy named task
+
+-- what may be said against words: what `clap` states of them, or where it states nothing that they name no task
+abbrev pub IsAgainst : List Text → ErrorKind → Type 0
+IsAgainst words kind =
+    IsAmong kind (fault_of line_app words)
+    ⊎ ((kind ≡ InvalidSubcommand) × (fault_of line_app words ≡ []) × NamesNone (subcommand_of line_app words))
+
+-- the words ask for a text and not for a task
+abbrev pub IsHelp : ErrorKind → Type 0
+IsHelp kind = (kind ≡ DisplayHelp) ⊎ (kind ≡ DisplayVersion)

@@ -6,7 +6,6 @@ ghost use Rattle.rx_proto.specs.Reading.{script_read};
 ghost use Rattle.rxline.specs.Scripts.{new_subjects};
 
 use crate::asked::{Asked, asked_by};
-use crate::config::Config;
 use crate::ledger::Ledger;
 use crate::ledger_list::{enter, ledgers_of};
 use crate::observed::Observed;
@@ -14,6 +13,7 @@ use crate::printing::{put_marked, put_observer};
 use rx_heap::{Heap, Memory};
 use rx_note::Note;
 use rx_proto::{LineError, Name, WriteFault, parse_script};
+use rx_server::Config;
 use rx_session::{LineState, Outbox, SessionEnd, Step};
 use std::io::{Read, Write};
 

@@ -1,5 +1,9 @@
+ghost use Rattle.std.specs.Prelude.{◌≡◌, ◌≤◌, ◌⊎◌, IfErr, IfOk, MatchResult, length, option_map};
+ghost use Rattle.rx_server.specs.Configurations.{settings_of};
+ghost use Rattle.rxline.specs.Programs.{Configures, LacksConfig};
+
 use crate::program_fault::ProgramFault;
-use rx_heap::Heap;
+use rx_heap::{Heap, Memory};
 use rx_server::{Config, read_config};
 use std::fs::File;
 use std::io::Read;
@@ -13,19 +17,33 @@ pub fn config_at<F: Files + AllocGlobal>(
     rt: &F,
     heap: &Heap,
     path: Option<&str>,
-) -> Result<Config, ProgramFault> {
+) -> Result<Config, ProgramFault>
+    ensures { MatchResult result (λ config. Configures (option_map (λ s. s.now) path.entry) (settings_of config)) (LacksConfig (option_map (λ s. s.now) path.entry)) }
+{
     let Ok(alloc) = heap.clone() else {
         return Err(ProgramFault::Memory);
     };
     let Some(path) = path else {
-        return Config::standard(alloc).map_err(|_| ProgramFault::Memory);
+        return match Config::standard(alloc) {
+            Ok(config) => Ok(config),
+            Err(Memory) => Err(ProgramFault::Memory),
+        };
     };
-    let bytes = read_file(rt, heap, path)?;
-    read_config(alloc, rt.alloc(), bytes.as_slice()).map_err(ProgramFault::Config)
+    let bytes = match read_file(rt, heap, path) {
+        Ok(bytes) => bytes,
+        Err(fault) => return Err(fault),
+    };
+    match read_config(alloc, rt.alloc(), bytes.as_slice()) {
+        Ok(config) => Ok(config),
+        Err(cause) => Err(ProgramFault::Config(cause)),
+    }
 }
 
 // The bytes of the file of this path.
-fn read_file<F: Files>(rt: &F, heap: &Heap, path: &str) -> Result<Vec<u8, Heap>, ProgramFault> {
+fn read_file<F: Files>(rt: &F, heap: &Heap, path: &str) -> Result<Vec<u8, Heap>, ProgramFault>
+    ensures within { IfOk result (λ bytes. length bytes.items ≤ 65536) }
+    ensures fault { IfErr result (λ fault. (fault ≡ ProgramFault.NoConfig) ⊎ (fault ≡ ProgramFault.Memory)) }
+{
     let Ok(alloc) = heap.clone() else {
         return Err(ProgramFault::Memory);
     };

@@ -1,9 +1,9 @@
 ghost use Rattle.std.specs.Prelude.{◌≡◌, IfOk};
 
 use crate::observed::Observed;
-use crate::subject_config::SubjectConfig;
 use rx_heap::{Heap, Memory};
 use rx_history::{History, LineError};
+use rx_server::SubjectConfig;
 
 /// A subject of an audit, and its stored history.
 #[derive(Drop)]

@@ -5,10 +5,10 @@ ghost use Rattle.rxline.specs.Scripts.{new_subjects};
 ghost use Rattle.rxline.specs.Transcripts.{all_taking};
 
 use crate::ledger::Ledger;
-use crate::subject_config::SubjectConfig;
 use rx_heap::{Heap, Memory};
 use rx_note::Event;
 use rx_proto::Name;
+use rx_server::SubjectConfig;
 
 /// The ledgers of these subjects, in their order.
 pub fn ledgers_of(

@@ -7,7 +7,6 @@
 mod asked;
 mod asking;
 pub mod audit;
-pub mod config;
 mod config_file;
 mod ledger;
 mod ledger_list;
@@ -17,20 +16,21 @@ pub mod program;
 pub mod program_fault;
 mod responding;
 pub mod script;
-pub mod subject_config;
 pub mod task;
+pub mod telling;
 #[cfg(test)]
 mod tests;
 mod told;
 mod topic;
 pub mod words;
 
-use program::{run_words, tell};
+use program::run_words;
 use program_fault::ProgramFault;
 use std::alloc::AllocError;
 use std::env;
 use std::io::{self, Write};
 use std::process::ExitCode;
+use telling::tell;
 
 fn main(rt: HostRuntime) -> ExitCode {
     let mut faults = rt.stderr();
@@ -66,6 +66,6 @@ fn words_of<'a>(rt: &HostRuntime, args: &'a Vec<String>) -> Result<Vec<&'a str>,
 }
 
 fn no_memory<E: Write>(faults: &mut E) -> ExitCode {
-    tell(ProgramFault::Memory, faults);
+    let _ = tell(ProgramFault::Memory, faults);
     ExitCode::FAILURE
 }

@@ -1,10 +1,13 @@
-ghost use Rattle.std.specs.Prelude.{◌≤◌};
+ghost use Rattle.std.specs.Prelude.{◌≡◌, ◌⊎◌, map};
+ghost use Rattle.clap.specs.Words.{kind_of};
+ghost use Rattle.rxline.specs.Programs.{Answers, Does, EndsWith, Program, ShowsHelp, done_of};
 
 use crate::audit::run_audit;
 use crate::config_file::config_at;
 use crate::program_fault::ProgramFault;
 use crate::script::run_script;
 use crate::task::Task;
+use crate::telling::tell;
 use crate::words::read_words;
 use clap::Error;
 use clap::error::ErrorKind;
@@ -34,40 +37,51 @@ pub fn run_words<'a, F: Files + AllocGlobal, R: Read, W: Write, E: Write>(
     writer: &mut W,
     faults: &mut E,
 ) -> u8
-    ensures { result ≤ 2 }
+    ensures { Program (map (λ s. s.now) words.entry.now) result (record { left = R.remaining reader.old; written = W.contents writer.old }) (record { left = R.remaining reader.new; written = W.contents writer.new }) (E.contents faults.old) (E.contents faults.new) }
 {
-    let done = match read_words(rt.alloc(), words) {
-        Ok(task) => run_task(rt, task, reader, writer),
-        Err(error) if is_wrong(&error) => {
-            let _ = write!(faults, "{error}");
-            return WRONG_WORDS;
+    match read_words(rt.alloc(), words) {
+        Ok(task) => {
+            let done = run_task(rt, task, reader, writer);
+            status_of(done, faults)
         }
-        Err(error) => show_help(&error, writer),
-    };
+        Err(error) => answer(&error, writer, faults),
+    }
+}
+
+// The status of what was done, whose fault is told.
+fn status_of<E: Write>(done: Result<(), ProgramFault>, faults: &mut E) -> u8
+    ensures { EndsWith done result (E.contents faults.old) (E.contents faults.new) }
+{
     match done {
         Ok(()) => FINISHED,
         Err(fault) => {
-            tell(fault, faults);
+            let _ = tell(fault, faults);
             FAULT
         }
     }
 }
 
-/// Tells a fault in one line.
-pub fn tell<E: Write>(fault: ProgramFault, faults: &mut E) {
-    let _ = writeln!(faults, "rxline: {fault}");
-}
-
-// Whether this is said of words that are no command line.
-fn is_wrong(error: &Error) -> bool {
-    error.use_stderr() && error.kind() != ErrorKind::OutOfMemory
-}
-
-// Shows the help that was asked for, unless there was no memory for the words.
-fn show_help<W: Write>(error: &Error, writer: &mut W) -> Result<(), ProgramFault> {
-    if error.kind() == ErrorKind::OutOfMemory {
-        return Err(ProgramFault::Memory);
+// Shows help that was asked for, or tells what is wrong with the words.
+fn answer<W: Write, E: Write>(error: &Error, writer: &mut W, faults: &mut E) -> u8
+    ensures { Answers (kind_of error.now) result (W.contents writer.old) (W.contents writer.new) (E.contents faults.old) (E.contents faults.new) }
+{
+    match error.kind() {
+        ErrorKind::DisplayHelp | ErrorKind::DisplayVersion => {
+            let done = show_help(error, writer);
+            status_of(done, faults)
+        }
+        ErrorKind::OutOfMemory => status_of(Err(ProgramFault::Memory), faults),
+        _ => {
+            let _ = write!(faults, "{error}");
+            WRONG_WORDS
+        }
     }
+}
+
+// Shows the help that was asked for.
+fn show_help<W: Write>(error: &Error, writer: &mut W) -> Result<(), ProgramFault>
+    ensures { ShowsHelp result }
+{
     if write!(writer, "{error}").is_err() || writer.flush().is_err() {
         return Err(ProgramFault::Write);
     }
@@ -80,23 +94,27 @@ fn run_task<F: Files + AllocGlobal, R: Read, W: Write>(
     task: Task<'_>,
     reader: &mut R,
     writer: &mut W,
-) -> Result<(), ProgramFault> {
+) -> Result<(), ProgramFault>
+    ensures { Does task.entry result (record { left = R.remaining reader.old; written = W.contents writer.old }) (record { left = R.remaining reader.new; written = W.contents writer.new }) }
+{
     let heap = Heap::unlimited(rt.alloc());
     match task {
-        Task::Script(path) => {
-            let config = config_at(rt, &heap, path)?;
-            ended(run_script(heap, config, reader, writer, MAX_READS))
-        }
-        Task::Audit(path) => {
-            let config = config_at(rt, &heap, Some(path))?;
-            ended(run_audit(heap, config, reader, writer, MAX_READS))
-        }
+        Task::Script(path) => match config_at(rt, &heap, path) {
+            Ok(config) => done_of(run_script(heap, config, reader, writer, MAX_READS)),
+            Err(fault) => Err(fault),
+        },
+        Task::Audit(path) => match config_at(rt, &heap, Some(path)) {
+            Ok(config) => done_of(run_audit(heap, config, reader, writer, MAX_READS)),
+            Err(fault) => Err(fault),
+        },
     }
 }
 
-// Whether a run was finished, or its fault.
-fn ended(end: Result<SessionEnd, Memory>) -> Result<(), ProgramFault> {
-    match end {
+// How the program ends after a run that ended so.
+fn done_of(ended: Result<SessionEnd, Memory>) -> Result<(), ProgramFault>
+    ensures { result ≡ done_of ended }
+{
+    match ended {
         Ok(SessionEnd::Quit | SessionEnd::EndOfInput | SessionEnd::HandedOver) => Ok(()),
         Ok(SessionEnd::ReadFault) => Err(ProgramFault::Read),
         Ok(SessionEnd::WriteFault) => Err(ProgramFault::Write),

@@ -11,7 +11,6 @@ ghost use Rattle.rxline.specs.Scripts.{Runs, TakesEvent, new_subjects};
 ghost use Rattle.rxline.specs.Transcripts.{asks, given_lines, response_to};
 
 use crate::asking::{event_in, name_in};
-use crate::config::Config;
 use crate::printing::put_given;
 use crate::responding::response_to;
 use crate::told::Told;
@@ -19,6 +18,7 @@ use crate::topic::{Topic, place_of, topics_of};
 use rx_heap::{Heap, Memory};
 use rx_note::{Answer, Event, Given, Refusal};
 use rx_proto::{BadLine, Line, Name, Response, Word, WriteFault, read_script};
+use rx_server::Config;
 use rx_session::{LineState, Outbox, SessionEnd, Step};
 use std::io::{Read, Write};
 

@@ -2,10 +2,10 @@ ghost use Rattle.std.specs.Prelude.{◌≡◌, IfOk, position};
 ghost use Rattle.rx_proto.specs.Reading.{same_word};
 ghost use Rattle.rxline.specs.Scripts.{Stands, AllStand, new_subject, new_subjects};
 
-use crate::subject_config::SubjectConfig;
 use rx_heap::{Heap, Memory};
 use rx_hub::{Hub, HubError};
 use rx_proto::Name;
+use rx_server::SubjectConfig;
 
 /// A subject of a script: its name, its hub, and the memory of the hub and of the texts that it is handed.
 #[derive(Drop)]

@@ -1,7 +1,8 @@
-ghost use Rattle.std.specs.Prelude.{◌≡◌, IfOk, Some, codes, false, map, option_map};
-ghost use Rattle.clap.specs.Words.{app_of, first_of, rows_of, rule_of, subcommand_of, found_of, with_rule, with_subcommand};
+ghost use Rattle.std.specs.Prelude.{◌≡◌, ◌⊎◌, IfOk, MatchOption, MatchResult, Some, codes, false, map, option_map};
+ghost use Rattle.clap.specs.Words.{app_of, first_of, found_of, kind_of, rows_of, rule_of, subcommand_rows_of, with_rule, with_subcommand};
 ghost use Rattle.clap.specs.declared.Command.{out-Command};
-ghost use Rattle.rxline.specs.CommandLines.{IsNamedBy, audit_app, line_app, path, script_app, top_app};
+ghost use Rattle.clap.specs.declared.error.kind.ErrorKind.TheVariants.{OutOfMemory};
+ghost use Rattle.rxline.specs.CommandLines.{Asks, IsAgainst, IsNamedBy, NamesNone, audit_app, line_app, path, script_app, top_app};
 
 use crate::task::Task;
 use clap::error::ErrorKind;
@@ -39,29 +40,37 @@ The exit status is 0 after a finished run, 1 after a fault, and 2 after a wrong 
 ///
 /// What `clap` says of words that are no command line, or of help that was asked for.
 pub fn read_words<'a>(alloc: Global, words: &'a [&'a str]) -> Result<Task<'a>, Error>
-    ensures { IfOk result (IsNamedBy (subcommand_of line_app (map (λ s. s.now) words.entry.now))) }
+    ensures { MatchResult result (Asks (map (λ s. s.now) words.entry.now)) (λ e. (kind_of e ≡ OutOfMemory) ⊎ IsAgainst (map (λ s. s.now) words.entry.now) (kind_of e)) }
 {
     let matches = line(alloc)?.try_get_matches_from(words)?;
+    match task_of(&matches) {
+        Some(task) => Ok(task),
+        None => Err(unknown(alloc)?),
+    }
+}
+
+// The task that the words name, as they were read.
+fn task_of<'a>(matches: &ArgMatches<'a>) -> Option<Task<'a>>
+    ensures { MatchOption result (NamesNone (subcommand_rows_of matches.now)) (IsNamedBy (subcommand_rows_of matches.now)) }
+{
     match matches.subcommand() {
-        None => Ok(Task::Script(None)),
-        Some((name, found)) => named(alloc, name, found),
+        None => Some(Task::Script(None)),
+        Some((name, found)) => named(name, found),
     }
 }
 
 // The task of a command with its path.
-fn named<'a>(alloc: Global, name: &'a str, found: &ArgMatches<'a>) -> Result<Task<'a>, Error>
-    ensures { IfOk result (IsNamedBy (Some (name.now, rows_of (found_of found.now)))) }
+fn named<'a>(name: &'a str, found: &ArgMatches<'a>) -> Option<Task<'a>>
+    ensures { MatchOption result (NamesNone (Some (name.now, rows_of (found_of found.now)))) (IsNamedBy (Some (name.now, rows_of (found_of found.now)))) }
 {
-    let Some(path) = path_in(found) else {
-        return Err(unknown(alloc)?);
-    };
+    let path = path_in(found)?;
     if name == "script" {
-        return Ok(Task::Script(Some(path)));
+        return Some(Task::Script(Some(path)));
     }
     if name == "audit" {
-        return Ok(Task::Audit(path));
+        return Some(Task::Audit(path));
     }
-    Err(unknown(alloc)?)
+    None
 }
 
 // The path that a command was given.
@@ -72,7 +81,9 @@ fn path_in<'a>(found: &ArgMatches<'a>) -> Option<&'a str>
 }
 
 // What is said of a command that is none of these.
-fn unknown(alloc: Global) -> Result<Error, AllocError> {
+fn unknown(alloc: Global) -> Result<Error, AllocError>
+    ensures { IfOk result (λ e. kind_of e ≡ ErrorKind.InvalidSubcommand) }
+{
     line(alloc)?.error(ErrorKind::InvalidSubcommand, "no such command")
 }
 

@@ -1,9 +1,8 @@
 use crate::audit::run_audit;
-use crate::config::Config;
-use crate::subject_config::SubjectConfig;
 use crate::tests::unlimited;
 use rx_note::{Kind, Limits, Rules};
 use rx_proto::Name;
+use rx_server::{Config, SubjectConfig};
 use rx_session::SessionEnd;
 use std::io::{self, ErrorKind, Read, Write};
 use std::test::Fail;

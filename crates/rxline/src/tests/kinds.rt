@@ -4,11 +4,11 @@
 ghost use Rattle.std.specs.Prelude.{◌≡◌, true};
 ghost use Rattle.rx_hub.specs.Hubs.{are_in_range};
 
-use crate::config::Config;
 use crate::script::run_script;
 use crate::tests::unlimited;
 use rx_heap::Heap;
 use rx_note::{Kind, Limits, Rules, Text};
+use rx_server::Config;
 use rx_session::SessionEnd;
 use std::test::Fail;
 
@@ -63,6 +63,9 @@ fn limits_of(room: Room) -> Limits
 pub(super) fn config_of(heap: &Heap, run: &Run) -> Result<Config, Fail> {
     let mut config = Config::standard(heap.clone()?)?;
     let kind = kind_of(heap, run.kind)?;
+    if kind.check().is_err() {
+        return Err("a kind out of its limits".into());
+    }
     let limits = limits_of(run.room);
     let subject = config.subjects.first_mut().ok_or("no subject")?;
     subject.rules = Rules { kind, limits };

@@ -2,6 +2,7 @@
 
 use crate::program::run_words;
 use crate::tests::audits::Fails;
+use std::fs::{self, File};
 use std::io::{Read, Write};
 use std::test::Fail;
 
@@ -37,6 +38,64 @@ fn statuses(rt: HostRuntime) -> Result<(), Fail> {
         let told = told_of(&rt, words, &mut reader)?;
         assert_eq!(rt; told.as_slice(), wanted.as_bytes());
     }
+    Ok(())
+}
+
+// What is told of a command over a file with these bytes, which is removed again.
+fn told_over(rt: &HostRuntime, command: &str, config: &[u8]) -> Result<Vec<u8>, Fail> {
+    let path = "rxline-test.toml";
+    File::create(rt, path)?.write_all(config)?;
+    let mut reader = SCRIPT;
+    let told = told_of(rt, &[command, path], &mut reader)?;
+    fs::remove_file(rt, path)?;
+    Ok(told)
+}
+
+#[test]
+fn configurations_of_files(rt: HostRuntime) -> Result<(), Fail> {
+    for (command, config, wanted) in [
+        (
+            "script",
+            "[[subject]]\nname = \"s\"\nkind = \"replay\"\ncount = 0\n",
+            "1 |rxline: config: subject 0 is refused\n",
+        ),
+        ("audit", "", "1 |rxline: config: no subject\n"),
+        (
+            "script",
+            "[[subject]]\nname = \"s\"\nkind = \"behavior\"\nseed = \"z\"\n",
+            "0 OK 0\ns 0 NEXT z\nOK\nOK\n|",
+        ),
+        (
+            "audit",
+            "[[subject]]\nname = \"s\"\nkind = \"behavior\"\nseed = \"z\"\n",
+            "0 OBSERVER s 0\nGIVEN NEXT z\nWAITING NEXT a\nWAITING NEXT b\n|",
+        ),
+    ] {
+        let told = told_over(&rt, command, config.as_bytes())?;
+        assert_eq!(rt; told.as_slice(), wanted.as_bytes());
+    }
+    Ok(())
+}
+
+// What is told of a script over a file of so many bytes.
+fn told_over_bytes(rt: &HostRuntime, len: usize) -> Result<Vec<u8>, Fail> {
+    let mut config = Vec::new(rt.alloc());
+    config.extend_from_slice(b"[[subject]]\nname = \"s\"\nkind = \"async\"\n#")?;
+    for _ in config.len()..len {
+        config.push(b'.')?;
+    }
+    told_over(rt, "script", config.as_slice())
+}
+
+#[test]
+fn most_bytes_of_a_configuration(rt: HostRuntime) -> Result<(), Fail> {
+    let most = told_over_bytes(&rt, 65_536)?;
+    assert_eq!(rt; most.as_slice(), b"0 OK 0\nOK\nOK\n|".as_slice());
+    let more = told_over_bytes(&rt, 65_537)?;
+    assert_eq!(rt;
+        more.as_slice(),
+        b"1 |rxline: cannot read config\n".as_slice()
+    );
     Ok(())
 }
 

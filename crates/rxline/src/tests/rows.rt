@@ -1,8 +1,8 @@
 //! The worked runs: each a script for the standard configuration and what is written for it.
 
-use crate::config::Config;
 use crate::script::run_script;
 use crate::tests::unlimited;
+use rx_server::Config;
 use rx_session::SessionEnd;
 use std::io::{self, ErrorKind, Read, Write};
 use std::test::Fail;

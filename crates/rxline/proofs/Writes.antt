@@ -1,0 +1,18 @@
+-- Writing one thing behind another.
+use Rattle.std.proofs.Common.{ℕ, List, ◌++◌, Option, Result, Ok, Err}
+use Rattle.std.proofs.KnownBytes.{Appends-trans}
+use Rattle.std.proofs.lemmas.Result.{MatchResult-from_err}
+use Rattle.std.specs.Io.KnownBytes.{Appends}
+use Rattle.std.specs.Result.{IsErr}
+use Rattle.rx_proto.specs.Bytes.{AppendsPrefix, Writes}
+use Rattle.rx_session.proofs.Written.{Prefix-behind, Prefix-more}
+
+-- a call that writes behind another
+pub Writes-then : {T E : Type 0} (result : Result T E) (old mid new : Option (List ℕ)) (xs ys : List ℕ) → Appends old mid xs → Writes result mid new ys → Writes result old new (xs ++ ys)
+Writes-then (Ok x) old mid new xs ys first then = Appends-trans old mid new xs ys first then
+Writes-then (Err e) old mid new xs ys first then = Prefix-behind old mid new xs ys first then
+
+-- a call that ended by the fault of its first write
+pub Writes-fault : {T E : Type 0} (result : Result T E) (old new : Option (List ℕ)) (xs ys : List ℕ) → IsErr result → AppendsPrefix old new xs → Writes result old new (xs ++ ys)
+Writes-fault result old new xs ys fault front =
+    MatchResult-from_err result (λ _. Appends old new (xs ++ ys)) (λ _. AppendsPrefix old new (xs ++ ys)) fault (λ _. Prefix-more old new xs ys front)

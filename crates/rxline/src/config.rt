@@ -1,1 +1,0 @@
-pub use rx_server::Config;
