@@ -40,3 +40,5 @@ mod sessions;
 mod signs;
 #[cfg(test)]
 mod subjects;
+#[cfg(test)]
+mod tapes;

@@ -1,0 +1,38 @@
+use Rattle.std.proofs.Common.{◌≡◌, ◌+◌, ◌-◌, length, refl, sym, subst, ap, ◌∙◌, arith}
+use Rattle.std.proofs.lemmas.List.{length-drop}
+use Rattle.rx_tape.specs.Tapes.{TapeState, end_of, lowest, trimmed}
+use Rattle.rx_tape.proofs.Lows.{lowest-le, le-lowest, held_back, all_kept}
+use Rattle.rx_tape.proofs.tape.Tape.trim.Goals as goal
+use Rattle.rx_tape.proofs.tape.Tape.trim.Goals.{then-len-keep-via-then-len-keep, then-len-keep-via-else-len-keep+then-stands_at}
+
+pub returns-then-len-keep : goal.returns-then-len-keep
+returns-then-len-keep c =
+    let t = c.self.inside in
+    let v : TapeState = record { front = t.front; items = t.items.items; places = t.places } in
+    subst (λ (tape : TapeState). tape ≡ trimmed tape c.args.keep) c.self.view_is
+    (elim c.then-len-keep.branch [
+      | then-len-keep-via-then-len-keep w ↦ all_kept v c.args.keep (omega (arith, w.if-len-keep.true, c.len.ensures))
+      | then-len-keep-via-else-len-keep+then-stands_at w ↦ held_back v c.args.keep t.slowest (w.if-stands_at.ensures.0 refl)
+    ])
+
+pub overflow_sub-low : goal.overflow_sub-low
+overflow_sub-low c =
+    let t = c.self.inside in
+    let end_is = c.end.ensures ∙ ap end_of (sym c.self.view_is) in
+    let low = le-lowest t.front t.places (t.front + length t.items.items) (omega arith) (λ cursor place is. (c.self.invariant.1 cursor place is).0) in
+    let same = c.lowest-low.ensures ∙ ap (lowest t.places) end_is in
+    omega (arith, low, same)
+
+pub invariant_of-self : goal.invariant_of-self
+invariant_of-self c =
+    let t = c.self.inside in
+    let end_is = c.end.ensures ∙ ap end_of (sym c.self.view_is) in
+    let low = le-lowest t.front t.places (t.front + length t.items.items) (omega arith) (λ cursor place is. (c.self.invariant.1 cursor place is).0) in
+    let same = c.lowest-low.ensures ∙ ap (lowest t.places) end_is in
+    let left : length c.drop_front.new.items.items ≡ length t.items.items - c.min-gone.result = ap length c.drop_front.ensures ∙ length-drop c.min-gone.result t.items.items in (
+      omega (arith, left, c.self.invariant.0),
+      λ cursor place is.
+          let on = c.self.invariant.1 cursor place is in
+          let lowest_is = lowest-le t.places (t.front + length t.items.items) cursor place is in
+          (omega (arith, low, same, lowest_is, c.min-gone.ensures), omega (arith, left, on, c.min-gone.ensures)),
+    )
