@@ -1,2 +1,4 @@
+pub mod Followed
 pub mod Moving
+pub mod Shared
 pub mod Steps

@@ -5,6 +5,7 @@ ghost use Rattle.rx_lane.specs.Lanes.{StandsFor, HasRoomFor, KeepsRoom, Gives, G
 ghost use Rattle.rx_lane.specs.Queues.{items_of, strategy_of, spare_of};
 
 use crate::ask_error::AskError;
+use crate::last::give_last;
 use crate::queue::Queue;
 use rx_heap::{Heap, Memory};
 use rx_note::{Errors, Item, Note, Policy};
@@ -208,16 +209,5 @@ fn move_items(count: usize, queue: &mut Queue, outs: &mut Vec<Note, Heap>)
             unreachable!()
         };
         outs.push_reserved(Note::Next(item));
-    }
-}
-
-// Moves the terminal that waits, if there is one, into `outs`.
-fn give_last(last: &mut Option<Note>, outs: &mut Vec<Note, Heap>)
-    requires { vec_len outs.old + length (option_to_list last.old) ≤ vec_capacity outs.old }
-    ensures moved { outs.new.items ≡ outs.old.items ++ option_to_list last.old }
-    ensures left { last.new ≡ None }
-{
-    if let Some(note) = last.take() {
-        outs.push_reserved(note);
     }
 }

@@ -8,7 +8,11 @@
 
 mod ask_error;
 mod lane;
+mod last;
 mod queue;
+mod tape_lane;
+mod waiting;
 
 pub use ask_error::AskError;
 pub use lane::Lane;
+pub use tape_lane::TapeLane;

@@ -1,0 +1,99 @@
+-- The queue of an observer whose items stand on a tape that several observers share: what contracts see of it, and the
+-- queue that it is over the items of that tape.
+use Rattle.std.specs.Prelude.{◌≡◌, ℕ, ◌-◌, ◌<◌, ◌≤◌, ◌++◌, Bool, List, [], ◌∷◌, length, drop, map, Option, None, Some, nat_lt, option_to_list, if◌then◌else◌}
+use Rattle.rx_note.specs.declared.item.Item.{Item}
+use Rattle.rx_note.specs.declared.note.Note.{Note}
+use Rattle.rx_note.specs.declared.note.Note.TheVariants.{Next}
+use Rattle.rx_note.specs.declared.strategy.Strategy.{Strategy}
+use Rattle.rx_note.specs.declared.strategy.Strategy.TheVariants.{Buffer, Drop, Latest}
+use Rattle.rx_note.specs.Choices.{Choice}
+use Rattle.rx_note.specs.Signals.{Requested, Offered, Signals, Start, ◌▸◌, given}
+use Rattle.rx_tape.specs.Tapes.{TapeState, end_of, place_of}
+use Rattle.rx_lane.specs.Lanes.{LaneState, StandsFor, Gives, GoesOn}
+
+-- WHAT WAITS
+
+-- the last of several items
+abbrev pub last_items : List Item → ℕ → List Item
+last_items items count = drop (length items - count) items
+
+-- what waits: an item of its own in front, and so many of the last items of the tape
+abbrev pub waits : Option Item → List Item → ℕ → List Item
+waits lead items back = option_to_list lead ++ last_items items back
+
+-- the cursor stands so many items before the end
+pub record StandsBack (tape : TapeState) (cursor back : ℕ) : Type 0 where
+  pub within : back ≤ length tape.items
+  pub place : place_of tape.places cursor ≡ Some (end_of tape - back)
+
+-- the same, where items of the tape wait
+abbrev pub StandsWhereSome : TapeState → ℕ → ℕ → Type 0
+StandsWhereSome tape cursor back = 0 < back → StandsBack tape cursor back
+
+-- THE LANE
+
+-- a lane on a tape, by its cursor
+pub record TapeLaneState : Type 0 where
+  pub policy : Choice
+  pub cursor : ℕ
+  pub lead : Option Item
+  pub back : ℕ
+  pub last : List Note
+  pub ended : Bool
+  pub owing : ℕ
+
+-- the queue that it is, over the items of the tape
+abbrev pub lane_on : List Item → TapeLaneState → LaneState
+lane_on items lane = record {
+  policy = lane.policy;
+  items = waits lane.lead items lane.back;
+  last = lane.last;
+  ended = lane.ended;
+  owing = lane.owing;
+}
+
+-- the strategies whose items may stand on a tape: those under which what waits are the last items
+abbrev pub IsShared : Strategy → Type 0
+IsShared Buffer = Unit {0}
+IsShared (Drop room) = ⊥
+IsShared (Latest room) = 0 < room
+
+-- what a strategy leaves of the items that wait
+abbrev pub within_room : Strategy → List Item → List Item
+within_room Buffer items = items
+within_room (Drop room) items = items
+within_room (Latest room) items = last_items items room
+
+-- the copy of an item that is handed over with it: it is needed where the item is owed
+abbrev pub copy_for : ℕ → Item → Option Item
+copy_for owing item = if nat_lt 0 owing then Some item else None
+
+-- WHAT A CALL DOES
+
+-- the tape has the items and the cursors that it had
+pub record HoldsSame (old new : TapeState) : Type 0 where
+  pub front : new.front ≡ old.front
+  pub items : new.items ≡ old.items
+  pub places : (cursor : ℕ) → place_of new.places cursor ≡ place_of old.places cursor
+
+-- several items offered
+abbrev pub offered_all : Signals → List Item → Signals
+offered_all s [] = s
+offered_all s (item ∷ items) = offered_all (s ▸ Offered item) items
+
+-- a lane that joins with this policy and request and is then offered these items: what it gives, put at the end of a list
+pub record Begins (lane : LaneState) (policy : Choice) (first : ℕ) (items : List Item) (notes : List Note) : Type 0 where
+  pub gives : given (offered_all (Start policy ▸ Requested first) items) ≡ notes
+  pub stands : StandsFor lane (offered_all (Start policy ▸ Requested first) items)
+
+-- the same, where the notes were put at the end of a list
+abbrev pub BeginsInto : LaneState → Choice → ℕ → List Item → List Note → List Note → Type 0
+BeginsInto lane policy first items before after =
+    (notes : List Note) × (after ≡ before ++ notes) × Begins lane policy first items notes
+
+-- the last item of the tape was offered
+pub record Offers (tape tape_new : TapeState) (old new : TapeLaneState) (copy came : Option Item) : Type 0 where
+  pub gives : (items : List Item) (item : Item) → tape.items ≡ items ++ item ∷ [] → copy ≡ copy_for old.owing item
+      → Gives (lane_on items old) (Offered item) (map Next (option_to_list came))
+  pub stands : (items : List Item) (item : Item) → tape.items ≡ items ++ item ∷ [] → copy ≡ copy_for old.owing item
+      → GoesOn (lane_on items old) (lane_on tape_new.items new) (Offered item)

@@ -1,0 +1,252 @@
+ghost use Rattle.std.specs.Prelude.{◌≡◌, ◌≤◌, ◌<◌, ◌+◌, ◌^◌, ◌↔◌, [], ◌++◌, ◌∷◌, List, ◌⊎◌, Ok, Err, None, Some, map, take, length, min, option_to_list, vec_len, OnOk, OnErr, IfOk};
+ghost use Rattle.rx_note.specs.declared.item.Item.{Item};
+ghost use Rattle.rx_note.specs.declared.note.Note.TheVariants.{Next};
+ghost use Rattle.rx_note.specs.Signals.{Signals, Requested, Offered, Ended, owed};
+ghost use Rattle.rx_tape.specs.Tapes.{place_of, Spares, MovesOn};
+ghost use Rattle.rx_lane.specs.Lanes.{StandsFor, Gives, GoesOn, GivesInto, is_over};
+ghost use Rattle.rx_lane.specs.TapeLanes.{waits, lane_on, StandsBack, StandsWhereSome, IsShared, HoldsSame, BeginsInto, Offers};
+
+use crate::ask_error::AskError;
+use crate::last::give_last;
+use crate::waiting::Waiting;
+use rx_heap::{Heap, Memory};
+use rx_note::{Item, Note, Policy};
+use rx_tape::Tape;
+use std::marker::Model;
+
+/// The queue of one observer whose items stand on a tape that it shares with others. Contracts see its cursor and how many
+/// of the tape's last items wait, and tell by the observer's signals what it gives: over the items of its tape it is the
+/// queue that a [`Lane`](crate::Lane) is.
+///
+/// Its strategy is `Buffer` or `Latest`. What waits under `Drop` is no end of the tape, so it takes a lane of its own. That
+/// items are shared is this project's own; demand and strategies are those of `Lane`.
+#[derive(Drop)]
+pub struct TapeLane {
+    policy: Policy,
+    waiting: Waiting,
+    last: Option<Note>,
+    ended: bool,
+    owed: u32,
+}
+
+impl Model for TapeLane {
+    ghost use Rattle.std.specs.Prelude.{option_to_list};
+    ghost use Rattle.rx_lane.specs.TapeLanes.{TapeLaneState, IsShared};
+
+    ghost Value = { TapeLaneState };
+
+    ghost view = { λ l. record {
+      policy = l.policy;
+      cursor = l.waiting.cursor;
+      lead = l.waiting.lead;
+      back = l.waiting.back;
+      last = option_to_list l.last;
+      ended = l.ended;
+      owing = l.owed;
+    } };
+
+    ghost invariant = { λ l. IsShared l.policy.strategy };
+}
+
+impl TapeLane {
+    /// The lane of an observer that joins with this policy and a request of `first` items, 0 allowed, and is then offered
+    /// `lead`, if there is one, and the last `back` items of the tape. What it gives at once is put at the end of `outs`.
+    /// `Memory` leaves the tape and `outs`.
+    pub fn new(
+        policy: Policy,
+        first: u32,
+        lead: Option<Item>,
+        back: usize,
+        tape: &mut Tape,
+        outs: &mut Vec<Note, Heap>,
+    ) -> Result<TapeLane, Memory>
+        requires shared { IsShared policy.strategy }
+        requires there { back ≤ length tape.old.items }
+        ensures err { OnErr result (HoldsSame tape.old tape.new × (outs.new.items ≡ outs.old.items)) }
+        ensures begins { IfOk result (λ lane. BeginsInto (lane_on tape.new.items lane) policy first (waits lead tape.old.items back) outs.old.items outs.new.items) }
+        ensures policy { IfOk result (λ lane. lane.policy ≡ policy) }
+        ensures stands_back { IfOk result (λ lane. StandsBack tape.new lane.cursor lane.back) }
+        ensures fresh { IfOk result (λ lane. place_of tape.old.places lane.cursor ≡ None) }
+        ensures spares { IfOk result (λ lane. Spares tape.old tape.new lane.cursor) }
+        ensures count { length outs.new.items ≤ length outs.old.items + length (option_to_list lead) + back }
+    {
+        let _within = tape.len();
+        let cursor = tape.cursor(back)?;
+        let mut waiting = Waiting { cursor, lead, back };
+        let given = waiting.len().min(first as usize);
+        let before = outs.len();
+        let Ok(()) = copy_into(&waiting, given, tape, outs) else {
+            outs.truncate(before);
+            tape.release(cursor);
+            return Err(Memory);
+        };
+        waiting.skip(given, tape);
+        waiting.make_room(policy.strategy(), tape);
+        Ok(TapeLane {
+            policy,
+            waiting,
+            last: None,
+            ended: false,
+            owed: first - given as u32,
+        })
+    }
+
+    /// How many more items may be given before the observer requests more.
+    pub fn owed(&self) -> u32
+        ensures state { result ≡ self.now.owing }
+        ensures owed { (items : List Item) (s : Signals) → StandsFor (lane_on items self.now) s → result ≡ owed s }
+    {
+        self.owed
+    }
+
+    /// How many items wait; under `Latest` no more than the room.
+    pub fn waiting_len(&self) -> usize
+        ensures { result ≡ length (option_to_list self.now.lead) + self.now.back }
+    {
+        self.waiting.len()
+    }
+
+    /// How many notes wait: the items, and the terminal where one waits behind them.
+    pub fn waiting_notes(&self) -> usize
+        ensures { result ≡ length (option_to_list self.now.lead) + self.now.back + length self.now.last }
+    {
+        let items = self.waiting_len();
+        match self.last {
+            Some(_) => items + 1,
+            None => items,
+        }
+    }
+
+    /// Whether the terminal was given.
+    pub fn is_over(&self) -> bool
+        ensures { (items : List Item) (s : Signals) → StandsFor (lane_on items self.now) s → result ≡ is_over s }
+    {
+        self.ended && self.last.is_none()
+    }
+
+    /// Adds a request of `n` items, and puts at the end of `outs` copies of the items that are then given, which share their
+    /// texts, and the terminal behind the last of them. After the end it still gives what waits. Refused in the order
+    /// `ZeroRequest`, `TooMuch`, `Memory`; a refusal leaves the lane, the tape and `outs`.
+    pub fn ask(
+        &mut self,
+        n: u32,
+        tape: &mut Tape,
+        outs: &mut Vec<Note, Heap>,
+    ) -> Result<(), AskError>
+        requires { StandsWhereSome tape.old self.old.cursor self.old.back }
+        ensures zero { (result ≡ Err AskError.ZeroRequest) ↔ (n ≡ 0) }
+        ensures too_much { (result ≡ Err AskError.TooMuch) ↔ ((0 < n) × (2 ^ 32 ≤ self.old.owing + n)) }
+        ensures err { OnErr result ((self.new ≡ self.old) × (tape.new ≡ tape.old) × (outs.new.items ≡ outs.old.items)) }
+        ensures gives { OnOk result (GivesInto (lane_on tape.old.items self.old) (Requested n) outs.old.items outs.new.items) }
+        ensures stands { OnOk result (GoesOn (lane_on tape.old.items self.old) (lane_on tape.new.items self.new) (Requested n)) }
+        ensures stands_back { StandsBack tape.old self.old.cursor self.old.back → StandsBack tape.new self.new.cursor self.new.back }
+        ensures stands_where { StandsWhereSome tape.new self.new.cursor self.new.back }
+        ensures cursor { self.new.cursor ≡ self.old.cursor }
+        ensures spares { Spares tape.old tape.new self.old.cursor }
+    {
+        if n == 0 {
+            return Err(AskError::ZeroRequest);
+        }
+        let Some(owed) = self.owed.checked_add(n) else {
+            return Err(AskError::TooMuch);
+        };
+        let items = self.waiting.len();
+        let given = items.min(owed as usize);
+        let all = given == items;
+        let before = outs.len();
+        let notes = if all { self.waiting_notes() } else { given };
+        let Ok(()) = outs.reserve(notes) else {
+            return Err(AskError::Memory);
+        };
+        let Ok(()) = self.waiting.copy_out(given, tape, outs) else {
+            outs.truncate(before);
+            return Err(AskError::Memory);
+        };
+        self.waiting.skip(given, tape);
+        self.owed = owed - given as u32;
+        if all {
+            give_last(&mut self.last, outs);
+        }
+        Ok(())
+    }
+
+    /// Offers the last item of the tape; where it is owed `copy` is that item and comes back, else `copy` is None, the item
+    /// waits, and by `Latest` the oldest that waits is lost where the room is full. It takes no memory. It is meant before the
+    /// end alone.
+    pub fn offer(&mut self, copy: Option<Item>, tape: &mut Tape) -> Option<Item>
+        requires { StandsBack tape.old self.old.cursor (self.old.back + 1) }
+        ensures offers { Offers tape.old tape.new self.old self.new copy result }
+        ensures stands_back { StandsBack tape.new self.new.cursor self.new.back }
+        ensures cursor { self.new.cursor ≡ self.old.cursor }
+        ensures spares { Spares tape.old tape.new self.old.cursor }
+    {
+        let _within = tape.len();
+        self.waiting.back += 1;
+        if self.owed > 0 {
+            self.owed -= 1;
+            self.waiting.skip(1, tape);
+            return copy;
+        }
+        self.waiting.make_room(self.policy.strategy(), tape);
+        None
+    }
+
+    /// Offers an item that isn't on the tape, which comes back where it is given at once; else it waits. It takes no memory. It
+    /// is meant before the end, where nothing waits.
+    pub fn offer_lead(&mut self, item: Item) -> Option<Item>
+        requires { (self.old.lead ≡ None) × (self.old.back ≡ 0) }
+        ensures gives { (items : List Item) → Gives (lane_on items self.old) (Offered item) (map Next (option_to_list result)) }
+        ensures stands { (items : List Item) → GoesOn (lane_on items self.old) (lane_on items self.new) (Offered item) }
+        ensures back { (self.new.back ≡ 0) × (self.new.cursor ≡ self.old.cursor) }
+    {
+        if self.owed > 0 {
+            self.owed -= 1;
+            return Some(item);
+        }
+        self.waiting.lead = Some(item);
+        None
+    }
+
+    /// Ends the lane by a terminal, which comes back where it is given at once; else it waits behind the items. An error that
+    /// goes ahead of them lets them go. It takes no memory. It is meant once.
+    pub fn end(&mut self, note: Note) -> Option<Note>
+        ensures gives { (items : List Item) → self.old.back ≤ length items → Gives (lane_on items self.old) (Ended note) (option_to_list result) }
+        ensures stands { (items : List Item) → self.old.back ≤ length items → GoesOn (lane_on items self.old) (lane_on items self.new) (Ended note) }
+        ensures back { (self.new.back ≡ self.old.back) ⊎ (self.new.back ≡ 0) }
+        ensures cursor { self.new.cursor ≡ self.old.cursor }
+    {
+        self.ended = true;
+        if self.policy.errors().goes_ahead(&note) {
+            self.waiting.clear();
+            return Some(note);
+        }
+        if self.waiting.len() == 0 {
+            return Some(note);
+        }
+        self.last = Some(note);
+        None
+    }
+
+    /// Lets the lane go with what waits, and releases its cursor.
+    pub fn close(self, tape: &mut Tape)
+        ensures { MovesOn tape.old tape.new self.cursor None }
+    {
+        tape.release(self.waiting.cursor);
+    }
+}
+
+// Room for the first `count` items that wait, and copies of them at the end of `outs`. On `Memory` some may have been put.
+fn copy_into(
+    waiting: &Waiting,
+    count: usize,
+    tape: &Tape,
+    outs: &mut Vec<Note, Heap>,
+) -> Result<(), Memory>
+    requires there { count ≤ length (option_to_list waiting.now.lead) + waiting.now.back }
+    requires stands { StandsWhereSome tape.now waiting.now.cursor waiting.now.back }
+    ensures ok { OnOk result (outs.new.items ≡ outs.old.items ++ map Next (take count (waits waiting.now.lead tape.now.items waiting.now.back))) }
+    ensures front { take (vec_len outs.old) outs.new.items ≡ outs.old.items }
+{
+    outs.reserve(count)?;
+    waiting.copy_out(count, tape, outs)
+}

@@ -1,0 +1,119 @@
+ghost use Rattle.std.specs.Prelude.{◌≡◌, ◌+◌, ◌-◌, ◌<◌, ◌≤◌, ◌^◌, ◌++◌, [], None, map, take, drop, length, min, slice_get, option_copied, option_to_list, OnOk, vec_len, vec_capacity};
+ghost use Rattle.rx_note.specs.declared.note.Note.TheVariants.{Next};
+ghost use Rattle.rx_tape.specs.Tapes.{Spares};
+ghost use Rattle.rx_lane.specs.TapeLanes.{waits, StandsBack, StandsWhereSome, IsShared, within_room};
+
+use rx_heap::{Heap, Memory};
+use rx_note::{Item, Note, Strategy};
+use rx_tape::Tape;
+
+/// What waits for an observer whose items stand on a tape: an item of its own in front, and the last `back` items of the
+/// tape, at which its cursor stands.
+#[derive(Drop)]
+pub(crate) struct Waiting {
+    pub(crate) cursor: u32,
+    pub(crate) lead: Option<Item>,
+    pub(crate) back: usize,
+    ghost fits: { back < 2 ^ 63 },
+}
+
+impl Waiting {
+    /// How many items wait.
+    pub(crate) fn len(&self) -> usize
+        ensures { result ≡ length (option_to_list self.now.lead) + self.now.back }
+    {
+        match self.lead {
+            Some(_) => self.back + 1,
+            None => self.back,
+        }
+    }
+
+    // The item of this place, from the one that has waited longest on.
+    fn at<'a>(&'a self, place: usize, tape: &'a Tape) -> Option<&'a Item>
+        requires { StandsWhereSome tape.now self.now.cursor self.now.back }
+        ensures { place < length (option_to_list self.now.lead) + self.now.back
+            → option_copied result ≡ slice_get (waits self.now.lead tape.now.items self.now.back) place }
+    {
+        match &self.lead {
+            Some(item) if place == 0 => Some(item),
+            Some(_) => tape.read_ahead(self.cursor, place - 1),
+            None => tape.read_ahead(self.cursor, place),
+        }
+    }
+
+    /// Puts copies of the first `count` items at the end of `outs`, which has room for them. On `Memory` some of them may
+    /// have been put.
+    pub(crate) fn copy_out(
+        &self,
+        count: usize,
+        tape: &Tape,
+        outs: &mut Vec<Note, Heap>,
+    ) -> Result<(), Memory>
+        requires there { count ≤ length (option_to_list self.now.lead) + self.now.back }
+        requires stands { StandsWhereSome tape.now self.now.cursor self.now.back }
+        requires room { vec_len outs.old + count ≤ vec_capacity outs.old }
+        ensures ok { OnOk result (outs.new.items ≡ outs.old.items ++ map Next (take count (waits self.now.lead tape.now.items self.now.back))) }
+        ensures front { take (vec_len outs.old) outs.new.items ≡ outs.old.items }
+        ensures capacity { vec_capacity outs.new ≡ vec_capacity outs.old }
+    {
+        for place in 0..count {
+            let Some(item) = self.at(place, tape) else {
+                unreachable!()
+            };
+            outs.push_reserved(Note::Next(item.copy()?));
+        }
+        Ok(())
+    }
+
+    /// Passes the first `count` items.
+    pub(crate) fn skip(&mut self, count: usize, tape: &mut Tape)
+        requires there { count ≤ length (option_to_list self.old.lead) + self.old.back }
+        requires stands { StandsWhereSome tape.old self.old.cursor self.old.back }
+        ensures waits { waits self.new.lead tape.new.items self.new.back ≡ drop count (waits self.old.lead tape.old.items self.old.back) }
+        ensures stands_back { StandsBack tape.old self.old.cursor self.old.back → StandsBack tape.new self.new.cursor self.new.back }
+        ensures back { self.new.back ≤ self.old.back }
+        ensures cursor { self.new.cursor ≡ self.old.cursor }
+        ensures spares { Spares tape.old tape.new self.old.cursor }
+    {
+        let more = self.skip_lead(count);
+        self.back -= more;
+        tape.advance_by(self.cursor, more);
+    }
+
+    // Passes the item in front, and says how many others are then to be passed.
+    fn skip_lead(&mut self, count: usize) -> usize
+        ensures more { result ≡ count - length (option_to_list self.old.lead) }
+        ensures lead { option_to_list self.new.lead ≡ drop count (option_to_list self.old.lead) }
+        ensures rest { (self.new.cursor ≡ self.old.cursor) × (self.new.back ≡ self.old.back) }
+    {
+        if count > 0 && self.lead.take().is_some() {
+            count - 1
+        } else {
+            count
+        }
+    }
+
+    /// Loses what the strategy has no room for.
+    pub(crate) fn make_room(&mut self, strategy: Strategy, tape: &mut Tape)
+        requires shared { IsShared strategy }
+        requires stands { StandsBack tape.old self.old.cursor self.old.back }
+        ensures waits { waits self.new.lead tape.new.items self.new.back ≡ within_room strategy (waits self.old.lead tape.old.items self.old.back) }
+        ensures stands_back { StandsBack tape.new self.new.cursor self.new.back }
+        ensures cursor { self.new.cursor ≡ self.old.cursor }
+        ensures spares { Spares tape.old tape.new self.old.cursor }
+    {
+        if let Strategy::Latest(room) = strategy {
+            self.skip(self.len().saturating_sub(room as usize), tape);
+        }
+    }
+
+    /// Lets all go that waits. The cursor stays.
+    pub(crate) fn clear(&mut self)
+        ensures lead { self.new.lead ≡ None }
+        ensures back { self.new.back ≡ 0 }
+        ensures cursor { self.new.cursor ≡ self.old.cursor }
+    {
+        self.lead = None;
+        self.back = 0;
+    }
+}
