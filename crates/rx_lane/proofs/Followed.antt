@@ -1,5 +1,5 @@
 -- A lane on a tape follows the signals that the queue of its items follows.
-use Rattle.std.proofs.Common.{rules, ◌≡◌, ℕ, zero, suc, ◌+◌, ◌-◌, ◌<◌, ◌≤◌, min, nat_lt, cond, true, false, List, [], ◌∷◌, ◌++◌, length, map, take, drop, Option, None, Some, inl, inr, refl, sym, subst, ap, ◌∙◌, append_assoc, option_to_list, arith}
+use Rattle.std.proofs.Common.{rules, ◌≡◌, ℕ, zero, suc, ◌+◌, ◌-◌, ◌<◌, min, nat_lt, cond, true, false, List, [], ◌∷◌, ◌++◌, length, map, take, drop, None, Some, inl, inr, refl, sym, subst, ap, ◌∙◌, append_assoc, arith}
 use Rattle.std.proofs.lemmas.Bool.{cases_lt}
 use Rattle.std.proofs.lemmas.Bool.Decides.{nat_tests}
 use Rattle.std.proofs.lemmas.List.{append-nil, length-append, length-drop, drop-drop, drop-append-le, drop_all, take_all}
@@ -12,7 +12,7 @@ use Rattle.rx_note.specs.Signals.{Requested, Offered, Signals, Start, ◌▸◌,
 use Rattle.rx_note.specs.Queues.{queued}
 use Rattle.rx_note.proofs.Lines.{owed-rest}
 use Rattle.rx_lane.specs.Lanes.{LaneState, StandsFor}
-use Rattle.rx_lane.specs.TapeLanes.{TapeLaneState, lane_on, last_items, waits, within_room, IsShared, copy_for, offered_all, Begins}
+use Rattle.rx_lane.specs.TapeLanes.{TapeLaneState, lane_on, within_room, IsShared, copy_for, offered_all, Begins}
 use Rattle.rx_lane.proofs.Steps.{offer_now, offer_later}
 
 -- views that are equal stand for the same signals
@@ -32,18 +32,6 @@ stands_alike policy items last ended owing st = record {
 -- nothing waits while an item is owed
 pub none_waits : (s : Signals) → 0 < owed s → waiting_items s ≡ []
 none_waits s h = drop_all (demand s) (line_items s) (omega (arith, owed-rest s, h))
-
--- none of the last items
-pub none_back : (items : List Item) → last_items items 0 ≡ []
-none_back items = drop_all (length items - 0) items (omega arith)
-
--- one item more stands behind those that wait
-pub waits-more : (lead : Option Item) (items : List Item) (item : Item) (back : ℕ) → back ≤ length items → waits lead (items ++ item ∷ []) (back + 1) ≡ waits lead items back ++ item ∷ []
-waits-more lead items item back h =
-    let same : length (items ++ item ∷ []) - (back + 1) ≡ length items - back = omega (arith, length-append items (item ∷ [])) in
-    ap (λ n. option_to_list lead ++ drop n (items ++ item ∷ [])) same
-    ∙ ap (λ rest. option_to_list lead ++ rest) (drop-append-le (length items - back) items (item ∷ []) (omega arith))
-    ∙ sym (append_assoc (option_to_list lead) (last_items items back) (item ∷ []))
 
 -- what is queued is what there is room for
 pub queued_within : (g : Strategy) (items : List Item) (item : Item) → IsShared g → queued g items item ≡ within_room g (items ++ item ∷ [])

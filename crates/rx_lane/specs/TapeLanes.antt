@@ -1,6 +1,6 @@
 -- The queue of an observer whose items stand on a tape that several observers share: what contracts see of it, and the
 -- queue that it is over the items of that tape.
-use Rattle.std.specs.Prelude.{◌≡◌, ℕ, ◌-◌, ◌<◌, ◌≤◌, ◌++◌, Bool, List, [], ◌∷◌, length, drop, map, Option, None, Some, nat_lt, option_to_list, if◌then◌else◌}
+use Rattle.std.specs.Prelude.{◌≡◌, ℕ, ◌-◌, ◌<◌, ◌≤◌, ◌++◌, Bool, List, [], ◌∷◌, length, map, Option, None, Some, nat_lt, option_to_list, if◌then◌else◌}
 use Rattle.rx_note.specs.declared.item.Item.{Item}
 use Rattle.rx_note.specs.declared.note.Note.{Note}
 use Rattle.rx_note.specs.declared.note.Note.TheVariants.{Next}
@@ -8,18 +8,10 @@ use Rattle.rx_note.specs.declared.strategy.Strategy.{Strategy}
 use Rattle.rx_note.specs.declared.strategy.Strategy.TheVariants.{Buffer, Drop, Latest}
 use Rattle.rx_note.specs.Choices.{Choice}
 use Rattle.rx_note.specs.Signals.{Requested, Offered, Signals, Start, ◌▸◌, given}
-use Rattle.rx_tape.specs.Tapes.{TapeState, end_of, place_of}
+use Rattle.rx_tape.specs.Tapes.{TapeState, end_of, place_of, last_items, waits}
 use Rattle.rx_lane.specs.Lanes.{LaneState, StandsFor, Gives, GoesOn}
 
 -- WHAT WAITS
-
--- the last of several items
-abbrev pub last_items : List Item → ℕ → List Item
-last_items items count = drop (length items - count) items
-
--- what waits: an item of its own in front, and so many of the last items of the tape
-abbrev pub waits : Option Item → List Item → ℕ → List Item
-waits lead items back = option_to_list lead ++ last_items items back
 
 -- the cursor stands so many items before the end
 pub record StandsBack (tape : TapeState) (cursor back : ℕ) : Type 0 where

@@ -2,9 +2,9 @@ ghost use Rattle.std.specs.Prelude.{◌≡◌, ◌≤◌, ◌<◌, ◌+◌, ◌^
 ghost use Rattle.rx_note.specs.declared.item.Item.{Item};
 ghost use Rattle.rx_note.specs.declared.note.Note.TheVariants.{Next};
 ghost use Rattle.rx_note.specs.Signals.{Signals, Requested, Offered, Ended, owed};
-ghost use Rattle.rx_tape.specs.Tapes.{place_of, Spares, MovesOn};
+ghost use Rattle.rx_tape.specs.Tapes.{waits, place_of, Spares, MovesOn};
 ghost use Rattle.rx_lane.specs.Lanes.{StandsFor, Gives, GoesOn, GivesInto, is_over};
-ghost use Rattle.rx_lane.specs.TapeLanes.{waits, lane_on, StandsBack, StandsWhereSome, IsShared, HoldsSame, BeginsInto, Offers};
+ghost use Rattle.rx_lane.specs.TapeLanes.{lane_on, StandsBack, StandsWhereSome, IsShared, HoldsSame, BeginsInto, Offers};
 
 use crate::ask_error::AskError;
 use crate::last::give_last;

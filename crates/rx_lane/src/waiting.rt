@@ -1,7 +1,7 @@
 ghost use Rattle.std.specs.Prelude.{◌≡◌, ◌+◌, ◌-◌, ◌<◌, ◌≤◌, ◌^◌, ◌++◌, [], None, map, take, drop, length, min, slice_get, option_copied, option_to_list, OnOk, vec_len, vec_capacity};
 ghost use Rattle.rx_note.specs.declared.note.Note.TheVariants.{Next};
-ghost use Rattle.rx_tape.specs.Tapes.{Spares};
-ghost use Rattle.rx_lane.specs.TapeLanes.{waits, StandsBack, StandsWhereSome, IsShared, within_room};
+ghost use Rattle.rx_tape.specs.Tapes.{waits, Spares};
+ghost use Rattle.rx_lane.specs.TapeLanes.{StandsBack, StandsWhereSome, IsShared, within_room};
 
 use rx_heap::{Heap, Memory};
 use rx_note::{Item, Note, Strategy};

@@ -1,3 +1,4 @@
 pub mod Keeping
 pub mod Rising
 pub mod Standing
+pub mod Taped

@@ -1,3 +1,4 @@
 pub mod Offers
 pub mod Subjects
+pub mod TapeSubjects
 pub mod Windows

@@ -230,7 +230,7 @@ impl Subject {
 }
 
 // What an item from a port offers at once; Async keeps it back.
-fn item_offered(kind: &Kind, port: u32, item: &Item) -> Result<Option<Item>, Memory>
+pub(crate) fn item_offered(kind: &Kind, port: u32, item: &Item) -> Result<Option<Item>, Memory>
     ensures { IfOk result (λ offered. (last : List Item) → option_to_list offered ≡ offers_by kind.now last port (Next item.now)) }
 {
     match kind {
@@ -243,7 +243,11 @@ fn item_offered(kind: &Kind, port: u32, item: &Item) -> Result<Option<Item>, Mem
 }
 
 // The item that an end offers: of Async the last one at completion.
-fn last_offered(kind: &Kind, window: &Window, terminal: &Note) -> Result<Option<Item>, Memory>
+pub(crate) fn last_offered(
+    kind: &Kind,
+    window: &Window,
+    terminal: &Note,
+) -> Result<Option<Item>, Memory>
     ensures { IfOk result (λ offered. (port : ℕ) → terminal_in terminal.now ≡ Some terminal.now
         → option_to_list offered ≡ offers_by kind.now (unstamped (take 1 (stamped_of window.now))) port terminal.now) }
 {
@@ -260,6 +264,13 @@ fn last_or_seed(window: &Window, seed: &Option<Text>) -> Result<Option<Item>, Me
     if let Some(item) = window.copy_oldest()? {
         return Ok(Some(item));
     }
+    seed_of(seed)
+}
+
+// The seed as an item, if there is one.
+pub(crate) fn seed_of(seed: &Option<Text>) -> Result<Option<Item>, Memory>
+    ensures { IfOk result (λ item. option_to_list item ≡ seed_item seed.now) }
+{
     match seed {
         Some(seed) => Ok(Some(Item {
             from: SEED_PORT,
@@ -281,7 +292,7 @@ fn listed(heap: Heap, item: Option<Item>) -> Result<Vec<Item, Heap>, Memory>
 }
 
 // How many of the last items a kind keeps; None: all.
-fn count_kept(kind: &Kind) -> Option<usize>
+pub(crate) fn count_kept(kind: &Kind) -> Option<usize>
     ensures { result ≡ count_kept_by kind.now }
 {
     match kind {
@@ -292,7 +303,7 @@ fn count_kept(kind: &Kind) -> Option<usize>
 }
 
 // The age at which a kind keeps an item no more; None: never.
-fn age_kept(kind: &Kind) -> Option<u64>
+pub(crate) fn age_kept(kind: &Kind) -> Option<u64>
     ensures { result ≡ age_kept_by kind.now }
 {
     match kind {

@@ -1,6 +1,6 @@
 -- A list of items and the cursors that stand on it. Items are numbered from 0 as they come, and a cursor stands at the
 -- number of an item or behind the last one, so that neither an item more nor one that is removed moves it.
-use Rattle.std.specs.Prelude.{◌≡◌, ◌≢◌, ℕ, ◌+◌, ◌-◌, min, List, [], ◌∷◌, ◌++◌, length, drop, get_or, Option, None, Some}
+use Rattle.std.specs.Prelude.{◌≡◌, ◌≢◌, ℕ, ◌+◌, ◌-◌, min, List, [], ◌∷◌, ◌++◌, length, drop, get_or, Option, None, Some, option_to_list}
 use Rattle.rx_note.specs.declared.item.Item.{Item}
 
 -- the items that are left, the number of the first of them, and where the cursors stand; None: no cursor has this number
@@ -25,6 +25,14 @@ items_from tape (Some place) = drop (place - tape.front) tape.items
 -- the items that are ahead of a cursor
 abbrev pub ahead : TapeState → ℕ → List Item
 ahead tape cursor = items_from tape (place_of tape.places cursor)
+
+-- the last of several items
+abbrev pub last_items : List Item → ℕ → List Item
+last_items items count = drop (length items - count) items
+
+-- what waits of a tape: an item of its own in front, and so many of the last items of the tape
+abbrev pub waits : Option Item → List Item → ℕ → List Item
+waits lead items back = option_to_list lead ++ last_items items back
 
 -- a tape with no item and no cursor
 abbrev pub tape_at_first : TapeState

@@ -1,7 +1,8 @@
 use Rattle.std.proofs.Common.{◌≡◌, ◌≤◌, ◌<◌, ◌+◌, ◌-◌, length, refl, sym, subst, ap, option_to_list, append_assoc, arith}
 use Rattle.std.proofs.lemmas.Bool.Decides.{nat_tests}
-use Rattle.rx_lane.specs.TapeLanes.{TapeLaneState, StandsWhereSome, waits}
-use Rattle.rx_lane.proofs.Shared.{waits-length}
+use Rattle.rx_lane.specs.TapeLanes.{TapeLaneState, StandsWhereSome}
+use Rattle.rx_tape.specs.Tapes.{waits}
+use Rattle.rx_tape.proofs.Lasts.{waits-length}
 use Rattle.rx_lane.proofs.Steps.{ask_all, ask_part}
 use Rattle.rx_lane.proofs.Followed.{stands_on, stands_alike}
 use Rattle.rx_lane.proofs.tape_lane.TapeLane.ask.Goals as goal

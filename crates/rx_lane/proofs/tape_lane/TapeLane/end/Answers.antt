@@ -2,10 +2,12 @@ use Rattle.std.proofs.Common.{ℕ, Option, refl, sym, ap, ◌∙◌, arith}
 use Rattle.rx_note.specs.declared.item.Item.{Item}
 use Rattle.rx_note.specs.declared.errors.Errors.{Errors}
 use Rattle.rx_note.specs.Signals.{goes_ahead}
-use Rattle.rx_lane.specs.TapeLanes.{TapeLaneState, waits, last_items}
-use Rattle.rx_lane.proofs.Shared.{waits-length}
+use Rattle.rx_lane.specs.TapeLanes.{TapeLaneState}
+use Rattle.rx_tape.specs.Tapes.{waits, last_items}
+use Rattle.rx_tape.proofs.Lasts.{waits-length}
 use Rattle.rx_lane.proofs.Steps.{end_first, end_now, end_later}
-use Rattle.rx_lane.proofs.Followed.{stands_on, stands_alike, none_back}
+use Rattle.rx_lane.proofs.Followed.{stands_on, stands_alike}
+use Rattle.rx_tape.proofs.Lasts.{none_back}
 use Rattle.rx_lane.proofs.tape_lane.TapeLane.end.Goals as goal
 
 pub returns-then-goes_ahead-clause-gives : goal.returns-then-goes_ahead-clause-gives

@@ -2,8 +2,9 @@ use Rattle.std.proofs.Common.{◌++◌, List, map, take, drop, refl, ap, ◌∙�
 use Rattle.rx_note.specs.declared.item.Item.{Item}
 use Rattle.rx_note.specs.declared.note.Note.TheVariants.{Next}
 use Rattle.rx_note.specs.declared.strategy.Strategy.{Strategy}
-use Rattle.rx_lane.specs.TapeLanes.{waits, within_room}
-use Rattle.rx_lane.proofs.Shared.{waits-length}
+use Rattle.rx_lane.specs.TapeLanes.{within_room}
+use Rattle.rx_tape.specs.Tapes.{waits}
+use Rattle.rx_tape.proofs.Lasts.{waits-length}
 use Rattle.rx_lane.proofs.Followed.{begins, stands_alike}
 use Rattle.rx_lane.proofs.tape_lane.TapeLane.new.Goals as goal
 

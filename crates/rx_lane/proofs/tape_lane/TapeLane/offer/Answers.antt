@@ -4,9 +4,11 @@ use Rattle.rx_note.specs.declared.item.Item.{Item}
 use Rattle.rx_note.specs.declared.note.Note.TheVariants.{Next}
 use Rattle.rx_note.specs.declared.strategy.Strategy.{Strategy}
 use Rattle.rx_note.specs.Signals.{given}
-use Rattle.rx_lane.specs.TapeLanes.{TapeLaneState, waits, within_room}
+use Rattle.rx_lane.specs.TapeLanes.{TapeLaneState, within_room}
+use Rattle.rx_tape.specs.Tapes.{waits}
 use Rattle.rx_lane.proofs.Steps.{offer_now, offer_later}
-use Rattle.rx_lane.proofs.Followed.{stands_on, stands_alike, none_waits, waits-more, queued_within, copy_owed}
+use Rattle.rx_lane.proofs.Followed.{stands_on, stands_alike, none_waits, queued_within, copy_owed}
+use Rattle.rx_tape.proofs.Lasts.{waits-more}
 use Rattle.rx_lane.proofs.tape_lane.TapeLane.offer.Goals as goal
 
 pub returns-then-self-gt0-clause-offers : goal.returns-then-self-gt0-clause-offers

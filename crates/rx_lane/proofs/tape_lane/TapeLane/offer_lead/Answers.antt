@@ -1,9 +1,11 @@
 use Rattle.std.proofs.Common.{◌≡◌, ◌∷◌, ℕ, Option, None, refl, sym, ap, ◌∙◌, arith}
 use Rattle.rx_note.specs.declared.item.Item.{Item}
 use Rattle.rx_note.specs.Queues.{queued}
-use Rattle.rx_lane.specs.TapeLanes.{TapeLaneState, waits, last_items}
+use Rattle.rx_lane.specs.TapeLanes.{TapeLaneState}
+use Rattle.rx_tape.specs.Tapes.{waits, last_items}
 use Rattle.rx_lane.proofs.Steps.{offer_now, offer_later}
-use Rattle.rx_lane.proofs.Followed.{stands_on, stands_alike, none_back, queued_first}
+use Rattle.rx_lane.proofs.Followed.{stands_on, stands_alike, queued_first}
+use Rattle.rx_tape.proofs.Lasts.{none_back}
 use Rattle.rx_lane.proofs.tape_lane.TapeLane.offer_lead.Goals as goal
 
 pub returns-then-self-gt0-clause-gives : goal.returns-then-self-gt0-clause-gives

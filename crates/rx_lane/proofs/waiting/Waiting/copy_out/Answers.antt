@@ -2,8 +2,9 @@ use Rattle.std.proofs.Common.{◌∷◌, [], ◌++◌, map, take, sym, ap, ◌�
 use Rattle.std.proofs.lemmas.List.{map-append}
 use Rattle.rx_note.specs.declared.item.Item.{Item}
 use Rattle.rx_note.specs.declared.note.Note.TheVariants.{Next}
-use Rattle.rx_lane.specs.TapeLanes.{waits}
-use Rattle.rx_lane.proofs.Shared.{copied, waits-length}
+use Rattle.rx_tape.specs.Tapes.{waits}
+use Rattle.rx_lane.proofs.Shared.{copied}
+use Rattle.rx_tape.proofs.Lasts.{waits-length}
 use Rattle.rx_lane.proofs.waiting.Waiting.copy_out.Goals as goal
 
 pub loop-place-preserved : goal.loop-place-preserved

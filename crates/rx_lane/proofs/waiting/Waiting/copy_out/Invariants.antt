@@ -1,6 +1,6 @@
 use Rattle.std.proofs.Common.{◌≡◌, ◌++◌, map, take, vec_capacity}
 use Rattle.rx_note.specs.declared.note.Note.TheVariants.{Next}
-use Rattle.rx_lane.specs.TapeLanes.{waits}
+use Rattle.rx_tape.specs.Tapes.{waits}
 use Rattle.rx_lane.proofs.waiting.Waiting.copy_out.Given as goal
 
 abbrev pub invariant-loop-place : goal.invariant-loop-place

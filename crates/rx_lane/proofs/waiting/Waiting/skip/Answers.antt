@@ -1,6 +1,6 @@
 use Rattle.std.proofs.Common.{◌≡◌, ◌+◌, ◌-◌, ℕ, Some, length, min, ap, ◌∙◌, arith}
 use Rattle.rx_tape.specs.Tapes.{end_of, place_of}
-use Rattle.rx_lane.specs.TapeLanes.{waits}
+use Rattle.rx_tape.specs.Tapes.{waits}
 use Rattle.rx_lane.proofs.Shared.{passed_over}
 use Rattle.rx_lane.proofs.waiting.Waiting.skip.Goals as goal
 

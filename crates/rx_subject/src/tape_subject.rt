@@ -1,0 +1,253 @@
+ghost use Rattle.std.specs.Prelude.{◌≡◌, ◌↔◌, ◌≤◌, ◌++◌, ℕ, List, None, Some, map, max, length, is_some, true, Err, IfOk, OnOk, OnErr, option_to_list};
+ghost use Rattle.rx_note.specs.declared.event.Event.TheVariants.{Emit, Join};
+ghost use Rattle.rx_note.specs.declared.kind.Kind.TheVariants.{Async};
+ghost use Rattle.rx_note.specs.declared.note.Note.TheVariants.{Next};
+ghost use Rattle.rx_note.specs.declared.item.Item.{Item};
+ghost use Rattle.rx_note.specs.declared.rules.Rules.{Rules};
+ghost use Rattle.rx_note.specs.Choices.{Choice};
+ghost use Rattle.rx_history.specs.Histories.{History, NoEvents, ◌▹◌, terminal_in, may_join, signalled};
+ghost use Rattle.rx_tape.specs.Tapes.{pushed, waits};
+ghost use Rattle.rx_subject.specs.Offers.{offer_signals};
+ghost use Rattle.rx_subject.specs.Subjects.{StandsFor, signals_by, items_by, after_item, after_end, after_join};
+ghost use Rattle.rx_subject.specs.TapeSubjects.{TapeSubjectState, tape_subject_at_first, subject_on, taped, pushed_all, TapeOpens};
+
+use crate::offer::Offer;
+use crate::stamps::{count_old_stamps, drop_old_stamps, keep_stamp, reserve_stamp};
+use crate::subject::{AdmitError, age_kept, count_kept, item_offered, last_offered, seed_of};
+use crate::tape_opening::TapeOpening;
+use crate::window::{Kept, Window};
+use rx_heap::{Heap, Memory};
+use rx_note::{Item, Kind, Note, copy_of};
+use rx_tape::Tape;
+use std::collections::VecDeque;
+use std::marker::Model;
+
+/// What a subject keeps for later joiners where its items stand on a tape that its observers share: the stamps of the last
+/// ones alone. Contracts see it as the [`Subject`](crate::Subject) that it is over the items of its tape.
+///
+/// The kinds are those of the page Subject (<https://reactivex.io/documentation/subject.html>); moments, ages, seeds and the
+/// tape are this project's own.
+#[derive(Drop)]
+pub struct TapeSubject {
+    kind: Kind,
+    // Of Async its last item, which does not stand on the tape: no observer waits for it before the completion.
+    own: Window,
+    stamps: VecDeque<u64, Heap>,
+    terminal: Option<Note>,
+    stamp: u64,
+}
+
+impl Model for TapeSubject {
+    ghost use Rattle.std.specs.Prelude.{◌≡◌, Some, length};
+    ghost use Rattle.rx_subject.specs.Windows.{stamped_of, limit_of, count_kept as count_kept_by};
+    ghost use Rattle.rx_subject.specs.TapeSubjects.{TapeSubjectState, beyond};
+
+    ghost Value = { TapeSubjectState };
+
+    ghost view = { λ s. record { kind = s.kind; terminal = s.terminal; clock = s.stamp; own = stamped_of s.own; stamps = s.stamps.items } };
+
+    ghost invariant = { λ s. (limit_of s.own ≡ Some 1) × (beyond (count_kept_by s.kind) (length s.stamps.items) ≡ 0) };
+}
+
+impl TapeSubject {
+    /// A subject of this kind, with no event yet. `Memory` where there was none for it.
+    pub fn new(alloc: Heap, kind: Kind) -> Result<TapeSubject, Memory>
+        ensures { IfOk result (λ subject. subject ≡ tape_subject_at_first kind) }
+    {
+        let stamps = VecDeque::new(alloc.clone()?);
+        let own = Window::new(alloc, Some(1))?;
+        Ok(TapeSubject {
+            kind,
+            own,
+            stamps,
+            terminal: None,
+            stamp: 0,
+        })
+    }
+
+    /// Takes a note that comes by a port at a moment, in milliseconds, puts its item on the tape (none of Async), and says what
+    /// the note offers to every observer. Refused in the order `Ended`, `Memory`; a refusal leaves the subject and the tape.
+    pub fn admit(
+        &mut self,
+        port: u32,
+        note: Note,
+        at: u64,
+        tape: &mut Tape,
+    ) -> Result<Offer, AdmitError>
+        requires { length self.old.stamps ≤ length tape.old.items }
+        ensures ended { (result ≡ Err AdmitError.Ended) ↔ (is_some self.old.terminal ≡ true) }
+        ensures err { OnErr result ((self.new ≡ self.old) × (tape.new ≡ tape.old)) }
+        ensures offers { IfOk result (λ offer. offer_signals offer ≡ signals_by (subject_on tape.old.items self.old) port note) }
+        ensures stands { OnOk result ((rules : Rules) (H : History) → StandsFor (subject_on tape.old.items self.old) rules H
+            → StandsFor (subject_on tape.new.items self.new) rules (H ▹ (port, Emit note at))) }
+        ensures tape { OnOk result (tape.new ≡ pushed_all tape.old (taped self.old.kind port note)) }
+        ensures within { length self.new.stamps ≤ length tape.new.items }
+        ensures kind { self.new.kind ≡ self.old.kind }
+    {
+        if self.is_ended() {
+            return Err(AdmitError::Ended);
+        }
+        match note {
+            Note::Next(Item { from: _, text }) => {
+                let offer = self.admit_item(Item { from: port, text }, at, tape)?;
+                Ok(offer)
+            }
+            terminal => {
+                let offer = self.admit_end(terminal, at)?;
+                Ok(offer)
+            }
+        }
+    }
+
+    /// What `admit` would offer, refused alike; the texts are shared. Nothing is changed.
+    pub fn preview(&self, port: u32, note: &Note) -> Result<Offer, AdmitError>
+        ensures ended { (result ≡ Err AdmitError.Ended) ↔ (is_some self.now.terminal ≡ true) }
+        ensures offers { (items : List Item) → IfOk result (λ offer. offer_signals offer ≡ signals_by (subject_on items self.now) port note.now) }
+    {
+        if self.is_ended() {
+            return Err(AdmitError::Ended);
+        }
+        match note {
+            Note::Next(item) => {
+                let item = item_offered(&self.kind, port, item)?;
+                Ok(Offer { item, end: None })
+            }
+            terminal => {
+                let item = last_offered(&self.kind, &self.own, terminal)?;
+                let end = Some(terminal.copy()?);
+                Ok(Offer { item, end })
+            }
+        }
+    }
+
+    /// What an observer begins with that joins at a moment, in milliseconds: a lead of its own, so many of the last items of
+    /// the tape, and the end where there is one. `Memory` where there was none for the lead or the end.
+    pub fn opening(&self, at: u64, tape: &Tape) -> Result<TapeOpening, Memory>
+        requires { length self.now.stamps ≤ length tape.now.items }
+        ensures opens { IfOk result (λ opening. (rules : Rules) (H : History) → StandsFor (subject_on tape.now.items self.now) rules H → TapeOpens opening tape.now.items rules H at) }
+        ensures within { IfOk result (λ opening. opening.back ≤ length tape.now.items) }
+    {
+        let _tape = tape;
+        let (lead, back) = self.opening_items(at)?;
+        let end = copy_of(&self.terminal)?;
+        Ok(TapeOpening { lead, back, end })
+    }
+
+    /// An observer joined at a moment, in milliseconds.
+    pub fn joined(&mut self, at: u64)
+        ensures stands { (items : List Item) (rules : Rules) (H : History) (port : ℕ) (policy : Choice) (first : ℕ) → length self.old.stamps ≤ length items
+            → may_join rules H ≡ true → StandsFor (subject_on items self.old) rules H
+            → StandsFor (subject_on items self.new) rules (H ▹ (port, Join policy first at)) }
+        ensures within { length self.new.stamps ≤ length self.old.stamps }
+        ensures kind { self.new.kind ≡ self.old.kind }
+        ensures terminal { self.new.terminal ≡ self.old.terminal }
+    {
+        self.pass_to(at);
+    }
+
+    /// Whether the subject has ended.
+    pub fn is_ended(&self) -> bool
+        ensures { result ≡ is_some self.now.terminal }
+    {
+        self.terminal.is_some()
+    }
+
+    /// The greatest moment of the accepted emissions and joins so far, in milliseconds; 0 before the first.
+    pub fn stamp(&self) -> u64
+        ensures { result ≡ self.now.clock }
+    {
+        self.stamp
+    }
+
+    /// How many of the last items of the tape later joiners may need.
+    pub fn keep(&self) -> usize
+        ensures { result ≡ length self.now.stamps }
+    {
+        self.stamps.len()
+    }
+
+    // Raises the stamp to a moment at least; once the subject ended its items grow no older.
+    fn pass_to(&mut self, at: u64)
+        ensures kind { self.new.kind ≡ self.old.kind }
+        ensures terminal { self.new.terminal ≡ self.old.terminal }
+        ensures state { (items : List Item) → length self.old.stamps ≤ length items → subject_on items self.new ≡ after_join (subject_on items self.old) at }
+        ensures within { length self.new.stamps ≤ length self.old.stamps }
+    {
+        self.stamp = self.stamp.max(at);
+        if self.terminal.is_none() {
+            drop_old_stamps(&mut self.stamps, age_kept(&self.kind), self.stamp);
+        }
+    }
+
+    // Takes an item. What it offers shares its text.
+    fn admit_item(&mut self, item: Item, at: u64, tape: &mut Tape) -> Result<Offer, Memory>
+        requires { length self.old.stamps ≤ length tape.old.items }
+        ensures err { OnErr result ((self.new ≡ self.old) × (tape.new ≡ tape.old)) }
+        ensures state { OnOk result (subject_on tape.new.items self.new ≡ after_item (subject_on tape.old.items self.old) item at) }
+        ensures offers { IfOk result (λ offer. offer_signals offer ≡ signals_by (subject_on tape.old.items self.old) item.from (Next item)) }
+        ensures tape { OnOk result (tape.new ≡ pushed_all tape.old (taped self.old.kind item.from (Next item))) }
+        ensures within { length self.new.stamps ≤ length tape.new.items }
+    {
+        let stamp = self.stamp.max(at);
+        if is_async(&self.kind) {
+            self.own.push(Kept { item, stamp });
+            self.stamp = stamp;
+            return Ok(Offer {
+                item: None,
+                end: None,
+            });
+        }
+        let offered = item_offered(&self.kind, item.from, &item)?;
+        reserve_stamp(&mut self.stamps)?;
+        tape.push(item)?;
+        self.stamp = stamp;
+        keep_stamp(&mut self.stamps, stamp, count_kept(&self.kind));
+        drop_old_stamps(&mut self.stamps, age_kept(&self.kind), stamp);
+        Ok(Offer {
+            item: offered,
+            end: None,
+        })
+    }
+
+    // Takes the end.
+    fn admit_end(&mut self, terminal: Note, at: u64) -> Result<Offer, Memory>
+        ensures err { OnErr result (self.new ≡ self.old) }
+        ensures state { OnOk result ((items : List Item) → length self.old.stamps ≤ length items → subject_on items self.new ≡ after_end (subject_on items self.old) terminal at) }
+        ensures offers { IfOk result (λ offer. (items : List Item) (port : ℕ) → terminal_in terminal ≡ Some terminal → offer_signals offer ≡ signals_by (subject_on items self.old) port terminal) }
+        ensures within { length self.new.stamps ≤ length self.old.stamps }
+    {
+        let item = last_offered(&self.kind, &self.own, &terminal)?;
+        let end = Some(terminal.copy()?);
+        self.stamp = self.stamp.max(at);
+        drop_old_stamps(&mut self.stamps, age_kept(&self.kind), self.stamp);
+        self.terminal = Some(terminal);
+        Ok(Offer { item, end })
+    }
+
+    // The lead of a joiner at a moment, and how many of the tape's last items it is offered.
+    fn opening_items(&self, at: u64) -> Result<(Option<Item>, usize), Memory>
+        ensures items { (items : List Item) → length self.now.stamps ≤ length items → IfOk result (λ begins. waits begins.0 items begins.1
+            ≡ items_by self.now.kind self.now.terminal (subject_on items self.now).window (max self.now.clock at)) }
+        ensures within { IfOk result (λ begins. begins.1 ≤ length self.now.stamps) }
+    {
+        let kept = self.stamps.len();
+        match (&self.kind, &self.terminal) {
+            (Kind::Behavior(seed), None) if kept == 0 => Ok((seed_of(seed)?, 0)),
+            (Kind::Behavior(_), None) => Ok((None, 1)),
+            (Kind::Async, Some(Note::Completed)) => Ok((self.own.copy_oldest()?, 0)),
+            (Kind::Replay { count: _, age }, None) => {
+                let old = count_old_stamps(&self.stamps, *age, self.stamp.max(at));
+                Ok((None, kept - old))
+            }
+            (Kind::Replay { .. }, Some(_)) => Ok((None, kept)),
+            _ => Ok((None, 0)),
+        }
+    }
+}
+
+// Whether a kind keeps its items back.
+fn is_async(kind: &Kind) -> bool
+    ensures { (result ≡ true) ↔ (kind.now ≡ Async) }
+{
+    matches!(kind, Kind::Async)
+}
