@@ -1,13 +1,15 @@
 //! Boxes between threads: what no clause says, that calls succeed, and that two threads get on.
 
-ghost use Rattle.std.specs.Prelude.{◌≡◌, []};
+ghost use Rattle.std.specs.Prelude.{◌≡◌, [], Ok, IfSome};
 ghost use Rattle.rx_mailbox.specs.declared.letter.Post.TheVariants.{Body, Bye};
 ghost use Rattle.rx_mailbox.specs.Letters.{share};
-ghost use Rattle.rx_mailbox.specs.Boxes.{outgoing, incoming, with_post, AreOf};
+ghost use Rattle.rx_mailbox.specs.Boxes.{with_post, AreOf};
 ghost use Rattle.rx_mailbox.specs.Settling.{GotAll};
 ghost use Rattle.rx_tests.specs.Bodies.{all_of, after_all};
+ghost use Rattle.rx_tests.specs.Wiring.{IsTwo};
 
 use crate::heaps::unlimited;
+use crate::in_turn::{Refusable, Seen, refuse_in_turn};
 use rx_heap::Heap;
 use rx_mailbox::{
     EndedPort, Gone, Inbox, MAX_CAPACITY, MAX_PORTS, OpenError, Port, Post, SettleCause, Settled,
@@ -15,6 +17,7 @@ use rx_mailbox::{
 };
 use std::process::Abort;
 use std::sync::Wait;
+use std::test::Fail;
 use std::thread::{Threads, join};
 
 // A body that a box is tried with.
@@ -46,20 +49,43 @@ pub(crate) fn copy(rt: &impl Abort, alloc: &Heap) -> Heap {
     alloc.clone().expect(rt, "a handle")
 }
 
+// A new box with two ports. None where there was no memory for it.
+pub(crate) fn two_if<B: Drop>(
+    rt: &impl Abort,
+    alloc: Heap,
+    capacity: usize,
+) -> Option<(Inbox<B>, Port<B>, Port<B>)>
+    ensures { IfSome result (λ made. IsTwo made.0 made.1 made.2) }
+{
+    let (inbox, mut ports) = made(rt, open(alloc, capacity, 2))?;
+    let second = ports.pop().expect(rt, "port 1");
+    let first = ports.pop().expect(rt, "port 0");
+    Some((inbox, first, second))
+}
+
+// What was opened. None where there was no memory for it.
+pub(crate) fn made<B: Drop>(
+    rt: &impl Abort,
+    opened: Result<(Inbox<B>, Vec<Port<B>, Heap>), OpenError>,
+) -> Option<(Inbox<B>, Vec<Port<B>, Heap>)>
+    ensures { IfSome result (λ made. opened ≡ Ok made) }
+{
+    match opened {
+        Ok(made) => Some(made),
+        Err(OpenError::Memory) => None,
+        Err(OpenError::BadSize) => panic!(rt; "a size of a box"),
+    }
+}
+
 // A new box with two ports.
 pub(crate) fn two<B: Drop>(
     rt: &impl Abort,
     alloc: Heap,
     capacity: usize,
 ) -> (Inbox<B>, Port<B>, Port<B>)
-    ensures inbox { result.0 ≡ incoming result.0.box 2 [] }
-    ensures first { result.1 ≡ outgoing result.0.box 0 [] }
-    ensures second { result.2 ≡ outgoing result.0.box 1 [] }
+    ensures { IsTwo result.0 result.1 result.2 }
 {
-    let (inbox, mut ports) = open(alloc, capacity, 2).expect(rt, "a box");
-    let second = ports.pop().expect(rt, "port 1");
-    let first = ports.pop().expect(rt, "port 0");
-    (inbox, first, second)
+    two_if(rt, alloc, capacity).expect(rt, "a box")
 }
 
 pub(crate) fn send<B: Drop>(rt: &(impl Wait + Abort), port: &mut Port<B>, body: B)
@@ -147,8 +173,18 @@ pub(crate) fn close<B: Drop>(
 }
 
 // Ports 0, 1 and 0 send, and both end; the inbox receives.
-fn run_on_one_thread<B: Sample>(rt: &(impl Wait + Abort), alloc: &Heap) {
-    let (mut inbox, mut first, mut second) = two::<B>(rt, copy(rt, alloc), 8);
+fn run_on_one_thread<B: Sample>(
+    rt: &(impl Wait + Abort),
+    alloc: &Heap,
+    inbox: Inbox<B>,
+    first: Port<B>,
+    second: Port<B>,
+)
+    requires { IsTwo inbox first second }
+{
+    let mut inbox = inbox;
+    let mut first = first;
+    let mut second = second;
     send(rt, &mut first, B::sample(rt, copy(rt, alloc), 1));
     send(rt, &mut second, B::sample(rt, copy(rt, alloc), 2));
     send(rt, &mut first, B::sample(rt, copy(rt, alloc), 3));
@@ -182,8 +218,40 @@ fn run_on_one_thread<B: Sample>(rt: &(impl Wait + Abort), alloc: &Heap) {
 
 #[test]
 fn mailbox_on_one_thread(rt: HostRuntime) {
-    run_on_one_thread::<u32>(&rt, &unlimited(&rt));
-    run_on_one_thread::<Words>(&rt, &unlimited(&rt));
+    let heap = unlimited(&rt);
+    let (inbox, first, second) = two::<u32>(&rt, copy(&rt, &heap), 8);
+    run_on_one_thread(&rt, &heap, inbox, first, second);
+}
+
+/// The same run, of bodies that own memory.
+#[derive(Drop)]
+struct OneThread<'a, R> {
+    rt: &'a R,
+}
+
+impl<R: Wait + Abort> Refusable for OneThread<'_, R> {
+    fn run_by(&self, free: &Heap, tight: &Heap) -> Result<Seen, Fail> {
+        let made = two_if::<Words>(self.rt, tight.clone()?, 8);
+        let is_made = made.is_some();
+        if let Some((inbox, first, second)) = made {
+            run_on_one_thread(self.rt, free, inbox, first, second);
+        }
+        Ok(Seen {
+            is_made,
+            misses: 0,
+            is_right: true,
+        })
+    }
+}
+
+// Where a growth is refused there is no box, and no other call of a run takes memory.
+#[test]
+fn mailbox_with_each_growth_refused(rt: HostRuntime) -> Result<(), Fail> {
+    let refusals = refuse_in_turn(&OneThread { rt: &rt }, rt.alloc())?;
+    assert_eq!(rt; refusals.fault, "");
+    assert!(rt; refusals.unmade >= 3);
+    assert_eq!(rt; refusals.missed, 0);
+    Ok(())
 }
 
 #[test]
@@ -196,6 +264,75 @@ fn sizes_of_a_box(rt: HostRuntime) {
     }
     assert!(rt; open::<u32>(unlimited(&rt), 1, MAX_PORTS).is_ok());
     assert!(rt; open::<u32>(unlimited(&rt), MAX_CAPACITY, 1).is_ok());
+}
+
+#[test]
+fn texts_of_a_refusal(rt: HostRuntime) -> Result<(), Fail> {
+    for (error, text) in [
+        (
+            OpenError::BadSize,
+            "a box has 1 to 65536 letters and 1 to 256 ports",
+        ),
+        (OpenError::Memory, "out of memory"),
+    ] {
+        assert_eq!(rt; format!(in rt.alloc(); "{error}")?.as_str(), text);
+    }
+    assert_eq!(rt;
+        format!(in rt.alloc(); "{Gone}")?.as_str(),
+        "no letter will come any more"
+    );
+    Ok(())
+}
+
+// Each port sends its number and ends.
+fn send_numbers(
+    rt: &(impl Wait + Abort),
+    alloc: Heap,
+    inbox: &Inbox<u32>,
+    ports: Vec<Port<u32>, Heap>,
+) -> Vec<EndedPort<u32>, Heap>
+    requires { AreOf inbox.now ports.items }
+    ensures { AreOf inbox.now result.items }
+{
+    let mut ended = Vec::new(alloc);
+    for port in ports {
+        ended.push(send_number(rt, port)).expect(rt, "memory");
+    }
+    ended
+}
+
+fn send_number(rt: &(impl Wait + Abort), port: Port<u32>) -> EndedPort<u32>
+    ensures { result.box ≡ port.box }
+{
+    let mut port = port;
+    let number = port.number();
+    send(rt, &mut port, number);
+    finish(rt, port)
+}
+
+// Receives the number of each port and its Bye.
+fn receive_numbers(rt: &(impl Wait + Abort), inbox: Inbox<u32>) -> Inbox<u32>
+    ensures { result.box ≡ inbox.box }
+{
+    let mut inbox = inbox;
+    for number in 0..MAX_PORTS {
+        receive(rt, &mut inbox, number, Post::Body(number));
+        receive(rt, &mut inbox, number, Post::Bye);
+    }
+    inbox
+}
+
+// A box with all ports, each of which sends its number.
+fn run_of_all_ports(rt: &(impl Wait + Abort), alloc: &Heap) {
+    let (inbox, ports) = open::<u32>(copy(rt, alloc), 512, MAX_PORTS).expect(rt, "a box");
+    let ports = send_numbers(rt, copy(rt, alloc), &inbox, ports);
+    let inbox = receive_numbers(rt, inbox);
+    close(rt, inbox, ports, 512);
+}
+
+#[test]
+fn a_box_of_all_ports(rt: HostRuntime) {
+    run_of_all_ports(&rt, &unlimited(&rt));
 }
 
 #[test]

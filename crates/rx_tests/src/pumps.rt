@@ -3,20 +3,21 @@
 //!
 //! A letter is told by its signs and a space; a Bye is `.`. What a drainer receives is `+` with the observer and its sink,
 //! `=` with the observer and the sign of its note, `-` with the observer that left. A reply is its ticket, `A`, `L`, `R`
-//! or `J` with the observer for what was accepted, `n` for no such observer or `!` for another refusal, and the sink that
-//! came back or `_`.
+//! or `J` with the observer for what was accepted, `n` for no such observer, `m` for want of memory or `!` for another
+//! refusal, and the sink that came back or `_`.
 
-ghost use Rattle.std.specs.Prelude.{◌≡◌, ◌≤◌, ◌<◌, [], ◌∷◌, length, map, vec_len, IfOk};
+ghost use Rattle.std.specs.Prelude.{◌≡◌, ◌≤◌, ◌<◌, [], ◌∷◌, length, map, vec_len, IfSome};
 ghost use Rattle.std.specs.List.{All};
-ghost use Rattle.rx_mailbox.specs.Boxes.{AreOf, incoming, outgoing};
+ghost use Rattle.rx_mailbox.specs.Boxes.{AreOf};
 ghost use Rattle.rx_pump.specs.Desks.{KeepsDesk, fresh_desk};
 ghost use Rattle.rx_pump.specs.Pumps.{IsFresh};
 ghost use Rattle.rx_pump.specs.Sends.{with_bye};
 ghost use Rattle.rx_pump.specs.Serving.{HasServed};
-ghost use Rattle.rx_tests.specs.Wiring.{boxes_of};
+ghost use Rattle.rx_tests.specs.Wiring.{IsOne, boxes_of};
 
-use crate::boxes::{close, copy, finish, send, two};
+use crate::boxes::{close, copy, finish, made, send, two, two_if};
 use crate::heaps::unlimited;
+use crate::in_turn::{Refusable, Seen, refuse_in_turn};
 use crate::signs::{digit_of, event_of, policy_of, sign_of};
 use rx_heap::Heap;
 use rx_hub::Hub;
@@ -57,6 +58,7 @@ fn put_result(told: &mut Vec<u8, Heap>, answered: Result<Answer, Refusal>) -> Re
         Ok(Answer::Asked) => b'R',
         Ok(Answer::Left) => b'L',
         Err(Refusal::NoObserver) => b'n',
+        Err(Refusal::Memory) => b'm',
         Err(_) => b'!',
     })?;
     if let Ok(Answer::Joined(who)) = answered {
@@ -85,18 +87,23 @@ fn put_post<B: Told>(told: &mut Vec<u8, Heap>, post: &Post<B>) -> Result<(), Fai
     Ok(told.push(b' ')?)
 }
 
-// The next letters, all of port 0.
+// No run here sends as many letters by one port.
+const MAX_LETTERS: u32 = 100;
+
+// The letters up to the Bye, all of port 0.
 fn told_of<B: Told>(
     rt: &(impl Wait + Abort),
     heap: &Heap,
     inbox: &mut Inbox<B>,
-    letters: usize,
 ) -> Result<Vec<u8, Heap>, Fail> {
     let mut told = Vec::new(heap.clone()?);
-    for _ in 0..letters {
+    for _ in 0..MAX_LETTERS {
         let letter = inbox.recv(rt).expect(rt, "a letter");
         assert_eq!(rt; letter.from, 0);
         put_post(&mut told, &letter.post)?;
+        if matches!(letter.post, Post::Bye) {
+            break;
+        }
     }
     Ok(told)
 }
@@ -114,18 +121,26 @@ fn call_of(heap: &Heap, ticket: u64, sign: u8, sink: Option<u8>) -> Result<Call<
     })
 }
 
-// Sends calls, each from port 0 or 1.
+// The calls of a run: each with its port, 0 or 1, its ticket, the sign of its event and its sink.
+const CALLS: [(u8, u64, u8, Option<u8>); 5] = [
+    (0, 1, b'+', Some(7)),
+    (0, 2, b'a', None),
+    (1, 0, b'1', None),
+    (0, 3, b'-', None),
+    (0, 4, b'-', Some(9)),
+];
+
+// Sends the calls.
 fn send_calls(
     rt: &(impl Wait + Abort),
     heap: &Heap,
     first: &mut Port<Call<u8>>,
     second: &mut Port<Call<u8>>,
-    calls: &[(u8, u64, u8, Option<u8>)],
 ) -> Result<(), Fail>
     ensures first { first.new.box ≡ first.old.box }
     ensures second { second.new.box ≡ second.old.box }
 {
-    for (port, ticket, sign, sink) in calls {
+    for (port, ticket, sign, sink) in &CALLS {
         let call = call_of(heap, *ticket, *sign, *sink)?;
         match port {
             0 => send(rt, first, call),
@@ -133,6 +148,31 @@ fn send_calls(
         }
     }
     Ok(())
+}
+
+// A pump of a new Publish subject, which grows by `tight`. None where there was no memory for its hub or for it.
+fn pump_if(
+    rt: &impl Abort,
+    heap: &Heap,
+    tight: &Heap,
+    inbox: Inbox<Call<u8>>,
+    drainer: Port<Out<u8>>,
+    callers: Vec<Port<Reply<u8>>, Heap>,
+) -> Option<Pump<u8>>
+    requires inbox { inbox.received ≡ [] }
+    requires drainer { drainer.own ≡ [] }
+    requires callers { All IsFresh callers.items }
+    requires ports { vec_len callers ≤ inbox.ports }
+    ensures inbox { IfSome result (λ pump. pump.inbox ≡ inbox) }
+    ensures callers { IfSome result (λ pump. pump.replies ≡ callers.items) }
+{
+    let limits = Limits {
+        observers: 1,
+        joins: 1,
+    };
+    let hub = Hub::new(copy(rt, tight), Kind::Publish, limits).ok()?;
+    let drainers = vec![in copy(rt, heap); drainer].expect(rt, "memory");
+    Pump::new(copy(rt, tight), hub, inbox, drainers, callers).ok()
 }
 
 // A pump of a new Publish subject.
@@ -150,16 +190,7 @@ fn pump_of(
     ensures inbox { result.inbox ≡ inbox }
     ensures callers { result.replies ≡ callers.items }
 {
-    let limits = Limits {
-        observers: 1,
-        joins: 1,
-    };
-    let hub = Hub::new(copy(rt, heap), Kind::Publish, limits).expect(rt, "a hub");
-    let drainers = vec![in copy(rt, heap); drainer].expect(rt, "memory");
-    match Pump::new(copy(rt, heap), hub, inbox, drainers, callers) {
-        Ok(pump) => pump,
-        Err(_) => panic!(rt; "no memory for a pump"),
-    }
+    pump_if(rt, heap, heap, inbox, drainer, callers).expect(rt, "a pump")
 }
 
 fn serve(rt: &(impl Wait + Abort), pump: Pump<u8>) -> PumpEnd<u8>
@@ -171,14 +202,49 @@ fn serve(rt: &(impl Wait + Abort), pump: Pump<u8>) -> PumpEnd<u8>
     }
 }
 
+// A new box with one port. None where there was no memory for it.
+fn one_if<B: Drop>(rt: &impl Abort, alloc: Heap, capacity: usize) -> Option<(Inbox<B>, Port<B>)>
+    ensures { IfSome result (λ made. IsOne made.0 made.1) }
+{
+    let (inbox, mut ports) = made(rt, open(alloc, capacity, 1))?;
+    let port = ports.pop().expect(rt, "port 0");
+    Some((inbox, port))
+}
+
 // A new box with one port.
 fn one<B: Drop>(rt: &impl Abort, alloc: Heap, capacity: usize) -> (Inbox<B>, Port<B>)
-    ensures inbox { result.0 ≡ incoming result.0.box 1 [] }
-    ensures port { result.1 ≡ outgoing result.0.box 0 [] }
+    ensures { IsOne result.0 result.1 }
 {
-    let (inbox, mut ports) = open(alloc, capacity, 1).expect(rt, "a box");
-    let port = ports.pop().expect(rt, "port 0");
-    (inbox, port)
+    one_if(rt, alloc, capacity).expect(rt, "a box")
+}
+
+// What a pump is to serve: the ports of its calls, and what it sends to.
+#[derive(Drop)]
+struct Wired {
+    pump: Pump<u8>,
+    first: Port<Call<u8>>,
+    second: Port<Call<u8>>,
+    outs: Inbox<Out<u8>>,
+    replies: Inbox<Reply<u8>>,
+    ghost first_is: { first.box ≡ pump.inbox.box },
+    ghost second_is: { second.box ≡ pump.inbox.box },
+}
+
+// A new pump with its boxes, which grow by `tight`. Of the drainers' box the pump has port 0. None where there was no
+// memory for one of them.
+fn wired_if(rt: &impl Abort, heap: &Heap, tight: &Heap) -> Option<Wired> {
+    let (inbox, first, second) = two_if::<Call<u8>>(rt, copy(rt, tight), 64)?;
+    let (outs, drainer, _) = two_if::<Out<u8>>(rt, copy(rt, tight), 16)?;
+    let (replies, caller) = one_if::<Reply<u8>>(rt, copy(rt, tight), 8)?;
+    let callers = vec![in copy(rt, heap); caller].expect(rt, "memory");
+    let pump = pump_if(rt, heap, tight, inbox, drainer, callers)?;
+    Some(Wired {
+        pump,
+        first,
+        second,
+        outs,
+        replies,
+    })
 }
 
 // What became of calls that were all sent before the pump served.
@@ -190,28 +256,41 @@ struct Run {
     replies: Inbox<Reply<u8>>,
     calls: u64,
     refused: u64,
+    ghost wired: { AreOf inbox ports.items },
 }
 
-// Two ports send calls and end, and the pump serves. Of the drainers' box the pump has port 0.
-fn run_of(
-    rt: &(impl Wait + Abort),
+// The list of the two ports of a box.
+fn both_of(
+    rt: &impl Abort,
     heap: &Heap,
-    calls: &[(u8, u64, u8, Option<u8>)],
-) -> Result<Run, Fail>
-    ensures { IfOk result (λ run. AreOf run.inbox run.ports.items) }
+    inbox: &Inbox<Call<u8>>,
+    first: EndedPort<Call<u8>>,
+    second: EndedPort<Call<u8>>,
+) -> Vec<EndedPort<Call<u8>>, Heap>
+    requires first { first.box ≡ inbox.now.box }
+    requires second { second.box ≡ inbox.now.box }
+    ensures { AreOf inbox.now result.items }
 {
-    let (inbox, mut first, mut second) = two::<Call<u8>>(rt, copy(rt, heap), 64);
-    let (outs, drainer, _) = two::<Out<u8>>(rt, copy(rt, heap), 16);
-    let (replies, caller) = one::<Reply<u8>>(rt, copy(rt, heap), 8);
-    let callers = vec![in copy(rt, heap); caller].expect(rt, "memory");
-    let pump = pump_of(rt, heap, inbox, drainer, callers);
-    send_calls(rt, heap, &mut first, &mut second, calls)?;
+    vec![in copy(rt, heap); first, second].expect(rt, "memory")
+}
+
+// Two ports send the calls and end, and the pump serves.
+fn run_of(rt: &(impl Wait + Abort), heap: &Heap, wired: Wired) -> Result<Run, Fail> {
+    let Wired {
+        pump,
+        mut first,
+        mut second,
+        outs,
+        replies,
+    } = wired;
+    send_calls(rt, heap, &mut first, &mut second)?;
     let first = finish(rt, first);
     let second = finish(rt, second);
     let left = serve(rt, pump);
+    let ports = both_of(rt, heap, &left.inbox, first, second);
     Ok(Run {
         inbox: left.inbox,
-        ports: vec![in copy(rt, heap); first, second].expect(rt, "memory"),
+        ports,
         outs,
         replies,
         calls: left.calls,
@@ -219,30 +298,90 @@ fn run_of(
     })
 }
 
+/// What a run sends the drainer and the caller, and how many of its calls are refused for want of memory.
+struct Sent {
+    outs: &'static str,
+    replies: &'static str,
+    refused: u64,
+}
+
+// What is sent where no call is refused, and where the joining is or the emission: its reply says so and has its sink, and
+// what else is sent is that of a subject that never met it.
+const SENT: [Sent; 3] = [
+    Sent {
+        outs: "+07 =0a -0 . ",
+        replies: "1J0_ 2A_ 3L_ 4n9 . ",
+        refused: 0,
+    },
+    Sent {
+        outs: ". ",
+        replies: "1m7 2A_ 3n_ 4n9 . ",
+        refused: 1,
+    },
+    Sent {
+        outs: "+07 -0 . ",
+        replies: "1J0_ 2m_ 3L_ 4n9 . ",
+        refused: 1,
+    },
+];
+
+// The place among `SENT` of what a run sent, whose box then settles.
+fn place_of(rt: &(impl Wait + Abort), heap: &Heap, run: Run) -> Result<Option<usize>, Fail> {
+    let mut outs = run.outs;
+    let mut replies = run.replies;
+    let outs = told_of(rt, heap, &mut outs)?;
+    let replies = told_of(rt, heap, &mut replies)?;
+    assert_eq!(rt; run.calls, 5);
+    close(rt, run.inbox, run.ports, 7);
+    let refused = run.refused;
+    Ok(
+        SENT.iter().position(|sent| {
+            sent.refused == refused
+                && sent.outs.as_bytes() == outs.as_slice()
+                && sent.replies.as_bytes() == replies.as_slice()
+        }),
+    )
+}
+
 #[test]
 fn pump_letter_by_letter(rt: HostRuntime) -> Result<(), Fail> {
     let heap = unlimited(&rt);
-    let calls = [
-        (0, 1, b'+', Some(7)),
-        (0, 2, b'a', None),
-        (1, 0, b'1', None),
-        (0, 3, b'-', None),
-        (0, 4, b'-', Some(9)),
-    ];
-    let run = run_of(&rt, &heap, calls.as_slice())?;
-    assert_eq!(rt; run.calls, 5);
-    assert_eq!(rt; run.refused, 0);
-    let mut outs = run.outs;
-    assert_eq!(rt;
-        told_of(&rt, &heap, &mut outs, 4)?.as_slice(),
-        b"+07 =0a -0 . ".as_slice()
-    );
-    let mut replies = run.replies;
-    assert_eq!(rt;
-        told_of(&rt, &heap, &mut replies, 5)?.as_slice(),
-        b"1J0_ 2A_ 3L_ 4n9 . ".as_slice()
-    );
-    close(&rt, run.inbox, run.ports, 7);
+    let wired = wired_if(&rt, &heap, &heap).ok_or("no pump")?;
+    let run = run_of(&rt, &heap, wired)?;
+    assert_eq!(rt; place_of(&rt, &heap, run)?, Some(0));
+    Ok(())
+}
+
+/// The same run, with a growth refused.
+#[derive(Drop)]
+struct LetterByLetter<'a, R> {
+    rt: &'a R,
+}
+
+impl<R: Wait + Abort> Refusable for LetterByLetter<'_, R> {
+    fn run_by(&self, free: &Heap, tight: &Heap) -> Result<Seen, Fail> {
+        let Some(wired) = wired_if(self.rt, free, tight) else {
+            return Ok(Seen {
+                is_made: false,
+                misses: 0,
+                is_right: true,
+            });
+        };
+        let run = run_of(self.rt, free, wired)?;
+        let misses = run.refused;
+        Ok(Seen {
+            is_made: true,
+            misses,
+            is_right: place_of(self.rt, free, run)?.is_some(),
+        })
+    }
+}
+
+#[test]
+fn pump_with_each_growth_refused(rt: HostRuntime) -> Result<(), Fail> {
+    let refusals = refuse_in_turn(&LetterByLetter { rt: &rt }, rt.alloc())?;
+    assert_eq!(rt; refusals.fault, "");
+    assert!(rt; refusals.unmade >= 10 && refusals.missed >= 2);
     Ok(())
 }
 
