@@ -2,17 +2,22 @@
 
 use crate::signs::{item, policy_by};
 use rx_heap::Heap;
-use rx_note::{Errors, Event, Note, Strategy, Text};
+use rx_note::{Errors, Event, Note, Policy, Strategy, Text};
 use std::test::Fail;
-
-// How many events are drawn.
-const EVENTS: u32 = 400;
 
 // The first event that may be an item.
 const FIRST_ITEM: u32 = 20;
 
-// The first event that may be the end.
-const FIRST_END: u32 = 300;
+/// Which events are drawn.
+#[derive(Clone, Copy)]
+pub(crate) struct Plan {
+    /// How many.
+    pub(crate) events: u32,
+    /// The strategy and the error mode of each join, whatever was drawn for it. None leaves what was drawn.
+    pub(crate) policy: Option<(Strategy, Errors)>,
+    /// Whether the end is an error.
+    pub(crate) fails: bool,
+}
 
 /// Draws events.
 #[derive(Drop)]
@@ -20,10 +25,7 @@ struct Draw {
     state: u64,
     // The greatest moment so far, in milliseconds.
     moment: u64,
-    // Whether each join is under Buffer, whatever strategy was drawn for it.
-    buffers: bool,
-    // Whether the end is an error.
-    fails: bool,
+    plan: Plan,
 }
 
 impl Draw {
@@ -41,7 +43,6 @@ impl Draw {
     fn strategy(&mut self) -> Strategy {
         let room = u16::try_from(self.below(4)).unwrap_or(0);
         match self.below(3) {
-            _ if self.buffers => Strategy::Buffer,
             0 => Strategy::Buffer,
             1 => Strategy::Drop(room),
             _ => Strategy::Latest(room.max(1)),
@@ -52,6 +53,15 @@ impl Draw {
         match self.below(2) {
             0 => Errors::Ahead,
             _ => Errors::Delay,
+        }
+    }
+
+    fn policy(&mut self) -> Result<Policy, Fail> {
+        let strategy = self.strategy();
+        let errors = self.errors();
+        match self.plan.policy {
+            Some((strategy, errors)) => policy_by(strategy, errors),
+            None => policy_by(strategy, errors),
         }
     }
 
@@ -67,8 +77,7 @@ impl Draw {
     }
 
     fn join(&mut self) -> Result<Event, Fail> {
-        let strategy = self.strategy();
-        let policy = policy_by(strategy, self.errors())?;
+        let policy = self.policy()?;
         let first = self.below(4);
         let at = self.at();
         Ok(Event::Join { policy, first, at })
@@ -86,7 +95,7 @@ impl Draw {
     }
 
     fn end(&mut self, heap: &Heap) -> Result<Event, Fail> {
-        let note = if self.fails {
+        let note = if self.plan.fails {
             Note::Failed(Text::new(heap.clone()?, b"x")?)
         } else {
             Note::Completed
@@ -111,7 +120,7 @@ impl Draw {
     // The event at a place. Joins are drawn more often where there is no item yet, and where there may be the end.
     fn event(&mut self, heap: &Heap, place: u32) -> Result<Event, Fail> {
         let has_items = place >= FIRST_ITEM;
-        let may_end = place >= FIRST_END;
+        let may_end = place >= self.plan.events / 4 * 3;
         match self.below(48) {
             0..=2 => self.join(),
             3..=8 if !has_items || may_end => self.join(),
@@ -126,22 +135,16 @@ impl Draw {
     }
 }
 
-/// The 400 events that are drawn for a run, each with the port that it comes by. No item comes among the first 20; the end
-/// may come among the last 100. `buffers` puts each join under Buffer, `fails` makes the end an
-/// error.
-pub(crate) fn drawn(
-    heap: &Heap,
-    buffers: bool,
-    fails: bool,
-) -> Result<Vec<(u32, Event), Heap>, Fail> {
+/// The events that are drawn, each with the port that it comes by. No item comes among the first 20; the end may come among
+/// the last quarter.
+pub(crate) fn drawn(heap: &Heap, plan: Plan) -> Result<Vec<(u32, Event), Heap>, Fail> {
     let mut draw = Draw {
         state: 11,
         moment: 0,
-        buffers,
-        fails,
+        plan,
     };
     let mut events = Vec::new(heap.clone()?);
-    for place in 0..EVENTS {
+    for place in 0..plan.events {
         let port = draw.below(3);
         events.push((port, draw.event(heap, place)?))?;
     }

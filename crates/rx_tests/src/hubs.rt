@@ -6,13 +6,13 @@
 
 ghost use Rattle.std.specs.Prelude.{◌≤◌, IfOk};
 
-use crate::drawing::drawn;
+use crate::drawing::{Plan, drawn};
 use crate::heaps::unlimited;
 use crate::signs::{Named, SEED_PORT, digit_of, event_of, kind_of, policy_of, rules_of, sign_of};
 use rx_heap::Heap;
 use rx_history::History;
 use rx_hub::{Hub, NoObserver, Run, Step};
-use rx_note::{Answer, Event, Given, Kind, Limits, Note, Refusal, Rules, Strategy};
+use rx_note::{Answer, Errors, Event, Given, Kind, Limits, Note, Refusal, Rules, Strategy};
 use std::test::Fail;
 
 fn events_of(
@@ -117,19 +117,29 @@ pub(crate) struct Ran {
     pub(crate) ghost limited: { rules.limits.observers ≤ 64 },
 }
 
-fn history_of(heap: &Heap, buffers: bool, fails: bool) -> Result<History, Fail> {
+// 400 events, whose end is an error or not.
+fn plan_of(fails: bool) -> Plan {
+    Plan {
+        events: 400,
+        policy: None,
+        fails,
+    }
+}
+
+fn history_of(heap: &Heap, plan: Plan) -> Result<History, Fail> {
     let mut history = History::new(heap.clone()?);
-    for (port, event) in drawn(heap, buffers, fails)? {
+    for (port, event) in drawn(heap, plan)? {
         history.add(port, event)?;
     }
     Ok(history)
 }
 
-fn run_drawn(heap: &Heap, named: Named, fails: bool) -> Result<Ran, Fail> {
+/// The run of drawn events by a new hub of this kind.
+pub(crate) fn run_drawn(heap: &Heap, named: Named, plan: Plan) -> Result<Ran, Fail> {
     let rules = drawn_rules(heap, named)?;
-    let history = history_of(heap, false, fails)?;
+    let history = history_of(heap, plan)?;
     let mut hub = hub_of(heap, drawn_rules(heap, named)?)?;
-    let run = run_of(heap, &mut hub, drawn(heap, false, fails)?)?;
+    let run = run_of(heap, &mut hub, drawn(heap, plan)?)?;
     Ok(Ran {
         rules,
         run,
@@ -138,8 +148,8 @@ fn run_drawn(heap: &Heap, named: Named, fails: bool) -> Result<Ran, Fail> {
     })
 }
 
-// How many observers joined, where each was told the number after the one before.
-fn joined(steps: &[Step]) -> Option<u32> {
+/// How many observers joined, where each was told the number after the one before.
+pub(crate) fn joined(steps: &[Step]) -> Option<u32> {
     let mut joined: u32 = 0;
     for step in steps {
         match step.result {
@@ -340,7 +350,7 @@ struct Shown {
 }
 
 fn shown_of(heap: &Heap, named: Named, fails: bool) -> Result<Shown, Fail> {
-    let drawn = run_drawn(heap, named, fails)?;
+    let drawn = run_drawn(heap, named, plan_of(fails))?;
     drawn.shown(heap)
 }
 
@@ -405,7 +415,11 @@ struct Reading {
 }
 
 fn reading_of(heap: &Heap, named: Named, buffers: bool) -> Result<Reading, Fail> {
-    let history = history_of(heap, buffers, false)?;
+    let mut plan = plan_of(false);
+    if buffers {
+        plan.policy = Some((Strategy::Buffer, Errors::Delay));
+    }
+    let history = history_of(heap, plan)?;
     let rules = drawn_rules(heap, named)?;
     Ok(Reading { history, rules })
 }

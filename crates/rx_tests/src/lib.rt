@@ -7,6 +7,8 @@
 #![tactic(auto)]
 
 #[cfg(test)]
+mod ample;
+#[cfg(test)]
 mod boxes;
 #[cfg(test)]
 mod budgets;
