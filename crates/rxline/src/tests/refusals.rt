@@ -84,8 +84,10 @@ impl Way {
             let tight = Heap::refusing(alloc, growth)?;
             let seen = self.seen(&free, &tight, run, run.script)?;
             if tight.asked() <= growth {
-                let is_whole = !seen.is_ended && seen.written.as_slice() == whole;
-                return Ok(Some(refusals).filter(|_| is_whole));
+                if seen.is_ended || seen.written.as_slice() != whole {
+                    return Ok(None);
+                }
+                return Ok(Some(refusals));
             }
             if tight.used() != 0 || !self.allows(&free, run, whole, &seen)? {
                 return Ok(None);
@@ -141,38 +143,59 @@ fn is_answer(line: &[u8]) -> bool {
     line.starts_with(b"OK".as_slice()) || line.starts_with(b"ERR".as_slice())
 }
 
+// No text here has as many lines.
+const MAX_LINES: usize = 1_000;
+
+// The first line, with its LF, and what stands behind it.
+fn cut_line(text: &[u8]) -> (&[u8], &[u8]) {
+    let mut len: usize = 0;
+    for byte in text {
+        len = len.saturating_add(1);
+        if *byte == b'\n' {
+            break;
+        }
+    }
+    text.split_at(len.min(text.len()))
+}
+
 // The place among the lines of the script of the one that was refused.
 fn refused_place(written: &[u8]) -> Option<usize> {
+    let mut rest = written;
     let mut place: usize = 0;
-    for line in written.split_inclusive(|byte| *byte == b'\n') {
+    for _ in 0..MAX_LINES {
+        let (line, behind) = cut_line(rest);
         if line == REFUSED {
             return Some(place);
         }
         if is_answer(line) {
             place = place.saturating_add(1);
         }
+        rest = behind;
     }
     None
 }
 
 // A script without the line at a place.
 fn without(heap: &Heap, script: &[u8], place: usize) -> Result<Vec<u8, Heap>, Fail> {
-    let mut rest = Vec::new(heap.clone()?);
-    let mut at: usize = 0;
-    for line in script.split_inclusive(|byte| *byte == b'\n') {
+    let mut left = Vec::new(heap.clone()?);
+    let mut rest = script;
+    for at in 0..MAX_LINES {
+        let (line, behind) = cut_line(rest);
         if at != place {
-            rest.extend_from_slice(line)?;
+            left.extend_from_slice(line)?;
         }
-        at = at.saturating_add(1);
+        rest = behind;
     }
-    Ok(rest)
+    Ok(left)
 }
 
 // What is written, with the refusal as the answer at a place.
 fn with_refusal(heap: &Heap, written: &[u8], place: usize) -> Result<Vec<u8, Heap>, Fail> {
     let mut all = Vec::new(heap.clone()?);
+    let mut rest = written;
     let mut answers: usize = 0;
-    for line in written.split_inclusive(|byte| *byte == b'\n') {
+    for _ in 0..MAX_LINES {
+        let (line, behind) = cut_line(rest);
         if is_answer(line) {
             if answers == place {
                 all.extend_from_slice(REFUSED)?;
@@ -180,6 +203,7 @@ fn with_refusal(heap: &Heap, written: &[u8], place: usize) -> Result<Vec<u8, Hea
             answers = answers.saturating_add(1);
         }
         all.extend_from_slice(line)?;
+        rest = behind;
     }
     if answers == place {
         all.extend_from_slice(REFUSED)?;
