@@ -9,6 +9,14 @@ use std::test::Fail;
 
 const FIRST: &str = "[[subject]]\nname = \"s\"\nkind = \"publish\"\n";
 
+const REPLAY: &str = "[[subject]]\nname = \"s\"\nkind = \"replay\"\n";
+
+const UNNAMED: &str = "[[subject]]\nkind = \"publish\"\n";
+
+const NO_KIND: &str = "[[subject]]\nname = \"s\"\n";
+
+const POOL: &str = "[[subject]]\nname = \"s\"\nkind = \"async\"\n[pool]\n";
+
 // What was read: the pool, then a line for each subject.
 fn told<W: Write>(out: &mut W, config: &Config) -> io::Result<()> {
     let Config {
@@ -101,6 +109,101 @@ fn example_of_two_subjects(rt: HostRuntime) -> Result<(), Fail> {
     assert_eq!(rt; reading.as_slice(), wanted);
     let no_text = reading_of(&rt, unlimited(&rt), b"\xff".as_slice())?;
     assert_eq!(rt; no_text.as_slice(), b"config is not TOML".as_slice());
+    Ok(())
+}
+
+// Each key at its least and its greatest value, one below, one above, and of another type: what stands before it, its
+// line, and what is told.
+const EDGES: [(&str, &str, &str); 52] = [
+    (FIRST, "observers = 1\n", "1 4 16 4294967295; s 1 4294967295 publish"),
+    (FIRST, "observers = 64\n", "1 4 16 4294967295; s 64 4294967295 publish"),
+    (FIRST, "observers = 0\n", "subject 0 is refused"),
+    (FIRST, "observers = 65\n", "subject 0 is refused"),
+    (FIRST, "observers = -1\n", "subject 0 is refused"),
+    (FIRST, "observers = \"1\"\n", "subject 0 is refused"),
+    (FIRST, "joins = 1\n", "1 4 16 4294967295; s 64 1 publish"),
+    (FIRST, "joins = 4294967295\n", "1 4 16 4294967295; s 64 4294967295 publish"),
+    (FIRST, "joins = 0\n", "subject 0 is refused"),
+    (FIRST, "joins = 4294967296\n", "subject 0 is refused"),
+    (FIRST, "joins = true\n", "subject 0 is refused"),
+    (REPLAY, "count = 1\n", "1 4 16 4294967295; s 64 4294967295 replay Some(1) None"),
+    (REPLAY, "count = 4096\n", "1 4 16 4294967295; s 64 4294967295 replay Some(4096) None"),
+    (REPLAY, "count = 0\n", "subject 0 is refused"),
+    (REPLAY, "count = 4097\n", "subject 0 is refused"),
+    (REPLAY, "count = 1.0\n", "subject 0 is refused"),
+    (REPLAY, "age = 1\n", "1 4 16 4294967295; s 64 4294967295 replay None Some(1)"),
+    (
+        REPLAY,
+        "age = 9223372036854775807\n",
+        "1 4 16 4294967295; s 64 4294967295 replay None Some(9223372036854775807)",
+    ),
+    (REPLAY, "age = 0\n", "subject 0 is refused"),
+    (REPLAY, "age = 9223372036854775808\n", "config is not TOML"),
+    (REPLAY, "age = [1]\n", "subject 0 is refused"),
+    (UNNAMED, "name = \"-\"\n", "1 4 16 4294967295; - 64 4294967295 publish"),
+    (
+        UNNAMED,
+        "name = \"abcdefghijklmnopqrstuvwxyz012345\"\n",
+        "1 4 16 4294967295; abcdefghijklmnopqrstuvwxyz012345 64 4294967295 publish",
+    ),
+    (UNNAMED, "name = \"\"\n", "subject 0 is refused"),
+    (UNNAMED, "name = \"abcdefghijklmnopqrstuvwxyz0123456\"\n", "subject 0 is refused"),
+    (UNNAMED, "name = 1\n", "subject 0 is refused"),
+    (NO_KIND, "", "subject 0 is refused"),
+    (NO_KIND, "kind = \"Publish\"\n", "subject 0 is refused"),
+    (NO_KIND, "kind = 1\n", "subject 0 is refused"),
+    (NO_KIND, "kind = \"behavior\"\nseed = \"\"\n", "1 4 16 4294967295; s 64 4294967295 behavior "),
+    (NO_KIND, "kind = \"behavior\"\nseed = 1\n", "subject 0 is refused"),
+    (NO_KIND, "kind = \"async\"\nseed = \"\"\n", "subject 0 is refused"),
+    (POOL, "drainers = 1\n", "1 4 16 4294967295; s 64 4294967295 async"),
+    (POOL, "drainers = 8\n", "8 4 16 4294967295; s 64 4294967295 async"),
+    (POOL, "drainers = 0\n", "pool is refused"),
+    (POOL, "drainers = 9\n", "pool is refused"),
+    (POOL, "drainers = \"1\"\n", "pool is refused"),
+    (POOL, "workers = 1\n", "1 1 16 4294967295; s 64 4294967295 async"),
+    (POOL, "workers = 32\n", "1 32 16 4294967295; s 64 4294967295 async"),
+    (POOL, "workers = 0\n", "pool is refused"),
+    (POOL, "workers = 33\n", "pool is refused"),
+    (POOL, "workers = true\n", "pool is refused"),
+    (POOL, "window = 1\n", "1 4 1 4294967295; s 64 4294967295 async"),
+    (POOL, "window = 16\n", "1 4 16 4294967295; s 64 4294967295 async"),
+    (POOL, "window = 0\n", "pool is refused"),
+    (POOL, "window = 17\n", "pool is refused"),
+    (POOL, "window = 1.0\n", "pool is refused"),
+    (POOL, "connections = 1\n", "1 4 16 1; s 64 4294967295 async"),
+    (POOL, "connections = 4294967295\n", "1 4 16 4294967295; s 64 4294967295 async"),
+    (POOL, "connections = 0\n", "pool is refused"),
+    (POOL, "connections = 4294967296\n", "pool is refused"),
+    (POOL, "connections = {}\n", "pool is refused"),
+];
+
+#[test]
+fn each_key_at_its_edges(rt: HostRuntime) -> Result<(), Fail> {
+    for (front, line, wanted) in &EDGES {
+        let reading = reading_behind(&rt, front, line)?;
+        assert_eq!(rt; reading.as_slice(), wanted.as_bytes(), "{line}");
+    }
+    Ok(())
+}
+
+// What is told of a seed of so many bytes.
+fn reading_of_seed(rt: &HostRuntime, len: usize) -> Result<Vec<u8>, Fail> {
+    let mut text = Vec::new(rt.alloc());
+    text.extend_from_slice(NO_KIND.as_bytes())?;
+    text.extend_from_slice(b"kind = \"behavior\"\nseed = \"")?;
+    for _ in 0..len {
+        text.push(b'z')?;
+    }
+    text.extend_from_slice(b"\"\n")?;
+    reading_of(rt, unlimited(rt), text.as_slice())
+}
+
+#[test]
+fn seeds_at_their_edge(rt: HostRuntime) -> Result<(), Fail> {
+    let greatest = reading_of_seed(&rt, 1024)?;
+    assert!(rt; greatest.ends_with(b"zz"));
+    let above = reading_of_seed(&rt, 1025)?;
+    assert_eq!(rt; above.as_slice(), b"subject 0 is refused".as_slice());
     Ok(())
 }
 
