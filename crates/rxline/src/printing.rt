@@ -19,9 +19,9 @@ pub fn put_given<W: Write>(
 ) -> Result<(), WriteFault>
     ensures { Puts result outbox.old outbox.new (W.contents writer.old) (W.contents writer.new) (given_line name.now who note.now) }
 {
-    let name = name.as_bytes();
+    let (name, len) = name.padded();
     outbox.ready(writer)?;
-    outbox.push(name);
+    outbox.push_padded(name, len);
     outbox.push(b" ");
     push_decimal(outbox, who);
     outbox.push(b" ");
