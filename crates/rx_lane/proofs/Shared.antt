@@ -1,10 +1,11 @@
 -- What waits on a tape, as items are passed, come and are lost.
 use Rattle.std.proofs.Common.{◌≡◌, ℕ, zero, suc, ◌+◌, ◌-◌, ◌<◌, ◌≤◌, List, [], ◌∷◌, ◌++◌, length, take, drop, Option, Some, refl, sym, ap, ◌∙◌, option_to_list, arith}
 use Rattle.std.specs.Prelude.{slice_get}
-use Rattle.std.proofs.lemmas.List.{take_more}
+use Rattle.std.proofs.lemmas.List.{length-append, take_more}
 use Rattle.std.proofs.lemmas.Option.{get_or_from_slice_get}
 use Rattle.rx_note.specs.declared.item.Item.{Item}
-use Rattle.rx_tape.specs.Tapes.{last_items, waits}
+use Rattle.rx_tape.specs.Tapes.{TapeState, end_of, last_items, waits, pushed}
+use Rattle.rx_lane.specs.TapeLanes.{StandsBack}
 use Rattle.rx_tape.proofs.Lasts.{fewer_last}
 
 -- the first items of two lists, one behind the other, left out
@@ -28,3 +29,10 @@ passed_over lead new items back count more more_is new_is h within =
 -- the item at a place is the next one taken
 pub copied : (xs : List Item) (i : ℕ) (item : Item) → i < length xs → slice_get xs i ≡ Some item → take (i + 1) xs ≡ take i xs ++ item ∷ []
 copied xs i item lt is = take_more xs i item lt ∙ ap (λ x. take i xs ++ x ∷ []) (get_or_from_slice_get xs i item item is)
+
+-- an item more on the tape, and the cursor stands one further before its end
+pub pushed_on : (tape : TapeState) (item : Item) (cursor back : ℕ) → StandsBack tape cursor back → StandsBack (pushed tape item) cursor (back + 1)
+pushed_on tape item cursor back stands =
+    let longer = length-append tape.items (item ∷ []) in
+    let same : end_of tape - back ≡ end_of (pushed tape item) - (back + 1) = omega (arith, longer, stands.within) in
+    record { within = omega (arith, longer, stands.within); place = stands.place ∙ ap (λ (n : ℕ). Some n) same }

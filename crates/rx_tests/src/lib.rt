@@ -43,4 +43,8 @@ mod signs;
 #[cfg(test)]
 mod subjects;
 #[cfg(test)]
+mod tape_lanes;
+#[cfg(test)]
+mod tape_subjects;
+#[cfg(test)]
 mod tapes;

@@ -14,21 +14,24 @@ use rx_note::{Item, KindError, Note};
 use rx_subject::{AdmitError, Offer, Opening, Subject};
 use std::test::Fail;
 
-fn put_item(told: &mut Vec<u8, Heap>, item: &Option<Item>) -> Result<(), Fail> {
+pub(crate) fn put_item(told: &mut Vec<u8, Heap>, item: &Option<Item>) -> Result<(), Fail> {
     if let Some(item) = item {
         told.push(sign_of_item(item))?;
     }
     Ok(())
 }
 
-fn put_end(told: &mut Vec<u8, Heap>, end: &Option<Note>) -> Result<(), Fail> {
+pub(crate) fn put_end(told: &mut Vec<u8, Heap>, end: &Option<Note>) -> Result<(), Fail> {
     if let Some(end) = end {
         told.push(sign_of(end))?;
     }
     Ok(())
 }
 
-fn put_offered(told: &mut Vec<u8, Heap>, offered: &Result<Offer, AdmitError>) -> Result<(), Fail> {
+pub(crate) fn put_offered(
+    told: &mut Vec<u8, Heap>,
+    offered: &Result<Offer, AdmitError>,
+) -> Result<(), Fail> {
     match offered {
         Ok(offer) => {
             put_item(told, &offer.item)?;
@@ -134,7 +137,7 @@ impl Tried {
     }
 }
 
-fn is_memory(offered: &Result<Offer, AdmitError>) -> bool {
+pub(crate) fn is_memory(offered: &Result<Offer, AdmitError>) -> bool {
     matches!(offered, Err(AdmitError::Memory))
 }
 
@@ -210,8 +213,8 @@ impl Refusable for Row {
     }
 }
 
-// Kinds, scripts and what is told of them.
-const ROWS: [(Named, &str, &str); 23] = [
+/// Kinds, scripts and what is told of them.
+pub(crate) const ROWS: [(Named, &str, &str); 23] = [
     (
         Named::Replay(Some(2), None),
         "1a 2b 3c 3? ~. 4. 9d = 9?",

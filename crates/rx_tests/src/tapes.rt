@@ -4,6 +4,8 @@
 //!
 //! Told is the letter of what is read, `_` where nothing is, the number of a cursor that is made, and how many items there are.
 
+ghost use Rattle.std.specs.Prelude.{◌≡◌};
+
 use crate::heaps::unlimited;
 use crate::in_turn::{Refusable, Seen, refuse_in_turn};
 use crate::signs::{digit_of, item, sign_of_item};
@@ -22,8 +24,10 @@ struct Tried {
     misses: u64,
 }
 
-// A new cursor, as far back as there are items.
-fn cursor_of(tape: &mut Tape, back: usize) -> Result<u32, Memory> {
+/// A new cursor, as far back as there are items.
+pub(crate) fn cursor_of(tape: &mut Tape, back: usize) -> Result<u32, Memory>
+    ensures { tape.new.items ≡ tape.old.items }
+{
     let back = back.min(tape.len());
     tape.cursor(back)
 }
@@ -59,9 +63,10 @@ impl Tried {
     fn step(&mut self, heap: &Heap, sign: u8) -> Result<(), Fail> {
         match sign {
             b'<' => Ok(self.told.push(sign_read(self.tape.read(self.cursor)))?),
-            b'~' => Ok(self
-                .told
-                .push(sign_read(self.tape.read_ahead(self.cursor, 1)))?),
+            b'~' => Ok(
+                self.told
+                    .push(sign_read(self.tape.read_ahead(self.cursor, 1)))?,
+            ),
             b'#' => Ok(self.told.push(digit_of(self.tape.len()))?),
             b'>' => Ok(self.tape.advance(self.cursor)),
             b'-' => Ok(self.tape.release(self.cursor)),
