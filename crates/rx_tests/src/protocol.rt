@@ -150,10 +150,14 @@ fn a_pub_has_its_name_and_text(rt: HostRuntime) -> Result<(), Fail> {
 
 #[test]
 fn names_have_1_to_32_bytes(rt: HostRuntime) {
-    assert!(rt; Name::new(b"").is_none());
-    assert!(rt; Name::new(b"abcdefghijklmnopqrstuvwxyz-01234").is_some());
-    assert!(rt; Name::new(b"abcdefghijklmnopqrstuvwxyz-012345").is_none());
-    assert!(rt; Name::new(b"a_b").is_none());
+    for (bytes, is_name) in [
+        ("", false),
+        ("abcdefghijklmnopqrstuvwxyz-01234", true),
+        ("abcdefghijklmnopqrstuvwxyz-012345", false),
+        ("a_b", false),
+    ] {
+        assert_eq!(rt; Name::new(bytes.as_bytes()).is_some(), is_name, "{bytes}");
+    }
 }
 
 // The line of a response, as it is written.
@@ -163,26 +167,28 @@ fn written(heap: &Heap, response: Response) -> Result<Vec<u8, Heap>, Fail> {
     Ok(writer)
 }
 
+const RESPONSES: [(Response, &str); 14] = [
+    (Response::Done, "OK\n"),
+    (Response::Joined(0), "OK 0\n"),
+    (Response::Joined(4_294_967_295), "OK 4294967295\n"),
+    (Response::Refused(Word::Long), "ERR LONG\n"),
+    (Response::Refused(Word::Syntax), "ERR SYNTAX\n"),
+    (Response::Refused(Word::Subject), "ERR SUBJECT\n"),
+    (Response::Refused(Word::Ended), "ERR ENDED\n"),
+    (Response::Refused(Word::Full), "ERR FULL\n"),
+    (Response::Refused(Word::Spent), "ERR SPENT\n"),
+    (Response::Refused(Word::Zero), "ERR ZERO\n"),
+    (Response::Refused(Word::Observer), "ERR OBSERVER\n"),
+    (Response::Refused(Word::TooMuch), "ERR TOOMUCH\n"),
+    (Response::Refused(Word::Memory), "ERR MEMORY\n"),
+    (Response::Refused(Word::Gone), "ERR GONE\n"),
+];
+
 #[test]
 fn responses_are_printed(rt: HostRuntime) -> Result<(), Fail> {
     let heap = unlimited(&rt);
-    for (response, line) in [
-        (Response::Done, "OK\n"),
-        (Response::Joined(0), "OK 0\n"),
-        (Response::Joined(4_294_967_295), "OK 4294967295\n"),
-        (Response::Refused(Word::Long), "ERR LONG\n"),
-        (Response::Refused(Word::Syntax), "ERR SYNTAX\n"),
-        (Response::Refused(Word::Subject), "ERR SUBJECT\n"),
-        (Response::Refused(Word::Ended), "ERR ENDED\n"),
-        (Response::Refused(Word::Full), "ERR FULL\n"),
-        (Response::Refused(Word::Spent), "ERR SPENT\n"),
-        (Response::Refused(Word::Zero), "ERR ZERO\n"),
-        (Response::Refused(Word::Observer), "ERR OBSERVER\n"),
-        (Response::Refused(Word::TooMuch), "ERR TOOMUCH\n"),
-        (Response::Refused(Word::Memory), "ERR MEMORY\n"),
-        (Response::Refused(Word::Gone), "ERR GONE\n"),
-    ] {
-        assert_eq!(rt; written(&heap, response)?.as_slice(), line.as_bytes());
+    for (response, line) in &RESPONSES {
+        assert_eq!(rt; written(&heap, *response)?.as_slice(), line.as_bytes());
     }
     Ok(())
 }
@@ -212,40 +218,45 @@ fn a_request_has_its_numbers(rt: HostRuntime) -> Result<(), Fail> {
     Ok(())
 }
 
+// The strategy that a line of JOIN has, where this is its word. None where there is no such line.
+fn strategy_in(heap: &Heap, word: &[u8]) -> Result<Option<Strategy>, Fail> {
+    let mut line = Vec::new(heap.clone()?);
+    line.extend_from_slice(b"JOIN s ")?;
+    line.extend_from_slice(word)?;
+    line.extend_from_slice(b" DELAY 0")?;
+    match &parse_script(heap, line.as_slice()) {
+        Ok(ScriptLine::Join { policy, .. }) => Ok(Some(policy.strategy())),
+        Err(LineError::Syntax) => Ok(None),
+        _ => Err(Fail::from("another line")),
+    }
+}
+
+const STRATEGIES: [(&str, Option<Strategy>); 18] = [
+    ("BUFFER", Some(Strategy::Buffer)),
+    ("DROP:0", Some(Strategy::Drop(0))),
+    ("DROP:0001024", Some(Strategy::Drop(1024))),
+    ("LATEST:1", Some(Strategy::Latest(1))),
+    ("LATEST:1024", Some(Strategy::Latest(1024))),
+    ("DROP:1025", None),
+    ("LATEST:0", None),
+    ("LATEST:1025", None),
+    ("DROP:", None),
+    ("DROP", None),
+    ("LATEST: 2", None),
+    ("DROP:-1", None),
+    ("DROP:65536", None),
+    ("DROP:4294967296", None),
+    ("DROP:000000000000000000001", None),
+    ("drop:1", None),
+    ("DROP:2:3", None),
+    ("BUFFER:1", None),
+];
+
 #[test]
 fn strategies_are_read_or_refused(rt: HostRuntime) -> Result<(), Fail> {
-    let refused = Err(LineError::Syntax);
-    for (word, strategy) in [
-        ("BUFFER", Ok(Strategy::Buffer)),
-        ("DROP:0", Ok(Strategy::Drop(0))),
-        ("DROP:0001024", Ok(Strategy::Drop(1024))),
-        ("LATEST:1", Ok(Strategy::Latest(1))),
-        ("LATEST:1024", Ok(Strategy::Latest(1024))),
-        ("DROP:1025", refused),
-        ("LATEST:0", refused),
-        ("LATEST:1025", refused),
-        ("DROP:", refused),
-        ("DROP", refused),
-        ("LATEST: 2", refused),
-        ("DROP:-1", refused),
-        ("DROP:65536", refused),
-        ("DROP:4294967296", refused),
-        ("DROP:000000000000000000001", refused),
-        ("drop:1", refused),
-        ("DROP:2:3", refused),
-        ("BUFFER:1", refused),
-    ] {
-        let mut line = Vec::new(unlimited(&rt));
-        line.extend_from_slice(b"JOIN s ")?;
-        line.extend_from_slice(word.as_bytes())?;
-        line.extend_from_slice(b" DELAY 0")?;
-        match &parse_script(&unlimited(&rt), line.as_slice()) {
-            Ok(ScriptLine::Join { policy, .. }) => {
-                assert_eq!(rt; Ok(policy.strategy()), strategy, "{word}");
-            }
-            Ok(_) => assert!(rt; false, "{word}"),
-            Err(error) => assert_eq!(rt; Err(*error), strategy, "{word}"),
-        }
+    let heap = unlimited(&rt);
+    for (word, strategy) in &STRATEGIES {
+        assert_eq!(rt; strategy_in(&heap, word.as_bytes())?, *strategy, "{word}");
     }
     Ok(())
 }
