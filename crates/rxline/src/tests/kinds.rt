@@ -94,7 +94,7 @@ pub(super) struct Run {
     pub(super) answers: &'static [u8],
 }
 
-pub(super) const RUNS: [Run; 12] = [
+pub(super) const RUNS: [Run; 14] = [
     Run {
         name: "publish_after_its_end",
         kind: Named::Publish,
@@ -178,6 +178,20 @@ pub(super) const RUNS: [Run; 12] = [
         room: Room::OneAtATime,
         script: b"AT 0\nPUB s a\nJOIN s BUFFER DELAY 9\nAT 50\nJOIN s BUFFER DELAY 9\nDISPOSE s 0\nAT 5\nJOIN s BUFFER DELAY 9\n",
         answers: b"OK\nOK\nOK 0\ns 0 NEXT a\nOK\nERR FULL\nOK\nOK\nOK 1\ns 1 NEXT a\n",
+    },
+    Run {
+        name: "tape_replay_and_latest",
+        kind: Named::Replay(Some(2), None),
+        room: Room::Wide,
+        script: b"PUB s a\nPUB s b\nPUB s c\nJOIN s LATEST:1 DELAY 0\nJOIN s BUFFER DELAY 1\nPUB s d\nDISPOSE s 0\nREQUEST s 1 9\n",
+        answers: b"OK\nOK\nOK\nOK 0\nOK 1\ns 1 NEXT b\nOK\nOK\nOK\ns 1 NEXT c\ns 1 NEXT d\n",
+    },
+    Run {
+        name: "tape_behind_a_seed",
+        kind: Named::Behavior,
+        room: Room::Wide,
+        script: b"JOIN s LATEST:2 DELAY 0\nPUB s a\nPUB s b\nREQUEST s 0 9\n",
+        answers: b"OK 0\nOK\nOK\nOK\ns 0 NEXT a\ns 0 NEXT b\n",
     },
 ];
 
