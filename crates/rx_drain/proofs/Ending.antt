@@ -26,9 +26,40 @@ use Rattle.rx_drain.specs.Logs.{Log, NoLetters, Next, letters, has_left, letter_
 use Rattle.rx_drain.specs.Drainers.{DrainerView, is_cut, NamesSubject, HaveSent, Stands, Drains, IsDrained, Handles, KeepsPlaces, view_of}
 use Rattle.rx_drain.specs.Serving.{HasServed, HasStopped}
 
-bool_cases : (b : Bool) → (b ≡ true) ⊎ (b ≡ false)
+pub bool_cases : (b : Bool) → (b ≡ true) ⊎ (b ≡ false)
 bool_cases true = inl refl
 bool_cases false = inr refl
+
+module _ {S : Type 0} where
+  -- the leave port's Bye came where it was received
+  left_step : (b : Bool) (x : Letter (Out S)) → has_bye (cond b (x ∷ []) []) ≡ (b && ends x.post)
+  left_step true x = or-false (ends x.post)
+  left_step false x = refl
+
+  pub left_by_bye : (leave : ℕ) (log : Log S) → has_left leave log ≡ has_bye (share leave (letters log))
+  left_by_bye leave NoLetters = refl
+  left_by_bye leave (Next log x mark) =
+      ap (λ b. b || (x.from == leave && ends x.post)) (left_by_bye leave log)
+      ∙ ap (λ b. has_bye (share leave (letters log)) || b) (sym (left_step (x.from == leave) x))
+      ∙ sym (list_any-append (λ (y : Letter (Out S)). ends y.post) (share leave (letters log)) (cond (x.from == leave) (x ∷ []) []))
+      ∙ ap has_bye (sym (filter-append (λ (y : Letter (Out S)). y.from == leave) (letters log) (x ∷ [])))
+
+  -- from then on no sink is kept
+  closed_by : (leave place from : ℕ) (post : Post (Out S)) (mark : Mark) (kept : List (Attachment S)) (b : Bool)
+      → (from == leave) ≡ b → (b && ends post) ≡ true → (post_change b place from post mark kept).kept ≡ []
+  closed_by leave place from (Body out) mark kept true is bye = cc
+  closed_by leave place from Bye mark kept true is bye = refl
+  closed_by leave place from post mark kept false is bye = cc
+
+  kept_step : (leave : ℕ) (log : Log S) (x : Letter (Out S)) (mark : Mark) (b : Bool) → has_left leave log ≡ b
+      → (b || (x.from == leave && ends x.post)) ≡ true → (has_left leave log ≡ true → kept_in leave log ≡ [])
+      → (letter_change b leave (length (letters log)) x mark (kept_in leave log)).kept ≡ []
+  kept_step leave log x mark true was is before = before was
+  kept_step leave log x mark false was is before = closed_by leave (length (letters log)) x.from x.post mark (kept_in leave log) (x.from == leave) refl is
+
+  pub kept_none : (leave : ℕ) (log : Log S) → has_left leave log ≡ true → kept_in leave log ≡ []
+  kept_none leave NoLetters is = refl
+  kept_none leave (Next log x mark) is = kept_step leave log x mark (has_left leave log) refl is (kept_none leave log)
 
 module _ {S Rest : Type 0} (acts : Acts S Rest) where
   -- A NEW DRAINER
@@ -96,36 +127,6 @@ module _ {S Rest : Type 0} (acts : Acts S Rest) where
       )
 
   -- AT THE END
-
-  -- the leave port's Bye came where it was received
-  left_step : (b : Bool) (x : Letter (Out S)) → has_bye (cond b (x ∷ []) []) ≡ (b && ends x.post)
-  left_step true x = or-false (ends x.post)
-  left_step false x = refl
-
-  pub left_by_bye : (leave : ℕ) (log : Log S) → has_left leave log ≡ has_bye (share leave (letters log))
-  left_by_bye leave NoLetters = refl
-  left_by_bye leave (Next log x mark) =
-      ap (λ b. b || (x.from == leave && ends x.post)) (left_by_bye leave log)
-      ∙ ap (λ b. has_bye (share leave (letters log)) || b) (sym (left_step (x.from == leave) x))
-      ∙ sym (list_any-append (λ (y : Letter (Out S)). ends y.post) (share leave (letters log)) (cond (x.from == leave) (x ∷ []) []))
-      ∙ ap has_bye (sym (filter-append (λ (y : Letter (Out S)). y.from == leave) (letters log) (x ∷ [])))
-
-  -- from then on no sink is kept
-  closed_by : (leave place from : ℕ) (post : Post (Out S)) (mark : Mark) (kept : List (Attachment S)) (b : Bool)
-      → (from == leave) ≡ b → (b && ends post) ≡ true → (post_change b place from post mark kept).kept ≡ []
-  closed_by leave place from (Body out) mark kept true is bye = cc
-  closed_by leave place from Bye mark kept true is bye = refl
-  closed_by leave place from post mark kept false is bye = cc
-
-  kept_step : (leave : ℕ) (log : Log S) (x : Letter (Out S)) (mark : Mark) (b : Bool) → has_left leave log ≡ b
-      → (b || (x.from == leave && ends x.post)) ≡ true → (has_left leave log ≡ true → kept_in leave log ≡ [])
-      → (letter_change b leave (length (letters log)) x mark (kept_in leave log)).kept ≡ []
-  kept_step leave log x mark true was is before = before was
-  kept_step leave log x mark false was is before = closed_by leave (length (letters log)) x.from x.post mark (kept_in leave log) (x.from == leave) refl is
-
-  pub kept_none : (leave : ℕ) (log : Log S) → has_left leave log ≡ true → kept_in leave log ≡ []
-  kept_none leave NoLetters is = refl
-  kept_none leave (Next log x mark) is = kept_step leave log x mark (has_left leave log) refl is (kept_none leave log)
 
   empty_zip : (held : List (Attachment S)) (kept : List (Kept S)) → held ≡ [] → AllZip (IsKept acts) held kept → kept ≡ []
   empty_zip [] [] is zip = refl

@@ -1,3 +1,5 @@
 pub mod Events
 pub mod Standing
 pub mod Ending
+pub mod Taking
+pub mod Counting

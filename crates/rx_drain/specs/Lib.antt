@@ -2,3 +2,5 @@ pub mod Calls
 pub mod Logs
 pub mod Drainers
 pub mod Serving
+pub mod Served
+pub mod Once

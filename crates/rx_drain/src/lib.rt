@@ -21,6 +21,7 @@ mod drainer;
 mod drainer_left;
 mod drainer_parts;
 mod handling;
+pub mod laws;
 mod running_drainer;
 mod sending;
 mod serving_out;

@@ -1,0 +1,199 @@
+-- Each sink of a log that found its place is kept or was put away, once.
+use Rattle.std.proofs.Common.{◌≡◌, ◌≢◌, ◌∙◌, sym, refl, ap, subst, ℕ, ◌+◌, ◌≤◌, ◌==◌, ◌⊎◌, inl, inr, if◌then◌else◌, Bool, true, false, List, [], ◌∷◌, ◌++◌, length, length-append, map, Option, Some, None, arith}
+use Rattle.std.proofs.lemmas.Bool.Decides.{eqb_tells}
+use Rattle.std.proofs.lemmas.List.{map-append}
+use Rattle.rx_mailbox.specs.declared.letter.Letter.{Letter}
+use Rattle.rx_mailbox.specs.declared.letter.Post.{Post}
+use Rattle.rx_mailbox.specs.declared.letter.Post.TheVariants.{Body, Bye}
+use Rattle.rx_note.specs.declared.note.Note.{Note}
+use Rattle.rx_pump.specs.declared.out.Out.{Out}
+use Rattle.rx_pump.specs.declared.out.Out.TheVariants.{Attach, Give, Detach}
+use Rattle.rx_sink.specs.Attachments.{Attachment, Why, Mark, Fine, Fault, NoMemory, Change, is_last, is_of, kept_for, without, replaced, with_note, attached, given, served, detached, closed}
+use Rattle.rx_drain.specs.Logs.{Log, NoLetters, Next, letters, has_left, brought, post_change, letter_change, kept_in, change, gone_in}
+use Rattle.rx_drain.specs.Once.{times, place_found, post_found, letter_found, found_in, EachOnce}
+use Rattle.rx_drain.proofs.Taking.{some_split}
+
+times-append : (n : ℕ) (xs ys : List ℕ) → times n (xs ++ ys) ≡ times n xs + times n ys
+times-append n [] ys = (let e : times n ys ≡ 0 + times n ys = omega arith in e)
+times-append n (m ∷ xs) ys = (let ih = times-append n xs ys in omega (arith, ih))
+
+times_other : (n m : ℕ) → m ≢ n → times n (m ∷ []) ≡ 0
+times_other n m other =
+    elim (eqb_tells m n) [
+      | inl (test, same) ↦ absurd (other same)
+      | inr (test, apart) ↦ ap (λ t. (if t then 1 else 0) + 0) test
+    ]
+
+times_one : (n m : ℕ) → times n (m ∷ []) ≤ 1
+times_one n m =
+    elim (eqb_tells m n) [
+      | inl (test, same) ↦ (let e : times n (m ∷ []) ≡ 1 = ap (λ t. (if t then 1 else 0) + 0) test in omega (arith, e))
+      | inr (test, apart) ↦ (let e : times n (m ∷ []) ≡ 0 = ap (λ t. (if t then 1 else 0) + 0) test in omega (arith, e))
+    ]
+
+-- a letter finds no other place than its own
+none_other : (n place : ℕ) (found : List ℕ) → place ≢ n → (found ≡ []) ⊎ (found ≡ place ∷ []) → times n found ≡ 0
+none_other n place found other (inl is) = ap (times n) is
+none_other n place found other (inr is) = ap (times n) is ∙ times_other n place other
+
+one_at_most : (n place : ℕ) (found : List ℕ) → (found ≡ []) ⊎ (found ≡ place ∷ []) → times n found ≤ 1
+one_at_most n place found (inl is) = (let e : times n found ≡ 0 = ap (times n) is in omega (arith, e))
+one_at_most n place found (inr is) = (let e : times n found ≡ times n (place ∷ []) = ap (times n) is in omega (arith, e, times_one n place))
+
+once_by : (n place before one : ℕ) → before ≤ 1 → one ≤ 1 → (place ≤ n → before ≡ 0) → (place ≢ n → one ≡ 0) → (place ≡ n) ⊎ (place ≢ n) → before + one ≤ 1
+once_by n place before one few single fresh other (inl same) = (let none = fresh (omega (arith, same)) in omega (arith, none, single))
+once_by n place before one few single fresh other (inr apart) = (let none = other apart in omega (arith, none, few))
+
+same_or : (m n : ℕ) → (m ≡ n) ⊎ (m ≢ n)
+same_or m n = elim (eqb_tells m n) [ inl (test, same) ↦ inl same | inr (test, apart) ↦ inr apart ]
+
+module _ {S : Type 0} where
+  -- WHICH PLACES
+
+  found_cases : (mark : Mark) (place : ℕ) (o : Option (Attachment S)) → (place_found mark place o ≡ []) ⊎ (place_found mark place o ≡ place ∷ [])
+  found_cases mark place (Some other) = inl refl
+  found_cases Fine place None = inr refl
+  found_cases Fault place None = inr refl
+  found_cases NoMemory place None = inl refl
+
+  post_cases : (b : Bool) (place from : ℕ) (post : Post (Out S)) (mark : Mark) (kept : List (Attachment S))
+      → (post_found b place from post mark kept ≡ []) ⊎ (post_found b place from post mark kept ≡ place ∷ [])
+  post_cases true place from post mark kept = inl refl
+  post_cases false place from (Body (Attach who sink)) mark kept = found_cases mark place (kept_for from who kept)
+  post_cases false place from (Body (Give who note)) mark kept = inl refl
+  post_cases false place from (Body (Detach who)) mark kept = inl refl
+  post_cases false place from Bye mark kept = inl refl
+
+  letter_cases : (b : Bool) (leave place : ℕ) (x : Letter (Out S)) (mark : Mark) (kept : List (Attachment S))
+      → (letter_found b leave place x mark kept ≡ []) ⊎ (letter_found b leave place x mark kept ≡ place ∷ [])
+  letter_cases true leave place x mark kept = inl refl
+  letter_cases false leave place x mark kept = post_cases (x.from == leave) place x.from x.post mark kept
+
+  -- the places found so far are below the length
+  below : (leave : ℕ) (log : Log S) (n : ℕ) → length (letters log) ≤ n → times n (found_in leave log) ≡ 0
+  below leave NoLetters n past = refl
+  below leave (Next log x mark) n past =
+      let found = letter_found (has_left leave log) leave (length (letters log)) x mark (kept_in leave log) in
+      let count = length-append (letters log) (x ∷ []) in
+      let later : length (letters log) ≤ n = omega (arith, past, count) in
+      let apart : length (letters log) ≢ n = λ same. omega (arith, past, count, same) in
+      let first = below leave log n later in
+      let second = none_other n (length (letters log)) found apart (letter_cases (has_left leave log) leave (length (letters log)) x mark (kept_in leave log)) in
+      times-append n (found_in leave log) found ∙ (let e : times n (found_in leave log) + times n found ≡ 0 = omega (arith, first, second) in e)
+
+  once : (leave : ℕ) (log : Log S) (n : ℕ) → times n (found_in leave log) ≤ 1
+  once leave NoLetters n = omega arith
+  once leave (Next log x mark) n =
+      let place = length (letters log) in
+      let found = letter_found (has_left leave log) leave place x mark (kept_in leave log) in
+      let cases = letter_cases (has_left leave log) leave place x mark (kept_in leave log) in
+      let both = once_by n place (times n (found_in leave log)) (times n found) (once leave log n) (one_at_most n place found cases)
+      (below leave log n) (λ apart. none_other n place found apart cases) (same_or place n) in
+      omega (arith, times-append n (found_in leave log) found, both)
+
+  -- KEPT OR ENDED
+
+  abbrev kept_places : List (Attachment S) → List ℕ
+  kept_places kept = map (λ a. a.place) kept
+
+  abbrev gone_places : List (Attachment S × Why) → List ℕ
+  gone_places gone = map (λ end. end.0.place) gone
+
+  without_step : (n s w : ℕ) (c a : Attachment S) (kept : List (Attachment S)) → kept_for s w (c ∷ kept) ≡ Some a
+      → (kept_for s w kept ≡ Some a → times n (kept_places (without s w kept)) + times n (a.place ∷ []) ≡ times n (kept_places kept))
+      → times n (kept_places (without s w (c ∷ kept))) + times n (a.place ∷ []) ≡ times n (kept_places (c ∷ kept))
+  without_step n s w c a kept is next =
+      elim (some_split (is_of s w c) c a (kept_for s w kept) is) [
+        | inl (test, same) ↦
+            subst (λ (t : Bool). times n (kept_places (if t then kept else c ∷ without s w kept)) + times n (a.place ∷ []) ≡ times n (kept_places (c ∷ kept))) (sym test)
+            (subst (λ (d : Attachment S). times n (kept_places kept) + times n (d.place ∷ []) ≡ times n (kept_places (c ∷ kept))) same (omega arith))
+        | inr (test, later) ↦
+            subst (λ (t : Bool). times n (kept_places (if t then kept else c ∷ without s w kept)) + times n (a.place ∷ []) ≡ times n (kept_places (c ∷ kept))) (sym test)
+            (let ih = next later in omega (arith, ih))
+      ]
+
+  without_places : (n s w : ℕ) (a : Attachment S) (kept : List (Attachment S)) → kept_for s w kept ≡ Some a
+      → times n (kept_places (without s w kept)) + times n (a.place ∷ []) ≡ times n (kept_places kept)
+  without_places n s w a [] is = cc
+  without_places n s w a (c ∷ kept) is = without_step n s w c a kept is (without_places n s w a kept)
+
+  replaced_step : (n s w : ℕ) (c a b : Attachment S) (kept : List (Attachment S)) → b.place ≡ a.place → kept_for s w (c ∷ kept) ≡ Some a
+      → (kept_for s w kept ≡ Some a → times n (kept_places (replaced s w b kept)) ≡ times n (kept_places kept))
+      → times n (kept_places (replaced s w b (c ∷ kept))) ≡ times n (kept_places (c ∷ kept))
+  replaced_step n s w c a b kept place is next =
+      elim (some_split (is_of s w c) c a (kept_for s w kept) is) [
+        | inl (test, same) ↦
+            subst (λ (t : Bool). times n (kept_places (if t then b ∷ kept else c ∷ replaced s w b kept)) ≡ times n (kept_places (c ∷ kept))) (sym test)
+            (ap (λ (m : ℕ). times n (m ∷ kept_places kept)) (place ∙ sym (ap (λ (d : Attachment S). d.place) same)))
+        | inr (test, later) ↦
+            subst (λ (t : Bool). times n (kept_places (if t then b ∷ kept else c ∷ replaced s w b kept)) ≡ times n (kept_places (c ∷ kept))) (sym test)
+            (ap (λ (m : ℕ). (if c.place == n then 1 else 0) + m) (next later))
+      ]
+
+  replaced_places : (n s w : ℕ) (a b : Attachment S) (kept : List (Attachment S)) → b.place ≡ a.place → kept_for s w kept ≡ Some a
+      → times n (kept_places (replaced s w b kept)) ≡ times n (kept_places kept)
+  replaced_places n s w a b [] place is = cc
+  replaced_places n s w a b (c ∷ kept) place is = replaced_step n s w c a b kept place is (replaced_places n s w a b kept place)
+
+  closed_places : (kept : List (Attachment S)) → gone_places (closed kept) ≡ kept_places kept
+  closed_places [] = refl
+  closed_places (a ∷ kept) = ap (λ (l : List ℕ). a.place ∷ l) (closed_places kept)
+
+  -- what a letter brings is kept or has ended after it, and what was kept before
+  abbrev Moves : ℕ → List (Attachment S) → List ℕ → Change S → Type 0
+  Moves n kept found c = times n (kept_places c.kept) + times n (gone_places c.gone) ≡ times n (kept_places kept) + times n found
+
+  moves_attach : (n place : ℕ) (mark : Mark) (a : Attachment S) (o : Option (Attachment S)) (kept : List (Attachment S)) → a.place ≡ place
+      → Moves n kept (place_found mark place o) (attached mark a o kept)
+  moves_attach n place mark a (Some other) kept is = refl
+  moves_attach n place Fine a None kept is =
+      let added = ap (times n) (map-append (λ (b : Attachment S). b.place) kept (a ∷ [])) ∙ times-append n (kept_places kept) (a.place ∷ []) in
+      let one : times n (a.place ∷ []) ≡ times n (place ∷ []) = ap (λ (m : ℕ). times n (m ∷ [])) is in
+      omega (arith, added, one)
+  moves_attach n place Fault a None kept is = ap (λ (m : ℕ). times n (kept_places kept) + times n (m ∷ [])) is
+  moves_attach n place NoMemory a None kept is = refl
+
+  moves_serve : (n s w : ℕ) (note : Note) (mark : Mark) (l : Bool) (a : Attachment S) (kept : List (Attachment S)) → kept_for s w kept ≡ Some a
+      → Moves n kept [] (served mark l s w note a kept)
+  moves_serve n s w note Fine false a kept is = ap (λ (m : ℕ). m + 0) (replaced_places n s w a (with_note a note) kept refl is)
+  moves_serve n s w note Fine true a kept is = (let e = without_places n s w a kept is in omega (arith, e))
+  moves_serve n s w note Fault l a kept is = (let e = without_places n s w a kept is in omega (arith, e))
+  moves_serve n s w note NoMemory l a kept is = (let e = without_places n s w a kept is in omega (arith, e))
+
+  moves_give : (n s w : ℕ) (note : Note) (mark : Mark) (o : Option (Attachment S)) (kept : List (Attachment S)) → kept_for s w kept ≡ o → Moves n kept [] (given mark s w note o kept)
+  moves_give n s w note mark None kept is = refl
+  moves_give n s w note mark (Some a) kept is = moves_serve n s w note mark (is_last note) a kept is
+
+  moves_detach : (n s w : ℕ) (o : Option (Attachment S)) (kept : List (Attachment S)) → kept_for s w kept ≡ o → Moves n kept [] (detached s w o kept)
+  moves_detach n s w None kept is = refl
+  moves_detach n s w (Some a) kept is = (let e = without_places n s w a kept is in omega (arith, e))
+
+  moves_post : (n : ℕ) (b : Bool) (place from : ℕ) (post : Post (Out S)) (mark : Mark) (kept : List (Attachment S))
+      → Moves n kept (post_found b place from post mark kept) (post_change b place from post mark kept)
+  moves_post n true place from (Body out) mark kept = refl
+  moves_post n true place from Bye mark kept = (let e : times n (gone_places (closed kept)) ≡ times n (kept_places kept) = ap (times n) (closed_places kept) in omega (arith, e))
+  moves_post n false place from (Body (Attach who sink)) mark kept = moves_attach n place mark (brought place from who sink) (kept_for from who kept) kept refl
+  moves_post n false place from (Body (Give who note)) mark kept = moves_give n from who note mark (kept_for from who kept) kept refl
+  moves_post n false place from (Body (Detach who)) mark kept = moves_detach n from who (kept_for from who kept) kept refl
+  moves_post n false place from Bye mark kept = refl
+
+  moves_letter : (n : ℕ) (b : Bool) (leave place : ℕ) (x : Letter (Out S)) (mark : Mark) (kept : List (Attachment S))
+      → Moves n kept (letter_found b leave place x mark kept) (letter_change b leave place x mark kept)
+  moves_letter n true leave place x mark kept = refl
+  moves_letter n false leave place x mark kept = moves_post n (x.from == leave) place x.from x.post mark kept
+
+  same : (leave : ℕ) (log : Log S) (n : ℕ) → times n (kept_places (kept_in leave log)) + times n (gone_places (gone_in leave log)) ≡ times n (found_in leave log)
+  same leave NoLetters n = refl
+  same leave (Next log x mark) n =
+      let c = change leave log x mark in
+      let before = same leave log n in
+      let step = moves_letter n (has_left leave log) leave (length (letters log)) x mark (kept_in leave log) in
+      let gone = ap (times n) (map-append (λ (end : Attachment S × Why). end.0.place) (gone_in leave log) c.gone) ∙ times-append n (gone_places (gone_in leave log)) (gone_places c.gone) in
+      let found = times-append n (found_in leave log) (letter_found (has_left leave log) leave (length (letters log)) x mark (kept_in leave log)) in
+      omega (arith, before, step, gone, found)
+
+  pub each_sink_once : (leave : ℕ) (log : Log S) → EachOnce leave log
+  each_sink_once leave log = record {
+    same = λ n. times-append n (kept_places (kept_in leave log)) (gone_places (gone_in leave log)) ∙ same leave log n;
+    once = once leave log;
+  }

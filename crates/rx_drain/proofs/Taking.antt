@@ -1,0 +1,551 @@
+-- The sinks of a log took the notes that they were to be served.
+use Rattle.std.proofs.Common.{◌≡◌, ◌∙◌, sym, refl, ap, subst, ℕ, ◌+◌, ◌<◌, ◌==◌, ◌&&◌, ◌⊎◌, inl, inr, if◌then◌else◌, Bool, true, false, List, [], ◌∷◌, ◌++◌, append_assoc, append-nil, length, length-append, map, drop, Option, Some, None, slice_get, eq-eqb, arith}
+use Rattle.std.proofs.lemmas.Bool.{eqb-true, ne_eqb}
+use Rattle.std.proofs.lemmas.List.{map-append, drop_all, drop-append-le}
+use Rattle.std.specs.List.{AllByRecursion}
+use Rattle.rx_mailbox.specs.declared.letter.Letter.{Letter}
+use Rattle.rx_mailbox.specs.declared.letter.Post.{Post}
+use Rattle.rx_mailbox.specs.declared.letter.Post.TheVariants.{Body, Bye}
+use Rattle.rx_mailbox.specs.Letters.{letter}
+use Rattle.rx_note.specs.declared.note.Note.{Note}
+use Rattle.rx_pump.specs.declared.out.Out.{Out}
+use Rattle.rx_pump.specs.declared.out.Out.TheVariants.{Attach, Give, Detach}
+use Rattle.rx_pump.proofs.Placing.{slice_get-append_left, slice_get-append_right}
+use Rattle.rx_sink.specs.Attachments.{Attachment, Why, TookLast, Detached, Closed, FailedAtStart, FailedAt, Mark, Fine, Fault, NoMemory, Change, is_last, is_of, kept_for, without, replaced, with_note, attached, given, served as serve_note, detached, closed}
+use Rattle.rx_drain.specs.Logs.{Log, NoLetters, Next, letters, has_left, brought, post_change, letter_change, kept_in, change, gone_in}
+use Rattle.rx_drain.specs.Served.{Bearing, Bears, Stops, Passes, post_bearing, bearing, notes_in, TookOf, bearings, served, StandsAt, SinksTook}
+use Rattle.rx_drain.proofs.Ending.{bool_cases, kept_none}
+
+-- ONE BEARING MORE
+
+-- serving goes on after these
+abbrev opens : Bearing → Bool → Bool
+opens (Bears note) later = if is_last note then false else later
+opens Stops later = false
+opens Passes later = later
+
+abbrev is_open : List Bearing → Bool
+is_open [] = true
+is_open (b ∷ bs) = opens b (is_open bs)
+
+bears_notes : (l : Bool) (note : Note) (later longer tail : List Note) (open_yet : Bool) → longer ≡ later ++ (if open_yet then tail else [])
+    → note ∷ (if l then [] else longer) ≡ (note ∷ (if l then [] else later)) ++ (if (if l then false else open_yet) then tail else [])
+bears_notes true note later longer tail open_yet is = refl
+bears_notes false note later longer tail open_yet is = ap (λ notes. note ∷ notes) is
+
+notes_more : (bs : List Bearing) (b : Bearing) → notes_in (bs ++ b ∷ []) ≡ notes_in bs ++ (if is_open bs then notes_in (b ∷ []) else [])
+notes_more [] b = refl
+notes_more (Bears note ∷ bs) b = bears_notes (is_last note) note (notes_in bs) (notes_in (bs ++ b ∷ [])) (notes_in (b ∷ [])) (is_open bs) (notes_more bs b)
+notes_more (Stops ∷ bs) b = refl
+notes_more (Passes ∷ bs) b = notes_more bs b
+
+bears_open : (l open_yet longer one : Bool) → longer ≡ (if open_yet then one else false) → (if l then false else longer) ≡ (if (if l then false else open_yet) then one else false)
+bears_open true open_yet longer one is = refl
+bears_open false open_yet longer one is = is
+
+open_more : (bs : List Bearing) (b : Bearing) → is_open (bs ++ b ∷ []) ≡ (if is_open bs then is_open (b ∷ []) else false)
+open_more [] b = refl
+open_more (Bears note ∷ bs) b = bears_open (is_last note) (is_open bs) (is_open (bs ++ b ∷ [])) (is_open (b ∷ [])) (open_more bs b)
+open_more (Stops ∷ bs) b = refl
+open_more (Passes ∷ bs) b = open_more bs b
+
+-- ONE LETTER MORE FOR ONE ATTACHMENT
+
+-- a sink that was put away without a fault is served no more
+abbrev IsShut : Why → Bool → Type 0
+IsShut TookLast open_yet = open_yet ≡ false
+IsShut Detached open_yet = open_yet ≡ false
+IsShut Closed open_yet = open_yet ≡ false
+IsShut FailedAtStart open_yet = Unit {0}
+IsShut (FailedAt note) open_yet = Unit {0}
+
+-- one that has ended stays so
+took_stays : (why : Why) (taken all more : List Note) (open_yet : Bool) → IsShut why open_yet → TookOf why taken all → TookOf why taken (all ++ (if open_yet then more else []))
+took_stays TookLast taken all more open_yet shut took = took ∙ sym (append-nil all) ∙ ap (λ (t : Bool). all ++ (if t then more else [])) (sym shut)
+took_stays Detached taken all more open_yet shut took = took ∙ sym (append-nil all) ∙ ap (λ (t : Bool). all ++ (if t then more else [])) (sym shut)
+took_stays Closed taken all more open_yet shut took = took ∙ sym (append-nil all) ∙ ap (λ (t : Bool). all ++ (if t then more else [])) (sym shut)
+took_stays FailedAtStart taken all more open_yet shut took = took
+took_stays (FailedAt note) taken all more open_yet shut took = (
+  took.0 ++ (if open_yet then more else []),
+  sym (append_assoc taken (note ∷ took.0) (if open_yet then more else [])) ∙ ap (λ (l : List Note). l ++ (if open_yet then more else [])) took.1,
+)
+
+shut_more : (why : Why) (open_yet one : Bool) → IsShut why open_yet → IsShut why (if open_yet then one else false)
+shut_more TookLast open_yet one shut = ap (λ (t : Bool). if t then one else false) shut
+shut_more Detached open_yet one shut = ap (λ (t : Bool). if t then one else false) shut
+shut_more Closed open_yet one shut = ap (λ (t : Bool). if t then one else false) shut
+shut_more FailedAtStart open_yet one shut = tt
+shut_more (FailedAt note) open_yet one shut = tt
+
+module _ {S : Type 0} (leave : ℕ) where
+  -- an attachment whose sink is kept
+  record Open (xs : List (Letter (Out S))) (a : Attachment S) : Type 0 where
+    pub at : StandsAt xs a
+    pub within : a.place < length xs
+    pub taken : a.taken ≡ served leave a xs
+    pub still : is_open (bearings leave a xs) ≡ true
+
+  -- one that has ended
+  record Shut (xs : List (Letter (Out S))) (end : Attachment S × Why) : Type 0 where
+    pub at : StandsAt xs end.0
+    pub within : end.0.place < length xs
+    pub took : TookOf end.1 end.0.taken (served leave end.0 xs)
+    pub shut : IsShut end.1 (is_open (bearings leave end.0 xs))
+
+  bearings_more : (xs : List (Letter (Out S))) (x : Letter (Out S)) (a : Attachment S) → a.place < length xs
+      → bearings leave a (xs ++ x ∷ []) ≡ bearings leave a xs ++ bearing leave a x ∷ []
+  bearings_more xs x a within =
+      ap (map (bearing leave a)) (drop-append-le (a.place + 1) xs (x ∷ []) (omega arith)) ∙ map-append (bearing leave a) (drop (a.place + 1) xs) (x ∷ [])
+
+  served_next : (xs : List (Letter (Out S))) (x : Letter (Out S)) (a : Attachment S) → a.place < length xs
+      → served leave a (xs ++ x ∷ []) ≡ served leave a xs ++ (if is_open (bearings leave a xs) then notes_in (bearing leave a x ∷ []) else [])
+  served_next xs x a within = ap notes_in (bearings_more xs x a within) ∙ notes_more (bearings leave a xs) (bearing leave a x)
+
+  open_next : (xs : List (Letter (Out S))) (x : Letter (Out S)) (a : Attachment S) → a.place < length xs
+      → is_open (bearings leave a (xs ++ x ∷ [])) ≡ (if is_open (bearings leave a xs) then is_open (bearing leave a x ∷ []) else false)
+  open_next xs x a within = ap is_open (bearings_more xs x a within) ∙ open_more (bearings leave a xs) (bearing leave a x)
+
+  longer : (xs : List (Letter (Out S))) (x : Letter (Out S)) (n : ℕ) → n < length xs → n < length (xs ++ x ∷ [])
+  longer xs x n within = omega (arith, length-append xs (x ∷ []))
+
+  -- what an open attachment is served by a letter that is this to it
+  served_by : (xs : List (Letter (Out S))) (x : Letter (Out S)) (a : Attachment S) (b : Bearing) → Open xs a → bearing leave a x ≡ b
+      → served leave a (xs ++ x ∷ []) ≡ served leave a xs ++ notes_in (b ∷ [])
+  served_by xs x a b o is =
+      served_next xs x a o.within ∙ ap (λ t. served leave a xs ++ (if t then notes_in (bearing leave a x ∷ []) else [])) o.still
+      ∙ ap (λ t. served leave a xs ++ notes_in (t ∷ [])) is
+
+  open_by : (xs : List (Letter (Out S))) (x : Letter (Out S)) (a : Attachment S) (b : Bearing) → Open xs a → bearing leave a x ≡ b
+      → is_open (bearings leave a (xs ++ x ∷ [])) ≡ is_open (b ∷ [])
+  open_by xs x a b o is =
+      open_next xs x a o.within ∙ ap (λ t. if t then is_open (bearing leave a x ∷ []) else false) o.still ∙ ap (λ t. is_open (t ∷ [])) is
+
+  open_pass : (xs : List (Letter (Out S))) (x : Letter (Out S)) (a : Attachment S) → Open xs a → bearing leave a x ≡ Passes → Open (xs ++ x ∷ []) a
+  open_pass xs x a o is = record {
+    at = slice_get-append_left xs (x ∷ []) a.place _ o.at;
+    within = longer xs x a.place o.within;
+    taken = o.taken ∙ sym (served_by xs x a Passes o is ∙ append-nil (served leave a xs));
+    still = open_by xs x a Passes o is;
+  }
+
+  open_item : (xs : List (Letter (Out S))) (x : Letter (Out S)) (a : Attachment S) (note : Note) → Open xs a → bearing leave a x ≡ Bears note → is_last note ≡ false
+      → Open (xs ++ x ∷ []) (with_note a note)
+  open_item xs x a note o is last = record {
+    at = slice_get-append_left xs (x ∷ []) a.place _ o.at;
+    within = longer xs x a.place o.within;
+    taken = ap (λ (l : List Note). l ++ note ∷ []) o.taken ∙ sym (served_by xs x a (Bears note) o is ∙ ap (λ t. served leave a xs ++ note ∷ (if t then [] else [])) last);
+    still = open_by xs x a (Bears note) o is ∙ ap (λ t. if t then false else true) last;
+  }
+
+  shut_last : (xs : List (Letter (Out S))) (x : Letter (Out S)) (a : Attachment S) (note : Note) → Open xs a → bearing leave a x ≡ Bears note → is_last note ≡ true
+      → Shut (xs ++ x ∷ []) (with_note a note, TookLast)
+  shut_last xs x a note o is last = record {
+    at = slice_get-append_left xs (x ∷ []) a.place _ o.at;
+    within = longer xs x a.place o.within;
+    took = ap (λ (l : List Note). l ++ note ∷ []) o.taken ∙ sym (served_by xs x a (Bears note) o is ∙ ap (λ t. served leave a xs ++ note ∷ (if t then [] else [])) last);
+    shut = open_by xs x a (Bears note) o is ∙ ap (λ t. if t then false else true) last;
+  }
+
+  shut_fault : (xs : List (Letter (Out S))) (x : Letter (Out S)) (a : Attachment S) (note : Note) → Open xs a → bearing leave a x ≡ Bears note → Shut (xs ++ x ∷ []) (a, FailedAt note)
+  shut_fault xs x a note o is = record {
+    at = slice_get-append_left xs (x ∷ []) a.place _ o.at;
+    within = longer xs x a.place o.within;
+    took = (
+      if is_last note then [] else [],
+      ap (λ (l : List Note). l ++ note ∷ (if is_last note then [] else [])) o.taken ∙ sym (served_by xs x a (Bears note) o is),
+    );
+    shut = tt;
+  }
+
+  shut_detached : (xs : List (Letter (Out S))) (x : Letter (Out S)) (a : Attachment S) → Open xs a → bearing leave a x ≡ Stops → Shut (xs ++ x ∷ []) (a, Detached)
+  shut_detached xs x a o is = record {
+    at = slice_get-append_left xs (x ∷ []) a.place _ o.at;
+    within = longer xs x a.place o.within;
+    took = o.taken ∙ sym (served_by xs x a Stops o is ∙ append-nil (served leave a xs));
+    shut = open_by xs x a Stops o is;
+  }
+
+  shut_closed : (xs : List (Letter (Out S))) (x : Letter (Out S)) (a : Attachment S) → Open xs a → bearing leave a x ≡ Stops → Shut (xs ++ x ∷ []) (a, Closed)
+  shut_closed xs x a o is = record {
+    at = slice_get-append_left xs (x ∷ []) a.place _ o.at;
+    within = longer xs x a.place o.within;
+    took = o.taken ∙ sym (served_by xs x a Stops o is ∙ append-nil (served leave a xs));
+    shut = open_by xs x a Stops o is;
+  }
+
+  shut_stays : (xs : List (Letter (Out S))) (x : Letter (Out S)) (end : Attachment S × Why) → Shut xs end → Shut (xs ++ x ∷ []) end
+  shut_stays xs x end s = record {
+    at = slice_get-append_left xs (x ∷ []) end.0.place _ s.at;
+    within = longer xs x end.0.place s.within;
+    took = subst (TookOf end.1 end.0.taken) (sym (served_next xs x end.0 s.within))
+        (took_stays end.1 end.0.taken (served leave end.0 xs) (notes_in (bearing leave end.0 x ∷ [])) (is_open (bearings leave end.0 xs)) s.shut s.took);
+    shut = subst (IsShut end.1) (sym (open_next xs x end.0 s.within)) (shut_more end.1 (is_open (bearings leave end.0 xs)) (is_open (bearing leave end.0 x ∷ [])) s.shut);
+  }
+
+  -- a new one
+  new_bearings : (xs : List (Letter (Out S))) (x : Letter (Out S)) (a : Attachment S) → a.place ≡ length xs → bearings leave a (xs ++ x ∷ []) ≡ []
+  new_bearings xs x a is =
+      ap (map (bearing leave a)) (drop_all (a.place + 1) (xs ++ x ∷ []) (omega (arith, is, length-append xs (x ∷ []))))
+
+  new_at : (xs : List (Letter (Out S))) (from who : ℕ) (sink : S)
+      → StandsAt (xs ++ letter from (Body (Attach who sink)) ∷ []) (brought (length xs) from who sink)
+  new_at xs from who sink =
+      ap (slice_get (xs ++ letter from (Body (Attach who sink)) ∷ [])) (let e : length xs ≡ length xs + 0 = omega arith in e)
+      ∙ slice_get-append_right xs (letter from (Body (Attach who sink)) ∷ []) 0
+
+  open_new : (xs : List (Letter (Out S))) (from who : ℕ) (sink : S)
+      → Open (xs ++ letter from (Body (Attach who sink)) ∷ []) (brought (length xs) from who sink)
+  open_new xs from who sink =
+      let x = letter from (Body (Attach who sink)) in
+      let none = new_bearings xs x (brought (length xs) from who sink) refl in
+      record {
+        at = new_at xs from who sink;
+        within = omega (arith, length-append xs (x ∷ []));
+        taken = sym (ap notes_in none);
+        still = ap is_open none;
+      }
+
+  shut_new : (xs : List (Letter (Out S))) (from who : ℕ) (sink : S)
+      → Shut (xs ++ letter from (Body (Attach who sink)) ∷ []) (brought (length xs) from who sink, FailedAtStart)
+  shut_new xs from who sink =
+      let x = letter from (Body (Attach who sink)) in
+      record { at = new_at xs from who sink; within = omega (arith, length-append xs (x ∷ [])); took = refl; shut = tt }
+
+  -- ONE LETTER MORE FOR SEVERAL
+
+  abbrev AllOpen : List (Letter (Out S)) → List (Attachment S) → Type 0
+  AllOpen xs kept = AllByRecursion (Open xs) kept
+
+  abbrev AllShut : List (Letter (Out S)) → List (Attachment S × Why) → Type 0
+  AllShut xs gone = AllByRecursion (Shut xs) gone
+
+  all_stay : (xs : List (Letter (Out S))) (x : Letter (Out S)) (gone : List (Attachment S × Why)) → AllShut xs gone → AllShut (xs ++ x ∷ []) gone
+  all_stay xs x [] all = tt
+  all_stay xs x (end ∷ gone) all = (shut_stays xs x end all.0, all_stay xs x gone all.1)
+
+  all_pass : (xs : List (Letter (Out S))) (x : Letter (Out S)) (kept : List (Attachment S)) → ((a : Attachment S) → bearing leave a x ≡ Passes) → AllOpen xs kept → AllOpen (xs ++ x ∷ []) kept
+  all_pass xs x [] passes all = tt
+  all_pass xs x (a ∷ kept) passes all = (open_pass xs x a all.0 (passes a), all_pass xs x kept passes all.1)
+
+  all_closed : (xs : List (Letter (Out S))) (x : Letter (Out S)) (kept : List (Attachment S)) → ((a : Attachment S) → bearing leave a x ≡ Stops) → AllOpen xs kept → AllShut (xs ++ x ∷ []) (closed kept)
+  all_closed xs x [] stops all = tt
+  all_closed xs x (a ∷ kept) stops all = (shut_closed xs x a all.0 (stops a), all_closed xs x kept stops all.1)
+
+all_append : {X : Type 0} (P : X → Type 0) (xs ys : List X) → AllByRecursion P xs → AllByRecursion P ys → AllByRecursion P (xs ++ ys)
+all_append P [] ys first second = second
+all_append P (x ∷ xs) ys first second = (first.0, all_append P xs ys first.1 second)
+
+-- ONE ATTACHMENT OF AN OBSERVER
+
+none_split : {X : Type 0} (b : Bool) (x : X) (o : Option X) → (if b then Some x else o) ≡ None → (b ≡ false) × (o ≡ None)
+none_split true x o is = cc
+none_split false x o is = (refl, is)
+
+pub some_split : {X : Type 0} (b : Bool) (x y : X) (o : Option X) → (if b then Some x else o) ≡ Some y → ((b ≡ true) × (x ≡ y)) ⊎ ((b ≡ false) × (o ≡ Some y))
+some_split true x y o is = inl (refl, cc)
+some_split false x y o is = inr (refl, is)
+
+both_true : (x y : Bool) → (x && y) ≡ true → (x ≡ true) × (y ≡ true)
+both_true true true is = (refl, refl)
+both_true true false is = cc
+both_true false y is = cc
+
+eqb_turned : (m n : ℕ) → (m == n) ≡ (n == m)
+eqb_turned m n =
+    elim (bool_cases (m == n)) [
+      | inl same ↦ same ∙ sym (eq-eqb n m (sym (eqb-true m n same)))
+      | inr other ↦ other ∙ sym (ne_eqb n m (λ e. (let both : true ≡ false = sym (eq-eqb m n (sym e)) ∙ other in cc)))
+    ]
+
+module _ {S : Type 0} where
+  key_is : (s w : ℕ) (a : Attachment S) → is_of s w a ≡ true → (a.subject ≡ s) × (a.who ≡ w)
+  key_is s w a test = let tests = both_true (a.subject == s) (a.who == w) test in (eqb-true a.subject s tests.0, eqb-true a.who w tests.1)
+
+  -- no two attachments are of one observer
+  abbrev Apart : List (Attachment S) → Type 0
+  Apart [] = Unit {0}
+  Apart (a ∷ kept) = (kept_for a.subject a.who kept ≡ None) × Apart kept
+
+  turned : (a c : Attachment S) → is_of a.subject a.who c ≡ is_of c.subject c.who a
+  turned a c = ap (λ t. t && (c.who == a.who)) (eqb_turned c.subject a.subject) ∙ ap (λ t. (a.subject == c.subject) && t) (eqb_turned c.who a.who)
+
+  none_push : (s w : ℕ) (kept : List (Attachment S)) (a : Attachment S) → kept_for s w kept ≡ None → is_of s w a ≡ false → kept_for s w (kept ++ a ∷ []) ≡ None
+  none_push s w [] a none other = ap (λ t. if t then Some a else None) other
+  none_push s w (c ∷ kept) a none other =
+      let parts = none_split (is_of s w c) c (kept_for s w kept) none in
+      ap (λ t. if t then Some c else kept_for s w (kept ++ a ∷ [])) parts.0 ∙ none_push s w kept a parts.1 other
+
+  apart_push : (kept : List (Attachment S)) (a : Attachment S) → kept_for a.subject a.who kept ≡ None → Apart kept → Apart (kept ++ a ∷ [])
+  apart_push [] a none apart = (refl, tt)
+  apart_push (c ∷ kept) a none apart =
+      let parts = none_split (is_of a.subject a.who c) c (kept_for a.subject a.who kept) none in
+      (none_push c.subject c.who kept a apart.0 (sym (turned a c) ∙ parts.0), apart_push kept a parts.1 apart.1)
+
+  none_without : (k l s w : ℕ) (kept : List (Attachment S)) → kept_for k l kept ≡ None → kept_for k l (without s w kept) ≡ None
+  none_without k l s w [] none = refl
+  none_without k l s w (a ∷ kept) none =
+      let parts = none_split (is_of k l a) a (kept_for k l kept) none in
+      let later = none_without k l s w kept parts.1 in
+      elim (bool_cases (is_of s w a)) [
+        | inl test ↦ subst (λ (t : Bool). kept_for k l (if t then kept else a ∷ without s w kept) ≡ None) (sym test) parts.1
+        | inr test ↦ subst (λ (t : Bool). kept_for k l (if t then kept else a ∷ without s w kept) ≡ None) (sym test)
+            (ap (λ t. if t then Some a else kept_for k l (without s w kept)) parts.0 ∙ later)
+      ]
+
+  none_replaced : (k l s w : ℕ) (b : Attachment S) (kept : List (Attachment S)) → b.subject ≡ s → b.who ≡ w → kept_for k l kept ≡ None → kept_for k l (replaced s w b kept) ≡ None
+  none_replaced k l s w b [] subject who none = refl
+  none_replaced k l s w b (a ∷ kept) subject who none =
+      let parts = none_split (is_of k l a) a (kept_for k l kept) none in
+      let later = none_replaced k l s w b kept subject who parts.1 in
+      elim (bool_cases (is_of s w a)) [
+        | inl test ↦
+            let key = key_is s w a test in
+            let same : is_of k l b ≡ is_of k l a = ap (λ n. (n == k) && (b.who == l)) (subject ∙ sym key.0) ∙ ap (λ n. (a.subject == k) && (n == l)) (who ∙ sym key.1) in
+            subst (λ (t : Bool). kept_for k l (if t then b ∷ kept else a ∷ replaced s w b kept) ≡ None) (sym test)
+            (ap (λ t. if t then Some b else kept_for k l kept) (same ∙ parts.0) ∙ parts.1)
+        | inr test ↦ subst (λ (t : Bool). kept_for k l (if t then b ∷ kept else a ∷ replaced s w b kept) ≡ None) (sym test)
+            (ap (λ t. if t then Some a else kept_for k l (replaced s w b kept)) parts.0 ∙ later)
+      ]
+
+module _ {S : Type 0} (leave s w : ℕ) (xs : List (Letter (Out S))) (x : Letter (Out S)) where
+  -- the letter passes all others by
+  abbrev PassesOthers : Type 0
+  PassesOthers = (a : Attachment S) → is_of s w a ≡ false → bearing leave a x ≡ Passes
+
+  none_pass : (kept : List (Attachment S)) → PassesOthers → kept_for s w kept ≡ None → AllOpen leave xs kept → AllOpen leave (xs ++ x ∷ []) kept
+  none_pass [] others none all = tt
+  none_pass (a ∷ kept) others none all =
+      let parts = none_split (is_of s w a) a (kept_for s w kept) none in
+      (open_pass leave xs x a all.0 (others a parts.0), none_pass kept others parts.1 all.1)
+
+  -- the attachment of the observer, and the others after the letter
+  record FoundIn (kept : List (Attachment S)) (a : Attachment S) : Type 0 where
+    pub is_open_yet : Open leave xs a
+    pub key : is_of s w a ≡ true
+    pub rest : AllOpen leave (xs ++ x ∷ []) (without s w kept)
+    pub with_other : (b : Attachment S) → Open leave (xs ++ x ∷ []) b → AllOpen leave (xs ++ x ∷ []) (replaced s w b kept)
+    pub apart_rest : Apart (without s w kept)
+    pub apart_other : (b : Attachment S) → b.subject ≡ s → b.who ≡ w → Apart (replaced s w b kept)
+
+  found_here : (c a : Attachment S) (kept : List (Attachment S)) → PassesOthers → is_of s w c ≡ true → c ≡ a → Apart (c ∷ kept) → AllOpen leave xs (c ∷ kept) → FoundIn (c ∷ kept) a
+  found_here c a kept others test same apart all =
+      let key = key_is s w c test in
+      let none : kept_for s w kept ≡ None = subst (λ (n : ℕ). kept_for n w kept ≡ None) key.0 (subst (λ (n : ℕ). kept_for c.subject n kept ≡ None) key.1 apart.0) in
+      let passed = none_pass kept others none all.1 in
+      record {
+        is_open_yet = subst (λ (d : Attachment S). Open leave xs d) same all.0;
+        key = subst (λ (d : Attachment S). is_of s w d ≡ true) same test;
+        rest = subst (λ (t : Bool). AllOpen leave (xs ++ x ∷ []) (if t then kept else c ∷ without s w kept)) (sym test) passed;
+        with_other = λ b o. subst (λ (t : Bool). AllOpen leave (xs ++ x ∷ []) (if t then b ∷ kept else c ∷ replaced s w b kept)) (sym test) (o, passed);
+        apart_rest = subst (λ (t : Bool). Apart (if t then kept else c ∷ without s w kept)) (sym test) apart.1;
+        apart_other = λ b subject who. subst (λ (t : Bool). Apart (if t then b ∷ kept else c ∷ replaced s w b kept)) (sym test) (
+          subst (λ (n : ℕ). kept_for n b.who kept ≡ None) (sym subject) (subst (λ (n : ℕ). kept_for s n kept ≡ None) (sym who) none),
+          apart.1,
+        );
+      }
+
+  found_later : (c a : Attachment S) (kept : List (Attachment S)) → PassesOthers → is_of s w c ≡ false → Apart (c ∷ kept) → AllOpen leave xs (c ∷ kept) → FoundIn kept a → FoundIn (c ∷ kept) a
+  found_later c a kept others test apart all f =
+      let passed = open_pass leave xs x c all.0 (others c test) in
+      record {
+        is_open_yet = f.is_open_yet;
+        key = f.key;
+        rest = subst (λ (t : Bool). AllOpen leave (xs ++ x ∷ []) (if t then kept else c ∷ without s w kept)) (sym test) (passed, f.rest);
+        with_other = λ b o. subst (λ (t : Bool). AllOpen leave (xs ++ x ∷ []) (if t then b ∷ kept else c ∷ replaced s w b kept)) (sym test) (passed, f.with_other b o);
+        apart_rest = subst (λ (t : Bool). Apart (if t then kept else c ∷ without s w kept)) (sym test) (none_without c.subject c.who s w kept apart.0, f.apart_rest);
+        apart_other = λ b subject who. subst (λ (t : Bool). Apart (if t then b ∷ kept else c ∷ replaced s w b kept)) (sym test) (
+          none_replaced c.subject c.who s w b kept subject who apart.0,
+          f.apart_other b subject who,
+        );
+      }
+
+  found_step : (c a : Attachment S) (kept : List (Attachment S)) → PassesOthers → kept_for s w (c ∷ kept) ≡ Some a → Apart (c ∷ kept) → AllOpen leave xs (c ∷ kept)
+      → (kept_for s w kept ≡ Some a → FoundIn kept a) → FoundIn (c ∷ kept) a
+  found_step c a kept others is apart all next =
+      elim (some_split (is_of s w c) c a (kept_for s w kept) is) [
+        | inl here ↦ found_here c a kept others here.0 here.1 apart all
+        | inr later ↦ found_later c a kept others later.0 apart all (next later.1)
+      ]
+
+  found_in : (kept : List (Attachment S)) (a : Attachment S) → PassesOthers → kept_for s w kept ≡ Some a → Apart kept → AllOpen leave xs kept → FoundIn kept a
+  found_in [] a others is apart all = cc
+  found_in (c ∷ kept) a others is apart all = found_step c a kept others is apart all (λ later. found_in kept a others later apart.1 all.1)
+
+-- WHAT A LETTER IS
+
+passes_give : (S : Type 0) (b ours : Bool) (who w : ℕ) (note : Note) → b ≡ false → (ours && (who == w)) ≡ false → post_bearing {S = S} b ours who (Body (Give w note)) ≡ Passes
+passes_give S true ours who w note other test = cc
+passes_give S false false who w note other test = refl
+passes_give S false true who w note other test = ap (λ t. if t then Bears note else Passes) test
+
+bears_give : (S : Type 0) (b ours : Bool) (who w : ℕ) (note : Note) → b ≡ false → (ours && (who == w)) ≡ true → post_bearing {S = S} b ours who (Body (Give w note)) ≡ Bears note
+bears_give S true ours who w note other test = cc
+bears_give S false false who w note other test = cc
+bears_give S false true who w note other test = ap (λ t. if t then Bears note else Passes) test
+
+passes_detach : (S : Type 0) (b ours : Bool) (who w : ℕ) → b ≡ false → (ours && (who == w)) ≡ false → post_bearing {S = S} b ours who (Body (Detach w)) ≡ Passes
+passes_detach S true ours who w other test = cc
+passes_detach S false false who w other test = refl
+passes_detach S false true who w other test = ap (λ t. if t then Stops else Passes) test
+
+stops_detach : (S : Type 0) (b ours : Bool) (who w : ℕ) → b ≡ false → (ours && (who == w)) ≡ true → post_bearing {S = S} b ours who (Body (Detach w)) ≡ Stops
+stops_detach S true ours who w other test = cc
+stops_detach S false false who w other test = cc
+stops_detach S false true who w other test = ap (λ t. if t then Stops else Passes) test
+
+passes_attach : (S : Type 0) (b ours : Bool) (who w : ℕ) (sink : S) → b ≡ false → post_bearing b ours who (Body (Attach w sink)) ≡ Passes
+passes_attach S true ours who w sink other = cc
+passes_attach S false true who w sink other = refl
+passes_attach S false false who w sink other = refl
+
+passes_bye : (S : Type 0) (b ours : Bool) (who : ℕ) → b ≡ false → post_bearing {S = S} b ours who Bye ≡ Passes
+passes_bye S true ours who other = cc
+passes_bye S false true who other = refl
+passes_bye S false false who other = refl
+
+-- ONE LETTER MORE
+
+module _ {S : Type 0} (leave : ℕ) (xs : List (Letter (Out S))) where
+  -- after the letter
+  record Goes (x : Letter (Out S)) (c : Change S) : Type 0 where
+    pub open_ones : AllOpen leave (xs ++ x ∷ []) c.kept
+    pub apart : Apart c.kept
+    pub shut_ones : AllShut leave (xs ++ x ∷ []) c.gone
+
+  module _ (kept : List (Attachment S)) (all : AllOpen leave xs kept) (apart : Apart kept) where
+    goes_attach : (from w : ℕ) (sink : S) (mark : Mark) (o : Option (Attachment S)) → (from == leave) ≡ false → kept_for from w kept ≡ o
+        → Goes (letter from (Body (Attach w sink))) (attached mark (brought (length xs) from w sink) o kept)
+    goes_attach from w sink mark (Some other) test is = record {
+      open_ones = all_pass leave xs _ kept (λ a. passes_attach S (from == leave) (a.subject == from) a.who w sink test) all;
+      apart = apart;
+      shut_ones = tt;
+    }
+    goes_attach from w sink Fine None test is = record {
+      open_ones = all_append (Open leave (xs ++ letter from (Body (Attach w sink)) ∷ [])) kept (brought (length xs) from w sink ∷ [])
+          (all_pass leave xs _ kept (λ a. passes_attach S (from == leave) (a.subject == from) a.who w sink test) all) (open_new leave xs from w sink, tt);
+      apart = apart_push kept (brought (length xs) from w sink) is apart;
+      shut_ones = tt;
+    }
+    goes_attach from w sink Fault None test is = record {
+      open_ones = all_pass leave xs _ kept (λ a. passes_attach S (from == leave) (a.subject == from) a.who w sink test) all;
+      apart = apart;
+      shut_ones = (shut_new leave xs from w sink, tt);
+    }
+    goes_attach from w sink NoMemory None test is = record {
+      open_ones = all_pass leave xs _ kept (λ a. passes_attach S (from == leave) (a.subject == from) a.who w sink test) all;
+      apart = apart;
+      shut_ones = tt;
+    }
+
+    goes_serve : (from w : ℕ) (note : Note) (mark : Mark) (l : Bool) (a : Attachment S) → (from == leave) ≡ false → is_last note ≡ l
+        → FoundIn leave from w xs (letter from (Body (Give w note))) kept a → Goes (letter from (Body (Give w note))) (serve_note mark l from w note a kept)
+    goes_serve from w note Fine false a test last f =
+        let key = key_is from w a f.key in
+        record {
+          open_ones = f.with_other (with_note a note)
+              (open_item leave xs _ a note f.is_open_yet (bears_give S (from == leave) (a.subject == from) a.who w note test f.key) last);
+          apart = f.apart_other (with_note a note) key.0 key.1;
+          shut_ones = tt;
+        }
+    goes_serve from w note Fine true a test last f = record {
+      open_ones = f.rest;
+      apart = f.apart_rest;
+      shut_ones = (shut_last leave xs _ a note f.is_open_yet (bears_give S (from == leave) (a.subject == from) a.who w note test f.key) last, tt);
+    }
+    goes_serve from w note Fault l a test last f = record {
+      open_ones = f.rest;
+      apart = f.apart_rest;
+      shut_ones = (shut_fault leave xs _ a note f.is_open_yet (bears_give S (from == leave) (a.subject == from) a.who w note test f.key), tt);
+    }
+    goes_serve from w note NoMemory l a test last f = record {
+      open_ones = f.rest;
+      apart = f.apart_rest;
+      shut_ones = (shut_fault leave xs _ a note f.is_open_yet (bears_give S (from == leave) (a.subject == from) a.who w note test f.key), tt);
+    }
+
+    goes_give : (from w : ℕ) (note : Note) (mark : Mark) (o : Option (Attachment S)) → (from == leave) ≡ false → kept_for from w kept ≡ o
+        → Goes (letter from (Body (Give w note))) (given mark from w note o kept)
+    goes_give from w note mark None test is = record {
+      open_ones = none_pass leave from w xs _ kept (λ a other. passes_give S (from == leave) (a.subject == from) a.who w note test other) is all;
+      apart = apart;
+      shut_ones = tt;
+    }
+    goes_give from w note mark (Some a) test is =
+        goes_serve from w note mark (is_last note) a test refl
+        (found_in leave from w xs _ kept a (λ b other. passes_give S (from == leave) (b.subject == from) b.who w note test other) is apart all)
+
+    goes_detach : (from w : ℕ) (o : Option (Attachment S)) → (from == leave) ≡ false → kept_for from w kept ≡ o
+        → Goes (letter from (Body (Detach w))) (detached from w o kept)
+    goes_detach from w None test is = record {
+      open_ones = none_pass leave from w xs _ kept (λ a other. passes_detach S (from == leave) (a.subject == from) a.who w test other) is all;
+      apart = apart;
+      shut_ones = tt;
+    }
+    goes_detach from w (Some a) test is =
+        let f = found_in leave from w xs (letter from (Body (Detach w))) kept a (λ b other. passes_detach S (from == leave) (b.subject == from) b.who w test other) is apart all in
+        record {
+          open_ones = f.rest;
+          apart = f.apart_rest;
+          shut_ones = (shut_detached leave xs _ a f.is_open_yet (stops_detach S (from == leave) (a.subject == from) a.who w test f.key), tt);
+        }
+
+    goes_post : (b : Bool) (from : ℕ) (post : Post (Out S)) (mark : Mark) → (from == leave) ≡ b → Goes (letter from post) (post_change b (length xs) from post mark kept)
+    goes_post true from (Body out) mark test = record {
+      open_ones = all_pass leave xs _ kept (λ a. ap (λ t. post_bearing t (a.subject == from) a.who (Body out)) test) all;
+      apart = apart;
+      shut_ones = tt;
+    }
+    goes_post true from Bye mark test = record {
+      open_ones = tt;
+      apart = tt;
+      shut_ones = all_closed leave xs _ kept (λ a. ap (λ t. post_bearing {S = S} t (a.subject == from) a.who Bye) test) all;
+    }
+    goes_post false from Bye mark test = record {
+      open_ones = all_pass leave xs _ kept (λ a. passes_bye S (from == leave) (a.subject == from) a.who test) all;
+      apart = apart;
+      shut_ones = tt;
+    }
+    goes_post false from (Body (Attach w sink)) mark test = goes_attach from w sink mark (kept_for from w kept) test refl
+    goes_post false from (Body (Give w note)) mark test = goes_give from w note mark (kept_for from w kept) test refl
+    goes_post false from (Body (Detach w)) mark test = goes_detach from w (kept_for from w kept) test refl
+
+    goes_letter : (b : Bool) (x : Letter (Out S)) (mark : Mark) → (b ≡ true → kept ≡ []) → Goes x (letter_change b leave (length xs) x mark kept)
+    goes_letter true x mark none = record {
+      open_ones = subst (λ (l : List (Attachment S)). AllOpen leave (xs ++ x ∷ []) l) (sym (none refl)) tt;
+      apart = apart;
+      shut_ones = tt;
+    }
+    goes_letter false x mark none = goes_post (x.from == leave) x.from x.post mark refl
+
+-- ALL LETTERS
+
+module _ {S : Type 0} (leave : ℕ) where
+  record Holds (log : Log S) : Type 0 where
+    pub open_ones : AllOpen leave (letters log) (kept_in leave log)
+    pub apart : Apart (kept_in leave log)
+    pub shut_ones : AllShut leave (letters log) (gone_in leave log)
+
+  holds : (log : Log S) → Holds log
+  holds NoLetters = record { open_ones = tt; apart = tt; shut_ones = tt }
+  holds (Next log x mark) =
+      let h = holds log in
+      let g = goes_letter leave (letters log) (kept_in leave log) h.open_ones h.apart (has_left leave log) x mark (kept_none leave log) in
+      record {
+        open_ones = g.open_ones;
+        apart = g.apart;
+        shut_ones = all_append (Shut leave (letters log ++ x ∷ [])) (gone_in leave log) (change leave log x mark).gone (all_stay leave (letters log) x (gone_in leave log) h.shut_ones) g.shut_ones;
+      }
+
+all_weaker : {X : Type 0} (P Q : X → Type 0) (xs : List X) → ((x : X) → P x → Q x) → AllByRecursion P xs → AllByRecursion Q xs
+all_weaker P Q [] weaker all = tt
+all_weaker P Q (x ∷ xs) weaker all = (weaker x all.0, all_weaker P Q xs weaker all.1)
+
+pub each_sink_took : {S : Type 0} (leave : ℕ) (log : Log S) → SinksTook leave log
+each_sink_took leave log =
+    let h = holds leave log in
+    record {
+      kept_at = all_weaker (Open leave (letters log)) _ (kept_in leave log) (λ a o. o.at) h.open_ones;
+      gone_at = all_weaker (Shut leave (letters log)) _ (gone_in leave log) (λ end s. s.at) h.shut_ones;
+      kept_took = all_weaker (Open leave (letters log)) _ (kept_in leave log) (λ a o. o.taken) h.open_ones;
+      gone_took = all_weaker (Shut leave (letters log)) _ (gone_in leave log) (λ end s. s.took) h.shut_ones;
+    }
