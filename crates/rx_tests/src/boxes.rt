@@ -10,7 +10,7 @@ ghost use Rattle.rx_tests.specs.Wiring.{IsTwo};
 
 use crate::heaps::unlimited;
 use crate::in_turn::{Refusable, Seen, refuse_in_turn};
-use rx_heap::Heap;
+use rx_heap::{Heap, Memory};
 use rx_mailbox::{
     EndedPort, Gone, Inbox, MAX_CAPACITY, MAX_PORTS, OpenError, Port, Post, SettleCause, Settled,
     open, settle,
@@ -280,6 +280,10 @@ fn texts_of_a_refusal(rt: HostRuntime) -> Result<(), Fail> {
     assert_eq!(rt;
         format!(in rt.alloc(); "{Gone}")?.as_str(),
         "no letter will come any more"
+    );
+    assert_eq!(rt;
+        format!(in rt.alloc(); "{Memory}")?.as_str(),
+        "out of memory"
     );
     Ok(())
 }
