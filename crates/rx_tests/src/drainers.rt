@@ -73,7 +73,13 @@ fn line_sink(rt: HostRuntime) -> Result<(), Fail> {
         assert_eq!(rt; page.writes, writes);
         let rest = lined(&heap, signs.as_bytes())?.finish();
         let notes = signs.len() as u64;
-        assert_eq!(rt; rest, LineRest { notes, failed: false });
+        assert_eq!(rt;
+            rest,
+            LineRest {
+                notes,
+                failed: false
+            }
+        );
     }
     Ok(())
 }
@@ -255,6 +261,7 @@ struct Meeting<C: Clock + Drop> {
 
 // How many sinks meet, and how often one looks for the other, a millisecond apart.
 const SINKS: u64 = 2;
+
 const LOOKS: u64 = 10_000;
 
 impl<C: Clock + Drop> Meeting<C> {
@@ -274,12 +281,12 @@ impl<C: Clock + Drop> Sink for Meeting<C> {
     type Rest = bool;
 
     ghost acts = { record {
-        started = λ s who t. Unit {0};
-        start_faulted = λ s who t. Unit {0};
-        took = λ s note t. Unit {0};
-        take_faulted = λ s note t. Unit {0};
-        finished = λ s rest. Unit {0};
-        faults = λ s. s.faults;
+      started = λ s who t. Unit {0};
+      start_faulted = λ s who t. Unit {0};
+      took = λ s note t. Unit {0};
+      take_faulted = λ s note t. Unit {0};
+      finished = λ s rest. Unit {0};
+      faults = λ s. s.faults;
     } };
 
     fn start(&mut self, _who: u32) -> Result<(), SinkFault> {
