@@ -13,7 +13,7 @@ use Rattle.rx_drain.specs.Logs.{Log, NoLetters, Next, letters, has_left, brought
 use Rattle.rx_drain.specs.Once.{times, place_found, post_found, letter_found, found_in, EachOnce}
 use Rattle.rx_drain.proofs.Taking.{some_split}
 
-times-append : (n : ℕ) (xs ys : List ℕ) → times n (xs ++ ys) ≡ times n xs + times n ys
+pub times-append : (n : ℕ) (xs ys : List ℕ) → times n (xs ++ ys) ≡ times n xs + times n ys
 times-append n [] ys = (let e : times n ys ≡ 0 + times n ys = omega arith in e)
 times-append n (m ∷ xs) ys = (let ih = times-append n xs ys in omega (arith, ih))
 
@@ -70,7 +70,7 @@ module _ {S : Type 0} where
   letter_cases false leave place x mark kept = post_cases (x.from == leave) place x.from x.post mark kept
 
   -- the places found so far are below the length
-  below : (leave : ℕ) (log : Log S) (n : ℕ) → length (letters log) ≤ n → times n (found_in leave log) ≡ 0
+  pub below : (leave : ℕ) (log : Log S) (n : ℕ) → length (letters log) ≤ n → times n (found_in leave log) ≡ 0
   below leave NoLetters n past = refl
   below leave (Next log x mark) n past =
       let found = letter_found (has_left leave log) leave (length (letters log)) x mark (kept_in leave log) in
@@ -81,7 +81,7 @@ module _ {S : Type 0} where
       let second = none_other n (length (letters log)) found apart (letter_cases (has_left leave log) leave (length (letters log)) x mark (kept_in leave log)) in
       times-append n (found_in leave log) found ∙ (let e : times n (found_in leave log) + times n found ≡ 0 = omega (arith, first, second) in e)
 
-  once : (leave : ℕ) (log : Log S) (n : ℕ) → times n (found_in leave log) ≤ 1
+  pub once : (leave : ℕ) (log : Log S) (n : ℕ) → times n (found_in leave log) ≤ 1
   once leave NoLetters n = omega arith
   once leave (Next log x mark) n =
       let place = length (letters log) in
@@ -93,10 +93,10 @@ module _ {S : Type 0} where
 
   -- KEPT OR ENDED
 
-  abbrev kept_places : List (Attachment S) → List ℕ
+  abbrev pub kept_places : List (Attachment S) → List ℕ
   kept_places kept = map (λ a. a.place) kept
 
-  abbrev gone_places : List (Attachment S × Why) → List ℕ
+  abbrev pub gone_places : List (Attachment S × Why) → List ℕ
   gone_places gone = map (λ end. end.0.place) gone
 
   without_step : (n s w : ℕ) (c a : Attachment S) (kept : List (Attachment S)) → kept_for s w (c ∷ kept) ≡ Some a
@@ -112,7 +112,7 @@ module _ {S : Type 0} where
             (let ih = next later in omega (arith, ih))
       ]
 
-  without_places : (n s w : ℕ) (a : Attachment S) (kept : List (Attachment S)) → kept_for s w kept ≡ Some a
+  pub without_places : (n s w : ℕ) (a : Attachment S) (kept : List (Attachment S)) → kept_for s w kept ≡ Some a
       → times n (kept_places (without s w kept)) + times n (a.place ∷ []) ≡ times n (kept_places kept)
   without_places n s w a [] is = cc
   without_places n s w a (c ∷ kept) is = without_step n s w c a kept is (without_places n s w a kept)
@@ -135,12 +135,12 @@ module _ {S : Type 0} where
   replaced_places n s w a b [] place is = cc
   replaced_places n s w a b (c ∷ kept) place is = replaced_step n s w c a b kept place is (replaced_places n s w a b kept place)
 
-  closed_places : (kept : List (Attachment S)) → gone_places (closed kept) ≡ kept_places kept
+  pub closed_places : (kept : List (Attachment S)) → gone_places (closed kept) ≡ kept_places kept
   closed_places [] = refl
   closed_places (a ∷ kept) = ap (λ (l : List ℕ). a.place ∷ l) (closed_places kept)
 
   -- what a letter brings is kept or has ended after it, and what was kept before
-  abbrev Moves : ℕ → List (Attachment S) → List ℕ → Change S → Type 0
+  abbrev pub Moves : ℕ → List (Attachment S) → List ℕ → Change S → Type 0
   Moves n kept found c = times n (kept_places c.kept) + times n (gone_places c.gone) ≡ times n (kept_places kept) + times n found
 
   moves_attach : (n place : ℕ) (mark : Mark) (a : Attachment S) (o : Option (Attachment S)) (kept : List (Attachment S)) → a.place ≡ place
@@ -177,12 +177,12 @@ module _ {S : Type 0} where
   moves_post n false place from (Body (Detach who)) mark kept = moves_detach n from who (kept_for from who kept) kept refl
   moves_post n false place from Bye mark kept = refl
 
-  moves_letter : (n : ℕ) (b : Bool) (leave place : ℕ) (x : Letter (Out S)) (mark : Mark) (kept : List (Attachment S))
+  pub moves_letter : (n : ℕ) (b : Bool) (leave place : ℕ) (x : Letter (Out S)) (mark : Mark) (kept : List (Attachment S))
       → Moves n kept (letter_found b leave place x mark kept) (letter_change b leave place x mark kept)
   moves_letter n true leave place x mark kept = refl
   moves_letter n false leave place x mark kept = moves_post n (x.from == leave) place x.from x.post mark kept
 
-  same : (leave : ℕ) (log : Log S) (n : ℕ) → times n (kept_places (kept_in leave log)) + times n (gone_places (gone_in leave log)) ≡ times n (found_in leave log)
+  pub same : (leave : ℕ) (log : Log S) (n : ℕ) → times n (kept_places (kept_in leave log)) + times n (gone_places (gone_in leave log)) ≡ times n (found_in leave log)
   same leave NoLetters n = refl
   same leave (Next log x mark) n =
       let c = change leave log x mark in

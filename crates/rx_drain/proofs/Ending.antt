@@ -64,9 +64,9 @@ module _ {S : Type 0} where
 module _ {S Rest : Type 0} (acts : Acts S Rest) where
   -- A NEW DRAINER
 
-  pub drained_fresh : (view : DrainerView S Rest) → view.inbox.received ≡ [] → All IsFresh view.ports → view.kept ≡ [] → view.away ≡ [] → view.misses ≡ 0
+  pub drained_fresh : (view : DrainerView S Rest) → view.inbox.received ≡ [] → All IsFresh view.ports → view.kept ≡ [] → view.away ≡ [] → view.misses ≡ 0 → view.taken ≡ 0
       → view.left ≡ false → view.fault ≡ None → IsDrained acts view
-  drained_fresh view received fresh kept away misses left whole = (
+  drained_fresh view received fresh kept away misses taken left whole = (
     NoLetters,
     record {
       received = received;
@@ -75,6 +75,7 @@ module _ {S Rest : Type 0} (acts : Acts S Rest) where
         sent = subst (λ (l : Bool). HaveSent (is_cut view.fault) l (λ d. []) view.ports) (sym left) (HavePut-fresh (is_cut view.fault) view.ports (ap is_cut whole) fresh);
         sinks = record { kept_are = subst (AllZip (IsKept acts) []) (sym kept) tt; away_are = subst (AllZip (IsPutAway acts) []) (sym away) tt };
         missed = misses;
+        took = taken;
       };
       fault = subst (λ (f : Option DrainFault). NamesSubject f (length view.ports)) (sym whole) tt;
     },
@@ -85,7 +86,7 @@ module _ {S Rest : Type 0} (acts : Acts S Rest) where
   -- the same, whatever the inbox
   stands_too : (leave : ℕ) (log : Log S) (before after : DrainerView S Rest) → after ≡ record before { inbox = after.inbox } → Stands acts leave log before → Stands acts leave log after
   stands_too leave log before after is s =
-      subst (λ (v : DrainerView S Rest). Stands acts leave log v) (sym is) (record { left = s.left; sent = s.sent; sinks = s.sinks; missed = s.missed })
+      subst (λ (v : DrainerView S Rest). Stands acts leave log v) (sym is) (record { left = s.left; sent = s.sent; sinks = s.sinks; missed = s.missed; took = s.took })
 
   -- no letter came
   pub drained_gone : (before after : DrainerView S Rest) → before.fault ≡ None → after ≡ record before { fault = Some InboxGone } → IsDrained acts before → IsDrained acts after
@@ -99,6 +100,7 @@ module _ {S Rest : Type 0} (acts : Acts S Rest) where
             sent = subst (λ (k : Bool). HaveSent k before.left (owed (length before.ports) log) before.ports) (ap is_cut whole) d.stands.sent;
             sinks = d.stands.sinks;
             missed = d.stands.missed;
+            took = d.stands.took;
           };
           fault = tt;
         },
@@ -115,6 +117,7 @@ module _ {S Rest : Type 0} (acts : Acts S Rest) where
         sent = subst (λ (k : Bool). HaveSent k before.left (owed (length before.ports) log) before.ports) (ap is_cut whole) d.stands.sent;
         sinks = d.stands.sinks;
         missed = d.stands.missed;
+        took = d.stands.took;
       } in
       let next = handles.1 log (subst P (sym mid_is) base) in
       let count : length mid.ports ≡ length after.ports = sym (AreSame-length mid.ports after.ports same) in (
@@ -144,28 +147,29 @@ module _ {S Rest : Type 0} (acts : Acts S Rest) where
   keeps_none view left_is (log, d) =
       empty_zip (kept_in (length view.ports) log) view.kept (kept_none (length view.ports) log (sym d.stands.left ∙ left_is)) d.stands.sinks.kept_are
 
-  drains_end : (log : Log S) (inbox : Incoming (Out S)) (ports : List (Outgoing (Call S))) (away : List (PutAway Rest)) (misses : ℕ)
+  drains_end : (log : Log S) (inbox : Incoming (Out S)) (ports : List (Outgoing (Call S))) (away : List (PutAway Rest)) (misses taken : ℕ)
       (all : List (Outgoing (Call S))) (kept : List (Kept S)) (left : Bool) (fault : Option DrainFault)
       → all ≡ ports → kept ≡ [] → left ≡ true → fault ≡ None
-      → Drains acts (record { inbox = inbox; ports = all; kept = kept; away = away; misses = misses; left = left; fault = fault }) log
-      → Drains acts (record { inbox = inbox; ports = ports; kept = []; away = away; misses = misses; left = true; fault = None }) log
-  drains_end log inbox ports away misses all kept left fault all_is kept_is left_is fault_is d =
-      subst (λ (f : Option DrainFault). Drains acts (record { inbox = inbox; ports = ports; kept = []; away = away; misses = misses; left = true; fault = f }) log) fault_is
-      (subst (λ (l : Bool). Drains acts (record { inbox = inbox; ports = ports; kept = []; away = away; misses = misses; left = l; fault = fault }) log) left_is
-      (subst (λ (k : List (Kept S)). Drains acts (record { inbox = inbox; ports = ports; kept = k; away = away; misses = misses; left = left; fault = fault }) log) kept_is
-      (subst (λ (p : List (Outgoing (Call S))). Drains acts (record { inbox = inbox; ports = p; kept = kept; away = away; misses = misses; left = left; fault = fault }) log) all_is d)))
+      → Drains acts (record { inbox = inbox; ports = all; kept = kept; away = away; misses = misses; taken = taken; left = left; fault = fault }) log
+      → Drains acts (record { inbox = inbox; ports = ports; kept = []; away = away; misses = misses; taken = taken; left = true; fault = None }) log
+  drains_end log inbox ports away misses taken all kept left fault all_is kept_is left_is fault_is d =
+      subst (λ (f : Option DrainFault). Drains acts (record { inbox = inbox; ports = ports; kept = []; away = away; misses = misses; taken = taken; left = true; fault = f }) log) fault_is
+      (subst (λ (l : Bool). Drains acts (record { inbox = inbox; ports = ports; kept = []; away = away; misses = misses; taken = taken; left = l; fault = fault }) log) left_is
+      (subst (λ (k : List (Kept S)). Drains acts (record { inbox = inbox; ports = ports; kept = k; away = away; misses = misses; taken = taken; left = left; fault = fault }) log) kept_is
+      (subst (λ (p : List (Outgoing (Call S))). Drains acts (record { inbox = inbox; ports = p; kept = kept; away = away; misses = misses; taken = taken; left = left; fault = fault }) log) all_is d)))
 
   pub served_end : (view : DrainerView S Rest) (rest : List (Outgoing (Call S))) (end : DrainEnd S Rest)
-      → end.inbox ≡ view.inbox → view.ports ≡ end.ports.items ++ rest → rest ≡ [] → end.put_away.items ≡ view.away → end.places.misses ≡ view.misses
+      → end.inbox ≡ view.inbox → view.ports ≡ end.ports.items ++ rest → rest ≡ [] → end.put_away.items ≡ view.away → end.places.misses ≡ view.misses → end.taken ≡ view.taken
       → view.left ≡ true → view.fault ≡ None → HasEachBye view.inbox → IsDrained acts view → HasServed acts view end
-  served_end view rest end inbox ports none away misses left_is whole each (log, d) =
+  served_end view rest end inbox ports none away misses taken left_is whole each (log, d) =
       let all : view.ports ≡ end.ports.items = ports ∙ ap (λ l. end.ports.items ++ l) none ∙ append-nil end.ports.items in
-      let drains = drains_end log view.inbox end.ports.items view.away view.misses view.ports view.kept view.left view.fault all (keeps_none view left_is (log, d)) left_is whole d in
-      let P : Incoming (Out S) → List (PutAway Rest) → ℕ → Type 0 =
-      λ i w m. Drains acts (record { inbox = i; ports = end.ports.items; kept = []; away = w; misses = m; left = true; fault = None }) log in (
+      let drains = drains_end log view.inbox end.ports.items view.away view.misses view.taken view.ports view.kept view.left view.fault all (keeps_none view left_is (log, d)) left_is whole d in
+      let P : Incoming (Out S) → List (PutAway Rest) → ℕ → ℕ → Type 0 =
+      λ i w m t. Drains acts (record { inbox = i; ports = end.ports.items; kept = []; away = w; misses = m; taken = t; left = true; fault = None }) log in (
         log,
         record {
-          drains = subst (λ i. P i end.put_away.items end.places.misses) (sym inbox) (subst (λ w. P view.inbox w end.places.misses) (sym away) (subst (λ m. P view.inbox view.away m) (sym misses) drains));
+          drains = subst (λ i. P i end.put_away.items end.places.misses end.taken) (sym inbox) (subst (λ w. P view.inbox w end.places.misses end.taken) (sym away)
+              (subst (λ m. P view.inbox view.away m end.taken) (sym misses) (subst (λ t. P view.inbox view.away view.misses t) (sym taken) drains)));
           each_bye = subst (λ (i : Incoming (Out S)). HasEachBye i) (sym inbox) each;
           places = record {
             box = ap (λ (i : Incoming (Out S)). i.box) inbox;

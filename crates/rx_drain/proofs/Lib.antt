@@ -3,3 +3,5 @@ pub mod Standing
 pub mod Ending
 pub mod Taking
 pub mod Counting
+mod Owing
+mod Tallying

@@ -25,7 +25,7 @@ use Rattle.rx_sink.specs.Stands.{Stand, Did, IsKept, IsPutAway, addressed, count
 use Rattle.rx_drain.specs.declared.drain_fault.DrainFault.{DrainFault}
 use Rattle.rx_drain.specs.declared.drain_fault.DrainFault.TheVariants.{InboxGone, SubjectGone}
 use Rattle.rx_drain.specs.Calls.{calls_to, disposal, SendsAll}
-use Rattle.rx_drain.specs.Logs.{Log, Next, letters, has_left, brought, out_change, post_change, letter_change, kept_in, change, gone_in, sent_in, missed_in, owed, put_by}
+use Rattle.rx_drain.specs.Logs.{Log, Next, letters, has_left, brought, out_change, post_change, letter_change, kept_in, change, gone_in, sent_in, missed_in, taken_in, owed, put_by}
 use Rattle.rx_drain.specs.Drainers.{DrainerView, is_cut, NamesSubject, HaveSent, Stands, ServesOut, Handles}
 use Rattle.rx_drain.proofs.Events.{calls_to-append}
 
@@ -64,6 +64,40 @@ module _ {S : Type 0} where
   missed_out place subject (Give who note) mark kept = inl (missed_given mark subject who note (kept_for subject who kept) kept)
   missed_out place subject (Detach who) mark kept = inl (missed_detached subject who (kept_for subject who kept) kept)
 
+-- NOTES TAKEN
+
+module _ {S : Type 0} where
+  -- a sink that comes takes nothing yet
+  pub took_attached : (mark : Mark) (a : Attachment S) (o : Option (Attachment S)) (kept : List (Attachment S)) → (attached mark a o kept).took ≡ 0
+  took_attached mark a (Some other) kept = refl
+  took_attached Fine a None kept = refl
+  took_attached Fault a None kept = refl
+  took_attached NoMemory a None kept = refl
+
+  -- one who leaves takes nothing
+  pub took_detached : (subject who : ℕ) (o : Option (Attachment S)) (kept : List (Attachment S)) → (detached subject who o kept).took ≡ 0
+  took_detached subject who None kept = refl
+  took_detached subject who (Some a) kept = refl
+
+  took_served : (mark : Mark) (last : Bool) (subject who : ℕ) (note : Note) (a : Attachment S) (kept : List (Attachment S))
+      → ((served mark last subject who note a kept).took ≡ 0) ⊎ ((served mark last subject who note a kept).took ≡ 1)
+  took_served Fine false subject who note a kept = inr refl
+  took_served Fine true subject who note a kept = inr refl
+  took_served Fault last subject who note a kept = inl refl
+  took_served NoMemory last subject who note a kept = inl refl
+
+  took_given : (mark : Mark) (subject who : ℕ) (note : Note) (o : Option (Attachment S)) (kept : List (Attachment S))
+      → ((given mark subject who note o kept).took ≡ 0) ⊎ ((given mark subject who note o kept).took ≡ 1)
+  took_given mark subject who note None kept = inl refl
+  took_given mark subject who note (Some a) kept = took_served mark (is_last note) subject who note a kept
+
+  -- by a letter one note is taken at most
+  took_out : (place subject : ℕ) (out : Out S) (mark : Mark) (kept : List (Attachment S))
+      → ((out_change place subject out mark kept).took ≡ 0) ⊎ ((out_change place subject out mark kept).took ≡ 1)
+  took_out place subject (Attach who sink) mark kept = inl (took_attached mark (brought place subject who sink) (kept_for subject who kept) kept)
+  took_out place subject (Give who note) mark kept = took_given mark subject who note (kept_for subject who kept) kept
+  took_out place subject (Detach who) mark kept = inl (took_detached subject who (kept_for subject who kept) kept)
+
 counted-more : (m n k : ℕ) → m ≡ min n (2 ^ 64 - 1) → (k ≡ 0) ⊎ (k ≡ 1) → counted m k ≡ min (n + k) (2 ^ 64 - 1)
 counted-more m n k is (inl none) = ap (counted m) none ∙ (let e : m ≡ min (n + k) (2 ^ 64 - 1) = omega (arith, is, none) in e)
 counted-more m n k is (inr one) = ap (counted m) one ∙ (let e : raised m ≡ min (n + k) (2 ^ 64 - 1) = omega (arith, is, one) in e)
@@ -71,12 +105,15 @@ counted-more m n k is (inr one) = ap (counted m) one ∙ (let e : raised m ≡ m
 module _ {S Rest : Type 0} (acts : Acts S Rest) where
   -- what came is this
   pub serves_so : (place subject : ℕ) (o out : Out S) (held : List (Attachment S)) (gone : List (Attachment S × Why)) (kept : List (Kept S)) (away : List (PutAway Rest))
-      (misses misses_after : ℕ) (events : List (ℕ × Event)) → out ≡ o
+      (misses misses_after taken taken_after : ℕ) (events : List (ℕ × Event)) → out ≡ o
       → (mark : Mark) → Did acts (out_change place subject o mark held) gone kept away events → misses_after ≡ counted misses (out_change place subject o mark held).missed
+      → taken_after ≡ counted taken (out_change place subject o mark held).took
       → (m : Mark) × Did acts (out_change place subject out m held) gone kept away events × (misses_after ≡ counted misses (out_change place subject out m held).missed)
-  serves_so place subject o out held gone kept away misses misses_after events is mark did missed =
-      subst (λ (u : Out S). (m : Mark) × Did acts (out_change place subject u m held) gone kept away events × (misses_after ≡ counted misses (out_change place subject u m held).missed))
-      (sym is) (mark, did, missed)
+      × (taken_after ≡ counted taken (out_change place subject out m held).took)
+  serves_so place subject o out held gone kept away misses misses_after taken taken_after events is mark did missed took =
+      subst (λ (u : Out S). (m : Mark) × Did acts (out_change place subject u m held) gone kept away events × (misses_after ≡ counted misses (out_change place subject u m held).missed)
+      × (taken_after ≡ counted taken (out_change place subject u m held).took))
+      (sym is) (mark, did, missed, took)
 
 -- WHAT THE PORTS HAVE PUT
 
@@ -225,6 +262,7 @@ module _ {S Rest : Type 0} (acts : Acts S Rest) where
     pub sent : HaveSent (is_cut after.fault) after.left (λ d. owed leave log d ++ calls_to d (addressed c.sends)) after.ports
     pub sinks : Stand acts c.kept (gone_in leave log ++ c.gone) after.kept after.away
     pub missed : after.misses ≡ min (missed_in leave log + c.missed) (2 ^ 64 - 1)
+    pub took : after.taken ≡ min (taken_in leave log + c.took) (2 ^ 64 - 1)
 
   stands_next : (leave : ℕ) (log : Log S) (x : Letter (Out S)) (mark : Mark) (after : DrainerView S Rest) (c : Change S)
       → change leave log x mark ≡ c → after.left ≡ has_left leave (Next log x mark) → Changed leave log after c → Stands acts leave (Next log x mark) after
@@ -235,6 +273,7 @@ module _ {S Rest : Type 0} (acts : Acts S Rest) where
         sent = have_same (is_cut after.fault) after.left _ _ after.ports (owed_next leave log x mark) now.sent;
         sinks = now.sinks;
         missed = now.missed;
+        took = now.took;
       }
 
   -- nothing changes
@@ -246,6 +285,7 @@ module _ {S Rest : Type 0} (acts : Acts S Rest) where
       away_are = subst (λ (l : List (Attachment S × Why)). AllZip (IsPutAway acts) l view.away) (sym (append-nil (gone_in leave log))) s.sinks.away_are;
     };
     missed = omega (arith, s.missed);
+    took = omega (arith, s.took);
   }
 
   -- a letter after the Bye of the leave port
@@ -278,7 +318,7 @@ module _ {S Rest : Type 0} (acts : Acts S Rest) where
   -- a letter of a subject before that
   pub stands_served : (leave : ℕ) (log : Log S) (from : ℕ) (out : Out S) (before after : DrainerView S Rest) (ended a b : List (Outgoing (Call S))) (events : List Event)
       → ended ≡ [] → before.ports ≡ ended ++ a → after.ports ≡ ended ++ b → before.left ≡ false → after.left ≡ false → before.fault ≡ None → (from == leave) ≡ false
-      → ServesOut acts from out before.kept after.kept before.away after.away before.misses after.misses events
+      → ServesOut acts from out before.kept after.kept before.away after.away before.misses after.misses before.taken after.taken events
       → SendsAll after.fault (map (λ event. (from, event)) events) a b
       → Stands acts leave log before → (mark : Mark) × Stands acts leave (Next log (letter from (Body out)) mark) after
   stands_served leave log from out before after ended a b events none before_ports after_ports left_is left_after whole test serves sends s =
@@ -303,6 +343,7 @@ module _ {S Rest : Type 0} (acts : Acts S Rest) where
                   (subst (HaveSent (is_cut after.fault) false (λ d. owed leave log d ++ calls_to d (addressed c.sends))) (sym (after_ports ∙ all_open ended b none)) have_now);
               sinks = did.1.stand;
               missed = did.2 ∙ counted-more before.misses (missed_in leave log) c.missed s.missed (missed_out place from out mark (kept_in leave log));
+              took = did.3 ∙ counted-more before.taken (taken_in leave log) c.took s.took (took_out place from out mark (kept_in leave log));
             }),
       )
 
@@ -317,12 +358,12 @@ module _ {S Rest : Type 0} (acts : Acts S Rest) where
 
   -- the Bye of the leave port
   pub stands_left : (leave : ℕ) (log : Log S) (from : ℕ) (before after : DrainerView S Rest)
-      → from ≡ leave → before.left ≡ false → after.left ≡ true → after.kept ≡ [] → after.misses ≡ before.misses
+      → from ≡ leave → before.left ≡ false → after.left ≡ true → after.kept ≡ [] → after.misses ≡ before.misses → after.taken ≡ before.taken
       → ((held : List (Attachment S)) (gone : List (Attachment S × Why)) → Stand acts held gone before.kept before.away → Stand acts [] (gone ++ closed held) after.kept after.away)
       → (HaveSent (is_cut before.fault) before.left (owed leave log) before.ports
       → HaveSent (is_cut after.fault) true (λ d. owed leave log d ++ calls_to d (map disposal before.kept)) after.ports)
       → Stands acts leave log before → (mark : Mark) × Stands acts leave (Next log (letter from Bye) mark) after
-  stands_left leave log from before after from_is left_is left_after empty same_misses closes sends s =
+  stands_left leave log from before after from_is left_is left_after empty same_misses same_taken closes sends s =
       let was : has_left leave log ≡ false = sym s.left ∙ left_is in
       let test : (from == leave) ≡ true = eq-eqb from leave from_is in
       let c = left (kept_in leave log) in
@@ -336,6 +377,7 @@ module _ {S Rest : Type 0} (acts : Acts S Rest) where
                   (have_same (is_cut after.fault) true _ _ after.ports (λ d. ap (λ (l : List (ℕ × Event)). owed leave log d ++ calls_to d l) events) (sends s.sent));
               sinks = closes (kept_in leave log) (gone_in leave log) s.sinks;
               missed = omega (arith, same_misses, s.missed);
+              took = omega (arith, same_taken, s.took);
             }),
       )
 

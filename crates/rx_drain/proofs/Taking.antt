@@ -231,7 +231,7 @@ module _ {S : Type 0} (leave : ℕ) where
   all_closed xs x [] stops all = tt
   all_closed xs x (a ∷ kept) stops all = (shut_closed xs x a all.0 (stops a), all_closed xs x kept stops all.1)
 
-all_append : {X : Type 0} (P : X → Type 0) (xs ys : List X) → AllByRecursion P xs → AllByRecursion P ys → AllByRecursion P (xs ++ ys)
+pub all_append : {X : Type 0} (P : X → Type 0) (xs ys : List X) → AllByRecursion P xs → AllByRecursion P ys → AllByRecursion P (xs ++ ys)
 all_append P [] ys first second = second
 all_append P (x ∷ xs) ys first second = (first.0, all_append P xs ys first.1 second)
 

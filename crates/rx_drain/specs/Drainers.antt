@@ -14,16 +14,18 @@ use Rattle.rx_sink.specs.Stands.{Stand, Did, counted}
 use Rattle.rx_drain.specs.declared.drain_fault.DrainFault.{DrainFault}
 use Rattle.rx_drain.specs.declared.drain_fault.DrainFault.TheVariants.{InboxGone, SubjectGone}
 use Rattle.rx_drain.specs.declared.drainer_left.DrainerLeft.{DrainerLeft}
-use Rattle.rx_drain.specs.Logs.{Log, Next, letters, has_left, out_change, kept_in, gone_in, missed_in, owed, put_by}
+use Rattle.rx_drain.specs.Logs.{Log, Next, letters, has_left, out_change, kept_in, gone_in, missed_in, taken_in, owed, put_by}
 
 -- a drainer: its inbox, its ports to subjects in their order, ended or not, the sinks that it keeps, what those left that it
--- put away, how many sinks found no memory, whether it was told to leave, and the fault that it stopped at
+-- put away, how many sinks found no memory, how many notes they took, whether it was told to leave, and the fault that it
+-- stopped at
 pub record DrainerView (S Rest : Type 0) : Type 0 where
   pub inbox : Incoming (Out S)
   pub ports : List (Outgoing (Call S))
   pub kept : List (Kept S)
   pub away : List (PutAway Rest)
   pub misses : ℕ
+  pub taken : ℕ
   pub left : Bool
   pub fault : Option DrainFault
 
@@ -48,6 +50,7 @@ module _ {S Rest : Type 0} where
     kept = hands.kept.items;
     away = hands.put_away.items;
     misses = hands.places.misses;
+    taken = hands.taken;
     left = left;
     fault = fault;
   }
@@ -78,6 +81,7 @@ module _ {S Rest : Type 0} (acts : Acts S Rest) where
     pub sent : HaveSent (is_cut view.fault) view.left (owed leave log) view.ports
     pub sinks : Stand acts (kept_in leave log) (gone_in leave log) view.kept view.away
     pub missed : view.misses ≡ min (missed_in leave log) (2 ^ 64 - 1)
+    pub took : view.taken ≡ min (taken_in leave log) (2 ^ 64 - 1)
 
   -- what a drainer did with the letters that it received is what the marked letters mean
   pub record Drains (view : DrainerView S Rest) (log : Log S) : Type 0 where
@@ -92,11 +96,12 @@ module _ {S Rest : Type 0} (acts : Acts S Rest) where
   -- ONE LETTER
 
   -- a letter of a subject came to the sinks
-  abbrev pub ServesOut : ℕ → Out S → List (Kept S) → List (Kept S) → List (PutAway Rest) → List (PutAway Rest) → ℕ → ℕ → List Event → Type 0
-  ServesOut subject out kept kept_after away away_after misses misses_after events =
+  abbrev pub ServesOut : ℕ → Out S → List (Kept S) → List (Kept S) → List (PutAway Rest) → List (PutAway Rest) → ℕ → ℕ → ℕ → ℕ → List Event → Type 0
+  ServesOut subject out kept kept_after away away_after misses misses_after taken taken_after events =
       (place : ℕ) (held : List (Attachment S)) (gone : List (Attachment S × Why)) → Stand acts held gone kept away
       → (mark : Mark) × Did acts (out_change place subject out mark held) gone kept_after away_after (map (λ event. (subject, event)) events)
       × (misses_after ≡ counted misses (out_change place subject out mark held).missed)
+      × (taken_after ≡ counted taken (out_change place subject out mark held).took)
 
   -- a letter was handled: with a mark it is the next of all for which the drainer stood
   abbrev pub Handles : Letter (Out S) → DrainerView S Rest → DrainerView S Rest → Type 0
@@ -109,7 +114,7 @@ module _ {S Rest : Type 0} (acts : Acts S Rest) where
 module _ {S Rest : Type 0} where
   -- the drainer of these parts, before its first turn
   abbrev pub fresh_drainer : Incoming (Out S) → List (Outgoing (Call S)) → DrainerView S Rest
-  fresh_drainer inbox ports = record { inbox = inbox; ports = ports; kept = []; away = []; misses = 0; left = false; fault = None }
+  fresh_drainer inbox ports = record { inbox = inbox; ports = ports; kept = []; away = []; misses = 0; taken = 0; left = false; fault = None }
 
   -- what no turn changes: which boxes the inbox and the ports belong to
   pub record KeepsPlaces (before after : DrainerView S Rest) : Type 0 where

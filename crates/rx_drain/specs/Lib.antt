@@ -4,3 +4,5 @@ pub mod Drainers
 pub mod Serving
 pub mod Served
 pub mod Once
+pub mod Sent
+pub mod Tallies

@@ -79,6 +79,11 @@ module _ {S : Type 0} where
   missed_in leave NoLetters = 0
   missed_in leave (Next log x mark) = missed_in leave log + (change leave log x mark).missed
 
+  -- how many notes the sinks took
+  abbrev pub taken_in : ℕ → Log S → ℕ
+  taken_in leave NoLetters = 0
+  taken_in leave (Next log x mark) = taken_in leave log + (change leave log x mark).took
+
   -- the calls that are owed to subject d
   abbrev pub owed : ℕ → Log S → ℕ → List (Call S)
   owed leave log d = calls_to d (addressed (sent_in leave log))

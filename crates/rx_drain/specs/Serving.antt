@@ -16,6 +16,7 @@ module _ {S Rest : Type 0} where
     kept = [];
     away = end.put_away.items;
     misses = end.places.misses;
+    taken = end.taken;
     left = true;
     fault = None;
   }

@@ -13,4 +13,6 @@ pub struct DrainEnd<S: Sink> {
     pub put_away: Vec<PutAway<S::Rest>, Heap>,
     /// Where the sinks are counted that found no memory.
     pub places: Places,
+    /// How many notes its sinks took. The count stays at the greatest `u64`.
+    pub taken: u64,
 }

@@ -72,6 +72,7 @@ impl<S: Sink> Drainer<S> {
             kept,
             put_away: Vec::new(alloc),
             places: Places::new(),
+            taken: 0,
         };
         Ok(Drainer {
             hands,
@@ -162,12 +163,14 @@ impl<S: Sink> Drainer<S> {
             kept: _,
             put_away,
             places,
+            taken,
         } = self.hands;
         DrainEnd {
             inbox: parts.inbox,
             ports: ended,
             put_away,
             places,
+            taken,
         }
     }
 

@@ -17,4 +17,6 @@ pub struct DrainerLeft<S: Sink> {
     pub put_away: Vec<PutAway<S::Rest>, Heap>,
     /// Where it counted the sinks that found no memory.
     pub places: Places,
+    /// How many notes its sinks took. The count stays at the greatest `u64`.
+    pub taken: u64,
 }

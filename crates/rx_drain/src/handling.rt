@@ -48,6 +48,7 @@ pub fn handle<S: Sink, R: Wait>(
         &mut hands.kept,
         &mut hands.put_away,
         &mut hands.places,
+        &mut hands.taken,
         from,
         out,
     );

@@ -1,7 +1,9 @@
 //! Laws of marked letters. The functions do nothing: their contracts are the laws.
 
 ghost use Rattle.rx_drain.specs.Once.{EachSinkOnce};
+ghost use Rattle.rx_drain.specs.Sent.{EachIsSentFor};
 ghost use Rattle.rx_drain.specs.Served.{EachSinkTook};
+ghost use Rattle.rx_drain.specs.Tallies.{EachNoteCounts};
 
 /// The sinks' notes: of what the sink of an attachment is to be served, one that is kept took all so far; one that was put
 /// away after a terminal, since its observer left, or when the drainer was told to leave took all; and one that had a fault
@@ -13,4 +15,16 @@ pub fn each_sink_took<S: Drop>()
 /// Each sink that came and found its place is kept or was put away, and none twice.
 pub fn each_sink_once<S: Drop>()
     ensures { EachSinkOnce S }
+{}
+
+/// Each attachment's calls: its subject is sent, for each attachment, a request for one item more after each item that its
+/// sink took, and then at its end one disposal, but where its observer had left. Nothing else is sent, but the disposal of an
+/// observer whose sink found no memory.
+pub fn each_is_sent_for<S: Drop>()
+    ensures { EachIsSentFor S }
+{}
+
+/// The count of notes taken is the number of notes that the sinks of all attachments took, kept or put away.
+pub fn each_note_counts<S: Drop>()
+    ensures { EachNoteCounts S }
 {}

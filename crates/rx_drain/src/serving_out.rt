@@ -12,16 +12,17 @@ pub fn serve_out<S: Sink>(
     kept: &mut Vec<Kept<S>, Heap>,
     away: &mut Vec<PutAway<S::Rest>, Heap>,
     places: &mut Places,
+    taken: &mut u64,
     subject: u32,
     out: Out<S>,
 ) -> Option<Event>
     requires room { vec_len away.old + vec_len kept.old ≤ vec_capacity away.old }
     ensures room { vec_len away.new + vec_len kept.new ≤ vec_capacity away.new }
-    ensures serves { ServesOut S.acts subject out kept.old.items kept.new.items away.old.items away.new.items places.old.misses places.new.misses (option_to_list result) }
+    ensures serves { ServesOut S.acts subject out kept.old.items kept.new.items away.old.items away.new.items places.old.misses places.new.misses taken.old taken.new (option_to_list result) }
 {
     match out {
         Out::Attach { who, sink } => attach(kept, away, places, subject, who, sink),
-        Out::Give { who, note } => give(kept, away, subject, who, note),
+        Out::Give { who, note } => give(kept, away, taken, subject, who, note),
         Out::Detach { who } => {
             detach(kept, away, subject, who);
             None

@@ -1,7 +1,7 @@
 ghost use Rattle.std.specs.Prelude.{◌≡◌, ◌≢◌, ◌+◌, ◌-◌, ◌^◌, ◌↔◌, min, Err, false, IfOk, OnErr, IsOk, if◌then◌else◌, length};
 ghost use Rattle.rx_hub.specs.Counts.{waiting_count};
 ghost use Rattle.rx_hub.specs.Hubs.{is_miss};
-ghost use Rattle.rx_history.specs.Histories.{History, NoEvents, answer, held};
+ghost use Rattle.rx_history.specs.Histories.{History, NoEvents, answer, held, joins};
 
 use crate::multicast::Multicast;
 use crate::no_observer::NoObserver;
@@ -113,6 +113,14 @@ impl Hub {
         ensures held { (H : History) → StandsFor self.now.state H → result ≡ length (held self.now.state.rules H) }
     {
         self.multicast.observers()
+    }
+
+    /// How many Joins were accepted: the number of the next observer. It takes no memory.
+    pub fn joins(&self) -> u32
+        ensures count { result ≡ self.now.state.joined }
+        ensures joins { (H : History) → StandsFor self.now.state H → result ≡ joins self.now.state.rules H }
+    {
+        self.multicast.joins
     }
 
     /// How many notes wait for the observer `who`, the terminal included. Refused as `NoObserver` where no observer of

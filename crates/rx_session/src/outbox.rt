@@ -123,10 +123,22 @@ impl Outbox {
             Ok(()) => {}
             Err(fault) => return Err(fault),
         }
+        self.push_reply(response);
+        Ok(())
+    }
+
+    // Holds the line of a response too, for which there is room. By far the most are OK, which is copied by a fixed size.
+    #[inline]
+    fn push_reply(&mut self, response: Response)
+        requires { length self.old + 2048 ≤ 65536 }
+        ensures { self.new ≡ self.old ++ reply_line response }
+    {
+        if let Response::Done = response {
+            return self.push(b"OK\n");
+        }
         let line = reply_line(response);
         let (bytes, len) = line.padded();
         self.push_padded(bytes, len);
-        Ok(())
     }
 
     /// Writes what it holds and flushes the writer. It holds nothing afterwards.

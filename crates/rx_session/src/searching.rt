@@ -14,6 +14,10 @@ const LANES: usize = 16;
 pub(crate) fn first_lf(bytes: &[u8]) -> Option<usize>
     ensures { FindsLf result bytes.now }
 {
+    // One that was found before stands at the front.
+    if !bytes.is_empty() && bytes[0] == LF {
+        return Some(0);
+    }
     let mut at = 0;
     while bytes.len() - at >= LANES {
         let ahead = before_lf(bytes, at);

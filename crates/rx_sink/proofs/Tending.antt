@@ -1,5 +1,5 @@
 -- What the calls do to the sinks that are kept and put away.
-use Rattle.std.proofs.Common.{◌≡◌, ◌∙◌, sym, refl, ap, subst, ℕ, true, false, List, [], ◌∷◌, ◌++◌, append-nil, append_assoc, get_or, reverse, Some, None, slice_get, Result, Ok, Err, is_ok, MatchResult}
+use Rattle.std.proofs.Common.{◌≡◌, ◌∙◌, sym, refl, ap, subst, if◌then◌else◌, ℕ, Bool, true, false, List, [], ◌∷◌, ◌++◌, append-nil, append_assoc, get_or, reverse, Some, None, slice_get, Result, Ok, Err, is_ok, MatchResult}
 use Rattle.std.proofs.Math.ListN.{set}
 use Rattle.std.proofs.lemmas.Fn.{FoldsTo-push}
 use Rattle.std.proofs.lemmas.List.{reverse-append, reverse-reverse}
@@ -9,9 +9,9 @@ use Rattle.rx_note.specs.declared.event.Event.TheVariants.{Request, Dispose}
 use Rattle.rx_note.specs.declared.note.Note.{Note}
 use Rattle.rx_sink.specs.declared.kept.Kept.{Kept}
 use Rattle.rx_sink.specs.declared.put_away.PutAway.{PutAway}
-use Rattle.rx_sink.specs.Acts.{Acts, Took}
+use Rattle.rx_sink.specs.Acts.{Acts, Took, raised}
 use Rattle.rx_sink.specs.Attachments.{Attachment, Why, TookLast, Detached, Closed, FailedAtStart, FailedAt, Mark, Fine, Fault, NoMemory, Change, is_last, kept_for, given, served, attached, detached, unchanged, with_note, without, closed}
-use Rattle.rx_sink.specs.Stands.{IsKept, Last, IsPutAway, Stand, Did, Pushes, MovesOne}
+use Rattle.rx_sink.specs.Stands.{IsKept, Last, IsPutAway, Stand, Did, Pushes, MovesOne, counted}
 use Rattle.rx_sink.proofs.Finding.{AllZip-more, Found, remove-set, slice_get-set}
 
 module _ {S : Type 0} where
@@ -196,6 +196,31 @@ module _ {S Rest : Type 0} (acts : Acts S Rest) where
         };
         sends = refl;
       })
+
+-- THE NUMBER OF NOTES TAKEN
+
+module _ {S : Type 0} where
+  -- nobody took the note
+  pub took_nobody : (n : ℕ) (mark : Mark) (subject who : ℕ) (note : Note) (held : List (Attachment S)) → kept_for subject who held ≡ None
+      → n ≡ counted n (given mark subject who note (kept_for subject who held) held).took
+  took_nobody n mark subject who note held none = sym (ap (λ o. counted n (given mark subject who note o held).took) none)
+
+  served_fine : (n : ℕ) (last : Bool) (subject who : ℕ) (note : Note) (a : Attachment S) (held : List (Attachment S)) → raised n ≡ counted n (served Fine last subject who note a held).took
+  served_fine n false subject who note a held = refl
+  served_fine n true subject who note a held = refl
+
+  -- the sink took it
+  pub took_fine : (n : ℕ) (fine : Bool) (subject who : ℕ) (note : Note) (a : Attachment S) (held : List (Attachment S)) → fine ≡ true → kept_for subject who held ≡ Some a
+      → (if fine then raised n else n) ≡ counted n (given Fine subject who note (kept_for subject who held) held).took
+  took_fine n fine subject who note a held is found =
+      ap (λ b. if b then raised n else n) is ∙ served_fine n (is_last note) subject who note a held
+      ∙ sym (ap (λ o. counted n (given Fine subject who note o held).took) found)
+
+  -- that was a fault
+  pub took_fault : (n : ℕ) (fine : Bool) (subject who : ℕ) (note : Note) (a : Attachment S) (held : List (Attachment S)) → fine ≡ false → kept_for subject who held ≡ Some a
+      → (if fine then raised n else n) ≡ counted n (given Fault subject who note (kept_for subject who held) held).took
+  took_fault n fine subject who note a held is found =
+      ap (λ b. if b then raised n else n) is ∙ sym (ap (λ o. counted n (given Fault subject who note o held).took) found)
 
 -- a call that was Ok did what an Ok call does
 pub by_ok : {T E : Type 0} (r : Result T E) (P Q : Type 0) → MatchResult r (λ _. P) (λ _. Q) → is_ok r ≡ true → P

@@ -38,13 +38,14 @@ pub record Sent : Type 0 where
   pub subject : ℕ
   pub event : Event
 
--- what one letter leaves and brings: the attachments that are kept, those that end and why, the events that are sent, and
--- how many sinks found no memory
+-- what one letter leaves and brings: the attachments that are kept, those that end and why, the events that are sent, how
+-- many sinks found no memory, and how many notes were taken
 pub record Change (S : Type 0) : Type 0 where
   pub kept : List (Attachment S)
   pub gone : List (Attachment S × Why)
   pub sends : List Sent
   pub missed : ℕ
+  pub took : ℕ
 
 -- nothing follows the note
 abbrev pub is_last : Note → Bool
@@ -94,30 +95,30 @@ module _ {S : Type 0} where
 
   -- nothing happens
   abbrev pub unchanged : List (Attachment S) → Change S
-  unchanged kept = record { kept = kept; gone = []; sends = []; missed = 0 }
+  unchanged kept = record { kept = kept; gone = []; sends = []; missed = 0; took = 0 }
 
   -- it is joined: the sink was started, or that was a fault, or there was no memory for it
   abbrev pub joined : Mark → Attachment S → List (Attachment S) → Change S
-  joined Fine a kept = record { kept = kept ++ a ∷ []; gone = []; sends = []; missed = 0 }
-  joined Fault a kept = record { kept = kept; gone = (a, FailedAtStart) ∷ []; sends = dispose a ∷ []; missed = 0 }
-  joined NoMemory a kept = record { kept = kept; gone = []; sends = dispose a ∷ []; missed = 1 }
+  joined Fine a kept = record { kept = kept ++ a ∷ []; gone = []; sends = []; missed = 0; took = 0 }
+  joined Fault a kept = record { kept = kept; gone = (a, FailedAtStart) ∷ []; sends = dispose a ∷ []; missed = 0; took = 0 }
+  joined NoMemory a kept = record { kept = kept; gone = []; sends = dispose a ∷ []; missed = 1; took = 0 }
 
   -- a sink comes: it is left unserved while one is kept for its observer
   abbrev pub attached : Mark → Attachment S → Option (Attachment S) → List (Attachment S) → Change S
   attached mark a (Some other) kept = unchanged kept
   attached mark a None kept = joined mark a kept
 
-  -- it is put away, and its observer disposed of
-  abbrev pub ended : Attachment S → Why → List (Attachment S) → Change S
-  ended a why kept = record { kept = kept; gone = (a, why) ∷ []; sends = dispose a ∷ []; missed = 0 }
+  -- it is put away, and its observer disposed of, with as many notes as its sink took at that
+  abbrev pub ended : Attachment S → Why → ℕ → List (Attachment S) → Change S
+  ended a why took kept = record { kept = kept; gone = (a, why) ∷ []; sends = dispose a ∷ []; missed = 0; took = took }
 
   -- it is served a note: the sink took an item, or a terminal, or that was a fault
   abbrev pub served : Mark → Bool → ℕ → ℕ → Note → Attachment S → List (Attachment S) → Change S
   served Fine false subject who note a kept =
-      record { kept = replaced subject who (with_note a note) kept; gone = []; sends = request a ∷ []; missed = 0 }
-  served Fine true subject who note a kept = ended (with_note a note) TookLast (without subject who kept)
-  served Fault last subject who note a kept = ended a (FailedAt note) (without subject who kept)
-  served NoMemory last subject who note a kept = ended a (FailedAt note) (without subject who kept)
+      record { kept = replaced subject who (with_note a note) kept; gone = []; sends = request a ∷ []; missed = 0; took = 1 }
+  served Fine true subject who note a kept = ended (with_note a note) TookLast 1 (without subject who kept)
+  served Fault last subject who note a kept = ended a (FailedAt note) 0 (without subject who kept)
+  served NoMemory last subject who note a kept = ended a (FailedAt note) 0 (without subject who kept)
 
   -- a note comes for an observer: it is lost where no sink is kept for it
   abbrev pub given : Mark → ℕ → ℕ → Note → Option (Attachment S) → List (Attachment S) → Change S
@@ -126,7 +127,7 @@ module _ {S : Type 0} where
 
   -- an observer left: its sink is put away
   abbrev pub detached : ℕ → ℕ → Option (Attachment S) → List (Attachment S) → Change S
-  detached subject who (Some a) kept = record { kept = without subject who kept; gone = (a, Detached) ∷ []; sends = []; missed = 0 }
+  detached subject who (Some a) kept = record { kept = without subject who kept; gone = (a, Detached) ∷ []; sends = []; missed = 0; took = 0 }
   detached subject who None kept = unchanged kept
 
   -- attachments that end since the drainer was told to leave
@@ -135,4 +136,4 @@ module _ {S : Type 0} where
 
   -- the drainer was told to leave: all are put away, and each observer is disposed of
   abbrev pub left : List (Attachment S) → Change S
-  left kept = record { kept = []; gone = closed kept; sends = map dispose kept; missed = 0 }
+  left kept = record { kept = []; gone = closed kept; sends = map dispose kept; missed = 0; took = 0 }

@@ -12,10 +12,10 @@ use Rattle.rx_sink.specs.Attachments.{Attachment, Why, TookLast, Detached, Close
 abbrev pub addressed : List Sent → List (ℕ × Event)
 addressed sends = map (λ s. (s.subject, s.event)) sends
 
--- the misses with those of one letter more
+-- a count of misses, or of notes taken, with those of one letter more
 abbrev pub counted : ℕ → ℕ → ℕ
-counted misses zero = misses
-counted misses (suc _) = raised misses
+counted n zero = n
+counted n (suc _) = raised n
 
 module _ {S Rest : Type 0} (acts : Acts S Rest) where
   -- a kept sink is that of the attachment, and took its notes
@@ -60,10 +60,11 @@ module _ {S Rest : Type 0} (acts : Acts S Rest) where
       Did change gone kept_after away_after (map (λ event. (subject, event)) events) × (misses_after ≡ counted misses change.missed))
 
   -- a note came
-  abbrev pub Gives : ℕ → ℕ → Note → List (Kept S) → List (Kept S) → List (PutAway Rest) → List (PutAway Rest) → List Event → Type 0
-  Gives subject who note kept kept_after away away_after events =
+  abbrev pub Gives : ℕ → ℕ → Note → List (Kept S) → List (Kept S) → List (PutAway Rest) → List (PutAway Rest) → ℕ → ℕ → List Event → Type 0
+  Gives subject who note kept kept_after away away_after taken taken_after events =
       (held : List (Attachment S)) (gone : List (Attachment S × Why)) → Stand held gone kept away
-      → (mark : Mark) × Did (given mark subject who note (kept_for subject who held) held) gone kept_after away_after (map (λ event. (subject, event)) events)
+      → (mark : Mark) × (let change = given mark subject who note (kept_for subject who held) held in
+      Did change gone kept_after away_after (map (λ event. (subject, event)) events) × (taken_after ≡ counted taken change.took))
 
   -- an observer left
   abbrev pub Detaches : ℕ → ℕ → List (Kept S) → List (Kept S) → List (PutAway Rest) → List (PutAway Rest) → Type 0

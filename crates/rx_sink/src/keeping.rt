@@ -1,6 +1,7 @@
 // What a letter does to the sinks that are kept and to those that were put away.
-ghost use Rattle.std.specs.Prelude.{◌≡◌, ◌+◌, ◌<◌, ◌≤◌, [], ◌∷◌, ◌++◌, List, ℕ, Some, vec_len, vec_capacity, slice_get, option_to_list};
+ghost use Rattle.std.specs.Prelude.{◌≡◌, if◌then◌else◌, ◌+◌, ◌<◌, ◌≤◌, [], ◌∷◌, ◌++◌, List, ℕ, Some, vec_len, vec_capacity, slice_get, option_to_list};
 ghost use Rattle.std.specs.List.{position, remove};
+ghost use Rattle.rx_sink.specs.Acts.{raised};
 ghost use Rattle.rx_sink.specs.Attachments.{Attachment, Why, closed, is_for, is_last};
 ghost use Rattle.rx_sink.specs.Stands.{Attaches, Gives, Detaches, MovesOne, Pushes, Stand};
 
@@ -50,24 +51,28 @@ pub fn attach<S: Sink>(
 }
 
 /// A note comes for an observer, whose sink takes it, if one is kept. It answers what the subject is to be asked: one item
-/// more after an item; the observer is disposed of after a terminal and after a fault, and its sink put away.
+/// more after an item; the observer is disposed of after a terminal and after a fault, and its sink put away. In `taken` it
+/// counts a note that was taken; the count stays at the greatest `u64`.
 pub fn give<S: Sink>(
     kept: &mut Vec<Kept<S>, Heap>,
     away: &mut Vec<PutAway<S::Rest>, Heap>,
+    taken: &mut u64,
     subject: u32,
     who: u32,
     note: Note,
 ) -> Option<Event>
     requires room { vec_len away.old + vec_len kept.old ≤ vec_capacity away.old }
     ensures room { vec_len away.new + vec_len kept.new ≤ vec_capacity away.new }
-    ensures gives { Gives S.acts subject who note kept.old.items kept.new.items away.old.items away.new.items (option_to_list result) }
+    ensures gives { Gives S.acts subject who note kept.old.items kept.new.items away.old.items away.new.items taken.old taken.new (option_to_list result) }
 {
     let Some(place) = find(kept.as_slice(), subject, who) else {
         return None;
     };
     let last = is_last(&note);
-    let taken = kept[place].take(note);
-    if taken.is_ok() && !last {
+    let took = kept[place].take(note);
+    let fine = took.is_ok();
+    *taken = tallied(*taken, fine);
+    if fine && !last {
         return Some(Event::Request { who, n: 1 });
     }
     move_away(kept, away, place);
@@ -138,6 +143,13 @@ fn find<S: Sink>(kept: &[Kept<S>], subject: u32, who: u32) -> Option<usize>
 {
     kept.iter()
         .position(|one| one.subject == subject && one.who == who)
+}
+
+// The number of notes taken with one more, where it was.
+fn tallied(taken: u64, fine: bool) -> u64
+    ensures { result ≡ (if fine then raised taken else taken) }
+{
+    if fine { taken.saturating_add(1) } else { taken }
 }
 
 // Whether nothing follows a note.

@@ -17,7 +17,7 @@ returns-then-is_some-clause-handles g c =
     let leave_is : c.args.leave ≡ length (ended ++ a) = omega (arith, c.requires.leave_is, length-append ended a) in
     let sends = subst (λ (kept : List (Kept _)). SendsAll c.dispose_all-fault.result (map disposal kept) a c.dispose_all-fault.new.subjects.items) c.as_slice.ensures.value c.dispose_all-fault.ensures in (
       named_sent c.dispose_all-fault.result (map disposal c.args.hands.now.kept.items) ended a c.dispose_all-fault.new.subjects.items sends,
-      λ log s. stands_left g.S.Sink.acts (length (ended ++ a)) log c.args.leave _ _ leave_is refl refl c.put_all_away.ensures.kept refl c.put_all_away.ensures.closes
+      λ log s. stands_left g.S.Sink.acts (length (ended ++ a)) log c.args.leave _ _ leave_is refl refl c.put_all_away.ensures.kept refl refl c.put_all_away.ensures.closes
           (λ have. sent_in_part c.dispose_all-fault.result (owed (length (ended ++ a)) log) (map disposal c.args.hands.now.kept.items) ended a c.dispose_all-fault.new.subjects.items
           (sym c.is_some.ensures ∙ c.if-is_some.true) (c.requires.open_ports refl) have sends) s,
     )
@@ -36,7 +36,7 @@ returns-in-Ok-clause-handles g c =
     let sends = subst (λ (kept : List (Kept _)). SendsAll c.dispose_all-fault.result (map disposal kept) a c.dispose_all-fault.new.subjects.items) c.as_slice.ensures.value c.dispose_all-fault.ensures in
     let fine = sent_none c.dispose_all-fault.result (map disposal c.args.hands.now.kept.items) a c.dispose_all-fault.new.subjects.items (sym c.is_some.ensures ∙ c.if-is_some.false) sends in (
       tt,
-      λ log s. stands_left g.S.Sink.acts (length (ended ++ a)) log c.args.leave _ _ leave_is refl refl c.put_all_away.ensures.kept refl c.put_all_away.ensures.closes
+      λ log s. stands_left g.S.Sink.acts (length (ended ++ a)) log c.args.leave _ _ leave_is refl refl c.put_all_away.ensures.kept refl refl c.put_all_away.ensures.closes
           (λ have. sent_ended (owed (length (ended ++ a)) log) (map disposal c.args.hands.now.kept.items) ended a c.dispose_all-fault.new.subjects.items c.finish_all.new.ended.items c.finish_all.new.ports.items
           (c.requires.open_ports refl) have fine c.in-Ok.ensures.ended.0 c.in-Ok.ensures.ended.1) s,
     )
@@ -57,7 +57,7 @@ returns-in-Err-clause-handles g c =
     let place_is : c.in-Err.place ≡ length c.finish_all.new.ended.items = omega (arith, c.in-Err.ensures.ended.1) in (
       named_half c.in-Err.place (map disposal c.args.hands.now.kept.items) ended a c.dispose_all-fault.new.subjects.items c.finish_all.new.ended.items c.finish_all.new.ports.items
           (c.requires.open_ports refl) fine c.in-Err.ensures.ended.0 place_is,
-      λ log s. stands_left g.S.Sink.acts (length (ended ++ a)) log c.args.leave _ _ leave_is refl refl c.put_all_away.ensures.kept refl c.put_all_away.ensures.closes
+      λ log s. stands_left g.S.Sink.acts (length (ended ++ a)) log c.args.leave _ _ leave_is refl refl c.put_all_away.ensures.kept refl refl c.put_all_away.ensures.closes
           (λ have. sent_half (owed (length (ended ++ a)) log) (map disposal c.args.hands.now.kept.items) ended a c.dispose_all-fault.new.subjects.items c.finish_all.new.ended.items c.finish_all.new.ports.items
           (c.requires.open_ports refl) have fine c.in-Err.ensures.ended.0) s,
     )

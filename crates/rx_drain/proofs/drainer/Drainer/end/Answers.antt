@@ -10,11 +10,11 @@ pub returns : goal.returns
 returns g c =
     let hands = c.self.inside.hands in
     let view = view_of hands c.self.inside.left c.self.inside.fault in
-    let end : DrainEnd _ _ = record { inbox = hands.parts.inbox; ports = hands.ended; put_away = hands.put_away; places = hands.places } in
+    let end : DrainEnd _ _ = record { inbox = hands.parts.inbox; ports = hands.ended; put_away = hands.put_away; places = hands.places; taken = hands.taken } in
     let whole = ap (λ (v : DrainerView _ _). v.fault) c.self.view_is ∙ c.requires.whole in
     let each = subst (λ (v : DrainerView _ _). HasEachBye v.inbox) (sym c.self.view_is) c.requires.each_bye in
     let senders : view.inbox.ports ≡ length view.ports + 1 =
     omega (arith, c.self.invariant.2, c.self.invariant.1.leave_is, length-append hands.ended.items hands.parts.subjects.items) in
     let told : c.self.inside.left ≡ true = told_to_leave g.S.Sink.acts view senders each c.self.invariant.0 in
     subst (λ (v : DrainerView _ _). HasServed g.S.Sink.acts v end) c.self.view_is
-    (served_end g.S.Sink.acts view hands.parts.subjects.items end refl refl (c.self.invariant.1.ended_ports told whole) refl refl told whole each c.self.invariant.0)
+    (served_end g.S.Sink.acts view hands.parts.subjects.items end refl refl (c.self.invariant.1.ended_ports told whole) refl refl refl told whole each c.self.invariant.0)

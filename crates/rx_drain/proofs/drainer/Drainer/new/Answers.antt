@@ -9,7 +9,7 @@ pub invariant_of-result : goal.invariant_of-result
 invariant_of-result g c =
     let none : c.in-Ok.ended.items ≡ [] = c.in-Ok.ensures.items in
     let fresh = subst (λ (l : List (Outgoing _)). All IsFresh (l ++ c.args.subjects.items)) (sym none) c.requires.fresh in (
-      drained_fresh g.S.Sink.acts _ c.requires.received fresh c.in-Ok-room.ensures.items c.new.ensures.items c.new-2.ensures refl refl,
+      drained_fresh g.S.Sink.acts _ c.requires.received fresh c.in-Ok-room.ensures.items c.new.ensures.items c.new-2.ensures refl refl refl,
       record {
         leave_is = search rules;
         away_room = search rules;

@@ -1,4 +1,3 @@
-use Rattle.std.proofs.Common.{◌∙◌, ◌++◌, ap}
 use Rattle.rx_session.proofs.Written.{Holds-pushed, Loses-more}
 use Rattle.rx_session.proofs.outbox.Outbox.put_reply.Goals as goal
 
@@ -6,6 +5,4 @@ pub returns-in-Err : goal.returns-in-Err
 returns-in-Err g c = Loses-more _ _ _ _ _ _ c.in-Err.ensures.puts
 
 pub returns : goal.returns
-returns g c =
-    Holds-pushed _ _ _ _ _ _ c.in-Ok.ensures.puts
-    (c.push_padded.ensures ∙ ap (λ t. c.ready.new.self ++ t) (c.padded-len.ensures.bytes ∙ c.reply_line-line.ensures))
+returns g c = Holds-pushed _ _ _ _ _ _ c.in-Ok.ensures.puts c.push_reply.ensures

@@ -1,0 +1,468 @@
+-- What is sent for each attachment of a log.
+use Rattle.std.proofs.Common.{◌≡◌, ◌≢◌, ◌∙◌, sym, refl, ap, subst, ℕ, ◌+◌, ◌≤◌, ◌==◌, ◌⊎◌, inl, inr, if◌then◌else◌, Bool, true, false, List, [], ◌∷◌, ◌++◌, append_assoc, append-nil, length, map, Option, Some, None, slice_get, eq-eqb, arith}
+use Rattle.std.proofs.lemmas.Bool.Decides.{eqb_tells}
+use Rattle.std.proofs.lemmas.List.{map-append}
+use Rattle.std.specs.List.{AllByRecursion}
+use Rattle.rx_mailbox.specs.declared.letter.Letter.{Letter}
+use Rattle.rx_mailbox.specs.declared.letter.Post.{Post}
+use Rattle.rx_mailbox.specs.declared.letter.Post.TheVariants.{Body, Bye}
+use Rattle.rx_mailbox.specs.Letters.{letter}
+use Rattle.rx_note.specs.declared.event.Event.{Event}
+use Rattle.rx_note.specs.declared.event.Event.TheVariants.{Request, Dispose}
+use Rattle.rx_note.specs.declared.note.Note.{Note}
+use Rattle.rx_pump.specs.declared.out.Out.{Out}
+use Rattle.rx_pump.specs.declared.out.Out.TheVariants.{Attach, Give, Detach}
+use Rattle.rx_pump.proofs.Placing.{slice_get-append_left, slice_get-append_right}
+use Rattle.rx_sink.specs.Attachments.{Attachment, Why, TookLast, Detached, FailedAtStart, FailedAt, Mark, Fine, Fault, NoMemory, Sent, Change, is_last, is_of, kept_for, without, replaced, with_note, request, dispose, attached, given, served, detached, closed}
+use Rattle.rx_drain.specs.Logs.{Log, NoLetters, Next, letters, has_left, brought, post_change, letter_change, kept_in, change, gone_in, sent_in}
+use Rattle.rx_drain.specs.Once.{times, letter_found, found_in}
+use Rattle.rx_drain.specs.Served.{StandsAt}
+use Rattle.rx_drain.specs.Sent.{asks, sent_for, to_subject, asked, asked_in_all, IsSentForEach}
+use Rattle.rx_drain.proofs.Counting.{times-append, kept_places, gone_places, below, without_places, same, once}
+use Rattle.rx_drain.proofs.Taking.{all_append, some_split}
+
+-- EVENTS OF A PLACE
+
+sent_append : (n : ℕ) (xs ys : List Sent) → sent_for n (xs ++ ys) ≡ sent_for n xs ++ sent_for n ys
+sent_append n [] ys = refl
+sent_append n (s ∷ xs) ys =
+    let here : List (ℕ × Event) = (if s.place == n then (s.subject, s.event) ∷ [] else []) in
+    ap (λ l. here ++ l) (sent_append n xs ys) ∙ sym (append_assoc here (sent_for n xs) (sent_for n ys))
+
+sent_other : (n : ℕ) (s : Sent) → n ≢ s.place → sent_for n (s ∷ []) ≡ []
+sent_other n s other =
+    elim (eqb_tells s.place n) [
+      | inl (test, is) ↦ absurd (other (sym is))
+      | inr (test, apart) ↦ ap (λ t. (if t then (s.subject, s.event) ∷ [] else []) ++ []) test
+    ]
+
+sent_here : (s : Sent) → sent_for s.place (s ∷ []) ≡ (s.subject, s.event) ∷ []
+sent_here s = ap (λ t. (if t then (s.subject, s.event) ∷ [] else []) ++ []) (eq-eqb s.place s.place refl)
+
+-- events of another place change nothing
+keep : (n : ℕ) (xs ys : List Sent) (all : List (ℕ × Event)) → sent_for n ys ≡ [] → sent_for n xs ≡ all → sent_for n (xs ++ ys) ≡ all
+keep n xs ys all none is = sent_append n xs ys ∙ ap (λ l. sent_for n xs ++ l) none ∙ append-nil (sent_for n xs) ∙ is
+
+-- all events are of this place
+abbrev Only : ℕ → List Sent → Type 0
+Only m ys = (n : ℕ) → n ≢ m → sent_for n ys ≡ []
+
+all_keep : {X : Type 0} (place : X → ℕ) (expected : X → List (ℕ × Event)) (xs ys : List Sent) (m : ℕ) (zs : List X) → Only m ys
+    → AllByRecursion (λ z. place z ≢ m) zs → AllByRecursion (λ z. sent_for (place z) xs ≡ expected z) zs
+    → AllByRecursion (λ z. sent_for (place z) (xs ++ ys) ≡ expected z) zs
+all_keep place expected xs ys m [] only apart all = tt
+all_keep place expected xs ys m (z ∷ zs) only apart all =
+    (keep (place z) xs ys (expected z) (only (place z) apart.0) all.0, all_keep place expected xs ys m zs only apart.1 all.1)
+
+asks_more : (who : ℕ) (notes : List Note) (note : Note) → asks who (notes ++ note ∷ []) ≡ asks who notes ++ (if is_last note then [] else Request who 1 ∷ [])
+asks_more who [] note = append-nil (if is_last note then [] else Request who 1 ∷ [])
+asks_more who (first ∷ notes) note =
+    let here : List Event = (if is_last first then [] else Request who 1 ∷ []) in
+    ap (λ l. here ++ l) (asks_more who notes note) ∙ sym (append_assoc here (asks who notes) (if is_last note then [] else Request who 1 ∷ []))
+
+times_self : (n : ℕ) → times n (n ∷ []) ≡ 1
+times_self n = ap (λ t. (if t then 1 else 0) + 0) (eq-eqb n n refl)
+
+module _ {S : Type 0} where
+  abbrev Asked : List Sent → List (Attachment S) → Type 0
+  Asked xs kept = AllByRecursion (λ a. sent_for a.place xs ≡ asked a) kept
+
+  abbrev AskedAll : List Sent → List (Attachment S × Why) → Type 0
+  AskedAll xs gone = AllByRecursion (λ end. sent_for end.0.place xs ≡ asked_in_all end) gone
+
+  none_kept : (n : ℕ) (kept : List (Attachment S)) → times n (kept_places kept) ≡ 0 → AllByRecursion (λ a. a.place ≢ n) kept
+  none_kept n [] none = tt
+  none_kept n (a ∷ kept) none =
+      elim (eqb_tells a.place n) [
+        | inl (test, is) ↦
+            (let e : times n (kept_places (a ∷ kept)) ≡ 1 + times n (kept_places kept) = ap (λ t. (if t then 1 else 0) + times n (kept_places kept)) test in
+            let no : ⊥ = omega (arith, e, none) in absurd no)
+        | inr (test, apart) ↦
+            (let e : times n (kept_places (a ∷ kept)) ≡ 0 + times n (kept_places kept) = ap (λ t. (if t then 1 else 0) + times n (kept_places kept)) test in
+            (apart, none_kept n kept (omega (arith, e, none))))
+      ]
+
+  none_gone : (n : ℕ) (gone : List (Attachment S × Why)) → times n (gone_places gone) ≡ 0 → AllByRecursion (λ end. end.0.place ≢ n) gone
+  none_gone n [] none = tt
+  none_gone n (end ∷ gone) none =
+      elim (eqb_tells end.0.place n) [
+        | inl (test, is) ↦
+            (let e : times n (gone_places (end ∷ gone)) ≡ 1 + times n (gone_places gone) = ap (λ t. (if t then 1 else 0) + times n (gone_places gone)) test in
+            let no : ⊥ = omega (arith, e, none) in absurd no)
+        | inr (test, apart) ↦
+            (let e : times n (gone_places (end ∷ gone)) ≡ 0 + times n (gone_places gone) = ap (λ t. (if t then 1 else 0) + times n (gone_places gone)) test in
+            (apart, none_gone n gone (omega (arith, e, none))))
+      ]
+
+  -- nothing is sent
+  idle_kept : (xs : List Sent) (kept : List (Attachment S)) → Asked xs kept → Asked (xs ++ []) kept
+  idle_kept xs kept all = subst (λ (l : List Sent). Asked l kept) (sym (append-nil xs)) all
+
+  idle_gone : (xs : List Sent) (gone : List (Attachment S × Why)) → AskedAll xs gone → AskedAll (xs ++ []) (gone ++ [])
+  idle_gone xs gone all =
+      subst (λ (l : List Sent). AskedAll l (gone ++ [])) (sym (append-nil xs)) (subst (λ (l : List (Attachment S × Why)). AskedAll xs l) (sym (append-nil gone)) all)
+
+  -- THE ATTACHMENT OF AN OBSERVER
+
+  found_step : (P : Attachment S → Type 0) (s w : ℕ) (c a : Attachment S) (kept : List (Attachment S)) → kept_for s w (c ∷ kept) ≡ Some a → P c
+      → (kept_for s w kept ≡ Some a → P a) → P a
+  found_step P s w c a kept is here later =
+      elim (some_split (is_of s w c) c a (kept_for s w kept) is) [
+        | inl (test, is) ↦ subst P is here
+        | inr (test, next) ↦ later next
+      ]
+
+  found_has : (P : Attachment S → Type 0) (s w : ℕ) (a : Attachment S) (kept : List (Attachment S)) → kept_for s w kept ≡ Some a → AllByRecursion P kept → P a
+  found_has P s w a [] is all = cc
+  found_has P s w a (c ∷ kept) is all = found_step P s w c a kept is all.0 (λ later. found_has P s w a kept later all.1)
+
+  all_either : (P : Attachment S → Type 0) (b : Bool) (c : Attachment S) (kept rest : List (Attachment S)) → P c → AllByRecursion P kept → AllByRecursion P rest
+      → AllByRecursion P (if b then kept else c ∷ rest)
+  all_either P true c kept rest here all more = all
+  all_either P false c kept rest here all more = (here, more)
+
+  all_without : (P : Attachment S → Type 0) (s w : ℕ) (kept : List (Attachment S)) → AllByRecursion P kept → AllByRecursion P (without s w kept)
+  all_without P s w [] all = tt
+  all_without P s w (c ∷ kept) all = all_either P (is_of s w c) c kept (without s w kept) all.0 all.1 (all_without P s w kept all.1)
+
+  -- it is left out, and events of its place are sent
+  asked_without : (s w : ℕ) (a : Attachment S) (kept : List (Attachment S)) (xs ys : List Sent) → kept_for s w kept ≡ Some a → times a.place (kept_places kept) ≤ 1
+      → Only a.place ys → Asked xs kept → Asked (xs ++ ys) (without s w kept)
+  asked_without s w a kept xs ys is few only all =
+      let count = without_places a.place s w a kept is in
+      let none : times a.place (kept_places (without s w kept)) ≡ 0 = omega (arith, count, times_self a.place, few) in
+      all_keep (λ (d : Attachment S). d.place) asked xs ys a.place (without s w kept) only (none_kept a.place (without s w kept) none)
+      (all_without (λ d. sent_for d.place xs ≡ asked d) s w kept all)
+
+  replaced_step : (s w : ℕ) (c a b : Attachment S) (kept : List (Attachment S)) (xs ys : List Sent) → kept_for s w (c ∷ kept) ≡ Some a
+      → times a.place (kept_places (c ∷ kept)) ≤ 1 → Only a.place ys → Asked xs (c ∷ kept) → sent_for b.place (xs ++ ys) ≡ asked b
+      → (kept_for s w kept ≡ Some a → times a.place (kept_places kept) ≤ 1 → Asked (xs ++ ys) (replaced s w b kept))
+      → Asked (xs ++ ys) (replaced s w b (c ∷ kept))
+  replaced_step s w c a b kept xs ys is few only all now later =
+      elim (some_split (is_of s w c) c a (kept_for s w kept) is) [
+        | inl (test, same) ↦
+            (let head = eq-eqb c.place a.place (ap (λ (d : Attachment S). d.place) same) in
+            let e : times a.place (kept_places (c ∷ kept)) ≡ 1 + times a.place (kept_places kept) = ap (λ t. (if t then 1 else 0) + times a.place (kept_places kept)) head in
+            let none : times a.place (kept_places kept) ≡ 0 = omega (arith, e, few) in
+            subst (λ (t : Bool). Asked (xs ++ ys) (if t then b ∷ kept else c ∷ replaced s w b kept)) (sym test)
+            (now, all_keep (λ (d : Attachment S). d.place) asked xs ys a.place kept only (none_kept a.place kept none) all.1))
+        | inr (test, next) ↦
+            (let count = without_places a.place s w a kept next in
+            let tail : 1 ≤ times a.place (kept_places kept) = omega (arith, count, times_self a.place) in
+            let apart : c.place ≢ a.place = λ same.
+            (let e : times a.place (kept_places (c ∷ kept)) ≡ 1 + times a.place (kept_places kept) =
+            ap (λ t. (if t then 1 else 0) + times a.place (kept_places kept)) (eq-eqb c.place a.place same) in omega (arith, e, few, tail)) in
+            let fewer : times a.place (kept_places kept) ≤ 1 = omega (arith, few) in
+            subst (λ (t : Bool). Asked (xs ++ ys) (if t then b ∷ kept else c ∷ replaced s w b kept)) (sym test)
+            (keep c.place xs ys (asked c) (only c.place apart) all.0, later next fewer))
+      ]
+
+  -- another stands in its place, and events of its place are sent
+  asked_replaced : (s w : ℕ) (a b : Attachment S) (kept : List (Attachment S)) (xs ys : List Sent) → kept_for s w kept ≡ Some a
+      → times a.place (kept_places kept) ≤ 1 → Only a.place ys → Asked xs kept → sent_for b.place (xs ++ ys) ≡ asked b → Asked (xs ++ ys) (replaced s w b kept)
+  asked_replaced s w a b [] xs ys is few only all now = cc
+  asked_replaced s w a b (c ∷ kept) xs ys is few only all now =
+      replaced_step s w c a b kept xs ys is few only all now (λ next fewer. asked_replaced s w a b kept xs ys next fewer only all.1 now)
+
+-- ONE LETTER MORE
+
+past : {X : Type 0} (xs : List X) (x : X) → slice_get xs (length xs) ≡ Some x → ⊥
+past [] x is = cc
+past (y ∷ xs) x is = past xs x is
+
+module _ {S : Type 0} where
+  -- no two attachments have one place
+  abbrev Few : List (Attachment S) → List (Attachment S × Why) → Type 0
+  Few kept gone = (n : ℕ) → times n (kept_places kept) + times n (gone_places gone) ≤ 1
+
+  -- nothing was sent for the place, or the disposal of an observer whose sink found no memory
+  abbrev Other : List Sent → List (Letter (Out S)) → ℕ → Type 0
+  Other xs received n =
+      (sent_for n xs ≡ []) ⊎ ((a : Attachment S) × (a.place ≡ n) × StandsAt received a × (sent_for n xs ≡ to_subject a (Dispose a.who ∷ [])))
+
+  record Told (xs : List Sent) (gone : List (Attachment S × Why)) (c : Change S) : Type 0 where
+    pub still : Asked (xs ++ c.sends) c.kept
+    pub ended : AskedAll (xs ++ c.sends) (gone ++ c.gone)
+
+  -- DISPOSALS AT THE END
+
+  none_sent : (n : ℕ) (kept : List (Attachment S)) → AllByRecursion (λ a. a.place ≢ n) kept → sent_for n (map dispose kept) ≡ []
+  none_sent n [] apart = refl
+  none_sent n (a ∷ kept) apart =
+      sent_append n (dispose a ∷ []) (map dispose kept) ∙ ap (λ l. l ++ sent_for n (map dispose kept)) (sent_other n (dispose a) (λ same. apart.0 (sym same)))
+      ∙ none_sent n kept apart.1
+
+  gone_left : (xs : List Sent) (kept : List (Attachment S)) (gone : List (Attachment S × Why)) → Few kept gone → AskedAll xs gone → AskedAll (xs ++ map dispose kept) gone
+  gone_left xs kept [] few all = tt
+  gone_left xs kept (end ∷ gone) few all =
+      let n = end.0.place in
+      let one : times n (gone_places (end ∷ gone)) ≡ 1 + times n (gone_places gone) = ap (λ t. (if t then 1 else 0) + times n (gone_places gone)) (eq-eqb n n refl) in
+      let none : times n (kept_places kept) ≡ 0 = omega (arith, one, few n) in (
+        keep n xs (map dispose kept) (asked_in_all end) (none_sent n kept (none_kept n kept none)) all.0,
+        gone_left xs kept gone (λ m. omega (arith, few m)) all.1,
+      )
+
+  closing_one : (pre rest : List (Attachment S)) (a : Attachment S) → ((n : ℕ) → times n (kept_places (pre ++ a ∷ rest)) ≤ 1)
+      → sent_for a.place (map dispose (pre ++ a ∷ rest)) ≡ (a.subject, Dispose a.who) ∷ []
+  closing_one pre rest a few =
+      let n = a.place in
+      let parts : times n (kept_places (pre ++ a ∷ rest)) ≡ times n (kept_places pre) + times n (kept_places (a ∷ rest)) =
+      ap (times n) (map-append (λ (b : Attachment S). b.place) pre (a ∷ rest)) ∙ times-append n (kept_places pre) (kept_places (a ∷ rest)) in
+      let one : times n (kept_places (a ∷ rest)) ≡ 1 + times n (kept_places rest) = ap (λ t. (if t then 1 else 0) + times n (kept_places rest)) (eq-eqb n n refl) in
+      let before = none_sent n pre (none_kept n pre (omega (arith, parts, one, few n))) in
+      let after = none_sent n rest (none_kept n rest (omega (arith, parts, one, few n))) in
+      ap (sent_for n) (map-append dispose pre (a ∷ rest)) ∙ sent_append n (map dispose pre) (dispose a ∷ map dispose rest)
+      ∙ ap (λ l. l ++ sent_for n (dispose a ∷ map dispose rest)) before ∙ sent_append n (dispose a ∷ []) (map dispose rest)
+      ∙ ap (λ l. l ++ sent_for n (map dispose rest)) (sent_here (dispose a)) ∙ ap (λ l. (a.subject, Dispose a.who) ∷ l) after
+
+  closing : (xs : List Sent) (pre post : List (Attachment S)) → ((n : ℕ) → times n (kept_places (pre ++ post)) ≤ 1) → Asked xs post
+      → AskedAll (xs ++ map dispose (pre ++ post)) (closed post)
+  closing xs pre [] few all = tt
+  closing xs pre (a ∷ post) few all =
+      let same : (pre ++ a ∷ []) ++ post ≡ pre ++ a ∷ post = append_assoc pre (a ∷ []) post in
+      let now = sent_append a.place xs (map dispose (pre ++ a ∷ post)) ∙ ap (λ l. l ++ sent_for a.place (map dispose (pre ++ a ∷ post))) all.0
+      ∙ ap (λ l. asked a ++ l) (closing_one pre post a few) ∙ sym (map-append (λ event. (a.subject, event)) (asks a.who a.taken) (Dispose a.who ∷ [])) in (
+        now,
+        subst (λ (l : List (Attachment S)). AskedAll (xs ++ map dispose l) (closed post)) same
+            (closing xs (pre ++ a ∷ []) post (λ n. subst (λ (l : List (Attachment S)). times n (kept_places l) ≤ 1) (sym same) (few n)) all.1),
+      )
+
+  module _ (xs : List Sent) (kept : List (Attachment S)) (gone : List (Attachment S × Why)) (few : Few kept gone) (kept_all : Asked xs kept) (gone_all : AskedAll xs gone) where
+    told_idle : Told xs gone (record { kept = kept; gone = []; sends = []; missed = 0; took = 0 })
+    told_idle = record { still = idle_kept xs kept kept_all; ended = idle_gone xs gone gone_all }
+
+    -- events of a place where none of those that have ended stands
+    gone_stays : (ys : List Sent) (m : ℕ) → Only m ys → times m (gone_places gone) ≡ 0 → AskedAll (xs ++ ys) gone
+    gone_stays ys m only none = all_keep (λ (end : Attachment S × Why). end.0.place) asked_in_all xs ys m gone only (none_gone m gone none) gone_all
+
+    gone_only : (ys : List Sent) → AskedAll (xs ++ ys) gone → AskedAll (xs ++ ys) (gone ++ [])
+    gone_only ys all = subst (λ (l : List (Attachment S × Why)). AskedAll (xs ++ ys) l) (sym (append-nil gone)) all
+
+    gone_more : (ys : List Sent) (end : Attachment S × Why) → AskedAll (xs ++ ys) gone → sent_for end.0.place (xs ++ ys) ≡ asked_in_all end → AskedAll (xs ++ ys) (gone ++ end ∷ [])
+    gone_more ys end all now = all_append (λ (e : Attachment S × Why). sent_for e.0.place (xs ++ ys) ≡ asked_in_all e) gone (end ∷ []) all (now, tt)
+
+    told_attach : (place from w : ℕ) (sink : S) (mark : Mark) (o : Option (Attachment S)) → sent_for place xs ≡ [] → times place (kept_places kept) ≡ 0 → times place (gone_places gone) ≡ 0
+        → Told xs gone (attached mark (brought place from w sink) o kept)
+    told_attach place from w sink mark (Some other) fresh unkept unended = told_idle
+    told_attach place from w sink Fine None fresh unkept unended =
+        let a = brought place from w sink in
+        record {
+          still = all_append (λ (b : Attachment S). sent_for b.place (xs ++ []) ≡ asked b) kept (a ∷ []) (idle_kept xs kept kept_all) (keep place xs [] [] refl fresh, tt);
+          ended = idle_gone xs gone gone_all;
+        }
+    told_attach place from w sink Fault None fresh unkept unended =
+        let a = brought place from w sink in
+        let ys = dispose a ∷ [] in
+        record {
+          still = all_keep (λ (d : Attachment S). d.place) asked xs ys place kept (λ n other. sent_other n (dispose a) other) (none_kept place kept unkept) kept_all;
+          ended = gone_more ys (a, FailedAtStart) (gone_stays ys place (λ n other. sent_other n (dispose a) other) unended)
+              (sent_append place xs ys ∙ ap (λ l. l ++ sent_for place ys) fresh ∙ sent_here (dispose a));
+        }
+    told_attach place from w sink NoMemory None fresh unkept unended =
+        let a = brought place from w sink in
+        let ys = dispose a ∷ [] in
+        record {
+          still = all_keep (λ (d : Attachment S). d.place) asked xs ys place kept (λ n other. sent_other n (dispose a) other) (none_kept place kept unkept) kept_all;
+          ended = gone_only ys (gone_stays ys place (λ n other. sent_other n (dispose a) other) unended);
+        }
+
+    module _ (s w : ℕ) (a : Attachment S) (is : kept_for s w kept ≡ Some a) where
+      few_here : times a.place (kept_places kept) ≤ 1
+      few_here = omega (arith, few a.place)
+
+      none_there : times a.place (gone_places gone) ≡ 0
+      none_there = (let count = without_places a.place s w a kept is in omega (arith, count, times_self a.place, few a.place))
+
+      so_far : sent_for a.place xs ≡ asked a
+      so_far = found_has (λ (d : Attachment S). sent_for d.place xs ≡ asked d) s w a kept is kept_all
+
+      one_more : (e : Event) (ys : List Sent) → sent_for a.place ys ≡ (a.subject, e) ∷ [] → sent_for a.place (xs ++ ys) ≡ to_subject a (asks a.who a.taken ++ e ∷ [])
+      one_more e ys one =
+          sent_append a.place xs ys ∙ ap (λ l. l ++ sent_for a.place ys) so_far ∙ ap (λ l. asked a ++ l) one
+          ∙ sym (map-append (λ event. (a.subject, event)) (asks a.who a.taken) (e ∷ []))
+
+      told_ended : (b : Attachment S) (why : Why) → b.place ≡ a.place → sent_for b.place (xs ++ dispose b ∷ []) ≡ asked_in_all (b, why)
+          → Told xs gone (record { kept = without s w kept; gone = (b, why) ∷ []; sends = dispose b ∷ []; missed = 0; took = 0 })
+      told_ended b why place now =
+          let ys = dispose b ∷ [] in
+          let only : Only a.place ys = λ n other. sent_other n (dispose b) (λ same. other (same ∙ place)) in
+          record {
+            still = asked_without s w a kept xs ys is few_here only kept_all;
+            ended = gone_more ys (b, why) (gone_stays ys a.place only none_there) now;
+          }
+
+      told_serve : (mark : Mark) (l : Bool) (note : Note) → is_last note ≡ l → Told xs gone (served mark l s w note a kept)
+      told_serve Fine false note last =
+          let ys = request a ∷ [] in
+          let only : Only a.place ys = λ n other. sent_other n (request a) other in
+          let grown : asks a.who (a.taken ++ note ∷ []) ≡ asks a.who a.taken ++ Request a.who 1 ∷ [] =
+          asks_more a.who a.taken note ∙ ap (λ t. asks a.who a.taken ++ (if t then [] else Request a.who 1 ∷ [])) last in
+          record {
+            still = asked_replaced s w a (with_note a note) kept xs ys is few_here only kept_all
+                (one_more (Request a.who 1) ys (sent_here (request a)) ∙ ap (to_subject a) (sym grown));
+            ended = gone_only ys (gone_stays ys a.place only none_there);
+          }
+      told_serve Fine true note last =
+          let grown : asks a.who (a.taken ++ note ∷ []) ≡ asks a.who a.taken =
+          asks_more a.who a.taken note ∙ ap (λ t. asks a.who a.taken ++ (if t then [] else Request a.who 1 ∷ [])) last ∙ append-nil (asks a.who a.taken) in
+          let t = told_ended (with_note a note) TookLast refl
+          (one_more (Dispose a.who) (dispose a ∷ []) (sent_here (dispose a)) ∙ ap (λ l. to_subject a (l ++ Dispose a.who ∷ [])) (sym grown)) in
+          record { still = t.still; ended = t.ended }
+      told_serve Fault l note last =
+          let t = told_ended a (FailedAt note) refl (one_more (Dispose a.who) (dispose a ∷ []) (sent_here (dispose a))) in record { still = t.still; ended = t.ended }
+      told_serve NoMemory l note last =
+          let t = told_ended a (FailedAt note) refl (one_more (Dispose a.who) (dispose a ∷ []) (sent_here (dispose a))) in record { still = t.still; ended = t.ended }
+
+      told_leaves : Told xs gone (detached s w (Some a) kept)
+      told_leaves = record {
+        still = asked_without s w a kept xs [] is few_here (λ n other. refl) kept_all;
+        ended = gone_more [] (a, Detached) (gone_stays [] a.place (λ n other. refl) none_there)
+            (keep a.place xs [] (asked_in_all (a, Detached)) refl (so_far ∙ ap (to_subject a) (sym (append-nil (asks a.who a.taken)))));
+      }
+
+    told_give : (s w : ℕ) (note : Note) (mark : Mark) (o : Option (Attachment S)) → kept_for s w kept ≡ o → Told xs gone (given mark s w note o kept)
+    told_give s w note mark None is = told_idle
+    told_give s w note mark (Some a) is = told_serve s w a is mark (is_last note) note refl
+
+    told_detach : (s w : ℕ) (o : Option (Attachment S)) → kept_for s w kept ≡ o → Told xs gone (detached s w o kept)
+    told_detach s w None is = told_idle
+    told_detach s w (Some a) is = told_leaves s w a is
+
+    told_post : (b : Bool) (place from : ℕ) (post : Post (Out S)) (mark : Mark) → sent_for place xs ≡ [] → times place (kept_places kept) ≡ 0 → times place (gone_places gone) ≡ 0
+        → Told xs gone (post_change b place from post mark kept)
+    told_post true place from (Body out) mark fresh unkept unended = told_idle
+    told_post true place from Bye mark fresh unkept unended = record {
+      still = tt;
+      ended = all_append (λ (e : Attachment S × Why). sent_for e.0.place (xs ++ map dispose kept) ≡ asked_in_all e) gone (closed kept)
+          (gone_left xs kept gone few gone_all) (closing xs [] kept (λ n. omega (arith, few n)) kept_all);
+    }
+    told_post false place from Bye mark fresh unkept unended = told_idle
+    told_post false place from (Body (Attach w sink)) mark fresh unkept unended = told_attach place from w sink mark (kept_for from w kept) fresh unkept unended
+    told_post false place from (Body (Give w note)) mark fresh unkept unended = told_give from w note mark (kept_for from w kept) refl
+    told_post false place from (Body (Detach w)) mark fresh unkept unended = told_detach from w (kept_for from w kept) refl
+
+    told_letter : (b : Bool) (leave place : ℕ) (x : Letter (Out S)) (mark : Mark) → sent_for place xs ≡ [] → times place (kept_places kept) ≡ 0 → times place (gone_places gone) ≡ 0
+        → Told xs gone (letter_change b leave place x mark kept)
+    told_letter true leave place x mark fresh unkept unended = told_idle
+    told_letter false leave place x mark fresh unkept unended = told_post (x.from == leave) place x.from x.post mark fresh unkept unended
+
+  -- OTHER PLACES
+
+  -- what a letter sends for a place at which no attachment stands: nothing, or a disposal where its sink found no memory
+  abbrev Quiet : ℕ → ℕ → Letter (Out S) → Change S → Type 0
+  Quiet n place x c =
+      (sent_for n c.sends ≡ [])
+      ⊎ ((from : ℕ) × (w : ℕ) × (sink : S) × (place ≡ n) × (x ≡ letter from (Body (Attach w sink))) × (sent_for n c.sends ≡ (from, Dispose w) ∷ []))
+
+  module _ (n : ℕ) (kept : List (Attachment S)) (apart : AllByRecursion (λ a. a.place ≢ n) kept) where
+    quiet_attach : (place from w : ℕ) (sink : S) (mark : Mark) (o : Option (Attachment S))
+        → times n (gone_places (attached mark (brought place from w sink) o kept).gone) ≡ 0
+        → Quiet n place (letter from (Body (Attach w sink))) (attached mark (brought place from w sink) o kept)
+    quiet_attach place from w sink mark (Some other) none = inl refl
+    quiet_attach place from w sink Fine None none = inl refl
+    quiet_attach place from w sink Fault None none =
+        inl (sent_other n (dispose (brought place from w sink)) (λ same. (let a = none_gone n ((brought place from w sink, FailedAtStart) ∷ []) none in a.0 (sym same))))
+    quiet_attach place from w sink NoMemory None none =
+        elim (eqb_tells place n) [
+          | inl (test, same) ↦ inr (from, w, sink, same, refl, subst (λ (m : ℕ). sent_for m (dispose (brought place from w sink) ∷ []) ≡ (from, Dispose w) ∷ []) same (sent_here (dispose (brought place from w sink))))
+          | inr (test, other) ↦ inl (sent_other n (dispose (brought place from w sink)) (λ same. other (sym same)))
+        ]
+
+    quiet_serve : (s w : ℕ) (note : Note) (mark : Mark) (l : Bool) (a : Attachment S) → a.place ≢ n → sent_for n (served mark l s w note a kept).sends ≡ []
+    quiet_serve s w note Fine false a other = sent_other n (request a) (λ same. other (sym same))
+    quiet_serve s w note Fine true a other = sent_other n (dispose a) (λ same. other (sym same))
+    quiet_serve s w note Fault l a other = sent_other n (dispose a) (λ same. other (sym same))
+    quiet_serve s w note NoMemory l a other = sent_other n (dispose a) (λ same. other (sym same))
+
+    quiet_give : (s w : ℕ) (note : Note) (mark : Mark) (o : Option (Attachment S)) → kept_for s w kept ≡ o → sent_for n (given mark s w note o kept).sends ≡ []
+    quiet_give s w note mark None is = refl
+    quiet_give s w note mark (Some a) is = quiet_serve s w note mark (is_last note) a (found_has (λ (d : Attachment S). d.place ≢ n) s w a kept is apart)
+
+    quiet_detach : (s w : ℕ) (o : Option (Attachment S)) → sent_for n (detached s w o kept).sends ≡ []
+    quiet_detach s w None = refl
+    quiet_detach s w (Some a) = refl
+
+    quiet_post : (b : Bool) (place from : ℕ) (post : Post (Out S)) (mark : Mark) → times n (gone_places (post_change b place from post mark kept).gone) ≡ 0
+        → Quiet n place (letter from post) (post_change b place from post mark kept)
+    quiet_post true place from (Body out) mark none = inl refl
+    quiet_post true place from Bye mark none = inl (none_sent n kept apart)
+    quiet_post false place from Bye mark none = inl refl
+    quiet_post false place from (Body (Attach w sink)) mark none = quiet_attach place from w sink mark (kept_for from w kept) none
+    quiet_post false place from (Body (Give w note)) mark none = inl (quiet_give from w note mark (kept_for from w kept) refl)
+    quiet_post false place from (Body (Detach w)) mark none = inl (quiet_detach from w (kept_for from w kept))
+
+    quiet_letter : (b : Bool) (leave place : ℕ) (x : Letter (Out S)) (mark : Mark) → times n (gone_places (letter_change b leave place x mark kept).gone) ≡ 0
+        → Quiet n place x (letter_change b leave place x mark kept)
+    quiet_letter true leave place x mark none = inl refl
+    quiet_letter false leave place x mark none = quiet_post (x.from == leave) place x.from x.post mark none
+
+  -- nothing was sent for a place to come
+  fresh_place : (xs : List Sent) (received : List (Letter (Out S))) → Other xs received (length received) → sent_for (length received) xs ≡ []
+  fresh_place xs received (inl none) = none
+  fresh_place xs received (inr (a, place, stands, is)) =
+      absurd (past received _ (subst (λ (n : ℕ). slice_get received n ≡ Some (letter a.subject (Body (Attach a.who a.sink)))) place stands))
+
+  other_stays : (xs ys : List Sent) (received : List (Letter (Out S))) (x : Letter (Out S)) (n : ℕ) → sent_for n ys ≡ [] → Other xs received n → Other (xs ++ ys) (received ++ x ∷ []) n
+  other_stays xs ys received x n none (inl is) = inl (keep n xs ys [] none is)
+  other_stays xs ys received x n none (inr (a, place, stands, is)) =
+      inr (a, place, slice_get-append_left received (x ∷ []) a.place _ stands, keep n xs ys (to_subject a (Dispose a.who ∷ [])) none is)
+
+  other_next : (xs : List Sent) (received : List (Letter (Out S))) (x : Letter (Out S)) (n : ℕ) (c : Change S) → Quiet n (length received) x c
+      → Other xs received n → Other xs received (length received) → Other (xs ++ c.sends) (received ++ x ∷ []) n
+  other_next xs received x n c (inl none) other fresh = other_stays xs c.sends received x n none other
+  other_next xs received x n c (inr (from, w, sink, place, is, one)) other fresh =
+      let before : sent_for n xs ≡ [] = subst (λ (m : ℕ). sent_for m xs ≡ []) place (fresh_place xs received fresh) in
+      let at : slice_get (received ++ x ∷ []) (length received) ≡ Some x =
+      ap (slice_get (received ++ x ∷ [])) (let e : length received ≡ length received + 0 = omega arith in e) ∙ slice_get-append_right received (x ∷ []) 0 in
+      inr (
+        brought (length received) from w sink,
+        place,
+        at ∙ ap (λ (y : Letter (Out S)). Some y) is,
+        sent_append n xs c.sends ∙ ap (λ l. l ++ sent_for n c.sends) before ∙ one,
+      )
+
+-- ALL LETTERS
+
+module _ {S : Type 0} (leave : ℕ) where
+  record Holds (log : Log S) : Type 0 where
+    pub kept : Asked (sent_in leave log) (kept_in leave log)
+    pub gone : AskedAll (sent_in leave log) (gone_in leave log)
+    pub others : (n : ℕ) → times n (kept_places (kept_in leave log)) + times n (gone_places (gone_in leave log)) ≡ 0 → Other (sent_in leave log) (letters log) n
+
+  few_in : (log : Log S) → Few (kept_in leave log) (gone_in leave log)
+  few_in log n = omega (arith, same leave log n, once leave log n)
+
+  none_yet : (log : Log S) → times (length (letters log)) (kept_places (kept_in leave log)) + times (length (letters log)) (gone_places (gone_in leave log)) ≡ 0
+  none_yet log = omega (arith, same leave log (length (letters log)), below leave log (length (letters log)) (omega arith))
+
+  holds_others : (log : Log S) (x : Letter (Out S)) (mark : Mark) → Holds log → (n : ℕ)
+      → times n (kept_places (kept_in leave (Next log x mark))) + times n (gone_places (gone_in leave (Next log x mark))) ≡ 0
+      → Other (sent_in leave (Next log x mark)) (letters (Next log x mark)) n
+  holds_others log x mark h n none =
+      let c = change leave log x mark in
+      let after = same leave (Next log x mark) n in
+      let before = same leave log n in
+      let found = times-append n (found_in leave log) (letter_found (has_left leave log) leave (length (letters log)) x mark (kept_in leave log)) in
+      let gone = ap (times n) (map-append (λ (end : Attachment S × Why). end.0.place) (gone_in leave log) c.gone) ∙ times-append n (gone_places (gone_in leave log)) (gone_places c.gone) in
+      let was : times n (kept_places (kept_in leave log)) + times n (gone_places (gone_in leave log)) ≡ 0 = omega (arith, none, after, before, found) in
+      let quiet = quiet_letter n (kept_in leave log) (none_kept n (kept_in leave log) (omega (arith, was))) (has_left leave log) leave (length (letters log)) x mark (omega (arith, none, gone)) in
+      other_next (sent_in leave log) (letters log) x n c quiet (h.others n was) (h.others (length (letters log)) (none_yet log))
+
+  holds : (log : Log S) → Holds log
+  holds NoLetters = record { kept = tt; gone = tt; others = λ n none. inl refl }
+  holds (Next log x mark) =
+      let h = holds log in
+      let fresh = fresh_place (sent_in leave log) (letters log) (h.others (length (letters log)) (none_yet log)) in
+      let none = none_yet log in
+      let t = told_letter (sent_in leave log) (kept_in leave log) (gone_in leave log) (few_in log) h.kept h.gone (has_left leave log) leave (length (letters log)) x mark fresh
+      (omega (arith, none)) (omega (arith, none)) in
+      record { kept = t.still; gone = t.ended; others = holds_others log x mark h }
+
+pub each_is_sent_for : {S : Type 0} (leave : ℕ) (log : Log S) → IsSentForEach leave log
+each_is_sent_for leave log =
+    let h = holds leave log in
+    record {
+      kept = h.kept;
+      gone = h.gone;
+      others = λ n none. h.others n (omega (arith, none, times-append n (kept_places (kept_in leave log)) (gone_places (gone_in leave log))));
+    }
