@@ -1,6 +1,6 @@
 -- What a configuration says: the settings that stand in the table of a TOML text, or the first cause for which it is
 -- refused. The keys, the ranges and the order are this project's own.
-use Rattle.std.specs.Prelude.{◌≡◌, ◌⊎◌, ℕ, ℤ, suc, pos, negsuc, Bool, true, false, ◌&&◌, ◌||◌, not, nat_le, nat_eq, List, [], ◌∷◌, ◌++◌, map, length, codes, Option, None, Some, Result, Ok, Err, if◌then◌else◌, option_and_then, option_map}
+use Rattle.std.specs.Prelude.{◌≤◌, ◌≡◌, ◌⊎◌, ℕ, ℤ, suc, pos, negsuc, Bool, true, false, ◌&&◌, ◌||◌, not, nat_le, nat_eq, List, [], ◌∷◌, ◌++◌, map, length, codes, Option, None, Some, Result, Ok, Err, if◌then◌else◌, option_and_then, option_map}
 use Rattle.std.specs.List.{list_all, list_any}
 use Rattle.std.specs.Str.{IsUtf8}
 use Rattle.rx_note.specs.declared.kind.Kind.{Kind}
@@ -90,6 +90,13 @@ bound_at key most members = bound_or most (get_member key members)
 abbrev pub pool_with : Option ℕ → Option ℕ → Option ℕ → Option ℕ → Option Pool
 pool_with (Some drainers) (Some workers) (Some window) (Some connections) = Some (record { drainers = drainers; workers = workers; window = window; connections = connections })
 pool_with _ _ _ _ = None
+
+-- the numbers are in their ranges
+pub record IsInRange (pool : Pool) : Type 0 where
+  pub drainers : (1 ≤ pool.drainers) × (pool.drainers ≤ 8)
+  pub workers : (1 ≤ pool.workers) × (pool.workers ≤ 32)
+  pub window : (1 ≤ pool.window) × (pool.window ≤ 16)
+  pub connections : 1 ≤ pool.connections
 
 abbrev pub pool_keys : List (List ℕ)
 pool_keys = codes "drainers" ∷ codes "workers" ∷ codes "window" ∷ codes "connections" ∷ []

@@ -1,1 +1,13 @@
+pub mod Accepting
 pub mod Configurations
+pub mod Connections
+pub mod Crews
+pub mod OpenBoxes
+pub mod Responses
+pub mod Rooms
+pub mod Servers
+pub mod SessionDesks
+pub mod Telling
+pub mod Wirings
+pub mod Workers
+pub mod Working

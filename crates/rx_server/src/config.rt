@@ -1,5 +1,4 @@
-ghost use Rattle.std.specs.Prelude.{◌≡◌, IfOk};
-ghost use Rattle.rx_server.specs.Configurations.{settings_of, standard_settings};
+ghost use Rattle.std.specs.Prelude.{◌≡◌, ◌≤◌, IfOk, vec_len};
 
 use crate::subject_config::SubjectConfig;
 use rx_heap::{Heap, Memory};
@@ -19,9 +18,16 @@ pub struct Config {
     pub window: u8,
     /// How many connections are served, 1 to 4,294,967,295.
     pub connections: u32,
+    ghost subjects_in_range: { (1 ≤ vec_len subjects) × (vec_len subjects ≤ 16) },
+    ghost drainers_in_range: { (1 ≤ drainers) × (drainers ≤ 8) },
+    ghost workers_in_range: { (1 ≤ workers) × (workers ≤ 32) },
+    ghost window_in_range: { (1 ≤ window) × (window ≤ 16) },
+    ghost some_connections: { 1 ≤ connections },
 }
 
 impl Config {
+    ghost use Rattle.rx_server.specs.Configurations.{settings_of, standard_settings};
+
     /// One Publish subject `s`, with the greatest limits.
     ///
     /// # Errors

@@ -1,22 +1,65 @@
-//! The configuration of the program: what a run is made of, and how it is read from TOML.
+//! The parts of a server: its configuration, and sessions served by workers.
 //!
-//! Nothing here opens a file or runs a subject. The crates above rest on one contract, that of [`read_config`]: what is
-//! read is exactly the configuration that the table says, or the first cause that holds (`specs/Configurations.antt`).
+//! [`read_config`] reads from TOML what a server is made of: exactly the configuration that the table says, or the first
+//! cause that holds (`specs/Configurations.antt`). [`SessionDesk`] makes of each command of a session one call to its subject
+//! (`specs/SessionDesks.antt`). A [`Worker`] serves one connection after another by a desk; [`serve_connections`] has one for
+//! each desk, in a thread of its own, and deals the connections of a [`Listener`] to them.
 #![tactic(auto)]
 
+mod accepting;
+mod close_fault;
+mod closing;
 mod config;
 mod config_error;
+mod dispatching;
 mod entry;
 mod fault;
+mod hiring;
+mod hosting;
 mod keys;
+mod listener;
+mod making;
+mod moments;
 mod numbers;
+mod opened;
 mod pool;
+mod port_row;
 mod reading;
+mod report;
+mod responding;
+mod rooms;
+mod running_pump;
+mod running_worker;
+mod serve_fault;
+mod server;
+mod serving;
+mod session;
+mod session_desk;
+mod shared_moments;
+mod start_fault;
 mod subject_config;
 mod subjects;
 mod texts;
+mod wiring;
+mod worker;
+mod worker_end;
 
+pub use accepting::{AcceptStop, accept_all};
+pub use close_fault::{CloseCause, CloseFault};
 pub use config::Config;
 pub use config_error::ConfigError;
+pub use dispatching::serve_connections;
+pub use listener::{AcceptFault, Listener};
+pub use moments::Moments;
 pub use reading::read_config;
+pub use report::{Report, SubjectReport};
+pub use running_worker::{RunningWorker, start_worker};
+pub use serve_fault::ServeFault;
+pub use server::{Server, start};
+pub use session::{MAX_READS, serve_one};
+pub use session_desk::SessionDesk;
+pub use shared_moments::SharedMoments;
+pub use start_fault::{Role, StartCause, StartFault};
 pub use subject_config::SubjectConfig;
+pub use worker::Worker;
+pub use worker_end::WorkerEnd;

@@ -8,9 +8,11 @@ use toml::{Table, Value};
 
 /// The number at a key, 1 to `most`, or `missing` where nothing stands there. None: what stands there is no such number.
 pub(crate) fn number_at(table: &Table, key: &str, most: u32, missing: u32) -> Option<u32>
-    requires { missing ≤ most }
+    requires missing { missing ≤ most }
+    requires some { 1 ≤ missing }
     ensures number { result ≡ number_at key.now most missing (table_view table.now) }
     ensures within { IfSome result (λ n. n ≤ most) }
+    ensures positive { IfSome result (λ n. 1 ≤ n) }
 {
     match value_at(table, key) {
         None => Some(missing),

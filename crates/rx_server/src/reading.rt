@@ -5,7 +5,7 @@ ghost use Rattle.rx_server.specs.Configurations.{IsRefused, Says, settings_in, s
 use crate::config::Config;
 use crate::config_error::ConfigError;
 use crate::keys::has_only;
-use crate::pool::pool_at;
+use crate::pool::Pool;
 use crate::subjects::subjects_at;
 use rx_heap::Heap;
 use std::alloc::Global;
@@ -38,7 +38,7 @@ fn config_in(alloc: Heap, table: &Table) -> Result<Config, ConfigError>
     if !has_only(table, &["subject", "pool"]) {
         return Err(ConfigError::UnknownKey);
     }
-    let Some(pool) = pool_at(table) else {
+    let Some(pool) = Pool::at(table) else {
         return Err(ConfigError::BadPool);
     };
     match subjects_at(&alloc, table) {

@@ -1,4 +1,4 @@
-ghost use Rattle.std.specs.Prelude.{◌≡◌, ◌≢◌, ◌⊎◌, map, IfErr, IfOk, Err, Ok, []};
+ghost use Rattle.std.specs.Prelude.{◌≡◌, ◌≢◌, ◌≤◌, ◌⊎◌, map, vec_len, IfErr, IfOk, Err, Ok, []};
 ghost use Rattle.toml.specs.View.{array_view, table_view, view};
 ghost use Rattle.rx_server.specs.Configurations.{has_name, next_subject, entries_read, subject_of_config, subjects_from, subjects_at};
 
@@ -22,6 +22,7 @@ pub(crate) fn subjects_at(
     ensures ok { IfOk result (λ subjects. subjects_at (table_view table.now) ≡ Ok (map subject_of_config subjects.items)) }
     ensures refused { IfErr result (λ cause. (cause ≡ ConfigError.Memory) ⊎ (subjects_at (table_view table.now) ≡ Err cause)) }
     ensures read { IfErr result (λ cause. cause ≢ ConfigError.Syntax) }
+    ensures count { IfOk result (λ subjects. (1 ≤ vec_len subjects) × (vec_len subjects ≤ 16)) }
 {
     let Some(value) = value_at(table, "subject") else {
         return Err(ConfigError::NoSubject);
@@ -37,6 +38,7 @@ fn entries_read(heap: &Heap, entries: &Vec<Value>) -> Result<Vec<SubjectConfig, 
     ensures ok { IfOk result (λ subjects. entries_read (array_view entries.now) ≡ Ok (map subject_of_config subjects.items)) }
     ensures refused { IfErr result (λ cause. (cause ≡ ConfigError.Memory) ⊎ (entries_read (array_view entries.now) ≡ Err cause)) }
     ensures read { IfErr result (λ cause. cause ≢ ConfigError.Syntax) }
+    ensures count { IfOk result (λ subjects. (1 ≤ vec_len subjects) × (vec_len subjects ≤ 16)) }
 {
     if entries.is_empty() {
         return Err(ConfigError::NoSubject);
@@ -52,6 +54,7 @@ fn all_subjects(heap: &Heap, entries: &Vec<Value>) -> Result<Vec<SubjectConfig, 
     ensures ok { IfOk result (λ subjects. subjects_from [] (array_view entries.now) ≡ Ok (map subject_of_config subjects.items)) }
     ensures refused { IfErr result (λ cause. (cause ≡ ConfigError.Memory) ⊎ (subjects_from [] (array_view entries.now) ≡ Err cause)) }
     ensures read { IfErr result (λ cause. cause ≢ ConfigError.Syntax) }
+    ensures count { IfOk result (λ subjects. vec_len subjects ≡ vec_len entries.now) }
 {
     let Ok(mine) = heap.clone() else {
         return Err(ConfigError::Memory);

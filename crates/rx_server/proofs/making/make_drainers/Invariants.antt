@@ -1,0 +1,15 @@
+use Rattle.std.proofs.Common.{◌≡◌, ◌+◌, [], length}
+use Rattle.std.specs.List.{All}
+use Rattle.std.specs.Vec.Iter.{into_iter_items}
+use Rattle.rx_drain.specs.Drainers.{fresh_drainer}
+use Rattle.rx_server.specs.Wirings.{row_ports}
+use Rattle.rx_server.proofs.Rows.{Handed, Made}
+use Rattle.rx_server.proofs.making.make_drainers.Given as goal
+
+-- the first inboxes have their drainers, and each subject has a port for each of the others
+abbrev pub invariant-loop-inbox : goal.invariant-loop-inbox
+invariant-loop-inbox g l = record {
+  made : Made (λ x. fresh_drainer x.1 (row_ports x.0 l.fn.subjects.items)) l.fn.inboxes.items l.drainers.items (into_iter_items l.inbox-iterator);
+  handed : Handed l.fn.subjects.items l.subjects.items l.drainers.items (into_iter_items l.inbox-iterator);
+  fresh : All (λ inbox. (inbox.received ≡ []) × (inbox.ports ≡ length l.fn.subjects.items + 1)) (into_iter_items l.inbox-iterator);
+}

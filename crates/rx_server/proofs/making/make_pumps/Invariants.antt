@@ -1,0 +1,20 @@
+use Rattle.std.proofs.Common.{◌≡◌, ◌≤◌, [], length}
+use Rattle.std.specs.List.{All, zip}
+use Rattle.std.specs.Vec.Iter.{into_iter_items}
+use Rattle.rx_history.specs.Histories.{NoEvents}
+use Rattle.rx_hub.specs.Hubs.{StandsFor}
+use Rattle.rx_pump.specs.Pumps.{fresh_pump}
+use Rattle.rx_server.specs.Wirings.{row_ports}
+use Rattle.rx_server.proofs.Rows.{Handed, Made}
+use Rattle.rx_server.proofs.making.make_pumps.Given as goal
+
+-- the first hubs and inboxes have their pumps, and each drainer and each reply box has a port for each of the others
+abbrev pub invariant-loop-inbox : goal.invariant-loop-inbox
+invariant-loop-inbox g l = record {
+  made : Made (λ x. fresh_pump x.1.0 x.1.1 (row_ports x.0 l.fn.drainers.items) (row_ports x.0 l.fn.replies.items)) (zip l.fn.hubs.items l.fn.inboxes.items) l.pumps.items
+      (zip (into_iter_items l.hubs) (into_iter_items l.inbox-iterator));
+  drainers : Handed l.fn.drainers.items l.drainers.items l.pumps.items (into_iter_items l.inbox-iterator);
+  replies : Handed l.fn.replies.items l.replies.items l.pumps.items (into_iter_items l.inbox-iterator);
+  hubs : All (λ hub. StandsFor hub.state NoEvents) (into_iter_items l.hubs);
+  fresh : All (λ inbox. (inbox.received ≡ []) × (length l.fn.replies.items ≤ inbox.ports)) (into_iter_items l.inbox-iterator);
+}

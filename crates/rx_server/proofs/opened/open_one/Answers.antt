@@ -1,0 +1,24 @@
+use Rattle.std.proofs.Common.{◌∙◌, ap, ℕ, arith, ◌++◌, ◌∷◌, []}
+use Rattle.rx_mailbox.specs.Boxes.{Incoming}
+use Rattle.rx_server.specs.Wirings.{RowView, whole_row}
+use Rattle.rx_server.proofs.Opening.{ports-count, ports-whole}
+use Rattle.rx_server.proofs.opened.open_one.Goals as goal
+
+pub new-requires-clause-ports : goal.new-requires-clause-ports
+new-requires-clause-ports g c = ports-whole _ _ _ _ c.in-Ok.made.1.ok.0 c.in-Ok.ensures.ports
+
+pub new-requires-clause-count : goal.new-requires-clause-count
+new-requires-clause-count g c =
+    let count = ports-count c.in-Ok.made.0.box c.args.senders c.in-Ok.made.1.items c.in-Ok.ensures.ports in
+    omega (arith, c.requires.3)
+
+pub returns : goal.returns
+returns g c =
+    let count = ports-count c.in-Ok.made.0.box c.args.senders c.in-Ok.made.1.items c.in-Ok.ensures.ports in (
+      c.in-Ok.made.0.box,
+      c.in-Ok.ensures.capacity,
+      c.in_ok-push-2.ensures.items ∙ ap (λ (inbox : Incoming _). c.args.opened.now.inboxes.items ++ inbox ∷ []) c.in-Ok.ensures.inbox,
+      c.in_ok-push.ensures.items
+          ∙ ap (λ (row : RowView _). c.args.opened.now.rows.items ++ row ∷ [])
+          (c.new.ensures ∙ ap (λ (n : ℕ). whole_row n c.in-Ok.made.0.box) (c.in-Ok.made.1.ok.0 ∙ count)),
+    )

@@ -1,0 +1,139 @@
+-- How the threads and the desks of a server are joined by boxes (this project's own rule).
+use Rattle.std.specs.Prelude.{◌≡◌, ◌+◌, ◌-◌, ◌*◌, max, ℕ, List, [], ◌∷◌, map, length}
+use Rattle.std.specs.List.{All, enumerate_from, range_with_len, zip}
+use Rattle.rx_history.specs.Histories.{NoEvents}
+use Rattle.rx_hub.specs.Hubs.{HubView, StandsFor}
+use Rattle.rx_mailbox.specs.Boxes.{Box, Outgoing, Incoming, outgoing, incoming, capacity_of}
+use Rattle.rx_pump.specs.declared.call.Call.{Call}
+use Rattle.rx_pump.specs.declared.out.Out.{Out}
+use Rattle.rx_pump.specs.declared.reply.Reply.{Reply}
+use Rattle.rx_pump.specs.Pumps.{PumpView, fresh_pump}
+use Rattle.rx_pump.specs.Desks.{DeskView, fresh_desk}
+use Rattle.rx_drain.specs.Drainers.{DrainerView, fresh_drainer}
+use Rattle.rx_server.specs.declared.config.Config.{Config}
+use Rattle.rx_server.specs.declared.subject_config.SubjectConfig.{SubjectConfig}
+
+-- PORTS BEFORE THEY ARE HANDED OUT
+
+-- the ports of a box that are left: the number of the next one, and how many there are
+pub record RowView (B : Type 0) : Type 0 where
+  pub box : Box B
+  pub next : ℕ
+  pub count : ℕ
+
+module _ {B : Type 0} where
+  -- a new port of each box, all of one number
+  abbrev pub ports_at : ℕ → List (Box B) → List (Outgoing B)
+  ports_at number boxes = map (λ box. outgoing box number []) boxes
+
+  -- the ports of a box, so many from this number on
+  abbrev pub ports_from : Box B → ℕ → ℕ → List (Outgoing B)
+  ports_from box next count = map (λ number. outgoing box number []) (range_with_len next count)
+
+  -- the ports of a box of which none was handed out
+  abbrev pub whole_row : ℕ → Box B → RowView B
+  whole_row count box = record { box = box; next = 0; count = count }
+
+  -- the next port
+  abbrev pub next_port : RowView B → Outgoing B
+  next_port row = outgoing row.box row.next []
+
+  -- the ports behind the first so many
+  abbrev pub behind : ℕ → RowView B → RowView B
+  behind number row = record { box = row.box; next = row.next + number; count = row.count - number }
+
+  -- the ports of which so many come before
+  abbrev pub row_ports : ℕ → List (RowView B) → List (Outgoing B)
+  row_ports number rows = map (λ row. outgoing row.box (row.next + number) []) rows
+
+  -- boxes of one capacity and number of senders, with their inboxes and all their ports
+  pub record AreOpened (count capacity senders : ℕ) (boxes : List (Box B)) (inboxes : List (Incoming B)) (rows : List (RowView B)) : Type 0 where
+    pub count_is : length boxes ≡ count
+    pub capacities : All (λ box. capacity_of box ≡ capacity) boxes
+    pub inboxes_are : inboxes ≡ map (λ box. incoming box senders []) boxes
+    pub rows_are : rows ≡ map (whole_row senders) boxes
+
+-- THE SIZES
+
+-- the greatest of some numbers
+abbrev pub greatest : List ℕ → ℕ
+greatest [] = 0
+greatest (n ∷ ns) = max n (greatest ns)
+
+-- the most observers that a subject of the configuration takes
+abbrev pub most_observers : List SubjectConfig → ℕ
+most_observers subjects = greatest (map (λ subject. subject.rules.limits.observers) subjects)
+
+-- a drainer's box has room for two letters of each item that the observers of all subjects may have asked for, with two more
+-- for each observer, and for a letter of each worker
+abbrev pub drainer_capacity : Config → ℕ
+drainer_capacity config =
+    2 * length config.subjects.items * most_observers config.subjects.items * (config.window + 2) + config.workers
+
+-- THE BOXES OF A SERVER
+
+-- the box of each subject, of each drainer, and of the replies to each desk
+pub record Wiring (S : Type 0) : Type 0 where
+  pub subjects : List (Box (Call S))
+  pub drainers : List (Box (Out S))
+  pub replies : List (Box (Reply S))
+
+module _ {S : Type 0} where
+  -- the boxes are as many and as large as the configuration says
+  pub record IsOf (config : Config) (w : Wiring S) : Type 0 where
+    pub subjects : length w.subjects ≡ length config.subjects.items
+    pub drainers : length w.drainers ≡ config.drainers
+    pub replies : length w.replies ≡ config.workers
+    pub subject_capacities : All (λ box. capacity_of box ≡ 64) w.subjects
+    pub drainer_capacities : All (λ box. capacity_of box ≡ drainer_capacity config) w.drainers
+    pub reply_capacities : All (λ box. capacity_of box ≡ length config.subjects.items) w.replies
+
+  -- the pump of a subject's number: to its box send the desks and then the drainers
+  abbrev pub pump_of : Wiring S → ℕ × (HubView × Box (Call S)) → PumpView S
+  pump_of w x = fresh_pump x.1.0 (incoming x.1.1 (length w.replies + length w.drainers) []) (ports_at x.0 w.drainers) (ports_at x.0 w.replies)
+
+  -- the desk of a number, with the box of its replies
+  abbrev pub desk_of : Wiring S → ℕ × Box (Reply S) → DeskView S
+  desk_of w x = fresh_desk (ports_at x.0 w.subjects) (incoming x.1 (length w.subjects) [])
+
+  -- the ports by which the drainers are told to leave: to a drainer's box send the pumps, and last this one
+  abbrev pub leave_ports : Wiring S → List (Outgoing (Out S))
+  leave_ports w = ports_at (length w.subjects) w.drainers
+
+  -- the pumps of the subjects with these hubs
+  abbrev pub pumps_of : Wiring S → List HubView → List (PumpView S)
+  pumps_of w hubs = map (pump_of w) (enumerate_from 0 (zip hubs w.subjects))
+
+  -- the desks
+  abbrev pub desks_of : Wiring S → List (DeskView S)
+  desks_of w = map (desk_of w) (enumerate_from 0 w.replies)
+
+module _ {S Rest : Type 0} where
+  -- the drainer of a number, with its box
+  abbrev pub drainer_of : Wiring S → ℕ × Box (Out S) → DrainerView S Rest
+  drainer_of w x = fresh_drainer (incoming x.1 (length w.subjects + 1) []) (ports_at (length w.replies + x.0) w.subjects)
+
+  -- the drainers
+  abbrev pub drainers_of : Wiring S → List (DrainerView S Rest)
+  drainers_of w = map (drainer_of w) (enumerate_from 0 w.drainers)
+
+-- THE HUBS
+
+-- the hubs have the rules of the subjects, and no event yet
+pub record AreHubsOf (subjects : List SubjectConfig) (hubs : List HubView) : Type 0 where
+  pub rules : map (λ hub. hub.state.rules) hubs ≡ map (λ subject. subject.rules) subjects
+  pub fresh : All (λ hub. StandsFor hub.state NoEvents) hubs
+  pub misses : All (λ hub. hub.misses ≡ 0) hubs
+
+-- THE WHOLE
+
+module _ {S Rest : Type 0} where
+  -- pumps, drainers, leave ports and desks are those of a configuration, joined by these boxes and with these hubs; they have
+  -- done nothing yet
+  pub record IsWired (config : Config) (w : Wiring S) (hubs : List HubView) (pumps : List (PumpView S)) (drainers : List (DrainerView S Rest)) (leaves : List (Outgoing (Out S))) (desks : List (DeskView S)) : Type 0 where
+    pub boxes : IsOf config w
+    pub hubs_are : AreHubsOf config.subjects.items hubs
+    pub pumps_are : pumps ≡ pumps_of w hubs
+    pub drainers_are : drainers ≡ drainers_of w
+    pub leaves_are : leaves ≡ leave_ports w
+    pub desks_are : desks ≡ desks_of w

@@ -1,0 +1,185 @@
+// How a server is closed: its desks and leave ports end, and its threads are joined.
+ghost use Rattle.std.specs.Prelude.{◌≡◌, ◌+◌, ◌≤◌, [], ◌++◌, length, map, vec_len, vec_capacity, MatchResult};
+ghost use Rattle.std.specs.List.{AllZip, sum_by};
+ghost use Rattle.std.specs.Vec.Iter.{into_iter_items};
+ghost use Rattle.rx_pump.specs.Pumps.{counted};
+ghost use Rattle.rx_pump.specs.Serving as pump_serving;
+ghost use Rattle.rx_drain.specs.Serving as drainer_serving;
+ghost use Rattle.rx_server.specs.Servers.{IsOf, report_of};
+
+use crate::close_fault::CloseFault;
+use crate::report::{Report, SubjectReport};
+use crate::rooms::Rooms;
+use crate::running_pump::RunningPump;
+use crate::server::Server;
+use crate::start_fault::Role;
+use rx_drain::{DrainEnd, RunningDrainer};
+use rx_heap::Heap;
+use rx_pump::{CallDesk, EndedDesk, PumpEnd, finish_all};
+use rx_sink::{PutAway, Sink};
+use std::sync::Wait;
+use std::thread::Threads;
+use std::vec::IntoIter;
+
+impl<S: Sink> Server<S> {
+    ghost use Rattle.rx_server.specs.Servers.{Closes, NamesOne};
+
+    /// Ends the desks that were not handed out and tells the drainers to leave; then waits until all threads have ended, and
+    /// reports. Handed in are the desks that were handed out, each ended. `Err` where a thread ended by a fault of its own:
+    /// the first such pump, else the first such drainer; all threads have ended then too.
+    pub fn close<R: Threads + Wait>(
+        self,
+        rt: &R,
+        ended: Vec<EndedDesk<S>, Heap>,
+    ) -> Result<Report<S::Rest>, CloseFault>
+        ensures { MatchResult result (Closes S.acts self) (NamesOne self) }
+    {
+        let Server {
+            pumps,
+            drainers,
+            mut leaves,
+            desks,
+            rooms,
+            heap: _,
+            config: _,
+            kept,
+        } = self;
+        let Rooms {
+            desks: mut unused,
+            leaves: mut left,
+            pumps: pump_ends,
+            drainers: drain_ends,
+            subjects,
+            put_away,
+        } = rooms;
+        finish_desks(rt, desks, &mut unused);
+        let _ = finish_all(rt, &mut leaves, &mut left);
+        let pump_ends = join_pumps(rt, pumps, pump_ends);
+        let drain_ends = join_drainers(rt, drainers, drain_ends);
+        // Until then replies may have been on their way to them.
+        drop(ended);
+        drop(kept);
+        drop(unused);
+        let pump_ends = pump_ends?;
+        let (taken, put_away) = list_rests(drain_ends?, put_away);
+        Ok(Report {
+            subjects: report_subjects(pump_ends, subjects),
+            taken,
+            put_away,
+        })
+    }
+}
+
+// Ends the desks. One whose subject is gone is given up: its pump ended by a fault, which is found when it is joined.
+fn finish_desks<S: Sink, R: Wait>(
+    rt: &R,
+    desks: IntoIter<CallDesk<S>, Heap>,
+    ended: &mut Vec<EndedDesk<S>, Heap>,
+)
+    requires { vec_len ended.old + length (into_iter_items desks) ≤ vec_capacity ended.old }
+{
+    for desk in desks {
+        if let Ok(desk) = desk.finish(rt) {
+            ended.push_reserved(desk);
+        }
+    }
+}
+
+// Waits until each pump has ended, and puts what they left behind what is in `ends`.
+fn join_pumps<S: Sink, R: Threads>(
+    rt: &R,
+    pumps: Vec<RunningPump<S>, Heap>,
+    ends: Vec<PumpEnd<S>, Heap>,
+) -> Result<Vec<PumpEnd<S>, Heap>, CloseFault>
+    requires empty { ends.items ≡ [] }
+    requires room { vec_len pumps ≤ vec_capacity ends }
+    ensures { MatchResult result
+        (λ ends. AllZip pump_serving.HasServed pumps.items ends.items)
+        (IsOf Role.Pump (length pumps.items)) }
+{
+    let mut ends = ends;
+    let mut fault = None;
+    for running in pumps {
+        let joined = running.join(rt);
+        if fault.is_some() {
+            continue;
+        }
+        match joined {
+            Ok(end) => ends.push_reserved(end),
+            Err(_) => fault = Some(CloseFault::ended(Role::Pump, ends.len())),
+        }
+    }
+    match fault {
+        None => Ok(ends),
+        Some(fault) => Err(fault),
+    }
+}
+
+// Waits until each drainer has ended, and puts what they left into `ends`.
+fn join_drainers<S: Sink, R: Threads>(
+    rt: &R,
+    drainers: Vec<RunningDrainer<S>, Heap>,
+    ends: Vec<DrainEnd<S>, Heap>,
+) -> Result<Vec<DrainEnd<S>, Heap>, CloseFault>
+    requires empty { ends.items ≡ [] }
+    requires room { vec_len drainers ≤ vec_capacity ends }
+    ensures { MatchResult result
+        (λ ends. AllZip (λ drainer end. drainer_serving.HasServed S.acts drainer.handle.promise.0.value end) drainers.items ends.items)
+        (IsOf Role.Drainer (length drainers.items)) }
+{
+    let mut ends = ends;
+    let mut fault = None;
+    for running in drainers {
+        let joined = running.join(rt);
+        if fault.is_some() {
+            continue;
+        }
+        match joined {
+            Ok(end) => ends.push_reserved(end),
+            Err(_) => fault = Some(CloseFault::ended(Role::Drainer, ends.len())),
+        }
+    }
+    match fault {
+        None => Ok(ends),
+        Some(fault) => Err(fault),
+    }
+}
+
+// What is reported of the pumps, put into `list`.
+fn report_subjects<S: Sink>(
+    ends: Vec<PumpEnd<S>, Heap>,
+    list: Vec<SubjectReport, Heap>,
+) -> Vec<SubjectReport, Heap>
+    requires empty { list.items ≡ [] }
+    requires room { vec_len ends ≤ vec_capacity list }
+    ensures { result.items ≡ map report_of ends.items }
+{
+    let mut list = list;
+    for end in ends {
+        list.push_reserved(SubjectReport {
+            calls: end.calls,
+            refused: end.refused,
+            joins: end.hub.joins(),
+        });
+    }
+    list
+}
+
+// How many notes the sinks of the drainers took, and what they left, put into `lists`.
+fn list_rests<S: Sink>(
+    ends: Vec<DrainEnd<S>, Heap>,
+    lists: Vec<Vec<PutAway<S::Rest>, Heap>, Heap>,
+) -> (u64, Vec<Vec<PutAway<S::Rest>, Heap>, Heap>)
+    requires empty { lists.items ≡ [] }
+    requires room { vec_len ends ≤ vec_capacity lists }
+    ensures taken { result.0 ≡ counted (sum_by (λ end. end.taken) ends.items) }
+    ensures put_away { map (λ list. list.items) result.1.items ≡ map (λ end. end.put_away.items) ends.items }
+{
+    let mut lists = lists;
+    let mut taken: u64 = 0;
+    for end in ends {
+        taken = taken.saturating_add(end.taken);
+        lists.push_reserved(end.put_away);
+    }
+    (taken, lists)
+}

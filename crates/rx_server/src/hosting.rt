@@ -1,0 +1,81 @@
+// How a server serves: by a crew of workers, one for each desk that was not handed out.
+ghost use Rattle.std.specs.Prelude.{◌≡◌, ◌+◌, ◌≤◌, ◌++◌, [], Err, OnOk, length, vec_len, vec_capacity};
+ghost use Rattle.std.specs.Vec.Iter.{into_iter_items};
+
+use crate::dispatching::serve_connections;
+use crate::listener::Listener;
+use crate::moments::Moments;
+use crate::serve_fault::ServeFault;
+use crate::server::Server;
+use rx_heap::Heap;
+use rx_pump::{CallDesk, EndedDesk, room};
+use rx_sink::LineSink;
+use std::io::Write;
+use std::sync::Wait;
+use std::thread::Threads;
+use std::vec::IntoIter;
+
+impl<W: Write + Drop + Send + 'static> Server<LineSink<W>> {
+    ghost use Rattle.rx_server.specs.Servers.{RunsOn};
+
+    /// Serves each connection that comes by a session, until as many have ended as the configuration says. A worker serves for
+    /// each desk that was not handed out, in a thread of its own; connection i, from 0, goes to worker i modulo their number.
+    /// When it returns, all workers have ended, and the server keeps their desks, ended too.
+    ///
+    /// # Errors
+    ///
+    /// `NoDesk`: each desk was handed out. `Memory`: there was none for the workers. `Thread`: a worker has no thread, or is
+    /// gone. `Accept`: the listener failed. The server can be closed after each.
+    pub fn serve<
+        L: Listener<Writer = W>,
+        M: Moments + Drop + Send + 'static,
+        R: Threads + Wait + Clone + Drop + Send + 'static,
+    >(&mut self, rt: &R, listener: &mut L, moments: M) -> Result<(), ServeFault>
+        ensures no_desk { self.old.desks ≡ [] → (result ≡ Err ServeFault.NoDesk) × (self.new ≡ self.old) }
+        ensures served { OnOk result (self.new.desks ≡ []) }
+        ensures same { RunsOn self.old self.new }
+    {
+        let count = self.desks.len();
+        if count == 0 {
+            return Err(ServeFault::NoDesk);
+        }
+        let Ok(mut desks) = room(&self.heap, count) else {
+            return Err(ServeFault::Memory);
+        };
+        let Ok(mut kept) = room(&self.heap, count) else {
+            return Err(ServeFault::Memory);
+        };
+        take_all(&mut self.desks, &mut desks);
+        let served = serve_connections(rt, &self.heap, &self.config, listener, moments, &mut desks);
+        keep_all(rt, desks, &mut kept);
+        self.kept = kept;
+        served
+    }
+}
+
+// Moves what is left behind what was taken, in its order.
+fn take_all<T: Drop>(left: &mut IntoIter<T, Heap>, taken: &mut Vec<T, Heap>)
+    requires { vec_len taken.old + length (into_iter_items left.old) ≤ vec_capacity taken.old }
+    ensures taken { taken.new.items ≡ taken.old.items ++ into_iter_items left.old }
+    ensures none { into_iter_items left.new ≡ [] }
+{
+    while let Some(one) = left.next() {
+        taken.push_reserved(one);
+    }
+}
+
+// Ends the desks, and keeps them: until the pumps have ended, replies may be on their way to them. One whose subject is gone is
+// given up.
+fn keep_all<W: Write + Drop, R: Wait>(
+    rt: &R,
+    desks: Vec<CallDesk<LineSink<W>>, Heap>,
+    kept: &mut Vec<EndedDesk<LineSink<W>>, Heap>,
+)
+    requires { vec_len kept.old + vec_len desks ≤ vec_capacity kept.old }
+{
+    for desk in desks {
+        if let Ok(ended) = desk.finish(rt) {
+            kept.push_reserved(ended);
+        }
+    }
+}

@@ -1,0 +1,66 @@
+// What a call is answered on the line.
+ghost use Rattle.std.specs.Prelude.{◌≡◌};
+ghost use Rattle.rx_server.specs.Responses.{response_to, response_of, word_of, has_joined, sink_in};
+ghost use Rattle.rx_server.specs.Responses as responses;
+
+use rx_note::{Answer, Refusal};
+use rx_proto::{Response, Word};
+use rx_pump::{CallError, Reply};
+
+// The response to an event that was answered so.
+fn response_to(answered: Result<Answer, Refusal>) -> Response
+    ensures { result ≡ response_to answered }
+{
+    match answered {
+        Ok(Answer::Joined(who)) => Response::Joined(who),
+        Ok(Answer::Admitted) => Response::Done,
+        Ok(Answer::Asked) => Response::Done,
+        Ok(Answer::Left) => Response::Done,
+        Err(refusal) => Response::Refused(word_of(refusal)),
+    }
+}
+
+fn word_of(refusal: Refusal) -> Word
+    ensures { result ≡ word_of refusal }
+{
+    match refusal {
+        Refusal::Ended => Word::Ended,
+        Refusal::Full => Word::Full,
+        Refusal::Spent => Word::Spent,
+        Refusal::ZeroRequest => Word::Zero,
+        Refusal::NoObserver => Word::Observer,
+        Refusal::TooMuch => Word::TooMuch,
+        Refusal::Memory => Word::Memory,
+    }
+}
+
+// The response to a call.
+pub fn response_of<S>(answered: &Result<Reply<S>, CallError<S>>) -> Response
+    ensures { result ≡ response_of answered.now }
+{
+    match answered {
+        Ok(reply) => response_to(reply.result),
+        Err(_) => Response::Refused(Word::Gone),
+    }
+}
+
+// Whether the call made an observer.
+pub fn has_joined<S>(answered: &Result<Reply<S>, CallError<S>>) -> bool
+    ensures { result ≡ responses.has_joined answered.now }
+{
+    match answered {
+        Ok(reply) => matches!(reply.result, Ok(Answer::Joined(_))),
+        Err(_) => false,
+    }
+}
+
+// The sink that came back, if one did.
+pub fn sink_in<S: Drop>(answered: Result<Reply<S>, CallError<S>>) -> Option<S>
+    ensures { result ≡ sink_in answered }
+{
+    match answered {
+        Ok(reply) => reply.sink,
+        Err(CallError::SubjectGone { sink }) => sink,
+        Err(CallError::Strange { sink }) => sink,
+    }
+}

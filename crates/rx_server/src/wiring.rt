@@ -1,0 +1,114 @@
+// All parts of a server, joined by new boxes.
+ghost use Rattle.std.specs.Prelude.{◌≡◌, ◌≤◌, ◌*◌, ◌+◌, max, length, List, IfOk, map};
+ghost use Rattle.rx_hub.specs.Hubs.{HubView};
+ghost use Rattle.rx_server.specs.OpenBoxes.{AreOpenFor};
+ghost use Rattle.rx_server.specs.Wirings.{IsWired, Wiring, drainer_capacity, most_observers};
+
+use crate::config::Config;
+use crate::making::{make_desks, make_drainers, make_hubs, make_pumps};
+use crate::opened::{Opened, open_all};
+use crate::port_row::next_ports;
+use crate::start_fault::{Role, StartFault};
+use crate::subject_config::SubjectConfig;
+use rx_drain::Drainer;
+use rx_heap::Heap;
+use rx_mailbox::Port;
+use rx_pump::{Call, CallDesk, Out, Pump, Reply};
+use rx_sink::Sink;
+
+// How many letters the box of a subject holds.
+const SUBJECT_CAPACITY: usize = 64;
+
+// The parts of a server before a thread runs.
+#[derive(Drop)]
+pub(crate) struct Wired<S: Sink> {
+    pub(crate) pumps: Vec<Pump<S>, Heap>,
+    pub(crate) drainers: Vec<Drainer<S>, Heap>,
+    pub(crate) leaves: Vec<Port<Out<S>>, Heap>,
+    pub(crate) desks: Vec<CallDesk<S>, Heap>,
+}
+
+// The boxes of a server, with all their ports.
+#[derive(Drop)]
+struct Boxes<S: Drop> {
+    subjects: Opened<Call<S>>,
+    drainers: Opened<Out<S>>,
+    replies: Opened<Reply<S>>,
+}
+
+// The parts of the server that a configuration asks for.
+pub(crate) fn wire<S: Sink>(alloc: &Heap, config: &Config) -> Result<Wired<S>, StartFault>
+    ensures { IfOk result (λ wired. (w : Wiring S) × (hubs : List HubView) × IsWired config.now w hubs wired.pumps.items wired.drainers.items wired.leaves.items wired.desks.items) }
+{
+    let boxes = open_boxes(alloc, config)?;
+    join(alloc, config, boxes)
+}
+
+// Opens the boxes that a configuration asks for.
+fn open_boxes<S: Drop>(alloc: &Heap, config: &Config) -> Result<Boxes<S>, StartFault>
+    ensures { IfOk result (λ boxes. (w : Wiring S) × AreOpenFor config.now w boxes) }
+{
+    let count = config.subjects.len();
+    let drainers = config.drainers as usize;
+    let workers = config.workers as usize;
+    let senders = config.workers as u32 + config.drainers as u32;
+    let capacity = drainer_capacity(config);
+    Ok(Boxes {
+        subjects: open_all(alloc, Role::Pump, count, SUBJECT_CAPACITY, senders)?,
+        drainers: open_all(alloc, Role::Drainer, drainers, capacity, count as u32 + 1)?,
+        replies: open_all(alloc, Role::Worker, workers, count, count as u32)?,
+    })
+}
+
+// Makes the parts of these boxes.
+fn join<S: Sink>(alloc: &Heap, config: &Config, boxes: Boxes<S>) -> Result<Wired<S>, StartFault>
+    requires { (w : Wiring S) × AreOpenFor config.now w boxes }
+    ensures { IfOk result (λ wired. (w : Wiring S) × (hubs : List HubView) × IsWired config.now w hubs wired.pumps.items wired.drainers.items wired.leaves.items wired.desks.items) }
+{
+    let Boxes {
+        mut subjects,
+        mut drainers,
+        mut replies,
+    } = boxes;
+    let hubs = make_hubs(alloc, &config.subjects)?;
+    let pumps = make_pumps(
+        alloc,
+        hubs,
+        subjects.inboxes,
+        &mut drainers.rows,
+        &mut replies.rows,
+    )?;
+    let Ok(leaves) = next_ports(alloc, &mut drainers.rows) else {
+        return Err(StartFault::memory(Role::Drainer, 0));
+    };
+    let desks = make_desks(alloc, replies.inboxes, &mut subjects.rows)?;
+    let drainers = make_drainers(alloc, drainers.inboxes, &mut subjects.rows)?;
+    Ok(Wired {
+        pumps,
+        drainers,
+        leaves,
+        desks,
+    })
+}
+
+// How many letters the box of a drainer holds.
+fn drainer_capacity(config: &Config) -> usize
+    ensures capacity { result ≡ drainer_capacity config.now }
+    ensures most { result ≤ 65536 }
+{
+    let observers = most_observers(&config.subjects) as usize;
+    let asked = config.subjects.len() * observers;
+    2 * asked * (config.window as usize + 2) + config.workers as usize
+}
+
+// The most observers that one of the subjects takes.
+fn most_observers(subjects: &Vec<SubjectConfig, Heap>) -> u32
+    ensures most { result ≡ most_observers subjects.now.items }
+    ensures bound { result ≤ 64 }
+{
+    let mut most = 0;
+    for subject in subjects {
+        most = most.max(subject.rules.limits.observers);
+    }
+    most
+}
