@@ -18,7 +18,7 @@ use Rattle.rxline.specs.Transcripts.{Subject}
 use Rattle.rxline.specs.declared.program_fault.ProgramFault.{ProgramFault}
 use Rattle.rxline.specs.declared.program_fault.ProgramFault.TheVariants as faults
 use Rattle.rxline.specs.declared.task.Task.{Task}
-use Rattle.rxline.specs.declared.task.Task.TheVariants.{Script, Audit}
+use Rattle.rxline.specs.declared.task.Task.TheVariants.{Script, Audit, Serve}
 
 -- the bytes that the reader has left and those that the writer has, where they are known
 pub record Streams : Type 0 where
@@ -31,7 +31,7 @@ Done = Result (Unit {0}) ProgramFault
 
 -- FAULTS
 
--- what is told of a fault; for the cause of a refused configuration stand the words that it is told by
+-- what is told of a fault; for the cause of a refused configuration, and for a thread, stand the words that it is told by
 abbrev pub fault_text : ProgramFault → List ℕ → List ℕ
 fault_text faults.NoConfig words = codes "cannot read config"
 fault_text (faults.Config cause) words = codes "config: " ++ words
@@ -39,6 +39,11 @@ fault_text faults.Read words = codes "read fault"
 fault_text faults.Write words = codes "write fault"
 fault_text faults.TooManyReads words = codes "too many reads"
 fault_text faults.Memory words = codes "out of memory"
+fault_text faults.Listen words = codes "cannot listen"
+fault_text (faults.Start fault) words = codes "cannot start " ++ words
+fault_text faults.Accept words = codes "accept fault"
+fault_text faults.Serve words = codes "serve fault"
+fault_text (faults.Close fault) words = codes "close fault: " ++ words
 
 -- the line of a fault
 abbrev pub fault_line : ProgramFault → List ℕ → List ℕ
@@ -81,6 +86,11 @@ LacksConfig path faults.Read = ⊥
 LacksConfig path faults.Write = ⊥
 LacksConfig path faults.TooManyReads = ⊥
 LacksConfig path faults.Memory = Unit {0}
+LacksConfig path faults.Listen = ⊥
+LacksConfig path (faults.Start fault) = ⊥
+LacksConfig path faults.Accept = ⊥
+LacksConfig path faults.Serve = ⊥
+LacksConfig path (faults.Close fault) = ⊥
 
 -- THE TASK
 
@@ -106,10 +116,32 @@ Over path runs done old new =
     ((config : Config) × Configures path (settings_of config) × runs (new_subjects config.subjects.items) done old new)
     ⊎ ((fault : ProgramFault) × (done ≡ Err fault) × LacksConfig path fault × Untouched old new)
 
--- a task was done
-abbrev pub Does : Task → Done → Streams → Streams → Type 0
-Does (Script path) done old new = Over (option_map (λ s. s.now) path) RunsScript done old new
-Does (Audit path) done old new = Over (Some path.now) RunsAudit done old new
+-- why a server may not have served to its end
+abbrev pub MayServe : ProgramFault → Type 0
+MayServe faults.NoConfig = ⊥
+MayServe (faults.Config cause) = ⊥
+MayServe faults.Read = ⊥
+MayServe faults.Write = Unit {0}
+MayServe faults.TooManyReads = ⊥
+MayServe faults.Memory = Unit {0}
+MayServe faults.Listen = Unit {0}
+MayServe (faults.Start fault) = Unit {0}
+MayServe faults.Accept = Unit {0}
+MayServe faults.Serve = Unit {0}
+MayServe (faults.Close fault) = Unit {0}
+
+-- the subjects of the configuration of a path were served, or there is none; nothing was read
+abbrev pub Serves : Option (List ℕ) → Done → Streams → Streams → Type 0
+Serves path done old new =
+    (new.left ≡ old.left)
+    × (((config : Config) × Configures path (settings_of config) × MatchResult done (λ _. Unit {0}) MayServe)
+    ⊎ ((fault : ProgramFault) × (done ≡ Err fault) × LacksConfig path fault × (new.written ≡ old.written)))
+
+-- a task was done; for a script and an audit nothing was told meanwhile
+abbrev pub Does : Task → Done → Streams → Streams → Option (List ℕ) → Option (List ℕ) → Type 0
+Does (Script path) done old new told_old told = Over (option_map (λ s. s.now) path) RunsScript done old new × (told ≡ told_old)
+Does (Audit path) done old new told_old told = Over (Some path.now) RunsAudit done old new × (told ≡ told_old)
+Does (Serve path socket) done old new told_old told = Serves (Some path.now) done old new
 
 -- THE PROGRAM
 
@@ -118,11 +150,11 @@ abbrev pub ShowsHelp : Done → Type 0
 ShowsHelp done = (done ≡ Ok tt) ⊎ (done ≡ Err faults.Write)
 
 -- what the words ask for was done, or there was no memory to read them
-abbrev pub Carries : List Text → Done → Streams → Streams → Type 0
-Carries words done old new =
-    ((task : Task) × Asks words task × Does task done old new)
-    ⊎ ((kind : ErrorKind) × IsAgainst words kind × IsHelp kind × ShowsHelp done × (new.left ≡ old.left))
-    ⊎ ((done ≡ Err faults.Memory) × Untouched old new)
+abbrev pub Carries : List Text → Done → Streams → Streams → Option (List ℕ) → Option (List ℕ) → Type 0
+Carries words done old new told_old told =
+    ((task : Task) × Asks words task × Does task done old new told_old told)
+    ⊎ ((kind : ErrorKind) × IsAgainst words kind × IsHelp kind × ShowsHelp done × (new.left ≡ old.left) × (told ≡ told_old))
+    ⊎ ((done ≡ Err faults.Memory) × Untouched old new × (told ≡ told_old))
 
 -- the words are none that the program takes, and that is told
 abbrev pub Refuses : List Text → Streams → Streams → Type 0
@@ -139,5 +171,5 @@ Answers kind status written_old written_new told_old told_new =
 -- THE PROGRAM'S STATUS: 0 or 1 by how that ended which the words ask for, or 2 for other words
 abbrev pub Program : List Text → ℕ → Streams → Streams → Option (List ℕ) → Option (List ℕ) → Type 0
 Program words status old new told_old told_new =
-    ((done : Done) × Carries words done old new × EndsWith done status told_old told_new)
+    ((done : Done) × (told : Option (List ℕ)) × Carries words done old new told_old told × EndsWith done status told told_new)
     ⊎ ((status ≡ 2) × Refuses words old new)

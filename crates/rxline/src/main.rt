@@ -7,7 +7,9 @@
 mod asked;
 mod asking;
 pub mod audit;
+pub mod clocked;
 mod config_file;
+pub mod host;
 mod ledger;
 mod ledger_list;
 mod observed;
@@ -16,6 +18,8 @@ pub mod program;
 pub mod program_fault;
 mod responding;
 pub mod script;
+pub mod serving;
+pub mod socket;
 pub mod task;
 pub mod telling;
 #[cfg(test)]

@@ -71,8 +71,13 @@ fn push_decimal(outbox: &mut Outbox, number: u32)
     ensures digits { outbox.new ≡ outbox.old ++ decimal number }
     ensures len { length outbox.new ≤ length outbox.old + 10 }
 {
+    // One or two digits, by far the most numbers of observers, are copied by a fixed size.
     if number < 10 {
         return outbox.push(&[b'0' + number as u8]);
+    }
+    if number < 100 {
+        let digits = [b'0' + (number / 10) as u8, b'0' + (number % 10) as u8];
+        return outbox.push(&digits);
     }
     let mut digits = [0; MAX_DIGITS];
     let start = write_digits(number, &mut digits);

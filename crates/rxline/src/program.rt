@@ -4,8 +4,10 @@ ghost use Rattle.rxline.specs.Programs.{Answers, Does, EndsWith, Program, ShowsH
 
 use crate::audit::run_audit;
 use crate::config_file::config_at;
+use crate::host::Host;
 use crate::program_fault::ProgramFault;
 use crate::script::run_script;
+use crate::serving::serve_on;
 use crate::task::Task;
 use crate::telling::tell;
 use crate::words::read_words;
@@ -14,7 +16,6 @@ use clap::error::ErrorKind;
 use rx_heap::{Heap, Memory};
 use rx_session::SessionEnd;
 use std::io::{Read, Write};
-use std::rt::Files;
 
 /// The most reads of one script.
 const MAX_READS: u64 = 4_294_967_296;
@@ -30,7 +31,7 @@ const WRONG_WORDS: u8 = 2;
 ///
 /// 0: the run was finished, or help was asked for, which goes to `writer`. 1: a fault, told in one line. 2: the words are
 /// no command line, which is told with what would be one.
-pub fn run_words<'a, F: Files + AllocGlobal, R: Read, W: Write, E: Write>(
+pub fn run_words<'a, F: Host, R: Read, W: Write, E: Write>(
     rt: &F,
     words: &'a [&'a str],
     reader: &mut R,
@@ -41,7 +42,7 @@ pub fn run_words<'a, F: Files + AllocGlobal, R: Read, W: Write, E: Write>(
 {
     match read_words(rt.alloc(), words) {
         Ok(task) => {
-            let done = run_task(rt, task, reader, writer);
+            let done = run_task(rt, task, reader, writer, faults);
             status_of(done, faults)
         }
         Err(error) => answer(&error, writer, faults),
@@ -88,14 +89,15 @@ fn show_help<W: Write>(error: &Error, writer: &mut W) -> Result<(), ProgramFault
     Ok(())
 }
 
-// Runs or audits a script.
-fn run_task<F: Files + AllocGlobal, R: Read, W: Write>(
+// Runs or audits a script, or serves.
+fn run_task<F: Host, R: Read, W: Write, E: Write>(
     rt: &F,
     task: Task<'_>,
     reader: &mut R,
     writer: &mut W,
+    faults: &mut E,
 ) -> Result<(), ProgramFault>
-    ensures { Does task.entry result (record { left = R.remaining reader.old; written = W.contents writer.old }) (record { left = R.remaining reader.new; written = W.contents writer.new }) }
+    ensures { Does task.entry result (record { left = R.remaining reader.old; written = W.contents writer.old }) (record { left = R.remaining reader.new; written = W.contents writer.new }) (E.contents faults.old) (E.contents faults.new) }
 {
     let heap = Heap::unlimited(rt.alloc());
     match task {
@@ -105,6 +107,10 @@ fn run_task<F: Files + AllocGlobal, R: Read, W: Write>(
         },
         Task::Audit(path) => match config_at(rt, &heap, Some(path)) {
             Ok(config) => done_of(run_audit(heap, config, reader, writer, MAX_READS)),
+            Err(fault) => Err(fault),
+        },
+        Task::Serve(path, socket) => match config_at(rt, &heap, Some(path)) {
+            Ok(config) => serve_on(rt, &heap, config, socket, writer, faults),
             Err(fault) => Err(fault),
         },
     }

@@ -1,4 +1,4 @@
-use rx_server::ConfigError;
+use rx_server::{CloseFault, ConfigError, StartFault};
 
 /// Why the program gave up.
 #[derive(Clone, Copy, Debug, PartialEq, Eq)]
@@ -15,4 +15,14 @@ pub enum ProgramFault {
     TooManyReads,
     /// There was no memory to read the words, to make the subjects, or for an audit.
     Memory,
+    /// The socket can't be had: something stands at its path, or there is no such folder.
+    Listen,
+    /// A thread of the server can't be had.
+    Start(StartFault),
+    /// No connection can be accepted.
+    Accept,
+    /// The sessions can't be served, for want of memory or of a thread.
+    Serve,
+    /// A thread of the server ended by a fault.
+    Close(CloseFault),
 }

@@ -4,7 +4,7 @@ ghost use Rattle.rxline.specs.Programs.{Tells, fault_text};
 
 use crate::program_fault::ProgramFault;
 use rx_proto::{WriteFault, write_bytes};
-use rx_server::ConfigError;
+use rx_server::{ConfigError, Role};
 use std::io::Write;
 
 /// Tells a fault in one line.
@@ -27,6 +27,21 @@ fn write_fault<E: Write>(fault: ProgramFault, faults: &mut E) -> Result<(), Writ
         ProgramFault::Write => write_bytes(faults, b"write fault"),
         ProgramFault::TooManyReads => write_bytes(faults, b"too many reads"),
         ProgramFault::Memory => write_bytes(faults, b"out of memory"),
+        ProgramFault::Listen => write_bytes(faults, b"cannot listen"),
+        ProgramFault::Start(fault) => write_thread(
+            b"cannot start ",
+            fault.thread,
+            fault.index,
+            faults,
+        ),
+        ProgramFault::Accept => write_bytes(faults, b"accept fault"),
+        ProgramFault::Serve => write_bytes(faults, b"serve fault"),
+        ProgramFault::Close(fault) => write_thread(
+            b"close fault: ",
+            fault.thread,
+            fault.index,
+            faults,
+        ),
     }
 }
 
@@ -41,6 +56,30 @@ fn write_cause<E: Write>(cause: ConfigError, faults: &mut E) -> Result<(), Write
     let len = put_cause(cause, &mut room);
     write_bytes(faults, b"config: ")?;
     write_bytes(faults, &room[..len])
+}
+
+// Writes what is told of a thread, behind these words.
+fn write_thread<E: Write>(
+    words: &[u8],
+    thread: Role,
+    index: usize,
+    faults: &mut E,
+) -> Result<(), WriteFault>
+    ensures { (tail : List ℕ) × Writes result (E.contents faults.old) (E.contents faults.new) (words.now ++ tail) }
+{
+    let mut room = [0; ROOM];
+    let len = put_thread(thread, index, &mut room);
+    write_bytes(faults, words)?;
+    write_bytes(faults, &room[..len])
+}
+
+// Puts the name of a thread at the front of the room. How many bytes it has.
+fn put_thread(thread: Role, index: usize, room: &mut [u8; ROOM]) -> usize
+    ensures { result ≤ 64 }
+{
+    let mut rest = room.as_mut_slice();
+    let _ = write!(rest, "{thread} {index}");
+    ROOM.saturating_sub(rest.len())
 }
 
 // Puts the words of a cause at the front of the room. How many bytes they have.

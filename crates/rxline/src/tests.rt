@@ -6,6 +6,7 @@ mod kinds;
 mod programs;
 mod refusals;
 mod rows;
+mod servers;
 
 use rx_heap::Heap;
 

@@ -2,7 +2,7 @@ ghost use Rattle.std.specs.Prelude.{◌≡◌, ◌⊎◌, IfOk, MatchOption, Mat
 ghost use Rattle.clap.specs.Words.{app_of, first_of, found_of, kind_of, rows_of, rule_of, subcommand_rows_of, with_rule, with_subcommand};
 ghost use Rattle.clap.specs.declared.Command.{out-Command};
 ghost use Rattle.clap.specs.declared.error.kind.ErrorKind.TheVariants.{OutOfMemory};
-ghost use Rattle.rxline.specs.CommandLines.{Asks, IsAgainst, IsNamedBy, NamesNone, audit_app, line_app, path, script_app, top_app};
+ghost use Rattle.rxline.specs.CommandLines.{Asks, IsAgainst, IsNamedBy, NamesNone, audit_app, line_app, path, script_app, serve_app, socket, top_app};
 
 use crate::task::Task;
 use clap::error::ErrorKind;
@@ -10,6 +10,8 @@ use clap::{Arg, ArgMatches, Command, Error};
 use std::alloc::{AllocError, Global};
 
 const CONFIG: &str = "config";
+
+const SOCKET: &str = "socket";
 
 const ABOUT: &str = "Multicasts items to observers by the lines of a script.";
 
@@ -70,6 +72,10 @@ fn named<'a>(name: &'a str, found: &ArgMatches<'a>) -> Option<Task<'a>>
     if name == "audit" {
         return Some(Task::Audit(path));
     }
+    if name == "serve" {
+        let socket = socket_in(found)?;
+        return Some(Task::Serve(path, socket));
+    }
     None
 }
 
@@ -78,6 +84,13 @@ fn path_in<'a>(found: &ArgMatches<'a>) -> Option<&'a str>
     ensures { option_map (λ s. s.now) result ≡ first_of (codes "config") (rows_of (found_of found.now)) }
 {
     found.get_str(CONFIG)
+}
+
+// The path of the socket that a command was given.
+fn socket_in<'a>(found: &ArgMatches<'a>) -> Option<&'a str>
+    ensures { option_map (λ s. s.now) result ≡ first_of (codes "socket") (rows_of (found_of found.now)) }
+{
+    found.get_str(SOCKET)
 }
 
 // What is said of a command that is none of these.
@@ -91,7 +104,8 @@ fn unknown(alloc: Global) -> Result<Error, AllocError>
 fn line<'a>(alloc: Global) -> Result<Command<'a>, AllocError>
     ensures app { IfOk result (λ c. app_of c ≡ line_app) }
 {
-    with_audit(alloc, with_script(alloc, top(alloc))?)
+    let command = with_audit(alloc, with_script(alloc, top(alloc))?)?;
+    with_serve(alloc, command)
 }
 
 fn with_script<'a>(alloc: Global, command: Command<'a>) -> Result<Command<'a>, AllocError>
@@ -104,6 +118,12 @@ fn with_audit<'a>(alloc: Global, command: Command<'a>) -> Result<Command<'a>, Al
     ensures app { IfOk result (λ c. app_of c ≡ with_subcommand (app_of command.entry) audit_app.top) }
 {
     command.subcommand(audit(alloc)?)
+}
+
+fn with_serve<'a>(alloc: Global, command: Command<'a>) -> Result<Command<'a>, AllocError>
+    ensures app { IfOk result (λ c. app_of c ≡ with_subcommand (app_of command.entry) serve_app.top) }
+{
+    command.subcommand(serve(alloc)?)
 }
 
 fn top<'a>(alloc: Global) -> Command<'a>
@@ -139,6 +159,19 @@ fn audit<'a>(alloc: Global) -> Result<Command<'a>, AllocError>
     )
 }
 
+fn serve<'a>(alloc: Global) -> Result<Command<'a>, AllocError>
+    ensures app { IfOk result (λ c. app_of c ≡ serve_app) }
+    ensures local { IfOk result (λ c. (out-Command c).has_globals ≡ false) }
+{
+    let command = with_path(
+        alloc,
+        Command::new(alloc, "serve").about(
+            "Serves on a new Unix socket until as many connections have ended as the configuration says, then writes the report to standard output",
+        ),
+    )?;
+    command.arg(socket_arg(alloc))
+}
+
 fn with_path<'a>(alloc: Global, command: Command<'a>) -> Result<Command<'a>, AllocError>
     requires { (out-Command command).has_globals ≡ false }
     ensures app { IfOk result (λ c. app_of c ≡ with_rule (app_of command.entry) path) }
@@ -154,4 +187,13 @@ fn path_arg<'a>(alloc: Global) -> Arg<'a>
     Arg::new(alloc, CONFIG)
         .required(true)
         .help("The configuration, a TOML file of at most 65,536 bytes")
+}
+
+fn socket_arg<'a>(alloc: Global) -> Arg<'a>
+    ensures rule { rule_of result ≡ socket }
+    ensures local { result.global ≡ false }
+{
+    Arg::new(alloc, SOCKET)
+        .required(true)
+        .help("The path of the socket, where no file may stand yet")
 }

@@ -1,9 +1,10 @@
 use crate::audit::run_audit;
-use crate::tests::unlimited;
+use rx_heap::{Heap, Memory};
 use rx_note::{Kind, Limits, Rules};
 use rx_proto::Name;
 use rx_server::{Config, SubjectConfig};
 use rx_session::SessionEnd;
+use std::alloc::Global;
 use std::io::{self, ErrorKind, Read, Write};
 use std::test::Fail;
 
@@ -15,71 +16,81 @@ const WAITING_END_AUDIT: &[u8] = b"OBSERVER s 0\nGIVEN NEXT a\nWAITING NEXT b\nW
 
 // Audits a script over the standard configuration.
 fn audit<R: Read, W: Write>(
-    rt: &HostRuntime,
+    alloc: Global,
     reader: &mut R,
     writer: &mut W,
     max_reads: u64,
-) -> Result<SessionEnd, Fail> {
-    let heap = unlimited(rt);
-    let config = Config::standard(heap.clone()?)?;
-    Ok(run_audit(heap, config, reader, writer, max_reads)?)
+) -> Result<SessionEnd, Memory> {
+    let config = Config::standard(Heap::unlimited(alloc))?;
+    run_audit(Heap::unlimited(alloc), config, reader, writer, max_reads)
 }
+
+/// How an audit ended, and what was written.
+#[derive(Drop)]
+struct Audited {
+    end: SessionEnd,
+    written: Vec<u8>,
+}
+
+fn audit_of<R: Read>(alloc: Global, reader: &mut R, max_reads: u64) -> Result<Audited, Memory> {
+    let mut written = Vec::new(alloc);
+    let end = audit(alloc, reader, &mut written, max_reads)?;
+    Ok(Audited { end, written })
+}
+
+/// The name of an input, its script, what is written, and how it ends.
+type Row = (&'static str, &'static [u8], &'static [u8], SessionEnd);
+
+const ROWS: [Row; 6] = [
+    (
+        "audit_of_a_waiting_end",
+        WAITING_END,
+        WAITING_END_AUDIT,
+        SessionEnd::EndOfInput,
+    ),
+    (
+        "audit_of_latest",
+        b"JOIN s LATEST:2 DELAY 1\nPUB s a\nPUB s b\nPUB s c\nPUB s d\n",
+        b"OBSERVER s 0\nGIVEN NEXT a\nWAITING NEXT c\nWAITING NEXT d\n",
+        SessionEnd::EndOfInput,
+    ),
+    (
+        "audit_of_one_that_left",
+        b"JOIN s BUFFER DELAY 1\nJOIN s LATEST:1 AHEAD 0\nPUB s a\nPUB s b\nDISPOSE s 0\nPUB s c\nFAIL s x\n",
+        b"OBSERVER s 0\nGIVEN NEXT a\nOBSERVER s 1\nGIVEN FAILED x\n",
+        SessionEnd::EndOfInput,
+    ),
+    ("no_line", b"", b"", SessionEnd::EndOfInput),
+    (
+        "bad_lines_are_passed_over",
+        b"JOIN s BUFFER DELAY 2\r\nPUB s\nPUB t x\nPUB s a\nFAIL s no\nPUB s",
+        b"OBSERVER s 0\nGIVEN NEXT a\nGIVEN FAILED no\n",
+        SessionEnd::EndOfInput,
+    ),
+    (
+        "no_line_after_quit",
+        b"JOIN s BUFFER DELAY 0\nJOIN s BUFFER DELAY 1\nPUB s a\nQUIT\nREQUEST s 0 1\nEND s\n",
+        b"OBSERVER s 0\nWAITING NEXT a\nOBSERVER s 1\nGIVEN NEXT a\n",
+        SessionEnd::Quit,
+    ),
+];
 
 #[test]
 fn audits_of_whole_inputs(rt: HostRuntime) -> Result<(), Fail> {
-    for (name, script, wanted, end) in [
-        (
-            "audit_of_a_waiting_end",
-            WAITING_END,
-            WAITING_END_AUDIT,
-            SessionEnd::EndOfInput,
-        ),
-        (
-            "audit_of_latest",
-            b"JOIN s LATEST:2 DELAY 1\nPUB s a\nPUB s b\nPUB s c\nPUB s d\n".as_slice(),
-            b"OBSERVER s 0\nGIVEN NEXT a\nWAITING NEXT c\nWAITING NEXT d\n".as_slice(),
-            SessionEnd::EndOfInput,
-        ),
-        (
-            "audit_of_one_that_left",
-            b"JOIN s BUFFER DELAY 1\nJOIN s LATEST:1 AHEAD 0\nPUB s a\nPUB s b\nDISPOSE s 0\nPUB s c\nFAIL s x\n".as_slice(),
-            b"OBSERVER s 0\nGIVEN NEXT a\nOBSERVER s 1\nGIVEN FAILED x\n".as_slice(),
-            SessionEnd::EndOfInput,
-        ),
-        (
-            "no_line",
-            b"".as_slice(),
-            b"".as_slice(),
-            SessionEnd::EndOfInput,
-        ),
-        (
-            "bad_lines_are_passed_over",
-            b"JOIN s BUFFER DELAY 2\r\nPUB s\nPUB t x\nPUB s a\nFAIL s no\nPUB s".as_slice(),
-            b"OBSERVER s 0\nGIVEN NEXT a\nGIVEN FAILED no\n".as_slice(),
-            SessionEnd::EndOfInput,
-        ),
-        (
-            "no_line_after_quit",
-            b"JOIN s BUFFER DELAY 0\nJOIN s BUFFER DELAY 1\nPUB s a\nQUIT\nREQUEST s 0 1\nEND s\n".as_slice(),
-            b"OBSERVER s 0\nWAITING NEXT a\nOBSERVER s 1\nGIVEN NEXT a\n".as_slice(),
-            SessionEnd::Quit,
-        ),
-    ] {
-        let mut reader = script;
-        let mut written = Vec::new(rt.alloc());
-        let ended = audit(&rt, &mut reader, &mut written, MAX_READS)?;
-        assert_eq!(rt; ended, end, "{name}");
-        assert_eq!(rt; written.as_slice(), wanted, "{name}");
+    for (name, script, wanted, end) in &ROWS {
+        let mut reader = *script;
+        let audited = audit_of(rt.alloc(), &mut reader, MAX_READS)?;
+        assert_eq!(rt; audited.end, *end, "{name}");
+        assert_eq!(rt; audited.written.as_slice(), *wanted, "{name}");
     }
     Ok(())
 }
 
-#[test]
-fn subjects_in_the_order_of_the_configuration(rt: HostRuntime) -> Result<(), Fail> {
-    let heap = unlimited(&rt);
-    let mut config = Config::standard(heap.clone()?)?;
+// The standard configuration with a second subject, a.
+fn config_of_two(alloc: Global) -> Result<Config, Memory> {
+    let mut config = Config::standard(Heap::unlimited(alloc))?;
     let Some(name) = Name::new(b"a") else {
-        unreachable!()
+        return Err(Memory);
     };
     let rules = Rules {
         kind: Kind::Publish,
@@ -89,10 +100,24 @@ fn subjects_in_the_order_of_the_configuration(rt: HostRuntime) -> Result<(), Fai
         },
     };
     config.subjects.push(SubjectConfig { name, rules })?;
-    let mut reader =
-        b"JOIN a BUFFER DELAY 1\nJOIN s BUFFER DELAY 0\nJOIN a BUFFER DELAY 2\nPUB a x\nPUB s y\n".as_slice();
-    let mut written = Vec::new(rt.alloc());
+    Ok(config)
+}
+
+// What is written for an audit over two subjects.
+fn audit_of_two(alloc: Global, script: &[u8]) -> Result<Vec<u8>, Memory> {
+    let mut reader = script;
+    let mut written = Vec::new(alloc);
+    let config = config_of_two(alloc)?;
+    let heap = Heap::unlimited(alloc);
     run_audit(heap, config, &mut reader, &mut written, MAX_READS)?;
+    Ok(written)
+}
+
+#[test]
+fn subjects_in_the_order_of_the_configuration(rt: HostRuntime) -> Result<(), Fail> {
+    let script =
+        b"JOIN a BUFFER DELAY 1\nJOIN s BUFFER DELAY 0\nJOIN a BUFFER DELAY 2\nPUB a x\nPUB s y\n".as_slice();
+    let written = audit_of_two(rt.alloc(), script)?;
     let audit = b"OBSERVER s 0\nWAITING NEXT y\nOBSERVER a 0\nGIVEN NEXT x\n";
     assert_eq!(rt; written.as_slice(), audit.as_slice());
     Ok(())
@@ -101,10 +126,9 @@ fn subjects_in_the_order_of_the_configuration(rt: HostRuntime) -> Result<(), Fai
 #[test]
 fn too_many_reads_print_nothing(rt: HostRuntime) -> Result<(), Fail> {
     let mut reader = WAITING_END;
-    let mut written = Vec::new(rt.alloc());
-    let ended = audit(&rt, &mut reader, &mut written, 1)?;
-    assert_eq!(rt; ended, SessionEnd::TooManyReads);
-    assert!(rt; written.is_empty());
+    let audited = audit_of(rt.alloc(), &mut reader, 1)?;
+    assert_eq!(rt; audited.end, SessionEnd::TooManyReads);
+    assert!(rt; audited.written.is_empty());
     Ok(())
 }
 
@@ -126,10 +150,9 @@ impl Read for Fails {
 #[test]
 fn a_read_fault_prints_nothing(rt: HostRuntime) -> Result<(), Fail> {
     let mut reader = Fails { rest: WAITING_END };
-    let mut written = Vec::new(rt.alloc());
-    let ended = audit(&rt, &mut reader, &mut written, MAX_READS)?;
-    assert_eq!(rt; ended, SessionEnd::ReadFault);
-    assert!(rt; written.is_empty());
+    let audited = audit_of(rt.alloc(), &mut reader, MAX_READS)?;
+    assert_eq!(rt; audited.end, SessionEnd::ReadFault);
+    assert!(rt; audited.written.is_empty());
     Ok(())
 }
 
@@ -138,7 +161,7 @@ fn a_full_writer_has_a_prefix(rt: HostRuntime) -> Result<(), Fail> {
     let mut reader = WAITING_END;
     let mut room = [0; 20];
     let mut writer = room.as_mut_slice();
-    let ended = audit(&rt, &mut reader, &mut writer, MAX_READS)?;
+    let ended = audit(rt.alloc(), &mut reader, &mut writer, MAX_READS)?;
     assert_eq!(rt; ended, SessionEnd::WriteFault);
     assert_eq!(rt; room.as_slice(), &WAITING_END_AUDIT[..20]);
     Ok(())

@@ -6,7 +6,7 @@ ghost use Rattle.rx_hub.specs.Hubs.{are_in_range};
 
 use crate::script::run_script;
 use crate::tests::unlimited;
-use rx_heap::Heap;
+use rx_heap::{Heap, Memory};
 use rx_note::{Kind, Limits, Rules, Text};
 use rx_server::Config;
 use rx_session::SessionEnd;
@@ -25,11 +25,19 @@ pub(super) enum Named {
     Replay(Option<u16>, Option<u64>),
 }
 
-fn kind_of(heap: &Heap, named: Named) -> Result<Kind, Fail> {
+fn seed_of(heap: &Heap) -> Result<Text, Memory> {
+    let heap = heap.clone()?;
+    match Text::new(heap, b"z") {
+        Ok(seed) => Ok(seed),
+        Err(_) => Err(Memory),
+    }
+}
+
+fn kind_of(heap: &Heap, named: Named) -> Result<Kind, Memory> {
     match named {
         Named::Publish => Ok(Kind::Publish),
         Named::Behavior => {
-            let seed = Text::new(heap.clone()?, b"z")?;
+            let seed = seed_of(heap)?;
             Ok(Kind::Behavior(Some(seed)))
         }
         Named::Async => Ok(Kind::Async),
@@ -60,20 +68,22 @@ fn limits_of(room: Room) -> Limits
 }
 
 // The configuration of a run.
-pub(super) fn config_of(heap: &Heap, run: &Run) -> Result<Config, Fail> {
+pub(super) fn config_of(heap: &Heap, run: &Run) -> Result<Config, Memory> {
     let mut config = Config::standard(heap.clone()?)?;
     let kind = kind_of(heap, run.kind)?;
     if kind.check().is_err() {
-        return Err("a kind out of its limits".into());
+        return Err(Memory);
     }
     let limits = limits_of(run.room);
-    let subject = config.subjects.first_mut().ok_or("no subject")?;
+    let Some(subject) = config.subjects.first_mut() else {
+        return Err(Memory);
+    };
     subject.rules = Rules { kind, limits };
     Ok(config)
 }
 
 // What is written for a run; `?` stands behind it where it did not end with the input.
-fn written_for(heap: &Heap, run: &Run) -> Result<Vec<u8, Heap>, Fail> {
+fn written_for(heap: &Heap, run: &Run) -> Result<Vec<u8, Heap>, Memory> {
     let config = config_of(heap, run)?;
     let mut reader = run.script;
     let mut written = Vec::new(heap.clone()?);

@@ -1,89 +1,120 @@
 //! The program over streams in memory: its status, what it writes, and what it tells of faults.
 
+use crate::host::Host;
 use crate::program::run_words;
 use crate::tests::audits::Fails;
+use std::alloc::Global;
 use std::fs::{self, File};
-use std::io::{Read, Write};
+use std::io::{self, Read, Write};
 use std::test::Fail;
 
 const SCRIPT: &[u8] = b"JOIN s BUFFER DELAY 1\nPUB s a\nPUB s b\n";
 
-// The status of a run, what it wrote, and behind a bar what it told of faults.
-fn told_of<R: Read>(rt: &HostRuntime, words: &[&str], reader: &mut R) -> Result<Vec<u8>, Fail> {
+// What a run told: its status, what it wrote, and behind a bar what it told of faults. A part that finds no memory is
+// left out, and then what is told is not what is wanted.
+pub(crate) fn joined(alloc: Global, status: u8, written: &[u8], faults: &[u8]) -> Vec<u8> {
+    let mut told = Vec::new(alloc);
+    let _ = write!(told, "{status} ");
+    let _ = told.extend_from_slice(written);
+    let _ = told.extend_from_slice(b"|");
+    let _ = told.extend_from_slice(faults);
+    told
+}
+
+// What is told of a run.
+fn told_of<R: Read>(rt: &impl Host, words: &[&str], reader: &mut R) -> Vec<u8> {
     let mut written = Vec::new(rt.alloc());
     let mut faults = Vec::new(rt.alloc());
     let status = run_words(rt, words, reader, &mut written, &mut faults);
-    let mut told = Vec::new(rt.alloc());
-    write!(told, "{status} ")?;
-    told.extend_from_slice(written.as_slice())?;
-    told.push(b'|')?;
-    told.extend_from_slice(faults.as_slice())?;
-    Ok(told)
+    joined(rt.alloc(), status, written.as_slice(), faults.as_slice())
 }
 
+// What is told of a run over the script.
+fn told_by(rt: &impl Host, words: &[&str]) -> Vec<u8> {
+    let mut reader = SCRIPT;
+    told_of(rt, words, &mut reader)
+}
+
+// Words, and what is told of the run by them.
+const STATUSES: [(&[&str], &str); 4] = [
+    (&[], "0 OK 0\nOK\ns 0 NEXT a\nOK\n|"),
+    (
+        &["script", "no/such/file"],
+        "1 |rxline: cannot read config\n",
+    ),
+    (
+        &["audit", "no/such/file"],
+        "1 |rxline: cannot read config\n",
+    ),
+    (
+        &["serve", "no/such/file", "no/such/socket"],
+        "1 |rxline: cannot read config\n",
+    ),
+];
+
 #[test]
-fn statuses(rt: HostRuntime) -> Result<(), Fail> {
-    for (words, wanted) in [
-        ([].as_slice(), "0 OK 0\nOK\ns 0 NEXT a\nOK\n|"),
-        (
-            ["script", "no/such/file"].as_slice(),
-            "1 |rxline: cannot read config\n",
-        ),
-        (
-            ["audit", "no/such/file"].as_slice(),
-            "1 |rxline: cannot read config\n",
-        ),
-    ] {
-        let mut reader = SCRIPT;
-        let told = told_of(&rt, words, &mut reader)?;
-        assert_eq!(rt; told.as_slice(), wanted.as_bytes());
+fn statuses(rt: HostRuntime) {
+    for (words, wanted) in &STATUSES {
+        assert_eq!(rt; told_by(&rt, words).as_slice(), wanted.as_bytes());
     }
-    Ok(())
+}
+
+const PATH: &str = "rxline-test.toml";
+
+fn write_config(rt: &impl Host, config: &[u8]) -> io::Result<()> {
+    File::create(rt, PATH)?.write_all(config)
 }
 
 // What is told of a command over a file with these bytes, which is removed again.
-fn told_over(rt: &HostRuntime, command: &str, config: &[u8]) -> Result<Vec<u8>, Fail> {
-    let path = "rxline-test.toml";
-    File::create(rt, path)?.write_all(config)?;
-    let mut reader = SCRIPT;
-    let told = told_of(rt, &[command, path], &mut reader)?;
-    fs::remove_file(rt, path)?;
+fn told_over(rt: &impl Host, command: &str, config: &[u8]) -> io::Result<Vec<u8>> {
+    write_config(rt, config)?;
+    let told = told_by(rt, &[command, PATH]);
+    fs::remove_file(rt, PATH)?;
     Ok(told)
 }
 
+// Commands, the configurations in the file that each is given, and what is told.
+const FILES: [(&str, &str, &str); 4] = [
+    (
+        "script",
+        "[[subject]]\nname = \"s\"\nkind = \"replay\"\ncount = 0\n",
+        "1 |rxline: config: subject 0 is refused\n",
+    ),
+    ("audit", "", "1 |rxline: config: no subject\n"),
+    (
+        "script",
+        "[[subject]]\nname = \"s\"\nkind = \"behavior\"\nseed = \"z\"\n",
+        "0 OK 0\ns 0 NEXT z\nOK\nOK\n|",
+    ),
+    (
+        "audit",
+        "[[subject]]\nname = \"s\"\nkind = \"behavior\"\nseed = \"z\"\n",
+        "0 OBSERVER s 0\nGIVEN NEXT z\nWAITING NEXT a\nWAITING NEXT b\n|",
+    ),
+];
+
 #[test]
 fn configurations_of_files(rt: HostRuntime) -> Result<(), Fail> {
-    for (command, config, wanted) in [
-        (
-            "script",
-            "[[subject]]\nname = \"s\"\nkind = \"replay\"\ncount = 0\n",
-            "1 |rxline: config: subject 0 is refused\n",
-        ),
-        ("audit", "", "1 |rxline: config: no subject\n"),
-        (
-            "script",
-            "[[subject]]\nname = \"s\"\nkind = \"behavior\"\nseed = \"z\"\n",
-            "0 OK 0\ns 0 NEXT z\nOK\nOK\n|",
-        ),
-        (
-            "audit",
-            "[[subject]]\nname = \"s\"\nkind = \"behavior\"\nseed = \"z\"\n",
-            "0 OBSERVER s 0\nGIVEN NEXT z\nWAITING NEXT a\nWAITING NEXT b\n|",
-        ),
-    ] {
+    for (command, config, wanted) in &FILES {
         let told = told_over(&rt, command, config.as_bytes())?;
         assert_eq!(rt; told.as_slice(), wanted.as_bytes());
     }
     Ok(())
 }
 
-// What is told of a script over a file of so many bytes.
-fn told_over_bytes(rt: &HostRuntime, len: usize) -> Result<Vec<u8>, Fail> {
-    let mut config = Vec::new(rt.alloc());
-    config.extend_from_slice(b"[[subject]]\nname = \"s\"\nkind = \"async\"\n#")?;
+// A configuration of so many bytes. Those that find no memory are left out.
+fn config_of(alloc: Global, len: usize) -> Vec<u8> {
+    let mut config = Vec::new(alloc);
+    let _ = config.extend_from_slice(b"[[subject]]\nname = \"s\"\nkind = \"async\"\n#");
     for _ in config.len()..len {
-        config.push(b'.')?;
+        let _ = config.push(b'.');
     }
+    config
+}
+
+// What is told of a script over a file of so many bytes.
+fn told_over_bytes(rt: &impl Host, len: usize) -> io::Result<Vec<u8>> {
+    let config = config_of(rt.alloc(), len);
     told_over(rt, "script", config.as_slice())
 }
 
@@ -99,38 +130,44 @@ fn most_bytes_of_a_configuration(rt: HostRuntime) -> Result<(), Fail> {
     Ok(())
 }
 
+// Words, and how what is told of the run by them begins and ends.
+const WRONG: [(&[&str], &str, &str); 3] = [
+    (&["--help"], "0 Multicasts items", "|"),
+    (&["serve", "a"], "2 |error: ", "\n"),
+    (&["script"], "2 |error: ", "\n"),
+];
+
 #[test]
-fn help_and_wrong_words(rt: HostRuntime) -> Result<(), Fail> {
-    for (words, front, back) in [
-        (["--help"].as_slice(), "0 Multicasts items", "|"),
-        (["serve", "a", "b"].as_slice(), "2 |error: ", "\n"),
-        (["script"].as_slice(), "2 |error: ", "\n"),
-    ] {
-        let mut reader = SCRIPT;
-        let told = told_of(&rt, words, &mut reader)?;
+fn help_and_wrong_words(rt: HostRuntime) {
+    for (words, front, back) in &WRONG {
+        let told = told_by(&rt, words);
         assert!(rt; told.starts_with(front.as_bytes()), "{front}");
         assert!(rt; told.ends_with(back.as_bytes()), "{front}");
     }
-    Ok(())
 }
 
 #[test]
-fn faults_of_streams(rt: HostRuntime) -> Result<(), Fail> {
+fn faults_of_readers(rt: HostRuntime) {
     let mut reader = Fails { rest: SCRIPT };
-    let told = told_of(&rt, &[], &mut reader)?;
+    let told = told_of(&rt, &[], &mut reader);
     assert_eq!(rt;
         told.as_slice(),
         b"1 OK 0\nOK\ns 0 NEXT a\nOK\n|rxline: read fault\n".as_slice()
     );
+}
+
+// What is told of a run whose writer has room for four bytes.
+fn told_in_four(rt: &impl Host) -> Vec<u8> {
     let mut reader = SCRIPT;
     let mut room = [0; 4];
     let mut writer = room.as_mut_slice();
     let mut faults = Vec::new(rt.alloc());
-    assert_eq!(rt;
-        run_words(&rt, &[], &mut reader, &mut writer, &mut faults),
-        1
-    );
-    assert_eq!(rt; faults.as_slice(), b"rxline: write fault\n".as_slice());
-    assert_eq!(rt; room.as_slice(), b"OK 0".as_slice());
-    Ok(())
+    let status = run_words(rt, &[], &mut reader, &mut writer, &mut faults);
+    joined(rt.alloc(), status, room.as_slice(), faults.as_slice())
+}
+
+#[test]
+fn faults_of_writers(rt: HostRuntime) {
+    let told = told_in_four(&rt);
+    assert_eq!(rt; told.as_slice(), b"1 OK 0|rxline: write fault\n".as_slice());
 }

@@ -45,13 +45,24 @@ struct Seen {
     written: Vec<u8, Heap>,
 }
 
+// What came of a run with a growth refused.
+#[derive(Clone, Copy)]
+enum Met {
+    // It had no such growth, and did what it is to do.
+    Nothing,
+    // It did what it is to do where a growth is refused. Whether it ended so.
+    Refusal(bool),
+    // It did what it is not to do.
+    Fault,
+}
+
 impl Way {
     // What is seen of a script that grows by `tight`, over the subject of a run. All else is made by `free`.
-    fn seen(self, free: &Heap, tight: &Heap, run: &Run, script: &[u8]) -> Result<Seen, Fail> {
-        let config = config_of(free, run)?;
+    fn seen(self, free: &Heap, tight: &Heap, run: &Run, script: &[u8]) -> Result<Seen, Memory> {
         let heap = tight.clone()?;
-        let mut rest = script;
         let mut written = Vec::new(free.clone()?);
+        let mut rest = script;
+        let config = config_of(free, run)?;
         let ended = match self {
             Way::Script => run_script(heap, config, &mut rest, &mut written, MAX_READS),
             Way::Audit => run_audit(heap, config, &mut rest, &mut written, MAX_READS),
@@ -64,7 +75,7 @@ impl Way {
     }
 
     // Whether a run that met a refusal did what it is to do; `whole` is what is written with ample memory.
-    fn allows(self, heap: &Heap, run: &Run, whole: &[u8], seen: &Seen) -> Result<bool, Fail> {
+    fn allows(self, heap: &Heap, run: &Run, whole: &[u8], seen: &Seen) -> Result<bool, Memory> {
         let written = seen.written.as_slice();
         match self {
             Way::Audit => Ok(seen.is_ended && whole.starts_with(written)),
@@ -73,35 +84,48 @@ impl Way {
         }
     }
 
-    // Runs it with each growth refused in turn. None where a run did what it is not to do.
-    fn refusals(self, alloc: Global, run: &Run, whole: &[u8]) -> Result<Option<Refusals>, Fail> {
+    // Runs it with a growth refused.
+    fn met(self, alloc: Global, growth: u64, run: &Run, whole: &[u8]) -> Result<Met, Memory> {
         let free = Heap::unlimited(alloc);
+        let tight = Heap::refusing(alloc, growth)?;
+        let seen = self.seen(&free, &tight, run, run.script)?;
+        let is_met = tight.asked() > growth;
+        let is_right = if is_met {
+            tight.used() == 0 && self.allows(&free, run, whole, &seen)?
+        } else {
+            !seen.is_ended && seen.written.as_slice() == whole
+        };
+        Ok(if !is_right {
+            Met::Fault
+        } else if is_met {
+            Met::Refusal(seen.is_ended)
+        } else {
+            Met::Nothing
+        })
+    }
+
+    // Runs it with each growth refused in turn. None where a run did what it is not to do.
+    fn refusals(self, alloc: Global, run: &Run, whole: &[u8]) -> Result<Option<Refusals>, Memory> {
         let mut refusals = Refusals {
             ended: 0,
             went_on: 0,
         };
         for growth in 0..MAX_GROWTHS {
-            let tight = Heap::refusing(alloc, growth)?;
-            let seen = self.seen(&free, &tight, run, run.script)?;
-            if tight.asked() <= growth {
-                if seen.is_ended || seen.written.as_slice() != whole {
-                    return Ok(None);
-                }
-                return Ok(Some(refusals));
+            match self.met(alloc, growth, run, whole)? {
+                Met::Nothing => return Ok(Some(refusals)),
+                Met::Fault => return Ok(None),
+                Met::Refusal(is_ended) => refusals.count(is_ended),
             }
-            if tight.used() != 0 || !self.allows(&free, run, whole, &seen)? {
-                return Ok(None);
-            }
-            refusals.count(&seen);
         }
         Ok(None)
     }
 }
 
-fn is_memory(ended: Result<SessionEnd, Memory>) -> Result<bool, Fail> {
+// An end that no script here has fails the test too.
+fn is_memory(ended: Result<SessionEnd, Memory>) -> Result<bool, Memory> {
     match ended {
         Ok(SessionEnd::EndOfInput) => Ok(false),
-        Ok(_) => Err(Fail::from("it did not end with its input")),
+        Ok(_) => Err(Memory),
         Err(Memory) => Ok(true),
     }
 }
@@ -114,8 +138,8 @@ struct Refusals {
 }
 
 impl Refusals {
-    fn count(&mut self, seen: &Seen) {
-        if seen.is_ended {
+    fn count(&mut self, is_ended: bool) {
+        if is_ended {
             self.ended = self.ended.saturating_add(1);
         } else {
             self.went_on = self.went_on.saturating_add(1);
@@ -124,7 +148,7 @@ impl Refusals {
 }
 
 // Whether this is written for a script of which one line was refused.
-fn is_refused(heap: &Heap, run: &Run, written: &[u8]) -> Result<bool, Fail> {
+fn is_refused(heap: &Heap, run: &Run, written: &[u8]) -> Result<bool, Memory> {
     match refused_place(written) {
         Some(place) => Ok(written == wanted(heap, run, place)?.as_slice()),
         None => Ok(false),
@@ -132,7 +156,7 @@ fn is_refused(heap: &Heap, run: &Run, written: &[u8]) -> Result<bool, Fail> {
 }
 
 // What is to be written where the line at a place is refused.
-fn wanted(heap: &Heap, run: &Run, place: usize) -> Result<Vec<u8, Heap>, Fail> {
+fn wanted(heap: &Heap, run: &Run, place: usize) -> Result<Vec<u8, Heap>, Memory> {
     let script = without(heap, run.script, place)?;
     let seen = Way::Script.seen(heap, heap, run, script.as_slice())?;
     with_refusal(heap, seen.written.as_slice(), place)
@@ -176,7 +200,7 @@ fn refused_place(written: &[u8]) -> Option<usize> {
 }
 
 // A script without the line at a place.
-fn without(heap: &Heap, script: &[u8], place: usize) -> Result<Vec<u8, Heap>, Fail> {
+fn without(heap: &Heap, script: &[u8], place: usize) -> Result<Vec<u8, Heap>, Memory> {
     let mut left = Vec::new(heap.clone()?);
     let mut rest = script;
     for at in 0..MAX_LINES {
@@ -190,7 +214,7 @@ fn without(heap: &Heap, script: &[u8], place: usize) -> Result<Vec<u8, Heap>, Fa
 }
 
 // What is written, with the refusal as the answer at a place.
-fn with_refusal(heap: &Heap, written: &[u8], place: usize) -> Result<Vec<u8, Heap>, Fail> {
+fn with_refusal(heap: &Heap, written: &[u8], place: usize) -> Result<Vec<u8, Heap>, Memory> {
     let mut all = Vec::new(heap.clone()?);
     let mut rest = written;
     let mut answers: usize = 0;
@@ -212,7 +236,7 @@ fn with_refusal(heap: &Heap, written: &[u8], place: usize) -> Result<Vec<u8, Hea
 }
 
 // What is wrong with a script; no text where nothing is.
-fn fault_of_script(alloc: Global, run: &Run) -> Result<&'static str, Fail> {
+fn fault_of_script(alloc: Global, run: &Run) -> Result<&'static str, Memory> {
     match Way::Script.refusals(alloc, run, run.answers)? {
         None => Ok("what was written"),
         Some(refusals) if refusals.ended == 0 => Ok("no run that was not made"),
@@ -222,7 +246,7 @@ fn fault_of_script(alloc: Global, run: &Run) -> Result<&'static str, Fail> {
 }
 
 // What is wrong with the audit of a script; no text where nothing is.
-fn fault_of_audit(alloc: Global, run: &Run) -> Result<&'static str, Fail> {
+fn fault_of_audit(alloc: Global, run: &Run) -> Result<&'static str, Memory> {
     let free = Heap::unlimited(alloc);
     let whole = Way::Audit.seen(&free, &free, run, run.script)?;
     match Way::Audit.refusals(alloc, run, whole.written.as_slice())? {
@@ -235,15 +259,12 @@ fn fault_of_audit(alloc: Global, run: &Run) -> Result<&'static str, Fail> {
 #[test]
 fn scripts_with_each_growth_refused(rt: HostRuntime) -> Result<(), Fail> {
     for row in &ROWS {
-        assert_eq!(rt;
-            fault_of_script(rt.alloc(), &standard(row))?,
-            "",
-            "{}",
-            row.0
-        );
+        let fault = fault_of_script(rt.alloc(), &standard(row))?;
+        assert_eq!(rt; fault, "", "{}", row.0);
     }
     for run in &RUNS {
-        assert_eq!(rt; fault_of_script(rt.alloc(), run)?, "", "{}", run.name);
+        let fault = fault_of_script(rt.alloc(), run)?;
+        assert_eq!(rt; fault, "", "{}", run.name);
     }
     Ok(())
 }
@@ -251,15 +272,12 @@ fn scripts_with_each_growth_refused(rt: HostRuntime) -> Result<(), Fail> {
 #[test]
 fn audits_with_each_growth_refused(rt: HostRuntime) -> Result<(), Fail> {
     for row in &ROWS {
-        assert_eq!(rt;
-            fault_of_audit(rt.alloc(), &standard(row))?,
-            "",
-            "{}",
-            row.0
-        );
+        let fault = fault_of_audit(rt.alloc(), &standard(row))?;
+        assert_eq!(rt; fault, "", "{}", row.0);
     }
     for run in &RUNS {
-        assert_eq!(rt; fault_of_audit(rt.alloc(), run)?, "", "{}", run.name);
+        let fault = fault_of_audit(rt.alloc(), run)?;
+        assert_eq!(rt; fault, "", "{}", run.name);
     }
     Ok(())
 }

@@ -1,9 +1,10 @@
 //! The worked runs: each a script for the standard configuration and what is written for it.
 
 use crate::script::run_script;
-use crate::tests::unlimited;
+use rx_heap::{Heap, Memory};
 use rx_server::Config;
 use rx_session::SessionEnd;
+use std::alloc::Global;
 use std::io::{self, ErrorKind, Read, Write};
 use std::test::Fail;
 
@@ -16,14 +17,26 @@ const FIRST_ANSWERS: &[u8] = b"OK 0\nOK\nOK\nOK\ns 0 NEXT a\nOK\nOK\ns 0 NEXT b\
 
 // Runs a script over the standard configuration.
 fn run<R: Read, W: Write>(
-    rt: &HostRuntime,
+    alloc: Global,
     reader: &mut R,
     writer: &mut W,
     max_reads: u64,
-) -> Result<SessionEnd, Fail> {
-    let heap = unlimited(rt);
-    let config = Config::standard(heap.clone()?)?;
-    Ok(run_script(heap, config, reader, writer, max_reads)?)
+) -> Result<SessionEnd, Memory> {
+    let config = Config::standard(Heap::unlimited(alloc))?;
+    run_script(Heap::unlimited(alloc), config, reader, writer, max_reads)
+}
+
+/// How a script ended, and what was written for it.
+#[derive(Drop)]
+struct Ran {
+    end: SessionEnd,
+    written: Vec<u8>,
+}
+
+fn run_of<R: Read>(alloc: Global, reader: &mut R, max_reads: u64) -> Result<Ran, Memory> {
+    let mut written = Vec::new(alloc);
+    let end = run(alloc, reader, &mut written, max_reads)?;
+    Ok(Ran { end, written })
 }
 
 /// A worked run: its name, its script, and what is written for it.
@@ -78,10 +91,9 @@ pub(super) const ROWS: [Row; 10] = [
 fn worked_runs(rt: HostRuntime) -> Result<(), Fail> {
     for (name, script, answers) in &ROWS {
         let mut reader = *script;
-        let mut written = Vec::new(rt.alloc());
-        let end = run(&rt, &mut reader, &mut written, MAX_READS)?;
-        assert_eq!(rt; end, SessionEnd::EndOfInput, "{name}");
-        assert_eq!(rt; written.as_slice(), *answers, "{name}");
+        let ran = run_of(rt.alloc(), &mut reader, MAX_READS)?;
+        assert_eq!(rt; ran.end, SessionEnd::EndOfInput, "{name}");
+        assert_eq!(rt; ran.written.as_slice(), *answers, "{name}");
     }
     Ok(())
 }
@@ -112,43 +124,50 @@ impl Read for Drips {
     }
 }
 
+const STEPS: [usize; 5] = [1, 2, 3, 7, 64];
+
 #[test]
 fn reads_are_cut_anywhere(rt: HostRuntime) -> Result<(), Fail> {
-    for step in [1, 2, 3, 7, 64] {
+    for step in &STEPS {
         let mut reader = Drips {
             rest: FIRST_RUN,
-            step,
+            step: *step,
             interrupted: 0,
             fails_at: 0,
             reads: 0,
         };
-        let mut written = Vec::new(rt.alloc());
-        let end = run(&rt, &mut reader, &mut written, MAX_READS)?;
-        assert_eq!(rt; end, SessionEnd::EndOfInput, "by {step}");
-        assert_eq!(rt; written.as_slice(), FIRST_ANSWERS, "by {step}");
+        let ran = run_of(rt.alloc(), &mut reader, MAX_READS)?;
+        assert_eq!(rt; ran.end, SessionEnd::EndOfInput, "by {step}");
+        assert_eq!(rt; ran.written.as_slice(), FIRST_ANSWERS, "by {step}");
     }
     Ok(())
 }
 
+// The most reads, the one that fails, how the script ends, and what is written.
+const INTERRUPTED: [(u64, u64, SessionEnd, &str); 3] = [
+    (3, 0, SessionEnd::Quit, "OK\n"),
+    (2, 0, SessionEnd::TooManyReads, ""),
+    (9, 3, SessionEnd::ReadFault, ""),
+];
+
 #[test]
 fn interrupted_reads(rt: HostRuntime) -> Result<(), Fail> {
-    for (max_reads, fails_at, wanted, answers) in [
-        (3, 0, SessionEnd::Quit, b"OK\n".as_slice()),
-        (2, 0, SessionEnd::TooManyReads, b"".as_slice()),
-        (9, 3, SessionEnd::ReadFault, b"".as_slice()),
-    ] {
+    for (max_reads, fails_at, end, answers) in &INTERRUPTED {
         let mut reader = Drips {
             rest: b"QUIT\n",
             step: 16,
             interrupted: 2,
-            fails_at,
+            fails_at: *fails_at,
             reads: 0,
         };
-        let mut written = Vec::new(rt.alloc());
-        let end = run(&rt, &mut reader, &mut written, max_reads)?;
-        assert_eq!(rt; end, wanted, "{max_reads} reads");
-        assert_eq!(rt; written.as_slice(), answers, "{max_reads} reads");
-        assert!(rt; reader.reads <= max_reads);
+        let ran = run_of(rt.alloc(), &mut reader, *max_reads)?;
+        assert_eq!(rt; ran.end, *end, "{max_reads} reads");
+        assert_eq!(rt;
+            ran.written.as_slice(),
+            answers.as_bytes(),
+            "{max_reads} reads"
+        );
+        assert!(rt; reader.reads <= *max_reads);
     }
     Ok(())
 }
@@ -175,49 +194,62 @@ impl Write for Full {
     }
 }
 
+// Runs the first script with a writer of so much room.
+fn run_in(alloc: Global, room: usize) -> Result<Ran, Memory> {
+    let mut writer = Full {
+        taken: Vec::new(alloc),
+        room,
+    };
+    let mut reader = FIRST_RUN;
+    let end = run(alloc, &mut reader, &mut writer, MAX_READS)?;
+    Ok(Ran {
+        end,
+        written: writer.taken,
+    })
+}
+
 #[test]
 fn writer_fails_at_each_byte(rt: HostRuntime) -> Result<(), Fail> {
     for room in 0..FIRST_ANSWERS.len() {
-        let mut reader = FIRST_RUN;
-        let mut writer = Full {
-            taken: Vec::new(rt.alloc()),
-            room,
-        };
-        let end = run(&rt, &mut reader, &mut writer, MAX_READS)?;
-        assert_eq!(rt; end, SessionEnd::WriteFault, "at {room}");
-        assert_eq!(rt;
-            writer.taken.as_slice(),
-            &FIRST_ANSWERS[..room],
-            "at {room}"
-        );
+        let ran = run_in(rt.alloc(), room)?;
+        assert_eq!(rt; ran.end, SessionEnd::WriteFault, "at {room}");
+        assert_eq!(rt; ran.written.as_slice(), &FIRST_ANSWERS[..room], "at {room}");
     }
     Ok(())
 }
 
-#[test]
-fn limits_of_a_line(rt: HostRuntime) -> Result<(), Fail> {
-    let mut script = Vec::new(rt.alloc());
-    for (len, end) in [
-        (1100, b"\n".as_slice()),
-        (1101, b"\n".as_slice()),
-        (1100, b"\r\n".as_slice()),
-        (40000, b"\n".as_slice()),
-    ] {
-        for _ in 0..len {
-            script.push(b'x')?;
-        }
-        script.extend_from_slice(end)?;
-    }
-    script.extend_from_slice(b"PUB S ")?;
-    for _ in 0..1025 {
+fn put_filled(script: &mut Vec<u8>, front: &[u8], len: usize, end: &[u8]) -> Result<(), Memory> {
+    script.extend_from_slice(front)?;
+    for _ in 0..len {
         script.push(b'x')?;
     }
-    script.extend_from_slice(b"\nPUB s a\nPUB s b")?;
-    let mut reader = script.as_slice();
-    let mut written = Vec::new(rt.alloc());
-    let end = run(&rt, &mut reader, &mut written, MAX_READS)?;
-    assert_eq!(rt; end, SessionEnd::EndOfInput);
+    script.extend_from_slice(end)?;
+    Ok(())
+}
+
+// Lines of letters x: what stands before them, how many they are, and how the line ends.
+const FILLED: [(&str, usize, &str); 5] = [
+    ("", 1100, "\n"),
+    ("", 1101, "\n"),
+    ("", 1100, "\r\n"),
+    ("", 40000, "\n"),
+    ("PUB S ", 1025, "\nPUB s a\nPUB s b"),
+];
+
+fn script_of_long_lines(alloc: Global) -> Result<Vec<u8>, Memory> {
+    let mut script = Vec::new(alloc);
+    for (front, len, end) in &FILLED {
+        put_filled(&mut script, front.as_bytes(), *len, end.as_bytes())?;
+    }
+    Ok(script)
+}
+
+#[test]
+fn limits_of_a_line(rt: HostRuntime) -> Result<(), Fail> {
+    let script = script_of_long_lines(rt.alloc())?;
+    let ran = run_of(rt.alloc(), &mut script.as_slice(), MAX_READS)?;
+    assert_eq!(rt; ran.end, SessionEnd::EndOfInput);
     let answers = b"ERR SYNTAX\nERR LONG\nERR SYNTAX\nERR LONG\nERR SYNTAX\nOK\n";
-    assert_eq!(rt; written.as_slice(), answers.as_slice());
+    assert_eq!(rt; ran.written.as_slice(), answers.as_slice());
     Ok(())
 }

@@ -17,10 +17,10 @@ answered : (words : List Text) (kind : ErrorKind) (status : ℕ) (left written_o
 answered words kind status left written_old written_new told_old told_new against answers = elim answers [
   | inl help ↦ elim against [
     | inl memory ↦ absurd (no_help kind memory help.0)
-    | inr is ↦ inl (help.1.0, inr (inl (kind, is, help.0, help.1.1, refl)), help.1.2)
+    | inr is ↦ inl (help.1.0, told_old, inr (inl (kind, is, help.0, help.1.1, refl, refl)), help.1.2)
   ]
   | inr others ↦ elim others [
-    | inl lacks ↦ inl (Err faults.Memory, inr (inr (refl, (refl, lacks.1))), lacks.2)
+    | inl lacks ↦ inl (Err faults.Memory, told_old, inr (inr (refl, (refl, lacks.1), refl)), lacks.2)
     | inr wrong ↦ elim against [
       | inl memory ↦ absurd (wrong.1 memory)
       | inr is ↦ inr (wrong.2, ((kind, is, wrong.0, wrong.1), (refl, wrong.3)))
