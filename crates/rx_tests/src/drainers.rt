@@ -1,7 +1,7 @@
 //! Sinks and drainers: what a line sink writes, a drainer whose sink fails at each of its notes, also with each growth refused
 //! in its turn, and two drainers that are at work at the same time.
 //!
-//! What a drainer did is told by the notes that its sink took, `|`, and what it sent its subject: `R` and `D` with the observer
+//! What a drainer did is told by the notes that its sink took, `|`, and what it sent its subject: `r` and `d` with the observer
 //! for a request of one item and for a disposal, `.` for the Bye. `!` alone is told where there was no memory for the drainer.
 
 ghost use Rattle.std.specs.Prelude.{◌≡◌, []};
@@ -141,8 +141,8 @@ fn filled<S: Sink>(
 
 fn put_event(told: &mut Vec<u8, Heap>, event: &Event) -> Result<(), Fail> {
     let (sign, who) = match event {
-        Event::Request { who, n: 1 } => (b'R', *who),
-        Event::Dispose { who } => (b'D', *who),
+        Event::Request { who, n: 1 } => (b'r', *who),
+        Event::Dispose { who } => (b'd', *who),
         _ => (b'?', 0),
     };
     told.push(sign)?;
@@ -210,11 +210,11 @@ fn told_of(
 fn drainer_with_a_failing_sink(rt: HostRuntime) -> Result<(), Fail> {
     let heap = unlimited(&rt);
     for (fail_at, wanted) in [
-        (Some(0), "|D0."),
-        (Some(1), "a|R0D0."),
-        (Some(2), "ab|R0R0D0."),
-        (Some(3), "abc|R0R0R0D0."),
-        (None, "abc|R0R0R0D0."),
+        (Some(0), "|d0."),
+        (Some(1), "a|r0d0."),
+        (Some(2), "ab|r0r0d0."),
+        (Some(3), "abc|r0r0r0d0."),
+        (None, "abc|r0r0r0d0."),
     ] {
         let told = told_of(&rt, &heap, &heap, fail_at)?;
         assert_eq!(rt; told.text.as_slice(), wanted.as_bytes());
@@ -231,12 +231,12 @@ impl<R: Wait + Abort> Refusable for Drain<R> {
     fn run_by(&self, free: &Heap, tight: &Heap) -> Result<Seen, Fail> {
         let told = told_of(&self.0, free, tight, None)?;
         let text = told.text.as_slice();
-        let failed = text == b"|D0.".as_slice();
+        let failed = text == b"|d0.".as_slice();
         Ok(Seen {
             is_made: text != b"!".as_slice(),
             misses: u64::from(failed),
             is_right: told.misses <= 1
-                && (failed || text == b"!".as_slice() || text == b"abc|R0R0R0D0.".as_slice()),
+                && (failed || text == b"!".as_slice() || text == b"abc|r0r0r0d0.".as_slice()),
         })
     }
 }
