@@ -1,5 +1,5 @@
 -- What a subject keeps of the last items of a tape, by their stamps.
-use Rattle.std.proofs.Common.{◌≡◌, ℕ, zero, suc, ◌-◌, ◌≤◌, ◌≢◌, max, Bool, true, false, cond, List, [], ◌∷◌, ◌++◌, length, take, drop, Option, None, Some, is_some, refl, sym, ap, ◌∙◌, arith}
+use Rattle.std.proofs.Common.{◌≡◌, ℕ, zero, suc, ◌-◌, ◌≤◌, ◌≢◌, max, Bool, true, false, cond, List, [], ◌∷◌, ◌++◌, length, take, drop, Option, None, Some, is_some, refl, sym, ap, ◌∙◌, arith, append_assoc, append-nil}
 use Rattle.std.proofs.lemmas.List.{length-append, length-drop, take_all}
 use Rattle.rx_note.specs.declared.item.Item.{Item}
 use Rattle.rx_note.specs.declared.kind.Kind.{Kind}
@@ -7,12 +7,12 @@ use Rattle.rx_note.specs.declared.kind.Kind.TheVariants.{Publish, Behavior, Asyn
 use Rattle.rx_note.specs.declared.note.Note.{Note}
 use Rattle.rx_note.specs.declared.note.Note.TheVariants.{Next, Completed, Failed}
 use Rattle.rx_note.specs.declared.text.Text.{Text}
-use Rattle.rx_history.specs.Histories.{Stamped, unstamped, is_young, at_most, or_else, seed_item, terminal_in, item_in}
-use Rattle.rx_tape.specs.Tapes.{last_items}
+use Rattle.rx_history.specs.Histories.{Stamped, unstamped, is_young, at_most, or_else, seed_item, terminal_in, item_in, offers_by}
+use Rattle.rx_tape.specs.Tapes.{TapeState, pushed, last_items}
 use Rattle.rx_tape.proofs.Lasts.{none_back, lasts-more, fewer_last}
 use Rattle.rx_subject.specs.Windows.{count_kept, age_kept, from_young}
 use Rattle.rx_subject.specs.Subjects.{items_by, window_with, after_item, after_end, after_join}
-use Rattle.rx_subject.specs.TapeSubjects.{TapeSubjectState, subject_on, taped, paired, last_stamped, window_on, old_count, beyond}
+use Rattle.rx_subject.specs.TapeSubjects.{TapeSubjectState, subject_on, taped, paired, last_stamped, window_on, old_count, beyond, pushed_all}
 use Rattle.rx_subject.proofs.Keeping.{from_young-none}
 
 -- ITEMS WITH THEIR STAMPS
@@ -249,3 +249,33 @@ all_open kind terminal end count age items own stamps now n kind_is ended h n_is
     ∙ sym (last_unstamped items stamps h)
     ∙ ap (λ k. items_by k (Some end) (window_on k items own stamps) now) (sym kind_is)
     ∙ ap (λ e. items_by kind e (window_on kind items own stamps) now) (sym ended)
+
+-- WHAT IS OFFERED ON THE TAPE
+
+-- an item stands on the tape where it is offered at once
+pub taped-offered : (kind : Kind) (last : List Item) (port : ℕ) (item : Item) → taped kind port (Next item) ≡ offers_by kind last port (Next item)
+taped-offered Publish last port item = refl
+taped-offered (Behavior seed) last port item = refl
+taped-offered Async last port item = refl
+taped-offered (Replay count age) last port item = refl
+
+-- what an end offers is what the subject keeps itself
+pub ended-offers : (kind : Kind) (items : List Item) (own : List Stamped) (stamps : List ℕ) (port : ℕ) (note : Note)
+    → offers_by kind (unstamped (take 1 (window_on kind items own stamps))) port note ≡ offers_by kind (unstamped (take 1 own)) port note
+ended-offers Publish items own stamps port note = refl
+ended-offers (Behavior seed) items own stamps port note = refl
+ended-offers Async items own stamps port note = refl
+ended-offers (Replay count age) items own stamps port note = refl
+
+-- what an end puts on the tape is no item that the subject keeps there
+pub window_ended : (kind : Kind) (items last : List Item) (own : List Stamped) (stamps : List ℕ) (port : ℕ) (note : Note) → terminal_in note ≡ Some note
+    → window_on kind (items ++ offers_by kind last port note) own stamps ≡ window_on kind items own stamps
+window_ended Publish items last own stamps port note is = ap (λ more. last_stamped (items ++ more) stamps) (no_item_in port note is) ∙ ap (λ xs. last_stamped xs stamps) (append-nil items)
+window_ended (Behavior seed) items last own stamps port note is = ap (λ more. last_stamped (items ++ more) stamps) (no_item_in port note is) ∙ ap (λ xs. last_stamped xs stamps) (append-nil items)
+window_ended Async items last own stamps port note is = refl
+window_ended (Replay count age) items last own stamps port note is = ap (λ more. last_stamped (items ++ more) stamps) (no_item_in port note is) ∙ ap (λ xs. last_stamped xs stamps) (append-nil items)
+
+-- the items of a tape with several more
+pub pushed_items : (tape : TapeState) (more : List Item) → (pushed_all tape more).items ≡ tape.items ++ more
+pushed_items tape [] = sym (append-nil tape.items)
+pushed_items tape (item ∷ more) = pushed_items (pushed tape item) more ∙ append_assoc tape.items (item ∷ []) more

@@ -27,10 +27,13 @@ pub record StandsFor (subject : SubjectState) (rules : Rules) (H : History) : Ty
   pub stamp_is : subject.clock ≡ stamp rules H
   pub window_is : subject.window ≡ window_of rules H
 
--- what a note from a port offers, by what the subject keeps: its signals
+-- the items that a note from a port offers, by what the subject keeps
+abbrev pub offered_by : SubjectState → ℕ → Note → List Item
+offered_by subject port note = offers_by subject.kind (unstamped (take 1 subject.window)) port note
+
+-- and its signals: these items, and then the end
 abbrev pub signals_by : SubjectState → ℕ → Note → List Signal
-signals_by subject port note =
-    map Offered (offers_by subject.kind (unstamped (take 1 subject.window)) port note) ++ ended_by (terminal_in note)
+signals_by subject port note = map Offered (offered_by subject port note) ++ ended_by (terminal_in note)
 
 -- the items that a joiner is offered at a moment, by the kind, the end and what is kept
 abbrev pub items_by : Kind → Option Note → List Stamped → ℕ → List Item

@@ -8,7 +8,7 @@ ghost use Rattle.rx_note.specs.Choices.{Choice};
 ghost use Rattle.rx_history.specs.Histories.{History, NoEvents, ◌▹◌, terminal_in, may_join, signalled};
 ghost use Rattle.rx_tape.specs.Tapes.{pushed, waits};
 ghost use Rattle.rx_subject.specs.Offers.{offer_signals};
-ghost use Rattle.rx_subject.specs.Subjects.{StandsFor, signals_by, items_by, after_item, after_end, after_join};
+ghost use Rattle.rx_subject.specs.Subjects.{StandsFor, signals_by, offered_by, items_by, after_item, after_end, after_join};
 ghost use Rattle.rx_subject.specs.TapeSubjects.{TapeSubjectState, tape_subject_at_first, subject_on, taped, pushed_all, TapeOpens};
 
 use crate::offer::Offer;
@@ -99,10 +99,45 @@ impl TapeSubject {
         }
     }
 
+    /// Takes a note as `admit` does, and puts each item that it offers on the tape: of Async the last one, at completion. It
+    /// hands out no copies, for `preview` tells what is offered. Refused alike.
+    pub fn admit_offered(
+        &mut self,
+        port: u32,
+        note: Note,
+        at: u64,
+        tape: &mut Tape,
+    ) -> Result<(), AdmitError>
+        requires { length self.old.stamps ≤ length tape.old.items }
+        ensures ended { (result ≡ Err AdmitError.Ended) ↔ (is_some self.old.terminal ≡ true) }
+        ensures err { OnErr result ((self.new ≡ self.old) × (tape.new ≡ tape.old)) }
+        ensures stands { OnOk result ((rules : Rules) (H : History) → StandsFor (subject_on tape.old.items self.old) rules H
+            → StandsFor (subject_on tape.new.items self.new) rules (H ▹ (port, Emit note at))) }
+        ensures tape { OnOk result (tape.new ≡ pushed_all tape.old (offered_by (subject_on tape.old.items self.old) port note)) }
+        ensures within { length self.new.stamps ≤ length tape.new.items }
+        ensures kind { self.new.kind ≡ self.old.kind }
+    {
+        if self.is_ended() {
+            return Err(AdmitError::Ended);
+        }
+        match note {
+            Note::Next(Item { from: _, text }) => {
+                self.keep_item(Item { from: port, text }, at, tape)?;
+            }
+            terminal => {
+                let last = last_offered(&self.kind, &self.own, &terminal)?;
+                put_on(tape, last)?;
+                self.keep_end(terminal, at);
+            }
+        }
+        Ok(())
+    }
+
     /// What `admit` would offer, refused alike; the texts are shared. Nothing is changed.
     pub fn preview(&self, port: u32, note: &Note) -> Result<Offer, AdmitError>
         ensures ended { (result ≡ Err AdmitError.Ended) ↔ (is_some self.now.terminal ≡ true) }
         ensures offers { (items : List Item) → IfOk result (λ offer. offer_signals offer ≡ signals_by (subject_on items self.now) port note.now) }
+        ensures item { (items : List Item) → IfOk result (λ offer. option_to_list offer.item ≡ offered_by (subject_on items self.now) port note.now) }
     {
         if self.is_ended() {
             return Err(AdmitError::Ended);
@@ -188,25 +223,34 @@ impl TapeSubject {
         ensures tape { OnOk result (tape.new ≡ pushed_all tape.old (taped self.old.kind item.from (Next item))) }
         ensures within { length self.new.stamps ≤ length tape.new.items }
     {
+        let offered = item_offered(&self.kind, item.from, &item)?;
+        self.keep_item(item, at, tape)?;
+        Ok(Offer {
+            item: offered,
+            end: None,
+        })
+    }
+
+    // Keeps an item, of Async by itself and else on the tape.
+    fn keep_item(&mut self, item: Item, at: u64, tape: &mut Tape) -> Result<(), Memory>
+        requires { length self.old.stamps ≤ length tape.old.items }
+        ensures err { OnErr result ((self.new ≡ self.old) × (tape.new ≡ tape.old)) }
+        ensures state { OnOk result (subject_on tape.new.items self.new ≡ after_item (subject_on tape.old.items self.old) item at) }
+        ensures tape { OnOk result (tape.new ≡ pushed_all tape.old (taped self.old.kind item.from (Next item))) }
+        ensures within { length self.new.stamps ≤ length tape.new.items }
+    {
         let stamp = self.stamp.max(at);
         if is_async(&self.kind) {
             self.own.push(Kept { item, stamp });
             self.stamp = stamp;
-            return Ok(Offer {
-                item: None,
-                end: None,
-            });
+            return Ok(());
         }
-        let offered = item_offered(&self.kind, item.from, &item)?;
         reserve_stamp(&mut self.stamps)?;
         tape.push(item)?;
         self.stamp = stamp;
         keep_stamp(&mut self.stamps, stamp, count_kept(&self.kind));
         drop_old_stamps(&mut self.stamps, age_kept(&self.kind), stamp);
-        Ok(Offer {
-            item: offered,
-            end: None,
-        })
+        Ok(())
     }
 
     // Takes the end.
@@ -218,10 +262,18 @@ impl TapeSubject {
     {
         let item = last_offered(&self.kind, &self.own, &terminal)?;
         let end = Some(terminal.copy()?);
+        self.keep_end(terminal, at);
+        Ok(Offer { item, end })
+    }
+
+    // Keeps the end.
+    fn keep_end(&mut self, terminal: Note, at: u64)
+        ensures state { (items : List Item) → length self.old.stamps ≤ length items → subject_on items self.new ≡ after_end (subject_on items self.old) terminal at }
+        ensures within { length self.new.stamps ≤ length self.old.stamps }
+    {
         self.stamp = self.stamp.max(at);
         drop_old_stamps(&mut self.stamps, age_kept(&self.kind), self.stamp);
         self.terminal = Some(terminal);
-        Ok(Offer { item, end })
     }
 
     // The lead of a joiner at a moment, and how many of the tape's last items it is offered.
@@ -250,4 +302,15 @@ fn is_async(kind: &Kind) -> bool
     ensures { (result ≡ true) ↔ (kind.now ≡ Async) }
 {
     matches!(kind, Kind::Async)
+}
+
+// Puts an item, if there is one, on the tape.
+fn put_on(tape: &mut Tape, item: Option<Item>) -> Result<(), Memory>
+    ensures ok { OnOk result (tape.new ≡ pushed_all tape.old (option_to_list item)) }
+    ensures err { OnErr result (tape.new ≡ tape.old) }
+{
+    if let Some(item) = item {
+        tape.push(item)?;
+    }
+    Ok(())
 }

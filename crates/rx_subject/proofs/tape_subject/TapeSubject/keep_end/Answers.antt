@@ -3,7 +3,7 @@ use Rattle.rx_subject.specs.Subjects.{after_end}
 use Rattle.rx_subject.specs.Windows.{stamped_of}
 use Rattle.rx_subject.specs.TapeSubjects.{TapeSubjectState, subject_on, old_count}
 use Rattle.rx_subject.proofs.Taped.{ended_on}
-use Rattle.rx_subject.proofs.tape_subject.TapeSubject.admit_end.Goals as goal
+use Rattle.rx_subject.proofs.tape_subject.TapeSubject.keep_end.Goals as goal
 
 pub returns-clause-state : goal.returns-clause-state
 returns-clause-state c = λ items within.

@@ -5,7 +5,7 @@ use Rattle.rx_subject.specs.Subjects.{after_item}
 use Rattle.rx_subject.specs.Windows.{stamped_of}
 use Rattle.rx_subject.specs.TapeSubjects.{TapeSubjectState, subject_on, old_count, beyond}
 use Rattle.rx_subject.proofs.Taped.{item_on}
-use Rattle.rx_subject.proofs.tape_subject.TapeSubject.admit_item.Goals as goal
+use Rattle.rx_subject.proofs.tape_subject.TapeSubject.keep_item.Goals as goal
 
 pub returns-clause-state : goal.returns-clause-state
 returns-clause-state c =
