@@ -139,6 +139,8 @@ impl TapeLane {
         ensures err { OnErr result ((self.new ≡ self.old) × (tape.new ≡ tape.old) × (outs.new.items ≡ outs.old.items)) }
         ensures gives { OnOk result (GivesInto (lane_on tape.old.items self.old) (Requested n) outs.old.items outs.new.items) }
         ensures stands { OnOk result (GoesOn (lane_on tape.old.items self.old) (lane_on tape.new.items self.new) (Requested n)) }
+        ensures count { length outs.new.items
+            ≤ length outs.old.items + min (self.old.owing + n) (length (option_to_list self.old.lead) + self.old.back) + 1 }
         ensures stands_back { StandsBack tape.old self.old.cursor self.old.back → StandsBack tape.new self.new.cursor self.new.back }
         ensures stands_where { StandsWhereSome tape.new self.new.cursor self.new.back }
         ensures cursor { self.new.cursor ≡ self.old.cursor }
@@ -225,6 +227,22 @@ impl TapeLane {
         }
         self.last = Some(note);
         None
+    }
+
+    /// Ends the lane as `end` does, and moves its cursor past what waits no more.
+    pub fn end_on(&mut self, note: Note, tape: &mut Tape) -> Option<Note>
+        requires { StandsBack tape.old self.old.cursor self.old.back }
+        ensures gives { Gives (lane_on tape.old.items self.old) (Ended note) (option_to_list result) }
+        ensures stands { GoesOn (lane_on tape.old.items self.old) (lane_on tape.new.items self.new) (Ended note) }
+        ensures stands_back { StandsBack tape.new self.new.cursor self.new.back }
+        ensures cursor { self.new.cursor ≡ self.old.cursor }
+        ensures spares { Spares tape.old tape.new self.old.cursor }
+    {
+        let waited = self.waiting.back;
+        let given = self.end(note);
+        let gone = waited - self.waiting.back;
+        tape.advance_by(self.waiting.cursor, gone);
+        given
     }
 
     /// Lets the lane go with what waits, and releases its cursor.

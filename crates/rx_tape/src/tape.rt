@@ -93,6 +93,13 @@ impl Tape {
         self.items.get(index)
     }
 
+    /// The item at an index, from the oldest that is left on; None at the end and beyond.
+    pub fn item(&self, index: usize) -> Option<&Item>
+        ensures { option_copied result ≡ slice_get self.now.items index }
+    {
+        self.items.get(index)
+    }
+
     /// How many items are ahead of a cursor; 0 for a number of no cursor.
     pub fn ahead_len(&self, cursor: u32) -> usize
         ensures { result ≡ length (ahead self.now cursor) }
