@@ -19,8 +19,10 @@ use Rattle.rx_note.specs.Signals.{Signals, ◌▸◌, Requested, owed}
 use Rattle.rx_history.specs.Histories.{History, ◌▹◌, joins, is_held, may_request, signals, addressed, owed_to, answer}
 use Rattle.rx_history.proofs.Numbers.{Rises, AllDiffer, held_rises, differ_before, differ_beyond}
 use Rattle.rx_subject.proofs.Standing.{stands_request}
-use Rattle.rx_hub.specs.declared.subscription.Subscription.{Subscription}
-use Rattle.rx_hub.specs.Subscriptions.{Observer, observer_of, observers_of, numbers, Asks, AsksInto}
+use Rattle.rx_note.specs.declared.strategy.Strategy.TheVariants.{Buffer}
+use Rattle.rx_note.specs.declared.errors.Errors.TheVariants.{Delay}
+use Rattle.rx_subject.specs.Subjects.{SubjectState}
+use Rattle.rx_hub.specs.Subscriptions.{Observer, numbers, Asks, AsksAt}
 use Rattle.rx_hub.specs.Hubs.{HubState, StandsFor, Steps, Misses, Takes}
 use Rattle.rx_hub.proofs.Quiet.{quiet, request_quiet, requested, and_false}
 use Rattle.rx_hub.proofs.Joining.{both_true, turned}
@@ -51,25 +53,24 @@ request_zero hub outs_so_far H port who n zero_n stands =
 
 -- NO OBSERVER OF THAT NUMBER
 
--- where no subscription has the number, it is not held
-unnamed : (who : ℕ) (subscriptions : List Subscription) → ((k : ℕ) (d : Subscription) → k < length subscriptions → ((get_or subscriptions k d).who == who) ≡ false)
-    → list_any (λ k. k == who) (numbers (observers_of subscriptions)) ≡ false
+-- where no observer has the number, it is not held
+unnamed : (who : ℕ) (observers : List Observer) → ((k : ℕ) (d : Observer) → k < length observers → ((get_or observers k d).who == who) ≡ false)
+    → list_any (λ k. k == who) (numbers observers) ≡ false
 unnamed who [] none = refl
-unnamed who (first ∷ subscriptions) none =
-    ap (λ b. b || list_any (λ k. k == who) (numbers (observers_of subscriptions))) (none 0 first (omega arith))
-    ∙ unnamed who subscriptions (λ k d lt. none (suc k) d (omega arith))
+unnamed who (first ∷ observers) none =
+    ap (λ b. b || list_any (λ k. k == who) (numbers observers)) (none 0 first (omega arith))
+    ∙ unnamed who observers (λ k d lt. none (suc k) d (omega arith))
 
 -- where no place has the number, it is not held
-pub absent : (who : ℕ) (subscriptions : List Subscription) → position (λ (s : Subscription). s.who == who) subscriptions ≡ None
-    → list_any (λ k. k == who) (numbers (observers_of subscriptions)) ≡ false
-absent who subscriptions none = unnamed who subscriptions (λ k d lt. position-None (λ (s : Subscription). s.who == who) subscriptions none k d lt)
+pub absent : (who : ℕ) (observers : List Observer) → position (λ (o : Observer). o.who == who) observers ≡ None
+    → list_any (λ k. k == who) (numbers observers) ≡ false
+absent who observers none = unnamed who observers (λ k d lt. position-None (λ (o : Observer). o.who == who) observers none k d lt)
 
-pub request_unheld : (hub : HubState) (subscriptions : List Subscription) (outs_so_far : List Given) (H : History) (port who n : ℕ)
-    → hub.observers ≡ observers_of subscriptions → 0 < n → position (λ (s : Subscription). s.who == who) subscriptions ≡ None → StandsFor hub H
+pub request_unheld : (hub : HubState) (outs_so_far : List Given) (H : History) (port who n : ℕ)
+    → 0 < n → position (λ (o : Observer). o.who == who) hub.observers ≡ None → StandsFor hub H
     → Steps hub hub outs_so_far outs_so_far (Err refused.NoObserver) H (port, Request who n)
-request_unheld hub subscriptions outs_so_far H port who n these more none stands =
-    let unheld : is_held hub.rules H who ≡ false =
-    ap (list_any (λ k. k == who)) (sym stands.held_are ∙ ap numbers these) ∙ absent who subscriptions none in
+request_unheld hub outs_so_far H port who n more none stands =
+    let unheld : is_held hub.rules H who ≡ false = ap (list_any (λ k. k == who)) (sym stands.held_are) ∙ absent who hub.observers none in
     quiet hub outs_so_far (Err refused.NoObserver) H (port, Request who n) stands
     (sym (told_more n (is_held hub.rules H who) (owed_to hub.rules H who) more
     ∙ ap (λ b. cond (not b) (Err refused.NoObserver) (cond (nat_le (owed_to hub.rules H who + n) 4294967295) (Ok Asked) (Err refused.TooMuch))) unheld))
@@ -186,72 +187,48 @@ request_taken hub new notes before after H port who n k d more few lt named asks
 
 -- THE SAME, AS THE CODE HAS THEM
 
--- the observer at a place of the subscriptions
-pub observer-at : (subscriptions : List Subscription) (k : ℕ) (old : Subscription) → k < length subscriptions → old ≡ get_or subscriptions k old
-    → get_or (observers_of subscriptions) k (observer_of old) ≡ observer_of old
-observer-at subscriptions k old lt at = get_or-map observer_of subscriptions k old (observer_of old) lt ∙ ap observer_of (sym at)
+-- an observer that stands for the places of no observer
+pub nobody : Observer
+nobody = record { who = 0; lane = record { policy = record { strategy = Buffer; errors = Delay }; items = []; last = []; ended = false; owing = 0 } }
 
 -- the number of the observer at the place
-pub named : (subscriptions : List Subscription) (who place : ℕ) (old : Subscription) → Some place ≡ position (λ (s : Subscription). s.who == who) subscriptions
-    → old ≡ get_or subscriptions place old → (place < length subscriptions) × (old.who ≡ who)
-named subscriptions who place old found at =
-    let is = position-Some (λ (s : Subscription). s.who == who) subscriptions place old (sym found) in
-    let same : ((get_or subscriptions place old).who == who) ≡ true = is.1 in
-    (is.0, ap (λ (s : Subscription). s.who) at ∙ grind (arith, nat_tests))
+pub named : (observers : List Observer) (who place : ℕ) (d : Observer) → Some place ≡ position (λ (o : Observer). o.who == who) observers
+    → (place < length observers) × ((get_or observers place d).who ≡ who)
+named observers who place d found =
+    let is = position-Some (λ (o : Observer). o.who == who) observers place d (sym found) in
+    let same : ((get_or observers place d).who == who) ≡ true = is.1 in
+    (is.0, grind (arith, nat_tests))
 
-pub request_more : (hub : HubState) (subscriptions : List Subscription) (news : List Observer) (outs_so_far after : List Given) (port who n k : ℕ) (old : Subscription)
-    → hub.observers ≡ observers_of subscriptions → k < length subscriptions → old ≡ get_or subscriptions k old → old.who ≡ who
-    → 0 < n → 4294967296 ≤ old.lane.state.owing + n → news ≡ hub.observers → after ≡ outs_so_far
-    → Takes hub (record hub { observers = news }) outs_so_far after (Err refused.TooMuch) (port, Request who n)
-request_more hub subscriptions news outs_so_far after port who n k old these lt at named more much same_news same_outs =
-    let is : get_or hub.observers k (observer_of old) ≡ observer_of old = ap (λ os. get_or os k (observer_of old)) these ∙ observer-at subscriptions k old lt at in
-    let within : k < length hub.observers = omega (arith, lt, ap length these, length-map subscriptions observer_of) in
-    let owing : (get_or hub.observers k (observer_of old)).lane.owing ≡ old.lane.state.owing = ap (λ (o : Observer). o.lane.owing) is in
-    record {
+pub request_more : (hub new : HubState) (outs_so_far after : List Given) (port who n k : ℕ) (d : Observer)
+    → k < length hub.observers → (get_or hub.observers k d).who ≡ who → 0 < n → 4294967296 ≤ (get_or hub.observers k d).lane.owing + n
+    → new ≡ hub → after ≡ outs_so_far → Takes hub new outs_so_far after (Err refused.TooMuch) (port, Request who n)
+request_more hub new outs_so_far after port who n k d lt named more much same_hub same_outs =
+    let Done : HubState → List Given → Type 0 = λ h gs. Takes hub h outs_so_far gs (Err refused.TooMuch) (port, Request who n) in
+    let done : Done hub outs_so_far = record { rules = refl; took = λ H stands. request_too_much hub outs_so_far H port who n k d more much lt named stands } in
+    subst (λ (gs : List Given). Done new gs) (sym same_outs) (subst (λ (h : HubState). Done h outs_so_far) (sym same_hub) done)
+
+pub request_done : (hub : HubState) (subject : SubjectState) (mids news : List Observer) (before after : List Given) (port who n k : ℕ) (d : Observer)
+    → k < length hub.observers → (get_or hub.observers k d).who ≡ who → 0 < n → (get_or hub.observers k d).lane.owing + n < 4294967296
+    → AsksAt hub.observers mids k d n before after → news ≡ mids → subject ≡ hub.subject
+    → Takes hub (record hub { subject = subject; observers = news }) before after (Ok Asked) (port, Request who n)
+request_done hub subject mids news before after port who n k d lt named more few asks same_news same_subject =
+    let Done : SubjectState → List Observer → Type 0 = λ s os. Takes hub (record hub { subject = s; observers = os }) before after (Ok Asked) (port, Request who n) in
+    let done : Done hub.subject (set hub.observers k asks.observer) = record {
       rules = refl;
       took = λ H stands.
-          let Done : List Observer → List Given → Type 0 =
-          λ os gs. Steps hub (record hub { observers = os }) outs_so_far gs (Err refused.TooMuch) H (port, Request who n) in
-          let done : Done hub.observers outs_so_far = request_too_much hub outs_so_far H port who n k (observer_of old) more (omega (arith, much, owing)) within
-          (ap (λ (o : Observer). o.who) is ∙ named) stands in
-          subst (λ (gs : List Given). Done news gs) (sym same_outs) (subst (λ (os : List Observer). Done os outs_so_far) (sym same_news) done);
-    }
+          request_taken hub asks.observer asks.asks.0 before after H port who n k d more few lt named asks.asks.2
+          (asks.asks.1 ∙ ap (λ w. before ++ addressed w asks.asks.0) named) stands;
+    } in
+    subst (λ (s : SubjectState). Done s news) (sym same_subject) (subst (λ (os : List Observer). Done hub.subject os) (sym (same_news ∙ asks.news_are)) done)
 
-pub request_done : (hub : HubState) (subscriptions : List Subscription) (news : List Observer) (before after : List Given) (port who n k : ℕ) (old new : Subscription)
-    → hub.observers ≡ observers_of subscriptions → k < length subscriptions → old ≡ get_or subscriptions k old → old.who ≡ who
-    → 0 < n → old.lane.state.owing + n < 4294967296 → AsksInto old new n before after → news ≡ observers_of (set subscriptions k new)
-    → Takes hub (record hub { observers = news }) before after (Ok Asked) (port, Request who n)
-request_done hub subscriptions news before after port who n k old new these lt at named more few asks set_news =
-    let is : get_or hub.observers k (observer_of old) ≡ observer_of old = ap (λ os. get_or os k (observer_of old)) these ∙ observer-at subscriptions k old lt at in
-    let within : k < length hub.observers = omega (arith, lt, ap length these, length-map subscriptions observer_of) in
-    let owing : (get_or hub.observers k (observer_of old)).lane.owing ≡ old.lane.state.owing = ap (λ (o : Observer). o.lane.owing) is in
-    let asked : Asks (get_or hub.observers k (observer_of old)) (observer_of new) n asks.0 = subst (λ (o : Observer). Asks o (observer_of new) n asks.0) (sym is) asks.2 in
-    record {
-      rules = refl;
-      took = λ H stands.
-          let Done : List Observer → Type 0 = λ os. Steps hub (record hub { observers = os }) before after (Ok Asked) H (port, Request who n) in
-          let done = request_taken hub (observer_of new) asks.0 before after H port who n k (observer_of old) more (omega (arith, few, owing)) within
-          (ap (λ (o : Observer). o.who) is ∙ named) asked (asks.1 ∙ ap (λ w. before ++ addressed w asks.0) named) stands in
-          subst Done (sym (set_news ∙ map-set observer_of subscriptions k new ∙ ap (λ os. set os k (observer_of new)) (sym these))) done;
-    }
-
-pub request_missed : (hub : HubState) (subscriptions : List Subscription) (news : List Observer) (outs_so_far after : List Given) (port who n k : ℕ) (old : Subscription)
-    → hub.observers ≡ observers_of subscriptions → k < length subscriptions → old ≡ get_or subscriptions k old → old.who ≡ who
-    → 0 < n → old.lane.state.owing + n < 4294967296 → news ≡ hub.observers → after ≡ outs_so_far
-    → Misses hub (record hub { observers = news }) outs_so_far after (port, Request who n)
-request_missed hub subscriptions news outs_so_far after port who n k old these lt at named more few same_news same_outs =
-    let is : get_or hub.observers k (observer_of old) ≡ observer_of old = ap (λ os. get_or os k (observer_of old)) these ∙ observer-at subscriptions k old lt at in
-    let within : k < length hub.observers = omega (arith, lt, ap length these, length-map subscriptions observer_of) in
-    let owing : (get_or hub.observers k (observer_of old)).lane.owing ≡ old.lane.state.owing = ap (λ (o : Observer). o.lane.owing) is in
-    record {
-      hub = ap (λ (os : List Observer). record hub { observers = os }) same_news;
-      given = same_outs;
-      accepted = λ H stands. (
-        refl,
-        ok_asked (answer hub.rules H (Request who n))
-            (request_accepted hub H who n k (observer_of old) more (omega (arith, few, owing)) within (ap (λ (o : Observer). o.who) is ∙ named) stands),
-      );
-    }
+pub request_missed : (hub new : HubState) (outs_so_far after : List Given) (port who n k : ℕ) (d : Observer)
+    → k < length hub.observers → (get_or hub.observers k d).who ≡ who → 0 < n → (get_or hub.observers k d).lane.owing + n < 4294967296
+    → new ≡ hub → after ≡ outs_so_far → Misses hub new outs_so_far after (port, Request who n)
+request_missed hub new outs_so_far after port who n k d lt named more few same_hub same_outs = record {
+  hub = same_hub;
+  given = same_outs;
+  accepted = λ H stands. (refl, ok_asked (answer hub.rules H (Request who n)) (request_accepted hub H who n k d more few lt named stands));
+}
   where
     ok_asked : (result : Result Answer Refusal) → result ≡ Ok Asked → IsOk result
     ok_asked (Ok answer) e = refl

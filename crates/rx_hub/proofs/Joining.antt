@@ -19,7 +19,7 @@ use Rattle.rx_lane.specs.Lanes.{LaneState}
 use Rattle.rx_lane.specs.Lanes as lanes
 use Rattle.rx_subject.specs.Subjects.{SubjectState}
 use Rattle.rx_subject.specs.Subjects as subjects
-use Rattle.rx_hub.specs.Subscriptions.{Observer, AllStand, StandsAt, Begins}
+use Rattle.rx_hub.specs.Subscriptions.{Observer, AllStand, StandsAt, Begins, OpensBy}
 use Rattle.rx_hub.specs.Hubs.{HubState, StandsFor, Steps, Takes}
 use Rattle.rx_hub.proofs.Tables.{gains, given_by, AllStand-same, AllStand-push, all_gains-differ}
 
@@ -46,12 +46,6 @@ both_true false c e f = cc
 abbrev pub TakesJoin : SubjectState → SubjectState → ℕ → Policy → ℕ → ℕ → Type 0
 TakesJoin old new port policy first at =
     (rules : Rules) (H : History) → may_join rules H ≡ true → subjects.StandsFor old rules H → subjects.StandsFor new rules (H ▹ (port, Join policy first at))
-
--- the signals are those that a joiner begins with, for every history that the subject stands for
-abbrev pub OpensBy : SubjectState → ℕ → List Signal → Type 0
-OpensBy subject at signals =
-    (rules : Rules) (H : History) → subjects.StandsFor subject rules H
-    → signals ≡ map Offered (opening_by rules.kind rules H (max (stamp rules H) at)) ++ ended_by (end_of H)
 
 -- an observer is accepted
 pub join_accepted : (hub : HubState) (subject : SubjectState) (lane : LaneState) (opening : List Signal) (notes : List Note) (before : List Given) (H : History) (port : ℕ) (policy : Policy) (first at : ℕ)

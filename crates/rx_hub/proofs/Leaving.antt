@@ -12,10 +12,10 @@ use Rattle.rx_history.specs.Histories.{History, ◌▹◌, joins, held, is_held,
 use Rattle.rx_history.proofs.Gaining.{absent_differ}
 use Rattle.rx_history.proofs.Numbers.{Rises, AllDiffer, held_rises, differ_before, differ_beyond}
 use Rattle.rx_subject.proofs.Standing.{stands_dispose}
-use Rattle.rx_hub.specs.declared.subscription.Subscription.{Subscription}
-use Rattle.rx_hub.specs.Subscriptions.{Observer, observer_of, observers_of, numbers, AllStand}
+use Rattle.rx_subject.specs.Subjects.{SubjectState}
+use Rattle.rx_hub.specs.Subscriptions.{Observer, numbers, AllStand}
 use Rattle.rx_hub.specs.Hubs.{HubState, StandsFor, Steps, Takes}
-use Rattle.rx_hub.proofs.Asking.{absent, held_at, observer-at}
+use Rattle.rx_hub.proofs.Asking.{absent, held_at}
 use Rattle.rx_hub.proofs.Quiet.{quiet}
 use Rattle.rx_hub.proofs.Tables.{all_gains-same}
 
@@ -61,12 +61,11 @@ AllStand-left table (observer ∷ observers) (suc k) all = (all.0, AllStand-left
 
 -- NO OBSERVER OF THAT NUMBER
 
-pub leave_unheld : (hub : HubState) (subscriptions : List Subscription) (outs_so_far : List Given) (H : History) (port who : ℕ)
-    → hub.observers ≡ observers_of subscriptions → position (λ (s : Subscription). s.who == who) subscriptions ≡ None → StandsFor hub H
+pub leave_unheld : (hub : HubState) (outs_so_far : List Given) (H : History) (port who : ℕ)
+    → position (λ (o : Observer). o.who == who) hub.observers ≡ None → StandsFor hub H
     → Steps hub hub outs_so_far outs_so_far (Err refused.NoObserver) H (port, Dispose who)
-leave_unheld hub subscriptions outs_so_far H port who these none stands =
-    let unheld : is_held hub.rules H who ≡ false =
-    ap (list_any (λ k. k == who)) (sym stands.held_are ∙ ap numbers these) ∙ absent who subscriptions none in
+leave_unheld hub outs_so_far H port who none stands =
+    let unheld : is_held hub.rules H who ≡ false = ap (list_any (λ k. k == who)) (sym stands.held_are) ∙ absent who hub.observers none in
     quiet hub outs_so_far (Err refused.NoObserver) H (port, Dispose who) stands
     (sym (ap (λ b. cond b (Ok Left) (Err refused.NoObserver)) unheld))
     (record {
@@ -105,20 +104,14 @@ leave_taken hub outs_so_far H port who k d lt named stands =
     }
 
 -- the same, as the code has it
-pub leave_done : (hub : HubState) (subscriptions news : List Subscription) (outs_so_far : List Given) (port who k : ℕ) (old : Subscription)
-    → hub.observers ≡ observers_of subscriptions → k < length subscriptions → old ≡ get_or subscriptions k old → old.who ≡ who
-    → news ≡ take k subscriptions ++ drop (k + 1) subscriptions
-    → Takes hub (record hub { observers = observers_of news }) outs_so_far outs_so_far (Ok Left) (port, Dispose who)
-leave_done hub subscriptions news outs_so_far port who k old these lt at named left_are =
-    let is : get_or hub.observers k (observer_of old) ≡ observer_of old = ap (λ os. get_or os k (observer_of old)) these ∙ observer-at subscriptions k old lt at in
-    let within : k < length hub.observers = omega (arith, lt, ap length these, length-map subscriptions observer_of) in
-    let same : observers_of news ≡ take k hub.observers ++ drop (suc k) hub.observers =
-    ap observers_of (left_are ∙ ap (λ n. take k subscriptions ++ drop n subscriptions) (add-one k))
-    ∙ map-left observer_of subscriptions k
-    ∙ ap (λ os. take k os ++ drop (suc k) os) (sym these) in
-    record {
+pub leave_done : (hub : HubState) (subject : SubjectState) (mids news : List Observer) (outs_so_far : List Given) (port who k : ℕ) (d : Observer)
+    → k < length hub.observers → (get_or hub.observers k d).who ≡ who → mids ≡ take k hub.observers ++ drop (k + 1) hub.observers → news ≡ mids → subject ≡ hub.subject
+    → Takes hub (record hub { subject = subject; observers = news }) outs_so_far outs_so_far (Ok Left) (port, Dispose who)
+leave_done hub subject mids news outs_so_far port who k d lt named left_are same_news same_subject =
+    let Done : SubjectState → List Observer → Type 0 = λ s os. Takes hub (record hub { subject = s; observers = os }) outs_so_far outs_so_far (Ok Left) (port, Dispose who) in
+    let same : news ≡ take k hub.observers ++ drop (suc k) hub.observers = same_news ∙ left_are ∙ ap (λ n. take k hub.observers ++ drop n hub.observers) (add-one k) in
+    let done : Done hub.subject (take k hub.observers ++ drop (suc k) hub.observers) = record {
       rules = refl;
-      took = λ H stands.
-          let Done : List Observer → Type 0 = λ os. Steps hub (record hub { observers = os }) outs_so_far outs_so_far (Ok Left) H (port, Dispose who) in
-          subst Done (sym same) (leave_taken hub outs_so_far H port who k (observer_of old) within (ap (λ (o : Observer). o.who) is ∙ named) stands);
-    }
+      took = λ H stands. leave_taken hub outs_so_far H port who k d lt named stands;
+    } in
+    subst (λ (s : SubjectState). Done s news) (sym same_subject) (subst (λ (os : List Observer). Done hub.subject os) (sym same) done)

@@ -3,9 +3,11 @@ pub mod Emitting
 pub mod Feeding
 pub mod Joining
 pub mod Leaving
+pub mod Places
 pub mod Positions
 pub mod Quiet
 pub mod Running
+pub mod Seats
 pub mod Serving
 pub mod Sharing
 pub mod Tables

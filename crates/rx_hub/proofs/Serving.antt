@@ -9,7 +9,9 @@ use Rattle.rx_note.specs.Choices.{Choice}
 use Rattle.rx_note.specs.Signals.{Signal, Requested, Offered, Signals, Start, ◌▸◌, terminal_of, given}
 use Rattle.rx_history.specs.Histories.{followed_by, addressed}
 use Rattle.rx_lane.specs.Lanes.{LaneState, StandsFor, MayFollow, Gives, GoesOn}
-use Rattle.rx_hub.specs.Subscriptions.{Serves, Begins}
+use Rattle.rx_lane.specs.TapeLanes.{offered_all}
+use Rattle.rx_lane.specs.TapeLanes as tape_lanes
+use Rattle.rx_hub.specs.Subscriptions.{Serves, Begins, BeginsInto}
 
 -- several signals, and then several more
 pub followed_by-append : (s : Signals) (xs ys : List Signal) → followed_by s (xs ++ ys) ≡ followed_by (followed_by s xs) ys
@@ -81,3 +83,34 @@ begun old new policy first signals notes stands serves = record {
   gives = serves.gives (Start policy ▸ Requested first) stands refl ∙ ap (λ ns. ns ++ notes) (nothing_given policy first);
   stands = serves.goes_on (Start policy ▸ Requested first) stands refl;
 }
+
+-- a joiner's queue that was then fed more
+pub begins_then : (mid new : LaneState) (policy : Choice) (first : ℕ) (xs ys : List Signal) (ns ms : List Note)
+    → ((s : Signals) → terminal_of (followed_by s xs) ≡ terminal_of s) → Begins mid policy first xs ns → Serves mid new ys ms → Begins new policy first (xs ++ ys) (ns ++ ms)
+begins_then mid new policy first xs ys ns ms unended_by begins then =
+    let start : Signals = Start policy ▸ Requested first in
+    let later : terminal_of (followed_by start xs) ≡ None = unended_by start in
+    let P : Signals → Type 0 = λ t. StandsFor new t in
+    record {
+      gives =
+          ap given (followed_by-append start xs ys) ∙ then.gives (followed_by start xs) begins.stands later ∙ ap (λ ns'. ns' ++ ms) begins.gives;
+      stands = subst P (sym (followed_by-append start xs ys)) (then.goes_on (followed_by start xs) begins.stands later);
+    }
+
+-- several items offered, as signals
+offered_as : (s : Signals) (items : List Item) → offered_all s items ≡ followed_by s (map Offered items)
+offered_as s [] = refl
+offered_as s (item ∷ items) = offered_as (s ▸ Offered item) items
+
+-- a joiner's queue on the tape
+pub begins_so : (lane : LaneState) (policy : Choice) (first : ℕ) (items : List Item) (before after : List Note)
+    → tape_lanes.BeginsInto lane policy first items before after → BeginsInto lane policy first (map Offered items) before after
+begins_so lane policy first items before after begins =
+    let same = offered_as (Start policy ▸ Requested first) items in (
+      begins.0,
+      begins.1,
+      record {
+        gives = ap given (sym same) ∙ begins.2.gives;
+        stands = subst (λ (s : Signals). StandsFor lane s) same begins.2.stands;
+      },
+    )

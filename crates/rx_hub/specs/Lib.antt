@@ -1,6 +1,7 @@
+pub mod Audiences
 pub mod Counts
 pub mod Hubs
 pub mod Multicasts
-pub mod Offers
 pub mod Runs
+pub mod Seats
 pub mod Subscriptions

@@ -2,17 +2,17 @@
 use Rattle.std.specs.Prelude.{[]}
 use Rattle.rx_note.specs.declared.rules.Rules.{Rules}
 use Rattle.rx_subject.specs.Subjects.{subject_at_first}
+use Rattle.rx_subject.specs.TapeSubjects.{subject_on}
 use Rattle.rx_hub.specs.declared.multicast.Multicast.{Multicast}
-use Rattle.rx_hub.specs.Subscriptions.{observers_of}
 use Rattle.rx_hub.specs.Hubs.{HubState}
 
--- the subject and its observers, without what they have room for
+-- the subject over the items of the tape, and its observers
 abbrev pub state_of : Multicast → HubState
 state_of multicast = record {
   rules = record { kind = multicast.subject.kind; limits = multicast.limits };
-  subject = multicast.subject;
+  subject = subject_on multicast.audience.items multicast.subject;
   joined = multicast.joins;
-  observers = observers_of multicast.subscriptions.items;
+  observers = multicast.audience.observers;
 }
 
 -- the state with no event yet

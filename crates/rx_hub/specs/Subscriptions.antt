@@ -1,25 +1,19 @@
 -- The observers that a hub holds, and the signals that their queues stand for.
-use Rattle.std.specs.Prelude.{◌≡◌, ℕ, List, [], ◌∷◌, ◌++◌, map, Option, Some, None}
+use Rattle.std.specs.Prelude.{◌≡◌, ℕ, max, List, [], ◌∷◌, ◌++◌, map, get_or, set, Option, Some, None}
 use Rattle.rx_note.specs.declared.given.Given.{Given}
 use Rattle.rx_note.specs.declared.note.Note.{Note}
-use Rattle.rx_note.specs.Signals.{Signal, Requested, Signals, Start, ◌▸◌, terminal_of, given}
+use Rattle.rx_note.specs.declared.rules.Rules.{Rules}
+use Rattle.rx_note.specs.Signals.{Signal, Requested, Offered, Signals, Start, ◌▸◌, terminal_of, given}
 use Rattle.rx_note.specs.Choices.{Choice}
-use Rattle.rx_history.specs.Histories.{followed_by, addressed}
-use Rattle.rx_lane.specs.Lanes.{LaneState, StandsFor, HasRoomFor}
-use Rattle.rx_hub.specs.declared.subscription.Subscription.{Subscription}
+use Rattle.rx_history.specs.Histories.{History, stamp, end_of, opening_by, ended_by, followed_by, addressed}
+use Rattle.rx_lane.specs.Lanes.{LaneState, StandsFor}
+use Rattle.rx_subject.specs.Subjects.{SubjectState}
+use Rattle.rx_subject.specs.Subjects as subjects
 
 -- an observer that is held: its number, and what waits in its queue
 pub record Observer : Type 0 where
   pub who : ℕ
   pub lane : LaneState
-
--- what contracts see of a subscription
-abbrev pub observer_of : Subscription → Observer
-observer_of subscription = record { who = subscription.who; lane = subscription.lane.state }
-
--- what contracts see of several
-abbrev pub observers_of : List Subscription → List Observer
-observers_of subscriptions = map observer_of subscriptions
 
 -- the numbers of several observers
 abbrev pub numbers : List Observer → List ℕ
@@ -47,9 +41,8 @@ pub record Feeds (old new : Observer) (signals : List Signal) (notes : List Note
   pub serves : Serves old.lane new.lane signals notes
 
 -- the same, where the notes were put at the end of a list, addressed to the observer
-abbrev pub FeedsInto : Subscription → Subscription → List Signal → List Given → List Given → Type 0
-FeedsInto old new signals before after =
-    (notes : List Note) × (after ≡ before ++ addressed old.who notes) × Feeds (observer_of old) (observer_of new) signals notes
+abbrev pub FeedsInto : Observer → Observer → List Signal → List Given → List Given → Type 0
+FeedsInto old new signals before after = (notes : List Note) × (after ≡ before ++ addressed old.who notes) × Feeds old new signals notes
 
 -- by a request for n items more exactly these notes are given to the observer
 pub record Asks (old new : Observer) (n : ℕ) (notes : List Note) : Type 0 where
@@ -58,18 +51,40 @@ pub record Asks (old new : Observer) (n : ℕ) (notes : List Note) : Type 0 wher
   pub goes_on : (s : Signals) → StandsFor old.lane s → StandsFor new.lane (s ▸ Requested n)
 
 -- the same, where the notes were put at the end of a list, addressed to the observer
-abbrev pub AsksInto : Subscription → Subscription → ℕ → List Given → List Given → Type 0
-AsksInto old new n before after =
-    (notes : List Note) × (after ≡ before ++ addressed old.who notes) × Asks (observer_of old) (observer_of new) n notes
+abbrev pub AsksInto : Observer → Observer → ℕ → List Given → List Given → Type 0
+AsksInto old new n before after = (notes : List Note) × (after ≡ before ++ addressed old.who notes) × Asks old new n notes
+
+-- the same of the observer at a place of several
+pub record AsksAt (olds news : List Observer) (place : ℕ) (default : Observer) (n : ℕ) (before after : List Given) : Type 0 where
+  pub observer : Observer
+  pub news_are : news ≡ set olds place observer
+  pub asks : AsksInto (get_or olds place default) observer n before after
 
 -- the queue of an observer that joins with this policy and request and is then offered these signals, and what it gives at once
 pub record Begins (lane : LaneState) (policy : Choice) (first : ℕ) (signals : List Signal) (notes : List Note) : Type 0 where
   pub gives : given (followed_by (Start policy ▸ Requested first) signals) ≡ notes
   pub stands : StandsFor lane (followed_by (Start policy ▸ Requested first) signals)
 
--- there is room for one item more in the queue
-abbrev pub HasRoom : Subscription → Type 0
-HasRoom subscription = HasRoomFor subscription.lane 1
+-- the same, where the notes were put at the end of a list
+abbrev pub BeginsInto : LaneState → Choice → ℕ → List Signal → List Note → List Note → Type 0
+BeginsInto lane policy first signals before after =
+    (notes : List Note) × (after ≡ before ++ notes) × Begins lane policy first signals notes
+
+-- the signals are those that a joiner begins with, for every history that the subject stands for
+abbrev pub OpensBy : SubjectState → ℕ → List Signal → Type 0
+OpensBy subject at signals =
+    (rules : Rules) (H : History) → subjects.StandsFor subject rules H
+    → signals ≡ map Offered (opening_by rules.kind rules H (max (stamp rules H) at)) ++ ended_by (end_of H)
+
+-- an observer joined that begins so, and what it gives at once was put at the end of a list
+pub record JoinsInto (olds news : List Observer) (who : ℕ) (policy : Choice) (first : ℕ) (subject : SubjectState) (at : ℕ) (before after : List Given) : Type 0 where
+  pub lane : LaneState
+  pub signals : List Signal
+  pub notes : List Note
+  pub news_are : news ≡ olds ++ record { who = who; lane = lane } ∷ []
+  pub opens : OpensBy subject at signals
+  pub begins : Begins lane policy first signals notes
+  pub given : after ≡ before ++ addressed who notes
 
 -- each observer was fed these signals, and these are the notes given, by rising place
 abbrev pub AllFed : List Signal → List Observer → List Observer → List Given → Type 0

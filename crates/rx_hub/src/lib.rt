@@ -5,10 +5,12 @@
 //! history and the event, and the hub then stands for the history with the event.
 #![tactic(auto)]
 
+mod audience;
 mod hub;
 mod multicast;
 mod no_observer;
 mod run;
+mod seat;
 mod step;
 mod subscription;
 

@@ -1,109 +1,130 @@
-ghost use Rattle.std.specs.Prelude.{◌≡◌, ◌+◌, ◌<◌, ◌≤◌, ◌^◌, ◌↔◌, ◌++◌, Err, map, option_to_list, OnOk, OnErr, vec_len, vec_capacity};
+ghost use Rattle.std.specs.Prelude.{◌≡◌, ◌+◌, ◌<◌, ◌≤◌, ◌^◌, ◌↔◌, ◌++◌, ℕ, List, true, false, Err, is_some, map, length, option_to_list, OnOk, OnErr, vec_len, vec_capacity};
+ghost use Rattle.rx_note.specs.declared.item.Item.{Item};
 ghost use Rattle.rx_note.specs.Signals.{Offered};
 ghost use Rattle.rx_history.specs.Histories.{addressed, ended_by};
-ghost use Rattle.rx_lane.specs.Lanes.{HasRoomFor, KeepsRoom};
 ghost use Rattle.rx_subject.specs.Offers.{offer_signals};
-ghost use Rattle.rx_hub.specs.Subscriptions.{FeedsInto, AsksInto, HasRoom, Serves, observer_of};
+ghost use Rattle.rx_hub.specs.Seats.{lane_of, cursor_of, Stands, Leaves, needed, IsReady};
+ghost use Rattle.rx_hub.specs.Subscriptions.{Serves, FeedsInto, AsksInto};
 
+use crate::seat::Seat;
 use rx_heap::{Heap, Memory};
-use rx_lane::{AskError, Lane};
-use rx_note::{Given, Item, Note};
-use rx_subject::{Offer, Opening};
+use rx_lane::AskError;
+use rx_note::{Given, Item, Note, copy_of};
+use rx_subject::Offer;
+use rx_tape::Tape;
 
-/// An observer that is held: its number and its queue.
+/// An observer that is held: its number and its seat.
 #[derive(Drop)]
 pub(crate) struct Subscription {
     pub(crate) who: u32,
-    pub(crate) lane: Lane,
+    pub(crate) seat: Seat,
+    // The copies of what is being offered, between the two passes of an emission.
+    pub(crate) ready: Offer,
 }
 
 impl Subscription {
-    /// Makes room for one item more in the queue.
-    pub(crate) fn reserve(&mut self) -> Result<(), Memory>
-        ensures state { observer_of self.new ≡ observer_of self.old }
-        ensures room { OnOk result (HasRoom self.new) }
-    {
-        self.lane.reserve(1)
-    }
+    ghost use Rattle.rx_hub.specs.Audiences.{place_of, observer_on};
 
-    /// Puts at the end of `outs` what an offer gives to the observer at once.
-    pub(crate) fn feed(&mut self, offer: Offer, outs: &mut Vec<Given, Heap>)
-        requires lane_room { HasRoom self.old }
-        requires outs_room { vec_len outs.old + 2 ≤ vec_capacity outs.old }
-        ensures fed { FeedsInto self.old self.new (offer_signals offer) outs.old.items outs.new.items }
-        ensures len { vec_len outs.new ≤ vec_len outs.old + 2 }
-        ensures capacity { vec_capacity outs.new ≡ vec_capacity outs.old }
+    /// An observer in a seat.
+    pub(crate) fn new(who: u32, seat: Seat) -> Subscription
+        ensures { place_of result ≡ record { who = who; seat = seat } }
     {
-        let Offer { item, end } = offer;
-        let note = offer_to(&mut self.lane, item);
-        give(self.who, note, outs);
-        let note = end_by(&mut self.lane, end);
-        give(self.who, note, outs);
-    }
-
-    /// Puts at the end of `outs` what an opening gives to the observer at once.
-    pub(crate) fn begin(&mut self, opening: Opening, outs: &mut Vec<Given, Heap>)
-        requires lane_room { HasRoomFor self.old.lane (vec_len opening.items) }
-        requires outs_room { vec_len outs.old + vec_len opening.items + 1 ≤ vec_capacity outs.old }
-        ensures { FeedsInto self.old self.new (map Offered opening.items.items ++ ended_by opening.end) outs.old.items outs.new.items }
-    {
-        let Opening { items, end } = opening;
-        self.offer_all(items, outs);
-        let note = end_by(&mut self.lane, end);
-        give(self.who, note, outs);
-    }
-
-    // Puts at the end of `outs` what several items give to the observer at once.
-    fn offer_all(&mut self, items: Vec<Item, Heap>, outs: &mut Vec<Given, Heap>)
-        requires lane_room { HasRoomFor self.old.lane (vec_len items) }
-        requires outs_room { vec_len outs.old + vec_len items ≤ vec_capacity outs.old }
-        ensures fed { FeedsInto self.old self.new (map Offered items.items) outs.old.items outs.new.items }
-        ensures len { vec_len outs.new ≤ vec_len outs.old + vec_len items }
-        ensures capacity { vec_capacity outs.new ≡ vec_capacity outs.old }
-    {
-        for item in items {
-            let note = offer_to(&mut self.lane, Some(item));
-            give(self.who, note, outs);
+        Subscription {
+            who,
+            seat,
+            ready: Offer {
+                item: None,
+                end: None,
+            },
         }
     }
 
+    /// Makes ready the copies that an offer takes.
+    pub(crate) fn prepare(&mut self, offer: &Offer) -> Result<(), Memory>
+        ensures place { place_of self.new ≡ place_of self.old }
+        ensures ready { OnOk result (IsReady offer.now self.new.ready self.new.seat) }
+    {
+        self.ready.item = self.seat.copy(&offer.item)?;
+        self.ready.end = copy_of(&offer.end)?;
+        Ok(())
+    }
+
+    /// Puts at the end of `outs` what an offer gives to the observer at once. Its item is the last of the tape.
+    #[inline(always)]
+    pub(crate) fn feed(&mut self, offer: &Offer, tape: &mut Tape, outs: &mut Vec<Given, Heap>)
+        requires stands { Stands tape.old (is_some offer.now.item) self.old.seat }
+        requires ready { IsReady offer.now self.old.ready self.old.seat }
+        requires room { vec_len outs.old + 2 ≤ vec_capacity outs.old }
+        ensures fed { (items : List Item) → tape.old.items ≡ items ++ option_to_list offer.now.item
+            → FeedsInto (observer_on items (place_of self.old)) (observer_on tape.new.items (place_of self.new)) (offer_signals offer.now) outs.old.items outs.new.items }
+        ensures stands { Stands tape.new false self.new.seat }
+        ensures cursor { cursor_of self.new.seat ≡ cursor_of self.old.seat }
+        ensures leaves { Leaves tape.old tape.new (cursor_of self.old.seat) }
+        ensures len { vec_len outs.new ≤ vec_len outs.old + 2 }
+        ensures capacity { vec_capacity outs.new ≡ vec_capacity outs.old }
+    {
+        let copy = self.ready.item.take();
+        let end = self.ready.end.take();
+        let note = offer_to(&mut self.seat, &offer.item, copy, tape);
+        give(self.who, note, outs);
+        let note = end_by(&mut self.seat, end, tape);
+        give(self.who, note, outs);
+    }
+
     /// Adds a request, and puts at the end of `outs` what is then given. Refused as the queue does, which leaves both.
-    pub(crate) fn ask(&mut self, n: u32, outs: &mut Vec<Given, Heap>) -> Result<(), AskError>
+    pub(crate) fn ask(
+        &mut self,
+        n: u32,
+        tape: &mut Tape,
+        notes: &mut Vec<Note, Heap>,
+        outs: &mut Vec<Given, Heap>,
+    ) -> Result<(), AskError>
+        requires { Stands tape.old false self.old.seat }
         ensures zero { (result ≡ Err AskError.ZeroRequest) ↔ (n ≡ 0) }
-        ensures too_much { (result ≡ Err AskError.TooMuch)
-            ↔ ((0 < n) × (2 ^ 32 ≤ self.old.lane.state.owing + n)) }
-        ensures err { OnErr result ((observer_of self.new ≡ observer_of self.old) × (outs.new.items ≡ outs.old.items)) }
-        ensures asked { OnOk result (AsksInto self.old self.new n outs.old.items outs.new.items) }
+        ensures too_much { (result ≡ Err AskError.TooMuch) ↔ ((0 < n) × (2 ^ 32 ≤ (lane_of tape.old.items self.old.seat).owing + n)) }
+        ensures err { OnErr result ((observer_on tape.new.items (place_of self.new) ≡ observer_on tape.old.items (place_of self.old)) × (outs.new.items ≡ outs.old.items)) }
+        ensures asked { OnOk result (AsksInto (observer_on tape.old.items (place_of self.old)) (observer_on tape.new.items (place_of self.new)) n outs.old.items outs.new.items) }
+        ensures stands { Stands tape.new false self.new.seat }
+        ensures cursor { cursor_of self.new.seat ≡ cursor_of self.old.seat }
+        ensures leaves { Leaves tape.old tape.new (cursor_of self.old.seat) }
     {
         if n == 0 {
             return Err(AskError::ZeroRequest);
         }
-        let Some(owed) = self.lane.owed().checked_add(n) else {
+        let Some(owed) = self.seat.owed().checked_add(n) else {
             return Err(AskError::TooMuch);
         };
-        let most = self.lane.waiting_len().min(owed as usize);
+        let most = self.seat.waiting_len().min(owed as usize);
         let Ok(()) = outs.reserve(most + 1) else {
             return Err(AskError::Memory);
         };
-        let Ok(heap) = outs.allocator().clone() else {
-            return Err(AskError::Memory);
-        };
-        let mut notes = Vec::new(heap);
-        self.lane.ask(n, &mut notes)?;
+        notes.clear();
+        self.seat.ask(n, tape, notes)?;
         give_all(self.who, notes, outs);
         Ok(())
     }
 }
 
-// Offers an item, if there is one, and answers the note that it gives at once. It stands on the path of every emission,
-// once for each observer.
+// Offers the last item of the tape, where there is an item, and answers the note that it gives at once. It stands on the
+// path of every emission, once for each observer.
 #[inline(always)]
-fn offer_to(lane: &mut Lane, item: Option<Item>) -> Option<Note>
-    requires { HasRoomFor lane.old 1 }
-    ensures serves { Serves lane.old.state lane.new.state (map Offered (option_to_list item)) (option_to_list result) }
-    ensures room { KeepsRoom lane.old lane.new 1 }
+fn offer_to(
+    seat: &mut Seat,
+    item: &Option<Item>,
+    copy: Option<Item>,
+    tape: &mut Tape,
+) -> Option<Note>
+    requires { Stands tape.old (is_some item.now) seat.old }
+    ensures serves { (items : List Item) → tape.old.items ≡ items ++ option_to_list item.now → copy ≡ needed seat.old item.now
+        → Serves (lane_of items seat.old) (lane_of tape.new.items seat.new) (map Offered (option_to_list item.now)) (option_to_list result) }
+    ensures stands { Stands tape.new false seat.new }
+    ensures cursor { cursor_of seat.new ≡ cursor_of seat.old }
+    ensures leaves { Leaves tape.old tape.new (cursor_of seat.old) }
 {
-    match lane.offer(item?) {
+    if item.is_none() {
+        return None;
+    }
+    match seat.offer(copy, tape) {
         Some(item) => Some(Note::Next(item)),
         None => None,
     }
@@ -111,15 +132,19 @@ fn offer_to(lane: &mut Lane, item: Option<Item>) -> Option<Note>
 
 // Ends a queue by a terminal, if there is one, and answers it where it is given at once.
 #[inline(always)]
-fn end_by(lane: &mut Lane, end: Option<Note>) -> Option<Note>
-    ensures { Serves lane.old.state lane.new.state (ended_by end) (option_to_list result) }
+pub(crate) fn end_by(seat: &mut Seat, end: Option<Note>, tape: &mut Tape) -> Option<Note>
+    requires { Stands tape.old false seat.old }
+    ensures serves { Serves (lane_of tape.old.items seat.old) (lane_of tape.new.items seat.new) (ended_by end) (option_to_list result) }
+    ensures stands { Stands tape.new false seat.new }
+    ensures cursor { cursor_of seat.new ≡ cursor_of seat.old }
+    ensures leaves { Leaves tape.old tape.new (cursor_of seat.old) }
 {
-    lane.end(end?)
+    seat.end(end?, tape)
 }
 
 // Puts a note, if there is one, at the end of `outs`, for an observer.
 #[inline(always)]
-fn give(who: u32, note: Option<Note>, outs: &mut Vec<Given, Heap>)
+pub(crate) fn give(who: u32, note: Option<Note>, outs: &mut Vec<Given, Heap>)
     requires { vec_len outs.old < vec_capacity outs.old }
     ensures items { outs.new.items ≡ outs.old.items ++ addressed who (option_to_list note) }
     ensures len { vec_len outs.new ≤ vec_len outs.old + 1 }
@@ -130,12 +155,14 @@ fn give(who: u32, note: Option<Note>, outs: &mut Vec<Given, Heap>)
     }
 }
 
-// Puts several notes at the end of `outs`, for an observer.
-fn give_all(who: u32, notes: Vec<Note, Heap>, outs: &mut Vec<Given, Heap>)
-    requires { vec_len outs.old + vec_len notes ≤ vec_capacity outs.old }
-    ensures { outs.new.items ≡ outs.old.items ++ addressed who notes.items }
+// Moves several notes to the end of `outs`, for an observer.
+pub(crate) fn give_all(who: u32, notes: &mut Vec<Note, Heap>, outs: &mut Vec<Given, Heap>)
+    requires { vec_len outs.old + vec_len notes.old ≤ vec_capacity outs.old }
+    ensures items { outs.new.items ≡ outs.old.items ++ addressed who notes.old.items }
+    ensures len { vec_len outs.new ≡ vec_len outs.old + vec_len notes.old }
+    ensures capacity { vec_capacity outs.new ≡ vec_capacity outs.old }
 {
-    for note in notes {
+    for note in notes.drain(..) {
         outs.push_reserved(Given { who, note });
     }
 }

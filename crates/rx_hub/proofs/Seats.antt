@@ -1,0 +1,87 @@
+-- Seats on a tape: what others do to the tape leaves them as they are.
+use Rattle.std.proofs.Common.{◌≡◌, ◌≢◌, ℕ, ◌+◌, ◌-◌, ◌≤◌, Bool, true, false, List, ◌++◌, length, drop, Option, Some, option_to_list, refl, sym, ap, ◌∙◌, arith}
+use Rattle.std.proofs.lemmas.List.{length-drop, drop-drop}
+use Rattle.rx_note.specs.declared.item.Item.{Item}
+use Rattle.rx_tape.specs.Tapes.{TapeState, end_of, place_of, last_items, pushed, passed, trimmed, Spares}
+use Rattle.rx_tape.proofs.Lows.{lowest-le}
+use Rattle.rx_lane.specs.TapeLanes.{StandsBack, HoldsSame}
+use Rattle.rx_lane.proofs.Shared.{pushed_on}
+use Rattle.rx_hub.specs.declared.seat.Seat.{Seat}
+use Rattle.rx_hub.specs.declared.seat.Seat.TheVariants.{Shared, Own}
+use Rattle.rx_hub.specs.Seats.{lane_of, cursor_of, Stands, Leaves}
+
+-- a cursor that did not move stands as it did
+pub back_same : {old new : TapeState} {cursor back : ℕ} → new.front ≡ old.front → new.items ≡ old.items → place_of new.places cursor ≡ place_of old.places cursor
+    → StandsBack old cursor back → StandsBack new cursor back
+back_same {old = old} {new = new} {cursor = cursor} {back = back} front items place stands =
+    let long = ap length items in
+    let same : end_of old - back ≡ end_of new - back = omega (arith, front, long) in
+    record { within = omega (arith, long, stands.within); place = place ∙ stands.place ∙ ap (λ (n : ℕ). Some n) same }
+
+-- a seat whose cursor is another
+pub unmoved : (old new : TapeState) (offered : Bool) (moved : Option ℕ) (seat : Seat) → Leaves old new moved → ((cursor : ℕ) → cursor_of seat ≡ Some cursor → moved ≢ Some cursor)
+    → Stands old offered seat → Stands new offered seat
+unmoved old new offered moved (Shared lane) leaves other stands = back_same leaves.front leaves.items (leaves.others lane.cursor (other lane.cursor refl)) stands
+unmoved old new offered moved (Own lane) leaves other stands = stands
+
+-- a tape on which every cursor stands where it stood
+pub held : (old new : TapeState) (offered : Bool) (seat : Seat) → HoldsSame old new → Stands old offered seat → Stands new offered seat
+held old new offered (Shared lane) same stands = back_same same.front same.items (same.places lane.cursor) stands
+held old new offered (Own lane) same stands = stands
+
+-- one cursor moved, and moved again
+pub leaves_then : (a b c : TapeState) (moved : Option ℕ) → Leaves a b moved → Leaves b c moved → Leaves a c moved
+leaves_then a b c moved first then = record {
+  front = then.front ∙ first.front;
+  items = then.items ∙ first.items;
+  others = λ other differ. then.others other differ ∙ first.others other differ;
+}
+
+-- a lane that spares the others leaves them
+pub leaves_others : (old new : TapeState) (cursor : ℕ) → Spares old new cursor → Leaves old new (Some cursor)
+leaves_others old new cursor spares = record {
+  front = spares.front;
+  items = spares.items;
+  others = λ other differ. spares.others other (λ e. differ (ap (λ (n : ℕ). Some n) (sym e)));
+}
+
+-- an item more on the tape
+pub offered_on : (tape : TapeState) (item : Item) (seat : Seat) → Stands tape false seat → Stands (pushed tape item) true seat
+offered_on tape item (Shared lane) stands = pushed_on tape item lane.cursor lane.back stands
+offered_on tape item (Own lane) stands = stands
+
+-- WHAT IS REMOVED
+
+-- the last items stay that are to be kept
+pub lasts_kept : (items : List Item) (gone count : ℕ) → gone + count ≤ length items → last_items (drop gone items) count ≡ last_items items count
+lasts_kept items gone count h =
+    let left = length-drop gone items in
+    let same : gone + (length (drop gone items) - count) ≡ length items - count = omega (arith, left, h) in
+    drop-drop (length (drop gone items) - count) gone items ∙ ap (λ n. drop n items) same
+
+-- and so do those that a cursor waits for
+pub back_passed : (tape : TapeState) (keep cursor back : ℕ) → StandsBack tape cursor back → passed tape keep + back ≤ length tape.items
+back_passed tape keep cursor back stands =
+    let low = lowest-le tape.places (end_of tape) cursor (end_of tape - back) stands.place in
+    omega (arith, low, stands.within)
+
+pub trimmed_back : (tape : TapeState) (keep cursor back : ℕ) → StandsBack tape cursor back → StandsBack (trimmed tape keep) cursor back
+trimmed_back tape keep cursor back stands =
+    let h = back_passed tape keep cursor back stands in
+    let left = length-drop (passed tape keep) tape.items in
+    let same : end_of tape - back ≡ end_of (trimmed tape keep) - back = omega (arith, left, h) in
+    record { within = omega (arith, left, h); place = stands.place ∙ ap (λ (n : ℕ). Some n) same }
+
+pub trimmed_seat : (tape : TapeState) (keep : ℕ) (seat : Seat) → Stands tape false seat → Stands (trimmed tape keep) false seat
+trimmed_seat tape keep (Shared lane) stands = trimmed_back tape keep lane.cursor lane.back stands
+trimmed_seat tape keep (Own lane) stands = stands
+
+pub trimmed_lane : (tape : TapeState) (keep : ℕ) (seat : Seat) → Stands tape false seat → lane_of (trimmed tape keep).items seat ≡ lane_of tape.items seat
+trimmed_lane tape keep (Shared lane) stands =
+    let waiting = ap (λ rest. option_to_list lane.lead ++ rest) (lasts_kept tape.items (passed tape keep) lane.back (back_passed tape keep lane.cursor lane.back stands)) in
+    ap (λ (items : List Item). record { policy = lane.policy; items = items; last = lane.last; ended = lane.ended; owing = lane.owing }) waiting
+trimmed_lane tape keep (Own lane) stands = refl
+
+-- so are those that the subject keeps
+pub keep_passed : (tape : TapeState) (keep count : ℕ) → count ≤ keep → count ≤ length tape.items → passed tape keep + count ≤ length tape.items
+keep_passed tape keep count le within = omega (arith, le, within)

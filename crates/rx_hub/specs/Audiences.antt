@@ -1,0 +1,51 @@
+-- Several observers on one tape: what contracts see of them, and how their cursors stand.
+use Rattle.std.specs.Prelude.{◌≡◌, ℕ, Bool, List, [], map, get_or, Option, None, Some}
+use Rattle.std.specs.List.{All}
+use Rattle.rx_note.specs.declared.item.Item.{Item}
+use Rattle.rx_tape.specs.Tapes.{TapeState}
+use Rattle.rx_hub.specs.declared.seat.Seat.{Seat}
+use Rattle.rx_hub.specs.declared.subscription.Subscription.{Subscription}
+use Rattle.rx_hub.specs.Seats.{lane_of, cursor_of, Stands}
+use Rattle.rx_hub.specs.Subscriptions.{Observer}
+
+-- an observer's number and its seat
+pub record Place : Type 0 where
+  pub who : ℕ
+  pub seat : Seat
+
+-- the place of a subscription
+abbrev pub place_of : Subscription → Place
+place_of subscription = record { who = subscription.who; seat = subscription.seat }
+
+-- the places of several
+abbrev pub places_of : List Subscription → List Place
+places_of subscriptions = map place_of subscriptions
+
+-- the observer at a place, over the items of the tape
+abbrev pub observer_on : List Item → Place → Observer
+observer_on items place = record { who = place.who; lane = lane_of items place.seat }
+
+-- the observers at several
+abbrev pub observers_on : List Item → List Place → List Observer
+observers_on items places = map (observer_on items) places
+
+-- each seat stands on the tape
+abbrev pub AllOn : TapeState → Bool → List Place → Type 0
+AllOn tape offered places = All (λ place. Stands tape offered place.seat) places
+
+-- the cursors of several places
+abbrev pub cursors : List Place → List (Option ℕ)
+cursors places = map (λ place. cursor_of place.seat) places
+
+-- no two places have one cursor
+abbrev pub Apart : List Place → Type 0
+Apart places = (j k cursor : ℕ) → get_or (cursors places) j None ≡ Some cursor → get_or (cursors places) k None ≡ Some cursor → j ≡ k
+
+-- the items of the tape and the observers
+pub record AudienceState : Type 0 where
+  pub items : List Item
+  pub observers : List Observer
+
+-- no item and no observer
+abbrev pub audience_at_first : AudienceState
+audience_at_first = record { items = []; observers = [] }

@@ -1,0 +1,50 @@
+-- Where what waits for an observer stands: on the tape that the observers share, or in a queue of its own.
+use Rattle.std.specs.Prelude.{◌≡◌, ◌≢◌, ℕ, ◌+◌, Bool, true, false, List, Option, None, Some}
+use Rattle.rx_note.specs.declared.item.Item.{Item}
+use Rattle.rx_tape.specs.Tapes.{TapeState, place_of}
+use Rattle.rx_lane.specs.Lanes.{LaneState, HasRoomFor}
+use Rattle.rx_lane.specs.TapeLanes.{StandsBack, lane_on, copy_for}
+use Rattle.rx_subject.specs.declared.offer.Offer.{Offer}
+use Rattle.rx_hub.specs.declared.seat.Seat.{Seat}
+use Rattle.rx_hub.specs.declared.seat.Seat.TheVariants.{Shared, Own}
+
+-- the queue of a seat, over the items of the tape
+abbrev pub lane_of : List Item → Seat → LaneState
+lane_of items (Shared lane) = lane_on items lane
+lane_of items (Own lane) = lane.state
+
+-- the cursor of a seat
+abbrev pub cursor_of : Seat → Option ℕ
+cursor_of (Shared lane) = Some lane.cursor
+cursor_of (Own lane) = None
+
+-- how many of the tape's last items are before the end: those that wait, and one more where one is being offered
+abbrev pub back_by : Bool → ℕ → ℕ
+back_by true back = back + 1
+back_by false back = back
+
+-- the cursor stands before the end by these; a queue of its own never needs room
+abbrev pub Stands : TapeState → Bool → Seat → Type 0
+Stands tape offered (Shared lane) = StandsBack tape lane.cursor (back_by offered lane.back)
+Stands tape offered (Own lane) = (count : ℕ) → HasRoomFor lane count
+
+-- the tape has its items, and no cursor but this one moved
+pub record Leaves (old new : TapeState) (cursor : Option ℕ) : Type 0 where
+  pub front : new.front ≡ old.front
+  pub items : new.items ≡ old.items
+  pub others : (other : ℕ) → cursor ≢ Some other → place_of new.places other ≡ place_of old.places other
+
+-- the copy of an item that its offer takes: on the tape one is needed where the item is owed
+abbrev pub copy_needed : Seat → Item → Option Item
+copy_needed (Shared lane) item = copy_for lane.owing item
+copy_needed (Own lane) item = Some item
+
+-- the same, where there may be no item
+abbrev pub needed : Seat → Option Item → Option Item
+needed seat None = None
+needed seat (Some item) = copy_needed seat item
+
+-- these are the copies that the seat needs of an offer
+pub record IsReady (offer ready : Offer) (seat : Seat) : Type 0 where
+  pub item : ready.item ≡ needed seat offer.item
+  pub end : ready.end ≡ offer.end

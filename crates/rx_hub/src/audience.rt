@@ -1,0 +1,226 @@
+ghost use Rattle.std.specs.Prelude.{◌≡◌, ◌+◌, ◌*◌, ◌<◌, ◌≤◌, ◌^◌, ◌↔◌, ◌==◌, ◌++◌, ℕ, List, Err, length, take, drop, get_or, position, is_some, option_to_list, false, IfOk, OnOk, OnErr, vec_len, vec_capacity};
+ghost use Rattle.std.specs.List.{All};
+ghost use Rattle.rx_note.specs.declared.event.Event.TheVariants.{Emit};
+ghost use Rattle.rx_note.specs.declared.item.Item.{Item};
+ghost use Rattle.rx_note.specs.declared.rules.Rules.{Rules};
+ghost use Rattle.rx_note.specs.Signals.{Signals, waiting};
+ghost use Rattle.rx_history.specs.Histories.{History, ◌▹◌};
+ghost use Rattle.rx_tape.specs.Tapes.{last_items};
+ghost use Rattle.rx_lane.specs.Lanes as lanes;
+ghost use Rattle.rx_subject.specs.Offers.{offer_signals};
+ghost use Rattle.rx_subject.specs.Subjects.{signals_by};
+ghost use Rattle.rx_subject.specs.Subjects as subjects;
+ghost use Rattle.rx_subject.specs.TapeSubjects.{subject_on};
+ghost use Rattle.rx_hub.specs.Seats.{IsReady};
+ghost use Rattle.rx_hub.specs.Subscriptions.{Observer, AllFedInto, AsksAt, JoinsInto};
+ghost use Rattle.rx_hub.specs.Audiences.{places_of, observers_on, AllOn, Apart, cursors, audience_at_first};
+
+use crate::seat::Seat;
+use crate::subscription::{Subscription, end_by, give, give_all};
+use rx_heap::{Heap, Memory};
+use rx_lane::AskError;
+use rx_note::{Given, Note, Policy};
+use rx_subject::{Offer, TapeOpening, TapeSubject};
+use rx_tape::Tape;
+use std::marker::Model;
+
+/// The observers of a subject, by rising number, and the tape that they share. Contracts see the items of the tape and what
+/// waits for each observer.
+#[derive(Drop)]
+pub(crate) struct Audience {
+    tape: Tape,
+    subscriptions: Vec<Subscription, Heap>,
+    // What one observer is given in a step. Its room is kept from step to step.
+    notes: Vec<Note, Heap>,
+}
+
+impl Model for Audience {
+    ghost use Rattle.std.specs.Prelude.{false};
+    ghost use Rattle.rx_hub.specs.Audiences.{AudienceState, places_of, observers_on, AllOn, Apart};
+
+    ghost Value = { AudienceState };
+
+    ghost view = { λ a. record { items = a.tape.items; observers = observers_on a.tape.items (places_of a.subscriptions.items) } };
+
+    ghost invariant = { λ a. AllOn a.tape false (places_of a.subscriptions.items) × Apart (places_of a.subscriptions.items) };
+}
+
+impl Audience {
+    /// A tape with no item and room for so many observers.
+    pub(crate) fn new(alloc: Heap, most: usize) -> Result<Audience, Memory>
+        ensures { IfOk result (λ audience. audience ≡ audience_at_first) }
+    {
+        let subscriptions = Vec::with_capacity(alloc.clone()?, most)?;
+        let notes = Vec::new(alloc.clone()?);
+        Ok(Audience {
+            tape: Tape::new(alloc),
+            subscriptions,
+            notes,
+        })
+    }
+
+    /// How many observers are held.
+    pub(crate) fn len(&self) -> usize
+        ensures { result ≡ length self.now.observers }
+    {
+        self.subscriptions.len()
+    }
+
+    /// The place of the observer of this number.
+    pub(crate) fn place_of(&self, who: u32) -> Option<usize>
+        ensures { result ≡ position (λ o. o.who == who) self.now.observers }
+    {
+        place_in(&self.subscriptions, who)
+    }
+
+    /// How many notes wait for the observer at a place.
+    pub(crate) fn waiting_notes(&self, place: usize) -> usize
+        requires { place < length self.now.observers }
+        ensures { (default : Observer) (s : Signals) → lanes.StandsFor (get_or self.now.observers place default).lane s → result ≡ length (waiting s) }
+    {
+        self.subscriptions[place].seat.waiting_notes()
+    }
+
+    /// Has the subject admit a note, and puts at the end of `outs` what it gives to each observer, by rising number. All
+    /// that may be refused comes first: room, copies for those to whom something is owed, and the tape. `Memory` leaves the
+    /// subject, the observers and `outs`.
+    pub(crate) fn admit(
+        &mut self,
+        subject: &mut TapeSubject,
+        port: u32,
+        note: Note,
+        at: u64,
+        outs: &mut Vec<Given, Heap>,
+    ) -> Result<(), Memory>
+        requires { length subject.old.stamps ≤ length self.old.items }
+        ensures err { OnErr result ((subject.new ≡ subject.old) × (self.new ≡ self.old) × (outs.new.items ≡ outs.old.items)) }
+        ensures stands { OnOk result ((rules : Rules) (H : History) → subjects.StandsFor (subject_on self.old.items subject.old) rules H
+            → subjects.StandsFor (subject_on self.new.items subject.new) rules (H ▹ (port, Emit note at))) }
+        ensures fed { OnOk result (AllFedInto (signals_by (subject_on self.old.items subject.old) port note) self.old.observers self.new.observers outs.old.items outs.new.items) }
+        ensures within { length subject.new.stamps ≤ length self.new.items }
+        ensures kind { subject.new.kind ≡ subject.old.kind }
+    {
+        let Ok(offer) = subject.preview(port, &note) else {
+            return Err(Memory);
+        };
+        let Some(most) = self.subscriptions.len().checked_mul(2) else {
+            return Err(Memory);
+        };
+        outs.reserve(most)?;
+        prepare_all(&mut self.subscriptions, &offer)?;
+        let Ok(()) = subject.admit_offered(port, note, at, &mut self.tape) else {
+            return Err(Memory);
+        };
+        feed_all(&mut self.subscriptions, &offer, &mut self.tape, outs);
+        Ok(())
+    }
+
+    /// An observer joins, and what it is given at once is put at the end of `outs`. `Memory` leaves the observers and `outs`.
+    pub(crate) fn open(
+        &mut self,
+        who: u32,
+        policy: Policy,
+        first: u32,
+        at: u64,
+        subject: &TapeSubject,
+        outs: &mut Vec<Given, Heap>,
+    ) -> Result<(), Memory>
+        requires { length subject.now.stamps ≤ length self.old.items }
+        ensures err { OnErr result ((self.new ≡ self.old) × (outs.new.items ≡ outs.old.items)) }
+        ensures items { self.new.items ≡ self.old.items }
+        ensures joins { OnOk result (JoinsInto self.old.observers self.new.observers who policy first (subject_on self.old.items subject.now) at outs.old.items outs.new.items) }
+    {
+        let TapeOpening { lead, back, end } = subject.opening(at, &self.tape)?;
+        let Some(most) = back.checked_add(2) else {
+            return Err(Memory);
+        };
+        outs.reserve(most)?;
+        self.subscriptions.reserve(1)?;
+        self.notes.clear();
+        let mut seat = Seat::open(policy, first, lead, back, &mut self.tape, &mut self.notes)?;
+        let last = end_by(&mut seat, end, &mut self.tape);
+        give_all(who, &mut self.notes, outs);
+        give(who, last, outs);
+        self.subscriptions.push_reserved(Subscription::new(who, seat));
+        Ok(())
+    }
+
+    /// Adds a request of the observer at a place, and puts at the end of `outs` what is then given. Refused as its queue does,
+    /// which leaves all.
+    pub(crate) fn ask(
+        &mut self,
+        place: usize,
+        n: u32,
+        outs: &mut Vec<Given, Heap>,
+    ) -> Result<(), AskError>
+        requires { place < length self.old.observers }
+        ensures zero { (result ≡ Err AskError.ZeroRequest) ↔ (n ≡ 0) }
+        ensures too_much { (default : Observer) → (result ≡ Err AskError.TooMuch) ↔ ((0 < n) × (2 ^ 32 ≤ (get_or self.old.observers place default).lane.owing + n)) }
+        ensures err { OnErr result ((self.new ≡ self.old) × (outs.new.items ≡ outs.old.items)) }
+        ensures items { self.new.items ≡ self.old.items }
+        ensures asked { OnOk result ((default : Observer) → AsksAt self.old.observers self.new.observers place default n outs.old.items outs.new.items) }
+    {
+        self.subscriptions[place].ask(n, &mut self.tape, &mut self.notes, outs)
+    }
+
+    /// The observer at a place leaves, with what waits for it.
+    pub(crate) fn remove(&mut self, place: usize)
+        requires { place < length self.old.observers }
+        ensures observers { self.new.observers ≡ take place self.old.observers ++ drop (place + 1) self.old.observers }
+        ensures items { self.new.items ≡ self.old.items }
+    {
+        let Subscription { who: _, seat, ready: _ } = self.subscriptions.remove(place);
+        seat.close(&mut self.tape);
+    }
+
+    /// Removes from the tape what no observer waits for, save the last `keep` items.
+    pub(crate) fn trim(&mut self, keep: usize)
+        ensures observers { self.new.observers ≡ self.old.observers }
+        ensures kept { (count : ℕ) → count ≤ keep → count ≤ length self.old.items
+            → (count ≤ length self.new.items) × (last_items self.new.items count ≡ last_items self.old.items count) }
+    {
+        self.tape.trim(keep);
+    }
+}
+
+// The place of the observer of this number.
+fn place_in(subscriptions: &Vec<Subscription, Heap>, who: u32) -> Option<usize>
+    ensures { result ≡ position (λ s. s.who == who) subscriptions.now.items }
+{
+    subscriptions.iter().position(|s| s.who == who)
+}
+
+// Makes ready the copies that each observer takes of an offer.
+fn prepare_all(subscriptions: &mut Vec<Subscription, Heap>, offer: &Offer) -> Result<(), Memory>
+    ensures places { places_of subscriptions.new.items ≡ places_of subscriptions.old.items }
+    ensures len { vec_len subscriptions.new ≡ vec_len subscriptions.old }
+    ensures ready { OnOk result (All (λ s. IsReady offer.now s.ready s.seat) subscriptions.new.items) }
+{
+    for i in 0..subscriptions.len() {
+        subscriptions[i].prepare(offer)?;
+    }
+    Ok(())
+}
+
+// Feeds each observer what an offer gives, by rising number. Its item is the last of the tape.
+fn feed_all(
+    subscriptions: &mut Vec<Subscription, Heap>,
+    offer: &Offer,
+    tape: &mut Tape,
+    outs: &mut Vec<Given, Heap>,
+)
+    requires ready { All (λ s. IsReady offer.now s.ready s.seat) subscriptions.old.items }
+    requires on { AllOn tape.old (is_some offer.now.item) (places_of subscriptions.old.items) }
+    requires apart { Apart (places_of subscriptions.old.items) }
+    requires outs_room { vec_len outs.old + 2 * vec_len subscriptions.old ≤ vec_capacity outs.old }
+    ensures fed { (items : List Item) → tape.old.items ≡ items ++ option_to_list offer.now.item
+        → AllFedInto (offer_signals offer.now) (observers_on items (places_of subscriptions.old.items))
+            (observers_on tape.new.items (places_of subscriptions.new.items)) outs.old.items outs.new.items }
+    ensures on { AllOn tape.new false (places_of subscriptions.new.items) }
+    ensures cursors { cursors (places_of subscriptions.new.items) ≡ cursors (places_of subscriptions.old.items) }
+    ensures items { tape.new.items ≡ tape.old.items }
+{
+    for i in 0..subscriptions.len() {
+        subscriptions[i].feed(offer, tape, outs);
+    }
+}

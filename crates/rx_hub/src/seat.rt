@@ -1,0 +1,255 @@
+ghost use Rattle.std.specs.Prelude.{◌≡◌, ◌≤◌, ◌<◌, ◌+◌, ◌^◌, ◌↔◌, ◌++◌, ◌∷◌, [], ℕ, List, true, false, Err, None, Some, map, min, length, option_to_list, if◌then◌else◌, IfOk, OnOk, OnErr, vec_len, vec_capacity};
+ghost use Rattle.rx_note.specs.declared.item.Item.{Item};
+ghost use Rattle.rx_note.specs.declared.note.Note.{Note};
+ghost use Rattle.rx_note.specs.declared.note.Note.TheVariants.{Next};
+ghost use Rattle.rx_note.specs.Signals.{Signals, Requested, Offered, Ended, waiting};
+ghost use Rattle.rx_tape.specs.Tapes.{TapeState, place_of, waits};
+ghost use Rattle.rx_lane.specs.Lanes.{StandsFor, HasRoomFor, GivesInto, GoesOn};
+ghost use Rattle.rx_lane.specs.Queues.{HasRoom};
+ghost use Rattle.rx_lane.specs.TapeLanes.{HoldsSame};
+ghost use Rattle.rx_hub.specs.Subscriptions.{Serves, Begins, BeginsInto};
+
+use rx_heap::{Heap, Memory};
+use rx_lane::{AskError, Lane, TapeLane};
+use rx_note::{Item, Note, Policy, Strategy};
+use rx_tape::Tape;
+
+/// Where what waits for an observer stands.
+#[derive(Drop)]
+pub(crate) enum Seat {
+    /// On the tape that the observers share.
+    Shared(TapeLane),
+    /// In a queue of its own: what waits under `Drop` is no end of the tape.
+    Own(Lane),
+}
+
+impl Seat {
+    ghost use Rattle.rx_hub.specs.Seats.{lane_of, cursor_of, Stands, Leaves, copy_needed, needed};
+
+    /// The seat of an observer that joins with this policy and a request of `first` items, and is then offered `lead`, if
+    /// there is one, and the last `back` items of the tape. What it gives at once is put at the end of `notes`. `Memory`
+    /// leaves the tape.
+    pub(crate) fn open(
+        policy: Policy,
+        first: u32,
+        lead: Option<Item>,
+        back: usize,
+        tape: &mut Tape,
+        notes: &mut Vec<Note, Heap>,
+    ) -> Result<Seat, Memory>
+        requires there { back ≤ length tape.old.items }
+        ensures err { OnErr result (HoldsSame tape.old tape.new) }
+        ensures begins { IfOk result (λ seat. BeginsInto (lane_of tape.new.items seat) policy first (map Offered (waits lead tape.old.items back)) notes.old.items notes.new.items) }
+        ensures stands { IfOk result (λ seat. Stands tape.new false seat) }
+        ensures fresh { IfOk result (λ seat. (cursor : ℕ) → cursor_of seat ≡ Some cursor → place_of tape.old.places cursor ≡ None) }
+        ensures leaves { IfOk result (λ seat. Leaves tape.old tape.new (cursor_of seat)) }
+        ensures count { IfOk result (λ seat. length notes.new.items ≤ length notes.old.items + length (option_to_list lead) + back) }
+    {
+        match policy.strategy() {
+            Strategy::Drop(_) => {
+                let lane = own_lane(policy, first, lead, back, tape, notes)?;
+                Ok(Seat::Own(lane))
+            }
+            Strategy::Buffer | Strategy::Latest(_) => {
+                let lane = TapeLane::new(policy, first, lead, back, tape, notes)?;
+                Ok(Seat::Shared(lane))
+            }
+        }
+    }
+
+    /// How many more items may be given before the observer requests more.
+    pub(crate) fn owed(&self) -> u32
+        ensures { (items : List Item) → result ≡ (lane_of items self.now).owing }
+    {
+        match self {
+            Seat::Shared(lane) => lane.owed(),
+            Seat::Own(lane) => lane.owed(),
+        }
+    }
+
+    /// How many items wait.
+    pub(crate) fn waiting_len(&self) -> usize
+        ensures { (tape : TapeState) → Stands tape false self.now → result ≡ length (lane_of tape.items self.now).items }
+    {
+        match self {
+            Seat::Shared(lane) => lane.waiting_len(),
+            Seat::Own(lane) => lane.waiting_len(),
+        }
+    }
+
+    /// How many notes wait: the items, and the terminal where one waits behind them.
+    pub(crate) fn waiting_notes(&self) -> usize
+        ensures { (tape : TapeState) (s : Signals) → Stands tape false self.now → StandsFor (lane_of tape.items self.now) s → result ≡ length (waiting s) }
+    {
+        match self {
+            Seat::Shared(lane) => lane.waiting_notes(),
+            Seat::Own(lane) => lane.waiting_notes(),
+        }
+    }
+
+    /// A copy of an item that is to be offered, where the offer needs one.
+    pub(crate) fn copy(&self, item: &Option<Item>) -> Result<Option<Item>, Memory>
+        ensures { IfOk result (λ copy. copy ≡ needed self.now item.now) }
+    {
+        match item {
+            Some(item) if self.takes_copy() => Ok(Some(item.copy()?)),
+            _ => Ok(None),
+        }
+    }
+
+    // Whether an offer needs a copy of its item.
+    fn takes_copy(&self) -> bool
+        ensures { (item : Item) → copy_needed self.now item ≡ (if result then Some item else None) }
+    {
+        match self {
+            Seat::Shared(lane) => lane.owed() > 0,
+            Seat::Own(_) => true,
+        }
+    }
+
+    /// Offers the last item of the tape, with the copy that is needed, which comes back where it is given at once.
+    #[inline(always)]
+    pub(crate) fn offer(&mut self, copy: Option<Item>, tape: &mut Tape) -> Option<Item>
+        requires { Stands tape.old true self.old }
+        ensures serves { (items : List Item) (item : Item) → tape.old.items ≡ items ++ item ∷ [] → copy ≡ copy_needed self.old item
+            → Serves (lane_of items self.old) (lane_of tape.new.items self.new) (Offered item ∷ []) (map Next (option_to_list result)) }
+        ensures stands { Stands tape.new false self.new }
+        ensures cursor { cursor_of self.new ≡ cursor_of self.old }
+        ensures leaves { Leaves tape.old tape.new (cursor_of self.old) }
+    {
+        match self {
+            Seat::Shared(lane) => lane.offer(copy, tape),
+            Seat::Own(lane) => lane.offer(copy?),
+        }
+    }
+
+    /// Ends the queue by a terminal, which comes back where it is given at once.
+    pub(crate) fn end(&mut self, note: Note, tape: &mut Tape) -> Option<Note>
+        requires { Stands tape.old false self.old }
+        ensures serves { Serves (lane_of tape.old.items self.old) (lane_of tape.new.items self.new) (Ended note ∷ []) (option_to_list result) }
+        ensures stands { Stands tape.new false self.new }
+        ensures cursor { cursor_of self.new ≡ cursor_of self.old }
+        ensures leaves { Leaves tape.old tape.new (cursor_of self.old) }
+    {
+        match self {
+            Seat::Shared(lane) => lane.end_on(note, tape),
+            Seat::Own(lane) => lane.end(note),
+        }
+    }
+
+    /// Adds a request, and puts at the end of `notes` what is then given. Refused as the queue does, which leaves it.
+    pub(crate) fn ask(
+        &mut self,
+        n: u32,
+        tape: &mut Tape,
+        notes: &mut Vec<Note, Heap>,
+    ) -> Result<(), AskError>
+        requires { Stands tape.old false self.old }
+        ensures zero { (result ≡ Err AskError.ZeroRequest) ↔ (n ≡ 0) }
+        ensures too_much { (result ≡ Err AskError.TooMuch) ↔ ((0 < n) × (2 ^ 32 ≤ (lane_of tape.old.items self.old).owing + n)) }
+        ensures err { OnErr result (lane_of tape.new.items self.new ≡ lane_of tape.old.items self.old) }
+        ensures gives { OnOk result (GivesInto (lane_of tape.old.items self.old) (Requested n) notes.old.items notes.new.items) }
+        ensures goes_on { OnOk result (GoesOn (lane_of tape.old.items self.old) (lane_of tape.new.items self.new) (Requested n)) }
+        ensures count { length notes.new.items
+            ≤ length notes.old.items + min ((lane_of tape.old.items self.old).owing + n) (length (lane_of tape.old.items self.old).items) + 1 }
+        ensures stands { Stands tape.new false self.new }
+        ensures cursor { cursor_of self.new ≡ cursor_of self.old }
+        ensures leaves { Leaves tape.old tape.new (cursor_of self.old) }
+    {
+        match self {
+            Seat::Shared(lane) => lane.ask(n, tape, notes),
+            Seat::Own(lane) => lane.ask(n, notes),
+        }
+    }
+
+    /// Lets the queue go with what waits, and releases its cursor.
+    pub(crate) fn close(self, tape: &mut Tape)
+        ensures { Leaves tape.old tape.new (cursor_of self) }
+    {
+        match self {
+            Seat::Shared(lane) => lane.close(tape),
+            Seat::Own(_) => {}
+        }
+    }
+}
+
+// The queue of its own of an observer that joins and is then offered `lead`, if there is one, and the last `back` items of
+// the tape. What it gives at once is put at the end of `notes`.
+fn own_lane(
+    policy: Policy,
+    first: u32,
+    lead: Option<Item>,
+    back: usize,
+    tape: &Tape,
+    notes: &mut Vec<Note, Heap>,
+) -> Result<Lane, Memory>
+    requires there { back ≤ length tape.now.items }
+    requires needs_no_room { (count spare : ℕ) → HasRoom policy.strategy count spare }
+    ensures begins { IfOk result (λ lane. BeginsInto lane.state policy first (map Offered (waits lead tape.now.items back)) notes.old.items notes.new.items) }
+    ensures room { IfOk result (λ lane. (count : ℕ) → HasRoomFor lane count) }
+    ensures count { IfOk result (λ lane. length notes.new.items ≤ length notes.old.items + length (option_to_list lead) + back) }
+{
+    let items = last_copies(notes.allocator().clone()?, lead, back, tape)?;
+    notes.reserve(items.len())?;
+    let mut lane = Lane::joined(notes.allocator().clone()?, policy, first)?;
+    offer_all(&mut lane, items, notes);
+    Ok(lane)
+}
+
+// An item, if there is one, and copies of the last `back` items of the tape.
+fn last_copies(
+    alloc: Heap,
+    lead: Option<Item>,
+    back: usize,
+    tape: &Tape,
+) -> Result<Vec<Item, Heap>, Memory>
+    requires { back ≤ length tape.now.items }
+    ensures { IfOk result (λ items. items.items ≡ waits lead tape.now.items back) }
+{
+    let first = tape.len() - back;
+    let mut items = listed(alloc, lead)?;
+    for place in 0..back {
+        let Some(item) = tape.item(first + place) else {
+            unreachable!()
+        };
+        items.push(item.copy()?)?;
+    }
+    Ok(items)
+}
+
+// A list of one item, or of none.
+fn listed(alloc: Heap, item: Option<Item>) -> Result<Vec<Item, Heap>, Memory>
+    ensures { IfOk result (λ items. items.items ≡ option_to_list item) }
+{
+    let mut items = Vec::new(alloc);
+    if let Some(item) = item {
+        items.push(item)?;
+    }
+    Ok(items)
+}
+
+// Offers several items, and puts at the end of `notes` what is given at once.
+fn offer_all(lane: &mut Lane, items: Vec<Item, Heap>, notes: &mut Vec<Note, Heap>)
+    requires lane_room { (count : ℕ) → HasRoomFor lane.old count }
+    requires notes_room { vec_len notes.old + vec_len items ≤ vec_capacity notes.old }
+    ensures serves { (given : List Note) × (notes.new.items ≡ notes.old.items ++ given) × Serves lane.old.state lane.new.state (map Offered items.items) given }
+    ensures room { (count : ℕ) → HasRoomFor lane.new count }
+    ensures len { vec_len notes.new ≤ vec_len notes.old + vec_len items }
+{
+    for item in items {
+        let came = lane.offer(item);
+        put(came, notes);
+    }
+}
+
+// Puts an item, if there is one, at the end of `notes`.
+fn put(item: Option<Item>, notes: &mut Vec<Note, Heap>)
+    requires { vec_len notes.old < vec_capacity notes.old }
+    ensures items { notes.new.items ≡ notes.old.items ++ map Next (option_to_list item) }
+    ensures len { vec_len notes.new ≤ vec_len notes.old + 1 }
+    ensures capacity { vec_capacity notes.new ≡ vec_capacity notes.old }
+{
+    if let Some(item) = item {
+        notes.push_reserved(Note::Next(item));
+    }
+}
