@@ -3,6 +3,7 @@ pub mod Emitting
 pub mod Feeding
 pub mod Joining
 pub mod Leaving
+pub mod Outcomes
 pub mod Places
 pub mod Positions
 pub mod Quiet

@@ -1,8 +1,8 @@
 use Rattle.std.proofs.Common.{◌≡◌, ◌<◌, ◌+◌, ◌-◌, ◌∷◌, [], ◌++◌, length, take, drop, get_or, option_to_list, sym, ap, ◌∙◌, append_assoc, arith}
+use Rattle.std.specs.Prelude.{slice_get}
 use Rattle.std.proofs.lemmas.List.{take_more, get_or-drop, length-drop}
 use Rattle.std.proofs.lemmas.Option.{get_or_from_slice_get}
 use Rattle.rx_note.specs.declared.item.Item.{Item}
-use Rattle.rx_tape.specs.Tapes.{last_items}
 use Rattle.rx_hub.proofs.seat.last_copies.Goals as goal
 
 pub loop-place-preserved : goal.loop-place-preserved
@@ -12,8 +12,9 @@ loop-place-preserved c =
     let i = c.loop-place.place in
     let item = c.in-Some.item.now in
     let left = length-drop n xs in
+    let same : c.len.result - c.args.back + i ≡ n + i = omega (arith, c.len.ensures.len) in
     let lt : i < length (drop n xs) = omega (arith, left, c.requires, c.loop-place-test.true) in
-    let is : get_or xs (n + i) item ≡ item = get_or_from_slice_get xs (n + i) item item (sym c.in-Some.ensures) in
+    let is : get_or xs (n + i) item ≡ item = get_or_from_slice_get xs (n + i) item item (ap (slice_get xs) (sym same) ∙ sym c.in-Some.ensures) in
     let at : get_or (drop n xs) i item ≡ item = grind (arith, get_or-drop) in
     let more : take (i + 1) (drop n xs) ≡ take i (drop n xs) ++ item ∷ [] = take_more (drop n xs) i item lt ∙ ap (λ (x : Item). take i (drop n xs) ++ x ∷ []) at in
     c.in_ok-push.ensures.items

@@ -1,4 +1,4 @@
-use Rattle.std.proofs.Common.{◌≡◌, ◌++◌, List, map, ap, subst, ◌∙◌}
+use Rattle.std.proofs.Common.{◌++◌, List, map, ap, subst, ◌∙◌}
 use Rattle.rx_note.specs.declared.item.Item.{Item}
 use Rattle.rx_note.specs.Signals.{Offered}
 use Rattle.rx_hub.specs.Subscriptions.{Begins}

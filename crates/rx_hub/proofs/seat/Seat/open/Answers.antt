@@ -1,4 +1,4 @@
-use Rattle.std.proofs.Common.{◌≡◌, ℕ, Some, None, ap, ◌∙◌, sym}
+use Rattle.std.proofs.Common.{◌≡◌, ap, ◌∙◌, sym}
 use Rattle.rx_tape.specs.Tapes.{place_of, waits}
 use Rattle.rx_lane.specs.TapeLanes.{lane_on}
 use Rattle.rx_hub.proofs.Seats.{leaves_others}
