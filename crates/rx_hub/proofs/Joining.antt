@@ -1,5 +1,5 @@
 -- A step that accepts an observer.
-use Rattle.std.proofs.Common.{◌≡◌, ℕ, ◌+◌, Bool, true, false, cond, ◌&&◌, ◌==◌, not, nat_lt, max, List, [], ◌∷◌, ◌++◌, length, map, drop, Option, None, Some, Ok, Err, refl, sym, ap, subst, ◌∙◌, arith, append-nil}
+use Rattle.std.proofs.Common.{◌≡◌, ℕ, ◌+◌, Bool, true, false, cond, ◌&&◌, ◌==◌, not, nat_lt, List, [], ◌∷◌, ◌++◌, length, drop, Option, None, Some, Ok, Err, refl, sym, ap, subst, ◌∙◌, arith, append-nil}
 use Rattle.std.proofs.lemmas.List.{length-map, map-append}
 use Rattle.std.proofs.lemmas.Grind.{flat_map-append}
 use Rattle.std.proofs.lemmas.Bool.Decides.{nat_tests}
@@ -12,8 +12,8 @@ use Rattle.rx_note.specs.declared.rules.Rules.{Rules}
 use Rattle.rx_note.specs.declared.event.Event.TheVariants.{Join}
 use Rattle.rx_note.specs.declared.answer.Answer.TheVariants.{Joined}
 use Rattle.rx_note.specs.declared.refusal.Refusal.TheVariants as refused
-use Rattle.rx_note.specs.Signals.{Signal, Offered, Requested, Signals, Start, ◌▸◌, given}
-use Rattle.rx_history.specs.Histories.{History, ◌▹◌, Roster, end_of, stamp, joins, held, may_join, with_one_more, roster_of, followed_by, ended_by, opening_by, opened, signals, addressed}
+use Rattle.rx_note.specs.Signals.{Signal, Requested, Signals, Start, ◌▸◌, given}
+use Rattle.rx_history.specs.Histories.{History, ◌▹◌, Roster, joins, held, may_join, with_one_more, roster_of, followed_by, opened, signals, addressed}
 use Rattle.rx_history.proofs.Numbers.{AllDiffer, held_rises, differ_above, signals_unmade}
 use Rattle.rx_lane.specs.Lanes.{LaneState}
 use Rattle.rx_lane.specs.Lanes as lanes

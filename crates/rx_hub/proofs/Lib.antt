@@ -13,4 +13,5 @@ pub mod Serving
 pub mod Sharing
 pub mod Tables
 pub mod Taking
+pub mod Trimming
 pub mod Waiting

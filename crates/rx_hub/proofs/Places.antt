@@ -197,13 +197,13 @@ left_apart places k apart = λ i j cursor is_i is_j.
     let same = left_map (λ (p : Place). cursor_of p.seat) places k in
     elim (left_cursor (cursors places) k i cursor (ap (λ cs. get_or cs i None) (sym same) ∙ is_i)) [
       | inl a ↦ elim (left_cursor (cursors places) k j cursor (ap (λ cs. get_or cs j None) (sym same) ∙ is_j)) [
-            | inl b ↦ apart i j cursor a.1 b.1
-            | inr b ↦ let e = apart i (suc j) cursor a.1 b.1 in omega (arith, e, a.0, b.0)
-          ]
+        | inl b ↦ apart i j cursor a.1 b.1
+        | inr b ↦ let e = apart i (suc j) cursor a.1 b.1 in omega (arith, e, a.0, b.0)
+      ]
       | inr a ↦ elim (left_cursor (cursors places) k j cursor (ap (λ cs. get_or cs j None) (sym same) ∙ is_j)) [
-            | inl b ↦ let e = apart (suc i) j cursor a.1 b.1 in omega (arith, e, a.0, b.0)
-            | inr b ↦ let e = apart (suc i) (suc j) cursor a.1 b.1 in omega (arith, e)
-          ]
+        | inl b ↦ let e = apart (suc i) j cursor a.1 b.1 in omega (arith, e, a.0, b.0)
+        | inr b ↦ let e = apart (suc i) (suc j) cursor a.1 b.1 in omega (arith, e)
+      ]
     ]
 
 -- ONE MORE JOINS
@@ -249,13 +249,13 @@ joined_apart tape places one fresh all apart = λ i j cursor is_i is_j.
     let same = map-append (λ (p : Place). cursor_of p.seat) places (one ∷ []) in
     elim (last_cursor (cursors places) (cursor_of one.seat) i cursor (ap (λ cs. get_or cs i None) (sym same) ∙ is_i)) [
       | inl a ↦ elim (last_cursor (cursors places) (cursor_of one.seat) j cursor (ap (λ cs. get_or cs j None) (sym same) ∙ is_j)) [
-            | inl b ↦ apart i j cursor a.1 b.1
-            | inr b ↦ absurd (stood tape places one i cursor fresh all a.0 a.1 b.1)
-          ]
+        | inl b ↦ apart i j cursor a.1 b.1
+        | inr b ↦ absurd (stood tape places one i cursor fresh all a.0 a.1 b.1)
+      ]
       | inr a ↦ elim (last_cursor (cursors places) (cursor_of one.seat) j cursor (ap (λ cs. get_or cs j None) (sym same) ∙ is_j)) [
-            | inl b ↦ absurd (stood tape places one j cursor fresh all b.0 b.1 a.1)
-            | inr b ↦ a.0 ∙ sym b.0
-          ]
+        | inl b ↦ absurd (stood tape places one j cursor fresh all b.0 b.1 a.1)
+        | inr b ↦ a.0 ∙ sym b.0
+      ]
     ]
 
 -- THE FIRST OF THAT NUMBER

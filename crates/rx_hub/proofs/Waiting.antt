@@ -1,13 +1,12 @@
 -- How many notes wait for an observer.
-use Rattle.std.proofs.Common.{◌≡◌, ℕ, ◌<◌, ◌==◌, false, cond, List, length, get_or, [], None, Some, position, Result, Ok, Err, sym, ap, subst, ◌∙◌, arith}
-use Rattle.std.proofs.lemmas.List.{length-map}
+use Rattle.std.proofs.Common.{◌≡◌, ℕ, ◌<◌, ◌==◌, false, cond, length, get_or, [], None, Some, position, Result, Ok, Err, sym, ap, ◌∙◌}
 use Rattle.std.specs.Option.{option_map_or}
 use Rattle.std.specs.List.{list_any}
 use Rattle.rx_note.specs.Signals.{Signals, waiting}
 use Rattle.rx_history.specs.Histories.{History, is_held, signals, waiting_for}
 use Rattle.rx_hub.specs.declared.no_observer.NoObserver.{NoObserver}
 use Rattle.rx_lane.specs.Lanes as lanes
-use Rattle.rx_hub.specs.Subscriptions.{Observer, numbers}
+use Rattle.rx_hub.specs.Subscriptions.{Observer}
 use Rattle.rx_hub.specs.Hubs.{HubState, StandsFor}
 use Rattle.rx_hub.specs.Counts.{waiting_count}
 use Rattle.rx_hub.proofs.Asking.{absent, held_at}

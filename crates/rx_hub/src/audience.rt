@@ -141,7 +141,8 @@ impl Audience {
         let last = end_by(&mut seat, end, &mut self.tape);
         give_all(who, &mut self.notes, outs);
         give(who, last, outs);
-        self.subscriptions.push_reserved(Subscription::new(who, seat));
+        self.subscriptions
+            .push_reserved(Subscription::new(who, seat));
         Ok(())
     }
 
@@ -169,7 +170,11 @@ impl Audience {
         ensures observers { self.new.observers ≡ take place self.old.observers ++ drop (place + 1) self.old.observers }
         ensures items { self.new.items ≡ self.old.items }
     {
-        let Subscription { who: _, seat, ready: _ } = self.subscriptions.remove(place);
+        let Subscription {
+            who: _,
+            seat,
+            ready: _,
+        } = self.subscriptions.remove(place);
         seat.close(&mut self.tape);
     }
 
@@ -215,7 +220,7 @@ fn feed_all(
     requires outs_room { vec_len outs.old + 2 * vec_len subscriptions.old ≤ vec_capacity outs.old }
     ensures fed { (items : List Item) → tape.old.items ≡ items ++ option_to_list offer.now.item
         → AllFedInto (offer_signals offer.now) (observers_on items (places_of subscriptions.old.items))
-            (observers_on tape.new.items (places_of subscriptions.new.items)) outs.old.items outs.new.items }
+        (observers_on tape.new.items (places_of subscriptions.new.items)) outs.old.items outs.new.items }
     ensures on { AllOn tape.new false (places_of subscriptions.new.items) }
     ensures cursors { cursors (places_of subscriptions.new.items) ≡ cursors (places_of subscriptions.old.items) }
     ensures items { tape.new.items ≡ tape.old.items }

@@ -76,12 +76,12 @@ returns-clause-asked c =
     let lt : k < length subs = omega (arith, c.requires, ap (λ (v : AudienceState). length v.observers) c.self.view_is, observers-length a.tape.items subs) in
     on_ok c.ask.result
     (λ (asked : AsksInto (observer_on a.tape.items (place_of old)) (observer_on later (place_of new)) c.args.n before after) (default : Observer).
-      let seen = ap (λ (v : AudienceState). get_or v.observers k default) (sym c.self.view_is) ∙ observer-at a.tape.items subs k old default lt c.index_mut.ensures.value in
-      let made : AsksAt c.args.self.now.observers (observers_on later (places_of (set subs k new))) k default c.args.n before after = record {
-        observer = observer_on later (place_of new);
-        news_are =
-            set_observers a.tape.items later subs k new c.ask.ensures.leaves.items
-            ∙ ap (λ (v : AudienceState). set v.observers k (observer_on later (place_of new))) c.self.view_is;
-        asks = subst (λ (o : Observer). AsksInto o (observer_on later (place_of new)) c.args.n before after) (sym seen) asked;
-      } in made)
+    let seen = ap (λ (v : AudienceState). get_or v.observers k default) (sym c.self.view_is) ∙ observer-at a.tape.items subs k old default lt c.index_mut.ensures.value in
+    let made : AsksAt c.args.self.now.observers (observers_on later (places_of (set subs k new))) k default c.args.n before after = record {
+      observer = observer_on later (place_of new);
+      news_are =
+          set_observers a.tape.items later subs k new c.ask.ensures.leaves.items
+          ∙ ap (λ (v : AudienceState). set v.observers k (observer_on later (place_of new))) c.self.view_is;
+      asks = subst (λ (o : Observer). AsksInto o (observer_on later (place_of new)) c.args.n before after) (sym seen) asked;
+    } in made)
     c.ask.ensures.asked

@@ -1,4 +1,4 @@
-use Rattle.std.proofs.Common.{◌≡◌, ◌∷◌, [], ◌++◌, ℕ, List, Some, None, map, max, option_to_list, false, sym, ap, subst, ◌∙◌}
+use Rattle.std.proofs.Common.{◌≡◌, ◌∷◌, [], ◌++◌, ℕ, List, Some, map, max, option_to_list, false, sym, ap, subst, ◌∙◌}
 use Rattle.std.proofs.lemmas.List.{map-append}
 use Rattle.rx_note.specs.declared.item.Item.{Item}
 use Rattle.rx_note.specs.Signals.{Offered}
@@ -6,7 +6,6 @@ use Rattle.rx_history.specs.Histories.{stamp, opening_by, addressed, ended_by}
 use Rattle.rx_subject.specs.Subjects as subjects
 use Rattle.rx_subject.specs.TapeSubjects.{subject_on}
 use Rattle.rx_tape.specs.Tapes.{waits}
-use Rattle.rx_tape.specs.Tapes as tapes
 use Rattle.rx_hub.specs.Seats.{lane_of, cursor_of, Stands, Leaves}
 use Rattle.rx_hub.specs.Subscriptions.{Begins, Serves}
 use Rattle.rx_hub.specs.Audiences.{AudienceState, Place, AllOn, Apart, place_of, places_of, observer_on, observers_on}

@@ -1,8 +1,6 @@
-use Rattle.std.proofs.Common.{◌≡◌, ◌<◌, ◌+◌, ◌++◌, suc, false, List, length, take, drop, sym, ap, subst, ◌∙◌, add-one, arith}
+use Rattle.std.proofs.Common.{◌≡◌, ◌<◌, ◌++◌, suc, false, List, length, take, drop, sym, ap, subst, ◌∙◌, add-one, arith}
 use Rattle.std.proofs.lemmas.List.{length-map}
 use Rattle.rx_note.specs.declared.item.Item.{Item}
-use Rattle.rx_hub.specs.declared.subscription.Subscription.{Subscription}
-use Rattle.rx_hub.specs.Subscriptions.{Observer}
 use Rattle.rx_hub.specs.Audiences.{AudienceState, Place, AllOn, Apart, place_of, places_of, observers_on}
 use Rattle.rx_hub.proofs.Places.{observers-length, place-at, left_on, left_apart, left_places, left_observers}
 use Rattle.rx_hub.proofs.audience.Audience.remove.Goals as goal

@@ -3,7 +3,7 @@ use Rattle.std.proofs.lemmas.List.{length-map}
 use Rattle.rx_lane.specs.Lanes as lanes
 use Rattle.rx_hub.specs.Seats.{Stands}
 use Rattle.rx_hub.specs.Subscriptions.{Observer}
-use Rattle.rx_hub.specs.Audiences.{AudienceState, Place, place_of, places_of, observer_on}
+use Rattle.rx_hub.specs.Audiences.{AudienceState, Place, place_of}
 use Rattle.rx_hub.proofs.Places.{place-at, observer-at, observers-length}
 use Rattle.rx_hub.proofs.audience.Audience.waiting_notes.Goals as goal
 

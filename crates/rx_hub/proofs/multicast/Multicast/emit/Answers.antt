@@ -1,0 +1,49 @@
+use Rattle.std.proofs.Common.{◌≡◌, List, length, sym, ◌∙◌, refl, ap, subst, arith}
+use Rattle.rx_note.specs.declared.kind.Kind.{Kind}
+use Rattle.rx_note.specs.declared.rules.Rules.{Rules}
+use Rattle.rx_note.specs.declared.event.Event.TheVariants.{Emit}
+use Rattle.rx_history.specs.Histories.{◌▹◌}
+use Rattle.rx_subject.specs.Subjects.{SubjectState, signals_by}
+use Rattle.rx_subject.specs.Subjects as subjects
+use Rattle.rx_subject.specs.TapeSubjects.{subject_on}
+use Rattle.rx_hub.specs.Subscriptions.{Observer, AllFedInto}
+use Rattle.rx_hub.specs.Multicasts.{state_of}
+use Rattle.rx_hub.proofs.Quiet.{emit_refused}
+use Rattle.rx_hub.proofs.Emitting.{emit_done}
+use Rattle.rx_hub.proofs.Trimming.{subject_kept, AllFed-length}
+use Rattle.rx_hub.proofs.multicast.Multicast.emit.Goals as goal
+
+pub returns-then-is_ended : goal.returns-then-is_ended
+returns-then-is_ended c = record {
+  rules = refl;
+  took = λ H stands.
+      emit_refused (state_of c.args.self.now) c.args.outs.now.items H c.args.port c.args.note c.args.at (sym c.is_ended.ensures ∙ c.if-is_ended.true) stands;
+}
+
+pub invariant_of-self-2 : goal.invariant_of-self-2
+invariant_of-self-2 c =
+    let old = c.args.self.now in
+    let fed = c.in-Ok.ensures.fed in
+    let same = ap length c.trim.ensures.observers ∙ AllFed-length _ _ _ _ fed.2 in
+    let kept = c.trim.ensures.kept (length c.admit.new.subject.stamps) (omega (arith, c.keep.ensures)) c.in-Ok.ensures.within in
+    record {
+      fits = (omega (arith, same, old.fits.0), old.fits.1);
+      within = kept.0;
+    }
+
+pub returns : goal.returns
+returns c =
+    let old = c.args.self.now in
+    let subject = c.admit.new.subject in
+    let before = c.args.outs.now.items in
+    let after = c.admit.new.outs.items in
+    let now = subject_on c.trim.new.self.items subject in
+    let kept = c.trim.ensures.kept (length subject.stamps) (omega (arith, c.keep.ensures)) c.in-Ok.ensures.within in
+    let same : now ≡ subject_on c.admit.new.self.items subject = subject_kept subject c.admit.new.self.items c.trim.new.self.items kept.1 in
+    let ruled : Kind → Rules = λ kind. record { kind = kind; limits = old.limits } in
+    let signals = signals_by (subject_on old.audience.items old.subject) c.args.port c.args.note in
+    emit_done (state_of old) now (ruled subject.kind) old.audience.observers c.trim.new.self.observers before before after c.args.port c.args.note c.args.at
+    (sym c.is_ended.ensures ∙ c.if-is_ended.false) (ap ruled c.in-Ok.ensures.kind)
+    (λ rules H stands. subst (λ (s : SubjectState). subjects.StandsFor s rules (H ▹ (c.args.port, Emit c.args.note c.args.at))) (sym same) (c.in-Ok.ensures.stands rules H stands))
+    refl refl
+    (subst (λ (os : List Observer). AllFedInto signals old.audience.observers os before after) (sym c.trim.ensures.observers) c.in-Ok.ensures.fed)

@@ -1,0 +1,80 @@
+use Rattle.std.proofs.Common.{ℕ, ◌+◌, ◌<◌, ◌≤◌, List, length, inl, inr, sym, ◌∙◌, refl, ap, arith, Err}
+use Rattle.std.proofs.lemmas.Bool.{cases_lt}
+use Rattle.std.proofs.lemmas.List.{length-set}
+use Rattle.rx_note.specs.declared.item.Item.{Item}
+use Rattle.rx_subject.specs.TapeSubjects.{subject_on}
+use Rattle.rx_hub.specs.Audiences.{AudienceState}
+use Rattle.rx_hub.specs.Hubs.{HubState}
+use Rattle.rx_hub.specs.Multicasts.{state_of}
+use Rattle.rx_hub.proofs.Asking.{nobody, named, request_zero, request_unheld, request_more, request_done, request_missed}
+use Rattle.rx_hub.proofs.Trimming.{subject_kept}
+use Rattle.rx_hub.proofs.multicast.Multicast.request.Goals as goal
+
+pub returns-then-n-eq0 : goal.returns-then-n-eq0
+returns-then-n-eq0 c port = record {
+  rules = refl;
+  took = λ H stands. request_zero (state_of c.args.self.now) c.args.outs.now.items H port c.args.who c.args.n c.if-n-eq0.true stands;
+}
+
+pub returns-in_default : goal.returns-in_default
+returns-in_default c port = record {
+  rules = refl;
+  took = λ H stands.
+      request_unheld (state_of c.args.self.now) c.args.outs.now.items H port c.args.who c.args.n (omega arith) (sym c.in_default.ensures) stands;
+}
+
+-- a request that is not too much
+few : (n owing : ℕ) → ((0 < n) × (4294967296 ≤ owing + n) → ⊥) → 0 < n → owing + n < 4294967296
+few n owing none more = elim (cases_lt (owing + n) 4294967296) [ inl lt ↦ lt | inr le ↦ absurd (none (more, le)) ]
+
+pub invariant_of-self-in-Ok : goal.invariant_of-self-in-Ok
+invariant_of-self-in-Ok c =
+    let old = c.args.self.now in
+    let asked = c.in-Ok.ensures.asked nobody in
+    let same = ap length (c.trim.ensures.observers ∙ asked.news_are) ∙ length-set old.audience.observers c.in-Some.place asked.observer in
+    let items = ap length c.in-Ok.ensures.items in
+    let kept = c.trim.ensures.kept (length old.subject.stamps) (omega (arith, c.keep.ensures)) (omega (arith, old.within, items)) in
+    record {
+      fits = (omega (arith, same, old.fits.0), old.fits.1);
+      within = kept.0;
+    }
+
+pub returns-in-Ok : goal.returns-in-Ok
+returns-in-Ok c port =
+    let old = c.args.self.now in
+    let subject = old.subject in
+    let place = c.in-Some.place in
+    let is = named old.audience.observers c.args.who place nobody c.in-Some.ensures in
+    let more : 0 < c.args.n = omega arith in
+    let asked = c.in-Ok.ensures.asked nobody in
+    let items = ap length c.in-Ok.ensures.items in
+    let kept = c.trim.ensures.kept (length subject.stamps) (omega (arith, c.keep.ensures)) (omega (arith, old.within, items)) in
+    request_done (state_of old) (subject_on c.trim.new.self.items subject) c.ask.new.self.observers c.trim.new.self.observers c.args.outs.now.items c.ask.new.outs.items
+    port c.args.who c.args.n place nobody is.0 is.1 more
+    (few c.args.n _ (λ much. let no = (c.in-Ok.ensures.too_much nobody).1 much in cc) more)
+    asked c.trim.ensures.observers
+    (subject_kept subject c.ask.new.self.items c.trim.new.self.items kept.1 ∙ ap (λ (items : List Item). subject_on items subject) c.in-Ok.ensures.items)
+
+pub returns-in-Err-TooMuch : goal.returns-in-Err-TooMuch
+returns-in-Err-TooMuch c port =
+    let old = c.args.self.now in
+    let place = c.in-Some.place in
+    let is = named old.audience.observers c.args.who place nobody c.in-Some.ensures in
+    let much = (c.in-Err-TooMuch.ensures.too_much nobody).0 (ap Err c.in-Err-TooMuch.field-0-is) in
+    let same : AudienceState → HubState = λ audience. record (state_of old) { subject = subject_on audience.items old.subject; observers = audience.observers } in
+    request_more (state_of old) (same c.ask.new.self) c.args.outs.now.items c.ask.new.outs.items port c.args.who c.args.n place nobody is.0 is.1 much.0 much.1
+    (ap same c.in-Err-TooMuch.ensures.err.0) c.in-Err-TooMuch.ensures.err.1
+
+pub returns-in-Err-Memory : goal.returns-in-Err-Memory
+returns-in-Err-Memory c port =
+    let old = c.args.self.now in
+    let place = c.in-Some.place in
+    let is = named old.audience.observers c.args.who place nobody c.in-Some.ensures in
+    let more : 0 < c.args.n = omega arith in
+    let same : AudienceState → HubState = λ audience. record (state_of old) { subject = subject_on audience.items old.subject; observers = audience.observers } in
+    record {
+      rules = refl;
+      took = request_missed (state_of old) (same c.ask.new.self) c.args.outs.now.items c.ask.new.outs.items port c.args.who c.args.n place nobody is.0 is.1 more
+          (few c.args.n _ (λ much. let no = (c.in-Err-Memory.ensures.too_much nobody).1 much in let is_memory = c.in-Err-Memory.field-0-is in cc) more)
+          (ap same c.in-Err-Memory.ensures.err.0) c.in-Err-Memory.ensures.err.1;
+    }
