@@ -16,7 +16,7 @@ ghost use Rattle.rx_hub.specs.Subscriptions.{Observer, AllFedInto, AsksAt, Joins
 ghost use Rattle.rx_hub.specs.Audiences.{places_of, observers_on, AllOn, Apart, cursors, audience_at_first};
 
 use crate::seat::Seat;
-use crate::subscription::{Subscription, end_by, give, give_all};
+use crate::subscription::{Subscription, end_by, give, give_all, no_notes};
 use rx_heap::{Heap, Memory};
 use rx_lane::AskError;
 use rx_note::{Given, Note, Policy};
@@ -30,8 +30,9 @@ use std::marker::Model;
 pub(crate) struct Audience {
     tape: Tape,
     subscriptions: Vec<Subscription, Heap>,
-    // What one observer is given in a step. Its room is kept from step to step.
-    notes: Vec<Note, Heap>,
+    // What one observer is given in a step, over the memory of the list that it goes to; none before the first. Its room is
+    // kept from step to step.
+    notes: Option<Vec<Note, Heap>>,
 }
 
 impl Model for Audience {
@@ -51,11 +52,10 @@ impl Audience {
         ensures { IfOk result (λ audience. audience ≡ audience_at_first) }
     {
         let subscriptions = Vec::with_capacity(alloc.clone()?, most)?;
-        let notes = Vec::new(alloc.clone()?);
         Ok(Audience {
             tape: Tape::new(alloc),
             subscriptions,
-            notes,
+            notes: None,
         })
     }
 
@@ -136,11 +136,12 @@ impl Audience {
         };
         outs.reserve(most)?;
         self.subscriptions.reserve(1)?;
-        self.notes.clear();
-        let mut seat = Seat::open(policy, first, lead, back, &mut self.tape, &mut self.notes)?;
+        let mut notes = no_notes(&mut self.notes, outs)?;
+        let mut seat = Seat::open(policy, first, lead, back, &mut self.tape, &mut notes)?;
         let last = end_by(&mut seat, end, &mut self.tape);
-        give_all(who, &mut self.notes, outs);
+        give_all(who, &mut notes, outs);
         give(who, last, outs);
+        self.notes = Some(notes);
         self.subscriptions
             .push_reserved(Subscription::new(who, seat));
         Ok(())

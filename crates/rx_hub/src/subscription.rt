@@ -1,4 +1,4 @@
-ghost use Rattle.std.specs.Prelude.{◌≡◌, ◌+◌, ◌<◌, ◌≤◌, ◌^◌, ◌↔◌, ◌++◌, ℕ, List, true, false, Err, is_some, map, length, option_to_list, OnOk, OnErr, vec_len, vec_capacity};
+ghost use Rattle.std.specs.Prelude.{◌≡◌, ◌+◌, ◌<◌, ◌≤◌, ◌^◌, ◌↔◌, ◌++◌, [], ℕ, List, true, false, Err, is_some, map, length, option_to_list, IfOk, OnOk, OnErr, vec_len, vec_capacity};
 ghost use Rattle.rx_note.specs.declared.item.Item.{Item};
 ghost use Rattle.rx_note.specs.Signals.{Offered};
 ghost use Rattle.rx_history.specs.Histories.{addressed, ended_by};
@@ -76,7 +76,7 @@ impl Subscription {
         &mut self,
         n: u32,
         tape: &mut Tape,
-        notes: &mut Vec<Note, Heap>,
+        notes: &mut Option<Vec<Note, Heap>>,
         outs: &mut Vec<Given, Heap>,
     ) -> Result<(), AskError>
         requires { Stands tape.old false self.old.seat }
@@ -98,9 +98,12 @@ impl Subscription {
         let Ok(()) = outs.reserve(most + 1) else {
             return Err(AskError::Memory);
         };
-        notes.clear();
-        self.seat.ask(n, tape, notes)?;
-        give_all(self.who, notes, outs);
+        let Ok(mut released) = no_notes(notes, outs) else {
+            return Err(AskError::Memory);
+        };
+        self.seat.ask(n, tape, &mut released)?;
+        give_all(self.who, &mut released, outs);
+        *notes = Some(released);
         Ok(())
     }
 }
@@ -152,6 +155,22 @@ pub(crate) fn give(who: u32, note: Option<Note>, outs: &mut Vec<Given, Heap>)
 {
     if let Some(note) = note {
         outs.push_reserved(Given { who, note });
+    }
+}
+
+// A list of no notes: the one that was kept, else a new one over the memory of `outs`.
+pub(crate) fn no_notes(
+    kept: &mut Option<Vec<Note, Heap>>,
+    outs: &Vec<Given, Heap>,
+) -> Result<Vec<Note, Heap>, Memory>
+    ensures { IfOk result (λ notes. notes.items ≡ []) }
+{
+    match kept.take() {
+        Some(mut notes) => {
+            notes.clear();
+            Ok(notes)
+        }
+        None => Ok(Vec::new(outs.allocator().clone()?)),
     }
 }
 

@@ -70,6 +70,6 @@ returns-clause-joins c =
       given = given-then before c.give_all.new.outs.items c.give.new.outs.items who given last
           (c.give_all.ensures.items
           ∙ ap (λ os. os ++ addressed who c.open.new.notes.items) c.in_ok-reserve.ensures.items
-          ∙ ap (λ ns. before ++ addressed who ns) (made.begins.1 ∙ ap (λ ns. ns ++ given) c.clear.ensures.items))
+          ∙ ap (λ ns. before ++ addressed who ns) (made.begins.1 ∙ ap (λ ns. ns ++ given) c.in_ok-notes.ensures))
           c.give.ensures.items;
     }
