@@ -13,5 +13,6 @@ pub mod Serving
 pub mod Sharing
 pub mod Tables
 pub mod Taking
+pub mod Tight
 pub mod Trimming
 pub mod Waiting

@@ -184,6 +184,9 @@ left_places subscriptions k = left_map place_of subscriptions k
 pub left_observers : (items : List Item) (places : List Place) (k : ℕ) → observers_on items (take k places ++ drop (suc k) places) ≡ take k (observers_on items places) ++ drop (suc k) (observers_on items places)
 left_observers items places k = left_map (observer_on items) places k
 
+pub left_cursors : (places : List Place) (k : ℕ) → cursors (take k places ++ drop (suc k) places) ≡ take k (cursors places) ++ drop (suc k) (cursors places)
+left_cursors places k = left_map (λ (p : Place). cursor_of p.seat) places k
+
 left_cursor : (cs : List (Option ℕ)) (k j cursor : ℕ) → get_or (take k cs ++ drop (suc k) cs) j None ≡ Some cursor
     → ((j < k) × (get_or cs j None ≡ Some cursor)) ⊎ ((k ≤ j) × (get_or cs (suc j) None ≡ Some cursor))
 left_cursor cs k j cursor is =

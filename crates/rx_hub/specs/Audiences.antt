@@ -1,8 +1,9 @@
 -- Several observers on one tape: what contracts see of them, and how their cursors stand.
-use Rattle.std.specs.Prelude.{◌≡◌, ℕ, Bool, List, [], map, get_or, Option, None, Some}
+use Rattle.std.specs.Prelude.{◌≡◌, ℕ, max, Bool, List, [], ◌∷◌, map, length, get_or, Option, None, Some}
 use Rattle.std.specs.List.{All}
 use Rattle.rx_note.specs.declared.item.Item.{Item}
 use Rattle.rx_tape.specs.Tapes.{TapeState}
+use Rattle.rx_tape.specs.Tapes as tapes
 use Rattle.rx_hub.specs.declared.seat.Seat.{Seat}
 use Rattle.rx_hub.specs.declared.subscription.Subscription.{Subscription}
 use Rattle.rx_hub.specs.Seats.{lane_of, cursor_of, Stands}
@@ -40,6 +41,15 @@ cursors places = map (λ place. cursor_of place.seat) places
 -- no two places have one cursor
 abbrev pub Apart : List Place → Type 0
 Apart places = (j k cursor : ℕ) → get_or (cursors places) j None ≡ Some cursor → get_or (cursors places) k None ≡ Some cursor → j ≡ k
+
+-- each cursor on the tape is that of a place
+abbrev pub Owned : TapeState → List Place → Type 0
+Owned tape places = (cursor at : ℕ) → tapes.place_of tape.places cursor ≡ Some at → (k : ℕ) × (get_or (cursors places) k None ≡ Some cursor)
+
+-- the most items that wait for one of several observers
+abbrev pub most_waiting : List Observer → ℕ
+most_waiting [] = 0
+most_waiting (observer ∷ observers) = max (length observer.lane.items) (most_waiting observers)
 
 -- the items of the tape and the observers
 pub record AudienceState : Type 0 where

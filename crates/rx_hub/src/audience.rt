@@ -1,4 +1,4 @@
-ghost use Rattle.std.specs.Prelude.{◌≡◌, ◌+◌, ◌*◌, ◌<◌, ◌≤◌, ◌^◌, ◌↔◌, ◌==◌, ◌++◌, ℕ, List, Err, length, take, drop, get_or, position, is_some, option_to_list, false, IfOk, OnOk, OnErr, vec_len, vec_capacity};
+ghost use Rattle.std.specs.Prelude.{◌≡◌, ◌+◌, ◌*◌, ◌<◌, ◌≤◌, ◌^◌, ◌↔◌, ◌==◌, ◌++◌, ℕ, List, Err, max, length, take, drop, get_or, position, is_some, option_to_list, false, IfOk, OnOk, OnErr, vec_len, vec_capacity};
 ghost use Rattle.std.specs.List.{All};
 ghost use Rattle.rx_note.specs.declared.event.Event.TheVariants.{Emit};
 ghost use Rattle.rx_note.specs.declared.item.Item.{Item};
@@ -13,7 +13,7 @@ ghost use Rattle.rx_subject.specs.Subjects as subjects;
 ghost use Rattle.rx_subject.specs.TapeSubjects.{subject_on};
 ghost use Rattle.rx_hub.specs.Seats.{IsReady};
 ghost use Rattle.rx_hub.specs.Subscriptions.{Observer, AllFedInto, AsksAt, JoinsInto};
-ghost use Rattle.rx_hub.specs.Audiences.{places_of, observers_on, AllOn, Apart, cursors, audience_at_first};
+ghost use Rattle.rx_hub.specs.Audiences.{places_of, observers_on, AllOn, Apart, Owned, cursors, most_waiting, audience_at_first};
 
 use crate::seat::Seat;
 use crate::subscription::{Subscription, end_by, give, give_all, no_notes};
@@ -37,13 +37,13 @@ pub(crate) struct Audience {
 
 impl Model for Audience {
     ghost use Rattle.std.specs.Prelude.{false};
-    ghost use Rattle.rx_hub.specs.Audiences.{AudienceState, places_of, observers_on, AllOn, Apart};
+    ghost use Rattle.rx_hub.specs.Audiences.{AudienceState, places_of, observers_on, AllOn, Apart, Owned};
 
     ghost Value = { AudienceState };
 
     ghost view = { λ a. record { items = a.tape.items; observers = observers_on a.tape.items (places_of a.subscriptions.items) } };
 
-    ghost invariant = { λ a. AllOn a.tape false (places_of a.subscriptions.items) × Apart (places_of a.subscriptions.items) };
+    ghost invariant = { λ a. AllOn a.tape false (places_of a.subscriptions.items) × Apart (places_of a.subscriptions.items) × Owned a.tape (places_of a.subscriptions.items) };
 }
 
 impl Audience {
@@ -182,6 +182,7 @@ impl Audience {
     /// Removes from the tape what no observer waits for, save the last `keep` items.
     pub(crate) fn trim(&mut self, keep: usize)
         ensures observers { self.new.observers ≡ self.old.observers }
+        ensures tight { length self.new.items ≤ max keep (most_waiting self.new.observers) }
         ensures kept { (count : ℕ) → count ≤ keep → count ≤ length self.old.items
             → (count ≤ length self.new.items) × (last_items self.new.items count ≡ last_items self.old.items count) }
     {
@@ -224,6 +225,7 @@ fn feed_all(
         (observers_on tape.new.items (places_of subscriptions.new.items)) outs.old.items outs.new.items }
     ensures on { AllOn tape.new false (places_of subscriptions.new.items) }
     ensures cursors { cursors (places_of subscriptions.new.items) ≡ cursors (places_of subscriptions.old.items) }
+    ensures owned { Owned tape.old (places_of subscriptions.old.items) → Owned tape.new (places_of subscriptions.new.items) }
     ensures items { tape.new.items ≡ tape.old.items }
 {
     for i in 0..subscriptions.len() {

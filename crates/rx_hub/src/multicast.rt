@@ -1,9 +1,10 @@
-ghost use Rattle.std.specs.Prelude.{◌≡◌, ◌<◌, ◌≤◌, ◌^◌, ℕ, List, length, IfOk};
+ghost use Rattle.std.specs.Prelude.{◌≡◌, ◌<◌, ◌≤◌, ◌^◌, ℕ, List, max, length, IfOk};
 ghost use Rattle.rx_note.specs.declared.event.Event.TheVariants.{Emit, Join, Request, Dispose};
 ghost use Rattle.rx_note.specs.declared.given.Given.{Given};
 ghost use Rattle.rx_history.specs.Histories.{History};
 ghost use Rattle.rx_hub.specs.Hubs.{StandsFor, Takes};
 ghost use Rattle.rx_hub.specs.Counts.{waiting_count};
+ghost use Rattle.rx_hub.specs.Audiences.{most_waiting};
 
 use crate::audience::Audience;
 use crate::no_observer::NoObserver;
@@ -23,6 +24,8 @@ pub(crate) struct Multicast {
     ghost fits: { (length audience.observers ≤ limits.observers) × (limits.observers < 2 ^ 32) },
     // What the subject keeps is on the tape.
     ghost within: { length subject.stamps ≤ length audience.items },
+    // No more items are on the tape than the most that wait for one observer, or are kept for joiners.
+    ghost tight: { length audience.items ≤ max (length subject.stamps) (most_waiting audience.observers) },
 }
 
 impl Multicast {

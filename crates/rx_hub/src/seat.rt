@@ -164,7 +164,8 @@ impl Seat {
 
     /// Lets the queue go with what waits, and releases its cursor.
     pub(crate) fn close(self, tape: &mut Tape)
-        ensures { Leaves tape.old tape.new (cursor_of self) }
+        ensures leaves { Leaves tape.old tape.new (cursor_of self) }
+        ensures released { (cursor : ℕ) → cursor_of self ≡ Some cursor → place_of tape.new.places cursor ≡ None }
     {
         match self {
             Seat::Shared(lane) => lane.close(tape),

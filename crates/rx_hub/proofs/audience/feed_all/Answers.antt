@@ -9,6 +9,7 @@ use Rattle.rx_hub.specs.Audiences.{Place, place_of, places_of, observer_on, obse
 use Rattle.rx_hub.specs.Audiences as audiences
 use Rattle.rx_hub.proofs.Feeding.{still-at, rest-more, fed-more}
 use Rattle.rx_hub.proofs.Places.{Turning, Turning-more, place-at, set_cursors, apart_same}
+use Rattle.rx_hub.proofs.Tight.{owned_moved, owned_same}
 use Rattle.rx_hub.proofs.audience.feed_all.Goals as goal
 
 pub loop-i-init : goal.loop-i-init
@@ -20,6 +21,7 @@ loop-i-init c = record {
     left = λ k d low high. c.requires.on k d high;
   };
   cursors = refl;
+  owned = λ owned. owned;
   items = refl;
   len = refl;
   room = omega (arith, c.requires.outs_room);
@@ -70,6 +72,10 @@ loop-i-preserved c =
           (Turning-more c.loop-i.tape c.feed.new.tape (is_some offer.item) (places_of news) i (place_of old) (place_of new) was.turning
           (apart_same (places_of olds) (places_of news) was.cursors c.requires.apart) within at c.feed.ensures.leaves c.feed.ensures.stands);
       cursors = ap audiences.cursors sets ∙ set_cursors (places_of news) i (place_of old) (place_of new) at c.feed.ensures.cursor ∙ was.cursors;
+      owned = λ owned.
+          let now = owned_same c.loop-i.tape (places_of olds) (places_of news) was.cursors (was.owned owned) in
+          owned_same c.feed.new.tape (places_of news) (places_of olds) (sym was.cursors)
+          (owned_moved c.loop-i.tape c.feed.new.tape (places_of news) i (place_of old) within at c.feed.ensures.leaves now);
       items = items_are;
       len = was.len;
       room = omega (arith, c.feed.ensures.len, c.feed.ensures.capacity, was.room, was.len);
@@ -92,3 +98,7 @@ returns-clause-fed c = λ items tape_is.
 pub returns-clause-on : goal.returns-clause-on
 returns-clause-on c = λ k d lt.
     c.loop-i.invariant.turning.done k d (omega arith) (omega (arith, lt, length-map c.loop-i.subscriptions.items place_of))
+
+pub returns-clause-owned : goal.returns-clause-owned
+returns-clause-owned c = λ owned.
+    owned_same c.loop-i.tape (places_of c.args.subscriptions.now.items) (places_of c.loop-i.subscriptions.items) c.loop-i.invariant.cursors (c.loop-i.invariant.owned owned)

@@ -15,6 +15,7 @@ invariant-loop-i l = record {
       (observers_on l.initial.tape.items (places_of (take l.i l.subscriptions.items))) l.initial.outs.items l.outs.items;
   turning : Turning l.tape (is_some l.fn.offer.item) (places_of l.subscriptions.items) l.i;
   cursors : audiences.cursors (places_of l.subscriptions.items) ≡ audiences.cursors (places_of l.initial.subscriptions.items);
+  owned : audiences.Owned l.initial.tape (places_of l.initial.subscriptions.items) → audiences.Owned l.tape (places_of l.initial.subscriptions.items);
   items : l.tape.items ≡ l.initial.tape.items;
   len : vec_len l.subscriptions ≡ vec_len l.initial.subscriptions;
   room : vec_len l.outs + 2 * (vec_len l.initial.subscriptions - l.i) ≤ vec_capacity l.outs;

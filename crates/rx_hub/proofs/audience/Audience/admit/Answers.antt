@@ -4,11 +4,28 @@ use Rattle.rx_note.specs.Signals.{Signal}
 use Rattle.rx_tape.specs.Tapes.{TapeState}
 use Rattle.rx_subject.specs.Offers.{offer_signals}
 use Rattle.rx_subject.specs.Subjects.{offered_by, signals_by}
-use Rattle.rx_subject.specs.TapeSubjects.{subject_on}
+use Rattle.rx_subject.specs.TapeSubjects.{subject_on, pushed_all}
 use Rattle.rx_subject.proofs.Taped.{pushed_items}
 use Rattle.rx_hub.specs.Subscriptions.{Observer, AllFedInto}
-use Rattle.rx_hub.specs.Audiences.{AudienceState, places_of, observers_on}
+use Rattle.rx_hub.specs.Audiences.{AudienceState, Place, Apart, Owned, places_of, observers_on}
+use Rattle.rx_hub.proofs.Places.{apart_same}
+use Rattle.rx_hub.proofs.Tight.{owned_pushed}
 use Rattle.rx_hub.proofs.audience.Audience.admit.Goals as goal
+
+pub invariant_of-self-2 : goal.invariant_of-self-2
+invariant_of-self-2 c =
+    let a = c.self.inside in
+    let items = a.tape.items in
+    let offer = c.in-Ok.offer in
+    let mids = places_of c.prepare_all.new.subscriptions.items in
+    let news = places_of c.feed_all.new.subscriptions.items in
+    let places = c.in_ok-prepare_all.ensures.places in
+    let tape_is = c.in-Ok-admit_offered.ensures.tape ∙ ap (pushed_all a.tape) (sym (c.in-Ok.ensures.item items)) in
+    let owned = owned_pushed a.tape offer.item mids (subst (λ (ps : List Place). Owned a.tape ps) (sym places) c.self.invariant.2) in (
+      c.feed_all.ensures.on,
+      apart_same mids news c.feed_all.ensures.cursors (subst (λ (ps : List Place). Apart ps) (sym places) c.self.invariant.1),
+      c.feed_all.ensures.owned (subst (λ (tape : TapeState). Owned tape mids) (sym tape_is) owned),
+    )
 
 pub returns-clause-fed : goal.returns-clause-fed
 returns-clause-fed c =

@@ -8,10 +8,11 @@ use Rattle.rx_subject.specs.TapeSubjects.{subject_on}
 use Rattle.rx_tape.specs.Tapes.{waits}
 use Rattle.rx_hub.specs.Seats.{lane_of, cursor_of, Stands, Leaves}
 use Rattle.rx_hub.specs.Subscriptions.{Begins, Serves}
-use Rattle.rx_hub.specs.Audiences.{AudienceState, Place, AllOn, Apart, place_of, places_of, observer_on, observers_on}
+use Rattle.rx_hub.specs.Audiences.{AudienceState, Place, AllOn, Apart, Owned, place_of, places_of, observer_on, observers_on}
 use Rattle.rx_hub.proofs.Seats.{leaves_then}
 use Rattle.rx_hub.proofs.Serving.{begins_then, offers-unended, given-then}
 use Rattle.rx_hub.proofs.Places.{joined_on, joined_apart}
+use Rattle.rx_hub.proofs.Tight.{owned_joined}
 use Rattle.rx_hub.proofs.audience.Audience.open.Goals as goal
 
 pub invariant_of-self-2 : goal.invariant_of-self-2
@@ -29,6 +30,7 @@ invariant_of-self-2 c =
     ap places_of (c.push_reserved.ensures.items ∙ ap (λ xs. xs ++ c.new.result ∷ []) c.in_ok-reserve-2.ensures.items) ∙ map-append place_of subs (c.new.result ∷ []) in (
       subst (λ (ps : List Place). AllOn later false ps) (sym more) (joined_on a.tape later (places_of subs) one fresh leaves stands c.self.invariant.0),
       subst (λ (ps : List Place). Apart ps) (sym more) (joined_apart a.tape (places_of subs) one fresh c.self.invariant.0 c.self.invariant.1),
+      subst (λ (ps : List Place). Owned later ps) (sym more) (owned_joined a.tape later (places_of subs) one leaves c.self.invariant.2),
     )
 
 pub returns-clause-joins : goal.returns-clause-joins

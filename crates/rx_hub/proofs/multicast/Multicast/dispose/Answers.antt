@@ -27,6 +27,7 @@ invariant_of-self-2 c =
     record {
       fits = (omega (arith, fewer, front, rest, old.fits.0), old.fits.1);
       within = kept.0;
+      tight = omega (arith, c.trim.ensures.tight, c.keep.ensures);
     }
 
 pub returns : goal.returns

@@ -44,6 +44,7 @@ invariant_of-self-2 c =
     record {
       fits = (omega (arith, more, c.len.ensures, c.if-len-self.false), old.fits.1);
       within = kept.0;
+      tight = omega (arith, c.trim.ensures.tight, c.keep.ensures);
     }
 
 pub returns : goal.returns

@@ -37,6 +37,7 @@ invariant_of-self-in-Ok c =
     record {
       fits = (omega (arith, same, old.fits.0), old.fits.1);
       within = kept.0;
+      tight = omega (arith, c.trim.ensures.tight, c.keep.ensures);
     }
 
 pub returns-in-Ok : goal.returns-in-Ok
