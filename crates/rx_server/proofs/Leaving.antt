@@ -1,10 +1,10 @@
 -- What is left, thread by thread.
-use Rattle.std.proofs.Common.{◌≡◌, sym, subst, true, false, Option, Some, None, List, [], ◌∷◌, ◌++◌, length, length-append, map, arith, MatchOption}
+use Rattle.std.proofs.Common.{sym, subst, Option, Some, None, Result, Ok, Err, List, [], ◌∷◌, ◌++◌, length, length-append, map, arith, MatchOption, MatchResult}
 use Rattle.std.proofs.lemmas.Slice.Zip.{all_zipped_more, AllZip-long}
 use Rattle.std.specs.List.{AllZip}
-use Rattle.std.specs.Option.{is_some}
 use Rattle.rx_server.specs.declared.close_fault.CloseFault.{CloseFault}
 use Rattle.rx_server.specs.declared.start_fault.Role.{Role}
+use Rattle.rx_server.specs.Ends.{Keeps}
 use Rattle.rx_server.specs.Servers.{IsOf}
 
 module _ {A B : Type 0} (R : A → B → Type 0) (role : Role) where
@@ -12,28 +12,21 @@ module _ {A B : Type 0} (R : A → B → Type 0) (role : Role) where
   abbrev pub HaveJoined : List A → List B → Option CloseFault → Type 0
   HaveJoined threads ends fault = MatchOption fault (AllZip R threads ends) (IsOf role (length threads))
 
-  -- one more left what it promises
-  pub joined-more : (xs : List A) (ys after : List B) (x : A) (y : B) (fault : Option CloseFault)
-      → after ≡ ys ++ y ∷ [] → is_some fault ≡ false → R x y → HaveJoined xs ys fault → HaveJoined (xs ++ x ∷ []) after fault
-  joined-more xs ys after x y None put none r all = subst (λ (l : List B). AllZip R (xs ++ x ∷ []) l) (sym put) (all_zipped_more R xs ys x y all r)
-  joined-more xs ys after x y (Some fault) put none r all = cc
-
-  -- one more is the first that did not
-  pub joined-fault : (xs : List A) (ys : List B) (x : A) (before : Option CloseFault) (fault : CloseFault)
-      → is_some before ≡ false → fault.thread ≡ role → fault.index ≡ length ys → HaveJoined xs ys before → HaveJoined (xs ++ x ∷ []) ys (Some fault)
-  joined-fault xs ys x None fault none thread index all =
+  -- one more was joined
+  pub joined-one : {F : Type 0} (Q : F → Type 0) (xs : List A) (ys after : List B) (x : A) (joined : Result B F) (before fault : Option CloseFault)
+      → MatchResult joined (λ y. R x y) Q → Keeps role joined ys before after fault → HaveJoined xs ys before → HaveJoined (xs ++ x ∷ []) after fault
+  joined-one Q xs ys after x joined (Some first) fault left kept all =
+      let more = length-append xs (x ∷ []) in
+      let late : HaveJoined (xs ++ x ∷ []) after (Some first) = (all.0, omega (arith, all.1, more)) in
+      subst (λ (f : Option CloseFault). HaveJoined (xs ++ x ∷ []) after f) (sym kept.1) late
+  joined-one Q xs ys after x (Ok end) None fault left kept all =
+      let ended : HaveJoined (xs ++ x ∷ []) after None = subst (λ (l : List B). AllZip R (xs ++ x ∷ []) l) (sym kept.0) (all_zipped_more R xs ys x end all left) in
+      subst (λ (f : Option CloseFault). HaveJoined (xs ++ x ∷ []) after f) (sym kept.1) ended
+  joined-one Q xs ys after x (Err cause) None fault left kept all =
       let long = AllZip-long R xs ys all in
       let more = length-append xs (x ∷ []) in
-      (thread, omega (arith, index, long, more))
-  joined-fault xs ys x (Some other) fault none thread index all = cc
-
-  -- one more comes after that one
-  pub joined-late : (xs : List A) (ys : List B) (x : A) (fault : Option CloseFault)
-      → is_some fault ≡ true → HaveJoined xs ys fault → HaveJoined (xs ++ x ∷ []) ys fault
-  joined-late xs ys x None some told = cc
-  joined-late xs ys x (Some fault) some told =
-      let more = length-append xs (x ∷ []) in
-      (told.0, omega (arith, told.1, more))
+      let first : HaveJoined (xs ++ x ∷ []) after (Some kept.1.0) = (kept.1.2, omega (arith, kept.1.3, long, more)) in
+      subst (λ (f : Option CloseFault). HaveJoined (xs ++ x ∷ []) after f) (sym kept.1.1) first
 
 -- what holds of what the threads stand for
 pub zip-stands : {A B X : Type 0} (R : A → B → Type 0) (f : X → A) (xs : List X) (ys : List B) → AllZip (λ x y. R (f x) y) xs ys → AllZip R (map f xs) ys

@@ -2,6 +2,7 @@ pub mod Accepting
 pub mod Configurations
 pub mod Connections
 pub mod Crews
+pub mod Ends
 pub mod OpenBoxes
 pub mod Responses
 pub mod Rooms

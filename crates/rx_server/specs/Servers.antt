@@ -20,9 +20,10 @@ use Rattle.rx_server.specs.declared.start_fault.Role.{Role}
 use Rattle.rx_server.specs.declared.start_fault.Role.TheVariants.{Drainer, Pump}
 use Rattle.rx_server.specs.Wirings.{Wiring, IsWired}
 
--- a server: its pumps and drainers as they were before their first turn, the ports by which the drainers are told to leave,
--- and the desks that were not handed out
+-- a server: its configuration, its pumps and drainers as they were before their first turn, the ports by which the drainers are
+-- told to leave, and the desks that were not handed out
 pub record ServerView (S Rest : Type 0) : Type 0 where
+  pub config : Config
   pub pumps : List (PumpView S)
   pub drainers : List (DrainerView S Rest)
   pub leaves : List (Outgoing (Out S))
@@ -31,14 +32,16 @@ pub record ServerView (S Rest : Type 0) : Type 0 where
 module _ {S Rest : Type 0} where
   -- the server before its first desk was handed out
   abbrev pub with_desk : DeskView S → ServerView S Rest → ServerView S Rest
-  with_desk desk server = record { pumps = server.pumps; drainers = server.drainers; leaves = server.leaves; desks = desk ∷ server.desks }
+  with_desk desk server = record { config = server.config; pumps = server.pumps; drainers = server.drainers; leaves = server.leaves; desks = desk ∷ server.desks }
 
   -- a new server of a configuration, with these boxes and hubs
   abbrev pub IsServerOf : Config → Wiring S → List HubView → ServerView S Rest → Type 0
-  IsServerOf config w hubs server = IsWired config w hubs server.pumps server.drainers server.leaves server.desks
+  IsServerOf config w hubs server =
+      (server.config ≡ config) × IsWired config w hubs server.pumps server.drainers server.leaves server.desks
 
-  -- the same pumps, drainers and leave ports; of the desks some more may have been handed out
+  -- the same configuration, pumps, drainers and leave ports; of the desks some more may have been handed out
   pub record RunsOn (before after : ServerView S Rest) : Type 0 where
+    pub config : after.config ≡ before.config
     pub pumps : after.pumps ≡ before.pumps
     pub drainers : after.drainers ≡ before.drainers
     pub leaves : after.leaves ≡ before.leaves

@@ -1,10 +1,11 @@
 // How a server is closed: its desks and leave ports end, and its threads are joined.
-ghost use Rattle.std.specs.Prelude.{◌≡◌, ◌+◌, ◌≤◌, [], ◌++◌, length, map, vec_len, vec_capacity, MatchResult};
+ghost use Rattle.std.specs.Prelude.{◌≡◌, ◌+◌, ◌<◌, ◌≤◌, [], ◌++◌, length, map, vec_len, vec_capacity, MatchResult};
 ghost use Rattle.std.specs.List.{AllZip, sum_by};
 ghost use Rattle.std.specs.Vec.Iter.{into_iter_items};
 ghost use Rattle.rx_pump.specs.Pumps.{counted};
 ghost use Rattle.rx_pump.specs.Serving as pump_serving;
 ghost use Rattle.rx_drain.specs.Serving as drainer_serving;
+ghost use Rattle.rx_server.specs.Ends.{Keeps};
 ghost use Rattle.rx_server.specs.Servers.{IsOf, report_of};
 
 use crate::close_fault::CloseFault;
@@ -100,14 +101,7 @@ fn join_pumps<S: Sink, R: Threads>(
     let mut ends = ends;
     let mut fault = None;
     for running in pumps {
-        let joined = running.join(rt);
-        if fault.is_some() {
-            continue;
-        }
-        match joined {
-            Ok(end) => ends.push_reserved(end),
-            Err(_) => fault = Some(CloseFault::ended(Role::Pump, ends.len())),
-        }
+        keep(Role::Pump, running.join(rt), &mut ends, &mut fault);
     }
     match fault {
         None => Ok(ends),
@@ -130,18 +124,32 @@ fn join_drainers<S: Sink, R: Threads>(
     let mut ends = ends;
     let mut fault = None;
     for running in drainers {
-        let joined = running.join(rt);
-        if fault.is_some() {
-            continue;
-        }
-        match joined {
-            Ok(end) => ends.push_reserved(end),
-            Err(_) => fault = Some(CloseFault::ended(Role::Drainer, ends.len())),
-        }
+        keep(Role::Drainer, running.join(rt), &mut ends, &mut fault);
     }
     match fault {
         None => Ok(ends),
         Some(fault) => Err(fault),
+    }
+}
+
+// Keeps what one more thread of a role left, unless one before it ended by a fault.
+fn keep<E: Drop, F: Drop>(
+    role: Role,
+    joined: Result<E, F>,
+    ends: &mut Vec<E, Heap>,
+    fault: &mut Option<CloseFault>,
+)
+    requires { vec_len ends.old < vec_capacity ends.old }
+    ensures kept { Keeps role joined ends.old.items fault.old ends.new.items fault.new }
+    ensures room { vec_len ends.new ≤ vec_len ends.old + 1 }
+    ensures capacity { vec_capacity ends.new ≡ vec_capacity ends.old }
+{
+    if fault.is_some() {
+        return;
+    }
+    match joined {
+        Ok(end) => ends.push_reserved(end),
+        Err(_) => *fault = Some(CloseFault::ended(role, ends.len())),
     }
 }
 

@@ -16,6 +16,7 @@ use std::thread::Threads;
 use std::vec::IntoIter;
 
 impl<W: Write + Drop + Send + 'static> Server<LineSink<W>> {
+    ghost use Rattle.rx_server.specs.Crews.{HasAcceptedAll};
     ghost use Rattle.rx_server.specs.Servers.{RunsOn};
 
     /// Serves each connection that comes by a session, until as many have ended as the configuration says. A worker serves for
@@ -33,6 +34,7 @@ impl<W: Write + Drop + Send + 'static> Server<LineSink<W>> {
     >(&mut self, rt: &R, listener: &mut L, moments: M) -> Result<(), ServeFault>
         ensures no_desk { self.old.desks ≡ [] → (result ≡ Err ServeFault.NoDesk) × (self.new ≡ self.old) }
         ensures served { OnOk result (self.new.desks ≡ []) }
+        ensures accepted { OnOk result (HasAcceptedAll L.accepts self.old.config.connections listener.old listener.new) }
         ensures same { RunsOn self.old self.new }
     {
         let count = self.desks.len();

@@ -53,6 +53,7 @@ pub use listener::{AcceptFault, Listener};
 pub use moments::Moments;
 pub use reading::read_config;
 pub use report::{Report, SubjectReport};
+pub use responding::response_to;
 pub use running_worker::{RunningWorker, start_worker};
 pub use serve_fault::ServeFault;
 pub use server::{Server, start};

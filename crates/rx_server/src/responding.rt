@@ -7,8 +7,8 @@ use rx_note::{Answer, Refusal};
 use rx_proto::{Response, Word};
 use rx_pump::{CallError, Reply};
 
-// The response to an event that was answered so.
-fn response_to(answered: Result<Answer, Refusal>) -> Response
+/// The response to an event that was answered so.
+pub fn response_to(answered: Result<Answer, Refusal>) -> Response
     ensures { result ≡ response_to answered }
 {
     match answered {

@@ -1,4 +1,4 @@
-ghost use Rattle.std.specs.Prelude.{◌≡◌, [], List, IfOk, MatchOption, map};
+ghost use Rattle.std.specs.Prelude.{◌≡◌, ◌+◌, ◌<◌, [], List, IfOk, IfSome, MatchOption, length, map};
 ghost use Rattle.std.specs.Arc.{arc_value};
 ghost use Rattle.rx_hub.specs.Hubs.{HubView};
 ghost use Rattle.rx_server.specs.Wirings.{Wiring};
@@ -37,7 +37,7 @@ pub struct Server<S: Sink> {
 }
 
 impl<S: Sink> Model for Server<S> {
-    ghost use Rattle.std.specs.Prelude.{◌≡◌, length, map, vec_len};
+    ghost use Rattle.std.specs.Prelude.{◌≡◌, ◌<◌, length, map, vec_len};
     ghost use Rattle.std.specs.Vec.Iter.{into_iter_items};
     ghost use Rattle.std.specs.Arc.{arc_value};
     ghost use Rattle.std.specs.List.{All};
@@ -47,18 +47,22 @@ impl<S: Sink> Model for Server<S> {
 
     ghost Value = { ServerView S S.Rest };
 
-    ghost view = { λ s. record { pumps = s.pumps.items; drainers = map (λ drainer. drainer.handle.promise.0.value) s.drainers.items; leaves = s.leaves.items; desks = into_iter_items s.desks } };
+    ghost view = { λ s. record { config = arc_value s.config; pumps = s.pumps.items; drainers = map (λ drainer. drainer.handle.promise.0.value) s.drainers.items; leaves = s.leaves.items; desks = into_iter_items s.desks } };
 
     ghost invariant = { λ s. AreRooms (vec_len s.pumps) (vec_len s.drainers) (length (into_iter_items s.desks)) s.rooms × (vec_len s.leaves ≡ vec_len s.drainers)
-        × All (IsFor (arc_value s.config)) (into_iter_items s.desks) };
+        × All (IsFor (arc_value s.config)) (into_iter_items s.desks) × (0 < vec_len (arc_value s.config).subjects) };
 }
 
 impl<S: Sink> Server<S> {
+    ghost use Rattle.rx_server.specs.Crews.{IsFor};
     ghost use Rattle.rx_server.specs.Servers.{with_desk};
 
-    /// The next desk, in their order, each once, or None where all were handed out.
+    /// The next desk, in their order, each once, or None where all were handed out. It has a port for each subject, of which
+    /// there is one at least.
     pub fn desk(&mut self) -> Option<CallDesk<S>>
-        ensures { MatchOption result ((self.old.desks ≡ []) × (self.new ≡ self.old)) (λ desk. self.old ≡ with_desk desk self.new) }
+        ensures next { MatchOption result ((self.old.desks ≡ []) × (self.new ≡ self.old)) (λ desk. self.old ≡ with_desk desk self.new) }
+        ensures ports { IfSome result (IsFor self.old.config) }
+        ensures some { IfSome result (λ desk. 0 < length desk.ports + length desk.ended) }
     {
         self.desks.next()
     }

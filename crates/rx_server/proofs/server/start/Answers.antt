@@ -1,4 +1,4 @@
-use Rattle.std.proofs.Common.{◌≡◌, sym, ap, subst, length, arith}
+use Rattle.std.proofs.Common.{◌≡◌, ◌<◌, sym, ap, subst, length, vec_len, arith}
 use Rattle.std.proofs.lemmas.List.Elements.{All-same}
 use Rattle.std.specs.List.{All}
 use Rattle.std.specs.Vec.Iter.{into_iter_items}
@@ -25,4 +25,5 @@ invariant_of-result g c =
       Rooms-as _ _ _ _ _ _ c.in-Ok.rooms pumps_are drainers_are desks_are c.in-Ok.ensures,
       leaves_are,
       subst (λ (config : Config). All (IsFor config) (into_iter_items c.into_iter.result)) (sym c.in-Ok-shared.ensures) fit,
+      subst (λ (config : Config). 0 < vec_len config.subjects) (sym c.in-Ok-shared.ensures) (omega (arith, c.args.config.subjects_in_range)),
     )

@@ -34,4 +34,5 @@ invariant_of-self g c =
       c.self.invariant.1,
       behind_first (IsFor (arc_value c.self.inside.config)) c.next.result rest
           (subst (λ (l : List _). All (IsFor (arc_value c.self.inside.config)) l) c.next.ensures.items c.self.invariant.2),
+      c.self.invariant.3,
     )
