@@ -4,7 +4,7 @@ use Rattle.std.proofs.lemmas.List.{length-drop, drop-drop}
 use Rattle.rx_note.specs.declared.item.Item.{Item}
 use Rattle.rx_tape.specs.Tapes.{TapeState, end_of, place_of, last_items, pushed, passed, trimmed, Spares}
 use Rattle.rx_tape.proofs.Lows.{lowest-le}
-use Rattle.rx_lane.specs.TapeLanes.{StandsBack, HoldsSame}
+use Rattle.rx_lane.specs.TapeLanes.{StandsBack}
 use Rattle.rx_lane.proofs.Shared.{pushed_on}
 use Rattle.rx_hub.specs.declared.seat.Seat.{Seat}
 use Rattle.rx_hub.specs.declared.seat.Seat.TheVariants.{Shared, Own}
@@ -23,11 +23,6 @@ pub unmoved : (old new : TapeState) (offered : Bool) (moved : Option ℕ) (seat 
     → Stands old offered seat → Stands new offered seat
 unmoved old new offered moved (Shared lane) leaves other stands = back_same leaves.front leaves.items (leaves.others lane.cursor (other lane.cursor refl)) stands
 unmoved old new offered moved (Own lane) leaves other stands = stands
-
--- a tape on which every cursor stands where it stood
-pub held : (old new : TapeState) (offered : Bool) (seat : Seat) → HoldsSame old new → Stands old offered seat → Stands new offered seat
-held old new offered (Shared lane) same stands = back_same same.front same.items (same.places lane.cursor) stands
-held old new offered (Own lane) same stands = stands
 
 -- one cursor moved, and moved again
 pub leaves_then : (a b c : TapeState) (moved : Option ℕ) → Leaves a b moved → Leaves b c moved → Leaves a c moved
@@ -81,7 +76,3 @@ trimmed_lane tape keep (Shared lane) stands =
     let waiting = ap (λ rest. option_to_list lane.lead ++ rest) (lasts_kept tape.items (passed tape keep) lane.back (back_passed tape keep lane.cursor lane.back stands)) in
     ap (λ (items : List Item). record { policy = lane.policy; items = items; last = lane.last; ended = lane.ended; owing = lane.owing }) waiting
 trimmed_lane tape keep (Own lane) stands = refl
-
--- so are those that the subject keeps
-pub keep_passed : (tape : TapeState) (keep count : ℕ) → count ≤ keep → count ≤ length tape.items → passed tape keep + count ≤ length tape.items
-keep_passed tape keep count le within = omega (arith, le, within)

@@ -1,5 +1,5 @@
 -- What a queue gives by several signals in turn.
-use Rattle.std.proofs.Common.{◌≡◌, ℕ, zero, suc, ◌+◌, Bool, true, false, cond, leb, take, List, [], ◌∷◌, ◌++◌, map, Option, None, Some, option_to_list, refl, sym, ap, subst, ◌∙◌, append_assoc, append-nil}
+use Rattle.std.proofs.Common.{◌≡◌, ℕ, zero, suc, ◌+◌, Bool, true, false, cond, leb, take, List, [], ◌∷◌, ◌++◌, map, Option, None, Some, option_to_list, refl, sym, ap, subst, ◌∙◌, append_assoc}
 use Rattle.std.proofs.lemmas.List.{map-append}
 use Rattle.rx_note.specs.declared.item.Item.{Item}
 use Rattle.rx_note.specs.declared.given.Given.{Given}
@@ -8,7 +8,8 @@ use Rattle.rx_note.specs.declared.note.Note.TheVariants.{Next}
 use Rattle.rx_note.specs.Choices.{Choice}
 use Rattle.rx_note.specs.Signals.{Signal, Requested, Offered, Signals, Start, ◌▸◌, terminal_of, given}
 use Rattle.rx_history.specs.Histories.{followed_by, addressed}
-use Rattle.rx_lane.specs.Lanes.{LaneState, StandsFor, MayFollow, Gives, GoesOn}
+use Rattle.rx_lane.proofs.Steps.{offer_lost}
+use Rattle.rx_lane.specs.Lanes.{loses_next, LaneState, StandsFor, MayFollow, Gives, GoesOn}
 use Rattle.rx_lane.specs.TapeLanes.{offered_all}
 use Rattle.rx_lane.specs.TapeLanes as tape_lanes
 use Rattle.rx_hub.specs.Subscriptions.{Serves, Begins, BeginsInto}
@@ -17,13 +18,6 @@ use Rattle.rx_hub.specs.Subscriptions.{Serves, Begins, BeginsInto}
 pub followed_by-append : (s : Signals) (xs ys : List Signal) → followed_by s (xs ++ ys) ≡ followed_by (followed_by s xs) ys
 followed_by-append s [] ys = refl
 followed_by-append s (x ∷ xs) ys = followed_by-append (s ▸ x) xs ys
-
--- no signal
-pub Serves-none : (lane : LaneState) → Serves lane lane [] []
-Serves-none lane = record {
-  gives = λ s stands unended. sym (append-nil (given s));
-  goes_on = λ s stands unended. stands;
-}
 
 -- one signal
 pub Serves-one : (old new : LaneState) (signal : Signal) (notes : List Note)
@@ -114,3 +108,16 @@ begins_so lane policy first items before after begins =
         stands = subst (λ (s : Signals). StandsFor lane s) same begins.2.stands;
       },
     )
+
+-- where no copy was needed the item is lost
+none_lost : (b : Bool) (item : Item) → None ≡ cond b None (Some item) → b ≡ true
+none_lost true item is = refl
+none_lost false item is = absurd cc
+
+-- an item that is lost gives nothing
+pub Serves-lost : (lane : LaneState) (item : Item) → None ≡ cond (loses_next lane) None (Some item) → Serves lane lane (Offered item ∷ []) []
+Serves-lost lane item none =
+    let lost = none_lost (loses_next lane) item none in
+    Serves-one lane lane (Offered item) [] (λ s unended. unended)
+    (λ s stands unended. (offer_lost lane item lost s stands unended).gives)
+    (λ s stands unended. (offer_lost lane item lost s stands unended).stands)

@@ -6,7 +6,6 @@ use Rattle.rx_note.specs.declared.item.Item.{Item}
 use Rattle.rx_tape.specs.Tapes.{TapeState, end_of, lowest, passed, trimmed, waits}
 use Rattle.rx_tape.specs.Tapes as tapes
 use Rattle.rx_tape.proofs.Lasts.{waits-length}
-use Rattle.rx_lane.specs.TapeLanes.{HoldsSame}
 use Rattle.rx_subject.specs.TapeSubjects.{pushed_all}
 use Rattle.rx_hub.specs.declared.seat.Seat.{Seat}
 use Rattle.rx_hub.specs.declared.seat.Seat.TheVariants.{Shared, Own}
@@ -54,10 +53,6 @@ owned_moved old new places i one lt at leaves owned = λ cursor place is.
 pub owned_same : (tape : TapeState) (olds news : List Place) → cursors news ≡ cursors olds → Owned tape olds → Owned tape news
 owned_same tape olds news same owned = λ cursor place is.
     let by = owned cursor place is in (by.0, ap (λ cs. get_or cs by.0 None) same ∙ by.1)
-
--- a tape on which every cursor stands where it stood
-pub owned_held : (old new : TapeState) (places : List Place) → HoldsSame old new → Owned old places → Owned new places
-owned_held old new places same owned = λ cursor place is. owned cursor place (sym (same.places cursor) ∙ is)
 
 -- items more on the tape
 pub owned_pushed : (tape : TapeState) (item : Option Item) (places : List Place) → Owned tape places → Owned (pushed_all tape (option_to_list item)) places

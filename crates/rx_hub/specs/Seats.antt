@@ -1,8 +1,8 @@
 -- Where what waits for an observer stands: on the tape that the observers share, or in a queue of its own.
-use Rattle.std.specs.Prelude.{◌≡◌, ◌≢◌, ℕ, ◌+◌, Bool, true, false, List, Option, None, Some}
+use Rattle.std.specs.Prelude.{◌≡◌, ◌≢◌, ℕ, ◌+◌, Bool, true, false, List, Option, None, Some, if◌then◌else◌}
 use Rattle.rx_note.specs.declared.item.Item.{Item}
 use Rattle.rx_tape.specs.Tapes.{TapeState, place_of}
-use Rattle.rx_lane.specs.Lanes.{LaneState, HasRoomFor}
+use Rattle.rx_lane.specs.Lanes.{LaneState, HasRoomFor, loses_next}
 use Rattle.rx_lane.specs.TapeLanes.{StandsBack, lane_on, copy_for}
 use Rattle.rx_subject.specs.declared.offer.Offer.{Offer}
 use Rattle.rx_hub.specs.declared.seat.Seat.{Seat}
@@ -34,10 +34,10 @@ pub record Leaves (old new : TapeState) (cursor : Option ℕ) : Type 0 where
   pub items : new.items ≡ old.items
   pub others : (other : ℕ) → cursor ≢ Some other → place_of new.places other ≡ place_of old.places other
 
--- the copy of an item that its offer takes: on the tape one is needed where the item is owed
+-- the copy of an item that its offer takes: on the tape one is needed where the item is owed, else where it isn't lost
 abbrev pub copy_needed : Seat → Item → Option Item
 copy_needed (Shared lane) item = copy_for lane.owing item
-copy_needed (Own lane) item = Some item
+copy_needed (Own lane) item = if loses_next lane.state then None else Some item
 
 -- the same, where there may be no item
 abbrev pub needed : Seat → Option Item → Option Item

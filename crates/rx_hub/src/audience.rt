@@ -16,7 +16,7 @@ ghost use Rattle.rx_hub.specs.Subscriptions.{Observer, AllFedInto, AsksAt, Joins
 ghost use Rattle.rx_hub.specs.Audiences.{places_of, observers_on, AllOn, Apart, Owned, cursors, most_waiting, audience_at_first};
 
 use crate::seat::Seat;
-use crate::subscription::{Subscription, end_by, give, give_all, no_notes};
+use crate::subscription::{Subscription, end_by, give, give_all, keep_notes, no_notes};
 use rx_heap::{Heap, Memory};
 use rx_lane::AskError;
 use rx_note::{Given, Note, Policy};
@@ -30,8 +30,8 @@ use std::marker::Model;
 pub(crate) struct Audience {
     tape: Tape,
     subscriptions: Vec<Subscription, Heap>,
-    // What one observer is given in a step, over the memory of the list that it goes to; none before the first. Its room is
-    // kept from step to step.
+    // What one observer is given in a step, over the memory of the list that it goes to; none before the first. A room
+    // that isn't large is kept from step to step.
     notes: Option<Vec<Note, Heap>>,
 }
 
@@ -141,7 +141,7 @@ impl Audience {
         let last = end_by(&mut seat, end, &mut self.tape);
         give_all(who, &mut notes, outs);
         give(who, last, outs);
-        self.notes = Some(notes);
+        keep_notes(&mut self.notes, notes);
         self.subscriptions
             .push_reserved(Subscription::new(who, seat));
         Ok(())

@@ -103,7 +103,7 @@ impl Seat {
     {
         match self {
             Seat::Shared(lane) => lane.owed() > 0,
-            Seat::Own(_) => true,
+            Seat::Own(lane) => !lane.loses_next(),
         }
     }
 
@@ -119,7 +119,10 @@ impl Seat {
     {
         match self {
             Seat::Shared(lane) => lane.offer(copy, tape),
-            Seat::Own(lane) => lane.offer(copy?),
+            Seat::Own(lane) => match copy {
+                Some(item) => lane.offer(item),
+                None => None,
+            },
         }
     }
 

@@ -13,6 +13,9 @@ use rx_note::{Given, Item, Note, copy_of};
 use rx_subject::Offer;
 use rx_tape::Tape;
 
+// The room, in notes, of a list that is kept from step to step.
+const MOST_KEPT: usize = 256;
+
 /// An observer that is held: its number and its seat.
 #[derive(Drop)]
 pub(crate) struct Subscription {
@@ -103,7 +106,7 @@ impl Subscription {
         };
         self.seat.ask(n, tape, &mut released)?;
         give_all(self.who, &mut released, outs);
-        *notes = Some(released);
+        keep_notes(notes, released);
         Ok(())
     }
 }
@@ -171,6 +174,13 @@ pub(crate) fn no_notes(
             Ok(notes)
         }
         None => Ok(Vec::new(outs.allocator().clone()?)),
+    }
+}
+
+// Keeps a list for the next step, unless its room is large.
+pub(crate) fn keep_notes(kept: &mut Option<Vec<Note, Heap>>, notes: Vec<Note, Heap>) {
+    if notes.capacity() <= MOST_KEPT {
+        *kept = Some(notes);
     }
 }
 

@@ -1,5 +1,6 @@
 -- What a lane gives and what it is then, by each way that its code takes.
-use Rattle.std.proofs.Common.{◌≡◌, ℕ, ◌+◌, ◌-◌, ◌<◌, ◌≤◌, Bool, true, false, cond, leb, List, [], ◌∷◌, ◌++◌, length, map, take, drop, None, refl, sym, subst, ap, ◌∙◌, arith}
+use Rattle.std.proofs.Common.{◌≡◌, ℕ, ◌+◌, ◌-◌, ◌<◌, ◌≤◌, Bool, true, false, cond, leb, ◌&&◌, nat_lt, nat_le, List, [], ◌∷◌, ◌++◌, length, map, take, drop, None, refl, sym, subst, ap, ◌∙◌, arith}
+use Rattle.std.proofs.lemmas.Bool.Decides.{nat_tests}
 use Rattle.std.proofs.lemmas.Bool.{cond-true, cond-false, le-leb, lt-leb}
 use Rattle.std.proofs.lemmas.List.{take_all, drop_all}
 use Rattle.rx_note.specs.declared.item.Item.{Item}
@@ -10,7 +11,10 @@ use Rattle.rx_note.specs.Choices.{Choice}
 use Rattle.rx_note.specs.Queues.{queued}
 use Rattle.rx_note.proofs.Released.{released_all, released_part}
 use Rattle.rx_note.proofs.Steps.{Becomes, waiting_end-open, offer_given, offer_waits, end_given, end_waits, end_ahead, ask_releases}
-use Rattle.rx_lane.specs.Lanes.{LaneState, LaneView, StandsFor}
+use Rattle.rx_note.specs.declared.strategy.Strategy.{Strategy}
+use Rattle.rx_note.specs.declared.strategy.Strategy.TheVariants.{Buffer, Drop, Latest}
+use Rattle.rx_lane.specs.Queues.{is_full}
+use Rattle.rx_lane.specs.Lanes.{LaneState, LaneView, StandsFor, loses_next}
 
 -- by this signal these notes are given, and the queue is then this one
 pub record Goes (s : Signals) (signal : Signal) (notes : List Note) (new : LaneState) : Type 0 where
@@ -49,6 +53,30 @@ offer_later lane item h s st open_now =
         ended = st.ended;
         owing = st.owing ∙ sym b.owes;
       };
+    }
+
+-- a full queue that loses what comes stays as it is
+kept_full : (g : Strategy) (items : List Item) (item : Item) → is_full g (length items) ≡ true → queued g items item ≡ items
+kept_full Buffer items item full = absurd cc
+kept_full (Drop room) items item full =
+    let more : nat_lt (length items) room ≡ false = grind (arith, nat_tests) in ap (λ b. cond b (items ++ item ∷ []) items) more
+kept_full (Latest room) items item full = absurd cc
+
+both : (b c : Bool) → (b && c) ≡ true → (b ≡ true) × (c ≡ true)
+both true true is = (refl, refl)
+both true false is = absurd cc
+both false c is = absurd cc
+
+-- an item that is lost leaves the lane as it was
+pub offer_lost : (lane : LaneState) (item : Item) → loses_next lane ≡ true → (s : Signals) → StandsFor lane s → terminal_of s ≡ None → Goes s (Offered item) [] lane
+offer_lost lane item lost s st open_now =
+    let is = both (nat_le lane.owing 0) (is_full lane.policy.strategy (length lane.items)) lost in
+    let none : lane.owing ≡ 0 = grind (arith, nat_tests, is.0) in
+    let later = offer_later lane item none s st open_now in
+    let same = kept_full lane.policy.strategy lane.items item is.1 in
+    record {
+      gives = later.gives;
+      stands = subst (λ (items : List Item). StandsFor (record lane { items = items }) (s ▸ Offered item)) same later.stands;
     }
 
 -- whether a terminal goes ahead is told by the lane's policy

@@ -4,7 +4,7 @@ use Rattle.rx_note.specs.declared.item.Item.{Item}
 use Rattle.rx_note.specs.declared.note.Note.{Note}
 use Rattle.rx_note.specs.Choices.{Choice}
 use Rattle.rx_note.specs.Signals.{Signal, Requested, Offered, Ended, Signals, ◌▸◌, policy_of, demand, terminal_of, line_items, waiting_items, waiting_end, owed, given}
-use Rattle.rx_lane.specs.Queues.{HasRoom}
+use Rattle.rx_lane.specs.Queues.{HasRoom, is_full}
 
 -- what waits in a lane, and what it owes
 pub record LaneState : Type 0 where
@@ -34,6 +34,10 @@ HasRoomFor lane count = HasRoom lane.state.policy.strategy count lane.spare
 -- the lane that was has room for so many offers more than the one that is now
 abbrev pub KeepsRoom : LaneView → LaneView → ℕ → Type 0
 KeepsRoom old new more = (count : ℕ) → HasRoomFor old (count + more) → HasRoomFor new count
+
+-- whether an item that is offered now is lost: nothing is owed, and the room is full under Drop
+abbrev pub loses_next : LaneState → Bool
+loses_next lane = nat_le lane.owing 0 && is_full lane.policy.strategy (length lane.items)
 
 -- whether a signal may come next: after the end only requests do
 abbrev pub MayFollow : Signals → Signal → Type 0

@@ -1,5 +1,5 @@
 -- What contracts see of the items that wait.
-use Rattle.std.specs.Prelude.{ℕ, ◌-◌, ◌≤◌, List, []}
+use Rattle.std.specs.Prelude.{ℕ, ◌-◌, ◌≤◌, nat_le, Bool, false, List, []}
 use Rattle.std.specs.VecDeque.{deque_len, deque_capacity}
 use Rattle.rx_note.specs.declared.item.Item.{Item}
 use Rattle.rx_note.specs.declared.strategy.Strategy.{Strategy}
@@ -33,3 +33,9 @@ abbrev pub HasRoom : Strategy → ℕ → ℕ → Type 0
 HasRoom Buffer count spare = count ≤ spare
 HasRoom (Drop room) count spare = Unit {0}
 HasRoom (Latest room) count spare = Unit {0}
+
+-- whether a strategy that loses what comes has its room full
+abbrev pub is_full : Strategy → ℕ → Bool
+is_full Buffer count = false
+is_full (Drop room) count = nat_le room count
+is_full (Latest room) count = false

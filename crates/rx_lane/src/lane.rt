@@ -1,7 +1,7 @@
 ghost use Rattle.std.specs.Prelude.{◌≡◌, ◌≤◌, ◌<◌, ◌+◌, ◌^◌, ◌↔◌, [], ◌++◌, false, Ok, Err, None, map, take, drop, length, option_to_list, OnOk, OnErr, IfOk, min, vec_len, vec_capacity};
 ghost use Rattle.rx_note.specs.Signals.{Signals, Start, ◌▸◌, Requested, Offered, Ended, owed, waiting, waiting_items};
 ghost use Rattle.rx_note.specs.declared.note.Note.TheVariants.{Next};
-ghost use Rattle.rx_lane.specs.Lanes.{StandsFor, HasRoomFor, KeepsRoom, Gives, GoesOn, GivesInto, is_over};
+ghost use Rattle.rx_lane.specs.Lanes.{StandsFor, loses_next, HasRoomFor, KeepsRoom, Gives, GoesOn, GivesInto, is_over};
 ghost use Rattle.rx_lane.specs.Queues.{items_of, strategy_of, spare_of};
 
 use crate::ask_error::AskError;
@@ -113,6 +113,13 @@ impl Lane {
             Some(_) => items + 1,
             None => items,
         }
+    }
+
+    /// Whether an item that is offered now is lost: by `Drop`, where nothing is owed and the room is full.
+    pub fn loses_next(&self) -> bool
+        ensures { result ≡ loses_next self.now.state }
+    {
+        self.owed == 0 && self.queue.is_full()
     }
 
     /// Whether the terminal was given.

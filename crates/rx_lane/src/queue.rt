@@ -1,6 +1,6 @@
 ghost use Rattle.std.specs.Prelude.{◌≡◌, ◌<◌, ◌≤◌, ◌+◌, ◌^◌, [], length, drop, slice_get, IfOk, OnOk};
 ghost use Rattle.rx_note.specs.Queues.{queued};
-ghost use Rattle.rx_lane.specs.Queues.{HasRoom, items_of, strategy_of, spare_of};
+ghost use Rattle.rx_lane.specs.Queues.{HasRoom, is_full, items_of, strategy_of, spare_of};
 
 use circular_buffer::HeapCircularBuffer;
 use rx_heap::{Heap, Memory};
@@ -49,6 +49,17 @@ impl Queue {
             Queue::Empty => 0,
             Queue::Dropping(ring) => ring.len(),
             Queue::Replacing(ring) => ring.len(),
+        }
+    }
+
+    /// Whether it loses what comes, and its room is full.
+    pub(crate) fn is_full(&self) -> bool
+        ensures { result ≡ is_full (strategy_of self.now) (length (items_of self.now)) }
+    {
+        match self {
+            Queue::Growing(_) | Queue::Replacing(_) => false,
+            Queue::Empty => true,
+            Queue::Dropping(ring) => ring.len() >= ring.capacity(),
         }
     }
 

@@ -175,6 +175,7 @@ impl TapeLane {
     /// Offers the last item of the tape; where it is owed `copy` is that item and comes back, else `copy` is None, the item
     /// waits, and by `Latest` the oldest that waits is lost where the room is full. It takes no memory. It is meant before the
     /// end alone.
+    #[inline(always)]
     pub fn offer(&mut self, copy: Option<Item>, tape: &mut Tape) -> Option<Item>
         requires { StandsBack tape.old self.old.cursor (self.old.back + 1) }
         ensures offers { Offers tape.old tape.new self.old self.new copy result }
