@@ -62,19 +62,22 @@ fn connect(rt: &impl Host, paths: &Paths) -> io::Result<UnixStream> {
     UnixStream::connect(rt, paths.socket)
 }
 
-// Whether these bytes come next.
+// Whether these bytes come next. Each read brings one of them at least.
 fn reads(stream: &mut UnixStream, wanted: &[u8]) -> io::Result<bool> {
     let mut block = [0; 64];
     let mut rest = wanted;
-    while !rest.is_empty() {
+    for _ in 0..wanted.len() {
         let most = rest.len().min(block.len());
+        if most == 0 {
+            return Ok(true);
+        }
         let count = stream.read(&mut block[..most])?;
         if count == 0 || block[..count] != rest[..count] {
             return Ok(false);
         }
         rest = &rest[count..];
     }
-    Ok(true)
+    Ok(rest.is_empty())
 }
 
 // Whether nothing comes any more.
