@@ -1,6 +1,7 @@
 ghost use Rattle.std.specs.Prelude.{◌≡◌, ◌≤◌, ◌<◌, ◌+◌, ◌^◌, ◌↔◌, [], ◌++◌, false, Ok, Err, None, map, take, drop, length, option_to_list, OnOk, OnErr, IfOk, min, vec_len, vec_capacity};
 ghost use Rattle.rx_note.specs.Signals.{Signals, Start, ◌▸◌, Requested, Offered, Ended, owed, waiting, waiting_items};
 ghost use Rattle.rx_note.specs.declared.note.Note.TheVariants.{Next};
+ghost use Rattle.rx_note.specs.declared.strategy.Strategy.TheVariants.{Buffer};
 ghost use Rattle.rx_lane.specs.Lanes.{StandsFor, loses_next, HasRoomFor, KeepsRoom, Gives, GoesOn, GivesInto, is_over};
 ghost use Rattle.rx_lane.specs.Queues.{items_of, strategy_of, spare_of};
 
@@ -77,11 +78,13 @@ impl Lane {
         })
     }
 
-    /// Makes room for `items` offers; under `Drop` and `Latest` there always is. `Memory` leaves the lane.
+    /// Makes room for `items` offers; under `Drop` and `Latest` there always is. `Memory` leaves the lane, and comes only where
+    /// there was no such room already.
     pub fn reserve(&mut self, items: usize) -> Result<(), Memory>
         ensures state { self.new.state ≡ self.old.state }
         ensures room { OnOk result (HasRoomFor self.new items) }
         ensures keeps_room { KeepsRoom self.old self.new 0 }
+        ensures refused { OnErr result ((self.old.state.policy.strategy ≡ Buffer) × (self.old.spare < items)) }
     {
         self.queue.reserve(items)
     }

@@ -1,5 +1,6 @@
-ghost use Rattle.std.specs.Prelude.{◌≡◌, ◌<◌, ◌≤◌, ◌+◌, ◌^◌, [], length, drop, slice_get, IfOk, OnOk};
+ghost use Rattle.std.specs.Prelude.{◌≡◌, ◌<◌, ◌≤◌, ◌+◌, ◌^◌, [], length, drop, slice_get, IfOk, OnOk, OnErr};
 ghost use Rattle.rx_note.specs.Queues.{queued};
+ghost use Rattle.rx_note.specs.declared.strategy.Strategy.TheVariants.{Buffer};
 ghost use Rattle.rx_lane.specs.Queues.{HasRoom, is_full, items_of, strategy_of, spare_of};
 
 use circular_buffer::HeapCircularBuffer;
@@ -69,6 +70,7 @@ impl Queue {
         ensures strategy { strategy_of self.new ≡ strategy_of self.old }
         ensures room { OnOk result (HasRoom (strategy_of self.new) count (spare_of self.new)) }
         ensures spare { spare_of self.old ≤ spare_of self.new }
+        ensures refused { OnErr result ((strategy_of self.old ≡ Buffer) × (spare_of self.old < count)) }
     {
         if let Queue::Growing(items) = self {
             items.reserve(count)?;
