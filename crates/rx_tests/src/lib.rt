@@ -41,6 +41,8 @@ mod sessions;
 #[cfg(test)]
 mod signs;
 #[cfg(test)]
+mod sizes;
+#[cfg(test)]
 mod subjects;
 #[cfg(test)]
 mod tape_lanes;
