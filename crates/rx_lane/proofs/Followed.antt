@@ -53,6 +53,10 @@ copy_owed owing item h =
     let yes : nat_lt 0 owing ≡ true = grind (arith, nat_tests) in
     ap (λ b. cond b (Some item) None) yes
 
+-- of one that is not
+pub copy_unowed : (owing : ℕ) (item : Item) → owing ≡ 0 → copy_for owing item ≡ None
+copy_unowed owing item h = ap (λ n. copy_for n item) h
+
 -- SEVERAL ITEMS
 
 -- what there is room for of items, of which some were lost before

@@ -83,7 +83,14 @@ abbrev pub BeginsInto : LaneState → Choice → ℕ → List Item → List Note
 BeginsInto lane policy first items before after =
     (notes : List Note) × (after ≡ before ++ notes) × Begins lane policy first items notes
 
--- the last item of the tape was offered
+-- the last item of the tape was offered, and given where it was owed
+pub record Passes (tape tape_new : TapeState) (old new : TapeLaneState) : Type 0 where
+  pub gives : (items : List Item) (item : Item) → tape.items ≡ items ++ item ∷ []
+      → Gives (lane_on items old) (Offered item) (map Next (option_to_list (copy_for old.owing item)))
+  pub stands : (items : List Item) (item : Item) → tape.items ≡ items ++ item ∷ []
+      → GoesOn (lane_on items old) (lane_on tape_new.items new) (Offered item)
+
+-- the same, by a copy of it that came back
 pub record Offers (tape tape_new : TapeState) (old new : TapeLaneState) (copy came : Option Item) : Type 0 where
   pub gives : (items : List Item) (item : Item) → tape.items ≡ items ++ item ∷ [] → copy ≡ copy_for old.owing item
       → Gives (lane_on items old) (Offered item) (map Next (option_to_list came))

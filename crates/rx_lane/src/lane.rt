@@ -1,5 +1,6 @@
-ghost use Rattle.std.specs.Prelude.{◌≡◌, ◌≤◌, ◌<◌, ◌+◌, ◌^◌, ◌↔◌, [], ◌++◌, false, Ok, Err, None, map, take, drop, length, option_to_list, OnOk, OnErr, IfOk, min, vec_len, vec_capacity};
+ghost use Rattle.std.specs.Prelude.{◌≡◌, ◌≤◌, ◌<◌, ◌+◌, ◌^◌, ◌↔◌, [], ◌++◌, ◌∷◌, false, Ok, Err, None, map, take, drop, length, option_to_list, OnOk, OnErr, IfOk, min, vec_len, vec_capacity};
 ghost use Rattle.rx_note.specs.Signals.{Signals, Start, ◌▸◌, Requested, Offered, Ended, owed, waiting, waiting_items};
+ghost use Rattle.rx_note.specs.declared.item.Item.{Item};
 ghost use Rattle.rx_note.specs.declared.note.Note.TheVariants.{Next};
 ghost use Rattle.rx_note.specs.declared.strategy.Strategy.TheVariants.{Buffer};
 ghost use Rattle.rx_lane.specs.Lanes.{StandsFor, loses_next, HasRoomFor, KeepsRoom, Gives, GoesOn, GivesInto, is_over};
@@ -182,6 +183,17 @@ impl Lane {
         }
         self.queue.push(item);
         None
+    }
+
+    /// Passes an item that is owed and that the caller gives: no item need be at hand. It is meant before the end alone.
+    #[inline(always)]
+    pub fn pass(&mut self)
+        requires { 0 < self.old.state.owing }
+        ensures gives { (item : Item) → Gives self.old.state (Offered item) (Next item ∷ []) }
+        ensures stands { (item : Item) → GoesOn self.old.state self.new.state (Offered item) }
+        ensures room { KeepsRoom self.old self.new 0 }
+    {
+        self.owed -= 1;
     }
 
     /// Ends the lane by a terminal, which comes back where it is given at once; else it waits behind the items. An error that

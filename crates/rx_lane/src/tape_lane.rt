@@ -4,7 +4,7 @@ ghost use Rattle.rx_note.specs.declared.note.Note.TheVariants.{Next};
 ghost use Rattle.rx_note.specs.Signals.{Signals, Requested, Offered, Ended, owed};
 ghost use Rattle.rx_tape.specs.Tapes.{waits, place_of, Spares, MovesOn};
 ghost use Rattle.rx_lane.specs.Lanes.{StandsFor, Gives, GoesOn, GivesInto, is_over};
-ghost use Rattle.rx_lane.specs.TapeLanes.{lane_on, StandsBack, StandsWhereSome, IsShared, HoldsSame, BeginsInto, Offers};
+ghost use Rattle.rx_lane.specs.TapeLanes.{lane_on, StandsBack, StandsWhereSome, IsShared, HoldsSame, BeginsInto, Offers, Passes};
 
 use crate::ask_error::AskError;
 use crate::last::give_last;
@@ -183,15 +183,27 @@ impl TapeLane {
         ensures cursor { self.new.cursor ≡ self.old.cursor }
         ensures spares { Spares tape.old tape.new self.old.cursor }
     {
+        self.pass(tape);
+        copy
+    }
+
+    /// Offers the last item of the tape as `offer` does, where the caller has given it already if it is owed.
+    #[inline(always)]
+    pub fn pass(&mut self, tape: &mut Tape)
+        requires { StandsBack tape.old self.old.cursor (self.old.back + 1) }
+        ensures passes { Passes tape.old tape.new self.old self.new }
+        ensures stands_back { StandsBack tape.new self.new.cursor self.new.back }
+        ensures cursor { self.new.cursor ≡ self.old.cursor }
+        ensures spares { Spares tape.old tape.new self.old.cursor }
+    {
         let _within = tape.len();
         self.waiting.back += 1;
         if self.owed > 0 {
             self.owed -= 1;
             self.waiting.skip(1, tape);
-            return copy;
+            return;
         }
         self.waiting.make_room(self.policy.strategy(), tape);
-        None
     }
 
     /// Offers an item that isn't on the tape, which comes back where it is given at once; else it waits. It takes no memory. It
