@@ -66,6 +66,7 @@ impl Waiting {
     }
 
     /// Passes the first `count` items.
+    #[inline(always)]
     pub(crate) fn skip(&mut self, count: usize, tape: &mut Tape)
         requires there { count ≤ length (option_to_list self.old.lead) + self.old.back }
         requires stands { StandsWhereSome tape.old self.old.cursor self.old.back }
@@ -80,8 +81,22 @@ impl Waiting {
         tape.advance_by(self.cursor, more);
     }
 
-    // Passes the item in front, and says how many others are then to be passed.
+    // Passes the item in front, if there is one, and says how many others are then to be passed.
+    #[inline(always)]
     fn skip_lead(&mut self, count: usize) -> usize
+        ensures more { result ≡ count - length (option_to_list self.old.lead) }
+        ensures lead { option_to_list self.new.lead ≡ drop count (option_to_list self.old.lead) }
+        ensures rest { (self.new.cursor ≡ self.old.cursor) × (self.new.back ≡ self.old.back) }
+    {
+        if self.lead.is_some() {
+            self.drop_lead(count)
+        } else {
+            count
+        }
+    }
+
+    #[cold]
+    fn drop_lead(&mut self, count: usize) -> usize
         ensures more { result ≡ count - length (option_to_list self.old.lead) }
         ensures lead { option_to_list self.new.lead ≡ drop count (option_to_list self.old.lead) }
         ensures rest { (self.new.cursor ≡ self.old.cursor) × (self.new.back ≡ self.old.back) }
