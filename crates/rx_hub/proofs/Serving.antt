@@ -114,6 +114,11 @@ none_lost : (b : Bool) (item : Item) → None ≡ cond b None (Some item) → b 
 none_lost true item is = refl
 none_lost false item is = absurd cc
 
+-- where a copy was needed it is the item
+pub copy_kept : (b : Bool) (copy item : Item) → Some copy ≡ cond b None (Some item) → copy ≡ item
+copy_kept true copy item is = absurd cc
+copy_kept false copy item is = cc
+
 -- an item that is lost gives nothing
 pub Serves-lost : (lane : LaneState) (item : Item) → None ≡ cond (loses_next lane) None (Some item) → Serves lane lane (Offered item ∷ []) []
 Serves-lost lane item none =

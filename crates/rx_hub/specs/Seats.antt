@@ -1,6 +1,8 @@
 -- Where what waits for an observer stands: on the tape that the observers share, or in a queue of its own.
-use Rattle.std.specs.Prelude.{◌≡◌, ◌≢◌, ℕ, ◌+◌, Bool, true, false, List, Option, None, Some, if◌then◌else◌}
+use Rattle.std.specs.Prelude.{◌≡◌, ◌≢◌, ℕ, ◌+◌, Bool, true, false, List, map, Option, None, Some, option_to_list, if◌then◌else◌}
 use Rattle.rx_note.specs.declared.item.Item.{Item}
+use Rattle.rx_note.specs.declared.note.Note.{Note}
+use Rattle.rx_note.specs.declared.note.Note.TheVariants.{Next}
 use Rattle.rx_tape.specs.Tapes.{TapeState, place_of}
 use Rattle.rx_lane.specs.Lanes.{LaneState, HasRoomFor, loses_next}
 use Rattle.rx_lane.specs.TapeLanes.{StandsBack, lane_on, copy_for}
@@ -38,6 +40,20 @@ pub record Leaves (old new : TapeState) (cursor : Option ℕ) : Type 0 where
 abbrev pub copy_needed : Seat → Item → Option Item
 copy_needed (Shared lane) item = copy_for lane.owing item
 copy_needed (Own lane) item = if loses_next lane.state then None else Some item
+
+-- how many more items may be given before the observer requests more
+abbrev pub owing_of : Seat → ℕ
+owing_of (Shared lane) = lane.owing
+owing_of (Own lane) = lane.state.owing
+
+-- what an item that is offered gives at once
+abbrev pub given_now : Seat → Item → List Note
+given_now seat item = map Next (option_to_list (copy_for (owing_of seat) item))
+
+-- this is the copy that a queue of its own keeps of an item that is not owed; on the tape none is kept
+abbrev pub HoldsCopy : Item → Option Item → Seat → Type 0
+HoldsCopy item copy (Shared lane) = Unit {0}
+HoldsCopy item copy (Own lane) = lane.state.owing ≡ 0 → copy ≡ copy_needed (Own lane) item
 
 -- the same, where there may be no item
 abbrev pub needed : Seat → Option Item → Option Item

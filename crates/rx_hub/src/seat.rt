@@ -7,6 +7,8 @@ ghost use Rattle.rx_tape.specs.Tapes.{TapeState, place_of, waits};
 ghost use Rattle.rx_lane.specs.Lanes.{StandsFor, HasRoomFor, GivesInto, GoesOn};
 ghost use Rattle.rx_lane.specs.Queues.{HasRoom};
 ghost use Rattle.rx_lane.specs.TapeLanes.{HoldsSame};
+ghost use Rattle.rx_hub.specs.declared.seat.Seat.TheVariants.{Own};
+ghost use Rattle.rx_hub.specs.Seats.{copy_needed, given_now};
 ghost use Rattle.rx_hub.specs.Subscriptions.{Serves, Begins, BeginsInto};
 
 use rx_heap::{Heap, Memory};
@@ -24,7 +26,7 @@ pub(crate) enum Seat {
 }
 
 impl Seat {
-    ghost use Rattle.rx_hub.specs.Seats.{lane_of, cursor_of, Stands, Leaves, copy_needed, needed};
+    ghost use Rattle.rx_hub.specs.Seats.{lane_of, cursor_of, owing_of, Stands, Leaves, HoldsCopy, copy_needed, given_now, needed};
 
     /// The seat of an observer that joins with this policy and a request of `first` items, and is then offered `lead`, if
     /// there is one, and the last `back` items of the tape. What it gives at once is put at the end of `notes`. `Memory`
@@ -59,7 +61,8 @@ impl Seat {
 
     /// How many more items may be given before the observer requests more.
     pub(crate) fn owed(&self) -> u32
-        ensures { (items : List Item) → result ≡ (lane_of items self.now).owing }
+        ensures lane { (items : List Item) → result ≡ (lane_of items self.now).owing }
+        ensures owing { result ≡ owing_of self.now }
     {
         match self {
             Seat::Shared(lane) => lane.owed(),
@@ -123,6 +126,22 @@ impl Seat {
                 Some(item) => lane.offer(item),
                 None => None,
             },
+        }
+    }
+
+    /// Offers the last item of the tape, which was given already if it is owed; a queue of its own that keeps it takes the copy.
+    #[inline(always)]
+    pub(crate) fn pass(&mut self, copy: &mut Option<Item>, tape: &mut Tape)
+        requires { Stands tape.old true self.old }
+        ensures serves { (items : List Item) (item : Item) → tape.old.items ≡ items ++ item ∷ [] → HoldsCopy item copy.old self.old
+            → Serves (lane_of items self.old) (lane_of tape.new.items self.new) (Offered item ∷ []) (given_now self.old item) }
+        ensures stands { Stands tape.new false self.new }
+        ensures cursor { cursor_of self.new ≡ cursor_of self.old }
+        ensures leaves { Leaves tape.old tape.new (cursor_of self.old) }
+    {
+        match self {
+            Seat::Shared(lane) => lane.pass(tape),
+            Seat::Own(lane) => pass_own(lane, copy.take()),
         }
     }
 
@@ -198,6 +217,20 @@ fn own_lane(
     let mut lane = Lane::joined(notes.allocator().clone()?, policy, first)?;
     offer_all(&mut lane, items, notes);
     Ok(lane)
+}
+
+// Offers an item to a queue of its own, which was given already if it is owed; else the queue takes the copy, if it keeps one.
+fn pass_own(lane: &mut Lane, copy: Option<Item>)
+    requires { (count : ℕ) → HasRoomFor lane.old count }
+    ensures serves { (item : Item) → (lane.old.state.owing ≡ 0 → copy ≡ copy_needed (Own lane.old) item)
+        → Serves lane.old.state lane.new.state (Offered item ∷ []) (given_now (Own lane.old) item) }
+    ensures room { (count : ℕ) → HasRoomFor lane.new count }
+{
+    if lane.owed() > 0 {
+        lane.pass();
+    } else if let Some(item) = copy {
+        let _ = lane.offer(item);
+    }
 }
 
 // An item, if there is one, and copies of the last `back` items of the tape.

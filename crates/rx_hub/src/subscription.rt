@@ -1,14 +1,15 @@
-ghost use Rattle.std.specs.Prelude.{◌≡◌, ◌+◌, ◌<◌, ◌≤◌, ◌^◌, ◌↔◌, ◌++◌, [], ℕ, List, true, false, Err, is_some, map, length, option_to_list, IfOk, OnOk, OnErr, vec_len, vec_capacity};
+ghost use Rattle.std.specs.Prelude.{◌≡◌, ◌+◌, ◌<◌, ◌≤◌, ◌^◌, ◌↔◌, ◌++◌, ◌∷◌, [], ℕ, List, true, false, Err, is_some, map, length, option_to_list, IfOk, OnOk, OnErr, vec_len, vec_capacity};
 ghost use Rattle.rx_note.specs.declared.item.Item.{Item};
 ghost use Rattle.rx_note.specs.Signals.{Offered};
 ghost use Rattle.rx_history.specs.Histories.{addressed, ended_by};
 ghost use Rattle.rx_subject.specs.Offers.{offer_signals};
-ghost use Rattle.rx_hub.specs.Seats.{lane_of, cursor_of, Stands, Leaves, needed, IsReady};
-ghost use Rattle.rx_hub.specs.Subscriptions.{Serves, FeedsInto, AsksInto};
+ghost use Rattle.rx_hub.specs.declared.seat.Seat.TheVariants.{Own};
+ghost use Rattle.rx_hub.specs.Seats.{lane_of, cursor_of, Stands, Leaves, HoldsCopy, copy_needed, given_now, needed, IsReady};
+ghost use Rattle.rx_hub.specs.Subscriptions.{Serves, Feeds, FeedsInto, AsksInto};
 
 use crate::seat::Seat;
 use rx_heap::{Heap, Memory};
-use rx_lane::AskError;
+use rx_lane::{AskError, Lane};
 use rx_note::{Given, Item, Note, copy_of};
 use rx_subject::Offer;
 use rx_tape::Tape;
@@ -40,6 +41,48 @@ impl Subscription {
                 end: None,
             },
         }
+    }
+
+    /// Puts an item that is owed at the end of `outs`; of one that is not, makes ready the copy that a queue of its own keeps.
+    #[inline(always)]
+    pub(crate) fn give_now(
+        &mut self,
+        item: &Item,
+        outs: &mut Vec<Given, Heap>,
+    ) -> Result<(), Memory>
+        requires { vec_len outs.old < vec_capacity outs.old }
+        ensures place { place_of self.new ≡ place_of self.old }
+        ensures given { OnOk result (outs.new.items ≡ outs.old.items ++ addressed self.old.who (given_now self.old.seat item.now)) }
+        ensures holds { OnOk result (HoldsCopy item.now self.new.ready.item self.new.seat) }
+        ensures err { OnErr result (outs.new.items ≡ outs.old.items) }
+        ensures len { vec_len outs.new ≤ vec_len outs.old + 1 }
+        ensures capacity { vec_capacity outs.new ≡ vec_capacity outs.old }
+    {
+        if self.seat.owed() > 0 {
+            let note = Note::Next(item.copy()?);
+            outs.push_reserved(Given {
+                who: self.who,
+                note,
+            });
+            return Ok(());
+        }
+        if let Seat::Own(lane) = &self.seat {
+            self.ready.item = copy_kept(lane, item)?;
+        }
+        Ok(())
+    }
+
+    /// Offers the last item of the tape, which was given already if it is owed.
+    #[inline(always)]
+    pub(crate) fn pass(&mut self, tape: &mut Tape)
+        requires { Stands tape.old true self.old.seat }
+        ensures fed { (items : List Item) (item : Item) → tape.old.items ≡ items ++ item ∷ [] → HoldsCopy item self.old.ready.item self.old.seat
+            → Feeds (observer_on items (place_of self.old)) (observer_on tape.new.items (place_of self.new)) (Offered item ∷ []) (given_now self.old.seat item) }
+        ensures stands { Stands tape.new false self.new.seat }
+        ensures cursor { cursor_of self.new.seat ≡ cursor_of self.old.seat }
+        ensures leaves { Leaves tape.old tape.new (cursor_of self.old.seat) }
+    {
+        self.seat.pass(&mut self.ready.item, tape);
     }
 
     /// Makes ready the copies that an offer takes.
@@ -108,6 +151,17 @@ impl Subscription {
         give_all(self.who, &mut released, outs);
         keep_notes(notes, released);
         Ok(())
+    }
+}
+
+// A copy of an item that is not owed, where the queue does not lose it.
+fn copy_kept(lane: &Lane, item: &Item) -> Result<Option<Item>, Memory>
+    ensures { IfOk result (λ copy. copy ≡ copy_needed (Own lane.now) item.now) }
+{
+    if lane.loses_next() {
+        Ok(None)
+    } else {
+        Ok(Some(item.copy()?))
     }
 }
 
