@@ -8,7 +8,8 @@ use Rattle.rx_note.specs.Signals.{Signal}
 use Rattle.rx_history.specs.Histories.{addressed}
 use Rattle.rx_hub.specs.declared.subscription.Subscription.{Subscription}
 use Rattle.rx_hub.specs.Subscriptions.{AllFed, AllFedInto, FeedsInto, Feeds, Observer}
-use Rattle.rx_hub.specs.Audiences.{place_of, places_of, observer_on, observers_on}
+use Rattle.rx_hub.specs.Seats.{given_now}
+use Rattle.rx_hub.specs.Audiences.{Place, place_of, places_of, observer_on, observers_on, gifts}
 
 -- one observer more was fed
 pub AllFed-push : (signals : List Signal) (olds news : List Observer) (outs : List Given) (old new : Observer) (notes : List Note)
@@ -68,3 +69,19 @@ fed-more signals items later olds news i before middle after old new rest lt len
           (AllFed-push signals (observers_on items (places_of (take i olds))) (observers_on later (places_of (take i news))) so_far.0
           (observer_on items (place_of old)) (observer_on later (place_of new)) fed.0 so_far.2 fed.2)),
     )
+
+-- WHAT AN ITEM GIVES AT ONCE
+
+gifts-append : (item : Item) (xs ys : List Place) → gifts item (xs ++ ys) ≡ gifts item xs ++ gifts item ys
+gifts-append item [] ys = refl
+gifts-append item (x ∷ xs) ys =
+    ap (λ gs. addressed x.who (given_now x.seat item) ++ gs) (gifts-append item xs ys)
+    ∙ sym (append_assoc (addressed x.who (given_now x.seat item)) (gifts item xs) (gifts item ys))
+
+-- one observer more
+pub gifts-more : (item : Item) (xs : List Place) (i : ℕ) (x : Place) → i < length xs → x ≡ get_or xs i x
+    → gifts item (take (i + 1) xs) ≡ gifts item (take i xs) ++ addressed x.who (given_now x.seat item)
+gifts-more item xs i x lt is =
+    ap (gifts item) (take_more xs i x lt ∙ ap (λ y. take i xs ++ y ∷ []) (sym is))
+    ∙ gifts-append item (take i xs) (x ∷ [])
+    ∙ ap (λ gs. gifts item (take i xs) ++ gs) (append-nil (addressed x.who (given_now x.seat item)))

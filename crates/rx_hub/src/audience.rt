@@ -1,25 +1,25 @@
-ghost use Rattle.std.specs.Prelude.{◌≡◌, ◌+◌, ◌*◌, ◌<◌, ◌≤◌, ◌^◌, ◌↔◌, ◌==◌, ◌++◌, ℕ, List, Err, max, length, take, drop, get_or, position, is_some, option_to_list, false, IfOk, OnOk, OnErr, vec_len, vec_capacity};
+ghost use Rattle.std.specs.Prelude.{◌≡◌, ◌+◌, ◌*◌, ◌<◌, ◌≤◌, ◌^◌, ◌↔◌, ◌==◌, ◌++◌, ◌∷◌, [], ℕ, List, Err, max, length, take, drop, get_or, position, is_some, option_to_list, true, false, IfOk, OnOk, OnErr, vec_len, vec_capacity};
 ghost use Rattle.std.specs.List.{All};
 ghost use Rattle.rx_note.specs.declared.event.Event.TheVariants.{Emit};
 ghost use Rattle.rx_note.specs.declared.item.Item.{Item};
 ghost use Rattle.rx_note.specs.declared.rules.Rules.{Rules};
-ghost use Rattle.rx_note.specs.Signals.{Signals, waiting};
+ghost use Rattle.rx_note.specs.Signals.{Signals, Offered, waiting};
 ghost use Rattle.rx_history.specs.Histories.{History, ◌▹◌};
 ghost use Rattle.rx_tape.specs.Tapes.{last_items};
 ghost use Rattle.rx_lane.specs.Lanes as lanes;
 ghost use Rattle.rx_subject.specs.Offers.{offer_signals};
-ghost use Rattle.rx_subject.specs.Subjects.{signals_by};
+ghost use Rattle.rx_subject.specs.Subjects.{offered_by, signals_by};
 ghost use Rattle.rx_subject.specs.Subjects as subjects;
 ghost use Rattle.rx_subject.specs.TapeSubjects.{subject_on};
-ghost use Rattle.rx_hub.specs.Seats.{IsReady};
+ghost use Rattle.rx_hub.specs.Seats.{IsReady, HoldsCopy};
 ghost use Rattle.rx_hub.specs.Subscriptions.{Observer, AllFedInto, AsksAt, JoinsInto};
-ghost use Rattle.rx_hub.specs.Audiences.{places_of, observers_on, AllOn, Apart, Owned, cursors, most_waiting, audience_at_first};
+ghost use Rattle.rx_hub.specs.Audiences.{places_of, observers_on, gifts, AllOn, Apart, Owned, cursors, most_waiting, audience_at_first};
 
 use crate::seat::Seat;
 use crate::subscription::{Subscription, end_by, give, give_all, keep_notes, no_notes};
 use rx_heap::{Heap, Memory};
 use rx_lane::AskError;
-use rx_note::{Given, Note, Policy};
+use rx_note::{Given, Item, Note, Policy};
 use rx_subject::{Offer, TapeOpening, TapeSubject};
 use rx_tape::Tape;
 use std::marker::Model;
@@ -103,15 +103,77 @@ impl Audience {
         let Ok(offer) = subject.preview(port, &note) else {
             return Err(Memory);
         };
+        match &offer {
+            Offer {
+                item: Some(item),
+                end: None,
+            } => self.admit_item(subject, item, port, note, at, outs),
+            _ => self.admit_end(subject, &offer, port, note, at, outs),
+        }
+    }
+
+    // Has the subject admit a note that offers an item alone, by far the commonest. The copies that are given are put where
+    // they go in the first pass.
+    fn admit_item(
+        &mut self,
+        subject: &mut TapeSubject,
+        item: &Item,
+        port: u32,
+        note: Note,
+        at: u64,
+        outs: &mut Vec<Given, Heap>,
+    ) -> Result<(), Memory>
+        requires stamps { length subject.old.stamps ≤ length self.old.items }
+        requires item { offered_by (subject_on self.old.items subject.old) port note ≡ item.now ∷ [] }
+        ensures err { OnErr result ((subject.new ≡ subject.old) × (self.new ≡ self.old) × (outs.new.items ≡ outs.old.items)) }
+        ensures stands { OnOk result ((rules : Rules) (H : History) → subjects.StandsFor (subject_on self.old.items subject.old) rules H
+            → subjects.StandsFor (subject_on self.new.items subject.new) rules (H ▹ (port, Emit note at))) }
+        ensures fed { OnOk result (AllFedInto (Offered item.now ∷ []) self.old.observers self.new.observers outs.old.items outs.new.items) }
+        ensures within { length subject.new.stamps ≤ length self.new.items }
+        ensures kind { subject.new.kind ≡ subject.old.kind }
+    {
+        let before = outs.len();
+        outs.reserve(self.subscriptions.len())?;
+        let Ok(()) = give_item(&mut self.subscriptions, item, outs) else {
+            outs.truncate(before);
+            return Err(Memory);
+        };
+        let Ok(()) = subject.admit_offered(port, note, at, &mut self.tape) else {
+            outs.truncate(before);
+            return Err(Memory);
+        };
+        pass_all(&mut self.subscriptions, &mut self.tape);
+        Ok(())
+    }
+
+    // Has the subject admit a note that ends it.
+    fn admit_end(
+        &mut self,
+        subject: &mut TapeSubject,
+        offer: &Offer,
+        port: u32,
+        note: Note,
+        at: u64,
+        outs: &mut Vec<Given, Heap>,
+    ) -> Result<(), Memory>
+        requires stamps { length subject.old.stamps ≤ length self.old.items }
+        requires item { offered_by (subject_on self.old.items subject.old) port note ≡ option_to_list offer.now.item }
+        ensures err { OnErr result ((subject.new ≡ subject.old) × (self.new ≡ self.old) × (outs.new.items ≡ outs.old.items)) }
+        ensures stands { OnOk result ((rules : Rules) (H : History) → subjects.StandsFor (subject_on self.old.items subject.old) rules H
+            → subjects.StandsFor (subject_on self.new.items subject.new) rules (H ▹ (port, Emit note at))) }
+        ensures fed { OnOk result (AllFedInto (offer_signals offer.now) self.old.observers self.new.observers outs.old.items outs.new.items) }
+        ensures within { length subject.new.stamps ≤ length self.new.items }
+        ensures kind { subject.new.kind ≡ subject.old.kind }
+    {
         let Some(most) = self.subscriptions.len().checked_mul(2) else {
             return Err(Memory);
         };
         outs.reserve(most)?;
-        prepare_all(&mut self.subscriptions, &offer)?;
+        prepare_all(&mut self.subscriptions, offer)?;
         let Ok(()) = subject.admit_offered(port, note, at, &mut self.tape) else {
             return Err(Memory);
         };
-        feed_all(&mut self.subscriptions, &offer, &mut self.tape, outs);
+        feed_all(&mut self.subscriptions, offer, &mut self.tape, outs);
         Ok(())
     }
 
@@ -195,6 +257,43 @@ fn place_in(subscriptions: &Vec<Subscription, Heap>, who: u32) -> Option<usize>
     ensures { result ≡ position (λ s. s.who == who) subscriptions.now.items }
 {
     subscriptions.iter().position(|s| s.who == who)
+}
+
+// Puts an item at the end of `outs` for each observer to which it is owed, and makes ready the copies that others keep. On
+// `Memory` some may have been put.
+fn give_item(
+    subscriptions: &mut Vec<Subscription, Heap>,
+    item: &Item,
+    outs: &mut Vec<Given, Heap>,
+) -> Result<(), Memory>
+    requires { vec_len outs.old + vec_len subscriptions.old ≤ vec_capacity outs.old }
+    ensures places { places_of subscriptions.new.items ≡ places_of subscriptions.old.items }
+    ensures len { vec_len subscriptions.new ≡ vec_len subscriptions.old }
+    ensures given { OnOk result (outs.new.items ≡ outs.old.items ++ gifts item.now (places_of subscriptions.old.items)) }
+    ensures holds { OnOk result (All (λ s. HoldsCopy item.now s.ready.item s.seat) subscriptions.new.items) }
+    ensures front { take (vec_len outs.old) outs.new.items ≡ outs.old.items }
+{
+    for i in 0..subscriptions.len() {
+        subscriptions[i].give_now(item, outs)?;
+    }
+    Ok(())
+}
+
+// Offers each observer the last item of the tape, which was given already if it is owed.
+fn pass_all(subscriptions: &mut Vec<Subscription, Heap>, tape: &mut Tape)
+    requires on { AllOn tape.old true (places_of subscriptions.old.items) }
+    requires apart { Apart (places_of subscriptions.old.items) }
+    ensures fed { (items : List Item) (item : Item) → tape.old.items ≡ items ++ item ∷ [] → All (λ s. HoldsCopy item s.ready.item s.seat) subscriptions.old.items
+        → AllFedInto (Offered item ∷ []) (observers_on items (places_of subscriptions.old.items))
+        (observers_on tape.new.items (places_of subscriptions.new.items)) [] (gifts item (places_of subscriptions.old.items)) }
+    ensures on { AllOn tape.new false (places_of subscriptions.new.items) }
+    ensures cursors { cursors (places_of subscriptions.new.items) ≡ cursors (places_of subscriptions.old.items) }
+    ensures owned { Owned tape.old (places_of subscriptions.old.items) → Owned tape.new (places_of subscriptions.new.items) }
+    ensures items { tape.new.items ≡ tape.old.items }
+{
+    for i in 0..subscriptions.len() {
+        subscriptions[i].pass(tape);
+    }
 }
 
 // Makes ready the copies that each observer takes of an offer.

@@ -1,7 +1,6 @@
-use Rattle.std.proofs.Common.{◌≡◌, ◌<◌, ◌++◌, ◌∷◌, [], List, Option, Some, None, map, cond, sym, ap, subst, ◌∙◌, arith}
+use Rattle.std.proofs.Common.{◌≡◌, ◌<◌, ◌∷◌, [], Option, map, sym, subst, ◌∙◌, arith}
 use Rattle.std.specs.Prelude.{option_to_list}
 use Rattle.rx_note.specs.declared.item.Item.{Item}
-use Rattle.rx_note.specs.declared.note.Note.{Note}
 use Rattle.rx_note.specs.declared.note.Note.TheVariants.{Next}
 use Rattle.rx_note.specs.Signals.{Offered}
 use Rattle.rx_lane.specs.Lanes.{loses_next}
