@@ -178,7 +178,7 @@ impl Lane {
         ensures room { KeepsRoom self.old self.new 1 }
     {
         if self.owed > 0 {
-            self.owed -= 1;
+            self.pass();
             return Some(item);
         }
         self.queue.push(item);

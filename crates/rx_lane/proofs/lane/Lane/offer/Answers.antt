@@ -1,14 +1,6 @@
 use Rattle.std.proofs.Common.{arith}
-use Rattle.rx_lane.proofs.Steps.{stands_as, offer_now, offer_later}
+use Rattle.rx_lane.proofs.Steps.{stands_as, offer_later}
 use Rattle.rx_lane.proofs.lane.Lane.offer.Goals as goal
-
-pub returns-then-self-gt0-clause-gives : goal.returns-then-self-gt0-clause-gives
-returns-then-self-gt0-clause-gives c = λ s st open_now.
-    (offer_now _ c.args.item c.if-self-gt0.true s (stands_as c.self.view_is st) open_now).gives
-
-pub returns-then-self-gt0-clause-stands : goal.returns-then-self-gt0-clause-stands
-returns-then-self-gt0-clause-stands c = λ s st open_now.
-    (offer_now _ c.args.item c.if-self-gt0.true s (stands_as c.self.view_is st) open_now).stands
 
 pub returns-clause-gives : goal.returns-clause-gives
 returns-clause-gives c = λ s st open_now.
@@ -17,3 +9,6 @@ returns-clause-gives c = λ s st open_now.
 pub returns-clause-stands : goal.returns-clause-stands
 returns-clause-stands c = λ s st open_now.
     rw (c.push.ensures.items, c.push.ensures.strategy) (offer_later _ c.args.item (omega arith) s (stands_as c.self.view_is st) open_now).stands
+
+pub returns-then-self-gt0-clause-stands : goal.returns-then-self-gt0-clause-stands
+returns-then-self-gt0-clause-stands c = c.pass.ensures.stands c.args.item
