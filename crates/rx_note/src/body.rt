@@ -7,12 +7,22 @@ use std::sync::ArcSlice;
 const SHORT: usize = 22;
 
 /// Where the bytes of a text are. Most texts are short: these take no memory, and their copies touch no count.
-#[derive(Drop, Debug)]
+#[derive(Debug)]
 pub(crate) enum Body {
     /// Here, the first `len` of these.
     Short { len: u8, bytes: [u8; SHORT] },
     /// In memory that the copies share.
     Long(ArcSlice<u8, Heap>),
+}
+
+// By hand, so that to let a text go is one step in each function that does, whichever form it has.
+impl Drop for Body {
+    fn drop(self) {
+        match self {
+            Body::Short { len: _, bytes: _ } => {}
+            Body::Long(bytes) => drop(bytes),
+        }
+    }
 }
 
 impl Body {

@@ -17,4 +17,4 @@ returns-in-Some-end c s open_now was =
     let given = c.into_iter-item-iterator.ensures.into_iter_gives in
     let over = YieldsList-end (YieldsList-from_vec items given.0 (given.1 ∙ c.args.offers.ok.0)) c.loop-item.yielded _ c.loop-item.yielded_by c.next.result c.next.new.self c.in-None.is c.next.ensures.steps in
     let all : c.loop-item.yielded ≡ items = sym (map-id c.loop-item.yielded) ∙ over.0 in
-    follows_end _ _ s c.loop-item.yielded items c.args.end c.in-Some-end.end open_now all (sym c.loop-item.invariant.same_end ∙ c.in-Some-end.is) (c.loop-item.invariant.traces s open_now was) c.end-in-Some-end.ensures
+    follows_end _ _ s c.loop-item.yielded items c.args.end c.in-Some-end.end open_now all (sym c.loop-item.invariant.same_end ∙ c.in-Some-end.is) (c.loop-item.invariant.traces s open_now was) c.end.ensures
