@@ -4,9 +4,9 @@ ghost use Rattle.std.specs.Cmp.{partial_equiv_from_equiv};
 ghost use Rattle.std.specs.Cmp.Lexicographic.{nat_list_eq_equiv, pointwise};
 ghost use Rattle.rx_note.specs.Texts.{HasLf};
 
+use crate::body::Body;
 use rx_heap::{Heap, Memory};
 use std::marker::Model;
-use std::sync::ArcSlice;
 
 /// The most bytes that a text has.
 pub const MAX_TEXT: usize = 1024;
@@ -26,23 +26,24 @@ pub enum TextError {
 
 /// What an item or an error says: 0 to 1,024 bytes of any kind but LF. Contracts see a text as the list of its bytes.
 ///
-/// Its copies share its bytes. The limits are this project's own.
+/// A text of up to 22 bytes takes no memory; the copies of a longer one share its bytes. The limits are this project's own.
 #[derive(Drop, Debug)]
 pub struct Text {
-    bytes: ArcSlice<u8, Heap>,
+    body: Body,
 }
 
 impl Model for Text {
     ghost use Rattle.std.specs.Prelude.{◌≤◌, ◌≡◌, List, ℕ, length, nat_eq, false};
-    ghost use Rattle.std.specs.Arc.{arc_slice_items};
     ghost use Rattle.std.specs.List.{list_any};
+    ghost use Rattle.rx_note.specs.Bodies.{bytes_of, IsWithin};
 
     ghost Value = { List ℕ };
 
-    ghost view = { λ t. arc_slice_items t.bytes };
+    ghost view = { λ t. bytes_of t.body };
 
-    ghost invariant = { λ t. (length (arc_slice_items t.bytes) ≤ 1024)
-        × (list_any (λ b. nat_eq b 10) (arc_slice_items t.bytes) ≡ false) };
+    ghost invariant = { λ t. (length (bytes_of t.body) ≤ 1024)
+        × (list_any (λ b. nat_eq b 10) (bytes_of t.body) ≡ false)
+        × IsWithin t.body };
 }
 
 impl Text {
@@ -71,10 +72,8 @@ impl Text {
         requires no_lf { list_any (λ b. nat_eq b 10) bytes.now ≡ false }
         ensures { IfOk result (λ text. text ≡ bytes.now) }
     {
-        match ArcSlice::from_slice(alloc, bytes) {
-            Ok(bytes) => Ok(Text { bytes }),
-            Err(_) => Err(Memory),
-        }
+        let body = Body::new(alloc, bytes)?;
+        Ok(Text { body })
     }
 
     /// Its bytes.
@@ -83,17 +82,15 @@ impl Text {
         ensures within { length self.now ≤ 1024 }
         ensures no_lf { list_any (λ b. nat_eq b 10) self.now ≡ false }
     {
-        self.bytes.as_slice()
+        self.body.as_bytes()
     }
 
-    /// An equal text, which shares the bytes.
+    /// An equal text; a long one shares the bytes.
     pub fn copy(&self) -> Result<Text, Memory>
         ensures { IfOk result (λ text. text ≡ self.now) }
     {
-        match self.bytes.clone() {
-            Ok(bytes) => Ok(Text { bytes }),
-            Err(_) => Err(Memory),
-        }
+        let body = self.body.copy()?;
+        Ok(Text { body })
     }
 }
 

@@ -1,10 +1,10 @@
-//! A hub over a budget of bytes in use.
+//! A hub over a budget of bytes in use, and texts over a budget of none.
 
 use crate::heaps::unlimited;
 use crate::signs::{item, policy_of};
 use rx_heap::Heap;
 use rx_hub::Hub;
-use rx_note::{Answer, Event, Given, Kind, Limits, Note, Refusal, Strategy};
+use rx_note::{Answer, Event, Given, Kind, Limits, Note, Refusal, Strategy, Text, TextError};
 use std::test::Fail;
 
 const BUDGET: u64 = 4_096;
@@ -86,5 +86,20 @@ fn what_waits_fills_a_budget(rt: HostRuntime) -> Result<(), Fail> {
     assert_eq!(rt; waiting.emit()?, Ok(Answer::Admitted));
     drop(waiting);
     assert_eq!(rt; tight.used(), 0);
+    Ok(())
+}
+
+#[test]
+fn a_short_text_takes_no_memory(rt: HostRuntime) -> Result<(), Fail> {
+    for (bytes, refused) in [
+        ("", None),
+        ("twenty-two bytes, here", None),
+        ("twenty-three bytes here", Some(TextError::Memory)),
+    ] {
+        let tight = Heap::with_budget(rt.alloc(), 0)?;
+        let text = Text::new(tight.clone()?, bytes.as_bytes());
+        assert_eq!(rt; text.err(), refused, "{bytes}");
+        assert_eq!(rt; tight.asked() > 0, refused.is_some(), "{bytes}");
+    }
     Ok(())
 }

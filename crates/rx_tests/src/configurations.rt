@@ -348,7 +348,8 @@ fn more_than_sixteen_subjects(rt: HostRuntime) -> Result<(), Fail> {
 
 #[test]
 fn each_growth_of_a_configuration_refused(rt: HostRuntime) -> Result<(), Fail> {
-    let text = b"[[subject]]\nname = \"s\"\nkind = \"behavior\"\nseed = \"a\"\n".as_slice();
+    let text =
+        b"[[subject]]\nname = \"s\"\nkind = \"behavior\"\nseed = \"a seed that takes memory\"\n".as_slice();
     for growth in 0..16 {
         let heap = Heap::refusing(rt.alloc(), growth)?;
         let refused = read_config(heap.clone()?, rt.alloc(), text).err();

@@ -107,7 +107,7 @@ impl Draw {
         match self.below(4) {
             0 => b"a".as_slice(),
             1 => b"bc".as_slice(),
-            2 => b"def".as_slice(),
+            2 => b"a text that takes memory".as_slice(),
             _ => b"".as_slice(),
         }
     }

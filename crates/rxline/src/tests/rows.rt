@@ -42,13 +42,18 @@ fn run_of<R: Read>(alloc: Global, reader: &mut R, max_reads: u64) -> Result<Ran,
 /// A worked run: its name, its script, and what is written for it.
 pub(super) type Row = (&'static str, &'static [u8], &'static [u8]);
 
-pub(super) const ROWS: [Row; 10] = [
+pub(super) const ROWS: [Row; 11] = [
     ("first_run", FIRST_RUN, FIRST_ANSWERS),
     ("empty_input", b"", b""),
     (
         "error_delayed",
         b"JOIN s BUFFER DELAY 1\nPUB s a\nPUB s b\nPUB s c\nFAIL s x\nREQUEST s 0 2\n",
         b"OK 0\nOK\ns 0 NEXT a\nOK\nOK\nOK\nOK\ns 0 NEXT b\ns 0 NEXT c\ns 0 FAILED x\n",
+    ),
+    (
+        "texts_that_take_memory",
+        b"JOIN s BUFFER DELAY 1\nPUB s the first of two long items\nPUB s the second of two long items\nFAIL s the end of the long items\nREQUEST s 0 1\n",
+        b"OK 0\nOK\ns 0 NEXT the first of two long items\nOK\nOK\nOK\ns 0 NEXT the second of two long items\ns 0 FAILED the end of the long items\n",
     ),
     (
         "error_ahead",

@@ -1,0 +1,87 @@
+ghost use Rattle.std.specs.Prelude.{◌≡◌, ◌≤◌, length, IfOk};
+
+use rx_heap::{Heap, Memory};
+use std::sync::ArcSlice;
+
+/// The most bytes of a short text, so many that a `Text` has 24 bytes in all.
+const SHORT: usize = 22;
+
+/// Where the bytes of a text are. Most texts are short: these take no memory, and their copies touch no count.
+#[derive(Debug)]
+pub(crate) enum Body {
+    /// Here, the first `len` of these.
+    Short { len: u8, bytes: [u8; SHORT] },
+    /// In memory that the copies share.
+    Long(ArcSlice<u8, Heap>),
+}
+
+// By hand, so that to let a text go is one step in each function that does, whichever form it has.
+impl Drop for Body {
+    fn drop(self) {
+        match self {
+            Body::Short { len: _, bytes: _ } => {}
+            Body::Long(bytes) => drop(bytes),
+        }
+    }
+}
+
+impl Body {
+    ghost use Rattle.rx_note.specs.Bodies.{bytes_of, IsWithin};
+
+    /// The body of these bytes.
+    pub(crate) fn new(alloc: Heap, bytes: &[u8]) -> Result<Body, Memory>
+        ensures bytes { IfOk result (λ body. bytes_of body ≡ bytes.now) }
+        ensures within { IfOk result (λ body. IsWithin body) }
+    {
+        if bytes.len() <= SHORT {
+            return Ok(Body::short(bytes));
+        }
+        match ArcSlice::from_slice(alloc, bytes) {
+            Ok(bytes) => Ok(Body::Long(bytes)),
+            Err(_) => Err(Memory),
+        }
+    }
+
+    fn short(bytes: &[u8]) -> Body
+        requires { length bytes.now ≤ 22 }
+        ensures bytes { bytes_of result ≡ bytes.now }
+        ensures within { IsWithin result }
+    {
+        let len = bytes.len();
+        let mut front = [0; SHORT];
+        front[..len].copy_from_slice(bytes);
+        Body::Short {
+            len: len as u8,
+            bytes: front,
+        }
+    }
+
+    /// The bytes.
+    pub(crate) fn as_bytes(&self) -> &[u8]
+        requires { IsWithin self.now }
+        ensures { result.now ≡ bytes_of self.now }
+    {
+        match self {
+            Body::Short { len, bytes } => &bytes[..*len as usize],
+            Body::Long(bytes) => bytes.as_slice(),
+        }
+    }
+
+    /// A body of the same bytes.
+    pub(crate) fn copy(&self) -> Result<Body, Memory>
+        requires { IsWithin self.now }
+        ensures bytes { IfOk result (λ body. bytes_of body ≡ bytes_of self.now) }
+        ensures within { IfOk result (λ body. IsWithin body) }
+    {
+        match self {
+            Body::Short { len, bytes } => Ok(Body::Short {
+                len: *len,
+                bytes: *bytes,
+            }),
+            Body::Long(bytes) => match bytes.clone() {
+                Ok(bytes) => Ok(Body::Long(bytes)),
+                Err(_) => Err(Memory),
+            },
+        }
+    }
+}
