@@ -101,6 +101,11 @@ impl<S: Drop> Caller<S> {
             Err(_) => panic!(rt; "the desk came back"),
         }
     }
+
+    // The list of this one desk, ended.
+    fn finish_alone(self, rt: &(impl Wait + Abort), heap: &Heap) -> Vec<EndedDesk<S>, Heap> {
+        vec![in copy(rt, heap); self.finish(rt)].expect(rt, "memory")
+    }
 }
 
 // How many items each of two desks emits.
@@ -159,18 +164,28 @@ fn emit_both(
     vec![in copy(rt, heap); first, second].expect(rt, "memory")
 }
 
-// The report of a server of which one desk joins an observer, and then two emit.
+// Of two desks of a server one joins an observer, and then both emit.
+fn emit_by_two(
+    rt: &impl Host,
+    heap: &Heap,
+    server: &mut Server<MemorySink>,
+    bytes: &[u8],
+) -> Vec<EndedDesk<MemorySink>, Heap> {
+    let mut first = caller_of(rt, server);
+    let second = caller_of(rt, server);
+    let sink = MemorySink::new(copy(rt, heap), None);
+    assert_eq!(rt; first.join(rt, 200, sink), Ok(Answer::Joined(0)));
+    emit_both(rt, heap, first, second, bytes)
+}
+
+// The report of a server after that.
 fn report_of_two_desks(
     rt: &impl Host,
     heap: &Heap,
     bytes: &[u8],
 ) -> Result<Report<Vec<Note, Heap>>, Fail> {
     let mut server = started(rt, heap, TWO_DESKS)?;
-    let mut first = caller_of(rt, &mut server);
-    let second = caller_of(rt, &mut server);
-    let sink = MemorySink::new(heap.clone()?, None);
-    assert_eq!(rt; first.join(rt, 200, sink), Ok(Answer::Joined(0)));
-    let ended = emit_both(rt, heap, first, second, bytes);
+    let ended = emit_by_two(rt, heap, &mut server, bytes);
     Ok(server.close(rt, ended)?)
 }
 
@@ -207,17 +222,33 @@ fn two_desks_one_subject(rt: HostRuntime) -> Result<(), Fail> {
     Ok(())
 }
 
-// The report of a server whose two observers, one at each drainer, are given one item.
-fn report_of_two_drainers(rt: &impl Host, heap: &Heap) -> Result<Report<bool>, Fail> {
-    let mut server = started(rt, heap, TWO_DRAINERS)?;
-    let mut caller = caller_of(rt, &mut server);
+// Joins two observers whose sinks are to meet.
+fn join_both<R: Host>(rt: &R, caller: &mut Caller<Meeting<R>>) -> Result<(), Fail> {
     let come = Arc::new(rt.alloc(), AtomicU64::new(0))?;
     for who in 0..2 {
         let sink = Meeting::new(rt, &come)?;
         assert_eq!(rt; caller.join(rt, 1, sink), Ok(Answer::Joined(who)));
     }
+    Ok(())
+}
+
+// A desk joins them, and emits one item.
+fn emit_to_both<R: Host>(
+    rt: &R,
+    heap: &Heap,
+    caller: Caller<Meeting<R>>,
+) -> Result<Vec<EndedDesk<Meeting<R>>, Heap>, Fail> {
+    let mut caller = caller;
+    join_both(rt, &mut caller)?;
     assert_eq!(rt; caller.emit(rt, heap, b'a'), Ok(Answer::Admitted));
-    let ended = vec![in heap.clone()?; caller.finish(rt)]?;
+    Ok(caller.finish_alone(rt, heap))
+}
+
+// The report of a server after that.
+fn report_of_two_drainers(rt: &impl Host, heap: &Heap) -> Result<Report<bool>, Fail> {
+    let mut server = started(rt, heap, TWO_DRAINERS)?;
+    let caller = caller_of(rt, &mut server);
+    let ended = emit_to_both(rt, heap, caller)?;
     Ok(server.close(rt, ended)?)
 }
 
@@ -256,8 +287,23 @@ fn put_report<R: Drop>(told: &mut Vec<u8, Heap>, report: &Report<R>) -> Result<(
     Ok(())
 }
 
-// What is told of a server of which one desk joins an observer, whose sink grows by `tight`, and emits an item: the two
-// answers, and the report.
+// A desk joins an observer, whose sink grows by `tight`, and emits an item. Puts the two answers.
+fn put_answers(
+    rt: &impl Host,
+    free: &Heap,
+    tight: &Heap,
+    told: &mut Vec<u8, Heap>,
+    caller: Caller<MemorySink>,
+) -> Result<Vec<EndedDesk<MemorySink>, Heap>, Fail> {
+    let mut caller = caller;
+    let sink = MemorySink::new(copy(rt, tight), None);
+    put_result(told, caller.join(rt, 1, sink))?;
+    put_result(told, caller.emit(rt, free, b'a'))?;
+    told.push(b'|')?;
+    Ok(caller.finish_alone(rt, free))
+}
+
+// What is told of a server after that: the answers, and the report.
 fn told_of_server(
     rt: &impl Host,
     free: &Heap,
@@ -265,14 +311,11 @@ fn told_of_server(
     server: Server<MemorySink>,
 ) -> Result<Vec<u8, Heap>, Fail> {
     let mut server = server;
-    let mut told = Vec::new(free.clone()?);
-    let mut caller = caller_of(rt, &mut server);
-    let sink = MemorySink::new(tight.clone()?, None);
-    put_result(&mut told, caller.join(rt, 1, sink))?;
-    put_result(&mut told, caller.emit(rt, free, b'a'))?;
-    told.push(b'|')?;
-    let ended = vec![in free.clone()?; caller.finish(rt)]?;
-    put_report(&mut told, &server.close(rt, ended)?)?;
+    let mut told = Vec::new(copy(rt, free));
+    let caller = caller_of(rt, &mut server);
+    let ended = put_answers(rt, free, tight, &mut told, caller)?;
+    let report = server.close(rt, ended)?;
+    put_report(&mut told, &report)?;
     Ok(told)
 }
 
