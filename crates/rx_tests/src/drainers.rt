@@ -251,9 +251,9 @@ fn drainer_with_each_growth_refused(rt: HostRuntime) -> Result<(), Fail> {
     Ok(())
 }
 
-// A sink that tells that it was handed its note, and holds it until another one has told so too.
+/// A sink that tells that it was handed its note, and holds it until another one has told so too.
 #[derive(Drop)]
-struct Meeting<C: Clock + Drop> {
+pub(crate) struct Meeting<C: Clock + Drop> {
     clock: C,
     come: Arc<AtomicU64, Global>,
     faults: u64,
@@ -263,6 +263,17 @@ struct Meeting<C: Clock + Drop> {
 const SINKS: u64 = 2;
 
 const LOOKS: u64 = 10_000;
+
+impl<C: Clock + Clone + Drop> Meeting<C> {
+    /// One of those that count in `come` how many have come.
+    pub(crate) fn new(clock: &C, come: &Arc<AtomicU64, Global>) -> Result<Meeting<C>, Fail> {
+        Ok(Meeting {
+            clock: clock.clone()?,
+            come: Arc::try_clone(come)?,
+            faults: 0,
+        })
+    }
+}
 
 impl<C: Clock + Drop> Meeting<C> {
     fn meets(&self) -> bool {
@@ -313,11 +324,7 @@ fn started<R: Threads + Wait + Abort + Clock + Clone + Drop + Send + 'static>(
     heap: &Heap,
     come: &Arc<AtomicU64, Global>,
 ) -> Result<(RunningDrainer<Meeting<R>>, Inbox<Call<Meeting<R>>>), Fail> {
-    let sink = Meeting {
-        clock: rt.clone()?,
-        come: Arc::try_clone(come)?,
-        faults: 0,
-    };
+    let sink = Meeting::new(rt, come)?;
     let (drainer, calls) = filled(rt, heap, copy(rt, heap), sink, b"a")?;
     let drainer = drainer.expect(rt, "memory");
     match start_drainer(rt, drainer) {

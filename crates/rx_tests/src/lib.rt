@@ -1,6 +1,7 @@
 //! Tests of the libraries by their public calls: worked runs, told as tables of scripts, drawn runs of a hub held against
 //! the stored history of the same events, runs with each growth refused in its turn, the line protocol, sessions over memory,
-//! boxes and budgets between threads, pumps with their callers, drainers with their sinks, and tapes with what stands on them.
+//! boxes and budgets between threads, pumps with their callers, drainers with their sinks, servers with their desks, and
+//! tapes with what stands on them.
 //!
 //! There is no code here but tests, and nothing stands on it. It stands above all that it tests, so that none of those
 //! crates is proved a second time for tests of its own.
@@ -36,6 +37,8 @@ mod protocol;
 mod pumps;
 #[cfg(test)]
 mod refusals;
+#[cfg(test)]
+mod servers;
 #[cfg(test)]
 mod sessions;
 #[cfg(test)]

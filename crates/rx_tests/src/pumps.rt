@@ -51,7 +51,11 @@ impl Told for Out<u8> {
     }
 }
 
-fn put_result(told: &mut Vec<u8, Heap>, answered: Result<Answer, Refusal>) -> Result<(), Fail> {
+/// Puts what was answered.
+pub(crate) fn put_result(
+    told: &mut Vec<u8, Heap>,
+    answered: Result<Answer, Refusal>,
+) -> Result<(), Fail> {
     told.push(match answered {
         Ok(Answer::Admitted) => b'A',
         Ok(Answer::Joined(_)) => b'J',

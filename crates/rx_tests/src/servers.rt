@@ -1,0 +1,379 @@
+//! Servers by their library calls: two desks that emit at the same time, two drainers that are at work at the same time,
+//! and a run with each growth refused in its turn.
+
+ghost use Rattle.std.specs.Prelude.{◌+◌, ◌<◌, length};
+
+use crate::boxes::copy;
+use crate::drainers::Meeting;
+use crate::heaps::unlimited;
+use crate::pumps::put_result;
+use crate::signs::digit_of;
+use rx_drain::{MemorySink, Sink};
+use rx_heap::Heap;
+use rx_note::{Answer, Errors, Event, Item, Note, Policy, Refusal, Strategy, Text};
+use rx_pump::{CallDesk, EndedDesk};
+use rx_server::{Report, Server, StartCause, SubjectReport, read_config, start};
+use std::process::Abort;
+use std::sync::atomic::AtomicU64;
+use std::sync::{Arc, Wait};
+use std::test::Fail;
+use std::thread::{Threads, join};
+use std::time::Clock;
+
+// What a server and its callers are handed.
+trait Host: AllocGlobal + Clock + Threads + Wait + Abort + Clone + Drop + Send + Sync + 'static {}
+
+impl<T: AllocGlobal + Clock + Threads + Wait + Abort + Clone + Drop + Send + Sync + 'static> Host
+    for T {}
+
+// One subject, for two desks.
+const TWO_DESKS: &[u8] = b"[[subject]]\nname = \"s\"\nkind = \"publish\"\n[pool]\nworkers = 2\n";
+
+// One subject, with two drainers.
+const TWO_DRAINERS: &[u8] =
+    b"[[subject]]\nname = \"s\"\nkind = \"publish\"\n[pool]\nworkers = 1\ndrainers = 2\n";
+
+// Two subjects with two drainers, for two desks.
+const TWO_OF_EACH: &[u8] =
+    b"[[subject]]\nname = \"s\"\nkind = \"publish\"\n[[subject]]\nname = \"t\"\nkind = \"publish\"\n[pool]\nworkers = 2\ndrainers = 2\n";
+
+// A server of the configuration that this text says.
+fn started<S: Sink + Send + 'static>(
+    rt: &impl Host,
+    heap: &Heap,
+    text: &[u8],
+) -> Result<Server<S>, Fail>
+where
+    S::Rest: Send + 'static,
+{
+    let config = read_config(heap.clone()?, rt.alloc(), text)?;
+    Ok(start(rt, heap.clone()?, config)?)
+}
+
+/// A desk with a port at least.
+#[derive(Drop)]
+struct Caller<S: Drop> {
+    desk: CallDesk<S>,
+    ghost has_port: { 0 < length desk.ports + length desk.ended },
+}
+
+// The next desk of a server.
+fn caller_of<S: Sink>(rt: &impl Abort, server: &mut Server<S>) -> Caller<S> {
+    let desk = server.desk().expect(rt, "a desk");
+    Caller { desk }
+}
+
+impl<S: Drop> Caller<S> {
+    // What the first subject answers.
+    fn call(
+        &mut self,
+        rt: &(impl Wait + Abort),
+        event: Event,
+        sink: Option<S>,
+    ) -> Result<Answer, Refusal> {
+        match self.desk.call(rt, 0, event, sink) {
+            Ok(reply) => reply.result,
+            Err(_) => panic!(rt; "no reply"),
+        }
+    }
+
+    // Joins an observer with this first request, whose notes go to the sink.
+    fn join(&mut self, rt: &(impl Wait + Abort), first: u32, sink: S) -> Result<Answer, Refusal> {
+        let policy = Policy::new(Strategy::Buffer, Errors::Delay).expect(rt, "a policy");
+        let event = Event::Join {
+            policy,
+            first,
+            at: 0,
+        };
+        self.call(rt, event, Some(sink))
+    }
+
+    // Emits the item of this one byte.
+    fn emit(&mut self, rt: &(impl Wait + Abort), heap: &Heap, byte: u8) -> Result<Answer, Refusal> {
+        let text = Text::new(copy(rt, heap), &[byte]).expect(rt, "a text");
+        let note = Note::Next(Item { from: 0, text });
+        self.call(rt, Event::Emit { note, at: 0 }, None)
+    }
+
+    fn finish(self, rt: &(impl Wait + Abort)) -> EndedDesk<S> {
+        match self.desk.finish(rt) {
+            Ok(ended) => ended,
+            Err(_) => panic!(rt; "the desk came back"),
+        }
+    }
+
+    // The list of this one desk, ended.
+    fn finish_alone(self, rt: &(impl Wait + Abort), heap: &Heap) -> Vec<EndedDesk<S>, Heap> {
+        vec![in copy(rt, heap); self.finish(rt)].expect(rt, "memory")
+    }
+}
+
+// How many items each of two desks emits.
+const ITEMS: u8 = 100;
+
+// The bytes of the items of a desk, each another one.
+fn all_bytes(heap: &Heap) -> Result<Vec<u8, Heap>, Fail> {
+    let mut bytes = Vec::new(heap.clone()?);
+    for number in 0..ITEMS {
+        bytes.push(b' ' + number)?;
+    }
+    Ok(bytes)
+}
+
+// The bytes of the items of a port, one behind the other.
+fn bytes_from(heap: &Heap, notes: &[Note], from: u32) -> Result<Vec<u8, Heap>, Fail> {
+    let mut bytes = Vec::new(heap.clone()?);
+    for note in notes {
+        match note {
+            Note::Next(item) if item.from == from => {
+                bytes.extend_from_slice(item.text.as_bytes())?
+            }
+            _ => (),
+        }
+    }
+    Ok(bytes)
+}
+
+// Emits all items, each of which is admitted.
+fn emit_all<S: Drop>(
+    rt: &(impl Wait + Abort),
+    heap: &Heap,
+    caller: Caller<S>,
+    bytes: &[u8],
+) -> EndedDesk<S> {
+    let mut caller = caller;
+    for byte in bytes {
+        assert_eq!(rt; caller.emit(rt, heap, *byte), Ok(Answer::Admitted));
+    }
+    caller.finish(rt)
+}
+
+// Two desks emit, each in a thread of its own.
+fn emit_both(
+    rt: &impl Host,
+    heap: &Heap,
+    first: Caller<MemorySink>,
+    second: Caller<MemorySink>,
+    bytes: &[u8],
+) -> Vec<EndedDesk<MemorySink>, Heap> {
+    let (first, second) = join(
+        rt,
+        || emit_all(rt, heap, first, bytes),
+        || emit_all(rt, heap, second, bytes),
+    );
+    vec![in copy(rt, heap); first, second].expect(rt, "memory")
+}
+
+// Of two desks of a server one joins an observer, and then both emit.
+fn emit_by_two(
+    rt: &impl Host,
+    heap: &Heap,
+    server: &mut Server<MemorySink>,
+    bytes: &[u8],
+) -> Vec<EndedDesk<MemorySink>, Heap> {
+    let mut first = caller_of(rt, server);
+    let second = caller_of(rt, server);
+    let sink = MemorySink::new(copy(rt, heap), None);
+    assert_eq!(rt; first.join(rt, 200, sink), Ok(Answer::Joined(0)));
+    emit_both(rt, heap, first, second, bytes)
+}
+
+// The report of a server after that.
+fn report_of_two_desks(
+    rt: &impl Host,
+    heap: &Heap,
+    bytes: &[u8],
+) -> Result<Report<Vec<Note, Heap>>, Fail> {
+    let mut server = started(rt, heap, TWO_DESKS)?;
+    let ended = emit_by_two(rt, heap, &mut server, bytes);
+    Ok(server.close(rt, ended)?)
+}
+
+// The notes that the one sink of a server took.
+fn notes_of<'a>(rt: &impl Abort, report: &'a Report<Vec<Note, Heap>>) -> &'a [Note] {
+    match report.put_away.as_slice() {
+        [list] => match list.as_slice() {
+            [away] => away.rest.as_slice(),
+            _ => panic!(rt; "{} sinks", list.len()),
+        },
+        lists => panic!(rt; "{} drainers", lists.len()),
+    }
+}
+
+#[test]
+fn two_desks_one_subject(rt: HostRuntime) -> Result<(), Fail> {
+    let heap = unlimited(&rt);
+    let bytes = all_bytes(&heap)?;
+    let report = report_of_two_desks(&rt, &heap, bytes.as_slice())?;
+    // The joining, the items, a request behind each of them, and the disposal.
+    let subjects = [SubjectReport {
+        calls: 402,
+        refused: 0,
+        joins: 1,
+    }];
+    assert_eq!(rt; report.subjects.as_slice(), subjects.as_slice());
+    assert_eq!(rt; report.taken, 200);
+    let notes = notes_of(&rt, &report);
+    assert_eq!(rt; notes.len(), 200);
+    for from in 0..2 {
+        let emitted = bytes_from(&heap, notes, from)?;
+        assert_eq!(rt; emitted.as_slice(), bytes.as_slice(), "{from}");
+    }
+    Ok(())
+}
+
+// Joins two observers whose sinks are to meet.
+fn join_both<R: Host>(rt: &R, caller: &mut Caller<Meeting<R>>) -> Result<(), Fail> {
+    let come = Arc::new(rt.alloc(), AtomicU64::new(0))?;
+    for who in 0..2 {
+        let sink = Meeting::new(rt, &come)?;
+        assert_eq!(rt; caller.join(rt, 1, sink), Ok(Answer::Joined(who)));
+    }
+    Ok(())
+}
+
+// A desk joins them, and emits one item.
+fn emit_to_both<R: Host>(
+    rt: &R,
+    heap: &Heap,
+    caller: Caller<Meeting<R>>,
+) -> Result<Vec<EndedDesk<Meeting<R>>, Heap>, Fail> {
+    let mut caller = caller;
+    join_both(rt, &mut caller)?;
+    assert_eq!(rt; caller.emit(rt, heap, b'a'), Ok(Answer::Admitted));
+    Ok(caller.finish_alone(rt, heap))
+}
+
+// The report of a server after that.
+fn report_of_two_drainers(rt: &impl Host, heap: &Heap) -> Result<Report<bool>, Fail> {
+    let mut server = started(rt, heap, TWO_DRAINERS)?;
+    let caller = caller_of(rt, &mut server);
+    let ended = emit_to_both(rt, heap, caller)?;
+    Ok(server.close(rt, ended)?)
+}
+
+// Which observer's sinks each drainer put away: `m` that it met the other one, `!` that it did not.
+fn told_of_meetings(heap: &Heap, report: &Report<bool>) -> Result<Vec<u8, Heap>, Fail> {
+    let mut told = Vec::new(heap.clone()?);
+    for list in &report.put_away {
+        for away in list {
+            told.push(digit_of(away.who as usize))?;
+            told.push(if away.rest { b'm' } else { b'!' })?;
+        }
+        told.push(b'|')?;
+    }
+    Ok(told)
+}
+
+#[test]
+fn two_drainers_meet(rt: HostRuntime) -> Result<(), Fail> {
+    let heap = unlimited(&rt);
+    let report = report_of_two_drainers(&rt, &heap)?;
+    assert_eq!(rt; report.taken, 2);
+    let told = told_of_meetings(&heap, &report)?;
+    assert_eq!(rt; told.as_slice(), b"0m|1m|".as_slice());
+    Ok(())
+}
+
+// Puts how many notes were taken, and behind a space for each subject its calls, those refused and its joins.
+fn put_report<R: Drop>(told: &mut Vec<u8, Heap>, report: &Report<R>) -> Result<(), Fail> {
+    told.push(digit_of(report.taken as usize))?;
+    for subject in &report.subjects {
+        told.push(b' ')?;
+        told.push(digit_of(subject.calls as usize))?;
+        told.push(digit_of(subject.refused as usize))?;
+        told.push(digit_of(subject.joins as usize))?;
+    }
+    Ok(())
+}
+
+// A desk joins an observer, whose sink grows by `tight`, and emits an item. Puts the two answers.
+fn put_answers(
+    rt: &impl Host,
+    free: &Heap,
+    tight: &Heap,
+    told: &mut Vec<u8, Heap>,
+    caller: Caller<MemorySink>,
+) -> Result<Vec<EndedDesk<MemorySink>, Heap>, Fail> {
+    let mut caller = caller;
+    let sink = MemorySink::new(copy(rt, tight), None);
+    put_result(told, caller.join(rt, 1, sink))?;
+    put_result(told, caller.emit(rt, free, b'a'))?;
+    told.push(b'|')?;
+    Ok(caller.finish_alone(rt, free))
+}
+
+// What is told of a server after that: the answers, and the report.
+fn told_of_server(
+    rt: &impl Host,
+    free: &Heap,
+    tight: &Heap,
+    server: Server<MemorySink>,
+) -> Result<Vec<u8, Heap>, Fail> {
+    let mut server = server;
+    let mut told = Vec::new(copy(rt, free));
+    let caller = caller_of(rt, &mut server);
+    let ended = put_answers(rt, free, tight, &mut told, caller)?;
+    let report = server.close(rt, ended)?;
+    put_report(&mut told, &report)?;
+    Ok(told)
+}
+
+// What is told of a server that grows by `tight`; `!` where there was no memory for it, `?` where there was no thread.
+fn told_of(rt: &impl Host, free: &Heap, tight: &Heap) -> Result<Vec<u8, Heap>, Fail> {
+    let config = read_config(free.clone()?, rt.alloc(), TWO_OF_EACH)?;
+    match start(rt, tight.clone()?, config) {
+        Ok(server) => told_of_server(rt, free, tight, server),
+        Err(fault) => {
+            let cause = match fault.cause {
+                StartCause::Memory => b'!',
+                StartCause::NoThread => b'?',
+            };
+            Ok(vec![in free.clone()?; cause]?)
+        }
+    }
+}
+
+// What is told where no growth is refused.
+const UNREFUSED: &[u8] = b"J0A|1 401 000";
+
+// What is told where one is: of making the server, of the joining, of the emission, and of handing the sink its item.
+const REFUSED: [&[u8]; 4] = [b"!", b"mA|0 210 000", b"J0m|0 311 000", b"J0A|0 301 000"];
+
+// Whether this is told where a growth is refused, and all bytes are back. The threads of a server that was not started are
+// not waited for: they may still hold some.
+fn is_refused(told: &[u8], used: u64) -> bool {
+    match REFUSED.iter().position(|refused| *refused == told) {
+        None => false,
+        Some(0) => true,
+        Some(_) => used == 0,
+    }
+}
+
+// No run has as many growths.
+const MAX_GROWTHS: u64 = 1_000;
+
+// How many growths were refused, each in a run of its own, until a run met no refusal.
+fn refused_in_turn(rt: &impl Host, free: &Heap) -> Result<u64, Fail> {
+    for growth in 0..MAX_GROWTHS {
+        let tight = Heap::refusing(rt.alloc(), growth)?;
+        let told = told_of(rt, free, &tight)?;
+        if tight.asked() <= growth {
+            assert_eq!(rt; told.as_slice(), UNREFUSED);
+            assert_eq!(rt; tight.used(), 0);
+            return Ok(growth);
+        }
+        assert!(rt;
+            is_refused(told.as_slice(), tight.used()),
+            "growth {growth}"
+        );
+    }
+    Err(Fail::from("growths without an end"))
+}
+
+#[test]
+fn server_with_each_growth_refused(rt: HostRuntime) -> Result<(), Fail> {
+    let refused = refused_in_turn(&rt, &unlimited(&rt))?;
+    assert!(rt; refused >= 12);
+    Ok(())
+}
