@@ -37,7 +37,7 @@ fn main(rt: HostRuntime) -> Result<()> {
     for away in report.put_away.iter().flatten() {
         if let Some(notes) = &away.rest {
             println!(rt; "observer {} kept:", away.who)?;
-            write_notes(notes.as_slice(), rt.stdout())?;
+            write_all(notes.as_slice(), rt.stdout())?;
         }
     }
     println!(rt; "{} notes were taken", report.taken)?;
@@ -62,9 +62,11 @@ fn speak<R: Wait>(rt: &R, heap: &Heap, mut desk: CallDesk<Shelf>) -> Result<Ende
         let text = Text::new(heap.clone()?, word.as_bytes()).map_err(|fault| anyhow!(
             "no text: {fault:?}"
         ))?;
-        emit(rt, &mut desk, Note::Next(Item { from: 0, text }))?;
+        let note = Note::Next(Item { from: 0, text });
+        call(rt, &mut desk, Event::Emit { note, at: 0 }, None)?;
     }
-    emit(rt, &mut desk, Note::Completed)?;
+    let note = Note::Completed;
+    call(rt, &mut desk, Event::Emit { note, at: 0 }, None)?;
     desk.finish(rt).map_err(|_| anyhow!("the subject is gone"))
 }
 
@@ -76,34 +78,23 @@ fn listen<R: Wait>(
 ) -> Result<EndedDesk<Shelf>>
     requires { HasSubject desk }
 {
-    let kept = MemorySink::new(heap.clone()?, None);
-    observe(rt, &mut desk, Shelf::Kept(kept))?;
-    observe(rt, &mut desk, Shelf::Written(LineSink::new(out)))?;
+    let kept = Shelf::Kept(MemorySink::new(heap.clone()?, None));
+    let written = Shelf::Written(LineSink::new(out));
+    call(rt, &mut desk, joining(), Some(kept))?;
+    call(rt, &mut desk, joining(), Some(written))?;
     desk.finish(rt).map_err(|_| anyhow!("the subject is gone"))
 }
 
-fn emit<R: Wait>(rt: &R, desk: &mut CallDesk<Shelf>, note: Note) -> Result<()>
-    requires { HasSubject desk.old }
-    ensures { HasSubject desk.new }
-{
-    call(rt, desk, Event::Emit { note, at: 0 }, None)
-}
-
-// It requests all items at once, so that they are on their way to the sink before the server is closed.
-fn observe<R: Wait>(rt: &R, desk: &mut CallDesk<Shelf>, sink: Shelf) -> Result<()>
-    requires { HasSubject desk.old }
-    ensures { HasSubject desk.new }
-{
-    let policy = Policy::new(Strategy::Buffer, Errors::Delay).unwrap();
-    let event = Event::Join {
-        policy,
+// All items are requested at once, so that they are on their way to the sink before the server is closed.
+fn joining() -> Event {
+    Event::Join {
+        policy: Policy::new(Strategy::Buffer, Errors::Delay).unwrap(),
         first: 3,
         at: 0,
-    };
-    call(rt, desk, event, Some(sink))
+    }
 }
 
-// One call to subject 0.
+// Makes one call to the subject, and waits for its reply.
 fn call<R: Wait>(
     rt: &R,
     desk: &mut CallDesk<Shelf>,
@@ -116,13 +107,13 @@ fn call<R: Wait>(
     let Ok(reply) = desk.call(rt, 0, event, sink) else {
         bail!("the subject is gone");
     };
-    match reply.result {
-        Ok(_) => Ok(()),
-        Err(refusal) => Err(anyhow!("refused: {refusal:?}")),
+    if let Err(refusal) = reply.result {
+        bail!("refused: {refusal:?}");
     }
+    Ok(())
 }
 
-fn write_notes(notes: &[Note], mut out: Stdout) -> Result<()> {
+fn write_all(notes: &[Note], mut out: Stdout) -> Result<()> {
     for note in notes {
         out.write_all(note_line(note).as_bytes())?;
     }
