@@ -3,15 +3,15 @@
 //! the same whatever the threads do.
 #![tactic(auto)]
 
+mod caller;
 mod shelf;
 
-ghost use Rattle.first_hub.specs.Calls.{HasSubject};
-
-use anyhow::{Result, anyhow, bail};
+use anyhow::{Result, bail};
+use caller::Caller;
 use rx_heap::{Heap, Memory};
-use rx_note::{Errors, Event, Item, Kind, Note, Policy, Strategy, Text};
+use rx_note::{Item, Kind, Note, Text};
 use rx_proto::note_line;
-use rx_pump::{CallDesk, EndedDesk};
+use rx_pump::EndedDesk;
 use rx_server::{Config, start};
 use rx_sink::{LineSink, MemorySink};
 use shelf::Shelf;
@@ -19,12 +19,15 @@ use std::io::{Stdout, Write};
 use std::sync::Wait;
 use std::thread::join;
 
+const WORDS: [&str; 3] = ["one", "two", "three"];
+
 fn main(rt: HostRuntime) -> Result<()> {
     let heap = Heap::unlimited(rt.alloc());
     let mut server = start(&rt, heap.clone()?, replaying(&heap)?)?;
     let (Some(speaker), Some(listener)) = (server.desk(), server.desk()) else {
         bail!("no desk");
     };
+    let (speaker, listener) = (Caller::new(speaker), Caller::new(listener));
     let (spoke, listened) = join(
         &rt,
         || speak(&rt, &heap, speaker),
@@ -55,62 +58,28 @@ fn replaying(heap: &Heap) -> Result<Config, Memory> {
     Ok(config)
 }
 
-fn speak<R: Wait>(rt: &R, heap: &Heap, mut desk: CallDesk<Shelf>) -> Result<EndedDesk<Shelf>>
-    requires { HasSubject desk }
-{
-    for word in ["one", "two", "three"] {
-        let text = Text::new(heap.clone()?, word.as_bytes()).map_err(|fault| anyhow!(
-            "no text: {fault:?}"
-        ))?;
-        let note = Note::Next(Item { from: 0, text });
-        call(rt, &mut desk, Event::Emit { note, at: 0 }, None)?;
+fn speak<R: Wait>(rt: &R, heap: &Heap, mut caller: Caller) -> Result<EndedDesk<Shelf>> {
+    for word in WORDS {
+        let Ok(text) = Text::new(heap.clone()?, word.as_bytes()) else {
+            bail!("no text for {word}");
+        };
+        caller.emit(rt, Note::Next(Item { from: 0, text }))?;
     }
-    let note = Note::Completed;
-    call(rt, &mut desk, Event::Emit { note, at: 0 }, None)?;
-    desk.finish(rt).map_err(|_| anyhow!("the subject is gone"))
+    caller.emit(rt, Note::Completed)?;
+    caller.finish(rt)
 }
 
+// All items are requested at once, so that they are on their way to the sinks before the server is closed.
 fn listen<R: Wait>(
     rt: &R,
     heap: &Heap,
-    mut desk: CallDesk<Shelf>,
+    mut caller: Caller,
     out: Stdout,
-) -> Result<EndedDesk<Shelf>>
-    requires { HasSubject desk }
-{
-    let kept = Shelf::Kept(MemorySink::new(heap.clone()?, None));
-    let written = Shelf::Written(LineSink::new(out));
-    call(rt, &mut desk, joining(), Some(kept))?;
-    call(rt, &mut desk, joining(), Some(written))?;
-    desk.finish(rt).map_err(|_| anyhow!("the subject is gone"))
-}
-
-// All items are requested at once, so that they are on their way to the sink before the server is closed.
-fn joining() -> Event {
-    Event::Join {
-        policy: Policy::new(Strategy::Buffer, Errors::Delay).unwrap(),
-        first: 3,
-        at: 0,
-    }
-}
-
-// Makes one call to the subject, and waits for its reply.
-fn call<R: Wait>(
-    rt: &R,
-    desk: &mut CallDesk<Shelf>,
-    event: Event,
-    sink: Option<Shelf>,
-) -> Result<()>
-    requires { HasSubject desk.old }
-    ensures { HasSubject desk.new }
-{
-    let Ok(reply) = desk.call(rt, 0, event, sink) else {
-        bail!("the subject is gone");
-    };
-    if let Err(refusal) = reply.result {
-        bail!("refused: {refusal:?}");
-    }
-    Ok(())
+) -> Result<EndedDesk<Shelf>> {
+    let items = WORDS.len() as u32;
+    caller.join(rt, Shelf::Kept(MemorySink::new(heap.clone()?, None)), items)?;
+    caller.join(rt, Shelf::Written(LineSink::new(out)), items)?;
+    caller.finish(rt)
 }
 
 fn write_all(notes: &[Note], mut out: Stdout) -> Result<()> {
