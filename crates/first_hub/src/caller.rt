@@ -4,6 +4,7 @@ use crate::shelf::Shelf;
 use anyhow::{Result, bail};
 use rx_note::{Errors, Event, Note, Policy, Strategy};
 use rx_pump::{CallDesk, EndedDesk};
+use rx_server::Server;
 use std::sync::Wait;
 
 /// Calls the first subject of a server by a desk, one call at a time, and waits for each reply.
@@ -14,11 +15,12 @@ pub struct Caller {
 }
 
 impl Caller {
-    /// A caller by this desk, which a server handed out.
-    pub fn new(desk: CallDesk<Shelf>) -> Caller
-        requires { 0 < length desk.ports + length desk.ended }
-    {
-        Caller { desk }
+    /// A caller by the next desk of a server.
+    pub fn at(server: &mut Server<Shelf>) -> Result<Caller> {
+        let Some(desk) = server.desk() else {
+            bail!("no desk is left");
+        };
+        Ok(Caller { desk })
     }
 
     /// Emits a note.

@@ -12,38 +12,21 @@ use rx_heap::{Heap, Memory};
 use rx_note::{Item, Kind, Note, Text};
 use rx_proto::note_line;
 use rx_pump::EndedDesk;
-use rx_server::{Config, start};
+use rx_server::{Config, Report, Server, start};
 use rx_sink::{LineSink, MemorySink};
 use shelf::Shelf;
-use std::io::{Stdout, Write};
+use std::io::{self, Stdout, Write};
 use std::sync::Wait;
-use std::thread::join;
+use std::thread::{Threads, join};
 
 const WORDS: [&str; 3] = ["one", "two", "three"];
 
 fn main(rt: HostRuntime) -> Result<()> {
     let heap = Heap::unlimited(rt.alloc());
     let mut server = start(&rt, heap.clone()?, replaying(&heap)?)?;
-    let (Some(speaker), Some(listener)) = (server.desk(), server.desk()) else {
-        bail!("no desk");
-    };
-    let (speaker, listener) = (Caller::new(speaker), Caller::new(listener));
-    let (spoke, listened) = join(
-        &rt,
-        || speak(&rt, &heap, speaker),
-        || listen(&rt, &heap, listener, rt.stdout()),
-    );
-    let mut ended = Vec::new(heap.clone()?);
-    ended.push(spoke?)?;
-    ended.push(listened?)?;
+    let ended = talk(&rt, &heap, &mut server, rt.stdout())?;
     let report = server.close(&rt, ended)?;
-    for away in report.put_away.iter().flatten() {
-        if let Some(notes) = &away.rest {
-            println!(rt; "observer {} kept:", away.who)?;
-            write_all(notes.as_slice(), rt.stdout())?;
-        }
-    }
-    println!(rt; "{} notes were taken", report.taken)?;
+    write_report(&report, &mut rt.stdout())?;
     Ok(())
 }
 
@@ -56,6 +39,26 @@ fn replaying(heap: &Heap) -> Result<Config, Memory> {
     };
     config.workers = 2;
     Ok(config)
+}
+
+// Two threads, each with a desk of its own, which it has ended when it is done.
+fn talk<R: Threads + Wait + Sync>(
+    rt: &R,
+    heap: &Heap,
+    server: &mut Server<Shelf>,
+    out: Stdout,
+) -> Result<Vec<EndedDesk<Shelf>, Heap>> {
+    let speaker = Caller::at(server)?;
+    let listener = Caller::at(server)?;
+    let (spoke, listened) = join(
+        rt,
+        || speak(rt, heap, speaker),
+        || listen(rt, heap, listener, out),
+    );
+    let mut ended = Vec::new(heap.clone()?);
+    ended.push(spoke?)?;
+    ended.push(listened?)?;
+    Ok(ended)
 }
 
 fn speak<R: Wait>(rt: &R, heap: &Heap, mut caller: Caller) -> Result<EndedDesk<Shelf>> {
@@ -82,7 +85,17 @@ fn listen<R: Wait>(
     caller.finish(rt)
 }
 
-fn write_all(notes: &[Note], mut out: Stdout) -> Result<()> {
+fn write_report(report: &Report<Option<Vec<Note, Heap>>>, out: &mut Stdout) -> io::Result<()> {
+    for away in report.put_away.iter().flatten() {
+        if let Some(notes) = &away.rest {
+            write_kept(away.who, notes.as_slice(), out)?;
+        }
+    }
+    writeln!(out, "{} notes were taken", report.taken)
+}
+
+fn write_kept(who: u32, notes: &[Note], out: &mut Stdout) -> io::Result<()> {
+    writeln!(out, "observer {who} kept:")?;
     for note in notes {
         out.write_all(note_line(note).as_bytes())?;
     }
