@@ -41,7 +41,7 @@ fn replaying(heap: &Heap) -> Result<Config, Memory> {
     Ok(config)
 }
 
-// Two threads, each with a desk of its own, which it has ended when it is done.
+// Two threads, each with a desk of its own. Answers the desks, ended.
 fn talk<R: Threads + Wait + Sync>(
     rt: &R,
     heap: &Heap,

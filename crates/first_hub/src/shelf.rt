@@ -16,7 +16,7 @@ impl Sink for Shelf {
 
     ghost use Rattle.first_hub.specs.Shelves.{faults_of};
 
-    // What it does with notes no contract of this program tells, so nothing is said of its calls but that faults are counted.
+    // No contract of this program says what its sinks took, so none is told of their calls but that each fault is counted.
     ghost acts = { record {
       started = λ _ _ _. Unit {0};
       start_faulted = λ _ _ _. Unit {0};
