@@ -2,10 +2,13 @@
 //! and the others are served as if they had not come.
 
 use crate::host::Host;
-use crate::tests::servers::{Paths, connect, emit_all, is_at_end, reads, serve_beside, subscribe};
+use crate::tests::servers::{
+    Paths, connect, emit_all, is_at_end, reads, remove_files, serve, subscribe, write_config,
+};
 use std::io::{self, Write};
 use std::net::Shutdown;
 use std::test::Fail;
+use std::thread::join;
 
 const RUBBISH: Paths = Paths {
     config: "rxline-rubbish.toml",
@@ -69,17 +72,18 @@ fn talk_beside_rubbish(rt: &impl Host, paths: &Paths) -> io::Result<bool> {
 
 #[test]
 fn rubbish_and_a_cut_line(rt: HostRuntime) -> Result<(), Fail> {
-    let (told, right) = serve_beside(
+    write_config(&rt, &RUBBISH, b"connections = 4\n")?;
+    let (told, right) = join(
         &rt,
-        &RUBBISH,
-        b"connections = 4\n",
+        || -> Vec<u8> { serve(&rt, &RUBBISH) },
         || -> io::Result<bool> { talk_beside_rubbish(&rt, &RUBBISH) },
-    )?;
-    assert!(rt; right);
+    );
+    assert!(rt; right?);
     assert_eq!(rt;
         told.as_slice(),
         b"0 s joins 1 refused 0\n|rxline: listening on rxline-rubbish.sock\n".as_slice()
     );
+    remove_files(&rt, &RUBBISH)?;
     Ok(())
 }
 
@@ -111,14 +115,18 @@ fn talk_beside_one_gone(rt: &impl Host, paths: &Paths) -> io::Result<bool> {
 
 #[test]
 fn peer_closes_early(rt: HostRuntime) -> Result<(), Fail> {
-    let (told, right) = serve_beside(&rt, &EARLY, b"connections = 4\n", || -> io::Result<bool> {
-        talk_beside_one_gone(&rt, &EARLY)
-    })?;
-    assert!(rt; right);
+    write_config(&rt, &EARLY, b"connections = 4\n")?;
+    let (told, right) = join(
+        &rt,
+        || -> Vec<u8> { serve(&rt, &EARLY) },
+        || -> io::Result<bool> { talk_beside_one_gone(&rt, &EARLY) },
+    );
+    assert!(rt; right?);
     assert_eq!(rt;
         told.as_slice(),
         b"0 s joins 3 refused 0\n|rxline: listening on rxline-early.sock\n".as_slice()
     );
+    remove_files(&rt, &EARLY)?;
     Ok(())
 }
 
@@ -151,16 +159,17 @@ fn talk_beside_resets(rt: &impl Host, paths: &Paths) -> io::Result<bool> {
 
 #[test]
 fn peers_that_reset(rt: HostRuntime) -> Result<(), Fail> {
-    let (told, right) = serve_beside(
+    write_config(&rt, &RESET, b"connections = 6\nworkers = 1\n")?;
+    let (told, right) = join(
         &rt,
-        &RESET,
-        b"connections = 6\nworkers = 1\n",
+        || -> Vec<u8> { serve(&rt, &RESET) },
         || -> io::Result<bool> { talk_beside_resets(&rt, &RESET) },
-    )?;
-    assert!(rt; right);
+    );
+    assert!(rt; right?);
     assert_eq!(rt;
         told.as_slice(),
         b"0 s joins 3 refused 0\n|rxline: listening on rxline-reset.sock\n".as_slice()
     );
+    remove_files(&rt, &RESET)?;
     Ok(())
 }

@@ -29,40 +29,25 @@ const STOPPED: Paths = Paths {
 // One subject with room for two observers at a time; what stands in the pool follows.
 const CONFIG: &[u8] = b"[[subject]]\nname = \"s\"\nkind = \"publish\"\nobservers = 2\n[pool]\n";
 
-fn write_config(rt: &impl Host, paths: &Paths, pool: &[u8]) -> io::Result<()> {
+pub(super) fn write_config(rt: &impl Host, paths: &Paths, pool: &[u8]) -> io::Result<()> {
     let mut file = File::create(rt, paths.config)?;
     file.write_all(CONFIG)?;
     file.write_all(pool)
 }
 
-fn remove_files(rt: &impl Host, paths: &Paths) -> io::Result<()> {
+pub(super) fn remove_files(rt: &impl Host, paths: &Paths) -> io::Result<()> {
     fs::remove_file(rt, paths.config)?;
     fs::remove_file(rt, paths.socket)
 }
 
 // What is told of the server.
-fn serve(rt: &impl Host, paths: &Paths) -> Vec<u8> {
+pub(super) fn serve(rt: &impl Host, paths: &Paths) -> Vec<u8> {
     let mut reader: &[u8] = b"";
     let mut written = Vec::new(rt.alloc());
     let mut faults = Vec::new(rt.alloc());
     let words = ["serve", paths.config, paths.socket];
     let status = run_words(rt, &words, &mut reader, &mut written, &mut faults);
     joined(rt.alloc(), status, written.as_slice(), faults.as_slice())
-}
-
-// What is told of the server beside its peers, and whether they were answered as they should be.
-pub(super) fn serve_beside<R: Host + Sync, T: FnOnce() -> io::Result<bool>>(
-    rt: &R,
-    paths: &Paths,
-    pool: &[u8],
-    talk: T,
-) -> io::Result<(Vec<u8>, bool)>
-    requires { T.IsAlwaysCallable talk }
-{
-    write_config(rt, paths, pool)?;
-    let (told, right) = join(rt, || -> Vec<u8> { serve(rt, paths) }, talk);
-    remove_files(rt, paths)?;
-    Ok((told, right?))
 }
 
 // How often a peer looks for the socket, 5 milliseconds apart.
@@ -124,14 +109,18 @@ fn talk(rt: &impl Host, paths: &Paths) -> io::Result<bool> {
 
 #[test]
 fn socket_round_trip(rt: HostRuntime) -> Result<(), Fail> {
-    let (told, right) = serve_beside(&rt, &ONE, b"connections = 2\n", || -> io::Result<bool> {
-        talk(&rt, &ONE)
-    })?;
-    assert!(rt; right);
+    write_config(&rt, &ONE, b"connections = 2\n")?;
+    let (told, right) = join(
+        &rt,
+        || -> Vec<u8> { serve(&rt, &ONE) },
+        || -> io::Result<bool> { talk(&rt, &ONE) },
+    );
+    assert!(rt; right?);
     assert_eq!(rt;
         told.as_slice(),
         b"0 s joins 1 refused 0\n|rxline: listening on rxline-one.sock\n".as_slice()
     );
+    remove_files(&rt, &ONE)?;
     Ok(())
 }
 
@@ -175,16 +164,17 @@ fn talk_beside_one_stopped(rt: &impl Host, paths: &Paths) -> io::Result<bool> {
 
 #[test]
 fn one_who_never_reads(rt: HostRuntime) -> Result<(), Fail> {
-    let (told, right) = serve_beside(
+    write_config(&rt, &STOPPED, b"connections = 3\n")?;
+    let (told, right) = join(
         &rt,
-        &STOPPED,
-        b"connections = 3\n",
+        || -> Vec<u8> { serve(&rt, &STOPPED) },
         || -> io::Result<bool> { talk_beside_one_stopped(&rt, &STOPPED) },
-    )?;
-    assert!(rt; right);
+    );
+    assert!(rt; right?);
     assert_eq!(rt;
         told.as_slice(),
         b"0 s joins 2 refused 0\n|rxline: listening on rxline-stopped.sock\n".as_slice()
     );
+    remove_files(&rt, &STOPPED)?;
     Ok(())
 }
