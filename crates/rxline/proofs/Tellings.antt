@@ -17,7 +17,8 @@ use Rattle.rx_proto.specs.declared.word.Word.TheVariants as words
 use Rattle.rx_proto.specs.Printing.{reply_line}
 use Rattle.rxline.specs.Printing.{given_line}
 use Rattle.rxline.specs.Scripts.{Stands}
-use Rattle.rxline.specs.Transcripts.{Subject, response_to, given_lines, event_written, takes_it_with_memory, taking}
+use Rattle.rx_server.specs.Responses.{response_to}
+use Rattle.rxline.specs.Transcripts.{Subject, given_lines, event_written, takes_it_with_memory, taking}
 
 -- an answer is Memory or another
 pub is_memory : (result : Result Answer Refusal) → (result ≡ Err refused.Memory) ⊎ (result ≢ Err refused.Memory)

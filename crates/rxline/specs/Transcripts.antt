@@ -9,10 +9,6 @@ use Rattle.rx_note.specs.declared.event.Event.TheVariants as events
 use Rattle.rx_note.specs.declared.note.Note.TheVariants.{Next, Completed, Failed}
 use Rattle.rx_note.specs.declared.rules.Rules.{Rules}
 use Rattle.rx_note.specs.declared.given.Given.{Given}
-use Rattle.rx_note.specs.declared.answer.Answer.{Answer}
-use Rattle.rx_note.specs.declared.answer.Answer.TheVariants as answers
-use Rattle.rx_note.specs.declared.refusal.Refusal.{Refusal}
-use Rattle.rx_note.specs.declared.refusal.Refusal.TheVariants as refused
 use Rattle.rx_hub.specs.Hubs as hubs
 use Rattle.rx_history.specs.Histories.{History, ◌▹◌, answer, outs}
 use Rattle.rxline.specs.declared.asked.Asked.{Asked}
@@ -29,6 +25,7 @@ use Rattle.rx_proto.specs.declared.line_error.BadLine.TheVariants.{Long, Syntax}
 use Rattle.rx_proto.specs.Printing.{reply_line}
 use Rattle.rxline.specs.Printing.{given_line}
 use Rattle.rx_proto.specs.Reading.{script_read, same_word}
+use Rattle.rx_server.specs.Responses.{response_to}
 
 -- a subject of a script: its name, its rules and the history that the lines so far have made
 pub record Subject : Type 0 where
@@ -69,24 +66,6 @@ has_text (events.Request who n) = false
 has_text (events.Dispose who) = false
 
 -- THE ANSWERS
-
--- the word of a refusal
-abbrev pub word_of : Refusal → Word
-word_of refused.Ended = words.Ended
-word_of refused.Full = words.Full
-word_of refused.Spent = words.Spent
-word_of refused.ZeroRequest = words.Zero
-word_of refused.NoObserver = words.Observer
-word_of refused.TooMuch = words.TooMuch
-word_of refused.Memory = words.Memory
-
--- the response to an event
-abbrev pub response_to : Result Answer Refusal → Response
-response_to (Ok answers.Admitted) = responses.Done
-response_to (Ok (answers.Joined who)) = responses.Joined who
-response_to (Ok answers.Asked) = responses.Done
-response_to (Ok answers.Left) = responses.Done
-response_to (Err refusal) = responses.Refused (word_of refusal)
 
 -- the response to a line without a meaning
 abbrev pub response_to_fault : BadLine → Response

@@ -16,7 +16,6 @@ mod observed;
 mod printing;
 pub mod program;
 pub mod program_fault;
-mod responding;
 pub mod script;
 pub mod serving;
 pub mod socket;

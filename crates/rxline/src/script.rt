@@ -8,17 +8,17 @@ ghost use Rattle.rx_proto.specs.Printing.{reply_line};
 ghost use Rattle.rx_proto.specs.Reading.{meaning_of};
 ghost use Rattle.rxline.specs.Asking.{names_subject};
 ghost use Rattle.rxline.specs.Scripts.{Runs, TakesEvent, new_subjects};
-ghost use Rattle.rxline.specs.Transcripts.{asks, given_lines, response_to};
+ghost use Rattle.rx_server.specs.Responses.{response_to};
+ghost use Rattle.rxline.specs.Transcripts.{asks, given_lines};
 
 use crate::asking::{event_in, name_in};
 use crate::printing::put_given;
-use crate::responding::response_to;
 use crate::told::Told;
 use crate::topic::{Topic, place_of, topics_of};
 use rx_heap::{Heap, Memory};
 use rx_note::{Answer, Event, Given, Refusal};
 use rx_proto::{BadLine, Line, Name, Response, Word, WriteFault, read_script};
-use rx_server::Config;
+use rx_server::{Config, response_to};
 use rx_session::{LineState, Outbox, SessionEnd, Step};
 use std::io::{Read, Write};
 

@@ -3,6 +3,7 @@
 
 mod audits;
 mod kinds;
+mod peers;
 mod programs;
 mod refusals;
 mod rows;

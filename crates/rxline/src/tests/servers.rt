@@ -11,9 +11,9 @@ use std::thread::{self, join};
 use std::time::Duration;
 
 // The files of a run.
-struct Paths {
-    config: &'static str,
-    socket: &'static str,
+pub(super) struct Paths {
+    pub(super) config: &'static str,
+    pub(super) socket: &'static str,
 }
 
 const ONE: Paths = Paths {
@@ -26,21 +26,22 @@ const STOPPED: Paths = Paths {
     socket: "rxline-stopped.sock",
 };
 
-const CONFIG: &[u8] = b"[[subject]]\nname = \"s\"\nkind = \"publish\"\n[pool]\nconnections = ";
+// One subject with room for two observers at a time; what stands in the pool follows.
+const CONFIG: &[u8] = b"[[subject]]\nname = \"s\"\nkind = \"publish\"\nobservers = 2\n[pool]\n";
 
-fn write_config(rt: &impl Host, paths: &Paths, connections: &[u8]) -> io::Result<()> {
+pub(super) fn write_config(rt: &impl Host, paths: &Paths, pool: &[u8]) -> io::Result<()> {
     let mut file = File::create(rt, paths.config)?;
     file.write_all(CONFIG)?;
-    file.write_all(connections)
+    file.write_all(pool)
 }
 
-fn remove_files(rt: &impl Host, paths: &Paths) -> io::Result<()> {
+pub(super) fn remove_files(rt: &impl Host, paths: &Paths) -> io::Result<()> {
     fs::remove_file(rt, paths.config)?;
     fs::remove_file(rt, paths.socket)
 }
 
 // What is told of the server.
-fn serve(rt: &impl Host, paths: &Paths) -> Vec<u8> {
+pub(super) fn serve(rt: &impl Host, paths: &Paths) -> Vec<u8> {
     let mut reader: &[u8] = b"";
     let mut written = Vec::new(rt.alloc());
     let mut faults = Vec::new(rt.alloc());
@@ -52,7 +53,7 @@ fn serve(rt: &impl Host, paths: &Paths) -> Vec<u8> {
 // How often a peer looks for the socket, 5 milliseconds apart.
 const LOOKS: u32 = 2_000;
 
-fn connect(rt: &impl Host, paths: &Paths) -> io::Result<UnixStream> {
+pub(super) fn connect(rt: &impl Host, paths: &Paths) -> io::Result<UnixStream> {
     for _ in 0..LOOKS {
         if let Ok(stream) = UnixStream::connect(rt, paths.socket) {
             return Ok(stream);
@@ -63,7 +64,7 @@ fn connect(rt: &impl Host, paths: &Paths) -> io::Result<UnixStream> {
 }
 
 // Whether these bytes come next. Each read brings one of them at least.
-fn reads(stream: &mut UnixStream, wanted: &[u8]) -> io::Result<bool> {
+pub(super) fn reads(stream: &mut UnixStream, wanted: &[u8]) -> io::Result<bool> {
     let mut block = [0; 64];
     let mut rest = wanted;
     for _ in 0..wanted.len() {
@@ -81,15 +82,21 @@ fn reads(stream: &mut UnixStream, wanted: &[u8]) -> io::Result<bool> {
 }
 
 // Whether nothing comes any more.
-fn is_at_end(stream: &mut UnixStream) -> io::Result<bool> {
+pub(super) fn is_at_end(stream: &mut UnixStream) -> io::Result<bool> {
     let mut block = [0; 1];
     Ok(stream.read(&mut block)? == 0)
 }
 
+// A peer that asks to be an observer's.
+pub(super) fn subscribe(rt: &impl Host, paths: &Paths) -> io::Result<UnixStream> {
+    let mut stream = connect(rt, paths)?;
+    stream.write_all(b"SUB s BUFFER DELAY\n")?;
+    Ok(stream)
+}
+
 // A subscriber and a producer, one after the other.
 fn talk(rt: &impl Host, paths: &Paths) -> io::Result<bool> {
-    let mut first = connect(rt, paths)?;
-    first.write_all(b"SUB s BUFFER DELAY\n")?;
+    let mut first = subscribe(rt, paths)?;
     let mut right = reads(&mut first, b"JOINED 0\n")?;
     let mut second = connect(rt, paths)?;
     second.write_all(b"PUB s a\nEND s\n")?;
@@ -102,7 +109,7 @@ fn talk(rt: &impl Host, paths: &Paths) -> io::Result<bool> {
 
 #[test]
 fn socket_round_trip(rt: HostRuntime) -> Result<(), Fail> {
-    write_config(&rt, &ONE, b"2\n")?;
+    write_config(&rt, &ONE, b"connections = 2\n")?;
     let (told, right) = join(
         &rt,
         || -> Vec<u8> { serve(&rt, &ONE) },
@@ -117,7 +124,7 @@ fn socket_round_trip(rt: HostRuntime) -> Result<(), Fail> {
     Ok(())
 }
 
-// How many items are emitted: more bytes than the buffer of a socket takes.
+// How many items are emitted beside one who never reads: more bytes than the buffer of a socket takes.
 const ITEMS: u32 = 6_000;
 
 const LINE: &[u8] =
@@ -126,9 +133,13 @@ const LINE: &[u8] =
 const NOTE: &[u8] =
     b"NEXT 0123456789012345678901234567890123456789012345678901234567890123456789\n";
 
-// Items, each answered before the next, and read by the one who reads.
-fn emit_all(producer: &mut UnixStream, reader: &mut UnixStream) -> io::Result<bool> {
-    for _ in 0..ITEMS {
+// So many items, each answered before the next, and read by the one who reads.
+pub(super) fn emit_all(
+    producer: &mut UnixStream,
+    reader: &mut UnixStream,
+    items: u32,
+) -> io::Result<bool> {
+    for _ in 0..items {
         producer.write_all(LINE)?;
         if !reads(producer, b"OK\n")? || !reads(reader, NOTE)? {
             return Ok(false);
@@ -139,14 +150,12 @@ fn emit_all(producer: &mut UnixStream, reader: &mut UnixStream) -> io::Result<bo
 
 // One subscriber never reads, another one does.
 fn talk_beside_one_stopped(rt: &impl Host, paths: &Paths) -> io::Result<bool> {
-    let mut stopped = connect(rt, paths)?;
-    stopped.write_all(b"SUB s BUFFER DELAY\n")?;
+    let mut stopped = subscribe(rt, paths)?;
     let mut right = reads(&mut stopped, b"JOINED 0\n")?;
-    let mut reader = connect(rt, paths)?;
-    reader.write_all(b"SUB s BUFFER DELAY\n")?;
+    let mut reader = subscribe(rt, paths)?;
     right &= reads(&mut reader, b"JOINED 1\n")?;
     let mut producer = connect(rt, paths)?;
-    right &= emit_all(&mut producer, &mut reader)?;
+    right &= emit_all(&mut producer, &mut reader, ITEMS)?;
     producer.write_all(b"END s\nQUIT\n")?;
     right &= reads(&mut producer, b"OK\nOK\n")?;
     right &= reads(&mut reader, b"DONE\n")? && is_at_end(&mut reader)?;
@@ -155,7 +164,7 @@ fn talk_beside_one_stopped(rt: &impl Host, paths: &Paths) -> io::Result<bool> {
 
 #[test]
 fn one_who_never_reads(rt: HostRuntime) -> Result<(), Fail> {
-    write_config(&rt, &STOPPED, b"3\n")?;
+    write_config(&rt, &STOPPED, b"connections = 3\n")?;
     let (told, right) = join(
         &rt,
         || -> Vec<u8> { serve(&rt, &STOPPED) },

@@ -1,0 +1,103 @@
+//! A first program. One thread emits words into a subject, and another joins two observers to it: what one of them is given
+//! is kept, what the other is given is written. The subject is a Replay, which gives all to whoever joins late, so a run is
+//! the same whatever the threads do.
+#![tactic(auto)]
+
+mod caller;
+mod shelf;
+
+use anyhow::{Result, bail};
+use caller::Caller;
+use rx_heap::{Heap, Memory};
+use rx_note::{Item, Kind, Note, Text};
+use rx_proto::note_line;
+use rx_pump::EndedDesk;
+use rx_server::{Config, Report, Server, start};
+use rx_sink::{LineSink, MemorySink};
+use shelf::Shelf;
+use std::io::{self, Stdout, Write};
+use std::sync::Wait;
+use std::thread::{Threads, join};
+
+const WORDS: [&str; 3] = ["one", "two", "three"];
+
+fn main(rt: HostRuntime) -> Result<()> {
+    let heap = Heap::unlimited(rt.alloc());
+    let mut server = start(&rt, heap.clone()?, replaying(&heap)?)?;
+    let ended = talk(&rt, &heap, &mut server, rt.stdout())?;
+    let report = server.close(&rt, ended)?;
+    write_report(&report, &mut rt.stdout())?;
+    Ok(())
+}
+
+// One subject, a Replay without bounds, and a desk for each of two threads.
+fn replaying(heap: &Heap) -> Result<Config, Memory> {
+    let mut config = Config::standard(heap.clone()?)?;
+    config.subjects[0].rules.kind = Kind::Replay {
+        count: None,
+        age: None,
+    };
+    config.workers = 2;
+    Ok(config)
+}
+
+// Two threads, each with a desk of its own. Answers the desks, ended.
+fn talk<R: Threads + Wait + Sync>(
+    rt: &R,
+    heap: &Heap,
+    server: &mut Server<Shelf>,
+    out: Stdout,
+) -> Result<Vec<EndedDesk<Shelf>, Heap>> {
+    let speaker = Caller::at(server)?;
+    let listener = Caller::at(server)?;
+    let (spoke, listened) = join(
+        rt,
+        || speak(rt, heap, speaker),
+        || listen(rt, heap, listener, out),
+    );
+    let mut ended = Vec::new(heap.clone()?);
+    ended.push(spoke?)?;
+    ended.push(listened?)?;
+    Ok(ended)
+}
+
+fn speak<R: Wait>(rt: &R, heap: &Heap, mut caller: Caller) -> Result<EndedDesk<Shelf>> {
+    for word in WORDS {
+        let Ok(text) = Text::new(heap.clone()?, word.as_bytes()) else {
+            bail!("no text for {word}");
+        };
+        caller.emit(rt, Note::Next(Item { from: 0, text }))?;
+    }
+    caller.emit(rt, Note::Completed)?;
+    caller.finish(rt)
+}
+
+// All items are requested at once, so that they are on their way to the sinks before the server is closed.
+fn listen<R: Wait>(
+    rt: &R,
+    heap: &Heap,
+    mut caller: Caller,
+    out: Stdout,
+) -> Result<EndedDesk<Shelf>> {
+    let items = WORDS.len() as u32;
+    caller.join(rt, Shelf::Kept(MemorySink::new(heap.clone()?, None)), items)?;
+    caller.join(rt, Shelf::Written(LineSink::new(out)), items)?;
+    caller.finish(rt)
+}
+
+fn write_report(report: &Report<Option<Vec<Note, Heap>>>, out: &mut Stdout) -> io::Result<()> {
+    for away in report.put_away.iter().flatten() {
+        if let Some(notes) = &away.rest {
+            write_kept(away.who, notes.as_slice(), out)?;
+        }
+    }
+    writeln!(out, "{} notes were taken", report.taken)
+}
+
+fn write_kept(who: u32, notes: &[Note], out: &mut Stdout) -> io::Result<()> {
+    writeln!(out, "observer {who} kept:")?;
+    for note in notes {
+        out.write_all(note_line(note).as_bytes())?;
+    }
+    Ok(())
+}

@@ -1,0 +1,175 @@
+//! Peers of a server that send rubbish, cut a line, close early or reset: what they may have is answered, the rest is let go,
+//! and the others are served as if they had not come.
+
+use crate::host::Host;
+use crate::tests::servers::{
+    Paths, connect, emit_all, is_at_end, reads, remove_files, serve, subscribe, write_config,
+};
+use std::io::{self, Write};
+use std::net::Shutdown;
+use std::test::Fail;
+use std::thread::join;
+
+const RUBBISH: Paths = Paths {
+    config: "rxline-rubbish.toml",
+    socket: "rxline-rubbish.sock",
+};
+
+const EARLY: Paths = Paths {
+    config: "rxline-early.toml",
+    socket: "rxline-early.sock",
+};
+
+const RESET: Paths = Paths {
+    config: "rxline-reset.toml",
+    socket: "rxline-reset.sock",
+};
+
+// Whether a peer that sends these bytes and no more is answered so, and then let go.
+fn is_answered(rt: &impl Host, paths: &Paths, lines: &[u8], answers: &[u8]) -> io::Result<bool> {
+    let mut peer = connect(rt, paths)?;
+    peer.write_all(lines)?;
+    peer.shutdown(Shutdown::Write)?;
+    Ok(reads(&mut peer, answers)? && is_at_end(&mut peer)?)
+}
+
+// Lines that no session takes, and what each is answered. A script takes two of them.
+const REFUSED: [(&[u8], &[u8]); 9] = [
+    (b"", b"ERR SYNTAX\n"),
+    (b"NOPE", b"ERR SYNTAX\n"),
+    (b"PUB s", b"ERR SYNTAX\n"),
+    (b"\xff\x00", b"ERR SYNTAX\n"),
+    (b"JOIN s BUFFER DELAY 1", b"ERR SYNTAX\n"),
+    (b"DISPOSE s 0", b"ERR SYNTAX\n"),
+    (b"PUB t a", b"ERR SUBJECT\n"),
+    (b"SUB t BUFFER DELAY", b"ERR SUBJECT\n"),
+    (&[b'x'; 1_101], b"ERR LONG\n"),
+];
+
+// Whether one peer is so refused each of its lines.
+fn is_refused_each(rt: &impl Host, paths: &Paths) -> io::Result<bool> {
+    let mut peer = connect(rt, paths)?;
+    for (line, answer) in &REFUSED {
+        peer.write_all(line)?;
+        peer.write_all(b"\n")?;
+        if !reads(&mut peer, answer)? {
+            return Ok(false);
+        }
+    }
+    Ok(true)
+}
+
+// One peer sends rubbish, one cuts its only line, and one emits for a subscriber.
+fn talk_beside_rubbish(rt: &impl Host, paths: &Paths) -> io::Result<bool> {
+    let mut reader = subscribe(rt, paths)?;
+    let mut right = reads(&mut reader, b"JOINED 0\n")?;
+    right &= is_refused_each(rt, paths)?;
+    right &= is_answered(rt, paths, b"PUB s a", b"")?;
+    right &= is_answered(rt, paths, b"PUB s b\nEND s\nQUIT\n", b"OK\nOK\nOK\n")?;
+    right &= reads(&mut reader, b"NEXT b\nDONE\n")? && is_at_end(&mut reader)?;
+    Ok(right)
+}
+
+#[test]
+fn rubbish_and_a_cut_line(rt: HostRuntime) -> Result<(), Fail> {
+    write_config(&rt, &RUBBISH, b"connections = 4\n")?;
+    let (told, right) = join(
+        &rt,
+        || -> Vec<u8> { serve(&rt, &RUBBISH) },
+        || -> io::Result<bool> { talk_beside_rubbish(&rt, &RUBBISH) },
+    );
+    assert!(rt; right?);
+    assert_eq!(rt;
+        told.as_slice(),
+        b"0 s joins 1 refused 0\n|rxline: listening on rxline-rubbish.sock\n".as_slice()
+    );
+    remove_files(&rt, &RUBBISH)?;
+    Ok(())
+}
+
+// How many items are emitted before and after a subscriber closes.
+const ITEMS: u32 = 20;
+
+// Whether a subscriber joins so. It closes at once.
+fn is_joined(rt: &impl Host, paths: &Paths, joined: &[u8]) -> io::Result<bool> {
+    let mut peer = subscribe(rt, paths)?;
+    reads(&mut peer, joined)
+}
+
+// One subscriber closes once it has joined. Its place is free again at the next item.
+fn talk_beside_one_gone(rt: &impl Host, paths: &Paths) -> io::Result<bool> {
+    let mut reader = subscribe(rt, paths)?;
+    let mut right = reads(&mut reader, b"JOINED 0\n")?;
+    let mut producer = connect(rt, paths)?;
+    right &= emit_all(&mut producer, &mut reader, ITEMS)?;
+    right &= is_joined(rt, paths, b"JOINED 1\n")?;
+    right &= emit_all(&mut producer, &mut reader, ITEMS)?;
+    let mut late = subscribe(rt, paths)?;
+    right &= reads(&mut late, b"JOINED 2\n")?;
+    producer.write_all(b"END s\nQUIT\n")?;
+    right &= reads(&mut producer, b"OK\nOK\n")?;
+    right &= reads(&mut reader, b"DONE\n")? && is_at_end(&mut reader)?;
+    right &= reads(&mut late, b"DONE\n")? && is_at_end(&mut late)?;
+    Ok(right)
+}
+
+#[test]
+fn peer_closes_early(rt: HostRuntime) -> Result<(), Fail> {
+    write_config(&rt, &EARLY, b"connections = 4\n")?;
+    let (told, right) = join(
+        &rt,
+        || -> Vec<u8> { serve(&rt, &EARLY) },
+        || -> io::Result<bool> { talk_beside_one_gone(&rt, &EARLY) },
+    );
+    assert!(rt; right?);
+    assert_eq!(rt;
+        told.as_slice(),
+        b"0 s joins 3 refused 0\n|rxline: listening on rxline-early.sock\n".as_slice()
+    );
+    remove_files(&rt, &EARLY)?;
+    Ok(())
+}
+
+// Whether a producer of two items is answered. It reads one byte of that and closes, which resets its connection.
+fn is_reset(rt: &impl Host, paths: &Paths) -> io::Result<bool> {
+    let mut peer = connect(rt, paths)?;
+    peer.write_all(b"PUB s a\nPUB s b\n")?;
+    reads(&mut peer, b"O")
+}
+
+// A producer and a subscriber close before they have read all. One worker serves the others after them.
+fn talk_beside_resets(rt: &impl Host, paths: &Paths) -> io::Result<bool> {
+    let mut unread = subscribe(rt, paths)?;
+    let mut right = reads(&mut unread, b"JOINED 0\n")?;
+    let mut reader = subscribe(rt, paths)?;
+    right &= reads(&mut reader, b"JOINED 1\n")?;
+    right &= is_reset(rt, paths)?;
+    right &= reads(&mut reader, b"NEXT a\nNEXT b\n")?;
+    right &= reads(&mut unread, b"N")?;
+    drop(unread);
+    right &= is_answered(rt, paths, b"PUB s c\nQUIT\n", b"OK\nOK\n")?;
+    right &= reads(&mut reader, b"NEXT c\n")?;
+    let mut late = subscribe(rt, paths)?;
+    right &= reads(&mut late, b"JOINED 2\n")?;
+    right &= is_answered(rt, paths, b"END s\nQUIT\n", b"OK\nOK\n")?;
+    right &= reads(&mut reader, b"DONE\n")? && is_at_end(&mut reader)?;
+    right &= reads(&mut late, b"DONE\n")? && is_at_end(&mut late)?;
+    Ok(right)
+}
+
+#[test]
+fn peers_that_reset(rt: HostRuntime) -> Result<(), Fail> {
+    write_config(&rt, &RESET, b"connections = 6\nworkers = 1\n")?;
+    let (told, right) = join(
+        &rt,
+        || -> Vec<u8> { serve(&rt, &RESET) },
+        || -> io::Result<bool> { talk_beside_resets(&rt, &RESET) },
+    );
+    assert!(rt; right?);
+    assert_eq!(rt;
+        told.as_slice(),
+        b"0 s joins 3 refused 0\n|rxline: listening on rxline-reset.sock\n".as_slice()
+    );
+    remove_files(&rt, &RESET)?;
+    Ok(())
+}
