@@ -264,18 +264,16 @@ const SINKS: u64 = 2;
 
 const LOOKS: u64 = 10_000;
 
-impl<C: Clock + Clone + Drop> Meeting<C> {
-    /// One of those that count in `come` how many have come.
-    pub(crate) fn new(clock: &C, come: &Arc<AtomicU64, Global>) -> Result<Meeting<C>, Fail> {
-        Ok(Meeting {
-            clock: clock.clone()?,
-            come: Arc::try_clone(come)?,
-            faults: 0,
-        })
-    }
-}
-
 impl<C: Clock + Drop> Meeting<C> {
+    /// One of those that count in `come` how many have come.
+    pub(crate) fn new(clock: C, come: Arc<AtomicU64, Global>) -> Meeting<C> {
+        Meeting {
+            clock,
+            come,
+            faults: 0,
+        }
+    }
+
     fn meets(&self) -> bool {
         self.come.fetch_add(1, Ordering::SeqCst);
         for _ in 0..LOOKS {
@@ -324,7 +322,7 @@ fn started<R: Threads + Wait + Abort + Clock + Clone + Drop + Send + 'static>(
     heap: &Heap,
     come: &Arc<AtomicU64, Global>,
 ) -> Result<(RunningDrainer<Meeting<R>>, Inbox<Call<Meeting<R>>>), Fail> {
-    let sink = Meeting::new(rt, come)?;
+    let sink = Meeting::new(rt.clone()?, Arc::try_clone(come)?);
     let (drainer, calls) = filled(rt, heap, copy(rt, heap), sink, b"a")?;
     let drainer = drainer.expect(rt, "memory");
     match start_drainer(rt, drainer) {

@@ -223,13 +223,13 @@ fn two_desks_one_subject(rt: HostRuntime) -> Result<(), Fail> {
 }
 
 // Joins two observers whose sinks are to meet.
-fn join_both<R: Host>(rt: &R, caller: &mut Caller<Meeting<R>>) -> Result<(), Fail> {
-    let come = Arc::new(rt.alloc(), AtomicU64::new(0))?;
+fn join_both<R: Host>(rt: &R, caller: &mut Caller<Meeting<R>>) {
+    let come = Arc::new(rt.alloc(), AtomicU64::new(0)).expect(rt, "memory");
     for who in 0..2 {
-        let sink = Meeting::new(rt, &come)?;
+        let clock = rt.clone().expect(rt, "a clock");
+        let sink = Meeting::new(clock, Arc::try_clone(&come).expect(rt, "a handle"));
         assert_eq!(rt; caller.join(rt, 1, sink), Ok(Answer::Joined(who)));
     }
-    Ok(())
 }
 
 // A desk joins them, and emits one item.
@@ -237,18 +237,18 @@ fn emit_to_both<R: Host>(
     rt: &R,
     heap: &Heap,
     caller: Caller<Meeting<R>>,
-) -> Result<Vec<EndedDesk<Meeting<R>>, Heap>, Fail> {
+) -> Vec<EndedDesk<Meeting<R>>, Heap> {
     let mut caller = caller;
-    join_both(rt, &mut caller)?;
+    join_both(rt, &mut caller);
     assert_eq!(rt; caller.emit(rt, heap, b'a'), Ok(Answer::Admitted));
-    Ok(caller.finish_alone(rt, heap))
+    caller.finish_alone(rt, heap)
 }
 
 // The report of a server after that.
 fn report_of_two_drainers(rt: &impl Host, heap: &Heap) -> Result<Report<bool>, Fail> {
     let mut server = started(rt, heap, TWO_DRAINERS)?;
     let caller = caller_of(rt, &mut server);
-    let ended = emit_to_both(rt, heap, caller)?;
+    let ended = emit_to_both(rt, heap, caller);
     Ok(server.close(rt, ended)?)
 }
 
@@ -287,23 +287,41 @@ fn put_report<R: Drop>(told: &mut Vec<u8, Heap>, report: &Report<R>) -> Result<(
     Ok(())
 }
 
-// A desk joins an observer, whose sink grows by `tight`, and emits an item. Puts the two answers.
-fn put_answers(
-    rt: &impl Host,
-    free: &Heap,
-    tight: &Heap,
-    told: &mut Vec<u8, Heap>,
-    caller: Caller<MemorySink>,
-) -> Result<Vec<EndedDesk<MemorySink>, Heap>, Fail> {
-    let mut caller = caller;
-    let sink = MemorySink::new(copy(rt, tight), None);
-    put_result(told, caller.join(rt, 1, sink))?;
-    put_result(told, caller.emit(rt, free, b'a'))?;
-    told.push(b'|')?;
-    Ok(caller.finish_alone(rt, free))
+/// What a desk was answered, and what it left.
+#[derive(Drop)]
+struct Called {
+    answers: [Result<Answer, Refusal>; 2],
+    ended: Vec<EndedDesk<MemorySink>, Heap>,
 }
 
-// What is told of a server after that: the answers, and the report.
+// A desk joins an observer, whose sink grows by `tight`, and emits an item.
+fn call_twice(rt: &impl Host, free: &Heap, tight: &Heap, caller: Caller<MemorySink>) -> Called {
+    let mut caller = caller;
+    let sink = MemorySink::new(copy(rt, tight), None);
+    let joined = caller.join(rt, 1, sink);
+    let emitted = caller.emit(rt, free, b'a');
+    Called {
+        answers: [joined, emitted],
+        ended: caller.finish_alone(rt, free),
+    }
+}
+
+// What is told of a run: the answers, and the report.
+fn told_of_run<R: Drop>(
+    heap: &Heap,
+    answers: &[Result<Answer, Refusal>],
+    report: &Report<R>,
+) -> Result<Vec<u8, Heap>, Fail> {
+    let mut told = Vec::new(heap.clone()?);
+    for answer in answers {
+        put_result(&mut told, *answer)?;
+    }
+    told.push(b'|')?;
+    put_report(&mut told, report)?;
+    Ok(told)
+}
+
+// What is told of a server of which a desk does that.
 fn told_of_server(
     rt: &impl Host,
     free: &Heap,
@@ -311,26 +329,27 @@ fn told_of_server(
     server: Server<MemorySink>,
 ) -> Result<Vec<u8, Heap>, Fail> {
     let mut server = server;
-    let mut told = Vec::new(copy(rt, free));
     let caller = caller_of(rt, &mut server);
-    let ended = put_answers(rt, free, tight, &mut told, caller)?;
+    let Called { answers, ended } = call_twice(rt, free, tight, caller);
     let report = server.close(rt, ended)?;
-    put_report(&mut told, &report)?;
-    Ok(told)
+    told_of_run(free, answers.as_slice(), &report)
 }
 
-// What is told of a server that grows by `tight`; `!` where there was no memory for it, `?` where there was no thread.
+// What is told of a server that was not started: `!` where there was no memory, `?` where there was no thread.
+fn told_of_fault(heap: &Heap, cause: StartCause) -> Result<Vec<u8, Heap>, Fail> {
+    let sign = match cause {
+        StartCause::Memory => b'!',
+        StartCause::NoThread => b'?',
+    };
+    Ok(vec![in heap.clone()?; sign]?)
+}
+
+// What is told of a server that grows by `tight`.
 fn told_of(rt: &impl Host, free: &Heap, tight: &Heap) -> Result<Vec<u8, Heap>, Fail> {
-    let config = read_config(free.clone()?, rt.alloc(), TWO_OF_EACH)?;
-    match start(rt, tight.clone()?, config) {
+    let config = read_config(copy(rt, free), rt.alloc(), TWO_OF_EACH)?;
+    match start(rt, copy(rt, tight), config) {
         Ok(server) => told_of_server(rt, free, tight, server),
-        Err(fault) => {
-            let cause = match fault.cause {
-                StartCause::Memory => b'!',
-                StartCause::NoThread => b'?',
-            };
-            Ok(vec![in free.clone()?; cause]?)
-        }
+        Err(fault) => told_of_fault(free, fault.cause),
     }
 }
 
