@@ -15,7 +15,6 @@ use Rattle.rxline.specs.declared.asked.Asked.{Asked}
 use Rattle.rxline.specs.declared.asked.Asked.TheVariants as asked
 use Rattle.rx_proto.specs.declared.response.Response.{Response}
 use Rattle.rx_proto.specs.declared.response.Response.TheVariants as responses
-use Rattle.rx_proto.specs.declared.word.Word.{Word}
 use Rattle.rx_proto.specs.declared.word.Word.TheVariants as words
 use Rattle.rx_proto.specs.declared.command.Command.TheVariants.{Pub, End, Fail, Sub, Quit}
 use Rattle.rx_proto.specs.declared.script_line.ScriptLine.{ScriptLine}

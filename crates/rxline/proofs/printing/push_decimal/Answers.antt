@@ -1,4 +1,4 @@
-use Rattle.std.proofs.Common.{◌≡◌, ◌∙◌, ◌++◌, ◌∷◌, [], sym, ap, arith, ◌/◌, ◌%◌, ◌+◌}
+use Rattle.std.proofs.Common.{arith, ◌/◌}
 use Rattle.std.proofs.lemmas.Fmt.{decimal_digit, decimal_step}
 use Rattle.rxline.proofs.printing.push_decimal.Goals as goal
 
