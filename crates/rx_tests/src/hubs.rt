@@ -61,12 +61,18 @@ fn put_outs(told: &mut Vec<u8, Heap>, outs: &[Given]) -> Result<(), Fail> {
     Ok(())
 }
 
-fn hub_of(heap: &Heap, rules: Rules) -> Result<Hub, Fail> {
+/// A new hub by these rules.
+pub(crate) fn hub_of(heap: &Heap, rules: Rules) -> Result<Hub, Fail> {
     let Rules { kind, limits } = rules;
     Ok(Hub::new(heap.clone()?, kind, limits)?)
 }
 
-fn run_of(heap: &Heap, hub: &mut Hub, events: Vec<(u32, Event), Heap>) -> Result<Run, Fail> {
+/// The run of these events.
+pub(crate) fn run_of(
+    heap: &Heap,
+    hub: &mut Hub,
+    events: Vec<(u32, Event), Heap>,
+) -> Result<Run, Fail> {
     Ok(hub.run(heap.clone()?, events)?)
 }
 

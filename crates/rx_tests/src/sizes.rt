@@ -1,10 +1,11 @@
 //! Runs of a hub at sizes at which a list might be too short: none of them is refused for want of memory.
 
 use crate::heaps::unlimited;
-use crate::signs::{item, note_of, policy_of};
+use crate::hubs::{hub_of, run_of};
+use crate::signs::{item, note_of, policy_of, rules_of};
 use rx_heap::Heap;
-use rx_hub::{Hub, Run};
-use rx_note::{Event, Kind, Limits, Note, Strategy};
+use rx_hub::Run;
+use rx_note::{Event, Kind, Note, Strategy};
 use std::test::Fail;
 
 /// A run: so many observers join with a first request, items of so many bytes are emitted, the end comes or not, so many
@@ -74,13 +75,9 @@ fn events_of(heap: &Heap, shape: &Shape) -> Result<Vec<(u32, Event), Heap>, Fail
 }
 
 // A run by a new hub, and how many of its events were refused for want of memory.
-fn run_of(heap: &Heap, shape: &Shape) -> Result<(Run, u64), Fail> {
-    let limits = Limits {
-        observers: 64,
-        joins: 4_294_967_295,
-    };
-    let mut hub = Hub::new(heap.clone()?, Kind::Publish, limits)?;
-    let run = hub.run(heap.clone()?, events_of(heap, shape)?)?;
+fn missed_by(heap: &Heap, shape: &Shape) -> Result<(Run, u64), Fail> {
+    let mut hub = hub_of(heap, rules_of(Kind::Publish))?;
+    let run = run_of(heap, &mut hub, events_of(heap, shape)?)?;
     Ok((run, hub.misses()))
 }
 
@@ -94,7 +91,7 @@ fn bytes_of(note: &Note) -> usize {
 }
 
 fn told_of(heap: &Heap, shape: &Shape) -> Result<Told, Fail> {
-    let (run, misses) = run_of(heap, shape)?;
+    let (run, misses) = missed_by(heap, shape)?;
     let mut bytes: usize = 0;
     for given in run.outs.iter() {
         bytes = bytes.saturating_add(bytes_of(&given.note));
