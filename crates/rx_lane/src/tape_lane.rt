@@ -124,9 +124,9 @@ impl TapeLane {
         self.ended && self.last.is_none()
     }
 
-    /// Adds a request of `n` items, and puts at the end of `outs` copies of the items that are then given, which share their
-    /// texts, and the terminal behind the last of them. After the end it still gives what waits. Refused in the order
-    /// `ZeroRequest`, `TooMuch`, `Memory`; a refusal leaves the lane, the tape and `outs`.
+    /// Adds a request of `n` items, and puts at the end of `outs` copies of the items that are then given, and the terminal
+    /// behind the last of them. After the end it still gives what waits. Refused in the order `ZeroRequest`, `TooMuch`,
+    /// `Memory`; a refusal leaves the lane, the tape and `outs`.
     pub fn ask(
         &mut self,
         n: u32,

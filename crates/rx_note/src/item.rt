@@ -13,7 +13,7 @@ pub struct Item {
 }
 
 impl Item {
-    /// An equal item, which shares the text.
+    /// An equal item, whose text is a copy (`Text::copy`).
     pub fn copy(&self) -> Result<Item, Memory>
         ensures { IfOk result (λ item. item ≡ self.now) }
     {

@@ -15,7 +15,7 @@ pub enum Note {
 }
 
 impl Note {
-    /// An equal note, which shares the text.
+    /// An equal note, whose text is a copy (`Text::copy`).
     pub fn copy(&self) -> Result<Note, Memory>
         ensures { IfOk result (λ note. note ≡ self.now) }
     {
@@ -27,7 +27,7 @@ impl Note {
     }
 }
 
-/// The same note, or none; it shares the text.
+/// An equal note, or none; its text is a copy (`Text::copy`).
 pub fn copy_of(note: &Option<Note>) -> Result<Option<Note>, Memory>
     ensures { IfOk result (λ copy. copy ≡ note.now) }
 {

@@ -54,7 +54,7 @@ fn make_hub(alloc: &Heap, subject: &SubjectConfig) -> Result<Hub, Memory>
     }
 }
 
-// The same kind again, which shares a seed's text.
+// The same kind again; a seed's text is a copy.
 fn copy_kind(kind: &Kind) -> Result<Kind, Memory>
     ensures { IfOk result (λ copy. copy ≡ kind.now) }
 {

@@ -11,7 +11,7 @@ pub struct Offer {
 }
 
 impl Offer {
-    /// An equal offer, which shares the texts.
+    /// An equal offer, whose texts are copies.
     pub fn copy(&self) -> Result<Offer, Memory>
         ensures { IfOk result (λ offer. offer ≡ self.now) }
     {

@@ -108,7 +108,7 @@ impl Subject {
         }
     }
 
-    /// What `admit` would offer, refused alike; the texts are shared. Nothing is changed.
+    /// What `admit` would offer, refused alike; the texts are copies. Nothing is changed.
     pub fn preview(&self, port: u32, note: &Note) -> Result<Offer, AdmitError>
         ensures ended { (result ≡ Err AdmitError.Ended) ↔ (is_some self.now.terminal ≡ true) }
         ensures offers { IfOk result (λ offer. offer_signals offer ≡ signals_by self.now port note.now) }
@@ -173,7 +173,7 @@ impl Subject {
         }
     }
 
-    // Takes an item. What it offers shares its text.
+    // Takes an item. The text of what it offers is a copy.
     fn admit_item(&mut self, item: Item, at: u64) -> Result<Offer, Memory>
         ensures err { OnErr result (self.new ≡ self.old) }
         ensures state { OnOk result (self.new ≡ after_item self.old item at) }

@@ -133,7 +133,7 @@ impl TapeSubject {
         Ok(())
     }
 
-    /// What `admit` would offer, refused alike; the texts are shared. Nothing is changed.
+    /// What `admit` would offer, refused alike; the texts are copies. Nothing is changed.
     pub fn preview(&self, port: u32, note: &Note) -> Result<Offer, AdmitError>
         ensures ended { (result ≡ Err AdmitError.Ended) ↔ (is_some self.now.terminal ≡ true) }
         ensures offers { (items : List Item) → IfOk result (λ offer. offer_signals offer ≡ signals_by (subject_on items self.now) port note.now) }
@@ -214,7 +214,7 @@ impl TapeSubject {
         }
     }
 
-    // Takes an item. What it offers shares its text.
+    // Takes an item. The text of what it offers is a copy.
     fn admit_item(&mut self, item: Item, at: u64, tape: &mut Tape) -> Result<Offer, Memory>
         requires { length self.old.stamps ≤ length tape.old.items }
         ensures err { OnErr result ((self.new ≡ self.old) × (tape.new ≡ tape.old)) }
