@@ -1,5 +1,5 @@
 -- Several observers on one tape: what contracts see of them, and how their cursors stand.
-use Rattle.std.specs.Prelude.{◌≡◌, ℕ, max, Bool, List, [], ◌∷◌, ◌++◌, map, length, get_or, Option, None, Some}
+use Rattle.std.specs.Prelude.{◌≡◌, ◌<◌, ℕ, max, Bool, List, [], ◌∷◌, ◌++◌, map, length, get_or, Option, None, Some}
 use Rattle.std.specs.List.{All}
 use Rattle.rx_note.specs.declared.given.Given.{Given}
 use Rattle.rx_note.specs.declared.item.Item.{Item}
@@ -8,7 +8,7 @@ use Rattle.rx_tape.specs.Tapes.{TapeState}
 use Rattle.rx_tape.specs.Tapes as tapes
 use Rattle.rx_hub.specs.declared.seat.Seat.{Seat}
 use Rattle.rx_hub.specs.declared.subscription.Subscription.{Subscription}
-use Rattle.rx_hub.specs.Seats.{lane_of, cursor_of, Stands, given_now}
+use Rattle.rx_hub.specs.Seats.{lane_of, cursor_of, owing_of, Stands, given_now}
 use Rattle.rx_hub.specs.Subscriptions.{Observer}
 
 -- an observer's number and its seat
@@ -35,6 +35,10 @@ observers_on items places = map (observer_on items) places
 -- each seat stands on the tape
 abbrev pub AllOn : TapeState → Bool → List Place → Type 0
 AllOn tape offered places = All (λ place. Stands tape offered place.seat) places
+
+-- each of them is owed an item
+abbrev pub AllOwed : List Place → Type 0
+AllOwed places = All (λ place. 0 < owing_of place.seat) places
 
 -- what an item that is offered to several gives at once, by rising place
 abbrev pub gifts : Item → List Place → List Given

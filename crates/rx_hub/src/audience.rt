@@ -1,11 +1,13 @@
-ghost use Rattle.std.specs.Prelude.{◌≡◌, ◌+◌, ◌*◌, ◌<◌, ◌≤◌, ◌^◌, ◌↔◌, ◌==◌, ◌++◌, ◌∷◌, [], ℕ, List, Err, max, length, take, drop, get_or, position, is_some, option_to_list, true, false, IfOk, OnOk, OnErr, vec_len, vec_capacity};
+ghost use Rattle.std.specs.Prelude.{◌≡◌, ◌≢◌, ◌+◌, ◌*◌, ◌<◌, ◌≤◌, ◌^◌, ◌↔◌, ◌==◌, ◌++◌, ◌∷◌, [], ℕ, List, Err, max, length, take, drop, get_or, position, is_some, option_to_list, true, false, IfOk, OnOk, OnErr, vec_len, vec_capacity};
 ghost use Rattle.std.specs.List.{All};
 ghost use Rattle.rx_note.specs.declared.event.Event.TheVariants.{Emit};
 ghost use Rattle.rx_note.specs.declared.item.Item.{Item};
+ghost use Rattle.rx_note.specs.declared.kind.Kind.TheVariants.{Async};
+ghost use Rattle.rx_note.specs.declared.note.Note.TheVariants.{Next};
 ghost use Rattle.rx_note.specs.declared.rules.Rules.{Rules};
 ghost use Rattle.rx_note.specs.Signals.{Signals, Offered, waiting};
 ghost use Rattle.rx_history.specs.Histories.{History, ◌▹◌};
-ghost use Rattle.rx_tape.specs.Tapes.{last_items};
+ghost use Rattle.rx_tape.specs.Tapes.{TapeState, last_items};
 ghost use Rattle.rx_lane.specs.Lanes as lanes;
 ghost use Rattle.rx_subject.specs.Offers.{offer_signals};
 ghost use Rattle.rx_subject.specs.Subjects.{offered_by, signals_by};
@@ -13,7 +15,7 @@ ghost use Rattle.rx_subject.specs.Subjects as subjects;
 ghost use Rattle.rx_subject.specs.TapeSubjects.{subject_on};
 ghost use Rattle.rx_hub.specs.Seats.{IsReady, HoldsCopy};
 ghost use Rattle.rx_hub.specs.Subscriptions.{Observer, AllFedInto, AsksAt, JoinsInto};
-ghost use Rattle.rx_hub.specs.Audiences.{places_of, observers_on, gifts, AllOn, Apart, Owned, cursors, most_waiting, audience_at_first};
+ghost use Rattle.rx_hub.specs.Audiences.{places_of, observers_on, gifts, AllOn, AllOwed, Apart, Owned, cursors, most_waiting, audience_at_first};
 
 use crate::seat::Seat;
 use crate::subscription::{Subscription, end_by, give, give_all, keep_notes, no_notes};
@@ -92,6 +94,74 @@ impl Audience {
         at: u64,
         outs: &mut Vec<Given, Heap>,
     ) -> Result<(), Memory>
+        requires stamps { length subject.old.stamps ≤ length self.old.items }
+        requires open { is_some subject.old.terminal ≡ false }
+        ensures err { OnErr result ((subject.new ≡ subject.old) × (self.new ≡ self.old) × (outs.new.items ≡ outs.old.items)) }
+        ensures stands { OnOk result ((rules : Rules) (H : History) → subjects.StandsFor (subject_on self.old.items subject.old) rules H
+            → subjects.StandsFor (subject_on self.new.items subject.new) rules (H ▹ (port, Emit note at))) }
+        ensures fed { OnOk result (AllFedInto (signals_by (subject_on self.old.items subject.old) port note) self.old.observers self.new.observers outs.old.items outs.new.items) }
+        ensures within { length subject.new.stamps ≤ length self.new.items }
+        ensures kind { subject.new.kind ≡ subject.old.kind }
+    {
+        if subject.keeps_back() {
+            return self.admit_offer(subject, port, note, at, outs);
+        }
+        match note {
+            Note::Next(Item { from: _, text }) => {
+                self.admit_item(subject, Item { from: port, text }, at, outs)?;
+                Ok(())
+            }
+            end => self.admit_offer(subject, port, end, at, outs),
+        }
+    }
+
+    // Has the subject admit an item, which comes by the port that it names and is offered at once. The copies that are given
+    // are put where they go in the first pass. What all are owed, and nobody may need later, goes by no tape.
+    fn admit_item(
+        &mut self,
+        subject: &mut TapeSubject,
+        item: Item,
+        at: u64,
+        outs: &mut Vec<Given, Heap>,
+    ) -> Result<(), Memory>
+        requires stamps { length subject.old.stamps ≤ length self.old.items }
+        requires open { is_some subject.old.terminal ≡ false }
+        requires offered { subject.old.kind ≢ Async }
+        ensures err { OnErr result ((subject.new ≡ subject.old) × (self.new ≡ self.old) × (outs.new.items ≡ outs.old.items)) }
+        ensures stands { OnOk result ((from : ℕ) (rules : Rules) (H : History) → subjects.StandsFor (subject_on self.old.items subject.old) rules H
+            → subjects.StandsFor (subject_on self.new.items subject.new) rules (H ▹ (item.from, Emit (Next (record { from = from; text = item.text })) at))) }
+        ensures fed { OnOk result (AllFedInto (Offered item ∷ []) self.old.observers self.new.observers outs.old.items outs.new.items) }
+        ensures within { length subject.new.stamps ≤ length self.new.items }
+        ensures kind { subject.new.kind ≡ subject.old.kind }
+    {
+        let before = outs.len();
+        outs.reserve(self.subscriptions.len())?;
+        let Ok(all_owed) = give_item(&mut self.subscriptions, &item, outs) else {
+            outs.truncate(before);
+            return Err(Memory);
+        };
+        if all_owed && subject.keeps_nothing() {
+            subject.pass_item(at);
+            pass_owed_all(&mut self.subscriptions);
+            return Ok(());
+        }
+        let Ok(()) = subject.admit_on(item, at, &mut self.tape) else {
+            outs.truncate(before);
+            return Err(Memory);
+        };
+        pass_all(&mut self.subscriptions, &mut self.tape);
+        Ok(())
+    }
+
+    // Has the subject admit a note that ends it, or an item that it keeps back.
+    fn admit_offer(
+        &mut self,
+        subject: &mut TapeSubject,
+        port: u32,
+        note: Note,
+        at: u64,
+        outs: &mut Vec<Given, Heap>,
+    ) -> Result<(), Memory>
         requires { length subject.old.stamps ≤ length self.old.items }
         ensures err { OnErr result ((subject.new ≡ subject.old) × (self.new ≡ self.old) × (outs.new.items ≡ outs.old.items)) }
         ensures stands { OnOk result ((rules : Rules) (H : History) → subjects.StandsFor (subject_on self.old.items subject.old) rules H
@@ -103,50 +173,10 @@ impl Audience {
         let Ok(offer) = subject.preview(port, &note) else {
             return Err(Memory);
         };
-        match &offer {
-            Offer {
-                item: Some(item),
-                end: None,
-            } => self.admit_item(subject, item, port, note, at, outs),
-            _ => self.admit_end(subject, &offer, port, note, at, outs),
-        }
+        self.admit_end(subject, &offer, port, note, at, outs)
     }
 
-    // Has the subject admit a note that offers an item alone, by far the commonest. The copies that are given are put where
-    // they go in the first pass.
-    fn admit_item(
-        &mut self,
-        subject: &mut TapeSubject,
-        item: &Item,
-        port: u32,
-        note: Note,
-        at: u64,
-        outs: &mut Vec<Given, Heap>,
-    ) -> Result<(), Memory>
-        requires stamps { length subject.old.stamps ≤ length self.old.items }
-        requires item { offered_by (subject_on self.old.items subject.old) port note ≡ item.now ∷ [] }
-        ensures err { OnErr result ((subject.new ≡ subject.old) × (self.new ≡ self.old) × (outs.new.items ≡ outs.old.items)) }
-        ensures stands { OnOk result ((rules : Rules) (H : History) → subjects.StandsFor (subject_on self.old.items subject.old) rules H
-            → subjects.StandsFor (subject_on self.new.items subject.new) rules (H ▹ (port, Emit note at))) }
-        ensures fed { OnOk result (AllFedInto (Offered item.now ∷ []) self.old.observers self.new.observers outs.old.items outs.new.items) }
-        ensures within { length subject.new.stamps ≤ length self.new.items }
-        ensures kind { subject.new.kind ≡ subject.old.kind }
-    {
-        let before = outs.len();
-        outs.reserve(self.subscriptions.len())?;
-        let Ok(()) = give_item(&mut self.subscriptions, item, outs) else {
-            outs.truncate(before);
-            return Err(Memory);
-        };
-        let Ok(()) = subject.admit_offered(port, note, at, &mut self.tape) else {
-            outs.truncate(before);
-            return Err(Memory);
-        };
-        pass_all(&mut self.subscriptions, &mut self.tape);
-        Ok(())
-    }
-
-    // Has the subject admit a note that ends it.
+    // The same, where it is known what the note offers.
     fn admit_end(
         &mut self,
         subject: &mut TapeSubject,
@@ -259,24 +289,41 @@ fn place_in(subscriptions: &Vec<Subscription, Heap>, who: u32) -> Option<usize>
     subscriptions.iter().position(|s| s.who == who)
 }
 
-// Puts an item at the end of `outs` for each observer to which it is owed, and makes ready the copies that others keep. On
-// `Memory` some may have been put.
+// Puts an item at the end of `outs` for each observer to which it is owed, and says whether these are all; makes ready the
+// copies that others keep. On `Memory` some may have been put.
 fn give_item(
     subscriptions: &mut Vec<Subscription, Heap>,
     item: &Item,
     outs: &mut Vec<Given, Heap>,
-) -> Result<(), Memory>
+) -> Result<bool, Memory>
     requires { vec_len outs.old + vec_len subscriptions.old ≤ vec_capacity outs.old }
     ensures places { places_of subscriptions.new.items ≡ places_of subscriptions.old.items }
     ensures len { vec_len subscriptions.new ≡ vec_len subscriptions.old }
+    ensures owed { IfOk result (λ all. all ≡ true → AllOwed (places_of subscriptions.old.items)) }
     ensures given { OnOk result (outs.new.items ≡ outs.old.items ++ gifts item.now (places_of subscriptions.old.items)) }
     ensures holds { OnOk result (All (λ s. HoldsCopy item.now s.ready.item s.seat) subscriptions.new.items) }
     ensures front { take (vec_len outs.old) outs.new.items ≡ outs.old.items }
 {
+    let mut all = true;
     for i in 0..subscriptions.len() {
-        subscriptions[i].give_now(item, outs)?;
+        if !subscriptions[i].give_now(item, outs)? {
+            all = false;
+        }
     }
-    Ok(())
+    Ok(all)
+}
+
+// Passes an item that each observer is owed and was given, and that is not on the tape.
+fn pass_owed_all(subscriptions: &mut Vec<Subscription, Heap>)
+    requires { AllOwed (places_of subscriptions.old.items) }
+    ensures fed { (items : List Item) (item : Item) → AllFedInto (Offered item ∷ []) (observers_on items (places_of subscriptions.old.items))
+        (observers_on items (places_of subscriptions.new.items)) [] (gifts item (places_of subscriptions.old.items)) }
+    ensures on { (tape : TapeState) → AllOn tape false (places_of subscriptions.old.items) → AllOn tape false (places_of subscriptions.new.items) }
+    ensures cursors { cursors (places_of subscriptions.new.items) ≡ cursors (places_of subscriptions.old.items) }
+{
+    for i in 0..subscriptions.len() {
+        subscriptions[i].pass_owed();
+    }
 }
 
 // Offers each observer the last item of the tape, which was given already if it is owed.

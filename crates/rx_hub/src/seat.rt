@@ -145,6 +145,20 @@ impl Seat {
         }
     }
 
+    /// Passes an item that is owed and was given, and that is not on the tape.
+    #[inline(always)]
+    pub(crate) fn pass_owed(&mut self)
+        requires { 0 < owing_of self.old }
+        ensures serves { (items : List Item) (item : Item) → Serves (lane_of items self.old) (lane_of items self.new) (Offered item ∷ []) (given_now self.old item) }
+        ensures stands { (tape : TapeState) → Stands tape false self.old → Stands tape false self.new }
+        ensures cursor { cursor_of self.new ≡ cursor_of self.old }
+    {
+        match self {
+            Seat::Shared(lane) => lane.pass_owed(),
+            Seat::Own(lane) => lane.pass(),
+        }
+    }
+
     /// Ends the queue by a terminal, which comes back where it is given at once.
     pub(crate) fn end(&mut self, note: Note, tape: &mut Tape) -> Option<Note>
         requires { Stands tape.old false self.old }

@@ -1,10 +1,11 @@
 ghost use Rattle.std.specs.Prelude.{◌≡◌, ◌+◌, ◌<◌, ◌≤◌, ◌^◌, ◌↔◌, ◌++◌, ◌∷◌, [], ℕ, List, true, false, Err, is_some, map, length, option_to_list, IfOk, OnOk, OnErr, vec_len, vec_capacity};
 ghost use Rattle.rx_note.specs.declared.item.Item.{Item};
 ghost use Rattle.rx_note.specs.Signals.{Offered};
+ghost use Rattle.rx_tape.specs.Tapes.{TapeState};
 ghost use Rattle.rx_history.specs.Histories.{addressed, ended_by};
 ghost use Rattle.rx_subject.specs.Offers.{offer_signals};
 ghost use Rattle.rx_hub.specs.declared.seat.Seat.TheVariants.{Own};
-ghost use Rattle.rx_hub.specs.Seats.{lane_of, cursor_of, Stands, Leaves, HoldsCopy, copy_needed, given_now, needed, IsReady};
+ghost use Rattle.rx_hub.specs.Seats.{lane_of, cursor_of, Stands, Leaves, HoldsCopy, copy_needed, given_now, needed, owing_of, IsReady};
 ghost use Rattle.rx_hub.specs.Subscriptions.{Serves, Feeds, FeedsInto, AsksInto};
 
 use crate::seat::Seat;
@@ -43,15 +44,17 @@ impl Subscription {
         }
     }
 
-    /// Puts an item that is owed at the end of `outs`; of one that is not, makes ready the copy that a queue of its own keeps.
+    /// Puts an item at the end of `outs` if it is owed, and says so; of one that is not, makes ready the copy that a queue of
+    /// its own keeps.
     #[inline(always)]
     pub(crate) fn give_now(
         &mut self,
         item: &Item,
         outs: &mut Vec<Given, Heap>,
-    ) -> Result<(), Memory>
+    ) -> Result<bool, Memory>
         requires { vec_len outs.old < vec_capacity outs.old }
         ensures place { place_of self.new ≡ place_of self.old }
+        ensures owed { IfOk result (λ owed. owed ≡ true → 0 < owing_of self.old.seat) }
         ensures given { OnOk result (outs.new.items ≡ outs.old.items ++ addressed self.old.who (given_now self.old.seat item.now)) }
         ensures holds { OnOk result (HoldsCopy item.now self.new.ready.item self.new.seat) }
         ensures err { OnErr result (outs.new.items ≡ outs.old.items) }
@@ -64,12 +67,12 @@ impl Subscription {
                 who: self.who,
                 note,
             });
-            return Ok(());
+            return Ok(true);
         }
         if let Seat::Own(lane) = &self.seat {
             self.ready.item = copy_kept(lane, item)?;
         }
-        Ok(())
+        Ok(false)
     }
 
     /// Offers the last item of the tape, which was given already if it is owed.
@@ -83,6 +86,17 @@ impl Subscription {
         ensures leaves { Leaves tape.old tape.new (cursor_of self.old.seat) }
     {
         self.seat.pass(&mut self.ready.item, tape);
+    }
+
+    /// Passes an item that is owed and was given, and that is not on the tape.
+    #[inline(always)]
+    pub(crate) fn pass_owed(&mut self)
+        requires { 0 < owing_of self.old.seat }
+        ensures fed { (items : List Item) (item : Item) → Feeds (observer_on items (place_of self.old)) (observer_on items (place_of self.new)) (Offered item ∷ []) (given_now self.old.seat item) }
+        ensures stands { (tape : TapeState) → Stands tape false self.old.seat → Stands tape false self.new.seat }
+        ensures cursor { cursor_of self.new.seat ≡ cursor_of self.old.seat }
+    {
+        self.seat.pass_owed();
     }
 
     /// Makes ready the copies that an offer takes.

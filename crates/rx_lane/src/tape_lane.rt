@@ -206,6 +206,18 @@ impl TapeLane {
         self.waiting.make_room(self.policy.strategy(), tape);
     }
 
+    /// Passes an item that is owed and that the caller gives: it need be neither at hand nor on the tape. It is meant before the
+    /// end alone.
+    #[inline(always)]
+    pub fn pass_owed(&mut self)
+        requires { 0 < self.old.owing }
+        ensures gives { (items : List Item) (item : Item) → Gives (lane_on items self.old) (Offered item) (Next item ∷ []) }
+        ensures stands { (items : List Item) (item : Item) → GoesOn (lane_on items self.old) (lane_on items self.new) (Offered item) }
+        ensures back { (self.new.back ≡ self.old.back) × (self.new.cursor ≡ self.old.cursor) }
+    {
+        self.owed -= 1;
+    }
+
     /// Offers an item that isn't on the tape, which comes back where it is given at once; else it waits. It takes no memory. It
     /// is meant before the end, where nothing waits.
     pub fn offer_lead(&mut self, item: Item) -> Option<Item>

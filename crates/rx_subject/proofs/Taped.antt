@@ -259,6 +259,19 @@ taped-offered (Behavior seed) last port item = refl
 taped-offered Async last port item = refl
 taped-offered (Replay count age) last port item = refl
 
+-- and it is the only one
+pub taped-alone : (kind : Kind) (item : Item) → kind ≢ Async → taped kind item.from (Next item) ≡ item ∷ []
+taped-alone Publish item other = refl
+taped-alone (Behavior seed) item other = refl
+taped-alone Async item other = absurd (other refl)
+taped-alone (Replay count age) item other = refl
+
+-- what Publish passes leaves it as it was, but for its clock
+pub passed_on : (t : TapeSubjectState) (items : List Item) (item : Item) (at : ℕ) → t.kind ≡ Publish → after_item (subject_on items t) item at ≡ subject_on items (record t { clock = max t.clock at })
+passed_on t items item at publishes =
+    ap (λ (w : List Stamped). record (subject_on items t) { clock = max t.clock at; window = w })
+    (ap (λ (k : Kind). window_with k (window_on t.kind items t.own t.stamps) item (max t.clock at)) publishes)
+
 -- what an end offers is what the subject keeps itself
 pub ended-offers : (kind : Kind) (items : List Item) (own : List Stamped) (stamps : List ℕ) (port : ℕ) (note : Note)
     → offers_by kind (unstamped (take 1 (window_on kind items own stamps))) port note ≡ offers_by kind (unstamped (take 1 own)) port note

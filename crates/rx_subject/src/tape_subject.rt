@@ -1,6 +1,6 @@
-ghost use Rattle.std.specs.Prelude.{◌≡◌, ◌↔◌, ◌≤◌, ◌++◌, ℕ, List, None, Some, map, max, length, is_some, true, Err, IfOk, OnOk, OnErr, option_to_list};
+ghost use Rattle.std.specs.Prelude.{◌≡◌, ◌≢◌, ◌↔◌, ◌≤◌, ◌++◌, ℕ, List, None, Some, map, max, length, is_some, true, false, Err, IfOk, OnOk, OnErr, option_to_list};
 ghost use Rattle.rx_note.specs.declared.event.Event.TheVariants.{Emit, Join};
-ghost use Rattle.rx_note.specs.declared.kind.Kind.TheVariants.{Async};
+ghost use Rattle.rx_note.specs.declared.kind.Kind.TheVariants.{Publish, Async};
 ghost use Rattle.rx_note.specs.declared.note.Note.TheVariants.{Next};
 ghost use Rattle.rx_note.specs.declared.item.Item.{Item};
 ghost use Rattle.rx_note.specs.declared.rules.Rules.{Rules};
@@ -133,6 +133,36 @@ impl TapeSubject {
         Ok(())
     }
 
+    /// Takes an item that comes by the port that it names, at a moment, in milliseconds, and puts it on the tape. It is meant
+    /// before the end, and for a kind that keeps no item back. `Memory` leaves the subject and the tape.
+    pub fn admit_on(&mut self, item: Item, at: u64, tape: &mut Tape) -> Result<(), Memory>
+        requires stamps { length self.old.stamps ≤ length tape.old.items }
+        requires open { is_some self.old.terminal ≡ false }
+        requires offered { self.old.kind ≢ Async }
+        ensures err { OnErr result ((self.new ≡ self.old) × (tape.new ≡ tape.old)) }
+        ensures stands { OnOk result ((from : ℕ) (rules : Rules) (H : History) → StandsFor (subject_on tape.old.items self.old) rules H
+            → StandsFor (subject_on tape.new.items self.new) rules (H ▹ (item.from, Emit (Next (record { from = from; text = item.text })) at))) }
+        ensures tape { OnOk result (tape.new ≡ pushed tape.old item) }
+        ensures within { length self.new.stamps ≤ length tape.new.items }
+        ensures kind { self.new.kind ≡ self.old.kind }
+    {
+        self.keep_item(item, at, tape)?;
+        Ok(())
+    }
+
+    /// Takes an item that comes at a moment, in milliseconds, where the kind is Publish, which keeps nothing of it: it need be
+    /// neither at hand nor on the tape. It is meant before the end.
+    pub fn pass_item(&mut self, at: u64)
+        requires publishes { self.old.kind ≡ Publish }
+        requires open { is_some self.old.terminal ≡ false }
+        ensures stands { (items : List Item) (port : ℕ) (item : Item) (rules : Rules) (H : History) → StandsFor (subject_on items self.old) rules H
+            → StandsFor (subject_on items self.new) rules (H ▹ (port, Emit (Next item) at)) }
+        ensures stamps { self.new.stamps ≡ self.old.stamps }
+        ensures kind { self.new.kind ≡ self.old.kind }
+    {
+        self.stamp = self.stamp.max(at);
+    }
+
     /// What `admit` would offer, refused alike; the texts are copies. Nothing is changed.
     pub fn preview(&self, port: u32, note: &Note) -> Result<Offer, AdmitError>
         ensures ended { (result ≡ Err AdmitError.Ended) ↔ (is_some self.now.terminal ≡ true) }
@@ -185,6 +215,20 @@ impl TapeSubject {
         ensures { result ≡ is_some self.now.terminal }
     {
         self.terminal.is_some()
+    }
+
+    /// Whether it keeps its items back until the completion, as Async does.
+    pub fn keeps_back(&self) -> bool
+        ensures { (result ≡ true) ↔ (self.now.kind ≡ Async) }
+    {
+        is_async(&self.kind)
+    }
+
+    /// Whether it keeps nothing for later joiners, as Publish does.
+    pub fn keeps_nothing(&self) -> bool
+        ensures { (result ≡ true) ↔ (self.now.kind ≡ Publish) }
+    {
+        matches!(self.kind, Kind::Publish)
     }
 
     /// The greatest moment of the accepted emissions and joins so far, in milliseconds; 0 before the first.
