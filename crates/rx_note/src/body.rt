@@ -1,17 +1,21 @@
 ghost use Rattle.std.specs.Prelude.{◌≡◌, ◌≤◌, length, IfOk};
 
+use crate::block::{Block, MEDIUM};
 use rx_heap::{Heap, Memory};
-use std::sync::ArcSlice;
+use std::sync::{Arc, ArcSlice};
 
 /// The most bytes of a short text, so many that a `Text` has 24 bytes in all.
 const SHORT: usize = 22;
 
-/// Where the bytes of a text are. Most texts are short: these take no memory, and their copies touch no count.
+/// Where the bytes of a text are. Most texts are short: these take no memory, and their copies touch no count. A medium one
+/// takes one growth, a long one two.
 #[derive(Debug)]
 pub(crate) enum Body {
     /// Here, the first `len` of these.
     Short { len: u8, bytes: [u8; SHORT] },
-    /// In memory that the copies share.
+    /// In a block that the copies share.
+    Medium(Arc<Block, Heap>),
+    /// In a list that the copies share.
     Long(ArcSlice<u8, Heap>),
 }
 
@@ -20,6 +24,7 @@ impl Drop for Body {
     fn drop(self) {
         match self {
             Body::Short { len: _, bytes: _ } => {}
+            Body::Medium(block) => drop(block),
             Body::Long(bytes) => drop(bytes),
         }
     }
@@ -35,6 +40,9 @@ impl Body {
     {
         if bytes.len() <= SHORT {
             return Ok(Body::short(bytes));
+        }
+        if bytes.len() <= MEDIUM {
+            return Body::medium(alloc, bytes);
         }
         match ArcSlice::from_slice(alloc, bytes) {
             Ok(bytes) => Ok(Body::Long(bytes)),
@@ -56,6 +64,17 @@ impl Body {
         }
     }
 
+    fn medium(alloc: Heap, bytes: &[u8]) -> Result<Body, Memory>
+        requires { length bytes.now ≤ 63 }
+        ensures bytes { IfOk result (λ body. bytes_of body ≡ bytes.now) }
+        ensures within { IfOk result (λ body. IsWithin body) }
+    {
+        match Arc::new(alloc, Block::new(bytes)) {
+            Ok(block) => Ok(Body::Medium(block)),
+            Err(_) => Err(Memory),
+        }
+    }
+
     /// The bytes.
     pub(crate) fn as_bytes(&self) -> &[u8]
         requires { IsWithin self.now }
@@ -63,6 +82,7 @@ impl Body {
     {
         match self {
             Body::Short { len, bytes } => &bytes[..*len as usize],
+            Body::Medium(block) => block.as_bytes(),
             Body::Long(bytes) => bytes.as_slice(),
         }
     }
@@ -78,6 +98,10 @@ impl Body {
                 len: *len,
                 bytes: *bytes,
             }),
+            Body::Medium(block) => match Arc::try_clone(block) {
+                Ok(block) => Ok(Body::Medium(block)),
+                Err(_) => Err(Memory),
+            },
             Body::Long(bytes) => match bytes.clone() {
                 Ok(bytes) => Ok(Body::Long(bytes)),
                 Err(_) => Err(Memory),

@@ -6,6 +6,7 @@
 #![tactic(auto)]
 
 mod answer;
+mod block;
 mod body;
 mod errors;
 mod event;

@@ -1,10 +1,12 @@
-//! A hub over a budget of bytes in use, and texts over a budget of none.
+//! A hub over a budget of bytes in use, and what a text takes of one.
 
 use crate::heaps::unlimited;
 use crate::signs::{item, policy_of};
 use rx_heap::Heap;
 use rx_hub::Hub;
-use rx_note::{Answer, Event, Given, Kind, Limits, Note, Refusal, Strategy, Text, TextError};
+use rx_note::{
+    Answer, Event, Given, Kind, Limits, MAX_TEXT, Note, Refusal, Strategy, Text, TextError,
+};
 use std::test::Fail;
 
 const BUDGET: u64 = 4_096;
@@ -90,16 +92,16 @@ fn what_waits_fills_a_budget(rt: HostRuntime) -> Result<(), Fail> {
 }
 
 #[test]
-fn a_short_text_takes_no_memory(rt: HostRuntime) -> Result<(), Fail> {
-    for (bytes, refused) in [
-        ("", None),
-        ("twenty-two bytes, here", None),
-        ("twenty-three bytes here", Some(TextError::Memory)),
-    ] {
+fn a_text_takes_few_growths(rt: HostRuntime) -> Result<(), Fail> {
+    let letters = [b'a'; MAX_TEXT];
+    for (len, growths) in [(0, 0), (22, 0), (23, 1), (63, 1), (64, 2), (1024, 2)] {
+        let ample = Heap::with_budget(rt.alloc(), BUDGET)?;
+        let text = Text::new(ample.clone()?, &letters[..len]);
+        assert_eq!(rt; text.err(), None, "{len}");
+        assert_eq!(rt; ample.asked(), growths, "{len}");
         let tight = Heap::with_budget(rt.alloc(), 0)?;
-        let text = Text::new(tight.clone()?, bytes.as_bytes());
-        assert_eq!(rt; text.err(), refused, "{bytes}");
-        assert_eq!(rt; tight.asked() > 0, refused.is_some(), "{bytes}");
+        let refused = Text::new(tight.clone()?, &letters[..len]).err();
+        assert_eq!(rt; refused == Some(TextError::Memory), growths > 0, "{len}");
     }
     Ok(())
 }
