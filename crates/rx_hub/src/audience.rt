@@ -32,8 +32,8 @@ use std::marker::Model;
 pub(crate) struct Audience {
     tape: Tape,
     subscriptions: Vec<Subscription, Heap>,
-    // What one observer is given in a step, over the memory of the list that it goes to; none before the first. A room
-    // that isn't large is kept from step to step.
+    // What an observer that joins, or one with a queue of its own by a request, is given, over the memory of the list that
+    // it goes to; none before the first. A room that isn't large is kept from step to step.
     notes: Option<Vec<Note, Heap>>,
 }
 

@@ -1,10 +1,10 @@
-ghost use Rattle.std.specs.Prelude.{◌≡◌, ◌≤◌, ◌<◌, ◌+◌, ◌^◌, ◌↔◌, ◌++◌, ◌∷◌, [], ℕ, List, true, false, Err, None, Some, map, min, length, option_to_list, if◌then◌else◌, IfOk, OnOk, OnErr, vec_len, vec_capacity};
+ghost use Rattle.std.specs.Prelude.{◌≡◌, ◌≤◌, ◌<◌, ◌+◌, ◌++◌, ◌∷◌, [], ℕ, List, true, false, None, Some, map, length, option_to_list, if◌then◌else◌, IfOk, OnErr, vec_len, vec_capacity};
 ghost use Rattle.rx_note.specs.declared.item.Item.{Item};
 ghost use Rattle.rx_note.specs.declared.note.Note.{Note};
 ghost use Rattle.rx_note.specs.declared.note.Note.TheVariants.{Next};
-ghost use Rattle.rx_note.specs.Signals.{Signals, Requested, Offered, Ended, waiting};
+ghost use Rattle.rx_note.specs.Signals.{Signals, Offered, Ended, waiting};
 ghost use Rattle.rx_tape.specs.Tapes.{TapeState, place_of, waits};
-ghost use Rattle.rx_lane.specs.Lanes.{StandsFor, HasRoomFor, GivesInto, GoesOn};
+ghost use Rattle.rx_lane.specs.Lanes.{StandsFor, HasRoomFor};
 ghost use Rattle.rx_lane.specs.Queues.{HasRoom};
 ghost use Rattle.rx_lane.specs.TapeLanes.{HoldsSame};
 ghost use Rattle.rx_hub.specs.declared.seat.Seat.TheVariants.{Own};
@@ -12,7 +12,7 @@ ghost use Rattle.rx_hub.specs.Seats.{copy_needed, given_now};
 ghost use Rattle.rx_hub.specs.Subscriptions.{Serves, Begins, BeginsInto};
 
 use rx_heap::{Heap, Memory};
-use rx_lane::{AskError, Lane, TapeLane};
+use rx_lane::{Lane, TapeLane};
 use rx_note::{Item, Note, Policy, Strategy};
 use rx_tape::Tape;
 
@@ -170,31 +170,6 @@ impl Seat {
         match self {
             Seat::Shared(lane) => lane.end_on(note, tape),
             Seat::Own(lane) => lane.end(note),
-        }
-    }
-
-    /// Adds a request, and puts at the end of `notes` what is then given. Refused as the queue does, which leaves it.
-    pub(crate) fn ask(
-        &mut self,
-        n: u32,
-        tape: &mut Tape,
-        notes: &mut Vec<Note, Heap>,
-    ) -> Result<(), AskError>
-        requires { Stands tape.old false self.old }
-        ensures zero { (result ≡ Err AskError.ZeroRequest) ↔ (n ≡ 0) }
-        ensures too_much { (result ≡ Err AskError.TooMuch) ↔ ((0 < n) × (2 ^ 32 ≤ (lane_of tape.old.items self.old).owing + n)) }
-        ensures err { OnErr result (lane_of tape.new.items self.new ≡ lane_of tape.old.items self.old) }
-        ensures gives { OnOk result (GivesInto (lane_of tape.old.items self.old) (Requested n) notes.old.items notes.new.items) }
-        ensures goes_on { OnOk result (GoesOn (lane_of tape.old.items self.old) (lane_of tape.new.items self.new) (Requested n)) }
-        ensures count { length notes.new.items
-            ≤ length notes.old.items + min ((lane_of tape.old.items self.old).owing + n) (length (lane_of tape.old.items self.old).items) + 1 }
-        ensures stands { Stands tape.new false self.new }
-        ensures cursor { cursor_of self.new ≡ cursor_of self.old }
-        ensures leaves { Leaves tape.old tape.new (cursor_of self.old) }
-    {
-        match self {
-            Seat::Shared(lane) => lane.ask(n, tape, notes),
-            Seat::Own(lane) => lane.ask(n, notes),
         }
     }
 

@@ -1,8 +1,9 @@
 ghost use Rattle.std.specs.Prelude.{◌≡◌, ◌+◌, ◌<◌, ◌≤◌, ◌^◌, ◌↔◌, ◌++◌, ◌∷◌, [], ℕ, List, true, false, Err, is_some, map, length, option_to_list, IfOk, OnOk, OnErr, vec_len, vec_capacity};
 ghost use Rattle.rx_note.specs.declared.item.Item.{Item};
-ghost use Rattle.rx_note.specs.Signals.{Offered};
+ghost use Rattle.rx_note.specs.Signals.{Requested, Offered};
 ghost use Rattle.rx_tape.specs.Tapes.{TapeState};
 ghost use Rattle.rx_history.specs.Histories.{addressed, ended_by};
+ghost use Rattle.rx_lane.specs.Lanes.{HasRoomFor, GivesTo, GoesOn};
 ghost use Rattle.rx_subject.specs.Offers.{offer_signals};
 ghost use Rattle.rx_hub.specs.declared.seat.Seat.TheVariants.{Own};
 ghost use Rattle.rx_hub.specs.Seats.{lane_of, cursor_of, Stands, Leaves, HoldsCopy, copy_needed, given_now, needed, owing_of, IsReady};
@@ -148,24 +149,46 @@ impl Subscription {
         ensures cursor { cursor_of self.new.seat ≡ cursor_of self.old.seat }
         ensures leaves { Leaves tape.old tape.new (cursor_of self.old.seat) }
     {
-        if n == 0 {
-            return Err(AskError::ZeroRequest);
+        match &mut self.seat {
+            Seat::Shared(lane) => lane.ask_for(self.who, n, tape, outs),
+            Seat::Own(lane) => ask_own(self.who, n, lane, notes, outs),
         }
-        let Some(owed) = self.seat.owed().checked_add(n) else {
-            return Err(AskError::TooMuch);
-        };
-        let most = self.seat.waiting_len().min(owed as usize);
-        let Ok(()) = outs.reserve(most + 1) else {
-            return Err(AskError::Memory);
-        };
-        let Ok(mut released) = no_notes(notes, outs) else {
-            return Err(AskError::Memory);
-        };
-        self.seat.ask(n, tape, &mut released)?;
-        give_all(self.who, &mut released, outs);
-        keep_notes(notes, released);
-        Ok(())
     }
+}
+
+// Adds a request of an observer with a queue of its own, which gives into a list of notes first.
+fn ask_own(
+    who: u32,
+    n: u32,
+    lane: &mut Lane,
+    notes: &mut Option<Vec<Note, Heap>>,
+    outs: &mut Vec<Given, Heap>,
+) -> Result<(), AskError>
+    requires { (count : ℕ) → HasRoomFor lane.old count }
+    ensures zero { (result ≡ Err AskError.ZeroRequest) ↔ (n ≡ 0) }
+    ensures too_much { (result ≡ Err AskError.TooMuch) ↔ ((0 < n) × (2 ^ 32 ≤ lane.old.state.owing + n)) }
+    ensures err { OnErr result ((lane.new.state ≡ lane.old.state) × (outs.new.items ≡ outs.old.items)) }
+    ensures gives { OnOk result (GivesTo who lane.old.state (Requested n) outs.old.items outs.new.items) }
+    ensures goes_on { OnOk result (GoesOn lane.old.state lane.new.state (Requested n)) }
+    ensures room { (count : ℕ) → HasRoomFor lane.new count }
+{
+    if n == 0 {
+        return Err(AskError::ZeroRequest);
+    }
+    let Some(owed) = lane.owed().checked_add(n) else {
+        return Err(AskError::TooMuch);
+    };
+    let most = lane.waiting_len().min(owed as usize);
+    let Ok(()) = outs.reserve(most + 1) else {
+        return Err(AskError::Memory);
+    };
+    let Ok(mut released) = no_notes(notes, outs) else {
+        return Err(AskError::Memory);
+    };
+    lane.ask(n, &mut released)?;
+    give_all(who, &mut released, outs);
+    keep_notes(notes, released);
+    Ok(())
 }
 
 // A copy of an item that is not owed, where the queue does not lose it.

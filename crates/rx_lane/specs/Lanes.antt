@@ -1,5 +1,6 @@
 -- The queue of one observer: what contracts see of it, and the signals that it stands for.
-use Rattle.std.specs.Prelude.{◌≡◌, ◌+◌, ◌&&◌, nat_le, ℕ, Bool, List, ◌++◌, None, is_some, length}
+use Rattle.std.specs.Prelude.{◌≡◌, ◌+◌, ◌&&◌, nat_le, ℕ, Bool, List, ◌++◌, None, is_some, length, map}
+use Rattle.rx_note.specs.declared.given.Given.{Given}
 use Rattle.rx_note.specs.declared.item.Item.{Item}
 use Rattle.rx_note.specs.declared.note.Note.{Note}
 use Rattle.rx_note.specs.Choices.{Choice}
@@ -52,6 +53,14 @@ Gives lane signal notes = (s : Signals) → StandsFor lane s → MayFollow s sig
 -- by this signal exactly what was put at the end of the list is given
 abbrev pub GivesInto : LaneState → Signal → List Note → List Note → Type 0
 GivesInto lane signal before after = (notes : List Note) × (after ≡ before ++ notes) × Gives lane signal notes
+
+-- notes addressed to an observer
+abbrev pub addressed : ℕ → List Note → List Given
+addressed who notes = map (λ note. record { who = who; note = note }) notes
+
+-- the same, where the notes that were put are addressed to an observer
+abbrev pub GivesTo : ℕ → LaneState → Signal → List Given → List Given → Type 0
+GivesTo who lane signal before after = (notes : List Note) × (after ≡ before ++ addressed who notes) × Gives lane signal notes
 
 -- the lane stands for the signals with this one more
 abbrev pub GoesOn : LaneState → LaneState → Signal → Type 0

@@ -1,16 +1,15 @@
-ghost use Rattle.std.specs.Prelude.{◌≡◌, ◌≤◌, ◌<◌, ◌+◌, ◌^◌, ◌↔◌, [], ◌++◌, ◌∷◌, List, ◌⊎◌, Ok, Err, None, Some, map, take, length, min, option_to_list, vec_len, OnOk, OnErr, IfOk};
+ghost use Rattle.std.specs.Prelude.{ℕ, ◌≡◌, ◌≤◌, ◌<◌, ◌+◌, ◌^◌, ◌↔◌, [], ◌++◌, ◌∷◌, List, ◌⊎◌, Ok, Err, None, Some, map, take, length, min, option_to_list, vec_len, OnOk, OnErr, IfOk};
 ghost use Rattle.rx_note.specs.declared.item.Item.{Item};
 ghost use Rattle.rx_note.specs.declared.note.Note.TheVariants.{Next};
 ghost use Rattle.rx_note.specs.Signals.{Signals, Requested, Offered, Ended, owed};
 ghost use Rattle.rx_tape.specs.Tapes.{waits, place_of, Spares, MovesOn};
-ghost use Rattle.rx_lane.specs.Lanes.{StandsFor, Gives, GoesOn, GivesInto, is_over};
+ghost use Rattle.rx_lane.specs.Lanes.{StandsFor, Gives, GoesOn, GivesInto, GivesTo, is_over};
 ghost use Rattle.rx_lane.specs.TapeLanes.{lane_on, StandsBack, StandsWhereSome, IsShared, HoldsSame, BeginsInto, Offers, Passes};
 
 use crate::ask_error::AskError;
-use crate::last::give_last;
 use crate::waiting::Waiting;
 use rx_heap::{Heap, Memory};
-use rx_note::{Item, Note, Policy};
+use rx_note::{Given, Item, Note, Policy};
 use rx_tape::Tape;
 use std::marker::Model;
 
@@ -146,30 +145,113 @@ impl TapeLane {
         ensures cursor { self.new.cursor ≡ self.old.cursor }
         ensures spares { Spares tape.old tape.new self.old.cursor }
     {
-        if n == 0 {
-            return Err(AskError::ZeroRequest);
-        }
-        let Some(owed) = self.owed.checked_add(n) else {
-            return Err(AskError::TooMuch);
-        };
-        let items = self.waiting.len();
-        let given = items.min(owed as usize);
-        let all = given == items;
+        let owed = self.owed_by(n)?;
+        let items = self.released(owed);
         let before = outs.len();
-        let notes = if all { self.waiting_notes() } else { given };
-        let Ok(()) = outs.reserve(notes) else {
+        let Ok(()) = outs.reserve(self.notes_released(items)) else {
             return Err(AskError::Memory);
         };
-        let Ok(()) = self.waiting.copy_out(given, tape, outs) else {
+        let Ok(()) = self.waiting.copy_out(items, tape, outs) else {
             outs.truncate(before);
             return Err(AskError::Memory);
         };
-        self.waiting.skip(given, tape);
-        self.owed = owed - given as u32;
-        if all {
-            give_last(&mut self.last, outs);
+        if let Some(note) = self.release(items, owed, tape) {
+            outs.push_reserved(note);
         }
         Ok(())
+    }
+
+    /// Adds a request of `n` items as `ask` does, and puts at the end of `outs` what is then given, addressed to the observer of
+    /// the number `who`. Refused in the order `ZeroRequest`, `TooMuch`, `Memory`; a refusal leaves the lane, the tape and `outs`.
+    pub fn ask_for(
+        &mut self,
+        who: u32,
+        n: u32,
+        tape: &mut Tape,
+        outs: &mut Vec<Given, Heap>,
+    ) -> Result<(), AskError>
+        requires { StandsWhereSome tape.old self.old.cursor self.old.back }
+        ensures zero { (result ≡ Err AskError.ZeroRequest) ↔ (n ≡ 0) }
+        ensures too_much { (result ≡ Err AskError.TooMuch) ↔ ((0 < n) × (2 ^ 32 ≤ self.old.owing + n)) }
+        ensures err { OnErr result ((self.new ≡ self.old) × (tape.new ≡ tape.old) × (outs.new.items ≡ outs.old.items)) }
+        ensures gives { OnOk result (GivesTo who (lane_on tape.old.items self.old) (Requested n) outs.old.items outs.new.items) }
+        ensures stands { OnOk result (GoesOn (lane_on tape.old.items self.old) (lane_on tape.new.items self.new) (Requested n)) }
+        ensures count { length outs.new.items
+            ≤ length outs.old.items + min (self.old.owing + n) (length (option_to_list self.old.lead) + self.old.back) + 1 }
+        ensures stands_back { StandsBack tape.old self.old.cursor self.old.back → StandsBack tape.new self.new.cursor self.new.back }
+        ensures stands_where { StandsWhereSome tape.new self.new.cursor self.new.back }
+        ensures cursor { self.new.cursor ≡ self.old.cursor }
+        ensures spares { Spares tape.old tape.new self.old.cursor }
+    {
+        let owed = self.owed_by(n)?;
+        let items = self.released(owed);
+        let before = outs.len();
+        let Ok(()) = outs.reserve(self.notes_released(items)) else {
+            return Err(AskError::Memory);
+        };
+        let Ok(()) = self.waiting.copy_to(who, items, tape, outs) else {
+            outs.truncate(before);
+            return Err(AskError::Memory);
+        };
+        if let Some(note) = self.release(items, owed, tape) {
+            outs.push_reserved(Given { who, note });
+        }
+        Ok(())
+    }
+
+    // How many items may be given once `n` more are requested.
+    fn owed_by(&self, n: u32) -> Result<u32, AskError>
+        ensures zero { (result ≡ Err AskError.ZeroRequest) ↔ (n ≡ 0) }
+        ensures too_much { (result ≡ Err AskError.TooMuch) ↔ ((0 < n) × (2 ^ 32 ≤ self.now.owing + n)) }
+        ensures owed { IfOk result (λ owed. owed ≡ self.now.owing + n) }
+    {
+        if n == 0 {
+            return Err(AskError::ZeroRequest);
+        }
+        match self.owed.checked_add(n) {
+            Some(owed) => Ok(owed),
+            None => Err(AskError::TooMuch),
+        }
+    }
+
+    // How many of the items that wait are given where so many are owed.
+    fn released(&self, owed: u32) -> usize
+        ensures { result ≡ min (length (option_to_list self.now.lead) + self.now.back) owed }
+    {
+        self.waiting.len().min(owed as usize)
+    }
+
+    // How many notes are given with so many items: behind the last of them the terminal, where one waits.
+    fn notes_released(&self, items: usize) -> usize
+        ensures all { items ≡ length (option_to_list self.now.lead) + self.now.back → result ≡ items + length self.now.last }
+        ensures items { items ≤ length (option_to_list self.now.lead) + self.now.back → items ≤ result }
+    {
+        if items == self.waiting.len() {
+            self.waiting_notes()
+        } else {
+            items
+        }
+    }
+
+    // Passes the items that are given where so many are owed. The terminal comes back where it goes behind the last of them.
+    fn release(&mut self, items: usize, owed: u32, tape: &mut Tape) -> Option<Note>
+        requires stands { StandsWhereSome tape.old self.old.cursor self.old.back }
+        requires items { items ≡ min (length (option_to_list self.old.lead) + self.old.back) owed }
+        ensures gives { (n : ℕ) → owed ≡ self.old.owing + n
+            → Gives (lane_on tape.old.items self.old) (Requested n) (map Next (take items (waits self.old.lead tape.old.items self.old.back)) ++ option_to_list result) }
+        ensures goes_on { (n : ℕ) → owed ≡ self.old.owing + n
+            → GoesOn (lane_on tape.old.items self.old) (lane_on tape.new.items self.new) (Requested n) }
+        ensures all { option_to_list result ≡ self.old.last ⊎ result ≡ None }
+        ensures part { items < length (option_to_list self.old.lead) + self.old.back → result ≡ None }
+        ensures stands_back { StandsBack tape.old self.old.cursor self.old.back → StandsBack tape.new self.new.cursor self.new.back }
+        ensures stands_where { StandsWhereSome tape.new self.new.cursor self.new.back }
+        ensures cursor { self.new.cursor ≡ self.old.cursor }
+        ensures spares { Spares tape.old tape.new self.old.cursor }
+    {
+        let all = items == self.waiting.len();
+        self.waiting.skip(items, tape);
+        self.owed = owed - items as u32;
+        if all { self.last.take() } else { None }
     }
 
     /// Offers the last item of the tape; where it is owed `copy` is that item and comes back, else `copy` is None, the item

@@ -1,10 +1,11 @@
-ghost use Rattle.std.specs.Prelude.{◌≡◌, ◌+◌, ◌-◌, ◌<◌, ◌≤◌, ◌^◌, ◌++◌, [], None, map, take, drop, length, min, slice_get, option_copied, option_to_list, OnOk, vec_len, vec_capacity};
+ghost use Rattle.std.specs.Prelude.{◌≡◌, ◌+◌, ◌-◌, ◌<◌, ◌≤◌, ◌^◌, ◌++◌, [], None, map, take, drop, length, min, slice_get, option_copied, option_to_list, IfOk, OnOk, OnErr, vec_len, vec_capacity};
 ghost use Rattle.rx_note.specs.declared.note.Note.TheVariants.{Next};
-ghost use Rattle.rx_tape.specs.Tapes.{waits, Spares};
+ghost use Rattle.rx_tape.specs.Tapes.{last_items, waits, Spares};
+ghost use Rattle.rx_lane.specs.Lanes.{addressed};
 ghost use Rattle.rx_lane.specs.TapeLanes.{StandsBack, StandsWhereSome, IsShared, within_room};
 
 use rx_heap::{Heap, Memory};
-use rx_note::{Item, Note, Strategy};
+use rx_note::{Given, Item, Note, Strategy};
 use rx_tape::Tape;
 
 /// What waits for an observer whose items stand on a tape: an item of its own in front, and the last `back` items of the
@@ -63,6 +64,26 @@ impl Waiting {
             outs.push_reserved(Note::Next(item.copy()?));
         }
         Ok(())
+    }
+
+    /// Puts copies of the first `count` items, addressed to an observer, at the end of `outs`, which has room for them. On
+    /// `Memory` some of them may have been put.
+    pub(crate) fn copy_to(
+        &self,
+        who: u32,
+        count: usize,
+        tape: &Tape,
+        outs: &mut Vec<Given, Heap>,
+    ) -> Result<(), Memory>
+        requires there { count ≤ length (option_to_list self.now.lead) + self.now.back }
+        requires stands { StandsWhereSome tape.now self.now.cursor self.now.back }
+        requires room { vec_len outs.old + count ≤ vec_capacity outs.old }
+        ensures ok { OnOk result (outs.new.items ≡ outs.old.items ++ addressed who (map Next (take count (waits self.now.lead tape.now.items self.now.back)))) }
+        ensures front { take (vec_len outs.old) outs.new.items ≡ outs.old.items }
+        ensures capacity { vec_capacity outs.new ≡ vec_capacity outs.old }
+    {
+        let more = copy_lead(who, count, &self.lead, outs)?;
+        copy_items(who, more, self.back, tape, outs)
     }
 
     /// Passes the first `count` items.
@@ -131,4 +152,55 @@ impl Waiting {
         self.lead = None;
         self.back = 0;
     }
+}
+
+// Puts a copy of the item in front, if there is one, at the end of `outs`, for an observer, and says how many others are
+// then to be copied.
+fn copy_lead(
+    who: u32,
+    count: usize,
+    lead: &Option<Item>,
+    outs: &mut Vec<Given, Heap>,
+) -> Result<usize, Memory>
+    requires { vec_len outs.old + count ≤ vec_capacity outs.old }
+    ensures more { IfOk result (λ more. more ≡ count - length (option_to_list lead.now)) }
+    ensures ok { OnOk result (outs.new.items ≡ outs.old.items ++ addressed who (map Next (take count (option_to_list lead.now)))) }
+    ensures err { OnErr result (outs.new.items ≡ outs.old.items) }
+    ensures capacity { vec_capacity outs.new ≡ vec_capacity outs.old }
+{
+    match lead {
+        Some(item) if count > 0 => {
+            let note = Note::Next(item.copy()?);
+            outs.push_reserved(Given { who, note });
+            Ok(count - 1)
+        }
+        _ => Ok(count),
+    }
+}
+
+// Puts copies of the first `count` of the last `back` items of a tape at the end of `outs`, for an observer. On `Memory`
+// some of them may have been put.
+fn copy_items(
+    who: u32,
+    count: usize,
+    back: usize,
+    tape: &Tape,
+    outs: &mut Vec<Given, Heap>,
+) -> Result<(), Memory>
+    requires there { back ≤ length tape.now.items }
+    requires within { count ≤ back }
+    requires room { vec_len outs.old + count ≤ vec_capacity outs.old }
+    ensures ok { OnOk result (outs.new.items ≡ outs.old.items ++ addressed who (map Next (take count (last_items tape.now.items back)))) }
+    ensures front { take (vec_len outs.old) outs.new.items ≡ outs.old.items }
+    ensures capacity { vec_capacity outs.new ≡ vec_capacity outs.old }
+{
+    let first = tape.len() - back;
+    for place in 0..count {
+        let Some(item) = tape.item(first + place) else {
+            unreachable!()
+        };
+        let note = Note::Next(item.copy()?);
+        outs.push_reserved(Given { who, note });
+    }
+    Ok(())
 }

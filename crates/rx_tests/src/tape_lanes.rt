@@ -5,6 +5,9 @@
 //! Told is what joining gives, what comes back of an item or the end, and behind each request all that was given so far; before
 //! that, where the request was refused, `Z` for no items, `T` for too much, `M` for want of memory. The state is how many items
 //! wait, how many notes wait, how many items are owed, and `!` where the lane is over, else `-`.
+//!
+//! Each script is tried twice: with requests that give notes, and with those that give them addressed to an observer, where `#`
+//! is told before a note that is addressed to another.
 
 ghost use Rattle.std.specs.Prelude.{◌≡◌, true, IfOk};
 ghost use Rattle.rx_lane.specs.TapeLanes.{StandsBack, StandsWhereSome, IsShared};
@@ -14,18 +17,21 @@ use crate::in_turn::{Refusable, Seen, refuse_in_turn};
 use crate::signs::{digit_of, item, note_of, policy_by, put_notes, sign_of};
 use rx_heap::{Heap, Memory};
 use rx_lane::{AskError, TapeLane};
-use rx_note::{Errors, Item, Note, Policy, Strategy};
+use rx_note::{Errors, Given, Item, Note, Policy, Strategy};
 use rx_tape::Tape;
 use std::test::Fail;
 
-/// A lane that is tried with its tape, whether it has not ended, what was given so far, what is told, and how many calls were
-/// refused for want of memory and then made again.
+/// A lane that is tried with its tape, whether it has not ended, the number of its observer where that is told to its requests,
+/// what they gave so far without it and with it, what is told, and how many calls were refused for want of memory and then
+/// made again.
 #[derive(Drop)]
 struct Tried {
     tape: Tape,
     lane: TapeLane,
     is_open: bool,
+    who: Option<u32>,
     given: Vec<Note, Heap>,
+    outs: Vec<Given, Heap>,
     told: Vec<u8, Heap>,
     misses: u64,
     ghost waits: { StandsWhereSome tape lane.cursor lane.back },
@@ -44,11 +50,18 @@ impl Tried {
         Ok(())
     }
 
+    fn asked_once(&mut self, n: u32) -> Result<(), AskError> {
+        match self.who {
+            None => self.lane.ask(n, &mut self.tape, &mut self.given),
+            Some(who) => self.lane.ask_for(who, n, &mut self.tape, &mut self.outs),
+        }
+    }
+
     fn asked(&mut self, n: u32) -> Result<(), AskError> {
-        match self.lane.ask(n, &mut self.tape, &mut self.given) {
+        match self.asked_once(n) {
             Err(AskError::Memory) => {
                 self.count_miss();
-                self.lane.ask(n, &mut self.tape, &mut self.given)
+                self.asked_once(n)
             }
             answered => answered,
         }
@@ -61,7 +74,10 @@ impl Tried {
             Err(AskError::TooMuch) => self.told.push(b'T')?,
             Err(AskError::Memory) => self.told.push(b'M')?,
         }
-        put_notes(&mut self.told, self.given.as_slice())
+        match self.who {
+            None => put_notes(&mut self.told, self.given.as_slice()),
+            Some(who) => put_outs(&mut self.told, who, self.outs.as_slice()),
+        }
     }
 
     fn put_state(&mut self) -> Result<(), Fail> {
@@ -122,6 +138,17 @@ impl Tried {
     }
 }
 
+// Puts the signs of notes that are addressed to an observer.
+fn put_outs(told: &mut Vec<u8, Heap>, who: u32, outs: &[Given]) -> Result<(), Fail> {
+    for given in outs {
+        if given.who != who {
+            told.push(b'#')?;
+        }
+        told.push(sign_of(&given.note))?;
+    }
+    Ok(())
+}
+
 // Puts the items of these letters on a tape, and says how many pushes were refused and then made again.
 fn push_all(tape: &mut Tape, heap: &Heap, letters: &[u8]) -> Result<u64, Fail> {
     let mut misses: u64 = 0;
@@ -156,10 +183,11 @@ fn shared_policy(shared: Shared) -> Result<Policy, Fail>
     }
 }
 
-/// What stands on the tape before a lane joins, how many of these it is offered behind a lead, its policy and its first
-/// request, a script, and what is told of it.
+/// The number of a lane's observer where that is told to its requests, what stands on the tape before it joins, how many of
+/// these it is offered behind a lead, its policy and its first request, a script, and what is told of it.
 #[derive(Clone, Copy)]
 struct Row {
+    who: Option<u32>,
     before: &'static str,
     lead: Option<u8>,
     back: usize,
@@ -202,7 +230,9 @@ impl Row {
             tape,
             lane,
             is_open: true,
+            who: self.who,
             given,
+            outs: Vec::new(tight.clone()?),
             told,
             misses,
         })
@@ -253,23 +283,26 @@ fn tape_lane_call_by_call(rt: HostRuntime) -> Result<(), Fail> {
         ("abc", Some(b'z'), 2, None, delay, 2, "? 9", "zb110- c"),
         ("abc", Some(b'z'), 3, None, delay, 9, "?", "zabc005-"),
     ] {
-        let row = Row {
-            before,
-            lead,
-            back,
-            shared: Shared { room, errors },
-            first,
-            script,
-            told: wanted,
-        };
-        let heap = unlimited(&rt);
-        let tried = row.tried(&heap, &heap)?;
-        assert_eq!(rt;
-            tried.told.as_slice(),
-            wanted.as_bytes(),
-            "{script}, wanted {wanted}"
-        );
-        assert_eq!(rt; refuse_in_turn(&row, rt.alloc())?.fault, "", "{script}");
+        for who in [None, Some(7)] {
+            let row = Row {
+                who,
+                before,
+                lead,
+                back,
+                shared: Shared { room, errors },
+                first,
+                script,
+                told: wanted,
+            };
+            let heap = unlimited(&rt);
+            let tried = row.tried(&heap, &heap)?;
+            assert_eq!(rt;
+                tried.told.as_slice(),
+                wanted.as_bytes(),
+                "{script}, wanted {wanted}"
+            );
+            assert_eq!(rt; refuse_in_turn(&row, rt.alloc())?.fault, "", "{script}");
+        }
     }
     Ok(())
 }

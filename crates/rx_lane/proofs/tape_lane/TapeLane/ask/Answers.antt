@@ -1,52 +1,26 @@
-use Rattle.std.proofs.Common.{◌≡◌, ◌≤◌, ◌<◌, ◌+◌, ◌-◌, length, refl, sym, subst, ap, option_to_list, append_assoc, arith}
-use Rattle.std.proofs.lemmas.Bool.Decides.{nat_tests}
-use Rattle.rx_lane.specs.TapeLanes.{TapeLaneState, StandsWhereSome}
+use Rattle.std.proofs.Common.{List, ◌++◌, ◌∷◌, [], map, take, ap, ◌∙◌, append_assoc}
+use Rattle.rx_note.specs.declared.note.Note.{Note}
+use Rattle.rx_note.specs.declared.note.Note.TheVariants.{Next}
 use Rattle.rx_tape.specs.Tapes.{waits}
-use Rattle.rx_tape.proofs.Lasts.{waits-length}
-use Rattle.rx_lane.proofs.Steps.{ask_all, ask_part}
-use Rattle.rx_lane.proofs.Followed.{stands_on, stands_alike}
+use Rattle.rx_lane.specs.TapeLanes.{TapeLaneState}
 use Rattle.rx_lane.proofs.tape_lane.TapeLane.ask.Goals as goal
 
-pub returns-then-all-2-clause-gives : goal.returns-then-all-2-clause-gives
-returns-then-all-2-clause-gives c =
-    let t = c.args.tape.now in
-    let w = c.self.inside.waiting in
-    let stands = subst (λ (v : TapeLaneState). StandsWhereSome t v.cursor v.back) (sym c.self.view_is) c.requires in
-    let long = waits-length w.lead t.items w.back (λ some. (stands some).within) in
-    let all : c.min-given.result ≡ length (waits w.lead t.items w.back) = omega (arith, long, c.len-items.ensures, c.if-all-2.true) in
-    let owed : c.min-given.result ≤ c.self.inside.owed + c.args.n = grind (arith, nat_tests, c.in-Some.ensures, c.min-given.ensures) in
-    (_, rw (c.give_last.ensures.moved, c.in-Ok-copy_out.ensures.ok, c.reserve.ensures.items, append_assoc), λ s st open_now. (ask_all _ c.args.n c.min-given.result all owed s (stands_on t.items c.self.view_is st)).gives)
+pub returns-in-Some-clause-gives : goal.returns-in-Some-clause-gives
+returns-in-Some-clause-gives c =
+    let released : TapeLaneState → List Note = λ lane. map Next (take c.released-items.result (waits lane.lead c.args.tape.now.items lane.back)) in
+    let notes = released c.args.self.now in
+    let last = c.in-Some.note ∷ [] in (
+      notes ++ last,
+      c.push_reserved.ensures.items
+          ∙ ap (λ put. put ++ last) c.in-Ok-copy_out.ensures.ok
+          ∙ ap (λ (lane : TapeLaneState). (c.reserve.new.self.items ++ released lane) ++ last) c.self.view_is
+          ∙ ap (λ put. (put ++ notes) ++ last) c.reserve.ensures.items
+          ∙ append_assoc c.args.outs.now.items notes last,
+      c.in-Some.ensures.gives c.args.n c.in_ok-owed.ensures.owed,
+    )
 
-pub returns-then-all-2-clause-stands : goal.returns-then-all-2-clause-stands
-returns-then-all-2-clause-stands c = λ s st open_now.
-    let t = c.args.tape.now in
-    let w = c.self.inside.waiting in
-    let stands = subst (λ (v : TapeLaneState). StandsWhereSome t v.cursor v.back) (sym c.self.view_is) c.requires in
-    let long = waits-length w.lead t.items w.back (λ some. (stands some).within) in
-    let all : c.min-given.result ≡ length (waits w.lead t.items w.back) = omega (arith, long, c.len-items.ensures, c.if-all-2.true) in
-    let owed : c.min-given.result ≤ c.self.inside.owed + c.args.n = grind (arith, nat_tests, c.in-Some.ensures, c.min-given.ensures) in
-    let left : c.in-Some.owed - c.min-given.result ≡ c.self.inside.owed + c.args.n - c.min-given.result = grind (arith, nat_tests, c.in-Some.ensures) in
-    stands_alike refl c.skip.ensures.waits (ap option_to_list c.give_last.ensures.left) refl left
-    (ask_all _ c.args.n c.min-given.result all owed s (stands_on t.items c.self.view_is st)).stands
+pub returns-in-Some-clause-stands : goal.returns-in-Some-clause-stands
+returns-in-Some-clause-stands c = c.in-Some.ensures.goes_on c.args.n c.in_ok-owed.ensures.owed
 
-pub returns-else-all-2-clause-gives : goal.returns-else-all-2-clause-gives
-returns-else-all-2-clause-gives c =
-    let t = c.args.tape.now in
-    let w = c.self.inside.waiting in
-    let stands = subst (λ (v : TapeLaneState). StandsWhereSome t v.cursor v.back) (sym c.self.view_is) c.requires in
-    let long = waits-length w.lead t.items w.back (λ some. (stands some).within) in
-    let part : c.min-given.result < length (waits w.lead t.items w.back) = grind (arith, nat_tests, long, c.len-items.ensures, c.min-given.ensures) in
-    let owed : c.min-given.result ≡ c.self.inside.owed + c.args.n = grind (arith, nat_tests, c.in-Some.ensures, c.min-given.ensures) in
-    (_, rw (c.in-Ok-copy_out.ensures.ok, c.reserve.ensures.items), λ s st open_now. (ask_part _ c.args.n c.min-given.result owed part s (stands_on t.items c.self.view_is st)).gives)
-
-pub returns-else-all-2-clause-stands : goal.returns-else-all-2-clause-stands
-returns-else-all-2-clause-stands c = λ s st open_now.
-    let t = c.args.tape.now in
-    let w = c.self.inside.waiting in
-    let stands = subst (λ (v : TapeLaneState). StandsWhereSome t v.cursor v.back) (sym c.self.view_is) c.requires in
-    let long = waits-length w.lead t.items w.back (λ some. (stands some).within) in
-    let part : c.min-given.result < length (waits w.lead t.items w.back) = grind (arith, nat_tests, long, c.len-items.ensures, c.min-given.ensures) in
-    let owed : c.min-given.result ≡ c.self.inside.owed + c.args.n = grind (arith, nat_tests, c.in-Some.ensures, c.min-given.ensures) in
-    let left : c.in-Some.owed - c.min-given.result ≡ c.self.inside.owed + c.args.n - c.min-given.result = grind (arith, nat_tests, c.in-Some.ensures) in
-    stands_alike refl c.skip.ensures.waits refl refl left
-    (ask_part _ c.args.n c.min-given.result owed part s (stands_on t.items c.self.view_is st)).stands
+pub returns-in_default-release-clause-stands : goal.returns-in_default-release-clause-stands
+returns-in_default-release-clause-stands c = c.in_default-release.ensures.goes_on c.args.n c.in_ok-owed.ensures.owed
