@@ -58,7 +58,7 @@ GivesInto lane signal before after = (notes : List Note) × (after ≡ before ++
 abbrev pub addressed : ℕ → List Note → List Given
 addressed who notes = map (λ note. record { who = who; note = note }) notes
 
--- the same, where the notes that were put are addressed to an observer
+-- by this signal exactly what was put at the end of the list, addressed to an observer, is given
 abbrev pub GivesTo : ℕ → LaneState → Signal → List Given → List Given → Type 0
 GivesTo who lane signal before after = (notes : List Note) × (after ≡ before ++ addressed who notes) × Gives lane signal notes
 

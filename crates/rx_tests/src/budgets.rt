@@ -1,4 +1,4 @@
-//! A hub over a budget of bytes in use, and what a text takes of one.
+//! A hub over a budget of bytes in use, a list of what is given over one, and what a text takes of one.
 
 use crate::heaps::unlimited;
 use crate::signs::{item, policy_of};
@@ -7,6 +7,7 @@ use rx_hub::Hub;
 use rx_note::{
     Answer, Event, Given, Kind, Limits, MAX_TEXT, Note, Refusal, Strategy, Text, TextError,
 };
+use std::alloc::Global;
 use std::test::Fail;
 
 const BUDGET: u64 = 4_096;
@@ -86,6 +87,29 @@ fn what_waits_fills_a_budget(rt: HostRuntime) -> Result<(), Fail> {
     assert_eq!(rt; waiting.request(MAX_ITEMS), Ok(Answer::Asked));
     assert_eq!(rt; waiting.outs.len(), first as usize + 3);
     assert_eq!(rt; waiting.emit()?, Ok(Answer::Admitted));
+    drop(waiting);
+    assert_eq!(rt; tight.used(), 0);
+    Ok(())
+}
+
+// The bytes that a list of so many notes takes.
+fn bytes_of(alloc: Global, notes: usize) -> Result<u64, Fail> {
+    let heap = Heap::with_budget(alloc, u64::MAX)?;
+    let _list: Vec<Given, Heap> = Vec::with_capacity(heap.clone()?, notes)?;
+    Ok(heap.used())
+}
+
+// The list has a few places at the first emission, and gives them back once it has room for the request.
+#[test]
+fn a_request_holds_each_note_once(rt: HostRuntime) -> Result<(), Fail> {
+    let bytes = bytes_of(rt.alloc(), MAX_ITEMS as usize + 8)?;
+    let tight = Heap::with_budget(rt.alloc(), bytes)?;
+    let mut waiting = Waiting::new(unlimited(&rt), &unlimited(&rt))?;
+    waiting.outs = Vec::new(tight.clone()?);
+    assert_eq!(rt; waiting.join()?, Ok(Answer::Joined(0)));
+    assert_eq!(rt; waiting.fill()?, None);
+    assert_eq!(rt; waiting.request(MAX_ITEMS), Ok(Answer::Asked));
+    assert_eq!(rt; waiting.outs.len(), MAX_ITEMS as usize);
     drop(waiting);
     assert_eq!(rt; tight.used(), 0);
     Ok(())
