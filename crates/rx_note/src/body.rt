@@ -17,18 +17,26 @@ pub(crate) enum Body {
 
 // By hand, so that to let a text go is one step in each function that does, whichever form it has.
 impl Drop for Body {
+    #[inline(always)]
     fn drop(self) {
         match self {
             Body::Short { len: _, bytes: _ } => {}
-            Body::Long(bytes) => drop(bytes),
+            Body::Long(bytes) => let_go(bytes),
         }
     }
+}
+
+// Lets go of shared bytes. It is kept out of line, so that to let a short text go costs one test.
+#[inline(never)]
+fn let_go(bytes: ArcSlice<u8, Heap>) {
+    drop(bytes);
 }
 
 impl Body {
     ghost use Rattle.rx_note.specs.Bodies.{bytes_of, IsWithin};
 
     /// The body of these bytes.
+    #[inline(always)]
     pub(crate) fn new(alloc: Heap, bytes: &[u8]) -> Result<Body, Memory>
         ensures bytes { IfOk result (λ body. bytes_of body ≡ bytes.now) }
         ensures within { IfOk result (λ body. IsWithin body) }
@@ -36,12 +44,22 @@ impl Body {
         if bytes.len() <= SHORT {
             return Ok(Body::short(bytes));
         }
+        Body::long(alloc, bytes)
+    }
+
+    // The body of shared bytes. It is kept out of line, so that a short text is made in place.
+    #[inline(never)]
+    fn long(alloc: Heap, bytes: &[u8]) -> Result<Body, Memory>
+        ensures bytes { IfOk result (λ body. bytes_of body ≡ bytes.now) }
+        ensures within { IfOk result (λ body. IsWithin body) }
+    {
         match ArcSlice::from_slice(alloc, bytes) {
             Ok(bytes) => Ok(Body::Long(bytes)),
             Err(_) => Err(Memory),
         }
     }
 
+    #[inline(always)]
     fn short(bytes: &[u8]) -> Body
         requires { length bytes.now ≤ 22 }
         ensures bytes { bytes_of result ≡ bytes.now }
