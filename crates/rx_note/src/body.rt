@@ -21,12 +21,22 @@ pub(crate) enum Body {
 
 // By hand, so that to let a text go is one step in each function that does, whichever form it has.
 impl Drop for Body {
+    #[inline(always)]
     fn drop(self) {
         match self {
             Body::Short { len: _, bytes: _ } => {}
-            Body::Medium(block) => drop(block),
-            Body::Long(bytes) => drop(bytes),
+            shared => let_go(shared),
         }
+    }
+}
+
+// Lets go of bytes that the copies share. It is kept out of line, so that to let a short text go costs one test.
+#[inline(never)]
+fn let_go(body: Body) {
+    match body {
+        Body::Short { len: _, bytes: _ } => {}
+        Body::Medium(block) => drop(block),
+        Body::Long(bytes) => drop(bytes),
     }
 }
 
@@ -34,6 +44,7 @@ impl Body {
     ghost use Rattle.rx_note.specs.Bodies.{bytes_of, IsWithin};
 
     /// The body of these bytes.
+    #[inline(always)]
     pub(crate) fn new(alloc: Heap, bytes: &[u8]) -> Result<Body, Memory>
         ensures bytes { IfOk result (λ body. bytes_of body ≡ bytes.now) }
         ensures within { IfOk result (λ body. IsWithin body) }
@@ -41,6 +52,15 @@ impl Body {
         if bytes.len() <= SHORT {
             return Ok(Body::short(bytes));
         }
+        Body::shared(alloc, bytes)
+    }
+
+    // The body of bytes that the copies share. It is kept out of line, so that a short text is made in place.
+    #[inline(never)]
+    fn shared(alloc: Heap, bytes: &[u8]) -> Result<Body, Memory>
+        ensures bytes { IfOk result (λ body. bytes_of body ≡ bytes.now) }
+        ensures within { IfOk result (λ body. IsWithin body) }
+    {
         if bytes.len() <= MEDIUM {
             return Body::medium(alloc, bytes);
         }
@@ -50,6 +70,7 @@ impl Body {
         }
     }
 
+    #[inline(always)]
     fn short(bytes: &[u8]) -> Body
         requires { length bytes.now ≤ 22 }
         ensures bytes { bytes_of result ≡ bytes.now }

@@ -67,6 +67,7 @@ impl Text {
     }
 
     /// The text of bytes of a line that are known to be one, which are not looked through again.
+    #[inline(always)]
     pub fn of_line(alloc: Heap, bytes: &[u8]) -> Result<Text, Memory>
         requires within { length bytes.now ≤ 1024 }
         requires no_lf { list_any (λ b. nat_eq b 10) bytes.now ≡ false }

@@ -21,11 +21,11 @@ use Rattle.rx_proto.proofs.NameTests.{name_read-name}
 use Rattle.rx_proto.proofs.Sound.{is_digit-decides, sizes-decides}
 
 -- bytes that each pass a test which no space passes have no space
-no_space : (P : ℕ → Type 0) → ((byte : ℕ) → P byte → byte ≡ 32 → ⊥) → (bytes : List ℕ) → AllByRecursion P bytes → HasNoSpace bytes
+pub no_space : (P : ℕ → Type 0) → ((byte : ℕ) → P byte → byte ≡ 32 → ⊥) → (bytes : List ℕ) → AllByRecursion P bytes → HasNoSpace bytes
 no_space P never [] all = tt
 no_space P never (byte ∷ bytes) all = (never byte all.0, no_space P never bytes all.1)
 
-IsNameByte-no_space : (byte : ℕ) → IsNameByte byte → byte ≡ 32 → ⊥
+pub IsNameByte-no_space : (byte : ℕ) → IsNameByte byte → byte ≡ 32 → ⊥
 IsNameByte-no_space byte (inl letter) space = omega arith
 IsNameByte-no_space byte (inr (inl digit)) space = omega arith
 IsNameByte-no_space byte (inr (inr dash)) space = omega arith
@@ -36,7 +36,7 @@ name-no_space name is = no_space IsNameByte IsNameByte-no_space name is.each
 number-no_space : (n : ℕ) (digits : List ℕ) → SpellsNumber 32 n digits → HasNoSpace digits
 number-no_space n digits is = no_space IsDigit (λ byte digit space. omega arith) digits is.each
 
-named_read-named : (name rest : List ℕ) → IsName name → named_read (name ++ (32 ∷ rest)) ≡ Ok (name, rest)
+pub named_read-named : (name rest : List ℕ) → IsName name → named_read (name ++ (32 ∷ rest)) ≡ Ok (name, rest)
 unfolding named_read
 named_read-named name rest is = rw (cut_read-parted name rest (name-no_space name is), name_read-name name is) refl
 
@@ -44,13 +44,13 @@ pub no_lf_test : (bytes : List ℕ) → HasNoLf bytes → list_any (λ byte. nat
 no_lf_test [] none = refl
 no_lf_test (byte ∷ bytes) none = rw (ne_eqb byte 10 none.0, no_lf_test bytes none.1) refl
 
-text_read-text : (text : List ℕ) → IsText text → text_read text ≡ Ok text
+pub text_read-text : (text : List ℕ) → IsText text → text_read text ≡ Ok text
 unfolding text_read
 text_read-text text is =
     let few : nat_lt 1024 (length text) ≡ false = let f = is.few in grind (arith, nat_tests) in
     rw (no_lf_test text is.no_lf, few) refl
 
-text_read-long : (text : List ℕ) → 1024 < length text → HasNoLf text → text_read text ≡ Err Long
+pub text_read-long : (text : List ℕ) → 1024 < length text → HasNoLf text → text_read text ≡ Err Long
 unfolding text_read
 text_read-long text long none =
     let many : nat_lt 1024 (length text) ≡ true = grind (arith, nat_tests) in

@@ -1,9 +1,10 @@
 -- The exact grammar: of any line, and from it of a session's and of a script's.
-use Rattle.std.proofs.Common.{◌≡◌, ◌≤◌, ℕ, List, length, Result, Ok, Err, refl, ap, ◌∙◌, inl, inr}
+use Rattle.std.proofs.Common.{◌≡◌, ◌≤◌, ℕ, true, false, List, nat_lt, length, codes, Result, Ok, Err, refl, ap, ◌∙◌, inl, inr, arith}
 use Rattle.std.proofs.lemmas.Bool.{cases_lt}
+use Rattle.std.proofs.lemmas.Bool.Decides.{nat_tests}
 use Rattle.rx_proto.specs.Grammar.{SpellsCommand, SpellsInScript, IsOfScript, IsSpelled, IsLong}
 use Rattle.rx_proto.specs.Laws.{IsExact}
-use Rattle.rx_proto.specs.Reading.{◌>>=◌, line_read, in_script, in_session, script_read, session_read}
+use Rattle.rx_proto.specs.Reading.{◌>>=◌, begins_with, rest_behind, line_read, in_script, in_session, named_text_read, pub_read, script_read, session_read}
 use Rattle.rx_proto.specs.declared.command.Command.TheVariants.{Pub, End, Fail, Sub, Quit}
 use Rattle.rx_proto.specs.declared.line_error.BadLine.{BadLine}
 use Rattle.rx_proto.specs.declared.line_error.BadLine.TheVariants.{Long, Syntax}
@@ -13,10 +14,10 @@ use Rattle.rx_proto.proofs.Complete.{line_read-long, line_read-spelled}
 use Rattle.rx_proto.proofs.Sound.{IsRead, Says, Says-ok, Says-long, Says-then, line_says}
 
 -- what is neither read nor too long is refused as no line
-other : {M : Type 0} (read : Result M BadLine) (P : M → Type 0) (Q : Type 0) → Says read P Q → (Q → ⊥) → ((m : M) → P m → ⊥) → read ≡ Err Syntax
-other (Ok m) P Q says short none = absurd (none m says)
-other (Err Long) P Q says short none = absurd (short says)
-other (Err Syntax) P Q says short none = refl
+pub refused : {M : Type 0} (read : Result M BadLine) (P : M → Type 0) (Q : Type 0) → Says read P Q → (Q → ⊥) → ((m : M) → P m → ⊥) → read ≡ Err Syntax
+refused (Ok m) P Q says short none = absurd (none m says)
+refused (Err Long) P Q says short none = absurd (short says)
+refused (Err Syntax) P Q says short none = refl
 
 -- a reading is exact that says of each line what it spells, reads what is spelled and refuses what is too long
 pub exact : {M : Type 0} (read : List ℕ → Result M BadLine) (spells : M → List ℕ → Type 0)
@@ -36,7 +37,7 @@ exact {M = M} read spells says spelled long = record {
         | inr few ↦ (let found : read line ≡ Ok m = spelled line m s few in cc)
       ],
     ),
-    λ h. other (read line) (λ m. spells m line × (length line ≤ 1100)) (IsLong line) (says line) h.0 (λ m s. h.1 m s.0),
+    λ h. refused (read line) (λ m. spells m line × (length line ≤ 1100)) (IsLong line) (says line) h.0 (λ m s. h.1 m s.0),
   );
 }
 
@@ -62,6 +63,20 @@ in_script-of (At moment) is = refl
 in_script-of (Join name policy first) is = refl
 in_script-of (Request name who n) is = refl
 in_script-of (Dispose name who) is = refl
+
+-- a PUB may stand in a script
+pub_in_script : (bytes : List ℕ) → (pub_read bytes >>= in_script) ≡ pub_read bytes
+unfolding pub_read
+pub_in_script bytes =
+    let meaning : List ℕ × List ℕ → Result ScriptLine BadLine = λ p. Ok (Command (Pub p.0 p.1)) in
+    elim (named_text_read bytes) as (λ read. ((read >>= meaning) >>= in_script) ≡ (read >>= meaning)) [ Ok p ↦ refl | Err fault ↦ refl ]
+
+-- the line of a PUB is read as in a session
+pub script_read-pub : (line rest : List ℕ) → begins_with line (codes "PUB ") ≡ true → rest ≡ rest_behind line (codes "PUB ") → length line ≤ 1100 → script_read line ≡ pub_read rest
+unfolding line_read
+script_read-pub line rest is behind few =
+    let fits : nat_lt 1100 (length line) ≡ false = grind (arith, nat_tests) in
+    rw (fits, is, behind) (pub_in_script (rest_behind line (codes "PUB ")))
 
 -- a script's lines
 pub script_exact : IsExact script_read SpellsInScript

@@ -2,7 +2,9 @@ pub mod Complete
 pub mod Cuts
 pub mod Digits
 pub mod Exact
+pub mod LineFeeds
 pub mod NameTests
+pub mod Named
 pub mod Numbers
 pub mod Printed
 pub mod Sound

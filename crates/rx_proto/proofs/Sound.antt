@@ -55,7 +55,7 @@ name_says bytes = Says-test (is_name bytes) (Ok bytes) (Err Syntax) (λ name. Is
 abbrev pub IsNamed : List ℕ → List ℕ × List ℕ → Type 0
 IsNamed bytes p = IsName p.0 × (bytes ≡ p.0 ++ (32 ∷ p.1))
 
-named_says : (bytes : List ℕ) → Says (named_read bytes) (IsNamed bytes) ⊥
+pub named_says : (bytes : List ℕ) → Says (named_read bytes) (IsNamed bytes) ⊥
 unfolding named_read
 named_says bytes =
     Says-then (cut_read bytes) (λ p. name_read p.0 >>= λ name. Ok (name, p.1)) (λ p. bytes ≡ p.0 ++ (32 ∷ p.1)) ⊥ (IsNamed bytes) ⊥ (cut_says bytes)

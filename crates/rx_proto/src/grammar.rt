@@ -1,5 +1,6 @@
-ghost use Rattle.std.specs.Prelude.{◌≡◌};
-ghost use Rattle.rx_proto.specs.Reading.{Gives, meaning_of, is_sub, line_read, script_read, words_read, pub_read, join_read, request_read, dispose_read, sub_read};
+ghost use Rattle.std.specs.Prelude.{◌≡◌, ◌≤◌, Err, IfNone, IfSome, codes, false, length};
+ghost use Rattle.rx_proto.specs.LineFeeds.{HasNoLf};
+ghost use Rattle.rx_proto.specs.Reading.{Gives, begins_with, meaning_of, is_sub, line_read, script_read, words_read, pub_read, join_read, request_read, dispose_read, sub_read};
 
 use crate::words::{
     cut_at_space, name_of, named, named_text, number_of, policy_of, wide_number_of,
@@ -9,23 +10,32 @@ use crate::{BadLine, Line};
 /// The most bytes that a line has, without its LF and one CR before it.
 pub const MAX_LINE: usize = 1100;
 
+const LF: u8 = b'\n';
+
 /// What these bytes mean, be they a line of a session or of a script. Refused in the order `Long`, `Syntax`.
-/// It takes no memory, and tests the commonest line first.
-#[tactic(auto, unfolding(crate::specs::Reading::line_read))]
+/// It takes no memory.
 pub fn read_line(line: &[u8]) -> Result<Line<'_>, BadLine>
     ensures { Gives meaning_of result (line_read line.now) }
 {
-    if line.len() > MAX_LINE {
-        return Err(BadLine::Long);
+    match fault_of_bytes(line) {
+        Some(fault) => Err(fault),
+        None => read_line_without_lf(line),
     }
+}
+
+/// What the bytes mean of a line that was found by its LF and is no longer than a line may be: what [`read_line`] says, but
+/// no LF is searched. It tests the commonest line first.
+#[inline]
+#[tactic(auto, unfolding(crate::specs::Reading::line_read))]
+pub fn read_line_without_lf(line: &[u8]) -> Result<Line<'_>, BadLine>
+    requires within { length line.now ≤ 1100 }
+    requires no_lf { HasNoLf line.now }
+    ensures { Gives meaning_of result (line_read line.now) }
+{
     if let Some(rest) = line.strip_prefix(b"PUB ".as_slice()) {
         return read_pub(rest);
     }
-    if line == b"QUIT".as_slice() {
-        return Ok(Line::Quit);
-    }
-    let (command, rest) = cut_at_space(line)?;
-    read_words(command, rest)
+    read_other(line)
 }
 
 /// What these bytes mean as a line of a script, which is never `Sub`. Refused in the order `Long`, `Syntax`. It takes no
@@ -33,16 +43,37 @@ pub fn read_line(line: &[u8]) -> Result<Line<'_>, BadLine>
 pub fn read_script(line: &[u8]) -> Result<Line<'_>, BadLine>
     ensures { Gives meaning_of result (script_read line.now) }
 {
-    match read_line(line) {
-        Ok(read) => {
-            if is_sub(&read) {
-                Err(BadLine::Syntax)
-            } else {
-                Ok(read)
-            }
-        }
-        Err(fault) => Err(fault),
+    match fault_of_bytes(line) {
+        Some(fault) => Err(fault),
+        None => read_script_without_lf(line),
     }
+}
+
+/// The same of a line that was found by its LF, as [`read_line_without_lf`].
+#[inline(always)]
+pub fn read_script_without_lf(line: &[u8]) -> Result<Line<'_>, BadLine>
+    requires within { length line.now ≤ 1100 }
+    requires no_lf { HasNoLf line.now }
+    ensures { Gives meaning_of result (script_read line.now) }
+{
+    if let Some(rest) = line.strip_prefix(b"PUB ".as_slice()) {
+        return read_pub(rest);
+    }
+    read_other_of_script(line)
+}
+
+/// Why these bytes are no line whatever their words are. None where they have no LF and are no more than a line may have.
+pub(crate) fn fault_of_bytes(line: &[u8]) -> Option<BadLine>
+    ensures some { IfSome result (λ fault. line_read line.now ≡ Err fault) }
+    ensures none { IfNone result ((length line.now ≤ 1100) × HasNoLf line.now) }
+{
+    if line.len() > MAX_LINE {
+        return Some(BadLine::Long);
+    }
+    if line.contains(&LF) {
+        return Some(BadLine::Syntax);
+    }
+    None
 }
 
 fn is_sub(line: &Line<'_>) -> bool
@@ -54,8 +85,45 @@ fn is_sub(line: &Line<'_>) -> bool
     }
 }
 
+// What a line of a script means that is no PUB. It is kept out of line, so that a PUB stays short.
+#[inline(never)]
+fn read_other_of_script(line: &[u8]) -> Result<Line<'_>, BadLine>
+    requires within { length line.now ≤ 1100 }
+    requires no_lf { HasNoLf line.now }
+    requires other { begins_with line.now (codes "PUB ") ≡ false }
+    ensures { Gives meaning_of result (script_read line.now) }
+{
+    match read_other(line) {
+        Ok(read) => {
+            if is_sub(&read) {
+                Err(BadLine::Syntax)
+            } else {
+                Ok(read)
+            }
+        }
+        Err(fault) => Err(fault),
+    }
+}
+
+// What a line means that is no PUB.
+#[tactic(auto, unfolding(crate::specs::Reading::line_read))]
+fn read_other(line: &[u8]) -> Result<Line<'_>, BadLine>
+    requires within { length line.now ≤ 1100 }
+    requires no_lf { HasNoLf line.now }
+    requires other { begins_with line.now (codes "PUB ") ≡ false }
+    ensures { Gives meaning_of result (line_read line.now) }
+{
+    if line == b"QUIT".as_slice() {
+        return Ok(Line::Quit);
+    }
+    let (command, rest) = cut_at_space(line)?;
+    read_words(command, rest)
+}
+
+#[inline(always)]
 #[tactic(auto, unfolding(crate::specs::Reading::pub_read))]
 fn read_pub(words: &[u8]) -> Result<Line<'_>, BadLine>
+    requires { HasNoLf words.now }
     ensures { Gives meaning_of result (pub_read words.now) }
 {
     let (name, text) = named_text(words)?;
@@ -64,6 +132,7 @@ fn read_pub(words: &[u8]) -> Result<Line<'_>, BadLine>
 
 #[tactic(auto, unfolding(crate::specs::Reading::words_read))]
 fn read_words<'a>(command: &[u8], rest: &'a [u8]) -> Result<Line<'a>, BadLine>
+    requires { HasNoLf rest.now }
     ensures { Gives meaning_of result (words_read command.now rest.now) }
 {
     if command == b"REQUEST".as_slice() {

@@ -23,12 +23,12 @@ mod writing;
 
 pub use command::Command;
 pub use decimal::{MAX_DIGITS, write_digits};
-pub use grammar::{MAX_LINE, read_line, read_script};
+pub use grammar::{MAX_LINE, read_line, read_line_without_lf, read_script, read_script_without_lf};
 pub use line::Line;
 pub use line_bytes::LineBytes;
 pub use line_error::{BadLine, LineError};
 pub use name::{MAX_NAME, Name};
-pub use parsing::{parse_line, parse_script};
+pub use parsing::{parse_line, parse_line_without_lf, parse_script};
 pub use printing::{JOINED_LINE, NOTE_LINE, REPLY_LINE, joined_line, note_line, reply_line};
 pub use response::Response;
 pub use script_line::ScriptLine;

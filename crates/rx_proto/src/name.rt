@@ -95,7 +95,9 @@ pub(crate) fn is_name(bytes: &[u8]) -> bool
     true
 }
 
-fn is_name_byte(byte: u8) -> bool
+// Whether a byte may stand in a name.
+#[inline(always)]
+pub(crate) fn is_name_byte(byte: u8) -> bool
     ensures { IsTrue result ↔ IsNameByte byte }
 {
     byte.is_ascii_lowercase() || byte.is_ascii_digit() || byte == b'-'

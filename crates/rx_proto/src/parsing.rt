@@ -1,8 +1,12 @@
-ghost use Rattle.std.specs.Prelude.{◌≡◌, MatchResult, Ok};
+ghost use Rattle.std.specs.Prelude.{◌≡◌, ◌≤◌, MatchResult, Ok, length};
 ghost use Rattle.rx_proto.specs.Grammar.{IsSpelled, IsText};
+ghost use Rattle.rx_proto.specs.LineFeeds.{HasNoLf};
 ghost use Rattle.rx_proto.specs.Reading.{HoldsText, LineHoldsText, Parses, in_session, meaning_of, refusal_of, said_by, script_read, session_read};
 
-use crate::{BadLine, Command, Line, LineError, Name, ScriptLine, read_line, read_script};
+use crate::grammar::fault_of_bytes;
+use crate::{
+    BadLine, Command, Line, LineError, Name, ScriptLine, read_line_without_lf, read_script,
+};
 use rx_heap::Heap;
 use rx_note::Text;
 
@@ -10,7 +14,19 @@ use rx_note::Text;
 pub fn parse_line(alloc: &Heap, line: &[u8]) -> Result<Command, LineError>
     ensures { Parses HoldsText result (session_read line.now) }
 {
-    match read_line(line) {
+    match fault_of_bytes(line) {
+        Some(fault) => Err(refusal_of(fault)),
+        None => parse_line_without_lf(alloc, line),
+    }
+}
+
+/// The same of a line that was found by its LF, as [`crate::read_line_without_lf`].
+pub fn parse_line_without_lf(alloc: &Heap, line: &[u8]) -> Result<Command, LineError>
+    requires within { length line.now ≤ 1100 }
+    requires no_lf { HasNoLf line.now }
+    ensures { Parses HoldsText result (session_read line.now) }
+{
+    match read_line_without_lf(line) {
         Ok(line) => command_of(alloc, &line),
         Err(fault) => Err(refusal_of(fault)),
     }

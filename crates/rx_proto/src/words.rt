@@ -1,8 +1,11 @@
-ghost use Rattle.std.specs.Prelude.{◌≡◌, ◌+◌, ◌-◌, ◌*◌, ◌^◌, ◌<◌, ◌≤◌, IfNone, IfSome};
+ghost use Rattle.std.specs.Prelude.{◌≡◌, ◌+◌, ◌-◌, ◌*◌, ◌^◌, ◌<◌, ◌≤◌, IfNone, IfSome, length, slice_index_or, take};
+ghost use Rattle.std.specs.List.{AllByRecursion};
+ghost use Rattle.rx_proto.specs.LineFeeds.{HasNoLf};
+ghost use Rattle.rx_proto.specs.Names.{IsNameByte};
 ghost use Rattle.rx_proto.specs.Reading.{Gives, cut_read, name_read, named_read, text_read, number_read, wide_number_read, digits_read, is_digit, policy_read, room_read, strategy_read, errors_read, named_text_read};
 
 use crate::BadLine;
-use crate::name::is_name;
+use crate::name::{MAX_NAME, is_name, is_name_byte};
 use bstr::ByteSlice;
 use rx_note::{Errors, MAX_TEXT, Policy, Strategy};
 
@@ -21,18 +24,6 @@ pub fn cut_at_space(bytes: &[u8]) -> Result<(&[u8], &[u8]), BadLine>
     }
 }
 
-// The same, byte by byte, which is quicker where the first space is near, as behind a name.
-fn cut_name(bytes: &[u8]) -> Result<(&[u8], &[u8]), BadLine>
-    ensures { Gives (λ parts. (parts.0.now, parts.1.now)) result (cut_read bytes.now) }
-{
-    for (len, byte) in bytes.iter().enumerate() {
-        if *byte == SPACE {
-            return Ok((&bytes[..len], &bytes[len + 1..]));
-        }
-    }
-    Err(BadLine::Syntax)
-}
-
 /// These bytes, if they are a name.
 pub fn name_of(bytes: &[u8]) -> Result<&[u8], BadLine>
     ensures { Gives (λ name. name.now) result (name_read bytes.now) }
@@ -44,24 +35,43 @@ pub fn name_of(bytes: &[u8]) -> Result<&[u8], BadLine>
     }
 }
 
-/// A name, and what stands behind one space.
-#[tactic(auto, unfolding(crate::specs::Reading::named_read))]
+/// A name, and what stands behind one space. It looks at each byte of the name once.
+#[inline(always)]
 pub fn named(bytes: &[u8]) -> Result<(&[u8], &[u8]), BadLine>
     ensures { Gives (λ parts. (parts.0.now, parts.1.now)) result (named_read bytes.now) }
 {
-    let (word, rest) = cut_name(bytes)?;
-    let name = name_of(word)?;
+    for (len, byte) in bytes.iter().enumerate() {
+        if *byte == SPACE {
+            return named_at(bytes, len);
+        }
+        if !is_name_byte(*byte) {
+            return Err(BadLine::Syntax);
+        }
+    }
+    Err(BadLine::Syntax)
+}
+
+// The same, where the first space stands behind so many bytes, each of which may stand in a name.
+#[inline(always)]
+fn named_at(bytes: &[u8], len: usize) -> Result<(&[u8], &[u8]), BadLine>
+    requires within { len < length bytes.now }
+    requires each { AllByRecursion IsNameByte (take len bytes.now) }
+    requires space { slice_index_or bytes.now len 0 ≡ 32 }
+    ensures { Gives (λ parts. (parts.0.now, parts.1.now)) result (named_read bytes.now) }
+{
+    if len == 0 || len > MAX_NAME {
+        return Err(BadLine::Syntax);
+    }
+    let (name, rest) = (&bytes[..len], &bytes[len + 1..]);
     Ok((name, rest))
 }
 
-/// The text that these bytes are.
-#[tactic(auto, unfolding(crate::specs::Reading::text_read))]
+/// The text that these bytes of a line are, among which is no LF.
+#[inline(always)]
 pub fn text_of(bytes: &[u8]) -> Result<&[u8], BadLine>
+    requires { HasNoLf bytes.now }
     ensures { Gives (λ text. text.now) result (text_read bytes.now) }
 {
-    if bytes.contains(&b'\n') {
-        return Err(BadLine::Syntax);
-    }
     if bytes.len() > MAX_TEXT {
         return Err(BadLine::Long);
     }
@@ -123,8 +133,10 @@ fn is_digit(byte: u8) -> bool
 }
 
 /// A name and a text, behind one space.
+#[inline(always)]
 #[tactic(auto, unfolding(crate::specs::Reading::named_text_read))]
 pub fn named_text(bytes: &[u8]) -> Result<(&[u8], &[u8]), BadLine>
+    requires { HasNoLf bytes.now }
     ensures { Gives (λ parts. (parts.0.now, parts.1.now)) result (named_text_read bytes.now) }
 {
     let (name, rest) = named(bytes)?;

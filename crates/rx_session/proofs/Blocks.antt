@@ -12,7 +12,8 @@ use Rattle.rx_proto.specs.LineFeeds.{HasNoLf}
 use Rattle.rx_session.specs.Windows.{IsWindow, HasLfAt, Fills, count_of}
 use Rattle.std.specs.Io.{ReadsAtMost}
 use Rattle.std.specs.Io.KnownBytes.{ReadConsumes}
-use Rattle.rx_session.proofs.Lfs.{HasNoLf-append, HasNoLf-back, HasLfAt-behind}
+use Rattle.rx_proto.proofs.LineFeeds.{HasNoLf-append, HasNoLf-back}
+use Rattle.rx_session.proofs.Lfs.{HasLfAt-behind}
 
 -- a part in two
 pub between-split : (xs : List ℕ) (i m j : ℕ) → i ≤ m → m ≤ j → between i j xs ≡ between i m xs ++ between m j xs

@@ -4,20 +4,9 @@ use Rattle.std.proofs.lemmas.List.{take_more, take-append-drop, get_or_at, get_o
 use Rattle.std.specs.Io.BufRead.{ends_with_byte}
 use Rattle.std.proofs.Math.Seq.{drop-cons, take-append-add}
 use Rattle.rx_proto.specs.LineFeeds.{HasNoLf}
+use Rattle.rx_proto.proofs.LineFeeds.{HasNoLf-append, HasNoLf-front}
 use Rattle.rx_session.specs.Lines.{without_cr}
 use Rattle.rx_session.specs.Windows.{HasLfAt}
-
-pub HasNoLf-append : (xs ys : List ℕ) → HasNoLf xs → HasNoLf ys → HasNoLf (xs ++ ys)
-HasNoLf-append [] ys p q = q
-HasNoLf-append (x ∷ xs) ys p q = (p.0, HasNoLf-append xs ys p.1 q)
-
-pub HasNoLf-front : (xs ys : List ℕ) → HasNoLf (xs ++ ys) → HasNoLf xs
-HasNoLf-front [] ys p = tt
-HasNoLf-front (x ∷ xs) ys p = (p.0, HasNoLf-front xs ys p.1)
-
-pub HasNoLf-back : (xs ys : List ℕ) → HasNoLf (xs ++ ys) → HasNoLf ys
-HasNoLf-back [] ys p = p
-HasNoLf-back (x ∷ xs) ys p = HasNoLf-back xs ys p.1
 
 -- one byte more
 pub HasNoLf-more : (xs : List ℕ) (i : ℕ) → i < length xs → HasNoLf (take i xs) → (get_or xs i 0 ≡ 10 → ⊥) → HasNoLf (take (i + 1) xs)
@@ -51,4 +40,11 @@ pub length-without_cr : (line : List ℕ) → length line ≤ length (without_cr
 length-without_cr line = elim (ends_with_byte 13 line) as (λ ends. length line ≤ length (cond ends (take (length line - 1) line) line) + 1) [
   | true ↦ omega (arith, length-take (length line - 1) line)
   | false ↦ omega arith
+]
+
+-- what has no LF has none without its CR
+pub HasNoLf-without_cr : (line : List ℕ) → HasNoLf line → HasNoLf (without_cr line)
+HasNoLf-without_cr line none = elim (ends_with_byte 13 line) as (λ ends. HasNoLf (cond ends (take (length line - 1) line) line)) [
+  | true ↦ HasNoLf-front (take (length line - 1) line) (drop (length line - 1) line) (subst HasNoLf (sym (take-append-drop (length line - 1) line)) none)
+  | false ↦ none
 ]

@@ -8,7 +8,7 @@ use Rattle.rx_session.specs.Reads.{Sheds, ReadsOn, FindsNext, ahead}
 use Rattle.rx_session.specs.Windows.{HasLfAt}
 use Rattle.rx_session.specs.declared.input_end.InputEnd.{InputEnd}
 use Rattle.rx_session.specs.declared.reading.Found.TheVariants.{Lf, LongLf, End}
-use Rattle.rx_session.proofs.Lfs.{HasNoLf-append}
+use Rattle.rx_proto.proofs.LineFeeds.{HasNoLf-append}
 
 -- what was let go: the front of a long line, or nothing
 abbrev pub IsGone : Bool → List ℕ → Type 0

@@ -16,7 +16,7 @@ use Rattle.rx_session.specs.declared.serving.Turned.{Turned}
 use Rattle.rx_session.specs.declared.serving.Turned.TheVariants.{On, Over}
 use Rattle.rx_session.specs.declared.session_end.SessionEnd.{SessionEnd}
 use Rattle.rx_session.specs.declared.session_end.SessionEnd.TheVariants as ends
-use Rattle.rx_session.proofs.Lfs.{HasNoLf-front}
+use Rattle.rx_proto.proofs.LineFeeds.{HasNoLf-front}
 use Rattle.rx_session.proofs.LinesOf.{lines_of-first, lines_of-taken, lines_of-none}
 use Rattle.rx_session.proofs.Written.{Prefix-behind}
 

@@ -1,17 +1,19 @@
 -- Steps of reading lines.
-use Rattle.std.proofs.Common.{◌≡◌, ℕ, ◌+◌, ◌<◌, List, ◌∷◌, ◌++◌, length, take, drop, Option, None, Some, refl, sym, ap, ◌∙◌, subst, arith, append_assoc, length-append}
+use Rattle.std.proofs.Common.{◌≡◌, ℕ, ◌+◌, ◌<◌, ◌≤◌, List, ◌∷◌, ◌++◌, length, take, drop, Option, None, Some, refl, sym, ap, ◌∙◌, subst, arith, append_assoc, length-append}
 use Rattle.std.proofs.lemmas.Bool.{false≢true}
+use Rattle.std.proofs.lemmas.List.{length-take-le}
 use Rattle.std.specs.Bool.{IsTrue}
 use Rattle.std.specs.Option.{is_some}
 use Rattle.rx_proto.specs.LineFeeds.{HasNoLf}
 use Rattle.rx_session.specs.Lines.{TakesLine, TakesNoLine}
 use Rattle.rx_session.specs.Reads.{Sheds, IsEnd}
 use Rattle.rx_session.specs.Windows.{HasLfAt, FindsLf}
-use Rattle.rx_session.specs.Steps.{Goes, told, unread}
+use Rattle.rx_session.specs.Steps.{Goes, IsTold, told, unread}
 use Rattle.rx_session.specs.declared.input_end.InputEnd.{InputEnd}
 use Rattle.rx_session.specs.declared.input_end.InputEnd.TheVariants.{EndOfInput, ReadFault, TooManyReads}
 use Rattle.rx_session.specs.declared.line_state.LineState.{LineState}
-use Rattle.rx_session.proofs.Lfs.{HasNoLf-append, HasNoLf-back, length-without_cr}
+use Rattle.rx_proto.proofs.LineFeeds.{HasNoLf-append, HasNoLf-back}
+use Rattle.rx_session.proofs.Lfs.{HasNoLf-without_cr, length-without_cr}
 
 -- an option that is no Some
 pub none_from : {T : Type 0} (o : Option T) → ((x : T) → o ≡ Some x → ⊥) → o ≡ None
@@ -53,3 +55,11 @@ not_none bytes len at none =
 pub finds_by : (found : Option ℕ) (bytes : List ℕ) → FindsLf found bytes → (IsTrue (is_some found) → HasNoLf bytes → ⊥) × ((HasNoLf bytes → ⊥) → IsTrue (is_some found))
 finds_by None bytes none = (λ no. absurd (false≢true no), λ never. absurd (never none))
 finds_by (Some len) bytes at = (λ _ none. not_none bytes len at none, λ _. refl)
+
+-- a line that is told is no longer than a line may be and has no LF
+pub told-is_line : (old new : Option (List ℕ)) (before after window : List ℕ) (len : ℕ) → TakesLine old new before after (λ line. IsTold line len window)
+    → (length (take len window) ≤ 1100) × HasNoLf (take len window)
+told-is_line old new before after window len takes = (
+  omega (arith, length-take-le len window takes.said.within, takes.said.short),
+  subst HasNoLf (sym takes.said.bytes) (HasNoLf-without_cr takes.line takes.begins.one),
+)

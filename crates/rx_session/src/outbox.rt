@@ -93,6 +93,7 @@ impl Outbox {
     }
 
     /// Holds the line of a note too, for which there is room.
+    #[inline]
     pub fn push_note(&mut self, note: &Note)
         requires { length self.old + 1040 ≤ 65536 }
         ensures { self.new ≡ self.old ++ note_line note.now }
@@ -112,6 +113,7 @@ impl Outbox {
     }
 
     /// Holds the line of a response too, as `put` does.
+    #[inline(always)]
     pub fn put_reply<W: Write>(
         &mut self,
         writer: &mut W,
@@ -128,7 +130,7 @@ impl Outbox {
     }
 
     // Holds the line of a response too, for which there is room. By far the most are OK, which is copied by a fixed size.
-    #[inline]
+    #[inline(always)]
     fn push_reply(&mut self, response: Response)
         requires { length self.old + 2048 ≤ 65536 }
         ensures { self.new ≡ self.old ++ reply_line response }
@@ -136,6 +138,16 @@ impl Outbox {
         if let Response::Done = response {
             return self.push(b"OK\n");
         }
+        self.push_other_reply(response);
+    }
+
+    // The same of any response. It is kept out of line, so that an OK stays short.
+    #[cold]
+    #[inline(never)]
+    fn push_other_reply(&mut self, response: Response)
+        requires { length self.old + 2048 ≤ 65536 }
+        ensures { self.new ≡ self.old ++ reply_line response }
+    {
         let line = reply_line(response);
         let (bytes, len) = line.padded();
         self.push_padded(bytes, len);
@@ -168,6 +180,8 @@ impl Outbox {
         Ok(())
     }
 
+    #[cold]
+    #[inline(never)]
     fn write_out<W: Write>(&mut self, writer: &mut W) -> Result<(), WriteFault>
         ensures written { Writes result (W.contents writer.old) (W.contents writer.new) self.old }
         ensures empty { self.new ≡ [] }

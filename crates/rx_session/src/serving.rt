@@ -14,7 +14,7 @@ ghost use Rattle.rx_session.specs.Turns.{Carries, Comes, IsAt, Quits, Tells, Tur
 use crate::{Desk, Follow, LineState, Outbox, SessionEnd, Step};
 use rx_heap::Heap;
 use rx_note::{Item, Note, Policy};
-use rx_proto::{Command, LineError, Name, Response, Word, WriteFault, parse_line};
+use rx_proto::{Command, LineError, Name, Response, Word, WriteFault, parse_line_without_lf};
 use std::io::{Read, Write};
 
 /// Serves a session: asks the desk the commands of the lines that are read, and writes the line of each response to the
@@ -104,7 +104,10 @@ fn turn<R: Read, W: Write + Drop, D: Desk<W>>(
     ensures { Turns (parties D.emits D.follows W.contents) result (hands desk.old writer outbox.old) (hands desk.new writer outbox.new) (R.remaining reader.old) (R.remaining reader.new) lines.old lines.new }
 {
     match lines.advance(reader) {
-        Step::Line(len) => carry_out(outbox, desk, writer, parse_line(alloc, lines.line(len))),
+        Step::Line(len) => {
+            let parsed = parse_line_without_lf(alloc, lines.line(len));
+            carry_out(outbox, desk, writer, parsed)
+        }
         Step::Long => answer(outbox, writer, Response::Refused(Word::Long)),
         Step::EndOfInput => Turned::Over(SessionEnd::EndOfInput, Some(writer)),
         Step::ReadFault => Turned::Over(SessionEnd::ReadFault, Some(writer)),

@@ -17,7 +17,7 @@ use Rattle.rx_session.specs.Steps.{unread}
 use Rattle.rxline.specs.Tellings.{IsIn, Turns, TellsOn}
 use Rattle.rxline.specs.Transcripts.{Subject, State, new_state, line_written, after_line, ends_script, transcript, has_end}
 use Rattle.rx_session.proofs.LinesOf.{lines_of-first, lines_of-taken, lines_of-none}
-use Rattle.rx_session.proofs.Lfs.{HasNoLf-front}
+use Rattle.rx_proto.proofs.LineFeeds.{HasNoLf-front}
 use Rattle.rx_session.proofs.Written.{Prefix-behind, Prefix-more}
 
 -- some bytes were read and some written; what was written and what is held is the transcript so far, which goes on from

@@ -1,5 +1,5 @@
 -- What telling a line does to the run of a script.
-use Rattle.std.specs.Prelude.{◌≡◌, ℕ, Bool, true, false, List, ◌++◌, Option, None, Some, Result, Err, MatchResult, if◌then◌else◌}
+use Rattle.std.specs.Prelude.{◌≡◌, ◌≤◌, ℕ, Bool, true, false, List, ◌++◌, Option, None, Some, Result, Err, MatchResult, if◌then◌else◌, length}
 use Rattle.std.specs.Io.KnownBytes.{Appends, IsAtEnd}
 use Rattle.std.specs.Borrow.{Bor}
 use Rattle.rxline.specs.declared.asked.Asked.{Asked}
@@ -18,6 +18,7 @@ use Rattle.rx_proto.specs.declared.writing.WriteFault.{WriteFault}
 use Rattle.rx_proto.specs.Bytes.{AppendsPrefix}
 use Rattle.rx_session.specs.Bytes.{Holds, Puts}
 use Rattle.rx_session.specs.Lines.{TakesLine, TakesNoLine}
+use Rattle.rx_proto.specs.LineFeeds.{HasNoLf}
 use Rattle.rx_proto.specs.Reading.{script_read}
 use Rattle.rxline.specs.Scripts.{AllStand}
 use Rattle.rx_session.specs.Steps.{unread, GoesOn}
@@ -55,6 +56,11 @@ CarriesOut result before after old new asked =
 abbrev pub reading_of : Option (Bor (List ℕ)) → Result ScriptLine BadLine
 reading_of (Some line) = script_read line.now
 reading_of None = Err Long
+
+-- a line that is told has no LF and is no longer than a line may be
+abbrev pub MayBeTold : Option (Bor (List ℕ)) → Type 0
+MayBeTold (Some line) = (length line.now ≤ 1100) × HasNoLf line.now
+MayBeTold None = Unit {0}
 
 -- ending a script that said so writes all that is held, or meets a fault
 abbrev pub Quits : SessionEnd → Option (List ℕ) → Option (List ℕ) → List ℕ → Type 0

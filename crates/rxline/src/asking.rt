@@ -11,6 +11,7 @@ use rx_note::{Event, Item, Note, Policy, Text};
 use rx_proto::Line;
 
 /// The name of the subject of which a line asks something.
+#[inline(always)]
 pub fn name_in<'a>(line: &Line<'a>) -> &'a [u8]
     requires { names_subject (meaning_of line.now) ≡ true }
     ensures { (moment : ℕ) → name_asked (asks moment (meaning_of line.now)) ≡ Some result.now }
@@ -28,6 +29,7 @@ pub fn name_in<'a>(line: &Line<'a>) -> &'a [u8]
 }
 
 /// The event for which a line asks, at a moment in milliseconds. Its text is made over `heap`.
+#[inline(always)]
 pub fn event_in(heap: &Heap, line: &Line<'_>, moment: u64) -> Result<Event, Memory>
     requires spelled { IsSpelled (meaning_of line.now) }
     requires named { names_subject (meaning_of line.now) ≡ true }
@@ -51,12 +53,14 @@ pub fn event_in(heap: &Heap, line: &Line<'_>, moment: u64) -> Result<Event, Memo
     }
 }
 
+#[inline(always)]
 fn emitted(note: Note, at: u64) -> Event
     ensures { result ≡ Event.Emit note at }
 {
     Event::Emit { note, at }
 }
 
+#[inline(always)]
 fn joined(policy: Policy, first: u32, at: u64) -> Event
     ensures { result ≡ Event.Join policy first at }
 {
@@ -64,6 +68,7 @@ fn joined(policy: Policy, first: u32, at: u64) -> Event
 }
 
 // The text of these bytes, which are one.
+#[inline(always)]
 fn text_of(heap: &Heap, bytes: &[u8]) -> Result<Text, Memory>
     requires { IsText bytes.now }
     ensures { IfOk result (λ text. text ≡ bytes.now) }

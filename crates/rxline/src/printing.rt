@@ -10,6 +10,7 @@ use rx_session::Outbox;
 use std::io::Write;
 
 /// Puts the line that a script prints for a note given to an observer of this subject.
+#[inline(always)]
 pub fn put_given<W: Write>(
     outbox: &mut Outbox,
     writer: &mut W,

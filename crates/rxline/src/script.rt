@@ -17,7 +17,7 @@ use crate::told::Told;
 use crate::topic::{Topic, place_of, topics_of};
 use rx_heap::{Heap, Memory};
 use rx_note::{Answer, Event, Given, Refusal};
-use rx_proto::{BadLine, Line, Name, Response, Word, WriteFault, read_script};
+use rx_proto::{BadLine, Line, Name, Response, Word, WriteFault, read_script_without_lf};
 use rx_server::{Config, response_to};
 use rx_session::{LineState, Outbox, SessionEnd, Step};
 use std::io::{Read, Write};
@@ -61,7 +61,7 @@ pub(crate) struct Script {
 impl Script {
     ghost use Rattle.rxline.specs.Scripts.{TakesAt};
     ghost use Rattle.rx_session.specs.Steps.{unread};
-    ghost use Rattle.rxline.specs.Tellings.{CarriesOut, IsIn, Quits, Tells, TellsOn, Turns, reading_of};
+    ghost use Rattle.rxline.specs.Tellings.{CarriesOut, IsIn, MayBeTold, Quits, Tells, TellsOn, Turns, reading_of};
     ghost use Rattle.rxline.specs.Transcripts.{new_state};
 
     // The run of a script over the subjects of a configuration, with no line yet.
@@ -127,7 +127,9 @@ impl Script {
     }
 
     // Tells a line, or that there is one which is too long. How the script ended, if it did.
+    #[inline(always)]
     fn tell_on<W: Write>(&mut self, writer: &mut W, line: Option<&[u8]>) -> Option<SessionEnd>
+        requires { MayBeTold line }
         ensures { TellsOn result self.old self.new (W.contents writer.old) (W.contents writer.new) (reading_of line.entry) }
     {
         match self.tell(writer, line) {
@@ -138,20 +140,40 @@ impl Script {
     }
 
     // Tells a line: puts what is written for it, and has the topics take what it asks.
+    #[inline(always)]
     fn tell<W: Write>(&mut self, writer: &mut W, line: Option<&[u8]>) -> Result<Told, WriteFault>
+        requires { MayBeTold line }
         ensures { Tells result self.old self.new (W.contents writer.old) (W.contents writer.new) (reading_of line.entry) }
     {
         let Some(line) = line else {
             return self.refuse(writer, Word::Long);
         };
-        match read_script(line) {
-            Ok(line) => self.carry_out(writer, &line),
+        match read_script_without_lf(line) {
+            Ok(line) => match line {
+                Line::Pub { .. } => self.carry_out(writer, &line),
+                _ => self.carry_out_other(writer, &line),
+            },
             Err(BadLine::Long) => self.refuse(writer, Word::Long),
             Err(BadLine::Syntax) => self.refuse(writer, Word::Syntax),
         }
     }
 
+    // Carries out a line that is no Pub. It has the code of `carry_out` once more, so that a Pub, by far the commonest line,
+    // passes no test of what it is.
+    #[inline(never)]
+    fn carry_out_other<W: Write>(
+        &mut self,
+        writer: &mut W,
+        line: &Line<'_>,
+    ) -> Result<Told, WriteFault>
+        requires { IsSpelled (meaning_of line.now) }
+        ensures { CarriesOut result self.old self.new (W.contents writer.old) (W.contents writer.new) (asks self.old.moment (meaning_of line.now)) }
+    {
+        self.carry_out(writer, line)
+    }
+
     // Carries out what a line asks, and puts the answer.
+    #[inline(always)]
     fn carry_out<W: Write>(&mut self, writer: &mut W, line: &Line<'_>) -> Result<Told, WriteFault>
         requires { IsSpelled (meaning_of line.now) }
         ensures { CarriesOut result self.old self.new (W.contents writer.old) (W.contents writer.new) (asks self.old.moment (meaning_of line.now)) }
@@ -171,6 +193,7 @@ impl Script {
     }
 
     // Asks of a subject what a line says. Its text is made only where there is the subject, over the memory of that.
+    #[inline(always)]
     fn ask<W: Write>(&mut self, writer: &mut W, line: &Line<'_>) -> Result<Told, WriteFault>
         requires spelled { IsSpelled (meaning_of line.now) }
         requires named { names_subject (meaning_of line.now) ≡ true }
@@ -186,6 +209,7 @@ impl Script {
     }
 
     // Puts the answer to a line that is refused.
+    #[inline(never)]
     fn refuse<W: Write>(&mut self, writer: &mut W, word: Word) -> Result<Told, WriteFault>
         ensures puts { Puts result self.old.outbox self.new.outbox (W.contents writer.old) (W.contents writer.new) (reply_line (Response.Refused word)) }
         ensures topics { self.new.topics.items ≡ self.old.topics.items }
@@ -197,6 +221,7 @@ impl Script {
     }
 
     // Has the topic at a place take an event, and puts its answer and the notes that it gives.
+    #[inline(always)]
     fn take<W: Write>(
         &mut self,
         writer: &mut W,
@@ -230,6 +255,7 @@ impl Script {
 }
 
 // Steps the hub of a topic, and puts the answer and the notes given.
+#[inline(always)]
 fn take_event<W: Write>(
     topic: &mut Topic,
     event: Event,
@@ -248,6 +274,7 @@ fn take_event<W: Write>(
 }
 
 // Puts the answer to an event, and a line for each note given.
+#[inline(always)]
 fn put_answer<W: Write>(
     outbox: &mut Outbox,
     writer: &mut W,
@@ -257,11 +284,23 @@ fn put_answer<W: Write>(
 ) -> Result<(), WriteFault>
     ensures { Puts result outbox.old outbox.new (W.contents writer.old) (W.contents writer.new) (reply_line (response_to answered) ++ given_lines name.now outs.now.items) }
 {
-    outbox.put_reply(writer, response_to(answered))?;
+    outbox.put_reply(writer, response_of(answered))?;
     put_all(outbox, writer, name, outs)
 }
 
+// The response to an event. That to an emission which was admitted is tested first, as by far the commonest.
+#[inline(always)]
+fn response_of(answered: Result<Answer, Refusal>) -> Response
+    ensures { result ≡ response_to answered }
+{
+    match answered {
+        Ok(Answer::Admitted) => Response::Done,
+        other => response_to(other),
+    }
+}
+
 // Puts a line for each note given.
+#[inline(always)]
 fn put_all<W: Write>(
     outbox: &mut Outbox,
     writer: &mut W,

@@ -2,9 +2,20 @@ use Rattle.std.proofs.Common.{◌<◌, length, Err, refl, inl}
 use Rattle.rx_proto.specs.Reading.{session_read}
 use Rattle.rx_proto.specs.declared.line_error.LineError.TheVariants as errors
 use Rattle.rx_session.specs.Sessions.{parties}
-use Rattle.rx_session.specs.declared.step.Step.TheVariants.{Long}
+use Rattle.rx_session.specs.declared.step.Step.TheVariants.{Line, Long}
 use Rattle.rx_session.proofs.Answering.{steps_by, long_read, taken, refused}
+use Rattle.rx_session.proofs.Stepping.{told-is_line}
 use Rattle.rx_session.proofs.serving.turn.Goals as goal
+
+pub parse_line_without_lf-parsed-requires-clause-within : goal.parse_line_without_lf-parsed-requires-clause-within
+parse_line_without_lf-parsed-requires-clause-within g c =
+    let steps = steps_by (Line c.in-Line.len) (g.R.Read.remaining c.args.reader.now) (g.R.Read.remaining c.advance.new.reader) c.args.lines.now c.advance.new.self c.requires c.in-Line.ensures.advances in
+    rw c.line.ensures (told-is_line _ _ _ _ c.advance.new.self.window c.in-Line.len steps.0).0
+
+pub parse_line_without_lf-parsed-requires-clause-no_lf : goal.parse_line_without_lf-parsed-requires-clause-no_lf
+parse_line_without_lf-parsed-requires-clause-no_lf g c =
+    let steps = steps_by (Line c.in-Line.len) (g.R.Read.remaining c.args.reader.now) (g.R.Read.remaining c.advance.new.reader) c.args.lines.now c.advance.new.self c.requires c.in-Line.ensures.advances in
+    rw c.line.ensures (told-is_line _ _ _ _ c.advance.new.self.window c.in-Line.len steps.0).1
 
 pub returns-in-Long : goal.returns-in-Long
 returns-in-Long g c =

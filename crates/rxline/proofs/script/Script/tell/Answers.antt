@@ -3,3 +3,6 @@ use Rattle.rxline.proofs.script.Script.tell.Goals as goal
 
 pub carry_out-requires : goal.carry_out-requires
 carry_out-requires g c = script_read-spelled c.in-Some.line.now _ c.in-Ok.ensures
+
+pub carry_out_other-requires : goal.carry_out_other-requires
+carry_out_other-requires g c = script_read-spelled c.in-Some.line.now _ c.in-Ok.ensures

@@ -3,7 +3,13 @@ use Rattle.rx_session.specs.declared.step.Step.TheVariants.{Line, Long}
 use Rattle.rx_proto.specs.Reading.{script_read}
 use Rattle.rx_session.specs.Steps.{IsTold}
 use Rattle.rxline.proofs.Turning.{turned, goes_by, script_read-long}
+use Rattle.rx_session.proofs.Stepping.{told-is_line}
 use Rattle.rxline.proofs.script.Script.turn.Goals as goal
+
+pub tell_on-requires : goal.tell_on-requires
+tell_on-requires g c =
+    let goes = goes_by (Line c.in-Line.len) (g.R.Read.remaining c.args.reader.now) (g.R.Read.remaining c.advance.new.reader) c.args.lines.now c.advance.new.self c.requires c.in-Line.ensures.advances in
+    rw c.line.ensures (told-is_line _ _ _ _ c.advance.new.self.window c.in-Line.len goes.0)
 
 pub returns-in-Line : goal.returns-in-Line
 returns-in-Line g c =
