@@ -25,19 +25,16 @@ impl Drop for Body {
     fn drop(self) {
         match self {
             Body::Short { len: _, bytes: _ } => {}
-            shared => let_go(shared),
+            Body::Medium(block) => let_go(block),
+            Body::Long(bytes) => let_go(bytes),
         }
     }
 }
 
-// Lets go of bytes that the copies share. It is kept out of line, so that to let a short text go costs one test.
+// Lets go of what the copies share. It is kept out of line, so that to let a short text go costs one test.
 #[inline(never)]
-fn let_go(body: Body) {
-    match body {
-        Body::Short { len: _, bytes: _ } => {}
-        Body::Medium(block) => drop(block),
-        Body::Long(bytes) => drop(bytes),
-    }
+fn let_go<T: Drop>(shared: T) {
+    drop(shared);
 }
 
 impl Body {
