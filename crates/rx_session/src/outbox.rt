@@ -93,7 +93,7 @@ impl Outbox {
     }
 
     /// Holds the line of a note too, for which there is room.
-    #[inline]
+    #[inline(always)]
     pub fn push_note(&mut self, note: &Note)
         requires { length self.old + 1040 ≤ 65536 }
         ensures { self.new ≡ self.old ++ note_line note.now }
