@@ -88,6 +88,29 @@ pub(crate) fn two<B: Drop>(
     two_if(rt, alloc, capacity).expect(rt, "a box")
 }
 
+// A new box with two ports, and the first of them. The other one is gone.
+pub(crate) fn first_of_two<B: Drop>(
+    rt: &impl Abort,
+    alloc: Heap,
+    capacity: usize,
+) -> (Inbox<B>, Port<B>)
+    ensures { result.1.own ≡ [] }
+{
+    first_of_two_if(rt, alloc, capacity).expect(rt, "a box")
+}
+
+// The same. None where there was no memory for it.
+pub(crate) fn first_of_two_if<B: Drop>(
+    rt: &impl Abort,
+    alloc: Heap,
+    capacity: usize,
+) -> Option<(Inbox<B>, Port<B>)>
+    ensures { IfSome result (λ made. made.1.own ≡ []) }
+{
+    let (inbox, first, _) = two_if(rt, alloc, capacity)?;
+    Some((inbox, first))
+}
+
 pub(crate) fn send<B: Drop>(rt: &(impl Wait + Abort), port: &mut Port<B>, body: B)
     ensures { port.new ≡ with_post port.old (Post.Body body) }
 {

@@ -6,12 +6,12 @@
 
 ghost use Rattle.std.specs.Prelude.{◌≡◌, []};
 
-use crate::boxes::{copy, finish, send, two};
+use crate::boxes::{copy, finish, first_of_two, send, two};
 use crate::heaps::unlimited;
 use crate::in_turn::{Refusable, Seen, refuse_in_turn};
 use crate::signs::{digit_of, note_of, put_notes};
 use rx_drain::{
-    DrainEnd, Drainer, LineRest, LineSink, MemorySink, RunningDrainer, Sink, SinkFault,
+    DrainEnd, Drainer, LineSink, MemorySink, PutAway, RunningDrainer, Sink, SinkFault,
     start_drainer,
 };
 use rx_heap::Heap;
@@ -60,26 +60,28 @@ fn lined(heap: &Heap, signs: &[u8]) -> Result<LineSink<Page>, Fail> {
     Ok(sink)
 }
 
+// What a line sink wrote of the notes of these signs; behind `|` in how many calls, how many notes it took, and `!` where it
+// failed, else `-`.
+fn told_of_lines(heap: &Heap, signs: &[u8]) -> Result<Vec<u8, Heap>, Fail> {
+    let rest = lined(heap, signs)?.finish();
+    let Page { mut held, writes } = lined(heap, signs)?.into_writer();
+    held.push(b'|')?;
+    held.push(digit_of(writes))?;
+    held.push(digit_of(rest.notes as usize))?;
+    held.push(if rest.failed { b'!' } else { b'-' })?;
+    Ok(held)
+}
+
 #[test]
 fn line_sink(rt: HostRuntime) -> Result<(), Fail> {
     let heap = unlimited(&rt);
-    for (signs, lines, writes) in [
-        ("a.", "JOINED 3\nNEXT a\nDONE\n", 3),
-        ("ab!", "JOINED 3\nNEXT a\nNEXT b\nFAILED x\n", 4),
-        ("", "JOINED 3\n", 1),
+    for (signs, wanted) in [
+        ("a.", "JOINED 3\nNEXT a\nDONE\n|32-"),
+        ("ab!", "JOINED 3\nNEXT a\nNEXT b\nFAILED x\n|43-"),
+        ("", "JOINED 3\n|10-"),
     ] {
-        let page = lined(&heap, signs.as_bytes())?.into_writer();
-        assert_eq!(rt; page.held.as_slice(), lines.as_bytes());
-        assert_eq!(rt; page.writes, writes);
-        let rest = lined(&heap, signs.as_bytes())?.finish();
-        let notes = signs.len() as u64;
-        assert_eq!(rt;
-            rest,
-            LineRest {
-                notes,
-                failed: false
-            }
-        );
+        let told = told_of_lines(&heap, signs.as_bytes())?;
+        assert_eq!(rt; told.as_slice(), wanted.as_bytes());
     }
     Ok(())
 }
@@ -97,46 +99,58 @@ fn drainer_of<S: Sink>(
     requires subject { subject.own ≡ [] }
 {
     let subjects = vec![in copy(rt, free); subject].expect(rt, "memory");
-    match Drainer::new(alloc, inbox, subjects) {
-        Ok(drainer) => Some(drainer),
-        Err(_) => None,
-    }
+    Drainer::new(alloc, inbox, subjects).ok()
 }
 
-// Sends a drainer the sink of observer 0, and the notes of these signs for it.
+// The notes of these signs.
+fn notes_of(heap: &Heap, signs: &[u8]) -> Result<Vec<Note, Heap>, Fail> {
+    let mut notes = Vec::new(heap.clone()?);
+    for sign in signs {
+        notes.push(note_of(heap, *sign)?)?;
+    }
+    Ok(notes)
+}
+
+// Sends a drainer the sink of observer 0, and these notes for it.
 fn send_notes<S: Sink>(
     rt: &(impl Wait + Abort),
-    heap: &Heap,
     port: &mut Port<Out<S>>,
     sink: S,
-    signs: &[u8],
-) -> Result<(), Fail> {
+    notes: Vec<Note, Heap>,
+) {
     send(rt, port, Out::Attach { who: 0, sink });
-    for sign in signs {
-        let note = note_of(heap, *sign)?;
+    for note in notes {
         send(rt, port, Out::Give { who: 0, note });
     }
-    Ok(())
 }
 
-// A drainer of one subject whose box has the sink of observer 0, the notes of these signs for it, and all Byes; and the calls
-// to its subject.
+// Sends a drainer the sink of observer 0, these notes for it, and all Byes.
+fn fill<S: Sink>(
+    rt: &(impl Wait + Abort),
+    pump: Port<Out<S>>,
+    leave: Port<Out<S>>,
+    sink: S,
+    notes: Vec<Note, Heap>,
+) {
+    let mut pump = pump;
+    send_notes(rt, &mut pump, sink, notes);
+    drop(finish(rt, pump));
+    drop(finish(rt, leave));
+}
+
+// A drainer of one subject whose box has the sink of observer 0, these notes for it, and all Byes; and the calls to its
+// subject.
 fn filled<S: Sink>(
     rt: &(impl Wait + Abort),
     free: &Heap,
     alloc: Heap,
     sink: S,
-    signs: &[u8],
-) -> Result<(Option<Drainer<S>>, Inbox<Call<S>>), Fail> {
-    let (inbox, mut pump, leave) = two::<Out<S>>(rt, copy(rt, free), 16);
-    let (calls, subject, _) = two::<Call<S>>(rt, copy(rt, free), 16);
-    let drainer = drainer_of(rt, alloc, inbox, free, subject);
-    if drainer.is_some() {
-        send_notes(rt, free, &mut pump, sink, signs)?;
-        drop(finish(rt, pump));
-        drop(finish(rt, leave));
-    }
-    Ok((drainer, calls))
+    notes: Vec<Note, Heap>,
+) -> (Option<Drainer<S>>, Inbox<Call<S>>) {
+    let (inbox, pump, leave) = two::<Out<S>>(rt, copy(rt, free), 16);
+    fill(rt, pump, leave, sink, notes);
+    let (calls, subject) = first_of_two::<Call<S>>(rt, copy(rt, free), 16);
+    (drainer_of(rt, alloc, inbox, free, subject), calls)
 }
 
 fn put_event(told: &mut Vec<u8, Heap>, event: &Event) -> Result<(), Fail> {
@@ -149,20 +163,24 @@ fn put_event(told: &mut Vec<u8, Heap>, event: &Event) -> Result<(), Fail> {
     Ok(told.push(digit_of(who as usize))?)
 }
 
+fn put_call<S: Sink>(told: &mut Vec<u8, Heap>, post: &Post<Call<S>>) -> Result<(), Fail> {
+    match post {
+        Post::Body(call) => put_event(told, &call.event),
+        Post::Bye => Ok(told.push(b'.')?),
+    }
+}
+
 // Puts what was sent to a subject.
 fn put_calls<S: Sink>(
     rt: &impl Wait,
     told: &mut Vec<u8, Heap>,
-    mut calls: Inbox<Call<S>>,
+    calls: &mut Inbox<Call<S>>,
 ) -> Result<(), Fail> {
     for _ in 0..16 {
         let Ok(letter) = calls.recv(rt) else {
             break;
         };
-        match letter.post {
-            Post::Body(call) => put_event(told, &call.event)?,
-            Post::Bye => told.push(b'.')?,
-        }
+        put_call(told, &letter.post)?;
     }
     Ok(())
 }
@@ -181,6 +199,30 @@ struct Told {
     misses: u64,
 }
 
+// What the sinks of a drainer took, until it ends.
+fn told_served(
+    rt: &(impl Wait + Abort),
+    heap: &Heap,
+    drainer: Drainer<MemorySink>,
+) -> Result<Told, Fail> {
+    let end = served(rt, drainer);
+    let mut text = Vec::new(copy(rt, heap));
+    for away in &end.put_away {
+        put_notes(&mut text, away.rest.as_slice())?;
+    }
+    text.push(b'|')?;
+    Ok(Told {
+        text,
+        misses: end.places.misses(),
+    })
+}
+
+// What is told where there was no memory for a drainer.
+fn told_unmade(heap: &Heap) -> Result<Told, Fail> {
+    let text = vec![in heap.clone()?; b'!']?;
+    Ok(Told { text, misses: 0 })
+}
+
 // What is told of a drainer whose sink fails from a note on; the drainer and the sink grow by `tight`.
 fn told_of(
     rt: &(impl Wait + Abort),
@@ -188,22 +230,15 @@ fn told_of(
     tight: &Heap,
     fail_at: Option<u32>,
 ) -> Result<Told, Fail> {
+    let notes = notes_of(free, b"abc")?;
     let sink = MemorySink::new(copy(rt, tight), fail_at);
-    let (drainer, calls) = filled(rt, free, copy(rt, tight), sink, b"abc")?;
-    let mut text = Vec::new(copy(rt, free));
+    let (drainer, mut calls) = filled(rt, free, copy(rt, tight), sink, notes);
     let Some(drainer) = drainer else {
-        text.push(b'!')?;
-        return Ok(Told { text, misses: 0 });
+        return told_unmade(free);
     };
-    let end = served(rt, drainer);
-    for away in &end.put_away {
-        put_notes(&mut text, away.rest.as_slice())?;
-    }
-    let misses = end.places.misses();
-    drop(end);
-    text.push(b'|')?;
-    put_calls(rt, &mut text, calls)?;
-    Ok(Told { text, misses })
+    let mut told = told_served(rt, free, drainer)?;
+    put_calls(rt, &mut told.text, &mut calls)?;
+    Ok(told)
 }
 
 #[test]
@@ -265,15 +300,6 @@ const SINKS: u64 = 2;
 const LOOKS: u64 = 10_000;
 
 impl<C: Clock + Drop> Meeting<C> {
-    /// One of those that count in `come` how many have come.
-    pub(crate) fn new(clock: C, come: Arc<AtomicU64, Global>) -> Meeting<C> {
-        Meeting {
-            clock,
-            come,
-            faults: 0,
-        }
-    }
-
     fn meets(&self) -> bool {
         self.come.fetch_add(1, Ordering::SeqCst);
         for _ in 0..LOOKS {
@@ -316,28 +342,56 @@ impl<C: Clock + Drop> Sink for Meeting<C> {
     }
 }
 
-// A drainer in a thread of its own, whose sink is to meet another, and the calls to its subject.
+/// One of those that count in `come` how many have come, by the clock of the runtime.
+pub(crate) fn meeting_of<R: Abort + Clock + Clone + Drop>(
+    rt: &R,
+    come: &Arc<AtomicU64, Global>,
+) -> Meeting<R> {
+    let clock = rt.clone().expect(rt, "a clock");
+    let come = Arc::try_clone(come).expect(rt, "a handle");
+    Meeting {
+        clock,
+        come,
+        faults: 0,
+    }
+}
+
+/// A drainer in a thread of its own, and the calls to its subject.
+#[derive(Drop)]
+struct Running<S: Sink> {
+    drainer: RunningDrainer<S>,
+    calls: Inbox<Call<S>>,
+}
+
+// A drainer that was started, whose sink is to meet another.
 fn started<R: Threads + Wait + Abort + Clock + Clone + Drop + Send + 'static>(
     rt: &R,
     heap: &Heap,
     come: &Arc<AtomicU64, Global>,
-) -> Result<(RunningDrainer<Meeting<R>>, Inbox<Call<Meeting<R>>>), Fail> {
-    let sink = Meeting::new(rt.clone()?, Arc::try_clone(come)?);
-    let (drainer, calls) = filled(rt, heap, copy(rt, heap), sink, b"a")?;
-    let drainer = drainer.expect(rt, "memory");
-    match start_drainer(rt, drainer) {
-        Ok(running) => Ok((running, calls)),
+) -> Result<Running<Meeting<R>>, Fail> {
+    let notes = notes_of(heap, b"a")?;
+    let (drainer, calls) = filled(rt, heap, copy(rt, heap), meeting_of(rt, come), notes);
+    match start_drainer(rt, drainer.expect(rt, "memory")) {
+        Ok(drainer) => Ok(Running { drainer, calls }),
         Err(_) => panic!(rt; "no thread"),
     }
 }
 
-// Whether the sinks of a drainer that was started have met, each of them.
+// Whether one sink was put away, which has met.
+fn is_one_met(put_away: &[PutAway<bool>]) -> bool {
+    match put_away {
+        [away] => away.rest,
+        _ => false,
+    }
+}
+
+// Whether the one sink of a drainer that was started has met.
 fn has_met<R: Threads + Wait + Abort + Clock + Clone + Drop + Send + 'static>(
     rt: &R,
-    running: RunningDrainer<Meeting<R>>,
+    running: Running<Meeting<R>>,
 ) -> bool {
-    match running.join(rt) {
-        Ok(end) => end.put_away.len() == 1 && end.put_away.iter().all(|away| away.rest),
+    match running.drainer.join(rt) {
+        Ok(end) => is_one_met(end.put_away.as_slice()),
         Err(_) => false,
     }
 }
@@ -346,11 +400,9 @@ fn has_met<R: Threads + Wait + Abort + Clock + Clone + Drop + Send + 'static>(
 fn two_drainers_meet(rt: HostRuntime) -> Result<(), Fail> {
     let heap = unlimited(&rt);
     let come = Arc::new(rt.alloc(), AtomicU64::new(0))?;
-    let (first, first_calls) = started(&rt, &heap, &come)?;
-    let (second, second_calls) = started(&rt, &heap, &come)?;
+    let first = started(&rt, &heap, &come)?;
+    let second = started(&rt, &heap, &come)?;
     assert!(rt; has_met(&rt, first));
     assert!(rt; has_met(&rt, second));
-    drop(first_calls);
-    drop(second_calls);
     Ok(())
 }

@@ -16,9 +16,13 @@ mod budgets;
 #[cfg(test)]
 mod configurations;
 #[cfg(test)]
+mod desks;
+#[cfg(test)]
 mod drainers;
 #[cfg(test)]
 mod drawing;
+#[cfg(test)]
+mod drawn_runs;
 #[cfg(test)]
 mod heaps;
 #[cfg(test)]
@@ -29,6 +33,8 @@ mod hubs;
 mod in_turn;
 #[cfg(test)]
 mod lanes;
+#[cfg(test)]
+mod letters;
 #[cfg(test)]
 mod marbles;
 #[cfg(test)]

@@ -5,12 +5,12 @@
 
 ghost use Rattle.std.specs.Prelude.{◌≤◌, IfOk};
 
-use crate::hubs::Ran;
+use crate::hubs::{Ran, Reading};
 use crate::in_turn::{Refusable, Seen, refuse_in_turn};
 use crate::signs::{Named, event_at, kind_of, policy_of, rules_of};
 use rx_heap::Heap;
 use rx_history::History;
-use rx_hub::{Hub, HubError, Step};
+use rx_hub::{Hub, HubError, Run, Step};
 use rx_note::{Event, Refusal, Rules, Strategy};
 use std::test::Fail;
 
@@ -142,23 +142,33 @@ impl Row {
         }
     }
 
+    fn reading(&self, heap: &Heap, steps: &[Step]) -> Result<Reading, Fail> {
+        let history = self.taken(heap, steps)?;
+        let rules = self.rules(heap)?;
+        Ok(Reading { history, rules })
+    }
+
+    fn ran(&self, heap: &Heap, hub: Hub, run: Run) -> Result<Ran, Fail> {
+        let reading = self.reading(heap, run.steps.as_slice())?;
+        Ok(Ran { reading, run, hub })
+    }
+
+    // The run of a hub; none where the list of its steps found no memory.
+    fn run_on(&self, free: &Heap, tight: &Heap, hub: Hub) -> Result<Option<Ran>, Fail> {
+        let mut hub = hub;
+        match hub.run(tight.clone()?, self.events(free)?) {
+            Ok(run) => Ok(Some(self.ran(free, hub, run)?)),
+            Err(_) => Ok(None),
+        }
+    }
+
     // The run of a hub that grows by `tight`, while all else is made by `free`; none where the hub or the list of its steps
     // found no memory.
     fn run(&self, free: &Heap, tight: &Heap) -> Result<Option<Ran>, Fail> {
-        let Some(mut hub) = self.hub(free, tight)? else {
-            return Ok(None);
-        };
-        let Ok(run) = hub.run(tight.clone()?, self.events(free)?) else {
-            return Ok(None);
-        };
-        let history = self.taken(free, run.steps.as_slice())?;
-        let rules = self.rules(free)?;
-        Ok(Some(Ran {
-            rules,
-            run,
-            hub,
-            history,
-        }))
+        match self.hub(free, tight)? {
+            Some(hub) => self.run_on(free, tight, hub),
+            None => Ok(None),
+        }
     }
 }
 

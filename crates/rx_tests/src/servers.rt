@@ -4,15 +4,16 @@
 ghost use Rattle.std.specs.Prelude.{◌+◌, ◌<◌, length};
 
 use crate::boxes::copy;
-use crate::drainers::Meeting;
+use crate::drainers::{Meeting, meeting_of};
 use crate::heaps::unlimited;
-use crate::pumps::put_result;
+use crate::letters::put_result;
 use crate::signs::digit_of;
 use rx_drain::{MemorySink, Sink};
 use rx_heap::Heap;
 use rx_note::{Answer, Errors, Event, Item, Note, Policy, Refusal, Strategy, Text};
 use rx_pump::{CallDesk, EndedDesk};
 use rx_server::{Report, Server, StartCause, SubjectReport, read_config, start};
+use std::alloc::Global;
 use std::process::Abort;
 use std::sync::atomic::AtomicU64;
 use std::sync::{Arc, Wait};
@@ -48,6 +49,18 @@ where
 {
     let config = read_config(heap.clone()?, rt.alloc(), text)?;
     Ok(start(rt, heap.clone()?, config)?)
+}
+
+// The report of a server that is closed, whose desks have ended.
+fn closed<S: Sink + Send + 'static>(
+    rt: &impl Host,
+    server: Server<S>,
+    ended: Vec<EndedDesk<S>, Heap>,
+) -> Result<Report<S::Rest>, Fail>
+where
+    S::Rest: Send + 'static,
+{
+    Ok(server.close(rt, ended)?)
 }
 
 /// A desk with a port at least.
@@ -186,7 +199,7 @@ fn report_of_two_desks(
 ) -> Result<Report<Vec<Note, Heap>>, Fail> {
     let mut server = started(rt, heap, TWO_DESKS)?;
     let ended = emit_by_two(rt, heap, &mut server, bytes);
-    Ok(server.close(rt, ended)?)
+    closed(rt, server, ended)
 }
 
 // The notes that the one sink of a server took.
@@ -198,6 +211,16 @@ fn notes_of<'a>(rt: &impl Abort, report: &'a Report<Vec<Note, Heap>>) -> &'a [No
         },
         lists => panic!(rt; "{} drainers", lists.len()),
     }
+}
+
+// The notes are the items of both ports, those of each in their order.
+fn expect_items(rt: &impl Abort, heap: &Heap, notes: &[Note], bytes: &[u8]) -> Result<(), Fail> {
+    assert_eq!(rt; notes.len(), 200);
+    for from in 0..2 {
+        let emitted = bytes_from(heap, notes, from)?;
+        assert_eq!(rt; emitted.as_slice(), bytes, "{from}");
+    }
+    Ok(())
 }
 
 #[test]
@@ -213,43 +236,39 @@ fn two_desks_one_subject(rt: HostRuntime) -> Result<(), Fail> {
     }];
     assert_eq!(rt; report.subjects.as_slice(), subjects.as_slice());
     assert_eq!(rt; report.taken, 200);
-    let notes = notes_of(&rt, &report);
-    assert_eq!(rt; notes.len(), 200);
-    for from in 0..2 {
-        let emitted = bytes_from(&heap, notes, from)?;
-        assert_eq!(rt; emitted.as_slice(), bytes.as_slice(), "{from}");
-    }
-    Ok(())
+    expect_items(&rt, &heap, notes_of(&rt, &report), bytes.as_slice())
 }
 
 // Joins two observers whose sinks are to meet.
-fn join_both<R: Host>(rt: &R, caller: &mut Caller<Meeting<R>>) {
-    let come = Arc::new(rt.alloc(), AtomicU64::new(0)).expect(rt, "memory");
+fn join_both<R: Host>(rt: &R, caller: &mut Caller<Meeting<R>>, come: &Arc<AtomicU64, Global>) {
     for who in 0..2 {
-        let clock = rt.clone().expect(rt, "a clock");
-        let sink = Meeting::new(clock, Arc::try_clone(&come).expect(rt, "a handle"));
+        let sink = meeting_of(rt, come);
         assert_eq!(rt; caller.join(rt, 1, sink), Ok(Answer::Joined(who)));
     }
 }
 
-// A desk joins them, and emits one item.
+// A desk of a server joins them, and emits one item.
 fn emit_to_both<R: Host>(
     rt: &R,
     heap: &Heap,
-    caller: Caller<Meeting<R>>,
+    server: &mut Server<Meeting<R>>,
+    come: &Arc<AtomicU64, Global>,
 ) -> Vec<EndedDesk<Meeting<R>>, Heap> {
-    let mut caller = caller;
-    join_both(rt, &mut caller);
+    let mut caller = caller_of(rt, server);
+    join_both(rt, &mut caller, come);
     assert_eq!(rt; caller.emit(rt, heap, b'a'), Ok(Answer::Admitted));
     caller.finish_alone(rt, heap)
 }
 
 // The report of a server after that.
-fn report_of_two_drainers(rt: &impl Host, heap: &Heap) -> Result<Report<bool>, Fail> {
+fn report_of_two_drainers(
+    rt: &impl Host,
+    heap: &Heap,
+    come: &Arc<AtomicU64, Global>,
+) -> Result<Report<bool>, Fail> {
     let mut server = started(rt, heap, TWO_DRAINERS)?;
-    let caller = caller_of(rt, &mut server);
-    let ended = emit_to_both(rt, heap, caller);
-    Ok(server.close(rt, ended)?)
+    let ended = emit_to_both(rt, heap, &mut server, come);
+    closed(rt, server, ended)
 }
 
 // Which observer's sinks each drainer put away: `m` that it met the other one, `!` that it did not.
@@ -268,7 +287,8 @@ fn told_of_meetings(heap: &Heap, report: &Report<bool>) -> Result<Vec<u8, Heap>,
 #[test]
 fn two_drainers_meet(rt: HostRuntime) -> Result<(), Fail> {
     let heap = unlimited(&rt);
-    let report = report_of_two_drainers(&rt, &heap)?;
+    let come = Arc::new(rt.alloc(), AtomicU64::new(0))?;
+    let report = report_of_two_drainers(&rt, &heap, &come)?;
     assert_eq!(rt; report.taken, 2);
     let told = told_of_meetings(&heap, &report)?;
     assert_eq!(rt; told.as_slice(), b"0m|1m|".as_slice());
@@ -372,20 +392,29 @@ fn is_refused(told: &[u8], used: u64) -> bool {
 // No run has as many growths.
 const MAX_GROWTHS: u64 = 1_000;
 
-// How many growths were refused, each in a run of its own, until a run met no refusal.
-fn refused_in_turn(rt: &impl Host, free: &Heap) -> Result<u64, Fail> {
-    for growth in 0..MAX_GROWTHS {
-        let tight = Heap::refusing(rt.alloc(), growth)?;
-        let told = told_of(rt, free, &tight)?;
-        if tight.asked() <= growth {
-            assert_eq!(rt; told.as_slice(), UNREFUSED);
-            assert_eq!(rt; tight.used(), 0);
-            return Ok(growth);
-        }
+// Runs with a growth refused. Whether the run met the refusal.
+fn meets_refusal(rt: &impl Host, free: &Heap, growth: u64) -> Result<bool, Fail> {
+    let tight = Heap::refusing(rt.alloc(), growth)?;
+    let told = told_of(rt, free, &tight)?;
+    let is_met = tight.asked() > growth;
+    if is_met {
         assert!(rt;
             is_refused(told.as_slice(), tight.used()),
             "growth {growth}"
         );
+    } else {
+        assert_eq!(rt; told.as_slice(), UNREFUSED);
+        assert_eq!(rt; tight.used(), 0);
+    }
+    Ok(is_met)
+}
+
+// How many growths were refused, each in a run of its own, until a run met no refusal.
+fn refused_in_turn(rt: &impl Host, free: &Heap) -> Result<u64, Fail> {
+    for growth in 0..MAX_GROWTHS {
+        if !meets_refusal(rt, free, growth)? {
+            return Ok(growth);
+        }
     }
     Err(Fail::from("growths without an end"))
 }

@@ -2,7 +2,7 @@ use Rattle.std.proofs.Common.{◌∙◌, ap, ℕ}
 use Rattle.rx_pump.specs.Desks.{DeskView}
 use Rattle.rx_tests.specs.Wiring.{boxes_of}
 use Rattle.rx_tests.proofs.Wired.{boxes-same, boxes-byes}
-use Rattle.rx_tests.proofs.pumps.emit_all.Goals as goal
+use Rattle.rx_tests.proofs.desks.emit_all.Goals as goal
 
 pub returns-clause-ports : goal.returns-clause-ports
 returns-clause-ports g c =

@@ -2,7 +2,7 @@ use Rattle.std.proofs.Common.{◌≡◌, ◌∙◌, sym, ap, rules, [], ◌∷�
 use Rattle.rx_mailbox.specs.Boxes.{Outgoing, Incoming}
 use Rattle.rx_tests.specs.Wiring.{boxes_of}
 use Rattle.rx_tests.proofs.Wired.{boxes-same}
-use Rattle.rx_tests.proofs.pumps.exchange.Goals as goal
+use Rattle.rx_tests.proofs.desks.exchange.Goals as goal
 
 pub close_all-requires-clause-first : goal.close_all-requires-clause-first
 close_all-requires-clause-first g c =

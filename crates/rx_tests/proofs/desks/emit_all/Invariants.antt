@@ -1,6 +1,6 @@
 use Rattle.std.proofs.Common.{◌≡◌, ◌<◌, length}
 use Rattle.rx_pump.specs.Pumps.{AreSame}
-use Rattle.rx_tests.proofs.pumps.emit_all.Given as goal
+use Rattle.rx_tests.proofs.desks.emit_all.Given as goal
 
 -- the desk has its one port, and is of the same boxes
 abbrev pub invariant-loop : goal.invariant-loop
