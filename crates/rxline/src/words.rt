@@ -13,6 +13,9 @@ const CONFIG: &str = "config";
 
 const SOCKET: &str = "socket";
 
+// The commands that there are, as each usage line of the program names them.
+const COMMANDS: &str = "script <config> | audit <config> | serve <config> <socket>";
+
 const ABOUT: &str = "Multicasts items to observers by the lines of a script.";
 
 const EXAMPLE: &str = "\
@@ -132,6 +135,7 @@ fn top<'a>(alloc: Global) -> Command<'a>
     Command::new(alloc, "rxline")
         .no_binary_name(true)
         .about(ABOUT)
+        .subcommand_value_name(COMMANDS)
         .after_help(EXAMPLE)
 }
 
