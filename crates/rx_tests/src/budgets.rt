@@ -115,17 +115,23 @@ fn a_request_holds_each_note_once(rt: HostRuntime) -> Result<(), Fail> {
     Ok(())
 }
 
+// How many growths a text of so many bytes takes, and whether it is refused where there is no memory.
+fn growths_of(alloc: Global, len: usize) -> Result<(u64, bool), Fail> {
+    let letters = [b'a'; MAX_TEXT];
+    let bytes = &letters[..len.min(MAX_TEXT)];
+    let ample = Heap::with_budget(alloc, BUDGET)?;
+    let made = Text::new(ample.clone()?, bytes).is_ok();
+    let tight = Heap::with_budget(alloc, 0)?;
+    let refused = Text::new(tight, bytes).err() == Some(TextError::Memory);
+    Ok((ample.asked(), made && refused))
+}
+
 #[test]
 fn a_text_takes_few_growths(rt: HostRuntime) -> Result<(), Fail> {
-    let letters = [b'a'; MAX_TEXT];
     for (len, growths) in [(0, 0), (22, 0), (23, 1), (63, 1), (64, 2), (1024, 2)] {
-        let ample = Heap::with_budget(rt.alloc(), BUDGET)?;
-        let text = Text::new(ample.clone()?, &letters[..len]);
-        assert_eq!(rt; text.err(), None, "{len}");
-        assert_eq!(rt; ample.asked(), growths, "{len}");
-        let tight = Heap::with_budget(rt.alloc(), 0)?;
-        let refused = Text::new(tight.clone()?, &letters[..len]).err();
-        assert_eq!(rt; refused == Some(TextError::Memory), growths > 0, "{len}");
+        let (asked, refused) = growths_of(rt.alloc(), len)?;
+        assert_eq!(rt; asked, growths, "{len}");
+        assert_eq!(rt; refused, growths > 0, "{len}");
     }
     Ok(())
 }
