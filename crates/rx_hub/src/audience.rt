@@ -1,4 +1,4 @@
-ghost use Rattle.std.specs.Prelude.{◌≡◌, ◌≢◌, ◌+◌, ◌*◌, ◌<◌, ◌≤◌, ◌^◌, ◌↔◌, ◌==◌, ◌++◌, ◌∷◌, [], ℕ, List, Err, max, length, take, drop, get_or, position, is_some, option_to_list, true, false, IfOk, OnOk, OnErr, vec_len, vec_capacity};
+ghost use Rattle.std.specs.Prelude.{◌≡◌, ◌≢◌, ◌+◌, ◌*◌, ◌<◌, ◌≤◌, ◌^◌, ◌↔◌, ◌==◌, ◌++◌, ◌∷◌, [], ℕ, List, Err, max, length, take, drop, get_or, position, is_some, option_to_list, true, false, IsTrue, IfOk, OnOk, OnErr, vec_len, vec_capacity};
 ghost use Rattle.std.specs.List.{All};
 ghost use Rattle.rx_note.specs.declared.event.Event.TheVariants.{Emit};
 ghost use Rattle.rx_note.specs.declared.item.Item.{Item};
@@ -115,8 +115,8 @@ impl Audience {
         }
     }
 
-    // Has the subject admit an item, which comes by the port that it names and is offered at once. The copies that are given
-    // are put where they go in the first pass. What all are owed, and nobody may need later, goes by no tape.
+    // Has the subject admit an item, which comes by the port that it names and is offered at once. What is given is put where
+    // it goes in the first pass. An item that all are owed, and nobody may need later, goes by no tape.
     fn admit_item(
         &mut self,
         subject: &mut TapeSubject,
@@ -136,15 +136,19 @@ impl Audience {
     {
         let before = outs.len();
         outs.reserve(self.subscriptions.len())?;
-        let Ok(all_owed) = give_item(&mut self.subscriptions, &item, outs) else {
-            outs.truncate(before);
-            return Err(Memory);
-        };
-        if all_owed && subject.keeps_nothing() {
+        if subject.keeps_nothing() && are_owed(&self.subscriptions) {
+            let Ok(()) = give_owed(&self.subscriptions, item, outs) else {
+                outs.truncate(before);
+                return Err(Memory);
+            };
             subject.pass_item(at);
             pass_owed_all(&mut self.subscriptions);
             return Ok(());
         }
+        let Ok(()) = give_item(&mut self.subscriptions, &item, outs) else {
+            outs.truncate(before);
+            return Err(Memory);
+        };
         let Ok(()) = subject.admit_on(item, at, &mut self.tape) else {
             outs.truncate(before);
             return Err(Memory);
@@ -289,28 +293,59 @@ fn place_in(subscriptions: &Vec<Subscription, Heap>, who: u32) -> Option<usize>
     subscriptions.iter().position(|s| s.who == who)
 }
 
-// Puts an item at the end of `outs` for each observer to which it is owed, and says whether these are all; makes ready the
-// copies that others keep. On `Memory` some may have been put.
+// Whether each observer is owed an item.
+fn are_owed(subscriptions: &Vec<Subscription, Heap>) -> bool
+    ensures { IsTrue result ↔ AllOwed (places_of subscriptions.now.items) }
+{
+    for i in 0..subscriptions.len() {
+        if subscriptions[i].seat.owed() == 0 {
+            return false;
+        }
+    }
+    true
+}
+
+// Puts an item at the end of `outs` for each observer, all of which are owed it: copies, and to the last the item itself. On
+// `Memory` some may have been put.
+fn give_owed(
+    subscriptions: &Vec<Subscription, Heap>,
+    item: Item,
+    outs: &mut Vec<Given, Heap>,
+) -> Result<(), Memory>
+    requires owed { AllOwed (places_of subscriptions.now.items) }
+    requires room { vec_len outs.old + vec_len subscriptions.now ≤ vec_capacity outs.old }
+    ensures given { OnOk result (outs.new.items ≡ outs.old.items ++ gifts item (places_of subscriptions.now.items)) }
+    ensures front { take (vec_len outs.old) outs.new.items ≡ outs.old.items }
+{
+    let Some(last) = subscriptions.len().checked_sub(1) else {
+        return Ok(());
+    };
+    for i in 0..last {
+        let copy = item.copy()?;
+        subscriptions[i].give(copy, outs);
+    }
+    subscriptions[last].give(item, outs);
+    Ok(())
+}
+
+// Puts a copy of an item at the end of `outs` for each observer to which it is owed, and makes ready the copies that others
+// keep. On `Memory` some may have been put.
 fn give_item(
     subscriptions: &mut Vec<Subscription, Heap>,
     item: &Item,
     outs: &mut Vec<Given, Heap>,
-) -> Result<bool, Memory>
+) -> Result<(), Memory>
     requires { vec_len outs.old + vec_len subscriptions.old ≤ vec_capacity outs.old }
     ensures places { places_of subscriptions.new.items ≡ places_of subscriptions.old.items }
     ensures len { vec_len subscriptions.new ≡ vec_len subscriptions.old }
-    ensures owed { IfOk result (λ all. all ≡ true → AllOwed (places_of subscriptions.old.items)) }
     ensures given { OnOk result (outs.new.items ≡ outs.old.items ++ gifts item.now (places_of subscriptions.old.items)) }
     ensures holds { OnOk result (All (λ s. HoldsCopy item.now s.ready.item s.seat) subscriptions.new.items) }
     ensures front { take (vec_len outs.old) outs.new.items ≡ outs.old.items }
 {
-    let mut all = true;
     for i in 0..subscriptions.len() {
-        if !subscriptions[i].give_now(item, outs)? {
-            all = false;
-        }
+        subscriptions[i].give_now(item, outs)?;
     }
-    Ok(all)
+    Ok(())
 }
 
 // Passes an item that each observer is owed and was given, and that is not on the tape.

@@ -45,17 +45,31 @@ impl Subscription {
         }
     }
 
-    /// Puts an item at the end of `outs` if it is owed, and says so; of one that is not, makes ready the copy that a queue of
-    /// its own keeps.
+    /// Puts an item that is owed at the end of `outs`.
+    #[inline(always)]
+    pub(crate) fn give(&self, item: Item, outs: &mut Vec<Given, Heap>)
+        requires owed { 0 < owing_of self.now.seat }
+        requires room { vec_len outs.old < vec_capacity outs.old }
+        ensures given { outs.new.items ≡ outs.old.items ++ addressed self.now.who (given_now self.now.seat item) }
+        ensures len { vec_len outs.new ≡ vec_len outs.old + 1 }
+        ensures capacity { vec_capacity outs.new ≡ vec_capacity outs.old }
+    {
+        outs.push_reserved(Given {
+            who: self.who,
+            note: Note::Next(item),
+        });
+    }
+
+    /// Puts a copy of an item at the end of `outs` if it is owed; of one that is not, makes ready the copy that a queue of its
+    /// own keeps.
     #[inline(always)]
     pub(crate) fn give_now(
         &mut self,
         item: &Item,
         outs: &mut Vec<Given, Heap>,
-    ) -> Result<bool, Memory>
+    ) -> Result<(), Memory>
         requires { vec_len outs.old < vec_capacity outs.old }
         ensures place { place_of self.new ≡ place_of self.old }
-        ensures owed { IfOk result (λ owed. owed ≡ true → 0 < owing_of self.old.seat) }
         ensures given { OnOk result (outs.new.items ≡ outs.old.items ++ addressed self.old.who (given_now self.old.seat item.now)) }
         ensures holds { OnOk result (HoldsCopy item.now self.new.ready.item self.new.seat) }
         ensures err { OnErr result (outs.new.items ≡ outs.old.items) }
@@ -63,17 +77,11 @@ impl Subscription {
         ensures capacity { vec_capacity outs.new ≡ vec_capacity outs.old }
     {
         if self.seat.owed() > 0 {
-            let note = Note::Next(item.copy()?);
-            outs.push_reserved(Given {
-                who: self.who,
-                note,
-            });
-            return Ok(true);
-        }
-        if let Seat::Own(lane) = &self.seat {
+            self.give(item.copy()?, outs);
+        } else if let Seat::Own(lane) = &self.seat {
             self.ready.item = copy_kept(lane, item)?;
         }
-        Ok(false)
+        Ok(())
     }
 
     /// Offers the last item of the tape, which was given already if it is owed.

@@ -8,4 +8,4 @@ block_bytes block = take block.len block.bytes
 
 -- it has no more bytes than there is room for
 abbrev pub IsFilled : Block → Type 0
-IsFilled block = block.len ≤ 63
+IsFilled block = block.len ≤ 56

@@ -13,6 +13,6 @@ bytes_of (Long shared) = arc_slice_items shared
 
 -- a short or medium one has no more bytes than there is room for
 abbrev pub IsWithin : Body → Type 0
-IsWithin (Short len bytes) = len ≤ 22
+IsWithin (Short len bytes) = len ≤ 20
 IsWithin (Medium shared) = IsFilled (arc_value shared)
 IsWithin (Long shared) = Unit {0}

@@ -26,7 +26,8 @@ pub enum TextError {
 
 /// What an item or an error says: 0 to 1,024 bytes of any kind but LF. Contracts see a text as the list of its bytes.
 ///
-/// A text of up to 22 bytes takes no memory; the copies of a longer one share its bytes. The limits are this project's own.
+/// A text of up to 20 bytes takes no memory, one of up to 56 one growth, a longer one two; the copies of all but the shortest
+/// share their bytes. The limits are this project's own.
 #[derive(Drop, Debug)]
 pub struct Text {
     body: Body,
@@ -75,6 +76,24 @@ impl Text {
     {
         let body = Body::new(alloc, bytes)?;
         Ok(Text { body })
+    }
+
+    /// Becomes the text of bytes of a line that are known to be one, for which it takes no memory, where it stands in a block
+    /// that has room for them and that no copy shares. Whether it did so; else it stays as it was.
+    #[inline]
+    pub fn refill(&mut self, bytes: &[u8]) -> bool
+        requires within { length bytes.now ≤ 1024 }
+        requires no_lf { list_any (λ b. nat_eq b 10) bytes.now ≡ false }
+        ensures filled { result ≡ true → self.new ≡ bytes.now }
+        ensures kept { result ≡ false → self.new ≡ self.old }
+    {
+        self.body.refill(bytes)
+    }
+
+    /// Whether it stands in a block, which a text of 21 to 56 bytes does, so that it may be refilled.
+    #[inline]
+    pub fn has_block(&self) -> bool {
+        self.body.has_block()
     }
 
     /// Its bytes.

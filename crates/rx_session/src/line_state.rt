@@ -1,4 +1,4 @@
-ghost use Rattle.std.specs.Prelude.{length, ◌≡◌, ◌≤◌};
+ghost use Rattle.std.specs.Prelude.{length, ◌≡◌, ◌≤◌, ◌<◌, ◌+◌};
 
 use crate::carriage::len_without_cr;
 use crate::input_end::InputEnd;
@@ -22,7 +22,7 @@ pub struct LineState {
 impl LineState {
     ghost use Rattle.std.specs.Prelude.{◌↔◌, IsTrue, take, [], None};
     ghost use Rattle.rx_proto.specs.LineFeeds.{HasLf};
-    ghost use Rattle.rx_session.specs.Steps.{unread, Advances};
+    ghost use Rattle.rx_session.specs.Steps.{unread, Advances, IsStepAt, Knows};
 
     /// No line was read yet, and at most `max_reads` reads may be made.
     pub fn new(max_reads: u64) -> LineState
@@ -50,8 +50,27 @@ impl LineState {
         self.window.find_lf().is_some()
     }
 
+    /// Tells the next line where that was read to its LF already, so that no read is made. None where the next step makes a
+    /// read or tells an end. Lets go of the line last told.
+    #[inline]
+    pub fn known(&mut self) -> Option<Step>
+        ensures knows { Knows result self.old self.new }
+        ensures reads { self.new.reads ≡ self.old.reads }
+        ensures end { self.new.end ≡ self.old.end }
+    {
+        if self.end.is_some() {
+            return None;
+        }
+        self.let_go();
+        match self.window.find_lf() {
+            Some(len) => Some(self.step_at(len)),
+            None => None,
+        }
+    }
+
     /// Tells the next line, for which it reads as often as it must, or the end. After an end no further read is made,
     /// and the same end is told again.
+    #[inline(never)]
     pub fn advance<R: Read>(&mut self, reader: &mut R) -> Step
         ensures advances { Advances result (R.remaining reader.old) (R.remaining reader.new) self.old self.new }
         ensures no_read { HasLf (unread self.old) → self.new.reads ≡ self.old.reads }
@@ -61,15 +80,7 @@ impl LineState {
         }
         self.let_go();
         match next_lf(&mut self.window, &mut self.reads, reader) {
-            Found::Lf(len) => {
-                self.taken = len + 1;
-                let line = len_without_cr(self.window.front(len));
-                if line > MAX_LINE {
-                    Step::Long
-                } else {
-                    Step::Line(line)
-                }
-            }
+            Found::Lf(len) => self.step_at(len),
             Found::LongLf(len) => {
                 self.taken = len + 1;
                 Step::Long
@@ -89,6 +100,27 @@ impl LineState {
         self.window.front(len)
     }
 
+    // Tells the line of so many bytes at the front of the window, behind which its LF stands.
+    #[inline]
+    fn step_at(&mut self, len: usize) -> Step
+        requires within { len < length self.old.window }
+        requires few { len < 65536 }
+        ensures step { IsStepAt result len self.new.window }
+        ensures taken { self.new.taken ≡ len + 1 }
+        ensures window { self.new.window ≡ self.old.window }
+        ensures reads { self.new.reads ≡ self.old.reads }
+        ensures end { self.new.end ≡ self.old.end }
+    {
+        self.taken = len + 1;
+        let line = len_without_cr(self.window.front(len));
+        if line > MAX_LINE {
+            Step::Long
+        } else {
+            Step::Line(line)
+        }
+    }
+
+    #[inline]
     fn let_go(&mut self)
         ensures taken { self.new.taken ≡ 0 }
         ensures window { self.new.window ≡ unread self.old }

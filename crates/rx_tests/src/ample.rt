@@ -7,6 +7,7 @@ use crate::hubs::{Ran, joined, run_drawn};
 use crate::signs::Named;
 use rx_heap::Heap;
 use rx_note::{Answer, Errors, Refusal, Strategy};
+use std::process::Abort;
 use std::test::Fail;
 
 const EVENTS: u32 = 200;
@@ -41,7 +42,7 @@ impl Ran {
     }
 
     // What is wrong with it; no text where nothing is.
-    fn fault(&self, heap: &Heap) -> Result<&'static str, Fail> {
+    fn fault(&self) -> Result<&'static str, Fail> {
         let has_each_form = joined(self.run.steps.as_slice()) > Some(0)
             && self.answers(Ok(Answer::Admitted))
             && self.answers(Ok(Answer::Asked))
@@ -52,7 +53,7 @@ impl Ran {
             Ok("answers")
         } else if !has_each_form {
             Ok("forms of events")
-        } else if self.differs(heap)?.is_some() {
+        } else if self.differs()?.is_some() {
             Ok("notes given")
         } else {
             Ok("")
@@ -73,17 +74,22 @@ fn fault_of(
         fails,
     };
     let ran = run_drawn(heap, named, plan)?;
-    ran.fault(heap)
+    ran.fault()
+}
+
+// Nothing is wrong with the runs of a kind.
+fn expect_no_fault(rt: &impl Abort, heap: &Heap, named: Named) -> Result<(), Fail> {
+    for (strategy, errors, fails) in &PLANS {
+        let fault = fault_of(heap, named, *strategy, *errors, *fails)?;
+        assert_eq!(rt; fault, "", "{named:?} {strategy:?} {errors:?}");
+    }
+    Ok(())
 }
 
 #[test]
 fn nothing_refused_with_memory(rt: HostRuntime) -> Result<(), Fail> {
-    let heap = unlimited(&rt);
     for named in &KINDS {
-        for (strategy, errors, fails) in &PLANS {
-            let fault = fault_of(&heap, *named, *strategy, *errors, *fails)?;
-            assert_eq!(rt; fault, "", "{named:?} {strategy:?} {errors:?}");
-        }
+        expect_no_fault(&rt, &unlimited(&rt), *named)?;
     }
     Ok(())
 }

@@ -1,24 +1,22 @@
-//! Boxes between threads: what no clause says, that calls succeed, and that two threads get on.
+//! Boxes between threads: what no clause says, and that calls succeed.
 
 ghost use Rattle.std.specs.Prelude.{◌≡◌, [], Ok, IfSome};
 ghost use Rattle.rx_mailbox.specs.declared.letter.Post.TheVariants.{Body, Bye};
-ghost use Rattle.rx_mailbox.specs.Letters.{share};
 ghost use Rattle.rx_mailbox.specs.Boxes.{with_post, AreOf};
-ghost use Rattle.rx_mailbox.specs.Settling.{GotAll};
-ghost use Rattle.rx_tests.specs.Bodies.{all_of, after_all};
 ghost use Rattle.rx_tests.specs.Wiring.{IsTwo};
 
+use crate::expecting::{expect_count, expect_text, expect_that, expect_words};
 use crate::heaps::unlimited;
 use crate::in_turn::{Refusable, Seen, refuse_in_turn};
 use rx_heap::{Heap, Memory};
 use rx_mailbox::{
-    EndedPort, Gone, Inbox, MAX_CAPACITY, MAX_PORTS, OpenError, Port, Post, SettleCause, Settled,
-    open, settle,
+    EndedPort, Gone, Inbox, MAX_CAPACITY, MAX_PORTS, OpenError, Port, Post, SettleCause, open,
+    settle,
 };
+use std::alloc::Global;
 use std::process::Abort;
 use std::sync::Wait;
 use std::test::Fail;
-use std::thread::{Threads, join};
 
 // A body that a box is tried with.
 trait Sample: Drop + PartialEq {
@@ -157,7 +155,7 @@ fn refuse<B: Drop>(
     match settle(inbox, ports) {
         Ok(_) => panic!(rt; "the box settled"),
         Err(back) => {
-            assert_eq!(rt; back.cause, cause);
+            expect_that(rt, back.cause == cause, "the cause");
             (back.inbox, back.ports)
         }
     }
@@ -190,7 +188,7 @@ pub(crate) fn close<B: Drop>(
     requires { AreOf inbox ports.items }
 {
     match settle(inbox, ports) {
-        Ok(settled) => assert_eq!(rt; settled.letters(), letters),
+        Ok(settled) => expect_count(rt, settled.letters(), letters, "letters"),
         Err(_) => panic!(rt; "the box did not settle"),
     }
 }
@@ -239,11 +237,14 @@ fn run_on_one_thread<B: Sample>(
     close(rt, inbox, ports, 5);
 }
 
+fn run_of_numbers(rt: &(impl Wait + Abort), alloc: &Heap) {
+    let (inbox, first, second) = two::<u32>(rt, copy(rt, alloc), 8);
+    run_on_one_thread(rt, alloc, inbox, first, second);
+}
+
 #[test]
 fn mailbox_on_one_thread(rt: HostRuntime) {
-    let heap = unlimited(&rt);
-    let (inbox, first, second) = two::<u32>(&rt, copy(&rt, &heap), 8);
-    run_on_one_thread(&rt, &heap, inbox, first, second);
+    run_of_numbers(&rt, &unlimited(&rt));
 }
 
 /// The same run, of bodies that own memory.
@@ -271,44 +272,63 @@ impl<R: Wait + Abort> Refusable for OneThread<'_, R> {
 #[test]
 fn mailbox_with_each_growth_refused(rt: HostRuntime) -> Result<(), Fail> {
     let refusals = refuse_in_turn(&OneThread { rt: &rt }, rt.alloc())?;
-    assert_eq!(rt; refusals.fault, "");
-    assert!(rt; refusals.unmade >= 3);
-    assert_eq!(rt; refusals.missed, 0);
+    expect_words(&rt, refusals.fault, "", "a box");
+    expect_that(&rt, refusals.unmade >= 3, "boxes that were not made");
+    expect_count(&rt, refusals.missed, 0, "missed");
     Ok(())
+}
+
+// What refuses a box of this size; none where nothing does.
+fn refusal_of(heap: Heap, capacity: usize, senders: u32) -> Option<OpenError> {
+    open::<u32>(heap, capacity, senders).err()
+}
+
+// A box of this size is refused for it, or made.
+fn expect_size(rt: &impl Abort, heap: &Heap, capacity: usize, senders: u32, is_made: bool) {
+    let refusal = refusal_of(copy(rt, heap), capacity, senders);
+    let wanted = if is_made {
+        None
+    } else {
+        Some(OpenError::BadSize)
+    };
+    assert!(rt;
+        refusal == wanted,
+        "a box of {capacity} letters with {senders} ports"
+    );
+}
+
+// The letters and the ports of a box, and whether there is such a box.
+const SIZES: [(usize, u32, bool); 6] = [
+    (0, 1, false),
+    (1, 0, false),
+    (1, MAX_PORTS + 1, false),
+    (MAX_CAPACITY + 1, 1, false),
+    (1, MAX_PORTS, true),
+    (MAX_CAPACITY, 1, true),
+];
+
+fn expect_sizes(rt: &impl Abort, heap: &Heap) {
+    for (capacity, senders, is_made) in &SIZES {
+        expect_size(rt, heap, *capacity, *senders, *is_made);
+    }
 }
 
 #[test]
 fn sizes_of_a_box(rt: HostRuntime) {
-    for (capacity, senders) in [(0, 1), (1, 0), (1, MAX_PORTS + 1), (MAX_CAPACITY + 1, 1)] {
-        match open::<u32>(unlimited(&rt), capacity, senders) {
-            Ok(_) => panic!(rt; "a box of {capacity} letters with {senders} ports"),
-            Err(error) => assert_eq!(rt; error, OpenError::BadSize),
-        }
-    }
-    assert!(rt; open::<u32>(unlimited(&rt), 1, MAX_PORTS).is_ok());
-    assert!(rt; open::<u32>(unlimited(&rt), MAX_CAPACITY, 1).is_ok());
+    expect_sizes(&rt, &unlimited(&rt));
+}
+
+fn expect_texts(rt: &impl Abort, alloc: Global) -> Result<(), Fail> {
+    let sizes = "a box has 1 to 65536 letters and 1 to 256 ports";
+    expect_text(rt, alloc, &OpenError::BadSize, sizes)?;
+    expect_text(rt, alloc, &OpenError::Memory, "out of memory")?;
+    expect_text(rt, alloc, &Gone, "no letter will come any more")?;
+    expect_text(rt, alloc, &Memory, "out of memory")
 }
 
 #[test]
 fn texts_of_a_refusal(rt: HostRuntime) -> Result<(), Fail> {
-    for (error, text) in [
-        (
-            OpenError::BadSize,
-            "a box has 1 to 65536 letters and 1 to 256 ports",
-        ),
-        (OpenError::Memory, "out of memory"),
-    ] {
-        assert_eq!(rt; format!(in rt.alloc(); "{error}")?.as_str(), text);
-    }
-    assert_eq!(rt;
-        format!(in rt.alloc(); "{Gone}")?.as_str(),
-        "no letter will come any more"
-    );
-    assert_eq!(rt;
-        format!(in rt.alloc(); "{Memory}")?.as_str(),
-        "out of memory"
-    );
-    Ok(())
+    expect_texts(&rt, rt.alloc())
 }
 
 // Each port sends its number and ends.
@@ -362,127 +382,36 @@ fn a_box_of_all_ports(rt: HostRuntime) {
     run_of_all_ports(&rt, &unlimited(&rt));
 }
 
+// Two ports send to a box that is gone.
+fn send_to_none(rt: &(impl Wait + Abort), alloc: &Heap) {
+    let (inbox, mut first, second) = two::<u32>(rt, copy(rt, alloc), 8);
+    drop(inbox);
+    expect_that(rt, first.send(rt, 7) == Err(7), "the body is back");
+    expect_that(rt, second.finish(rt).is_err(), "the port is back");
+}
+
 #[test]
 fn a_box_whose_inbox_is_gone(rt: HostRuntime) {
-    let (inbox, mut first, second) = two::<u32>(&rt, unlimited(&rt), 8);
-    drop(inbox);
-    assert_eq!(rt; first.send(&rt, 7), Err(7));
-    assert!(rt; second.finish(&rt).is_err());
+    send_to_none(&rt, &unlimited(&rt));
+}
+
+// One port sends and is gone, one ends.
+fn send_and_leave(rt: &(impl Wait + Abort), first: Port<u32>, second: Port<u32>) {
+    let mut first = first;
+    send(rt, &mut first, 7);
+    drop(first);
+    drop(finish(rt, second));
+}
+
+fn receive_from_none(rt: &(impl Wait + Abort), alloc: &Heap) {
+    let (mut inbox, first, second) = two::<u32>(rt, copy(rt, alloc), 8);
+    send_and_leave(rt, first, second);
+    receive(rt, &mut inbox, 0, Post::Body(7));
+    receive(rt, &mut inbox, 1, Post::Bye);
+    expect_that(rt, inbox.recv(rt) == Err(Gone), "no letter will come");
 }
 
 #[test]
 fn a_box_whose_ports_are_gone(rt: HostRuntime) {
-    let (mut inbox, mut first, second) = two::<u32>(&rt, unlimited(&rt), 8);
-    send(&rt, &mut first, 7);
-    drop(first);
-    drop(finish(&rt, second));
-    receive(&rt, &mut inbox, 0, Post::Body(7));
-    receive(&rt, &mut inbox, 1, Post::Bye);
-    assert_eq!(rt; inbox.recv(&rt), Err(Gone));
-}
-
-// How many bodies each of two threads sends.
-const BODIES: u32 = 1_000;
-
-// Sends the bodies 0, 1, 2 and so on, and then the Bye.
-fn send_all(rt: &(impl Wait + Abort), mut port: Port<u32>) -> EndedPort<u32>
-    requires { port.own ≡ [] }
-    ensures { result ≡ after_all port BODIES }
-{
-    for body in 0..BODIES {
-        send(rt, &mut port, body);
-    }
-    finish(rt, port)
-}
-
-fn send_both<R: Threads + Wait + Abort + Sync>(
-    rt: &R,
-    first: Port<u32>,
-    second: Port<u32>,
-) -> (EndedPort<u32>, EndedPort<u32>)
-    requires first { first.own ≡ [] }
-    requires second { second.own ≡ [] }
-    ensures first { result.0 ≡ after_all first BODIES }
-    ensures second { result.1 ≡ after_all second BODIES }
-{
-    join(
-        rt,
-        || -> EndedPort<u32>
-            requires { first.own ≡ [] }
-            ensures { result ≡ after_all first BODIES }
-        { send_all(rt, first) },
-        || -> EndedPort<u32>
-            requires { second.own ≡ [] }
-            ensures { result ≡ after_all second BODIES }
-        { send_all(rt, second) },
-    )
-}
-
-// Receives until each Bye came, and looks that the bodies of each port come in their order.
-fn receive_all(rt: &(impl Wait + Abort), mut inbox: Inbox<u32>) -> Inbox<u32>
-    requires { inbox.ports ≡ 2 }
-    ensures { result.box ≡ inbox.box }
-{
-    let mut next = [0u32; 2];
-    for _ in rt.forever() {
-        if inbox.has_each_bye() {
-            break;
-        }
-        let letter = inbox.recv(rt).expect(rt, "a letter");
-        let expected = &mut next[letter.from as usize];
-        match letter.post {
-            Post::Body(body) => {
-                assert_eq!(rt; body, *expected);
-                assert!(rt; body < BODIES);
-                *expected = body + 1;
-            }
-            Post::Bye => assert_eq!(rt; *expected, BODIES),
-        }
-    }
-    inbox
-}
-
-// Two threads send, and this one receives. Of each port all that it put was received, in its order.
-fn exchange<R: Threads + Wait + Abort + Sync>(rt: &R, alloc: &Heap) -> Settled<u32>
-    ensures first { share 0 result.received ≡ all_of 0 BODIES }
-    ensures second { share 1 result.received ≡ all_of 1 BODIES }
-{
-    let (inbox, first, second) = two::<u32>(rt, copy(rt, alloc), 8);
-    let ((first, second), inbox) = join(
-        rt,
-        || -> (EndedPort<u32>, EndedPort<u32>)
-            requires { (first.own ≡ []) × (second.own ≡ []) }
-            ensures { (result.0 ≡ after_all first BODIES) × (result.1 ≡ after_all second BODIES) }
-        { send_both(rt, first, second) },
-        || -> Inbox<u32>
-            requires { inbox.ports ≡ 2 }
-            ensures { result.box ≡ inbox.box }
-        { receive_all(rt, inbox) },
-    );
-    settle_two(rt, copy(rt, alloc), inbox, first, second)
-}
-
-fn settle_two(
-    rt: &impl Abort,
-    alloc: Heap,
-    inbox: Inbox<u32>,
-    first: EndedPort<u32>,
-    second: EndedPort<u32>,
-) -> Settled<u32>
-    requires first { first.box ≡ inbox.box }
-    requires second { second.box ≡ inbox.box }
-    ensures first { GotAll result first }
-    ensures second { GotAll result second }
-{
-    let ports = vec![in alloc; first, second].expect(rt, "memory");
-    match settle(inbox, ports) {
-        Ok(settled) => settled,
-        Err(_) => panic!(rt; "the box did not settle"),
-    }
-}
-
-#[test]
-fn two_ports_two_threads(rt: HostRuntime) {
-    let settled = exchange(&rt, &unlimited(&rt));
-    assert_eq!(rt; settled.letters(), 2_002);
+    receive_from_none(&rt, &unlimited(&rt));
 }

@@ -1,13 +1,16 @@
 //! A hub over a budget of bytes in use, a list of what is given over one, and what a text takes of one.
 
+use crate::boxes::copy;
+use crate::expecting::{expect_answer, expect_count, expect_that};
 use crate::heaps::unlimited;
-use crate::signs::{item, policy_of};
-use rx_heap::Heap;
+use crate::signs::{item, policy_of, text_of};
+use rx_heap::{Heap, Memory};
 use rx_hub::Hub;
 use rx_note::{
     Answer, Event, Given, Kind, Limits, MAX_TEXT, Note, Refusal, Strategy, Text, TextError,
 };
 use std::alloc::Global;
+use std::process::Abort;
 use std::test::Fail;
 
 const BUDGET: u64 = 4_096;
@@ -24,71 +27,83 @@ struct Waiting {
     outs: Vec<Given, Heap>,
 }
 
-fn hub_of(tight: &Heap) -> Result<Hub, Fail> {
-    let limits = Limits {
-        observers: 1,
-        joins: 1,
-    };
-    Ok(Hub::new(tight.clone()?, Kind::Publish, limits)?)
-}
-
 impl Waiting {
-    fn new(free: Heap, tight: &Heap) -> Result<Waiting, Fail> {
-        let hub = hub_of(tight)?;
-        let outs = Vec::new(free.clone()?);
-        Ok(Waiting { free, hub, outs })
+    // The hub grows by `tight`, the list of what it gives by `list`.
+    fn new(rt: &impl Abort, free: Heap, tight: Heap, list: Heap) -> Waiting {
+        let limits = Limits {
+            observers: 1,
+            joins: 1,
+        };
+        let outs = Vec::new(list);
+        let hub = Hub::new(tight, Kind::Publish, limits).expect(rt, "a hub");
+        Waiting { free, hub, outs }
     }
 
     fn step(&mut self, event: Event) -> Result<Answer, Refusal> {
         self.hub.step(0, event, &mut self.outs)
     }
 
-    fn join(&mut self) -> Result<Result<Answer, Refusal>, Fail> {
-        let policy = policy_of(Strategy::Buffer)?;
-        Ok(self.step(Event::Join {
+    fn join(&mut self, rt: &impl Abort) -> Result<Answer, Refusal> {
+        let policy = policy_of(Strategy::Buffer).expect(rt, "a policy");
+        self.step(Event::Join {
             policy,
             first: 0,
             at: 0,
-        }))
+        })
     }
 
     fn request(&mut self, n: u32) -> Result<Answer, Refusal> {
         self.step(Event::Request { who: 0, n })
     }
 
-    fn emit(&mut self) -> Result<Result<Answer, Refusal>, Fail> {
-        let note = Note::Next(item(&self.free, b"a")?);
-        Ok(self.step(Event::Emit { note, at: 0 }))
+    fn emit(&mut self, rt: &impl Abort) -> Result<Answer, Refusal> {
+        let note = Note::Next(item(&self.free, b"a").expect(rt, "an item"));
+        self.step(Event::Emit { note, at: 0 })
     }
 
     // Emits until want of memory: how many items were admitted; none where no emission found that.
-    fn fill(&mut self) -> Result<Option<u32>, Fail> {
+    fn fill(&mut self, rt: &impl Abort) -> Option<u32> {
         for admitted in 0..MAX_ITEMS {
-            if self.emit()? == Err(Refusal::Memory) {
-                return Ok(Some(admitted));
+            if self.emit(rt) == Err(Refusal::Memory) {
+                return Some(admitted);
             }
         }
-        Ok(None)
+        None
     }
+}
+
+// Fills the budget, and how many items were admitted.
+fn fill_first(rt: &impl Abort, waiting: &mut Waiting, tight: &Heap) -> u32 {
+    expect_answer(rt, waiting.join(rt), Ok(Answer::Joined(0)));
+    let first = waiting.fill(rt).unwrap_or(0);
+    expect_that(rt, first > 10, "more than ten items");
+    expect_answer(rt, waiting.emit(rt), Err(Refusal::Memory));
+    expect_count(rt, waiting.hub.misses(), 2, "misses");
+    expect_that(rt, tight.used() <= BUDGET, "within the budget");
+    first
+}
+
+// Requests some of what waits, fills the budget again, and requests all.
+fn fill_again(rt: &impl Abort, waiting: &mut Waiting, first: u32) {
+    expect_answer(rt, waiting.request(3), Ok(Answer::Asked));
+    expect_that(rt, waiting.fill(rt) == Some(3), "three items more");
+    expect_answer(rt, waiting.request(MAX_ITEMS), Ok(Answer::Asked));
+    let given = waiting.outs.len() as u64;
+    expect_count(rt, given, u64::from(first).saturating_add(3), "given");
+    expect_answer(rt, waiting.emit(rt), Ok(Answer::Admitted));
+}
+
+fn fill_twice(rt: &impl Abort, free: &Heap, tight: &Heap) {
+    let mut waiting = Waiting::new(rt, copy(rt, free), copy(rt, tight), copy(rt, free));
+    let first = fill_first(rt, &mut waiting, tight);
+    fill_again(rt, &mut waiting, first);
 }
 
 #[test]
 fn what_waits_fills_a_budget(rt: HostRuntime) -> Result<(), Fail> {
     let tight = Heap::with_budget(rt.alloc(), BUDGET)?;
-    let mut waiting = Waiting::new(unlimited(&rt), &tight)?;
-    assert_eq!(rt; waiting.join()?, Ok(Answer::Joined(0)));
-    let first = waiting.fill()?.unwrap_or(0);
-    assert!(rt; first > 10);
-    assert_eq!(rt; waiting.emit()?, Err(Refusal::Memory));
-    assert_eq!(rt; waiting.hub.misses(), 2);
-    assert!(rt; tight.used() <= BUDGET);
-    assert_eq!(rt; waiting.request(3), Ok(Answer::Asked));
-    assert_eq!(rt; waiting.fill()?, Some(3));
-    assert_eq!(rt; waiting.request(MAX_ITEMS), Ok(Answer::Asked));
-    assert_eq!(rt; waiting.outs.len(), first as usize + 3);
-    assert_eq!(rt; waiting.emit()?, Ok(Answer::Admitted));
-    drop(waiting);
-    assert_eq!(rt; tight.used(), 0);
+    fill_twice(&rt, &unlimited(&rt), &tight);
+    expect_count(&rt, tight.used(), 0, "bytes that were not given back");
     Ok(())
 }
 
@@ -99,19 +114,21 @@ fn bytes_of(alloc: Global, notes: usize) -> Result<u64, Fail> {
     Ok(heap.used())
 }
 
+fn request_all(rt: &impl Abort, free: &Heap, tight: &Heap) {
+    let mut waiting = Waiting::new(rt, copy(rt, free), copy(rt, free), copy(rt, tight));
+    expect_answer(rt, waiting.join(rt), Ok(Answer::Joined(0)));
+    expect_that(rt, waiting.fill(rt) == None, "no emission is refused");
+    expect_answer(rt, waiting.request(MAX_ITEMS), Ok(Answer::Asked));
+    expect_count(rt, waiting.outs.len() as u64, u64::from(MAX_ITEMS), "given");
+}
+
 // The list has a few places at the first emission, and gives them back once it has room for the request.
 #[test]
 fn a_request_holds_each_note_once(rt: HostRuntime) -> Result<(), Fail> {
     let bytes = bytes_of(rt.alloc(), MAX_ITEMS as usize + 8)?;
     let tight = Heap::with_budget(rt.alloc(), bytes)?;
-    let mut waiting = Waiting::new(unlimited(&rt), &unlimited(&rt))?;
-    waiting.outs = Vec::new(tight.clone()?);
-    assert_eq!(rt; waiting.join()?, Ok(Answer::Joined(0)));
-    assert_eq!(rt; waiting.fill()?, None);
-    assert_eq!(rt; waiting.request(MAX_ITEMS), Ok(Answer::Asked));
-    assert_eq!(rt; waiting.outs.len(), MAX_ITEMS as usize);
-    drop(waiting);
-    assert_eq!(rt; tight.used(), 0);
+    request_all(&rt, &unlimited(&rt), &tight);
+    expect_count(&rt, tight.used(), 0, "bytes that were not given back");
     Ok(())
 }
 
@@ -128,10 +145,56 @@ fn growths_of(alloc: Global, len: usize) -> Result<(u64, bool), Fail> {
 
 #[test]
 fn a_text_takes_few_growths(rt: HostRuntime) -> Result<(), Fail> {
-    for (len, growths) in [(0, 0), (22, 0), (23, 1), (63, 1), (64, 2), (1024, 2)] {
+    for (len, growths) in [(0, 0), (20, 0), (21, 1), (56, 1), (57, 2), (1024, 2)] {
         let (asked, refused) = growths_of(rt.alloc(), len)?;
-        assert_eq!(rt; asked, growths, "{len}");
-        assert_eq!(rt; refused, growths > 0, "{len}");
+        expect_count(&rt, asked, growths, "growths of a text");
+        expect_that(&rt, refused == (growths > 0), "a text without memory");
+    }
+    Ok(())
+}
+
+// A text of so many letters.
+fn letters_of(heap: &Heap, len: usize) -> Result<Text, Memory> {
+    let letters = [b'a'; MAX_TEXT];
+    text_of(heap, &letters[..len.min(MAX_TEXT)])
+}
+
+// Whether a text of so many bytes is refilled by so many others while a copy shares it or not, and how many growths both
+// took together.
+fn refilled(alloc: Global, len: usize, other: usize, shared: bool) -> Result<(bool, u64), Memory> {
+    let heap = Heap::with_budget(alloc, BUDGET)?;
+    let mut text = letters_of(&heap, len)?;
+    let did = refill(
+        &mut text,
+        letters_of(&Heap::unlimited(alloc), other)?,
+        shared,
+    )?;
+    Ok((did, heap.asked()))
+}
+
+fn refill(text: &mut Text, other: Text, shared: bool) -> Result<bool, Memory> {
+    let copy = if shared { Some(text.copy()?) } else { None };
+    let did = text.refill(other.as_bytes());
+    drop(copy);
+    Ok(did)
+}
+
+#[test]
+fn a_text_in_a_block_of_its_own_is_refilled(rt: HostRuntime) -> Result<(), Fail> {
+    let rows = [
+        (21, 56, false, true),
+        (56, 21, false, true),
+        (50, 50, true, false),
+        (50, 20, false, false),
+        (50, 57, false, false),
+        (57, 50, false, false),
+        (20, 50, false, false),
+    ];
+    for (len, other, shared, did) in rows {
+        let growths = if len > 56 { 2 } else { (len > 20) as u64 };
+        let (is_refilled, asked) = refilled(rt.alloc(), len, other, shared)?;
+        expect_that(&rt, is_refilled == did, "a text that is refilled");
+        expect_count(&rt, asked, growths, "growths of two texts");
     }
     Ok(())
 }

@@ -1,10 +1,12 @@
 //! Configurations, told as text: what each TOML text says, or the cause for which it is refused.
 
-use crate::heaps::unlimited;
+use crate::expecting::{expect_that, expect_told};
 use rx_heap::Heap;
 use rx_note::{Kind, Text};
 use rx_server::{Config, ConfigError, SubjectConfig, read_config};
+use std::alloc::Global;
 use std::io::{self, Write};
+use std::process::Abort;
 use std::test::Fail;
 
 const FIRST: &str = "[[subject]]\nname = \"s\"\nkind = \"publish\"\n";
@@ -59,9 +61,9 @@ fn tell_seed<W: Write>(out: &mut W, seed: &Option<Text>) -> io::Result<()> {
 }
 
 // What a text says, or its cause.
-fn reading_of(rt: &HostRuntime, heap: Heap, bytes: &[u8]) -> Result<Vec<u8>, Fail> {
-    let mut out = Vec::new(rt.alloc());
-    match read_config(heap, rt.alloc(), bytes) {
+fn reading_of(alloc: Global, bytes: &[u8]) -> Result<Vec<u8>, Fail> {
+    let mut out = Vec::new(alloc);
+    match read_config(Heap::unlimited(alloc), alloc, bytes) {
         Ok(config) => told(&mut out, &config)?,
         Err(cause) => write!(out, "{cause}")?,
     }
@@ -69,33 +71,53 @@ fn reading_of(rt: &HostRuntime, heap: Heap, bytes: &[u8]) -> Result<Vec<u8>, Fai
 }
 
 // What a text says behind another, or its cause.
-fn reading_behind(rt: &HostRuntime, front: &str, text: &str) -> Result<Vec<u8>, Fail> {
-    let mut whole = Vec::new(rt.alloc());
+fn reading_behind(alloc: Global, front: &str, text: &str) -> Result<Vec<u8>, Fail> {
+    let mut whole = Vec::new(alloc);
     whole.extend_from_slice(front.as_bytes())?;
     whole.extend_from_slice(text.as_bytes())?;
-    reading_of(rt, unlimited(rt), whole.as_slice())
+    reading_of(alloc, whole.as_slice())
 }
+
+// What each text says behind a front, or its cause.
+fn expect_readings(
+    rt: &impl Abort,
+    alloc: Global,
+    front: &str,
+    rows: &[(&str, &str)],
+) -> Result<(), Fail> {
+    for (text, wanted) in rows {
+        let reading = reading_behind(alloc, front, text)?;
+        expect_told(rt, reading.as_slice(), wanted, text);
+    }
+    Ok(())
+}
+
+// What stands behind a first subject, and what is told.
+const CONFIGURATIONS: [(&str, &str); 4] = [
+    ("", "1 4 16 4294967295; s 64 4294967295 publish"),
+    (
+        "observers = 1\njoins = 2\n[pool]\ndrainers = 8\nworkers = 32\nwindow = 1\nconnections = 1\n",
+        "8 32 1 1; s 1 2 publish",
+    ),
+    (
+        "[[subject]]\nname = \"b-1\"\nkind = \"behavior\"\nseed = \"\"\n[[subject]]\nname = \"c\"\nkind = \"async\"\n",
+        "1 4 16 4294967295; s 64 4294967295 publish; b-1 64 4294967295 behavior ; c 64 4294967295 async",
+    ),
+    (
+        "[[subject]]\nname = \"r\"\nkind = \"replay\"\ncount = 4096\nage = 9223372036854775807\n",
+        "1 4 16 4294967295; s 64 4294967295 publish; r 64 4294967295 replay Some(4096) Some(9223372036854775807)",
+    ),
+];
 
 #[test]
 fn configurations(rt: HostRuntime) -> Result<(), Fail> {
-    for (text, wanted) in [
-        ("", "1 4 16 4294967295; s 64 4294967295 publish"),
-        (
-            "observers = 1\njoins = 2\n[pool]\ndrainers = 8\nworkers = 32\nwindow = 1\nconnections = 1\n",
-            "8 32 1 1; s 1 2 publish",
-        ),
-        (
-            "[[subject]]\nname = \"b-1\"\nkind = \"behavior\"\nseed = \"\"\n[[subject]]\nname = \"c\"\nkind = \"async\"\n",
-            "1 4 16 4294967295; s 64 4294967295 publish; b-1 64 4294967295 behavior ; c 64 4294967295 async",
-        ),
-        (
-            "[[subject]]\nname = \"r\"\nkind = \"replay\"\ncount = 4096\nage = 9223372036854775807\n",
-            "1 4 16 4294967295; s 64 4294967295 publish; r 64 4294967295 replay Some(4096) Some(9223372036854775807)",
-        ),
-    ] {
-        let reading = reading_behind(&rt, FIRST, text)?;
-        assert_eq!(rt; reading.as_slice(), wanted.as_bytes(), "{text}");
-    }
+    expect_readings(&rt, rt.alloc(), FIRST, CONFIGURATIONS.as_slice())
+}
+
+// What these bytes say, or their cause.
+fn expect_reading(rt: &impl Abort, alloc: Global, bytes: &[u8], wanted: &str) -> Result<(), Fail> {
+    let reading = reading_of(alloc, bytes)?;
+    expect_told(rt, reading.as_slice(), wanted, "a text");
     Ok(())
 }
 
@@ -104,12 +126,9 @@ fn example_of_two_subjects(rt: HostRuntime) -> Result<(), Fail> {
     let text =
         b"[[subject]]\nname = \"s\"\nkind = \"replay\"\ncount = 16\n\n[[subject]]\nname = \"b\"\nkind = \"behavior\"\nseed = \"none yet\"\n".as_slice();
     let wanted =
-        b"1 4 16 4294967295; s 64 4294967295 replay Some(16) None; b 64 4294967295 behavior none yet".as_slice();
-    let reading = reading_of(&rt, unlimited(&rt), text)?;
-    assert_eq!(rt; reading.as_slice(), wanted);
-    let no_text = reading_of(&rt, unlimited(&rt), b"\xff".as_slice())?;
-    assert_eq!(rt; no_text.as_slice(), b"config is not TOML".as_slice());
-    Ok(())
+        "1 4 16 4294967295; s 64 4294967295 replay Some(16) None; b 64 4294967295 behavior none yet";
+    expect_reading(&rt, rt.alloc(), text, wanted)?;
+    expect_reading(&rt, rt.alloc(), b"\xff".as_slice(), "config is not TOML")
 }
 
 // Each key at its least and its greatest value, one below, one above, and of another type: what stands before it, its
@@ -252,87 +271,90 @@ const EDGES: [(&str, &str, &str); 52] = [
 #[test]
 fn each_key_at_its_edges(rt: HostRuntime) -> Result<(), Fail> {
     for (front, line, wanted) in &EDGES {
-        let reading = reading_behind(&rt, front, line)?;
-        assert_eq!(rt; reading.as_slice(), wanted.as_bytes(), "{line}");
+        expect_readings(&rt, rt.alloc(), front, &[(*line, *wanted)])?;
     }
     Ok(())
 }
 
-// What is told of a seed of so many bytes.
-fn reading_of_seed(rt: &HostRuntime, len: usize) -> Result<Vec<u8>, Fail> {
-    let mut text = Vec::new(rt.alloc());
+// A subject with a seed of so many bytes.
+fn text_of_seed(alloc: Global, len: usize) -> Result<Vec<u8>, Fail> {
+    let mut text = Vec::new(alloc);
     text.extend_from_slice(NO_KIND.as_bytes())?;
     text.extend_from_slice(b"kind = \"behavior\"\nseed = \"")?;
     for _ in 0..len {
         text.push(b'z')?;
     }
     text.extend_from_slice(b"\"\n")?;
-    reading_of(rt, unlimited(rt), text.as_slice())
+    Ok(text)
+}
+
+// Whether what is told ends with a seed's letters.
+fn ends_with_seed(alloc: Global, text: &[u8]) -> Result<bool, Fail> {
+    let reading = reading_of(alloc, text)?;
+    Ok(reading.ends_with(b"zz"))
 }
 
 #[test]
 fn seeds_at_their_edge(rt: HostRuntime) -> Result<(), Fail> {
-    let greatest = reading_of_seed(&rt, 1024)?;
-    assert!(rt; greatest.ends_with(b"zz"));
-    let above = reading_of_seed(&rt, 1025)?;
-    assert_eq!(rt; above.as_slice(), b"subject 0 is refused".as_slice());
-    Ok(())
+    let text = text_of_seed(rt.alloc(), 1024)?;
+    let greatest = ends_with_seed(rt.alloc(), text.as_slice())?;
+    expect_that(&rt, greatest, "the greatest seed");
+    let above = text_of_seed(rt.alloc(), 1025)?;
+    expect_reading(&rt, rt.alloc(), above.as_slice(), "subject 0 is refused")
 }
+
+// Texts that are refused, and for which cause.
+const REFUSALS: [(&str, &str); 13] = [
+    ("", "no subject"),
+    ("subject", "config is not TOML"),
+    ("name = 1\npool = 1\n", "config has an unknown key"),
+    ("pool = 1\nsubject = 1\n", "pool is refused"),
+    ("[pool]\ndrainers = 9\n", "pool is refused"),
+    ("[pool]\nwindow = -1\n", "pool is refused"),
+    ("[pool]\nthreads = 1\n", "pool is refused"),
+    ("subject = \"s\"\n", "no subject"),
+    ("subject = []\n", "no subject"),
+    ("subject = [1]\n", "subject 0 is refused"),
+    (
+        "[[subject]]\nname = \"s\"\nkind = \"replay\"\ncount = 0\n",
+        "subject 0 is refused",
+    ),
+    (
+        "[[subject]]\nname = \"S\"\nkind = \"publish\"\n",
+        "subject 0 is refused",
+    ),
+    (
+        "[[subject]]\nname = \"s\"\nkind = \"hot\"\n",
+        "subject 0 is refused",
+    ),
+];
 
 #[test]
 fn configuration_refusals(rt: HostRuntime) -> Result<(), Fail> {
-    for (text, wanted) in [
-        ("", "no subject"),
-        ("subject", "config is not TOML"),
-        ("name = 1\npool = 1\n", "config has an unknown key"),
-        ("pool = 1\nsubject = 1\n", "pool is refused"),
-        ("[pool]\ndrainers = 9\n", "pool is refused"),
-        ("[pool]\nwindow = -1\n", "pool is refused"),
-        ("[pool]\nthreads = 1\n", "pool is refused"),
-        ("subject = \"s\"\n", "no subject"),
-        ("subject = []\n", "no subject"),
-        ("subject = [1]\n", "subject 0 is refused"),
-        (
-            "[[subject]]\nname = \"s\"\nkind = \"replay\"\ncount = 0\n",
-            "subject 0 is refused",
-        ),
-        (
-            "[[subject]]\nname = \"S\"\nkind = \"publish\"\n",
-            "subject 0 is refused",
-        ),
-        (
-            "[[subject]]\nname = \"s\"\nkind = \"hot\"\n",
-            "subject 0 is refused",
-        ),
-    ] {
-        let reading = reading_behind(&rt, "", text)?;
-        assert_eq!(rt; reading.as_slice(), wanted.as_bytes(), "{text}");
-    }
-    Ok(())
+    expect_readings(&rt, rt.alloc(), "", REFUSALS.as_slice())
 }
+
+// What is refused behind a first subject, and for which cause.
+const LATER: [(&str, &str); 5] = [
+    (FIRST, "subject 1 has a name that stands before"),
+    ("[[subject]]\nkind = \"publish\"\n", "subject 1 is refused"),
+    (
+        "[[subject]]\nname = \"s\"\nkind = \"async\"\nage = 1\n",
+        "subject 1 is refused",
+    ),
+    (
+        "[[subject]]\nname = \"b\"\nkind = \"behavior\"\nseed = \"\\n\"\n",
+        "subject 1 is refused",
+    ),
+    (
+        "[[subject]]\nname = \"b\"\nkind = \"publish\"\nobservers = 65\n",
+        "subject 1 is refused",
+    ),
+];
 
 #[test]
 fn refusals_of_a_later_subject(rt: HostRuntime) -> Result<(), Fail> {
-    for (text, wanted) in [
-        (FIRST, "subject 1 has a name that stands before"),
-        ("[[subject]]\nkind = \"publish\"\n", "subject 1 is refused"),
-        (
-            "[[subject]]\nname = \"s\"\nkind = \"async\"\nage = 1\n",
-            "subject 1 is refused",
-        ),
-        (
-            "[[subject]]\nname = \"b\"\nkind = \"behavior\"\nseed = \"\\n\"\n",
-            "subject 1 is refused",
-        ),
-        (
-            "[[subject]]\nname = \"b\"\nkind = \"publish\"\nobservers = 65\n",
-            "subject 1 is refused",
-        ),
-    ] {
-        let reading = reading_behind(&rt, FIRST, text)?;
-        assert_eq!(rt; reading.as_slice(), wanted.as_bytes(), "{text}");
-    }
-    Ok(())
+    expect_readings(&rt, rt.alloc(), FIRST, LATER.as_slice())
 }
 
 #[test]
@@ -341,23 +363,44 @@ fn more_than_sixteen_subjects(rt: HostRuntime) -> Result<(), Fail> {
     for _ in 0..17 {
         text.extend_from_slice(b"[[subject]]\n")?;
     }
-    let reading = reading_of(&rt, unlimited(&rt), text.as_slice())?;
-    assert_eq!(rt; reading.as_slice(), b"more than 16 subjects".as_slice());
-    Ok(())
+    expect_reading(&rt, rt.alloc(), text.as_slice(), "more than 16 subjects")
+}
+
+const SEEDED: &[u8] =
+    b"[[subject]]\nname = \"s\"\nkind = \"behavior\"\nseed = \"a seed that takes memory\"\n";
+
+// For what a text is refused; none where it is not.
+fn refusal_by(alloc: Global, heap: Heap) -> Option<ConfigError> {
+    read_config(heap, alloc, SEEDED).err()
+}
+
+// Reads with a growth refused: for want of memory where it is met. Whether it was.
+fn meets_refusal(rt: &impl Abort, alloc: Global, growth: u64) -> Result<bool, Fail> {
+    let heap = Heap::refusing(alloc, growth)?;
+    let refused = refusal_by(alloc, heap.clone()?);
+    let is_met = heap.asked() > growth;
+    let wanted = if is_met {
+        Some(ConfigError::Memory)
+    } else {
+        None
+    };
+    assert!(rt; refused == wanted, "growth {growth}");
+    Ok(is_met)
+}
+
+// How many growths were refused, each in a reading of its own, until one met no refusal.
+fn refused_in_turn(rt: &impl Abort, alloc: Global) -> Result<Option<u64>, Fail> {
+    for growth in 0..16 {
+        if !meets_refusal(rt, alloc, growth)? {
+            return Ok(Some(growth));
+        }
+    }
+    Ok(None)
 }
 
 #[test]
 fn each_growth_of_a_configuration_refused(rt: HostRuntime) -> Result<(), Fail> {
-    let text =
-        b"[[subject]]\nname = \"s\"\nkind = \"behavior\"\nseed = \"a seed that takes memory\"\n".as_slice();
-    for growth in 0..16 {
-        let heap = Heap::refusing(rt.alloc(), growth)?;
-        let refused = read_config(heap.clone()?, rt.alloc(), text).err();
-        if heap.asked() <= growth {
-            assert_eq!(rt; refused, None);
-            return Ok(());
-        }
-        assert_eq!(rt; refused, Some(ConfigError::Memory), "growth {growth}");
-    }
-    Err("still refused".into())
+    let refused = refused_in_turn(&rt, rt.alloc())?;
+    expect_that(&rt, refused.is_some(), "still refused");
+    Ok(())
 }

@@ -9,6 +9,7 @@ ghost use Rattle.rx_pump.specs.Serving.{HasServed};
 ghost use Rattle.rx_tests.specs.Wiring.{IsOne, boxes_of};
 
 use crate::boxes::{close, copy, two};
+use crate::expecting::{expect_answer, expect_count, expect_that};
 use crate::heaps::unlimited;
 use crate::pumps::{one_if, pump_if, serve};
 use rx_heap::Heap;
@@ -74,7 +75,7 @@ fn admit(rt: &(impl Wait + Abort), alloc: &Heap, desk: &mut CallDesk<u8>)
     let note = Note::Next(Item { from: 0, text });
     let event = Event::Emit { note, at: 0 };
     match desk.call(rt, 0, event, None) {
-        Ok(reply) => assert_eq!(rt; reply.result, Ok(Answer::Admitted)),
+        Ok(reply) => expect_answer(rt, reply.result, Ok(Answer::Admitted)),
         Err(_) => panic!(rt; "no reply"),
     }
 }
@@ -144,7 +145,7 @@ fn close_replies(
 {
     let mut inbox = inbox;
     let letter = inbox.recv(rt).expect(rt, "a letter");
-    assert!(rt; matches!(letter.post, Post::Bye));
+    expect_that(rt, matches!(letter.post, Post::Bye), "the pump's Bye");
     let ports = vec![in copy(rt, alloc); port].expect(rt, "memory");
     close(rt, inbox, ports, ITEMS + 1);
 }
@@ -239,6 +240,6 @@ fn exchange<R: Threads + Wait + Abort + Sync>(rt: &R, alloc: &Heap) -> (u64, u64
 #[test]
 fn two_desks_all_admitted(rt: HostRuntime) {
     let (calls, refused) = exchange(&rt, &unlimited(&rt));
-    assert_eq!(rt; calls, 2 * ITEMS);
-    assert_eq!(rt; refused, 0);
+    expect_count(&rt, calls, 2 * ITEMS, "calls");
+    expect_count(&rt, refused, 0, "refused");
 }

@@ -7,9 +7,11 @@
 ghost use Rattle.std.specs.Prelude.{◌≡◌, []};
 
 use crate::boxes::{copy, finish, first_of_two, send, two};
+use crate::expecting::{expect_count, expect_that, expect_told, expect_words};
 use crate::heaps::unlimited;
-use crate::in_turn::{Refusable, Seen, refuse_in_turn};
-use crate::signs::{digit_of, note_of, put_notes};
+use crate::in_turn::{Refusable, Seen, Tale, refuse_in_turn};
+use crate::signs::note_of;
+use crate::told::Told;
 use rx_drain::{
     DrainEnd, Drainer, LineSink, MemorySink, PutAway, RunningDrainer, Sink, SinkFault,
     start_drainer,
@@ -31,13 +33,13 @@ use std::time::{Clock, Duration};
 // Keeps what is written, and counts the calls.
 #[derive(Drop)]
 struct Page {
-    held: Vec<u8, Heap>,
+    held: Told,
     writes: usize,
 }
 
 impl Write for Page {
     fn write(&mut self, buf: &[u8]) -> io::Result<usize> {
-        self.held.extend_from_slice(buf)?;
+        self.held.put_all(buf);
         self.writes = self.writes.saturating_add(1);
         Ok(buf.len())
     }
@@ -47,43 +49,47 @@ impl Write for Page {
     }
 }
 
+// The note of a sign.
+fn note(rt: &impl Abort, heap: &Heap, sign: u8) -> Note {
+    note_of(heap, sign).expect(rt, "a note")
+}
+
 // A sink over a page that was started for observer 3 and took the notes of these signs.
-fn lined(heap: &Heap, signs: &[u8]) -> Result<LineSink<Page>, Fail> {
+fn lined(rt: &impl Abort, heap: &Heap, signs: &[u8]) -> LineSink<Page> {
     let mut sink = LineSink::new(Page {
-        held: Vec::new(heap.clone()?),
+        held: Told::new(),
         writes: 0,
     });
     let _ = sink.start(3);
     for sign in signs {
-        let _ = sink.take(note_of(heap, *sign)?);
+        let _ = sink.take(note(rt, heap, *sign));
     }
-    Ok(sink)
+    sink
 }
 
 // What a line sink wrote of the notes of these signs; behind `|` in how many calls, how many notes it took, and `!` where it
 // failed, else `-`.
-fn told_of_lines(heap: &Heap, signs: &[u8]) -> Result<Vec<u8, Heap>, Fail> {
-    let rest = lined(heap, signs)?.finish();
-    let Page { mut held, writes } = lined(heap, signs)?.into_writer();
-    held.push(b'|')?;
-    held.push(digit_of(writes))?;
-    held.push(digit_of(rest.notes as usize))?;
-    held.push(if rest.failed { b'!' } else { b'-' })?;
-    Ok(held)
+fn told_of_lines(rt: &impl Abort, heap: &Heap, signs: &[u8]) -> Told {
+    let rest = lined(rt, heap, signs).finish();
+    let Page { mut held, writes } = lined(rt, heap, signs).into_writer();
+    held.put(b'|');
+    held.put_digit(writes);
+    held.put_digit(rest.notes as usize);
+    held.put(if rest.failed { b'!' } else { b'-' });
+    held
 }
 
 #[test]
-fn line_sink(rt: HostRuntime) -> Result<(), Fail> {
+fn line_sink(rt: HostRuntime) {
     let heap = unlimited(&rt);
     for (signs, wanted) in [
         ("a.", "JOINED 3\nNEXT a\nDONE\n|32-"),
         ("ab!", "JOINED 3\nNEXT a\nNEXT b\nFAILED x\n|43-"),
         ("", "JOINED 3\n|10-"),
     ] {
-        let told = told_of_lines(&heap, signs.as_bytes())?;
-        assert_eq!(rt; told.as_slice(), wanted.as_bytes());
+        let told = told_of_lines(&rt, &heap, signs.as_bytes());
+        expect_told(&rt, told.as_bytes(), wanted, signs);
     }
-    Ok(())
 }
 
 // A drainer of one subject; none where there was no memory for it.
@@ -102,87 +108,89 @@ fn drainer_of<S: Sink>(
     Drainer::new(alloc, inbox, subjects).ok()
 }
 
-// The notes of these signs.
-fn notes_of(heap: &Heap, signs: &[u8]) -> Result<Vec<Note, Heap>, Fail> {
-    let mut notes = Vec::new(heap.clone()?);
-    for sign in signs {
-        notes.push(note_of(heap, *sign)?)?;
-    }
-    Ok(notes)
-}
-
-// Sends a drainer the sink of observer 0, and these notes for it.
+// Sends a drainer the sink of observer 0, and the notes of these signs for it.
 fn send_notes<S: Sink>(
     rt: &(impl Wait + Abort),
+    heap: &Heap,
     port: &mut Port<Out<S>>,
     sink: S,
-    notes: Vec<Note, Heap>,
+    signs: &[u8],
 ) {
     send(rt, port, Out::Attach { who: 0, sink });
-    for note in notes {
+    for sign in signs {
+        let note = note(rt, heap, *sign);
         send(rt, port, Out::Give { who: 0, note });
     }
 }
 
-// Sends a drainer the sink of observer 0, these notes for it, and all Byes.
+// Sends a drainer the sink of observer 0, the notes of these signs for it, and all Byes.
 fn fill<S: Sink>(
     rt: &(impl Wait + Abort),
+    heap: &Heap,
     pump: Port<Out<S>>,
     leave: Port<Out<S>>,
     sink: S,
-    notes: Vec<Note, Heap>,
+    signs: &[u8],
 ) {
     let mut pump = pump;
-    send_notes(rt, &mut pump, sink, notes);
+    send_notes(rt, heap, &mut pump, sink, signs);
     drop(finish(rt, pump));
     drop(finish(rt, leave));
 }
 
-// A drainer of one subject whose box has the sink of observer 0, these notes for it, and all Byes; and the calls to its
-// subject.
+// The box of a drainer that has the sink of observer 0, the notes of these signs for it, and all Byes.
+fn filled_box<S: Sink>(
+    rt: &(impl Wait + Abort),
+    free: &Heap,
+    sink: S,
+    signs: &[u8],
+) -> Inbox<Out<S>>
+    ensures ports { result.ports ≡ 2 }
+    ensures received { result.received ≡ [] }
+{
+    let (inbox, pump, leave) = two::<Out<S>>(rt, copy(rt, free), 16);
+    fill(rt, free, pump, leave, sink, signs);
+    inbox
+}
+
+// A drainer of one subject with such a box, and the calls to its subject.
 fn filled<S: Sink>(
     rt: &(impl Wait + Abort),
     free: &Heap,
     alloc: Heap,
     sink: S,
-    notes: Vec<Note, Heap>,
+    signs: &[u8],
 ) -> (Option<Drainer<S>>, Inbox<Call<S>>) {
-    let (inbox, pump, leave) = two::<Out<S>>(rt, copy(rt, free), 16);
-    fill(rt, pump, leave, sink, notes);
+    let inbox = filled_box(rt, free, sink, signs);
     let (calls, subject) = first_of_two::<Call<S>>(rt, copy(rt, free), 16);
     (drainer_of(rt, alloc, inbox, free, subject), calls)
 }
 
-fn put_event(told: &mut Vec<u8, Heap>, event: &Event) -> Result<(), Fail> {
+fn put_event(told: &mut Told, event: &Event) {
     let (sign, who) = match event {
         Event::Request { who, n: 1 } => (b'r', *who),
         Event::Dispose { who } => (b'd', *who),
         _ => (b'?', 0),
     };
-    told.push(sign)?;
-    Ok(told.push(digit_of(who as usize))?)
+    told.put(sign);
+    told.put_digit(who as usize);
 }
 
-fn put_call<S: Sink>(told: &mut Vec<u8, Heap>, post: &Post<Call<S>>) -> Result<(), Fail> {
+fn put_call<S: Sink>(told: &mut Told, post: &Post<Call<S>>) {
     match post {
         Post::Body(call) => put_event(told, &call.event),
-        Post::Bye => Ok(told.push(b'.')?),
+        Post::Bye => told.put(b'.'),
     }
 }
 
 // Puts what was sent to a subject.
-fn put_calls<S: Sink>(
-    rt: &impl Wait,
-    told: &mut Vec<u8, Heap>,
-    calls: &mut Inbox<Call<S>>,
-) -> Result<(), Fail> {
+fn put_calls<S: Sink>(rt: &impl Wait, told: &mut Told, calls: &mut Inbox<Call<S>>) {
     for _ in 0..16 {
         let Ok(letter) = calls.recv(rt) else {
             break;
         };
-        put_call(told, &letter.post)?;
+        put_call(told, &letter.post);
     }
-    Ok(())
 }
 
 fn served<S: Sink>(rt: &(impl Wait + Abort), drainer: Drainer<S>) -> DrainEnd<S> {
@@ -192,57 +200,52 @@ fn served<S: Sink>(rt: &(impl Wait + Abort), drainer: Drainer<S>) -> DrainEnd<S>
     }
 }
 
-// What is told of a drainer.
-#[derive(Drop)]
-struct Told {
-    text: Vec<u8, Heap>,
-    misses: u64,
-}
-
-// What the sinks of a drainer took, until it ends.
-fn told_served(
-    rt: &(impl Wait + Abort),
-    heap: &Heap,
-    drainer: Drainer<MemorySink>,
-) -> Result<Told, Fail> {
-    let end = served(rt, drainer);
-    let mut text = Vec::new(copy(rt, heap));
+// What the sinks of a drainer took that has ended.
+fn tale_of_end(end: &DrainEnd<MemorySink>) -> Tale {
+    let mut told = Told::new();
     for away in &end.put_away {
-        put_notes(&mut text, away.rest.as_slice())?;
+        told.put_notes(away.rest.as_slice());
     }
-    text.push(b'|')?;
-    Ok(Told {
-        text,
+    told.put(b'|');
+    Tale {
+        told,
         misses: end.places.misses(),
-    })
+    }
 }
 
-// What is told where there was no memory for a drainer.
-fn told_unmade(heap: &Heap) -> Result<Told, Fail> {
-    let text = vec![in heap.clone()?; b'!']?;
-    Ok(Told { text, misses: 0 })
+// What is told of a drainer, or where there was no memory for it.
+fn tale_of_drainer(rt: &(impl Wait + Abort), drainer: Option<Drainer<MemorySink>>) -> Tale {
+    match drainer {
+        Some(drainer) => tale_of_end(&served(rt, drainer)),
+        None => {
+            let mut told = Told::new();
+            told.put(b'!');
+            Tale { told, misses: 0 }
+        }
+    }
+}
+
+// Puts what was sent to its subject, where there was a drainer.
+fn with_calls(rt: &impl Wait, tale: Tale, calls: &mut Inbox<Call<MemorySink>>) -> Tale {
+    let mut tale = tale;
+    if tale.told.as_bytes() != b"!".as_slice() {
+        put_calls(rt, &mut tale.told, calls);
+    }
+    tale
 }
 
 // What is told of a drainer whose sink fails from a note on; the drainer and the sink grow by `tight`.
-fn told_of(
-    rt: &(impl Wait + Abort),
-    free: &Heap,
-    tight: &Heap,
-    fail_at: Option<u32>,
-) -> Result<Told, Fail> {
-    let notes = notes_of(free, b"abc")?;
+fn tale_of(rt: &(impl Wait + Abort), free: &Heap, tight: &Heap, fail_at: Option<u32>) -> Tale {
     let sink = MemorySink::new(copy(rt, tight), fail_at);
-    let (drainer, mut calls) = filled(rt, free, copy(rt, tight), sink, notes);
-    let Some(drainer) = drainer else {
-        return told_unmade(free);
-    };
-    let mut told = told_served(rt, free, drainer)?;
-    put_calls(rt, &mut told.text, &mut calls)?;
-    Ok(told)
+    let inbox = filled_box(rt, free, sink, b"abc");
+    let (mut calls, subject) = first_of_two::<Call<MemorySink>>(rt, copy(rt, free), 16);
+    let drainer = drainer_of(rt, copy(rt, tight), inbox, free, subject);
+    let tale = tale_of_drainer(rt, drainer);
+    with_calls(rt, tale, &mut calls)
 }
 
 #[test]
-fn drainer_with_a_failing_sink(rt: HostRuntime) -> Result<(), Fail> {
+fn drainer_with_a_failing_sink(rt: HostRuntime) {
     let heap = unlimited(&rt);
     for (fail_at, wanted) in [
         (Some(0), "|d0."),
@@ -251,11 +254,22 @@ fn drainer_with_a_failing_sink(rt: HostRuntime) -> Result<(), Fail> {
         (Some(3), "abc|r0r0r0d0."),
         (None, "abc|r0r0r0d0."),
     ] {
-        let told = told_of(&rt, &heap, &heap, fail_at)?;
-        assert_eq!(rt; told.text.as_slice(), wanted.as_bytes());
-        assert_eq!(rt; told.misses, 0);
+        let tale = tale_of(&rt, &heap, &heap, fail_at);
+        expect_told(&rt, tale.told.as_bytes(), wanted, "a sink that fails");
+        expect_count(&rt, tale.misses, 0, wanted);
     }
-    Ok(())
+}
+
+// What is seen of a drainer whose sink fails only where there is no memory.
+fn seen_of(tale: &Tale) -> Seen {
+    let text = tale.told.as_bytes();
+    let failed = text == b"|d0.".as_slice();
+    let unmade = text == b"!".as_slice();
+    Seen {
+        is_made: !unmade,
+        misses: u64::from(failed),
+        is_right: tale.misses <= 1 && (failed || unmade || text == b"abc|r0r0r0d0.".as_slice()),
+    }
 }
 
 // A drainer whose sink fails only where there is no memory.
@@ -264,25 +278,18 @@ struct Drain<R>(R);
 
 impl<R: Wait + Abort> Refusable for Drain<R> {
     fn run_by(&self, free: &Heap, tight: &Heap) -> Result<Seen, Fail> {
-        let told = told_of(&self.0, free, tight, None)?;
-        let text = told.text.as_slice();
-        let failed = text == b"|d0.".as_slice();
-        Ok(Seen {
-            is_made: text != b"!".as_slice(),
-            misses: u64::from(failed),
-            is_right: told.misses <= 1
-                && (failed || text == b"!".as_slice() || text == b"abc|r0r0r0d0.".as_slice()),
-        })
+        let tale = tale_of(&self.0, free, tight, None);
+        Ok(seen_of(&tale))
     }
 }
 
 #[test]
 fn drainer_with_each_growth_refused(rt: HostRuntime) -> Result<(), Fail> {
     let refusals = refuse_in_turn(&Drain(rt), rt.alloc())?;
-    assert_eq!(rt; refusals.fault, "");
+    expect_words(&rt, refusals.fault, "", "a drainer");
     // The list of ended ports; the place of the sink in the two lists, and the sink's own list.
-    assert_eq!(rt; refusals.unmade, 1);
-    assert_eq!(rt; refusals.missed, 3);
+    expect_count(&rt, refusals.unmade, 1, "unmade");
+    expect_count(&rt, refusals.missed, 3, "missed");
     Ok(())
 }
 
@@ -368,11 +375,11 @@ fn started<R: Threads + Wait + Abort + Clock + Clone + Drop + Send + 'static>(
     rt: &R,
     heap: &Heap,
     come: &Arc<AtomicU64, Global>,
-) -> Result<Running<Meeting<R>>, Fail> {
-    let notes = notes_of(heap, b"a")?;
-    let (drainer, calls) = filled(rt, heap, copy(rt, heap), meeting_of(rt, come), notes);
+) -> Running<Meeting<R>> {
+    let sink = meeting_of(rt, come);
+    let (drainer, calls) = filled(rt, heap, copy(rt, heap), sink, b"a");
     match start_drainer(rt, drainer.expect(rt, "memory")) {
-        Ok(drainer) => Ok(Running { drainer, calls }),
+        Ok(drainer) => Running { drainer, calls },
         Err(_) => panic!(rt; "no thread"),
     }
 }
@@ -385,24 +392,47 @@ fn is_one_met(put_away: &[PutAway<bool>]) -> bool {
     }
 }
 
+// The end of a drainer that was started.
+fn joined<R: Threads + Wait + Abort + Clock + Clone + Drop + Send + 'static>(
+    rt: &R,
+    drainer: RunningDrainer<Meeting<R>>,
+) -> DrainEnd<Meeting<R>> {
+    match drainer.join(rt) {
+        Ok(end) => end,
+        Err(_) => panic!(rt; "the drainer stopped"),
+    }
+}
+
 // Whether the one sink of a drainer that was started has met.
 fn has_met<R: Threads + Wait + Abort + Clock + Clone + Drop + Send + 'static>(
     rt: &R,
-    running: Running<Meeting<R>>,
+    drainer: RunningDrainer<Meeting<R>>,
 ) -> bool {
-    match running.drainer.join(rt) {
-        Ok(end) => is_one_met(end.put_away.as_slice()),
-        Err(_) => false,
-    }
+    is_one_met(joined(rt, drainer).put_away.as_slice())
+}
+
+// The sinks of two drainers that were started meet.
+fn expect_both_meet<R: Threads + Wait + Abort + Clock + Clone + Drop + Send + 'static>(
+    rt: &R,
+    first: Running<Meeting<R>>,
+    second: Running<Meeting<R>>,
+) {
+    let Running {
+        drainer,
+        calls: _first,
+    } = first;
+    let Running {
+        drainer: other,
+        calls: _second,
+    } = second;
+    expect_that(rt, has_met(rt, drainer), "the first drainer");
+    expect_that(rt, has_met(rt, other), "the second drainer");
 }
 
 #[test]
 fn two_drainers_meet(rt: HostRuntime) -> Result<(), Fail> {
     let heap = unlimited(&rt);
     let come = Arc::new(rt.alloc(), AtomicU64::new(0))?;
-    let first = started(&rt, &heap, &come)?;
-    let second = started(&rt, &heap, &come)?;
-    assert!(rt; has_met(&rt, first));
-    assert!(rt; has_met(&rt, second));
+    expect_both_meet(&rt, started(&rt, &heap, &come), started(&rt, &heap, &come));
     Ok(())
 }

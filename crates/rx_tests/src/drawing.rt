@@ -2,7 +2,7 @@
 
 use crate::signs::{item, policy_by};
 use rx_heap::Heap;
-use rx_note::{Errors, Event, Note, Policy, Strategy, Text};
+use rx_note::{BadRoom, Errors, Event, Note, Policy, Strategy, Text};
 use std::test::Fail;
 
 // The first event that may be an item.
@@ -56,7 +56,7 @@ impl Draw {
         }
     }
 
-    fn policy(&mut self) -> Result<Policy, Fail> {
+    fn policy(&mut self) -> Result<Policy, BadRoom> {
         let strategy = self.strategy();
         let errors = self.errors();
         match self.plan.policy {

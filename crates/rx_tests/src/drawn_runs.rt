@@ -8,6 +8,7 @@ use crate::signs::{Named, SEED_PORT};
 use rx_heap::Heap;
 use rx_hub::{NoObserver, Step};
 use rx_note::{Answer, Errors, Given, Note, Refusal, Strategy};
+use std::process::Abort;
 use std::test::Fail;
 
 // 400 events, whose end is an error or not.
@@ -91,7 +92,7 @@ fn seeds(outs: &[Given]) -> u32 {
 }
 
 impl Ran {
-    fn shown(&self, heap: &Heap) -> Result<Shown, Fail> {
+    fn shown(&self) -> Result<Shown, Fail> {
         let steps = self.run.steps.as_slice();
         let outs = self.run.outs.as_slice();
         let observers = self.hub.observers();
@@ -106,7 +107,7 @@ impl Ran {
             seeds: seeds(outs),
             observers,
             past_them: self.hub.waiting_of(joined(steps).unwrap_or(0)),
-            differs: self.differs(heap)?,
+            differs: self.differs()?,
         })
     }
 }
@@ -130,7 +131,7 @@ struct Shown {
 
 fn shown_of(heap: &Heap, named: Named, fails: bool) -> Result<Shown, Fail> {
     let drawn = run_drawn(heap, named, plan_of(fails))?;
-    drawn.shown(heap)
+    drawn.shown()
 }
 
 // What is wrong with the run of a kind that is to give so many notes at least, items to joiners or none, and seeds or none;
@@ -174,13 +175,18 @@ const DRAWN_KINDS: [(Named, bool, usize, bool, bool); 10] = [
     (Named::Replay(Some(3), None), true, 100, true, false),
 ];
 
+// Nothing is wrong with the run of a kind, and it differs from the history for no observer.
+fn expect_right(rt: &impl Abort, fault: &str, differs: Option<u32>, named: Named) {
+    assert_eq!(rt; fault, "", "{named:?}");
+    assert!(rt; differs.is_none(), "{named:?}");
+}
+
 #[test]
 fn a_run_gives_what_the_history_says(rt: HostRuntime) -> Result<(), Fail> {
     for (named, fails, fewest_outs, opens, seeds) in &DRAWN_KINDS {
         let shown = shown_of(&unlimited(&rt), *named, *fails)?;
         let fault = fault_of(&shown, *fewest_outs, *opens, *seeds);
-        assert_eq!(rt; fault, "", "{named:?}");
-        assert_eq!(rt; shown.differs, None, "{named:?}");
+        expect_right(&rt, fault, shown.differs, *named);
     }
     Ok(())
 }
@@ -258,11 +264,16 @@ fn shorter(heap: &Heap, pair: &Pair) -> Result<u32, Fail> {
     reading.shorter_than(heap, pair.2)
 }
 
+// As many observers have a shorter line.
+fn expect_fewer(rt: &impl Abort, fewer: u32, pair: &Pair) {
+    assert!(rt; fewer >= pair.3, "{:?} and {:?}", pair.0, pair.2);
+}
+
 #[test]
 fn lines_of_the_drawn_events_are_shorter(rt: HostRuntime) -> Result<(), Fail> {
     for pair in &PAIRS {
         let fewer = shorter(&unlimited(&rt), pair)?;
-        assert!(rt; fewer >= pair.3, "{:?} and {:?}", pair.0, pair.2);
+        expect_fewer(&rt, fewer, pair);
     }
     Ok(())
 }

@@ -4,9 +4,11 @@
 //! In a script a digit takes a block of so many times ten bytes, and `-` gives the last one back. Told is `!` where a block
 //! was refused, behind `?` the bytes used, in tens, and behind `#` how many growths were asked for.
 
-use crate::signs::digit_of;
+use crate::expecting::{expect_count, expect_that, expect_told};
+use crate::told::Told;
 use rx_heap::Heap;
 use std::alloc::Global;
+use std::process::Abort;
 use std::sync::atomic::{AtomicU64, Ordering};
 use std::test::Fail;
 use std::thread::join;
@@ -21,37 +23,26 @@ pub(crate) fn unlimited(rt: &HostRuntime) -> Heap {
 struct Tried {
     heap: Heap,
     blocks: Vec<Vec<u8, Heap>>,
-    told: Vec<u8>,
+    told: Told,
 }
 
 impl Tried {
     fn take(&mut self, bytes: usize) -> Result<(), Fail> {
         match Vec::with_capacity(self.heap.clone()?, bytes) {
-            Ok(block) => Ok(self.blocks.push(block)?),
-            Err(_) => Ok(self.told.push(b'!')?),
+            Ok(block) => self.blocks.push(block)?,
+            Err(_) => self.told.put(b'!'),
         }
-    }
-
-    fn put_number(&mut self, number: u64) -> Result<(), Fail> {
-        Ok(self.told.push(digit_of(number as usize))?)
+        Ok(())
     }
 
     fn step(&mut self, sign: u8) -> Result<(), Fail> {
         match sign {
-            b'0'..=b'9' => self.take(10 * usize::from(sign - b'0')),
-            b'?' => {
-                let used = self.heap.used();
-                self.put_number(used / 10)
-            }
-            b'#' => {
-                let asked = self.heap.asked();
-                self.put_number(asked)
-            }
-            _ => {
-                drop(self.blocks.pop());
-                Ok(())
-            }
+            b'0'..=b'9' => self.take(10 * usize::from(sign - b'0'))?,
+            b'?' => self.told.put_digit((self.heap.used() / 10) as usize),
+            b'#' => self.told.put_digit(self.heap.asked() as usize),
+            _ => drop(self.blocks.pop()),
         }
+        Ok(())
     }
 }
 
@@ -62,11 +53,11 @@ fn heap_of(alloc: Global, budget: Option<u64>) -> Result<Heap, Fail> {
     }
 }
 
-fn told_of(alloc: Global, budget: Option<u64>, script: &[u8]) -> Result<Vec<u8>, Fail> {
+fn told_of(alloc: Global, budget: Option<u64>, script: &[u8]) -> Result<Told, Fail> {
     let mut tried = Tried {
         heap: heap_of(alloc, budget)?,
         blocks: Vec::new(alloc),
-        told: Vec::new(alloc),
+        told: Told::new(),
     };
     for sign in script {
         tried.step(*sign)?;
@@ -84,7 +75,7 @@ fn a_budget_is_kept_and_given_back(rt: HostRuntime) -> Result<(), Fail> {
         (None, "99?#", "00"),
     ] {
         let told = told_of(rt.alloc(), budget, script.as_bytes())?;
-        assert_eq!(rt; told.as_slice(), wanted.as_bytes(), "{script}");
+        expect_told(&rt, told.as_bytes(), wanted, script);
     }
     Ok(())
 }
@@ -111,18 +102,24 @@ fn grow(heap: &Heap) -> Result<Growing, Fail> {
     Ok(Growing { refused, is_whole })
 }
 
+// The list is whole and its bytes are back, and it met a refusal where its growths went so far.
+fn expect_grown(rt: &impl Abort, heap: &Heap, seen: Growing, growth: u64) {
+    expect_that(rt, seen.is_whole, "a list that is not whole");
+    expect_count(rt, heap.used(), 0, "bytes that were not given back");
+    let is_met = heap.asked() > growth;
+    assert!(rt; (seen.refused == 1) == is_met, "growth {growth}");
+}
+
 #[test]
 fn each_growth_of_a_list_is_refused_in_turn(rt: HostRuntime) -> Result<(), Fail> {
     let mut met: u64 = 0;
     for growth in 0..100 {
         let heap = Heap::refusing(rt.alloc(), growth)?;
         let seen = grow(&heap)?;
-        assert!(rt; seen.is_whole, "growth {growth}");
-        assert_eq!(rt; heap.used(), 0, "growth {growth}");
-        assert_eq!(rt; seen.refused == 1, heap.asked() > growth, "growth {growth}");
+        expect_grown(&rt, &heap, seen, growth);
         met = met.saturating_add(u64::from(seen.refused));
     }
-    assert!(rt; met >= 2);
+    expect_that(&rt, met >= 2, "growths that were met");
     Ok(())
 }
 
@@ -163,9 +160,10 @@ fn two_threads_over_one_budget(rt: HostRuntime) -> Result<(), Fail> {
         || take_turns(&heap, &holders),
         || take_turns(&heap, &holders),
     );
-    assert!(rt; first.had > 0 || second.had > 0);
-    assert_eq!(rt; (first.shared, second.shared), (0, 0));
-    assert_eq!(rt; heap.asked(), 2_000);
-    assert_eq!(rt; heap.used(), 0);
+    expect_that(&rt, first.had > 0 || second.had > 0, "no block at all");
+    expect_count(&rt, first.shared, 0, "shared by the first");
+    expect_count(&rt, second.shared, 0, "shared by the second");
+    expect_count(&rt, heap.asked(), 2_000, "growths");
+    expect_count(&rt, heap.used(), 0, "bytes that were not given back");
     Ok(())
 }

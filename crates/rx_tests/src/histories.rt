@@ -6,14 +6,16 @@
 
 ghost use Rattle.std.specs.Prelude.{◌≤◌};
 
+use crate::expecting::expect_told;
 use crate::heaps::unlimited;
-use crate::signs::{Named, digit_of, event_of, kind_of, policy_by, put_notes, rules_of};
-use rx_heap::Heap;
+use crate::signs::{Named, event_of, kind_of, policy_by, rules_of};
+use crate::told::Told;
+use rx_heap::{Heap, Memory};
 use rx_history::{History, LineError};
 use rx_note::{Errors, Note, Policy, Rules, Strategy};
 use std::test::Fail;
 
-fn history_of(heap: &Heap, policy: Policy, first: u32, script: &[u8]) -> Result<History, Fail> {
+fn history_of(heap: &Heap, policy: Policy, first: u32, script: &[u8]) -> Result<History, Memory> {
     let mut history = History::new(heap.clone()?);
     for sign in script {
         history.add(0, event_of(heap, policy, first, *sign)?)?;
@@ -21,42 +23,31 @@ fn history_of(heap: &Heap, policy: Policy, first: u32, script: &[u8]) -> Result<
     Ok(history)
 }
 
-fn put(told: &mut Vec<u8, Heap>, notes: &Result<Vec<Note, Heap>, LineError>) -> Result<(), Fail> {
-    told.push(b' ')?;
+fn put(told: &mut Told, notes: &Result<Vec<Note, Heap>, LineError>) {
+    told.put(b' ');
     match notes {
-        Ok(notes) => put_notes(told, notes.as_slice()),
-        Err(LineError::NoObserver) => Ok(told.push(b'N')?),
-        Err(LineError::Memory) => Ok(told.push(b'M')?),
+        Ok(notes) => told.put_notes(notes.as_slice()),
+        Err(LineError::NoObserver) => told.put(b'N'),
+        Err(LineError::Memory) => told.put(b'M'),
     }
 }
 
-fn put_observer(
-    told: &mut Vec<u8, Heap>,
-    history: &History,
-    rules: &Rules,
-    who: u32,
-) -> Result<(), Fail>
+fn put_observer(told: &mut Told, history: &History, rules: &Rules, who: u32)
     requires { rules.now.limits.observers ≤ 64 }
 {
-    put(told, &history.line(rules, who))?;
-    put(told, &history.given(rules, who))?;
-    put(told, &history.waiting(rules, who))
+    put(told, &history.line(rules, who));
+    put(told, &history.given(rules, who));
+    put(told, &history.waiting(rules, who));
 }
 
-fn put_history(told: &mut Vec<u8, Heap>, history: &History, rules: &Rules) -> Result<(), Fail>
+fn told_by(history: &History, rules: &Rules) -> Told
     requires { rules.now.limits.observers ≤ 64 }
 {
-    told.push(digit_of(history.len()))?;
-    put_observer(told, history, rules, 0)?;
-    put_observer(told, history, rules, 1)
-}
-
-fn told_by(heap: &Heap, history: &History, rules: &Rules) -> Result<Vec<u8, Heap>, Fail>
-    requires { rules.now.limits.observers ≤ 64 }
-{
-    let mut told = Vec::new(heap.clone()?);
-    put_history(&mut told, history, rules)?;
-    Ok(told)
+    let mut told = Told::new();
+    told.put_digit(history.len());
+    put_observer(&mut told, history, rules, 0);
+    put_observer(&mut told, history, rules, 1);
+    told
 }
 
 fn told_of(
@@ -65,10 +56,10 @@ fn told_of(
     policy: Policy,
     first: u32,
     script: &[u8],
-) -> Result<Vec<u8, Heap>, Fail> {
+) -> Result<Told, Memory> {
     let rules = rules_of(kind_of(heap, named)?);
     let history = history_of(heap, policy, first, script)?;
-    told_by(heap, &history, &rules)
+    Ok(told_by(&history, &rules))
 }
 
 // A row: its name, the kind, the strategy, the error mode and the first request of the joins, the script, and what is told.
@@ -198,7 +189,7 @@ fn histories_of_one_observer(rt: HostRuntime) -> Result<(), Fail> {
     for (name, named, strategy, errors, first, script, wanted) in &ROWS {
         let policy = policy_by(*strategy, *errors)?;
         let told = told_of(&unlimited(&rt), *named, policy, *first, script.as_bytes())?;
-        assert_eq!(rt; told.as_slice(), wanted.as_bytes(), "{name}");
+        expect_told(&rt, told.as_bytes(), wanted, name);
     }
     Ok(())
 }

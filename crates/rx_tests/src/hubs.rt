@@ -8,8 +8,10 @@
 ghost use Rattle.std.specs.Prelude.{◌≤◌, IfOk};
 
 use crate::drawing::{Plan, drawn};
+use crate::expecting::expect_told;
 use crate::heaps::unlimited;
-use crate::signs::{Named, SEED_PORT, digit_of, event_of, kind_of, policy_of, rules_of, sign_of};
+use crate::signs::{Named, event_of, kind_of, policy_of, rules_of, sign_of};
+use crate::told::Told;
 use rx_heap::Heap;
 use rx_history::History;
 use rx_hub::{Hub, NoObserver, Run, Step};
@@ -30,36 +32,33 @@ fn events_of(
     Ok(events)
 }
 
-fn put_answer(told: &mut Vec<u8, Heap>, answer: Result<Answer, Refusal>) -> Result<(), Fail> {
+fn put_answer(told: &mut Told, answer: Result<Answer, Refusal>) {
     match answer {
-        Ok(Answer::Admitted) => told.push(b'A')?,
-        Ok(Answer::Asked) => told.push(b'R')?,
-        Ok(Answer::Left) => told.push(b'L')?,
+        Ok(Answer::Admitted) => told.put(b'A'),
+        Ok(Answer::Asked) => told.put(b'R'),
+        Ok(Answer::Left) => told.put(b'L'),
         Ok(Answer::Joined(who)) => {
-            told.push(b'J')?;
-            told.push(digit_of(who as usize))?;
+            told.put(b'J');
+            told.put_digit(who as usize);
         }
-        Err(_) => told.push(b'!')?,
+        Err(_) => told.put(b'!'),
     }
-    Ok(())
 }
 
-fn put_steps(told: &mut Vec<u8, Heap>, steps: &[Step]) -> Result<(), Fail> {
+fn put_steps(told: &mut Told, steps: &[Step]) {
     for step in steps {
-        put_answer(told, step.result)?;
-        told.push(b':')?;
-        told.push(digit_of(step.outs_to))?;
-        told.push(b' ')?;
+        put_answer(told, step.result);
+        told.put(b':');
+        told.put_digit(step.outs_to);
+        told.put(b' ');
     }
-    Ok(())
 }
 
-fn put_outs(told: &mut Vec<u8, Heap>, outs: &[Given]) -> Result<(), Fail> {
+fn put_outs(told: &mut Told, outs: &[Given]) {
     for given in outs {
-        told.push(digit_of(given.who as usize))?;
-        told.push(sign_of(&given.note))?;
+        told.put_digit(given.who as usize);
+        told.put(sign_of(&given.note));
     }
-    Ok(())
 }
 
 /// A new hub by these rules.
@@ -77,11 +76,11 @@ pub(crate) fn run_of(
     Ok(hub.run(heap.clone()?, events)?)
 }
 
-fn told_of(heap: &Heap, run: &Run) -> Result<Vec<u8, Heap>, Fail> {
-    let mut told = Vec::new(heap.clone()?);
-    put_steps(&mut told, run.steps.as_slice())?;
-    put_outs(&mut told, run.outs.as_slice())?;
-    Ok(told)
+fn told_of(run: &Run) -> Told {
+    let mut told = Told::new();
+    put_steps(&mut told, run.steps.as_slice());
+    put_outs(&mut told, run.outs.as_slice());
+    told
 }
 
 /// The run of these events by a new hub of these rules.
@@ -100,7 +99,7 @@ fn run_of_the_first_rows_events(rt: HostRuntime) -> Result<(), Fail> {
     let events = events_of(&heap, Strategy::Buffer, 0, b"+ab1.5")?;
     let run = new_run_of(&heap, rules_of(Kind::Publish), events)?;
     let wanted = "J0:0 A:0 A:0 R:1 A:1 R:3 0a0b0.";
-    assert_eq!(rt; told_of(&heap, &run)?.as_slice(), wanted.as_bytes());
+    expect_told(&rt, told_of(&run).as_bytes(), wanted, "the first row");
     Ok(())
 }
 
@@ -181,51 +180,22 @@ pub(crate) fn joined(steps: &[Step]) -> Option<u32> {
     Some(joined)
 }
 
-// The sign of a port: `*` for that of a seed, else a digit.
-fn port_sign(port: u32) -> u8 {
-    if port == SEED_PORT {
-        b'*'
-    } else {
-        digit_of(port as usize)
-    }
-}
-
-// Puts a note whole: an item with its port before its text.
-fn put_whole(told: &mut Vec<u8, Heap>, note: &Note) -> Result<(), Fail> {
-    match note {
-        Note::Next(item) => {
-            told.push(port_sign(item.from))?;
-            told.extend_from_slice(item.text.as_bytes())?;
-        }
-        Note::Completed => told.push(b'.')?,
-        Note::Failed(text) => {
-            told.push(b'!')?;
-            told.extend_from_slice(text.as_bytes())?;
-        }
-    }
-    Ok(())
-}
-
-// What a run gave to an observer.
-fn given_by_run(heap: &Heap, outs: &[Given], who: u32) -> Result<Vec<u8, Heap>, Fail> {
-    let mut told = Vec::new(heap.clone()?);
+// Whether what a run gave to an observer are these notes.
+fn are_given(outs: &[Given], who: u32, notes: &[Note]) -> bool {
+    let mut notes = notes.iter();
     for given in outs {
-        if given.who == who {
-            put_whole(&mut told, &given.note)?;
+        if given.who == who && notes.next() != Some(&given.note) {
+            return false;
         }
     }
-    Ok(told)
+    notes.next().is_none()
 }
 
 impl Reading {
-    // What an observer was given.
-    fn given(&self, heap: &Heap, who: u32) -> Result<Vec<u8, Heap>, Fail> {
-        let mut told = Vec::new(heap.clone()?);
+    // Whether these were given to an observer.
+    fn gave(&self, outs: &[Given], who: u32) -> Result<bool, Fail> {
         let given = self.history.given(&self.rules, who)?;
-        for note in given.as_slice() {
-            put_whole(&mut told, note)?;
-        }
-        Ok(told)
+        Ok(are_given(outs, who, given.as_slice()))
     }
 
     // How many notes wait for an observer.
@@ -236,10 +206,8 @@ impl Reading {
 
 impl Ran {
     // Whether an observer was given what the history says.
-    fn gave(&self, heap: &Heap, who: u32) -> Result<bool, Fail> {
-        let by_run = given_by_run(heap, self.run.outs.as_slice(), who)?;
-        let by_history = self.reading.given(heap, who)?;
-        Ok(by_run.as_slice() == by_history.as_slice())
+    fn gave(&self, who: u32) -> Result<bool, Fail> {
+        self.reading.gave(self.run.outs.as_slice(), who)
     }
 
     // Whether as many notes wait for an observer as the history says.
@@ -252,9 +220,9 @@ impl Ran {
     }
 
     // The first observer for whom the run and the history differ.
-    pub(crate) fn differs(&self, heap: &Heap) -> Result<Option<u32>, Fail> {
+    pub(crate) fn differs(&self) -> Result<Option<u32>, Fail> {
         for who in 0..joined(self.run.steps.as_slice()).unwrap_or(0) {
-            if !self.gave(heap, who)? || !self.holds(who)? {
+            if !self.gave(who)? || !self.holds(who)? {
                 return Ok(Some(who));
             }
         }

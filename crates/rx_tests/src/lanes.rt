@@ -5,9 +5,9 @@
 //! that, where the request was refused, `Z` for no items, `T` for too much, `M` for want of memory. The state is how many
 //! items wait, how many notes wait, how many items are owed, and `!` where the lane is over, else `-`.
 
-use crate::heaps::unlimited;
-use crate::in_turn::{Refusable, Seen, refuse_in_turn};
-use crate::signs::{digit_of, item, note_of, policy_by, put_notes, sign_of};
+use crate::in_turn::{Script, Tale, expect_in_turn};
+use crate::signs::{item, note_of, policy_by, sign_of};
+use crate::told::Told;
 use rx_heap::{Heap, Memory};
 use rx_lane::{AskError, Lane};
 use rx_note::{Errors, Item, Note, Policy, Strategy};
@@ -26,11 +26,10 @@ fn offer(lane: &mut Lane, item: Item) -> Result<Option<Note>, Memory> {
     Ok(lane.offer(item).map(Note::Next))
 }
 
-fn put_back(told: &mut Vec<u8, Heap>, back: &Option<Note>) -> Result<(), Fail> {
+fn put_back(told: &mut Told, back: &Option<Note>) {
     if let Some(note) = back {
-        told.push(sign_of(note))?;
+        told.put(sign_of(note));
     }
-    Ok(())
 }
 
 /// A lane that is tried, what all requests have given so far, what is told, and how many calls were refused for want of
@@ -39,7 +38,7 @@ fn put_back(told: &mut Vec<u8, Heap>, back: &Option<Note>) -> Result<(), Fail> {
 struct Tried {
     lane: Lane,
     given: Vec<Note, Heap>,
-    told: Vec<u8, Heap>,
+    told: Told,
     misses: u64,
 }
 
@@ -54,103 +53,102 @@ impl Tried {
         }
     }
 
-    fn ask(&mut self, n: u32) -> Result<(), Fail> {
+    fn ask(&mut self, n: u32) {
         match self.asked(n) {
             Ok(()) => {}
-            Err(AskError::ZeroRequest) => self.told.push(b'Z')?,
-            Err(AskError::TooMuch) => self.told.push(b'T')?,
-            Err(AskError::Memory) => self.told.push(b'M')?,
+            Err(AskError::ZeroRequest) => self.told.put(b'Z'),
+            Err(AskError::TooMuch) => self.told.put(b'T'),
+            Err(AskError::Memory) => self.told.put(b'M'),
         }
-        put_notes(&mut self.told, self.given.as_slice())
+        self.told.put_notes(self.given.as_slice());
     }
 
-    fn put_state(&mut self) -> Result<(), Fail> {
-        self.told.push(digit_of(self.lane.waiting_len()))?;
-        self.told.push(digit_of(self.lane.waiting_notes()))?;
-        self.told.push(digit_of(self.lane.owed() as usize))?;
-        self.told
-            .push(if self.lane.is_over() { b'!' } else { b'-' })?;
-        Ok(())
+    fn put_state(&mut self) {
+        self.told.put_digit(self.lane.waiting_len());
+        self.told.put_digit(self.lane.waiting_notes());
+        self.told.put_digit(self.lane.owed() as usize);
+        let is_over = self.lane.is_over();
+        self.told.put(if is_over { b'!' } else { b'-' });
     }
 
-    fn offered(&mut self, heap: &Heap, text: &[u8]) -> Result<Option<Note>, Fail> {
+    fn offered(&mut self, heap: &Heap, text: &[u8]) -> Result<Option<Note>, Memory> {
         match offer(&mut self.lane, item(heap, text)?) {
             Ok(back) => Ok(back),
-            Err(_) => {
+            Err(Memory) => {
                 self.misses = self.misses.saturating_add(1);
-                Ok(offer(&mut self.lane, item(heap, text)?)?)
+                offer(&mut self.lane, item(heap, text)?)
             }
         }
     }
 
-    fn offer(&mut self, heap: &Heap, text: &[u8]) -> Result<(), Fail> {
+    fn offer(&mut self, heap: &Heap, text: &[u8]) -> Result<(), Memory> {
         let back = self.offered(heap, text)?;
-        put_back(&mut self.told, &back)
+        put_back(&mut self.told, &back);
+        Ok(())
     }
 
-    fn end(&mut self, note: Note) -> Result<(), Fail> {
+    fn end(&mut self, note: Note) {
         let back = self.lane.end(note);
-        put_back(&mut self.told, &back)
+        put_back(&mut self.told, &back);
     }
 
-    fn step(&mut self, heap: &Heap, sign: u8) -> Result<(), Fail> {
+    fn step(&mut self, heap: &Heap, sign: u8) -> Result<(), Memory> {
         match sign {
-            b' ' => Ok(self.told.push(b' ')?),
+            b' ' => self.told.put(b' '),
             b'?' => self.put_state(),
             b'*' => self.ask(4_294_967_293),
             b'0'..=b'9' => self.ask(u32::from(sign - b'0')),
             b'.' | b'!' => self.end(note_of(heap, sign)?),
-            letter => self.offer(heap, &[letter]),
+            letter => self.offer(heap, &[letter])?,
         }
+        Ok(())
+    }
+
+    fn run(&mut self, heap: &Heap, script: &[u8]) -> Result<(), Memory> {
+        for sign in script {
+            self.step(heap, *sign)?;
+        }
+        Ok(())
     }
 }
 
-fn start(free: &Heap, tight: &Heap, policy: Policy, first: Option<u32>) -> Result<Tried, Fail> {
-    let mut misses = 0;
-    let lane = match lane_of(tight, policy, first) {
-        Ok(lane) => lane,
-        Err(_) => {
-            misses = 1;
-            lane_of(tight, policy, first)?
-        }
-    };
+// A lane, and how many calls to make it were refused.
+fn made(tight: &Heap, policy: Policy, first: Option<u32>) -> Result<(Lane, u64), Memory> {
+    match lane_of(tight, policy, first) {
+        Ok(lane) => Ok((lane, 0)),
+        Err(Memory) => Ok((lane_of(tight, policy, first)?, 1)),
+    }
+}
+
+fn start(tight: &Heap, policy: Policy, first: Option<u32>) -> Result<Tried, Memory> {
+    let given = Vec::new(tight.clone()?);
+    let (lane, misses) = made(tight, policy, first)?;
     Ok(Tried {
         lane,
-        given: Vec::new(tight.clone()?),
-        told: Vec::new(free.clone()?),
+        given,
+        told: Told::new(),
         misses,
     })
 }
 
-/// A script for a lane of a strategy, joined with a first request or new, and what is told of it.
+/// A script for a lane of a strategy, joined with a first request or new.
 #[derive(Clone, Copy)]
 struct Row {
     strategy: Strategy,
     errors: Errors,
     first: Option<u32>,
     script: &'static str,
-    told: &'static str,
 }
 
-impl Row {
+impl Script for Row {
     // Tries a lane that grows by `tight`, as the list of what it gives does.
-    fn tried(&self, free: &Heap, tight: &Heap) -> Result<Tried, Fail> {
+    fn tell(&self, free: &Heap, tight: &Heap) -> Result<Tale, Fail> {
         let policy = policy_by(self.strategy, self.errors)?;
-        let mut tried = start(free, tight, policy, self.first)?;
-        for sign in self.script.as_bytes() {
-            tried.step(free, *sign)?;
-        }
-        Ok(tried)
-    }
-}
-
-impl Refusable for Row {
-    fn run_by(&self, free: &Heap, tight: &Heap) -> Result<Seen, Fail> {
-        let tried = self.tried(free, tight)?;
-        Ok(Seen {
-            is_made: true,
+        let mut tried = start(tight, policy, self.first)?;
+        tried.run(free, self.script.as_bytes())?;
+        Ok(Tale {
+            told: tried.told,
             misses: tried.misses,
-            is_right: tried.told.as_slice() == self.told.as_bytes(),
         })
     }
 }
@@ -187,16 +185,8 @@ fn lane_call_by_call(rt: HostRuntime) -> Result<(), Fail> {
             errors,
             first,
             script,
-            told: wanted,
         };
-        let heap = unlimited(&rt);
-        let tried = row.tried(&heap, &heap)?;
-        assert_eq!(rt;
-            tried.told.as_slice(),
-            wanted.as_bytes(),
-            "{script}, wanted {wanted}"
-        );
-        assert_eq!(rt; refuse_in_turn(&row, rt.alloc())?.fault, "", "{script}");
+        expect_in_turn(&rt, rt.alloc(), &row, wanted, script)?;
     }
     Ok(())
 }

@@ -24,6 +24,8 @@ mod drawing;
 #[cfg(test)]
 mod drawn_runs;
 #[cfg(test)]
+mod expecting;
+#[cfg(test)]
 mod heaps;
 #[cfg(test)]
 mod histories;
@@ -61,3 +63,7 @@ mod tape_subjects;
 mod tapes;
 #[cfg(test)]
 mod texts;
+#[cfg(test)]
+mod told;
+#[cfg(test)]
+mod two_threads;

@@ -5,8 +5,10 @@
 //! line what it is given, in brackets where several notes come at once. `|` is the completion, `#` an error, a capital
 //! letter a seed.
 
+use crate::expecting::expect_that;
 use crate::heaps::unlimited;
-use crate::signs::{Named, digit_of, event_of, kind_of, rules_of, sign_of};
+use crate::signs::{Named, event_of, kind_of, rules_of, sign_of};
+use crate::told::Told;
 use rx_heap::Heap;
 use rx_hub::{Hub, Run};
 use rx_note::{Errors, Event, Given, Note, Policy, Rules, Strategy};
@@ -51,38 +53,41 @@ fn marble(note: &Note) -> u8 {
     }
 }
 
-fn put_emission(cell: &mut Vec<u8, Heap>, event: &Event) -> Result<(), Fail> {
+fn put_emission(cell: &mut Told, event: &Event) {
     match event {
-        Event::Emit { note, .. } => Ok(cell.push(marble(note))?),
-        _ => Ok(()),
+        Event::Emit { note, .. } => cell.put(marble(note)),
+        _ => {}
     }
 }
 
 // What an event asks for an observer; `joiner` is the number that a join makes.
-fn put_asking(cell: &mut Vec<u8, Heap>, event: &Event, who: u32, joiner: u32) -> Result<(), Fail> {
+fn put_asking(cell: &mut Told, event: &Event, who: u32, joiner: u32) {
     match event {
         Event::Join { first, .. } if who == joiner => {
-            cell.push(b'^')?;
-            cell.push(digit_of(*first as usize))?;
+            cell.put(b'^');
+            cell.put_digit(*first as usize);
         }
-        Event::Request { who: asks, n } if *asks == who => cell.push(digit_of(*n as usize))?,
-        Event::Dispose { who: leaves } if *leaves == who => cell.push(b'!')?,
+        Event::Request { who: asks, n } if *asks == who => cell.put_digit(*n as usize),
+        Event::Dispose { who: leaves } if *leaves == who => cell.put(b'!'),
         _ => {}
     }
-    Ok(())
 }
 
-fn put_given(cell: &mut Vec<u8, Heap>, outs: &[Given], who: u32) -> Result<(), Fail> {
+// What an observer is given: in brackets where it is more than one note.
+fn put_given(cell: &mut Told, outs: &[Given], who: u32) {
+    let mut marbles = Told::new();
     for given in outs {
         if given.who == who {
-            cell.push(marble(&given.note))?;
+            marbles.put(marble(&given.note));
         }
     }
-    if cell.len() > 1 {
-        cell.insert(0, b'(')?;
-        cell.push(b')')?;
+    if marbles.len() > 1 {
+        cell.put(b'(');
+        cell.put_all(marbles.as_bytes());
+        cell.put(b')');
+    } else {
+        cell.put_all(marbles.as_bytes());
     }
-    Ok(())
 }
 
 /// The events of a picture and their run.
@@ -138,85 +143,73 @@ impl Drawing {
         joiner
     }
 
-    fn cell(&self, heap: &Heap, row: Row, place: usize) -> Result<Vec<u8, Heap>, Fail> {
-        let mut cell = Vec::new(heap.clone()?);
+    fn cell(&self, row: Row, place: usize) -> Told {
+        let mut cell = Told::new();
         let Some(entry) = self.events.get(place) else {
-            return Ok(cell);
+            return cell;
         };
         match row {
-            Row::Subject => put_emission(&mut cell, &entry.1)?,
-            Row::Asks(who) => put_asking(&mut cell, &entry.1, who, self.joiner_at(place))?,
-            Row::IsGiven(who) => put_given(&mut cell, self.outs_at(place), who)?,
+            Row::Subject => put_emission(&mut cell, &entry.1),
+            Row::Asks(who) => put_asking(&mut cell, &entry.1, who, self.joiner_at(place)),
+            Row::IsGiven(who) => put_given(&mut cell, self.outs_at(place), who),
         }
-        Ok(cell)
+        cell
     }
 
     // The width of a column: that of its widest cell.
-    fn width(&self, heap: &Heap, place: usize) -> Result<usize, Fail> {
+    fn width(&self, place: usize) -> usize {
         let mut width = 1;
         for row in ROWS {
-            width = width.max(self.cell(heap, row, place)?.len());
+            width = width.max(self.cell(row, place).len());
         }
-        Ok(width)
+        width
     }
 
-    fn put_column(
-        &self,
-        heap: &Heap,
-        line: &mut Vec<u8, Heap>,
-        row: Row,
-        place: usize,
-    ) -> Result<(), Fail> {
-        let cell = self.cell(heap, row, place)?;
-        line.extend_from_slice(cell.as_slice())?;
-        for _ in cell.len()..=self.width(heap, place)? {
-            line.push(b'-')?;
+    fn put_column(&self, line: &mut Told, row: Row, place: usize) {
+        let cell = self.cell(row, place);
+        line.put_all(cell.as_bytes());
+        for _ in cell.len()..=self.width(place) {
+            line.put(b'-');
         }
-        Ok(())
     }
 
-    fn line(&self, heap: &Heap, row: Row) -> Result<Vec<u8, Heap>, Fail> {
-        let mut line = Vec::new(heap.clone()?);
-        put_label(&mut line, row)?;
+    fn line(&self, row: Row) -> Told {
+        let mut line = Told::new();
+        put_label(&mut line, row);
         for place in 0..self.events.len() {
-            self.put_column(heap, &mut line, row, place)?;
+            self.put_column(&mut line, row, place);
         }
-        Ok(line)
+        line
     }
 }
 
-fn put_label(line: &mut Vec<u8, Heap>, row: Row) -> Result<(), Fail> {
+fn put_label(line: &mut Told, row: Row) {
     match row {
-        Row::Subject => line.extend_from_slice(b"subject  -")?,
+        Row::Subject => line.put_all(b"subject  -"),
         Row::Asks(who) => {
-            line.push(digit_of(who as usize))?;
-            line.extend_from_slice(b" asks   -")?;
+            line.put_digit(who as usize);
+            line.put_all(b" asks   -");
         }
         Row::IsGiven(who) => {
-            line.push(digit_of(who as usize))?;
-            line.extend_from_slice(b" given  -")?;
+            line.put_digit(who as usize);
+            line.put_all(b" given  -");
         }
     }
-    Ok(())
 }
 
-// A line of a picture, drawn from its run.
-fn line_of(heap: &Heap, picture: &Picture, row: Row) -> Result<Vec<u8, Heap>, Fail> {
-    let drawing = drawing_of(heap, picture)?;
-    drawing.line(heap, row)
-}
-
-// Whether a line is drawn so; a picture of one observer has no line of a second.
-fn is_drawn(heap: &Heap, picture: &Picture, row: Row, drawn: &str) -> Result<bool, Fail> {
-    let line = line_of(heap, picture, row)?;
-    Ok(drawn.is_empty() || line.as_slice() == drawn.as_bytes())
+impl Drawing {
+    // Whether a line is drawn so; a picture of one observer has no line of a second.
+    fn is_drawn(&self, row: Row, drawn: &str) -> bool {
+        drawn.is_empty() || self.line(row).as_bytes() == drawn.as_bytes()
+    }
 }
 
 // Whether all lines of a picture are as they are drawn.
 fn are_drawn(heap: &Heap, picture: &Picture) -> Result<bool, Fail> {
+    let drawing = drawing_of(heap, picture)?;
     let mut all = true;
     for (row, drawn) in ROWS.iter().zip(&picture.drawn) {
-        all = all && is_drawn(heap, picture, *row, drawn)?;
+        all = all && drawing.is_drawn(*row, drawn);
     }
     Ok(all)
 }
@@ -377,7 +370,7 @@ const PICTURES: [Picture; 10] = [
 #[test]
 fn runs_are_drawn(rt: HostRuntime) -> Result<(), Fail> {
     for picture in &PICTURES {
-        assert!(rt; are_drawn(&unlimited(&rt), picture)?, "{}", picture.name);
+        expect_that(&rt, are_drawn(&unlimited(&rt), picture)?, picture.name);
     }
     Ok(())
 }

@@ -3,6 +3,7 @@
 //! The signs: P, E, F, S and Q for PUB, END, FAIL, SUB and QUIT, A for AT, J for JOIN, R for REQUEST, D for DISPOSE; `l`
 //! for a line that is too long, `-` for no line, and `m` for want of memory.
 
+use crate::expecting::{expect_count, expect_that, expect_told};
 use crate::heaps::unlimited;
 use rx_heap::Heap;
 use rx_note::{Item, Note, Strategy, Text};
@@ -10,6 +11,7 @@ use rx_proto::{
     Command, LineError, Name, Response, ScriptLine, Word, parse_line, parse_script, write_note,
     write_reply,
 };
+use std::process::Abort;
 use std::test::Fail;
 
 fn sign_of_fault(fault: LineError) -> u8 {
@@ -48,52 +50,66 @@ fn sign_in_script(heap: &Heap, line: &[u8]) -> u8 {
     }
 }
 
+// Lines, with the sign of what is read in a session and in a script.
+const LINES: [(&str, u8, u8); 35] = [
+    ("PUB s a", b'P', b'P'),
+    ("PUB s-1 a b ", b'P', b'P'),
+    ("PUB s ", b'P', b'P'),
+    ("FAIL s ", b'F', b'F'),
+    ("END s", b'E', b'E'),
+    ("QUIT", b'Q', b'Q'),
+    ("SUB s BUFFER AHEAD", b'S', b'-'),
+    ("SUB s DROP:0 DELAY", b'S', b'-'),
+    ("SUB s LATEST:0001024 DELAY", b'S', b'-'),
+    ("SUB s LATEST:0 DELAY", b'-', b'-'),
+    ("SUB s DROP:1025 DELAY", b'-', b'-'),
+    ("SUB s BUFFER DELAY 1", b'-', b'-'),
+    ("SUB s BUFFER", b'-', b'-'),
+    ("JOIN s BUFFER AHEAD 0", b'-', b'J'),
+    ("JOIN s DROP:2 DELAY 4294967295", b'-', b'J'),
+    ("JOIN s BUFFER DELAY 4294967296", b'-', b'-'),
+    ("JOIN s BUFFER LATE 0", b'-', b'-'),
+    ("JOIN s BUFFER  DELAY 1", b'-', b'-'),
+    ("REQUEST s 00007 4294967295", b'-', b'R'),
+    ("REQUEST s 1 000000000000000000001", b'-', b'-'),
+    ("REQUEST s 1 +1", b'-', b'-'),
+    ("DISPOSE s 4294967295", b'-', b'D'),
+    ("DISPOSE s 4294967296", b'-', b'-'),
+    ("DISPOSE s", b'-', b'-'),
+    ("DISPOSE s 1 ", b'-', b'-'),
+    ("AT 18446744073709551615", b'-', b'A'),
+    ("AT 18446744073709551616", b'-', b'-'),
+    ("", b'-', b'-'),
+    (" ", b'-', b'-'),
+    ("PUB s", b'-', b'-'),
+    ("PUB  s a", b'-', b'-'),
+    ("PUB S a", b'-', b'-'),
+    ("PUB s a\nb", b'-', b'-'),
+    ("END s ", b'-', b'-'),
+    ("quit", b'-', b'-'),
+];
+
+// A line is read as this sign says.
+fn expect_sign(rt: &impl Abort, read: u8, wanted: u8, line: &str) {
+    expect_count(rt, u64::from(read), u64::from(wanted), line);
+}
+
 #[test]
 fn lines_are_read_in_their_place(rt: HostRuntime) {
     let heap = unlimited(&rt);
-    for (line, in_session, in_script) in [
-        ("PUB s a", b'P', b'P'),
-        ("PUB s-1 a b ", b'P', b'P'),
-        ("PUB s ", b'P', b'P'),
-        ("FAIL s ", b'F', b'F'),
-        ("END s", b'E', b'E'),
-        ("QUIT", b'Q', b'Q'),
-        ("SUB s BUFFER AHEAD", b'S', b'-'),
-        ("SUB s DROP:0 DELAY", b'S', b'-'),
-        ("SUB s LATEST:0001024 DELAY", b'S', b'-'),
-        ("SUB s LATEST:0 DELAY", b'-', b'-'),
-        ("SUB s DROP:1025 DELAY", b'-', b'-'),
-        ("SUB s BUFFER DELAY 1", b'-', b'-'),
-        ("SUB s BUFFER", b'-', b'-'),
-        ("JOIN s BUFFER AHEAD 0", b'-', b'J'),
-        ("JOIN s DROP:2 DELAY 4294967295", b'-', b'J'),
-        ("JOIN s BUFFER DELAY 4294967296", b'-', b'-'),
-        ("JOIN s BUFFER LATE 0", b'-', b'-'),
-        ("JOIN s BUFFER  DELAY 1", b'-', b'-'),
-        ("REQUEST s 00007 4294967295", b'-', b'R'),
-        ("REQUEST s 1 000000000000000000001", b'-', b'-'),
-        ("REQUEST s 1 +1", b'-', b'-'),
-        ("DISPOSE s 4294967295", b'-', b'D'),
-        ("DISPOSE s 4294967296", b'-', b'-'),
-        ("DISPOSE s", b'-', b'-'),
-        ("DISPOSE s 1 ", b'-', b'-'),
-        ("AT 18446744073709551615", b'-', b'A'),
-        ("AT 18446744073709551616", b'-', b'-'),
-        ("", b'-', b'-'),
-        (" ", b'-', b'-'),
-        ("PUB s", b'-', b'-'),
-        ("PUB  s a", b'-', b'-'),
-        ("PUB S a", b'-', b'-'),
-        ("PUB s a\nb", b'-', b'-'),
-        ("END s ", b'-', b'-'),
-        ("quit", b'-', b'-'),
-    ] {
-        assert_eq!(rt;
+    for (line, in_session, in_script) in &LINES {
+        expect_sign(
+            &rt,
             sign_in_session(&heap, line.as_bytes()),
-            in_session,
-            "{line}"
+            *in_session,
+            line,
         );
-        assert_eq!(rt; sign_in_script(&heap, line.as_bytes()), in_script, "{line}");
+        expect_sign(
+            &rt,
+            sign_in_script(&heap, line.as_bytes()),
+            *in_script,
+            line,
+        );
     }
 }
 
@@ -105,6 +121,20 @@ fn filled(heap: &Heap, front: &[u8], len: usize) -> Result<Vec<u8, Heap>, Fail> 
         line.push(b'x')?;
     }
     Ok(line)
+}
+
+// A front and so many letters behind it are read as this sign says, in a session and in a script.
+fn expect_long_line(
+    rt: &impl Abort,
+    heap: &Heap,
+    front: &str,
+    len: usize,
+    sign: u8,
+) -> Result<(), Fail> {
+    let line = filled(heap, front.as_bytes(), len)?;
+    expect_sign(rt, sign_in_session(heap, line.as_slice()), sign, front);
+    expect_sign(rt, sign_in_script(heap, line.as_slice()), sign, front);
+    Ok(())
 }
 
 #[test]
@@ -121,30 +151,24 @@ fn text_limits_on_the_line(rt: HostRuntime) -> Result<(), Fail> {
         ("", 1100, b'-'),
         ("", 1101, b'l'),
     ] {
-        let line = filled(&heap, front.as_bytes(), len)?;
-        assert_eq!(rt;
-            sign_in_session(&heap, line.as_slice()),
-            sign,
-            "{front} {len}"
-        );
-        assert_eq!(rt;
-            sign_in_script(&heap, line.as_slice()),
-            sign,
-            "{front} {len}"
-        );
+        expect_long_line(&rt, &heap, front, len, sign)?;
     }
     Ok(())
 }
 
+fn expect_pub(rt: &impl Abort, command: &Command) {
+    match command {
+        Command::Pub { name, text } => {
+            expect_told(rt, name.as_bytes(), "s-1", "the name");
+            expect_told(rt, text.as_bytes(), "a b ", "the text");
+        }
+        _ => panic!(rt; "another line"),
+    }
+}
+
 #[test]
 fn a_pub_has_its_name_and_text(rt: HostRuntime) -> Result<(), Fail> {
-    match &parse_line(&unlimited(&rt), b"PUB s-1 a b ")? {
-        Command::Pub { name, text } => {
-            assert_eq!(rt; name.as_bytes(), b"s-1".as_slice());
-            assert_eq!(rt; text.as_bytes(), b"a b ".as_slice());
-        }
-        _ => assert!(rt; false),
-    }
+    expect_pub(&rt, &parse_line(&unlimited(&rt), b"PUB s-1 a b ")?);
     Ok(())
 }
 
@@ -156,7 +180,7 @@ fn names_have_1_to_32_bytes(rt: HostRuntime) {
         ("abcdefghijklmnopqrstuvwxyz-012345", false),
         ("a_b", false),
     ] {
-        assert_eq!(rt; Name::new(bytes.as_bytes()).is_some(), is_name, "{bytes}");
+        expect_that(&rt, Name::new(bytes.as_bytes()).is_some() == is_name, bytes);
     }
 }
 
@@ -188,33 +212,53 @@ const RESPONSES: [(Response, &str); 14] = [
 fn responses_are_printed(rt: HostRuntime) -> Result<(), Fail> {
     let heap = unlimited(&rt);
     for (response, line) in &RESPONSES {
-        assert_eq!(rt; written(&heap, *response)?.as_slice(), line.as_bytes());
+        expect_told(
+            &rt,
+            written(&heap, *response)?.as_slice(),
+            line,
+            "a response",
+        );
     }
     Ok(())
+}
+
+// The lines of three notes.
+fn three_notes(heap: &Heap) -> Result<Vec<u8, Heap>, Fail> {
+    let mut writer = Vec::new(heap.clone()?);
+    let text = Text::new(heap.clone()?, b"a b")?;
+    write_note(&mut writer, &Note::Next(Item { from: 7, text }))?;
+    write_note(&mut writer, &Note::Completed)?;
+    write_note(&mut writer, &Note::Failed(Text::new(heap.clone()?, b"x")?))?;
+    Ok(writer)
 }
 
 #[test]
 fn notes_are_printed(rt: HostRuntime) -> Result<(), Fail> {
-    let mut writer = Vec::new(unlimited(&rt));
-    let text = Text::new(unlimited(&rt), b"a b")?;
-    write_note(&mut writer, &Note::Next(Item { from: 7, text }))?;
-    write_note(&mut writer, &Note::Completed)?;
-    write_note(&mut writer, &Note::Failed(Text::new(unlimited(&rt), b"x")?))?;
-    assert_eq!(rt; writer.as_slice(), b"NEXT a b\nDONE\nFAILED x\n".as_slice());
+    let written = three_notes(&unlimited(&rt))?;
+    expect_told(
+        &rt,
+        written.as_slice(),
+        "NEXT a b\nDONE\nFAILED x\n",
+        "notes",
+    );
     Ok(())
+}
+
+fn expect_request(rt: &impl Abort, line: &ScriptLine) {
+    match line {
+        ScriptLine::Request { name, who, n } => {
+            expect_told(rt, name.as_bytes(), "s", "the name");
+            expect_count(rt, u64::from(*who), 7, "the observer");
+            expect_count(rt, u64::from(*n), 4_294_967_295, "the items");
+        }
+        _ => panic!(rt; "another line"),
+    }
 }
 
 #[test]
 fn a_request_has_its_numbers(rt: HostRuntime) -> Result<(), Fail> {
-    let line = parse_script(&unlimited(&rt), b"REQUEST s 00007 4294967295")?;
-    match &line {
-        ScriptLine::Request { name, who, n } => {
-            assert_eq!(rt; name.as_bytes(), b"s".as_slice());
-            assert_eq!(rt; *who, 7);
-            assert_eq!(rt; *n, 4_294_967_295);
-        }
-        _ => assert!(rt; false),
-    }
+    let heap = unlimited(&rt);
+    expect_request(&rt, &parse_script(&heap, b"REQUEST s 00007 4294967295")?);
     Ok(())
 }
 
@@ -256,7 +300,8 @@ const STRATEGIES: [(&str, Option<Strategy>); 18] = [
 fn strategies_are_read_or_refused(rt: HostRuntime) -> Result<(), Fail> {
     let heap = unlimited(&rt);
     for (word, strategy) in &STRATEGIES {
-        assert_eq!(rt; strategy_in(&heap, word.as_bytes())?, *strategy, "{word}");
+        let read = strategy_in(&heap, word.as_bytes())?;
+        expect_that(&rt, read == *strategy, word);
     }
     Ok(())
 }

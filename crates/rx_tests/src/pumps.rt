@@ -9,6 +9,7 @@ ghost use Rattle.rx_pump.specs.Serving.{HasServed};
 ghost use Rattle.rx_tests.specs.Wiring.{IsOne};
 
 use crate::boxes::{close, copy, finish, first_of_two_if, made, send, two_if};
+use crate::expecting::{expect_count, expect_that, expect_words};
 use crate::heaps::unlimited;
 use crate::in_turn::{Refusable, Seen, refuse_in_turn};
 use crate::letters::told_of;
@@ -22,17 +23,20 @@ use std::process::Abort;
 use std::sync::Wait;
 use std::test::Fail;
 
-// The call of a sign: `-` disposes of observer 0.
-fn call_of(heap: &Heap, ticket: u64, sign: u8, sink: Option<u8>) -> Result<Call<u8>, Fail> {
-    let event = match sign {
-        b'-' => Event::Dispose { who: 0 },
-        other => event_of(heap, policy_of(Strategy::Buffer)?, 1, other)?,
-    };
-    Ok(Call {
+// The event of a sign.
+fn event_by(rt: &impl Abort, heap: &Heap, sign: u8) -> Event {
+    let policy = policy_of(Strategy::Buffer).expect(rt, "a policy");
+    event_of(heap, policy, 1, sign).expect(rt, "an event")
+}
+
+// The call of a sign.
+fn call_of(rt: &impl Abort, heap: &Heap, ticket: u64, sign: u8, sink: Option<u8>) -> Call<u8> {
+    let event = event_by(rt, heap, sign);
+    Call {
         ticket,
         event,
         sink,
-    })
+    }
 }
 
 // The calls of a run: each with its port, 0 or 1, its ticket, the sign of its event and its sink.
@@ -50,18 +54,17 @@ fn send_calls(
     heap: &Heap,
     first: &mut Port<Call<u8>>,
     second: &mut Port<Call<u8>>,
-) -> Result<(), Fail>
+)
     ensures first { first.new.box ≡ first.old.box }
     ensures second { second.new.box ≡ second.old.box }
 {
     for (port, ticket, sign, sink) in &CALLS {
-        let call = call_of(heap, *ticket, *sign, *sink)?;
+        let call = call_of(rt, heap, *ticket, *sign, *sink);
         match port {
             0 => send(rt, first, call),
             _ => send(rt, second, call),
         }
     }
-    Ok(())
 }
 
 /// A pump of a new Publish subject, which grows by `tight`. None where there was no memory for its hub or for it.
@@ -213,14 +216,14 @@ fn served(
 }
 
 // Two ports send the calls and end, and the pump serves.
-fn run_of(rt: &(impl Wait + Abort), heap: &Heap, wired: Wired) -> Result<Run, Fail> {
+fn run_of(rt: &(impl Wait + Abort), heap: &Heap, wired: Wired) -> Run {
     let Wired {
         fed,
         mut first,
         mut second,
     } = wired;
-    send_calls(rt, heap, &mut first, &mut second)?;
-    Ok(served(rt, heap, fed, first, second))
+    send_calls(rt, heap, &mut first, &mut second);
+    served(rt, heap, fed, first, second)
 }
 
 /// What a run sends the drainer and the caller, and how many of its calls are refused for want of memory.
@@ -270,32 +273,33 @@ fn place_of_sent(outs: &[u8], replies: &[u8], refused: u64) -> Option<usize> {
 }
 
 // The place among `SENT` of what a run sent.
-fn place_of_run(
-    rt: &(impl Wait + Abort),
-    heap: &Heap,
-    run: &mut Run,
-) -> Result<Option<usize>, Fail> {
-    let outs = told_of(rt, heap, &mut run.outs)?;
-    let replies = told_of(rt, heap, &mut run.replies)?;
-    Ok(place_of_sent(outs.as_slice(), replies.as_slice(), run.refused))
+fn place_of_run(rt: &(impl Wait + Abort), run: &mut Run) -> Option<usize> {
+    let outs = told_of(rt, &mut run.outs);
+    let replies = told_of(rt, &mut run.replies);
+    place_of_sent(outs.as_bytes(), replies.as_bytes(), run.refused)
 }
 
 // The place among `SENT` of what a run sent, whose box then settles.
-fn place_of(rt: &(impl Wait + Abort), heap: &Heap, run: Run) -> Result<Option<usize>, Fail> {
+fn place_of(rt: &(impl Wait + Abort), run: Run) -> Option<usize> {
     let mut run = run;
-    let place = place_of_run(rt, heap, &mut run)?;
-    assert_eq!(rt; run.calls, 5);
+    let place = place_of_run(rt, &mut run);
+    expect_count(rt, run.calls, 5, "calls");
     close(rt, run.inbox, run.ports, 7);
-    Ok(place)
+    place
+}
+
+// Runs a pump that is wired. How many calls were refused, and the place of what it sent.
+fn outcome_of(rt: &(impl Wait + Abort), heap: &Heap, wired: Wired) -> (u64, Option<usize>) {
+    let run = run_of(rt, heap, wired);
+    (run.refused, place_of(rt, run))
 }
 
 #[test]
-fn pump_letter_by_letter(rt: HostRuntime) -> Result<(), Fail> {
+fn pump_letter_by_letter(rt: HostRuntime) {
     let heap = unlimited(&rt);
-    let wired = wired_if(&rt, &heap, &heap).ok_or("no pump")?;
-    let run = run_of(&rt, &heap, wired)?;
-    assert_eq!(rt; place_of(&rt, &heap, run)?, Some(0));
-    Ok(())
+    let wired = wired_if(&rt, &heap, &heap).expect(&rt, "a pump");
+    let (_, place) = outcome_of(&rt, &heap, wired);
+    expect_that(&rt, place == Some(0), "what was sent");
 }
 
 /// The same run, with a growth refused.
@@ -304,29 +308,36 @@ struct LetterByLetter<'a, R> {
     rt: &'a R,
 }
 
+// What is seen of a pump, or where there was no memory for it.
+fn seen_of(rt: &(impl Wait + Abort), free: &Heap, wired: Option<Wired>) -> Seen {
+    match wired {
+        Some(wired) => {
+            let (misses, place) = outcome_of(rt, free, wired);
+            Seen {
+                is_made: true,
+                misses,
+                is_right: place.is_some(),
+            }
+        }
+        None => Seen {
+            is_made: false,
+            misses: 0,
+            is_right: true,
+        },
+    }
+}
+
 impl<R: Wait + Abort> Refusable for LetterByLetter<'_, R> {
     fn run_by(&self, free: &Heap, tight: &Heap) -> Result<Seen, Fail> {
-        let Some(wired) = wired_if(self.rt, free, tight) else {
-            return Ok(Seen {
-                is_made: false,
-                misses: 0,
-                is_right: true,
-            });
-        };
-        let run = run_of(self.rt, free, wired)?;
-        let misses = run.refused;
-        Ok(Seen {
-            is_made: true,
-            misses,
-            is_right: place_of(self.rt, free, run)?.is_some(),
-        })
+        Ok(seen_of(self.rt, free, wired_if(self.rt, free, tight)))
     }
 }
 
 #[test]
 fn pump_with_each_growth_refused(rt: HostRuntime) -> Result<(), Fail> {
     let refusals = refuse_in_turn(&LetterByLetter { rt: &rt }, rt.alloc())?;
-    assert_eq!(rt; refusals.fault, "");
-    assert!(rt; refusals.unmade >= 10 && refusals.missed >= 2);
+    expect_words(&rt, refusals.fault, "", "a pump");
+    expect_that(&rt, refusals.unmade >= 10, "pumps that were not made");
+    expect_that(&rt, refusals.missed >= 2, "calls that were refused");
     Ok(())
 }

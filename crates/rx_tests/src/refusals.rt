@@ -5,6 +5,7 @@
 
 ghost use Rattle.std.specs.Prelude.{◌≤◌, IfOk};
 
+use crate::expecting::{expect_that, expect_words};
 use crate::hubs::{Ran, Reading};
 use crate::in_turn::{Refusable, Seen, refuse_in_turn};
 use crate::signs::{Named, event_at, kind_of, policy_of, rules_of};
@@ -190,7 +191,7 @@ impl Refusable for Row {
             Some(ran) => Ok(Seen {
                 is_made: true,
                 misses: ran.hub.misses(),
-                is_right: ran.differs(free)?.is_none(),
+                is_right: ran.differs()?.is_none(),
             }),
         }
     }
@@ -200,12 +201,9 @@ impl Refusable for Row {
 fn worked_runs_with_each_growth_refused(rt: HostRuntime) -> Result<(), Fail> {
     for row in &ROWS {
         let refusals = refuse_in_turn(row, rt.alloc())?;
-        assert_eq!(rt; refusals.fault, "", "{}", row.name);
-        assert!(rt;
-            refusals.unmade >= 1 && refusals.missed >= 1,
-            "{}",
-            row.name
-        );
+        expect_words(&rt, refusals.fault, "", row.name);
+        expect_that(&rt, refusals.unmade >= 1, row.name);
+        expect_that(&rt, refusals.missed >= 1, row.name);
     }
     Ok(())
 }

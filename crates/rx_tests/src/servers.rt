@@ -5,14 +5,15 @@ ghost use Rattle.std.specs.Prelude.{◌+◌, ◌<◌, length};
 
 use crate::boxes::copy;
 use crate::drainers::{Meeting, meeting_of};
+use crate::expecting::{expect_answer, expect_count, expect_that, expect_told};
 use crate::heaps::unlimited;
 use crate::letters::put_result;
-use crate::signs::digit_of;
+use crate::told::Told;
 use rx_drain::{MemorySink, Sink};
 use rx_heap::Heap;
 use rx_note::{Answer, Errors, Event, Item, Note, Policy, Refusal, Strategy, Text};
 use rx_pump::{CallDesk, EndedDesk};
-use rx_server::{Report, Server, StartCause, SubjectReport, read_config, start};
+use rx_server::{Config, Report, Server, StartCause, SubjectReport, read_config, start};
 use std::alloc::Global;
 use std::process::Abort;
 use std::sync::atomic::AtomicU64;
@@ -38,17 +39,23 @@ const TWO_DRAINERS: &[u8] =
 const TWO_OF_EACH: &[u8] =
     b"[[subject]]\nname = \"s\"\nkind = \"publish\"\n[[subject]]\nname = \"t\"\nkind = \"publish\"\n[pool]\nworkers = 2\ndrainers = 2\n";
 
+// The configuration that this text says.
+fn config_of(rt: &impl Host, heap: &Heap, text: &[u8]) -> Config {
+    match read_config(copy(rt, heap), rt.alloc(), text) {
+        Ok(config) => config,
+        Err(_) => panic!(rt; "a configuration that is refused"),
+    }
+}
+
 // A server of the configuration that this text says.
-fn started<S: Sink + Send + 'static>(
-    rt: &impl Host,
-    heap: &Heap,
-    text: &[u8],
-) -> Result<Server<S>, Fail>
+fn started<S: Sink + Send + 'static>(rt: &impl Host, heap: &Heap, text: &[u8]) -> Server<S>
 where
     S::Rest: Send + 'static,
 {
-    let config = read_config(heap.clone()?, rt.alloc(), text)?;
-    Ok(start(rt, heap.clone()?, config)?)
+    match start(rt, copy(rt, heap), config_of(rt, heap, text)) {
+        Ok(server) => server,
+        Err(_) => panic!(rt; "the server was not started"),
+    }
 }
 
 // The report of a server that is closed, whose desks have ended.
@@ -56,11 +63,14 @@ fn closed<S: Sink + Send + 'static>(
     rt: &impl Host,
     server: Server<S>,
     ended: Vec<EndedDesk<S>, Heap>,
-) -> Result<Report<S::Rest>, Fail>
+) -> Report<S::Rest>
 where
     S::Rest: Send + 'static,
 {
-    Ok(server.close(rt, ended)?)
+    match server.close(rt, ended) {
+        Ok(report) => report,
+        Err(_) => panic!(rt; "the server was not closed"),
+    }
 }
 
 /// A desk with a port at least.
@@ -125,26 +135,24 @@ impl<S: Drop> Caller<S> {
 const ITEMS: u8 = 100;
 
 // The bytes of the items of a desk, each another one.
-fn all_bytes(heap: &Heap) -> Result<Vec<u8, Heap>, Fail> {
-    let mut bytes = Vec::new(heap.clone()?);
+fn all_bytes() -> Told {
+    let mut bytes = Told::new();
     for number in 0..ITEMS {
-        bytes.push(b' ' + number)?;
+        bytes.put(b' ' + number);
     }
-    Ok(bytes)
+    bytes
 }
 
 // The bytes of the items of a port, one behind the other.
-fn bytes_from(heap: &Heap, notes: &[Note], from: u32) -> Result<Vec<u8, Heap>, Fail> {
-    let mut bytes = Vec::new(heap.clone()?);
+fn bytes_from(notes: &[Note], from: u32) -> Told {
+    let mut bytes = Told::new();
     for note in notes {
         match note {
-            Note::Next(item) if item.from == from => {
-                bytes.extend_from_slice(item.text.as_bytes())?
-            }
+            Note::Next(item) if item.from == from => bytes.put_all(item.text.as_bytes()),
             _ => (),
         }
     }
-    Ok(bytes)
+    bytes
 }
 
 // Emits all items, each of which is admitted.
@@ -156,7 +164,7 @@ fn emit_all<S: Drop>(
 ) -> EndedDesk<S> {
     let mut caller = caller;
     for byte in bytes {
-        assert_eq!(rt; caller.emit(rt, heap, *byte), Ok(Answer::Admitted));
+        expect_answer(rt, caller.emit(rt, heap, *byte), Ok(Answer::Admitted));
     }
     caller.finish(rt)
 }
@@ -187,17 +195,13 @@ fn emit_by_two(
     let mut first = caller_of(rt, server);
     let second = caller_of(rt, server);
     let sink = MemorySink::new(copy(rt, heap), None);
-    assert_eq!(rt; first.join(rt, 200, sink), Ok(Answer::Joined(0)));
+    expect_answer(rt, first.join(rt, 200, sink), Ok(Answer::Joined(0)));
     emit_both(rt, heap, first, second, bytes)
 }
 
 // The report of a server after that.
-fn report_of_two_desks(
-    rt: &impl Host,
-    heap: &Heap,
-    bytes: &[u8],
-) -> Result<Report<Vec<Note, Heap>>, Fail> {
-    let mut server = started(rt, heap, TWO_DESKS)?;
+fn report_of_two_desks(rt: &impl Host, heap: &Heap, bytes: &[u8]) -> Report<Vec<Note, Heap>> {
+    let mut server = started(rt, heap, TWO_DESKS);
     let ended = emit_by_two(rt, heap, &mut server, bytes);
     closed(rt, server, ended)
 }
@@ -213,37 +217,45 @@ fn notes_of<'a>(rt: &impl Abort, report: &'a Report<Vec<Note, Heap>>) -> &'a [No
     }
 }
 
-// The notes are the items of both ports, those of each in their order.
-fn expect_items(rt: &impl Abort, heap: &Heap, notes: &[Note], bytes: &[u8]) -> Result<(), Fail> {
-    assert_eq!(rt; notes.len(), 200);
-    for from in 0..2 {
-        let emitted = bytes_from(heap, notes, from)?;
-        assert_eq!(rt; emitted.as_slice(), bytes, "{from}");
+// The one subject of a report.
+fn subject_of<'a, R: Drop>(rt: &impl Abort, report: &'a Report<R>) -> &'a SubjectReport {
+    match report.subjects.as_slice() {
+        [subject] => subject,
+        subjects => panic!(rt; "{} subjects", subjects.len()),
     }
-    Ok(())
+}
+
+// The notes are the items of both ports, those of each in their order.
+fn expect_items(rt: &impl Abort, notes: &[Note], bytes: &[u8]) {
+    expect_count(rt, notes.len() as u64, 200, "notes");
+    for from in 0..2 {
+        let emitted = bytes_from(notes, from);
+        assert_eq!(rt; emitted.as_bytes(), bytes, "{from}");
+    }
+}
+
+// The calls are the joining, the items, a request behind each of them, and the disposal.
+fn expect_all_admitted(rt: &impl Abort, report: &Report<Vec<Note, Heap>>, bytes: &[u8]) {
+    let subject = subject_of(rt, report);
+    expect_count(rt, subject.calls, 402, "calls");
+    expect_count(rt, subject.refused, 0, "refused");
+    expect_count(rt, u64::from(subject.joins), 1, "joins");
+    expect_count(rt, report.taken, 200, "taken");
+    expect_items(rt, notes_of(rt, report), bytes);
 }
 
 #[test]
-fn two_desks_one_subject(rt: HostRuntime) -> Result<(), Fail> {
-    let heap = unlimited(&rt);
-    let bytes = all_bytes(&heap)?;
-    let report = report_of_two_desks(&rt, &heap, bytes.as_slice())?;
-    // The joining, the items, a request behind each of them, and the disposal.
-    let subjects = [SubjectReport {
-        calls: 402,
-        refused: 0,
-        joins: 1,
-    }];
-    assert_eq!(rt; report.subjects.as_slice(), subjects.as_slice());
-    assert_eq!(rt; report.taken, 200);
-    expect_items(&rt, &heap, notes_of(&rt, &report), bytes.as_slice())
+fn two_desks_one_subject(rt: HostRuntime) {
+    let bytes = all_bytes();
+    let report = report_of_two_desks(&rt, &unlimited(&rt), bytes.as_bytes());
+    expect_all_admitted(&rt, &report, bytes.as_bytes());
 }
 
 // Joins two observers whose sinks are to meet.
 fn join_both<R: Host>(rt: &R, caller: &mut Caller<Meeting<R>>, come: &Arc<AtomicU64, Global>) {
     for who in 0..2 {
         let sink = meeting_of(rt, come);
-        assert_eq!(rt; caller.join(rt, 1, sink), Ok(Answer::Joined(who)));
+        expect_answer(rt, caller.join(rt, 1, sink), Ok(Answer::Joined(who)));
     }
 }
 
@@ -256,7 +268,7 @@ fn emit_to_both<R: Host>(
 ) -> Vec<EndedDesk<Meeting<R>>, Heap> {
     let mut caller = caller_of(rt, server);
     join_both(rt, &mut caller, come);
-    assert_eq!(rt; caller.emit(rt, heap, b'a'), Ok(Answer::Admitted));
+    expect_answer(rt, caller.emit(rt, heap, b'a'), Ok(Answer::Admitted));
     caller.finish_alone(rt, heap)
 }
 
@@ -265,46 +277,52 @@ fn report_of_two_drainers(
     rt: &impl Host,
     heap: &Heap,
     come: &Arc<AtomicU64, Global>,
-) -> Result<Report<bool>, Fail> {
-    let mut server = started(rt, heap, TWO_DRAINERS)?;
+) -> Report<bool> {
+    let mut server = started(rt, heap, TWO_DRAINERS);
     let ended = emit_to_both(rt, heap, &mut server, come);
     closed(rt, server, ended)
 }
 
 // Which observer's sinks each drainer put away: `m` that it met the other one, `!` that it did not.
-fn told_of_meetings(heap: &Heap, report: &Report<bool>) -> Result<Vec<u8, Heap>, Fail> {
-    let mut told = Vec::new(heap.clone()?);
+fn told_of_meetings(report: &Report<bool>) -> Told {
+    let mut told = Told::new();
     for list in &report.put_away {
         for away in list {
-            told.push(digit_of(away.who as usize))?;
-            told.push(if away.rest { b'm' } else { b'!' })?;
+            told.put_digit(away.who as usize);
+            told.put(if away.rest { b'm' } else { b'!' });
         }
-        told.push(b'|')?;
+        told.put(b'|');
     }
-    Ok(told)
+    told
+}
+
+// Both sinks met.
+fn expect_met(rt: &impl Abort, report: &Report<bool>) {
+    expect_count(rt, report.taken, 2, "taken");
+    expect_told(
+        rt,
+        told_of_meetings(report).as_bytes(),
+        "0m|1m|",
+        "meetings",
+    );
 }
 
 #[test]
 fn two_drainers_meet(rt: HostRuntime) -> Result<(), Fail> {
-    let heap = unlimited(&rt);
     let come = Arc::new(rt.alloc(), AtomicU64::new(0))?;
-    let report = report_of_two_drainers(&rt, &heap, &come)?;
-    assert_eq!(rt; report.taken, 2);
-    let told = told_of_meetings(&heap, &report)?;
-    assert_eq!(rt; told.as_slice(), b"0m|1m|".as_slice());
+    expect_met(&rt, &report_of_two_drainers(&rt, &unlimited(&rt), &come));
     Ok(())
 }
 
 // Puts how many notes were taken, and behind a space for each subject its calls, those refused and its joins.
-fn put_report<R: Drop>(told: &mut Vec<u8, Heap>, report: &Report<R>) -> Result<(), Fail> {
-    told.push(digit_of(report.taken as usize))?;
+fn put_report<R: Drop>(told: &mut Told, report: &Report<R>) {
+    told.put_digit(report.taken as usize);
     for subject in &report.subjects {
-        told.push(b' ')?;
-        told.push(digit_of(subject.calls as usize))?;
-        told.push(digit_of(subject.refused as usize))?;
-        told.push(digit_of(subject.joins as usize))?;
+        told.put(b' ');
+        told.put_digit(subject.calls as usize);
+        told.put_digit(subject.refused as usize);
+        told.put_digit(subject.joins as usize);
     }
-    Ok(())
 }
 
 /// What a desk was answered, and what it left.
@@ -327,54 +345,44 @@ fn call_twice(rt: &impl Host, free: &Heap, tight: &Heap, caller: Caller<MemorySi
 }
 
 // What is told of a run: the answers, and the report.
-fn told_of_run<R: Drop>(
-    heap: &Heap,
-    answers: &[Result<Answer, Refusal>],
-    report: &Report<R>,
-) -> Result<Vec<u8, Heap>, Fail> {
-    let mut told = Vec::new(heap.clone()?);
+fn told_of_run<R: Drop>(answers: &[Result<Answer, Refusal>], report: &Report<R>) -> Told {
+    let mut told = Told::new();
     for answer in answers {
-        put_result(&mut told, *answer)?;
+        put_result(&mut told, *answer);
     }
-    told.push(b'|')?;
-    put_report(&mut told, report)?;
-    Ok(told)
+    told.put(b'|');
+    put_report(&mut told, report);
+    told
 }
 
 // What is told of a server of which a desk does that.
-fn told_of_server(
-    rt: &impl Host,
-    free: &Heap,
-    tight: &Heap,
-    server: Server<MemorySink>,
-) -> Result<Vec<u8, Heap>, Fail> {
+fn told_of_server(rt: &impl Host, free: &Heap, tight: &Heap, server: Server<MemorySink>) -> Told {
     let mut server = server;
     let caller = caller_of(rt, &mut server);
     let Called { answers, ended } = call_twice(rt, free, tight, caller);
-    let report = server.close(rt, ended)?;
-    told_of_run(free, answers.as_slice(), &report)
+    told_of_run(answers.as_slice(), &closed(rt, server, ended))
 }
 
 // What is told of a server that was not started: `!` where there was no memory, `?` where there was no thread.
-fn told_of_fault(heap: &Heap, cause: StartCause) -> Result<Vec<u8, Heap>, Fail> {
-    let sign = match cause {
+fn told_of_fault(cause: StartCause) -> Told {
+    let mut told = Told::new();
+    told.put(match cause {
         StartCause::Memory => b'!',
         StartCause::NoThread => b'?',
-    };
-    Ok(vec![in heap.clone()?; sign]?)
+    });
+    told
 }
 
 // What is told of a server that grows by `tight`.
-fn told_of(rt: &impl Host, free: &Heap, tight: &Heap) -> Result<Vec<u8, Heap>, Fail> {
-    let config = read_config(copy(rt, free), rt.alloc(), TWO_OF_EACH)?;
-    match start(rt, copy(rt, tight), config) {
+fn told_of(rt: &impl Host, free: &Heap, tight: &Heap) -> Told {
+    match start(rt, copy(rt, tight), config_of(rt, free, TWO_OF_EACH)) {
         Ok(server) => told_of_server(rt, free, tight, server),
-        Err(fault) => told_of_fault(free, fault.cause),
+        Err(fault) => told_of_fault(fault.cause),
     }
 }
 
 // What is told where no growth is refused.
-const UNREFUSED: &[u8] = b"J0A|1 401 000";
+const UNREFUSED: &str = "J0A|1 401 000";
 
 // What is told where one is: of making the server, of the joining, of the emission, and of handing the sink its item.
 const REFUSED: [&[u8]; 4] = [b"!", b"mA|0 210 000", b"J0m|0 311 000", b"J0A|0 301 000"];
@@ -393,35 +401,34 @@ fn is_refused(told: &[u8], used: u64) -> bool {
 const MAX_GROWTHS: u64 = 1_000;
 
 // Runs with a growth refused. Whether the run met the refusal.
-fn meets_refusal(rt: &impl Host, free: &Heap, growth: u64) -> Result<bool, Fail> {
-    let tight = Heap::refusing(rt.alloc(), growth)?;
-    let told = told_of(rt, free, &tight)?;
+fn meets_refusal(rt: &impl Host, free: &Heap, tight: &Heap, growth: u64) -> bool {
+    let told = told_of(rt, free, tight);
     let is_met = tight.asked() > growth;
     if is_met {
         assert!(rt;
-            is_refused(told.as_slice(), tight.used()),
+            is_refused(told.as_bytes(), tight.used()),
             "growth {growth}"
         );
     } else {
-        assert_eq!(rt; told.as_slice(), UNREFUSED);
-        assert_eq!(rt; tight.used(), 0);
+        expect_told(rt, told.as_bytes(), UNREFUSED, "no growth refused");
+        expect_count(rt, tight.used(), 0, "bytes that were not given back");
     }
-    Ok(is_met)
+    is_met
 }
 
 // How many growths were refused, each in a run of its own, until a run met no refusal.
-fn refused_in_turn(rt: &impl Host, free: &Heap) -> Result<u64, Fail> {
+fn refused_in_turn(rt: &impl Host, free: &Heap) -> Option<u64> {
     for growth in 0..MAX_GROWTHS {
-        if !meets_refusal(rt, free, growth)? {
-            return Ok(growth);
+        let tight = Heap::refusing(rt.alloc(), growth).expect(rt, "a budget");
+        if !meets_refusal(rt, free, &tight, growth) {
+            return Some(growth);
         }
     }
-    Err(Fail::from("growths without an end"))
+    None
 }
 
 #[test]
-fn server_with_each_growth_refused(rt: HostRuntime) -> Result<(), Fail> {
-    let refused = refused_in_turn(&rt, &unlimited(&rt))?;
-    assert!(rt; refused >= 12);
-    Ok(())
+fn server_with_each_growth_refused(rt: HostRuntime) {
+    let refused = refused_in_turn(&rt, &unlimited(&rt));
+    expect_that(&rt, refused >= Some(12), "growths that were refused");
 }

@@ -5,13 +5,14 @@
 //! one of the writer, T for too many reads), then what was written, and behind `|` what the desk was asked: `n`, `c` and `f`
 //! for an item, completion and an error, and `s` for a Join.
 
+use crate::expecting::{expect_count, expect_told};
 use crate::heaps::unlimited;
+use crate::told::Told;
 use rx_heap::Heap;
 use rx_note::{Note, Policy};
 use rx_proto::{Name, Response, Word};
 use rx_session::{Desk, Follow, LineReader, Next, SessionEnd, serve_lines};
 use std::io::{self, ErrorKind, Read, Write};
-use std::test::Fail;
 
 /// Gives its bytes so many at a time. The first reads are interrupted, and one fails.
 #[derive(Drop)]
@@ -54,7 +55,7 @@ fn dripping(rest: &'static [u8], step: usize) -> Drips {
 /// Takes one byte a call until it is full, and counts its flushes, one of which fails.
 #[derive(Drop)]
 struct Sheet {
-    held: Vec<u8, Heap>,
+    held: Told,
     room: usize,
     flushes: u64,
     fails_at: u64,
@@ -66,7 +67,7 @@ impl Write for Sheet {
             return Err(io::Error::from(ErrorKind::Other));
         }
         let len = buf.len().min(1);
-        self.held.extend_from_slice(&buf[..len])?;
+        self.held.put_all(&buf[..len]);
         Ok(len)
     }
 
@@ -79,27 +80,20 @@ impl Write for Sheet {
     }
 }
 
-fn blank(heap: &Heap, room: usize) -> Result<Sheet, Fail> {
-    Ok(Sheet {
-        held: Vec::new(heap.clone()?),
+fn blank(room: usize) -> Sheet {
+    Sheet {
+        held: Told::new(),
         room,
         flushes: 0,
         fails_at: 0,
-    })
+    }
 }
 
 /// Answers each note alike, keeps a writer or gives it back, and notes what it was asked.
 #[derive(Drop)]
 struct Clerk {
-    asked: Vec<u8, Heap>,
+    asked: Told,
     takes: bool,
-}
-
-fn noted(asked: &mut Vec<u8, Heap>, sign: u8) -> Response {
-    match asked.push(sign) {
-        Ok(()) => Response::Done,
-        Err(_) => Response::Refused(Word::Memory),
-    }
 }
 
 impl<W: Drop> Desk<W> for Clerk {
@@ -110,11 +104,12 @@ impl<W: Drop> Desk<W> for Clerk {
     ghost follows = { λ old name policy writer answer new. Unit {0} };
 
     fn emit(&mut self, _name: &Name, note: Note) -> Response {
-        noted(&mut self.asked, sign_of(&note))
+        self.asked.put(sign_of(&note));
+        Response::Done
     }
 
     fn follow(&mut self, _name: &Name, _policy: Policy, writer: W) -> Follow<W> {
-        let _ = noted(&mut self.asked, b's');
+        self.asked.put(b's');
         if self.takes {
             Follow::Taken
         } else {
@@ -143,30 +138,24 @@ fn sign_of_end(end: SessionEnd) -> u8 {
 }
 
 // What a session came to.
-fn told_of(
-    heap: &Heap,
-    reader: &mut Drips,
-    writer: Sheet,
-    takes: bool,
-    max_reads: u64,
-) -> Result<Vec<u8, Heap>, Fail> {
+fn told_of(heap: &Heap, reader: &mut Drips, writer: Sheet, takes: bool, max_reads: u64) -> Told {
     let mut clerk = Clerk {
-        asked: Vec::new(heap.clone()?),
+        asked: Told::new(),
         takes,
     };
     let (end, back) = serve_lines(heap, reader, writer, &mut clerk, max_reads);
-    let mut told = Vec::new(heap.clone()?);
-    told.push(sign_of_end(end))?;
+    let mut told = Told::new();
+    told.put(sign_of_end(end));
     if let Some(sheet) = &back {
-        told.extend_from_slice(sheet.held.as_slice())?;
+        told.put_all(sheet.held.as_bytes());
     }
-    told.push(b'|')?;
-    told.extend_from_slice(clerk.asked.as_slice())?;
-    Ok(told)
+    told.put(b'|');
+    told.put_all(clerk.asked.as_bytes());
+    told
 }
 
 #[test]
-fn session_over_memory(rt: HostRuntime) -> Result<(), Fail> {
+fn session_over_memory(rt: HostRuntime) {
     let heap = unlimited(&rt);
     for (input, step, takes, max_reads, told) in [
         (
@@ -196,15 +185,14 @@ fn session_over_memory(rt: HostRuntime) -> Result<(), Fail> {
         ("", 1, true, 0, "T|"),
     ] {
         let mut reader = dripping(input.as_bytes(), step);
-        let told_now = told_of(&heap, &mut reader, blank(&heap, 4096)?, takes, max_reads)?;
-        assert_eq!(rt; told_now.as_slice(), told.as_bytes(), "{input}");
+        let told_now = told_of(&heap, &mut reader, blank(4096), takes, max_reads);
+        expect_told(&rt, told_now.as_bytes(), told, input);
     }
-    Ok(())
 }
 
 // A read that was interrupted is made again, and counts; no other that failed is.
 #[test]
-fn reads_that_fail(rt: HostRuntime) -> Result<(), Fail> {
+fn reads_that_fail(rt: HostRuntime) {
     let heap = unlimited(&rt);
     for (interrupted, fails_at, kind, max_reads, told, reads) in [
         (2, 0, ErrorKind::Other, 3, "QOK\n|", 3),
@@ -217,17 +205,16 @@ fn reads_that_fail(rt: HostRuntime) -> Result<(), Fail> {
         reader.interrupted = interrupted;
         reader.fails_at = fails_at;
         reader.kind = kind;
-        let told_now = told_of(&heap, &mut reader, blank(&heap, 4096)?, true, max_reads)?;
-        assert_eq!(rt; told_now.as_slice(), told.as_bytes());
-        assert_eq!(rt; reader.reads, reads);
+        let told_now = told_of(&heap, &mut reader, blank(4096), true, max_reads);
+        expect_told(&rt, told_now.as_bytes(), told, "reads that fail");
+        expect_count(&rt, reader.reads, reads, told);
     }
-    Ok(())
 }
 
 const LINES: &[u8] = b"END s\nEND s\nQUIT\n";
 
 #[test]
-fn writer_fails_at_each_byte(rt: HostRuntime) -> Result<(), Fail> {
+fn writer_fails_at_each_byte(rt: HostRuntime) {
     let heap = unlimited(&rt);
     for (room, told) in [
         (0, "W|c"),
@@ -239,15 +226,14 @@ fn writer_fails_at_each_byte(rt: HostRuntime) -> Result<(), Fail> {
         (9, "QOK\nOK\nOK\n|cc"),
     ] {
         let mut reader = dripping(LINES, 6);
-        let told_now = told_of(&heap, &mut reader, blank(&heap, room)?, true, 99)?;
-        assert_eq!(rt; told_now.as_slice(), told.as_bytes(), "{room}");
+        let told_now = told_of(&heap, &mut reader, blank(room), true, 99);
+        expect_told(&rt, told_now.as_bytes(), told, "a writer with little room");
     }
-    Ok(())
 }
 
 // All is flushed before each read and at the end, and a flush that fails ends the session.
 #[test]
-fn flushes_are_made(rt: HostRuntime) -> Result<(), Fail> {
+fn flushes_are_made(rt: HostRuntime) {
     let heap = unlimited(&rt);
     for (fails_at, told) in [
         (0, "QOK\nOK\nOK\n|cc"),
@@ -257,13 +243,12 @@ fn flushes_are_made(rt: HostRuntime) -> Result<(), Fail> {
         (4, "WOK\nOK\nOK\n|cc"),
         (5, "QOK\nOK\nOK\n|cc"),
     ] {
-        let mut writer = blank(&heap, 4096)?;
+        let mut writer = blank(4096);
         writer.fails_at = fails_at;
         let mut reader = dripping(LINES, 6);
-        let told_now = told_of(&heap, &mut reader, writer, true, 99)?;
-        assert_eq!(rt; told_now.as_slice(), told.as_bytes(), "{fails_at}");
+        let told_now = told_of(&heap, &mut reader, writer, true, 99);
+        expect_told(&rt, told_now.as_bytes(), told, "a flush that fails");
     }
-    Ok(())
 }
 
 // What a reader of lines tells next: the length of a line, or a letter.
@@ -282,7 +267,7 @@ fn lines_are_told_however_reads_are_cut(rt: HostRuntime) {
     for step in [1, 2, 3, 7, 64] {
         let mut lines = LineReader::new(dripping(b"ab\r\n\r\r\n\nabc\nd", step), 99);
         for told in [2, 1, 0, 3, 20_000, 20_000] {
-            assert_eq!(rt; told_next(&mut lines), told, "by {step}");
+            expect_count(&rt, told_next(&mut lines), told, "the next line");
         }
     }
 }

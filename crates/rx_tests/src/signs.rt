@@ -3,24 +3,28 @@
 
 ghost use Rattle.std.specs.Prelude.{◌≤◌};
 
-use rx_heap::Heap;
-use rx_note::{Errors, Event, Item, Kind, Limits, Note, Policy, Rules, Strategy, Text};
-use std::test::Fail;
+use rx_heap::{Heap, Memory};
+use rx_note::{BadRoom, Errors, Event, Item, Kind, Limits, Note, Policy, Rules, Strategy, Text};
+
+/// The text of these bytes, of which there are few, without a line feed.
+pub(crate) fn text_of(heap: &Heap, bytes: &[u8]) -> Result<Text, Memory> {
+    Text::new(heap.clone()?, bytes).map_err(|_| Memory)
+}
 
 /// The item of port 0 with this text.
-pub(crate) fn item(heap: &Heap, text: &[u8]) -> Result<Item, Fail> {
-    let text = Text::new(heap.clone()?, text)?;
+pub(crate) fn item(heap: &Heap, text: &[u8]) -> Result<Item, Memory> {
+    let text = text_of(heap, text)?;
     Ok(Item { from: 0, text })
 }
 
 /// The policy of a strategy, with errors behind the items.
-pub(crate) fn policy_of(strategy: Strategy) -> Result<Policy, Fail> {
+pub(crate) fn policy_of(strategy: Strategy) -> Result<Policy, BadRoom> {
     policy_by(strategy, Errors::Delay)
 }
 
 /// The policy of a strategy and an error mode.
-pub(crate) fn policy_by(strategy: Strategy, errors: Errors) -> Result<Policy, Fail> {
-    Ok(Policy::new(strategy, errors)?)
+pub(crate) fn policy_by(strategy: Strategy, errors: Errors) -> Result<Policy, BadRoom> {
+    Policy::new(strategy, errors)
 }
 
 /// The port of a seed, which came by none.
@@ -37,12 +41,12 @@ pub(crate) enum Named {
 }
 
 /// The kind of this name.
-pub(crate) fn kind_of(heap: &Heap, named: Named) -> Result<Kind, Fail> {
+pub(crate) fn kind_of(heap: &Heap, named: Named) -> Result<Kind, Memory> {
     match named {
         Named::Publish => Ok(Kind::Publish),
         Named::Behavior(None) => Ok(Kind::Behavior(None)),
         Named::Behavior(Some(letter)) => {
-            let seed = Text::new(heap.clone()?, &[letter])?;
+            let seed = text_of(heap, &[letter])?;
             Ok(Kind::Behavior(Some(seed)))
         }
         Named::Async => Ok(Kind::Async),
@@ -62,17 +66,17 @@ pub(crate) fn rules_of(kind: Kind) -> Rules
 }
 
 /// The note of a sign.
-pub(crate) fn note_of(heap: &Heap, sign: u8) -> Result<Note, Fail> {
+pub(crate) fn note_of(heap: &Heap, sign: u8) -> Result<Note, Memory> {
     match sign {
         b'.' => Ok(Note::Completed),
-        b'!' => Ok(Note::Failed(Text::new(heap.clone()?, b"x")?)),
+        b'!' => Ok(Note::Failed(text_of(heap, b"x")?)),
         letter => Ok(Note::Next(item(heap, &[letter])?)),
     }
 }
 
 /// The event of a sign: `+` joins an observer by this policy with a first request, a digit requests so many items for
 /// observer 0, `-` has it leave, any other emits its note.
-pub(crate) fn event_of(heap: &Heap, policy: Policy, first: u32, sign: u8) -> Result<Event, Fail> {
+pub(crate) fn event_of(heap: &Heap, policy: Policy, first: u32, sign: u8) -> Result<Event, Memory> {
     event_at(heap, policy, first, 0, sign)
 }
 
@@ -83,7 +87,7 @@ pub(crate) fn event_at(
     first: u32,
     at: u64,
     sign: u8,
-) -> Result<Event, Fail> {
+) -> Result<Event, Memory> {
     match sign {
         b'+' => Ok(Event::Join { policy, first, at }),
         b'0'..=b'9' => Ok(Event::Request {
@@ -123,12 +127,4 @@ pub(crate) fn digit_of(number: usize) -> u8 {
         Ok(digit) if digit < 10 => b'0' + digit,
         _ => b'+',
     }
-}
-
-/// Puts the signs of notes.
-pub(crate) fn put_notes(told: &mut Vec<u8, Heap>, notes: &[Note]) -> Result<(), Fail> {
-    for note in notes {
-        told.push(sign_of(note))?;
-    }
-    Ok(())
 }

@@ -6,6 +6,7 @@ use crate::signs::{item, note_of, policy_of, rules_of};
 use rx_heap::Heap;
 use rx_hub::Run;
 use rx_note::{Event, Kind, Note, Strategy};
+use std::process::Abort;
 use std::test::Fail;
 
 /// A run: so many observers join with a first request, items of so many bytes are emitted, the end comes or not, so many
@@ -226,6 +227,11 @@ const RUNS: [(Shape, usize, usize, usize); 9] = [
     ),
 ];
 
+// This is told of a run.
+fn expect_run(rt: &impl Abort, told: Told, wanted: Told, shape: &Shape) {
+    assert_eq!(rt; told, wanted, "{shape:?}");
+}
+
 #[test]
 fn no_size_wants_memory(rt: HostRuntime) -> Result<(), Fail> {
     let heap = unlimited(&rt);
@@ -237,7 +243,7 @@ fn no_size_wants_memory(rt: HostRuntime) -> Result<(), Fail> {
             given,
             bytes,
         };
-        assert_eq!(rt; told_of(&heap, shape)?, wanted, "{shape:?}");
+        expect_run(&rt, told_of(&heap, shape)?, wanted, shape);
     }
     Ok(())
 }

@@ -6,47 +6,42 @@
 //! opening; of the state the stamp, and `!` where the subject has ended, else `-`. Of a kind that is out of its limits
 //! nothing is told but `C` for its count, `A` for its age.
 
-use crate::heaps::unlimited;
-use crate::in_turn::{Refusable, Seen, refuse_in_turn};
-use crate::signs::{Named, digit_of, kind_of, note_of, sign_of, sign_of_item};
-use rx_heap::Heap;
+use crate::in_turn::{Script, Tale, expect_in_turn};
+use crate::signs::{Named, kind_of, note_of, sign_of, sign_of_item};
+use crate::told::Told;
+use rx_heap::{Heap, Memory};
 use rx_note::{Item, KindError, Note};
 use rx_subject::{AdmitError, Offer, Opening, Subject};
 use std::test::Fail;
 
-pub(crate) fn put_item(told: &mut Vec<u8, Heap>, item: &Option<Item>) -> Result<(), Fail> {
+pub(crate) fn put_item(told: &mut Told, item: &Option<Item>) {
     if let Some(item) = item {
-        told.push(sign_of_item(item))?;
+        told.put(sign_of_item(item));
     }
-    Ok(())
 }
 
-pub(crate) fn put_end(told: &mut Vec<u8, Heap>, end: &Option<Note>) -> Result<(), Fail> {
+pub(crate) fn put_end(told: &mut Told, end: &Option<Note>) {
     if let Some(end) = end {
-        told.push(sign_of(end))?;
+        told.put(sign_of(end));
     }
-    Ok(())
 }
 
-pub(crate) fn put_offered(
-    told: &mut Vec<u8, Heap>,
-    offered: &Result<Offer, AdmitError>,
-) -> Result<(), Fail> {
+pub(crate) fn put_offered(told: &mut Told, offered: &Result<Offer, AdmitError>) {
     match offered {
         Ok(offer) => {
-            put_item(told, &offer.item)?;
-            put_end(told, &offer.end)
+            put_item(told, &offer.item);
+            put_end(told, &offer.end);
         }
-        Err(AdmitError::Ended) => Ok(told.push(b'E')?),
-        Err(AdmitError::Memory) => Ok(told.push(b'M')?),
+        Err(AdmitError::Ended) => told.put(b'E'),
+        Err(AdmitError::Memory) => told.put(b'M'),
     }
 }
 
-fn put_opening(told: &mut Vec<u8, Heap>, opening: &Opening) -> Result<(), Fail> {
+fn put_opening(told: &mut Told, opening: &Opening) {
     for item in &opening.items {
-        told.push(sign_of_item(item))?;
+        told.put(sign_of_item(item));
     }
-    put_end(told, &opening.end)
+    put_end(told, &opening.end);
 }
 
 /// A subject that is tried, the moment of the next call, in milliseconds, whether the next note is only previewed, what is
@@ -56,7 +51,7 @@ struct Tried {
     subject: Subject,
     moment: u64,
     previews: bool,
-    told: Vec<u8, Heap>,
+    told: Told,
     misses: u64,
 }
 
@@ -68,35 +63,43 @@ impl Tried {
             .saturating_add(u64::from(digit));
     }
 
-    fn part(&mut self) -> Result<(), Fail> {
+    fn part(&mut self) {
         self.moment = 0;
-        Ok(self.told.push(b' ')?)
+        self.told.put(b' ');
     }
 
     fn count_miss(&mut self) {
         self.misses = self.misses.saturating_add(1);
     }
 
-    fn admit(&mut self, heap: &Heap, sign: u8) -> Result<(), Fail> {
-        let mut offered = self.subject.admit(0, note_of(heap, sign)?, self.moment);
-        if is_memory(&offered) {
-            self.count_miss();
-            offered = self.subject.admit(0, note_of(heap, sign)?, self.moment);
-        }
-        put_offered(&mut self.told, &offered)
+    fn admitted(&mut self, heap: &Heap, sign: u8) -> Result<Result<Offer, AdmitError>, Memory> {
+        let note = note_of(heap, sign)?;
+        Ok(self.subject.admit(0, note, self.moment))
     }
 
-    fn preview(&mut self, note: &Note) -> Result<(), Fail> {
+    fn admit(&mut self, heap: &Heap, sign: u8) -> Result<(), Memory> {
+        let offered = self.admitted(heap, sign)?;
+        if !is_memory(&offered) {
+            put_offered(&mut self.told, &offered);
+            return Ok(());
+        }
+        self.count_miss();
+        let offered = self.admitted(heap, sign)?;
+        put_offered(&mut self.told, &offered);
+        Ok(())
+    }
+
+    fn preview(&mut self, note: &Note) {
         self.previews = false;
         let mut offered = self.subject.preview(0, note);
         if is_memory(&offered) {
             self.count_miss();
             offered = self.subject.preview(0, note);
         }
-        put_offered(&mut self.told, &offered)
+        put_offered(&mut self.told, &offered);
     }
 
-    fn open(&mut self) -> Result<(), Fail> {
+    fn open(&mut self) {
         let mut opened = self.subject.opening(self.moment);
         if opened.is_err() {
             self.count_miss();
@@ -104,34 +107,41 @@ impl Tried {
         }
         match &opened {
             Ok(opening) => put_opening(&mut self.told, opening),
-            Err(_) => Ok(self.told.push(b'M')?),
+            Err(_) => self.told.put(b'M'),
         }
     }
 
-    fn put_state(&mut self) -> Result<(), Fail> {
-        self.told.push(digit_of(self.subject.stamp() as usize))?;
+    fn put_state(&mut self) {
+        self.told.put_digit(self.subject.stamp() as usize);
         let is_ended = self.subject.is_ended();
-        self.told.push(if is_ended { b'!' } else { b'-' })?;
-        Ok(())
+        self.told.put(if is_ended { b'!' } else { b'-' });
     }
 
-    fn take(&mut self, heap: &Heap, sign: u8) -> Result<(), Fail> {
+    fn take(&mut self, heap: &Heap, sign: u8) -> Result<(), Memory> {
         if self.previews {
-            self.preview(&note_of(heap, sign)?)
+            self.preview(&note_of(heap, sign)?);
+            Ok(())
         } else {
             self.admit(heap, sign)
         }
     }
 
-    fn step(&mut self, heap: &Heap, sign: u8) -> Result<(), Fail> {
+    fn step(&mut self, heap: &Heap, sign: u8) -> Result<(), Memory> {
         match sign {
-            b' ' => self.part()?,
+            b' ' => self.part(),
             b'0'..=b'9' => self.add_digit(sign - b'0'),
             b'~' => self.previews = true,
-            b'?' => self.open()?,
+            b'?' => self.open(),
             b'+' => self.subject.joined(self.moment),
-            b'=' => self.put_state()?,
+            b'=' => self.put_state(),
             other => self.take(heap, other)?,
+        }
+        Ok(())
+    }
+
+    fn run(&mut self, heap: &Heap, script: &[u8]) -> Result<(), Memory> {
+        for sign in script {
+            self.step(heap, *sign)?;
         }
         Ok(())
     }
@@ -141,75 +151,54 @@ pub(crate) fn is_memory(offered: &Result<Offer, AdmitError>) -> bool {
     matches!(offered, Err(AdmitError::Memory))
 }
 
-fn start(free: &Heap, tight: &Heap, named: Named) -> Result<Tried, Fail> {
-    let mut misses = 0;
-    let subject = match Subject::new(tight.clone()?, kind_of(free, named)?) {
-        Ok(subject) => subject,
-        Err(_) => {
-            misses = 1;
-            Subject::new(tight.clone()?, kind_of(free, named)?)?
-        }
-    };
-    Ok(Tried {
-        subject,
-        moment: 0,
-        previews: false,
-        told: Vec::new(free.clone()?),
-        misses,
-    })
+// A subject, and how many calls to make it were refused.
+fn made(free: &Heap, tight: &Heap, named: Named) -> Result<(Subject, u64), Memory> {
+    let kind = kind_of(free, named)?;
+    match Subject::new(tight.clone()?, kind) {
+        Ok(subject) => Ok((subject, 0)),
+        Err(_) => Ok((Subject::new(tight.clone()?, kind_of(free, named)?)?, 1)),
+    }
 }
 
-/// A script for a subject of a kind, and what is told of it.
+/// A script for a subject of a kind.
 #[derive(Clone, Copy)]
 struct Row {
     named: Named,
     script: &'static str,
-    told: &'static str,
 }
 
-/// What is told, and how many calls were refused for want of memory.
-#[derive(Drop)]
-struct Told {
-    told: Vec<u8, Heap>,
-    misses: u64,
-}
-
-fn told_alone(heap: &Heap, sign: u8) -> Result<Told, Fail> {
-    let told = vec![in heap.clone()?; sign]?;
-    Ok(Told { told, misses: 0 })
+fn told_alone(sign: u8) -> Tale {
+    let mut told = Told::new();
+    told.put(sign);
+    Tale { told, misses: 0 }
 }
 
 impl Row {
-    fn run(&self, free: &Heap, tight: &Heap) -> Result<Told, Fail> {
-        let mut tried = start(free, tight, self.named)?;
-        for sign in self.script.as_bytes() {
-            tried.step(free, *sign)?;
-        }
-        Ok(Told {
+    fn run(&self, free: &Heap, tight: &Heap) -> Result<Tale, Memory> {
+        let (subject, misses) = made(free, tight, self.named)?;
+        let mut tried = Tried {
+            subject,
+            moment: 0,
+            previews: false,
+            told: Told::new(),
+            misses,
+        };
+        tried.run(free, self.script.as_bytes())?;
+        Ok(Tale {
             told: tried.told,
             misses: tried.misses,
         })
     }
-
-    // Tries a subject that grows by `tight`, while all else is made by `free`.
-    fn told_by(&self, free: &Heap, tight: &Heap) -> Result<Told, Fail> {
-        let kind = kind_of(free, self.named)?;
-        match kind.check() {
-            Ok(()) => self.run(free, tight),
-            Err(KindError::BadCount) => told_alone(free, b'C'),
-            Err(KindError::BadAge) => told_alone(free, b'A'),
-        }
-    }
 }
 
-impl Refusable for Row {
-    fn run_by(&self, free: &Heap, tight: &Heap) -> Result<Seen, Fail> {
-        let told = self.told_by(free, tight)?;
-        Ok(Seen {
-            is_made: true,
-            misses: told.misses,
-            is_right: told.told.as_slice() == self.told.as_bytes(),
-        })
+impl Script for Row {
+    // Tries a subject that grows by `tight`, while all else is made by `free`.
+    fn tell(&self, free: &Heap, tight: &Heap) -> Result<Tale, Fail> {
+        match kind_of(free, self.named)?.check() {
+            Ok(()) => Ok(self.run(free, tight)?),
+            Err(KindError::BadCount) => Ok(told_alone(b'C')),
+            Err(KindError::BadAge) => Ok(told_alone(b'A')),
+        }
     }
 }
 
@@ -274,20 +263,8 @@ fn subject_call_by_call(rt: HostRuntime) -> Result<(), Fail> {
         let row = Row {
             named: *named,
             script,
-            told: wanted,
         };
-        let heap = unlimited(&rt);
-        let told = row.told_by(&heap, &heap)?;
-        assert_eq!(rt;
-            told.told.as_slice(),
-            wanted.as_bytes(),
-            "{named:?} {script}, wanted {wanted}"
-        );
-        assert_eq!(rt;
-            refuse_in_turn(&row, rt.alloc())?.fault,
-            "",
-            "{named:?} {script}"
-        );
+        expect_in_turn(&rt, rt.alloc(), &row, wanted, script)?;
     }
     Ok(())
 }

@@ -12,9 +12,9 @@
 ghost use Rattle.std.specs.Prelude.{◌≡◌, true, IfOk};
 ghost use Rattle.rx_lane.specs.TapeLanes.{StandsBack, StandsWhereSome, IsShared};
 
-use crate::heaps::unlimited;
-use crate::in_turn::{Refusable, Seen, refuse_in_turn};
-use crate::signs::{digit_of, item, note_of, policy_by, put_notes, sign_of};
+use crate::in_turn::{Script, Tale, expect_in_turn};
+use crate::signs::{item, note_of, policy_by, sign_of};
+use crate::told::Told;
 use rx_heap::{Heap, Memory};
 use rx_lane::{AskError, TapeLane};
 use rx_note::{Errors, Given, Item, Note, Policy, Strategy};
@@ -32,7 +32,7 @@ struct Tried {
     who: Option<u32>,
     given: Vec<Note, Heap>,
     outs: Vec<Given, Heap>,
-    told: Vec<u8, Heap>,
+    told: Told,
     misses: u64,
     ghost waits: { StandsWhereSome tape lane.cursor lane.back },
     ghost stands: { is_open ≡ true → StandsBack tape lane.cursor lane.back },
@@ -43,11 +43,10 @@ impl Tried {
         self.misses = self.misses.saturating_add(1);
     }
 
-    fn put_back(&mut self, back: &Option<Note>) -> Result<(), Fail> {
+    fn put_back(&mut self, back: &Option<Note>) {
         if let Some(note) = back {
-            self.told.push(sign_of(note))?;
+            self.told.put(sign_of(note));
         }
-        Ok(())
     }
 
     fn asked_once(&mut self, n: u32) -> Result<(), AskError> {
@@ -67,26 +66,25 @@ impl Tried {
         }
     }
 
-    fn ask(&mut self, n: u32) -> Result<(), Fail> {
+    fn ask(&mut self, n: u32) {
         match self.asked(n) {
             Ok(()) => {}
-            Err(AskError::ZeroRequest) => self.told.push(b'Z')?,
-            Err(AskError::TooMuch) => self.told.push(b'T')?,
-            Err(AskError::Memory) => self.told.push(b'M')?,
+            Err(AskError::ZeroRequest) => self.told.put(b'Z'),
+            Err(AskError::TooMuch) => self.told.put(b'T'),
+            Err(AskError::Memory) => self.told.put(b'M'),
         }
         match self.who {
-            None => put_notes(&mut self.told, self.given.as_slice()),
+            None => self.told.put_notes(self.given.as_slice()),
             Some(who) => put_outs(&mut self.told, who, self.outs.as_slice()),
         }
     }
 
-    fn put_state(&mut self) -> Result<(), Fail> {
-        self.told.push(digit_of(self.lane.waiting_len()))?;
-        self.told.push(digit_of(self.lane.waiting_notes()))?;
-        self.told.push(digit_of(self.lane.owed() as usize))?;
-        self.told
-            .push(if self.lane.is_over() { b'!' } else { b'-' })?;
-        Ok(())
+    fn put_state(&mut self) {
+        self.told.put_digit(self.lane.waiting_len());
+        self.told.put_digit(self.lane.waiting_notes());
+        self.told.put_digit(self.lane.owed() as usize);
+        let is_over = self.lane.is_over();
+        self.told.put(if is_over { b'!' } else { b'-' });
     }
 
     // Puts an item on the tape and offers it, with a copy where it is owed; nothing after the end.
@@ -106,51 +104,66 @@ impl Tried {
         }
     }
 
-    fn offer(&mut self, heap: &Heap, text: &[u8]) -> Result<(), Fail> {
-        let first = item(heap, text)?;
-        let copy = self.copy_owed(&first)?;
-        let back = match self.offered(first, copy) {
-            Ok(back) => back,
+    // The same of the item of this text.
+    fn offered_text(&mut self, heap: &Heap, text: &[u8]) -> Result<Option<Item>, Memory> {
+        let item = item(heap, text)?;
+        let copy = self.copy_owed(&item)?;
+        self.offered(item, copy)
+    }
+
+    fn offered_at_last(&mut self, heap: &Heap, text: &[u8]) -> Result<Option<Item>, Memory> {
+        match self.offered_text(heap, text) {
+            Ok(back) => Ok(back),
             Err(Memory) => {
                 self.count_miss();
-                let again = item(heap, text)?;
-                let copy = self.copy_owed(&again)?;
-                self.offered(again, copy)?
+                self.offered_text(heap, text)
             }
-        };
-        self.put_back(&back.map(Note::Next))
+        }
     }
 
-    fn end(&mut self, note: Note) -> Result<(), Fail> {
+    fn offer(&mut self, heap: &Heap, text: &[u8]) -> Result<(), Memory> {
+        let back = self.offered_at_last(heap, text)?;
+        self.put_back(&back.map(Note::Next));
+        Ok(())
+    }
+
+    fn end(&mut self, note: Note) {
         self.is_open = false;
         let back = self.lane.end(note);
-        self.put_back(&back)
+        self.put_back(&back);
     }
 
-    fn step(&mut self, heap: &Heap, sign: u8) -> Result<(), Fail> {
+    fn step(&mut self, heap: &Heap, sign: u8) -> Result<(), Memory> {
         match sign {
-            b' ' => Ok(self.told.push(b' ')?),
+            b' ' => self.told.put(b' '),
             b'?' => self.put_state(),
             b'0'..=b'9' => self.ask(u32::from(sign - b'0')),
             b'.' | b'!' => self.end(note_of(heap, sign)?),
-            letter => self.offer(heap, &[letter]),
+            letter => self.offer(heap, &[letter])?,
         }
+        Ok(())
+    }
+
+    fn run(&mut self, heap: &Heap, script: &[u8]) -> Result<(), Memory> {
+        for sign in script {
+            self.step(heap, *sign)?;
+        }
+        Ok(())
     }
 }
 
 // Puts the signs of notes that are addressed to an observer.
-fn put_outs(told: &mut Vec<u8, Heap>, who: u32, outs: &[Given]) -> Result<(), Fail> {
+fn put_outs(told: &mut Told, who: u32, outs: &[Given]) {
     for given in outs {
         if given.who != who {
-            told.push(b'#')?;
+            told.put(b'#');
         }
-        told.push(sign_of(&given.note))?;
+        told.put(sign_of(&given.note));
     }
-    Ok(())
 }
 
 // Puts the items of these letters on a tape, and says how many pushes were refused and then made again.
-fn push_all(tape: &mut Tape, heap: &Heap, letters: &[u8]) -> Result<u64, Fail> {
+fn push_all(tape: &mut Tape, heap: &Heap, letters: &[u8]) -> Result<u64, Memory> {
     let mut misses: u64 = 0;
     for letter in letters {
         if tape.push(item(heap, &[*letter])?).is_err() {
@@ -184,7 +197,7 @@ fn shared_policy(shared: Shared) -> Result<Policy, Fail>
 }
 
 /// The number of a lane's observer where that is told to its requests, what stands on the tape before it joins, how many of
-/// these it is offered behind a lead, its policy and its first request, a script, and what is told of it.
+/// these it is offered behind a lead, its policy and its first request, and a script.
 #[derive(Clone, Copy)]
 struct Row {
     who: Option<u32>,
@@ -194,11 +207,10 @@ struct Row {
     shared: Shared,
     first: u32,
     script: &'static str,
-    told: &'static str,
 }
 
 // The lead of a row.
-fn lead_of(heap: &Heap, lead: Option<u8>) -> Result<Option<Item>, Fail> {
+fn lead_of(heap: &Heap, lead: Option<u8>) -> Result<Option<Item>, Memory> {
     match lead {
         Some(letter) => Ok(Some(item(heap, &[letter])?)),
         None => Ok(None),
@@ -206,25 +218,53 @@ fn lead_of(heap: &Heap, lead: Option<u8>) -> Result<Option<Item>, Fail> {
 }
 
 impl Row {
-    // A lane that joins: what it gives at once is told.
-    fn start(&self, free: &Heap, tight: &Heap) -> Result<Tried, Fail> {
-        let policy = shared_policy(self.shared)?;
-        let mut tape = Tape::new(tight.clone()?);
-        let mut misses = push_all(&mut tape, free, self.before.as_bytes())?;
+    // A lane that joins: what it gives at once is put behind `given`.
+    fn joined(
+        &self,
+        heap: &Heap,
+        policy: Policy,
+        tape: &mut Tape,
+        given: &mut Vec<Note, Heap>,
+    ) -> Result<TapeLane, Memory>
+        requires { IsShared policy.strategy }
+        ensures { IfOk result (λ lane. StandsBack tape.new lane.cursor lane.back) }
+    {
         let back = self.back.min(tape.len());
-        let mut given = Vec::new(tight.clone()?);
-        let lead = lead_of(free, self.lead)?;
-        let lane = match TapeLane::new(policy, self.first, lead, back, &mut tape, &mut given) {
-            Ok(lane) => lane,
+        let lead = lead_of(heap, self.lead)?;
+        TapeLane::new(policy, self.first, lead, back, tape, given)
+    }
+
+    // The same, made again where it was refused, and how often it was.
+    fn joined_at_last(
+        &self,
+        heap: &Heap,
+        policy: Policy,
+        tape: &mut Tape,
+        given: &mut Vec<Note, Heap>,
+    ) -> Result<(TapeLane, u64), Memory>
+        requires { IsShared policy.strategy }
+        ensures { IfOk result (λ made. StandsBack tape.new made.0.cursor made.0.back) }
+    {
+        match self.joined(heap, policy, tape, given) {
+            Ok(lane) => Ok((lane, 0)),
             Err(Memory) => {
-                misses = misses.saturating_add(1);
-                let back = self.back.min(tape.len());
-                let lead = lead_of(free, self.lead)?;
-                TapeLane::new(policy, self.first, lead, back, &mut tape, &mut given)?
+                let lane = self.joined(heap, policy, tape, given)?;
+                Ok((lane, 1))
             }
-        };
-        let mut told = Vec::new(free.clone()?);
-        put_notes(&mut told, given.as_slice())?;
+        }
+    }
+
+    // A lane with its tape, and what it gave at once.
+    fn start(&self, free: &Heap, tight: &Heap, policy: Policy) -> Result<Tried, Memory>
+        requires { IsShared policy.strategy }
+    {
+        let outs = Vec::new(tight.clone()?);
+        let mut given = Vec::new(tight.clone()?);
+        let mut tape = Tape::new(tight.clone()?);
+        let refused = push_all(&mut tape, free, self.before.as_bytes())?;
+        let (lane, misses) = self.joined_at_last(free, policy, &mut tape, &mut given)?;
+        let mut told = Told::new();
+        told.put_notes(given.as_slice());
         given.clear();
         Ok(Tried {
             tape,
@@ -232,28 +272,21 @@ impl Row {
             is_open: true,
             who: self.who,
             given,
-            outs: Vec::new(tight.clone()?),
+            outs,
             told,
-            misses,
+            misses: misses.saturating_add(refused),
         })
-    }
-
-    fn tried(&self, free: &Heap, tight: &Heap) -> Result<Tried, Fail> {
-        let mut tried = self.start(free, tight)?;
-        for sign in self.script.as_bytes() {
-            tried.step(free, *sign)?;
-        }
-        Ok(tried)
     }
 }
 
-impl Refusable for Row {
-    fn run_by(&self, free: &Heap, tight: &Heap) -> Result<Seen, Fail> {
-        let tried = self.tried(free, tight)?;
-        Ok(Seen {
-            is_made: true,
+impl Script for Row {
+    fn tell(&self, free: &Heap, tight: &Heap) -> Result<Tale, Fail> {
+        let policy = shared_policy(self.shared)?;
+        let mut tried = self.start(free, tight, policy)?;
+        tried.run(free, self.script.as_bytes())?;
+        Ok(Tale {
+            told: tried.told,
             misses: tried.misses,
-            is_right: tried.told.as_slice() == self.told.as_bytes(),
         })
     }
 }
@@ -292,16 +325,8 @@ fn tape_lane_call_by_call(rt: HostRuntime) -> Result<(), Fail> {
                 shared: Shared { room, errors },
                 first,
                 script,
-                told: wanted,
             };
-            let heap = unlimited(&rt);
-            let tried = row.tried(&heap, &heap)?;
-            assert_eq!(rt;
-                tried.told.as_slice(),
-                wanted.as_bytes(),
-                "{script}, wanted {wanted}"
-            );
-            assert_eq!(rt; refuse_in_turn(&row, rt.alloc())?.fault, "", "{script}");
+            expect_in_turn(&rt, rt.alloc(), &row, wanted, script)?;
         }
     }
     Ok(())

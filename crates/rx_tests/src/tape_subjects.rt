@@ -3,14 +3,16 @@
 
 ghost use Rattle.std.specs.Prelude.{◌≤◌, length};
 
+use crate::expecting::expect_count;
 use crate::heaps::unlimited;
-use crate::in_turn::{Refusable, Seen, refuse_in_turn};
-use crate::signs::{Named, digit_of, kind_of, note_of, sign_of, sign_of_item};
+use crate::in_turn::{Script, Tale, expect_in_turn};
+use crate::signs::{Named, kind_of, note_of, sign_of_item};
 use crate::subjects::{ROWS, is_memory, put_end, put_item, put_offered};
 use crate::tapes::cursor_of;
+use crate::told::Told;
 use rx_heap::{Heap, Memory};
 use rx_note::Note;
-use rx_subject::{TapeOpening, TapeSubject};
+use rx_subject::{AdmitError, Offer, TapeOpening, TapeSubject};
 use rx_tape::Tape;
 use std::test::Fail;
 
@@ -22,7 +24,7 @@ struct Tried {
     subject: TapeSubject,
     moment: u64,
     previews: bool,
-    told: Vec<u8, Heap>,
+    told: Told,
     misses: u64,
     ghost within: { length subject.stamps ≤ length tape.items },
 }
@@ -35,97 +37,120 @@ impl Tried {
             .saturating_add(u64::from(digit));
     }
 
-    fn part(&mut self) -> Result<(), Fail> {
+    fn part(&mut self) {
         self.moment = 0;
-        Ok(self.told.push(b' ')?)
+        self.told.put(b' ');
     }
 
     fn count_miss(&mut self) {
         self.misses = self.misses.saturating_add(1);
     }
 
-    fn admit(&mut self, heap: &Heap, sign: u8) -> Result<(), Fail> {
+    fn admitted(&mut self, heap: &Heap, sign: u8) -> Result<Result<Offer, AdmitError>, Memory> {
         let note = note_of(heap, sign)?;
-        let mut offered = self.subject.admit(0, note, self.moment, &mut self.tape);
-        if is_memory(&offered) {
-            self.count_miss();
-            let again = note_of(heap, sign)?;
-            offered = self.subject.admit(0, again, self.moment, &mut self.tape);
-        }
-        put_offered(&mut self.told, &offered)
+        Ok(self.subject.admit(0, note, self.moment, &mut self.tape))
     }
 
-    fn preview(&mut self, note: &Note) -> Result<(), Fail> {
+    fn admit(&mut self, heap: &Heap, sign: u8) -> Result<(), Memory> {
+        let offered = self.admitted(heap, sign)?;
+        if !is_memory(&offered) {
+            put_offered(&mut self.told, &offered);
+            return Ok(());
+        }
+        self.count_miss();
+        let offered = self.admitted(heap, sign)?;
+        put_offered(&mut self.told, &offered);
+        Ok(())
+    }
+
+    fn preview(&mut self, note: &Note) {
         self.previews = false;
         let mut offered = self.subject.preview(0, note);
         if is_memory(&offered) {
             self.count_miss();
             offered = self.subject.preview(0, note);
         }
-        put_offered(&mut self.told, &offered)
+        put_offered(&mut self.told, &offered);
+    }
+
+    // The cursor of the tape's last items, of which there are so many.
+    fn cursor_at_last(&mut self, back: usize) -> Result<u32, Memory> {
+        match cursor_of(&mut self.tape, back) {
+            Ok(cursor) => Ok(cursor),
+            Err(Memory) => {
+                self.count_miss();
+                cursor_of(&mut self.tape, back)
+            }
+        }
     }
 
     // The signs of an opening: its lead, and the tape's last items from a cursor that is made for it.
-    fn put_opening(&mut self, opening: &TapeOpening) -> Result<(), Fail> {
-        put_item(&mut self.told, &opening.lead)?;
-        let cursor = match cursor_of(&mut self.tape, opening.back) {
-            Ok(cursor) => cursor,
-            Err(Memory) => {
-                self.count_miss();
-                cursor_of(&mut self.tape, opening.back)?
-            }
-        };
+    fn put_opening(&mut self, opening: &TapeOpening) -> Result<(), Memory> {
+        put_item(&mut self.told, &opening.lead);
+        let cursor = self.cursor_at_last(opening.back)?;
         for place in 0..opening.back {
             if let Some(item) = self.tape.read_ahead(cursor, place) {
-                self.told.push(sign_of_item(item))?;
+                self.told.put(sign_of_item(item));
             }
         }
         self.tape.release(cursor);
-        put_end(&mut self.told, &opening.end)
-    }
-
-    fn open(&mut self) -> Result<(), Fail> {
-        let opened = match self.subject.opening(self.moment, &self.tape) {
-            Ok(opening) => opening,
-            Err(Memory) => {
-                self.count_miss();
-                self.subject.opening(self.moment, &self.tape)?
-            }
-        };
-        self.put_opening(&opened)
-    }
-
-    fn put_state(&mut self) -> Result<(), Fail> {
-        self.told.push(digit_of(self.subject.stamp() as usize))?;
-        let is_ended = self.subject.is_ended();
-        self.told.push(if is_ended { b'!' } else { b'-' })?;
+        put_end(&mut self.told, &opening.end);
         Ok(())
     }
 
-    fn take(&mut self, heap: &Heap, sign: u8) -> Result<(), Fail> {
-        if self.previews {
-            self.preview(&note_of(heap, sign)?)
-        } else {
-            self.admit(heap, sign)?;
-            Ok(self.tape.trim(self.subject.keep()))
+    fn opened(&mut self) -> Result<TapeOpening, Memory> {
+        match self.subject.opening(self.moment, &self.tape) {
+            Ok(opening) => Ok(opening),
+            Err(Memory) => {
+                self.count_miss();
+                self.subject.opening(self.moment, &self.tape)
+            }
         }
     }
 
-    fn step(&mut self, heap: &Heap, sign: u8) -> Result<(), Fail> {
+    fn open(&mut self) -> Result<(), Memory> {
+        let opened = self.opened()?;
+        self.put_opening(&opened)
+    }
+
+    fn put_state(&mut self) {
+        self.told.put_digit(self.subject.stamp() as usize);
+        let is_ended = self.subject.is_ended();
+        self.told.put(if is_ended { b'!' } else { b'-' });
+    }
+
+    fn take(&mut self, heap: &Heap, sign: u8) -> Result<(), Memory> {
+        if self.previews {
+            self.preview(&note_of(heap, sign)?);
+        } else {
+            self.admit(heap, sign)?;
+            self.tape.trim(self.subject.keep());
+        }
+        Ok(())
+    }
+
+    fn step(&mut self, heap: &Heap, sign: u8) -> Result<(), Memory> {
         match sign {
-            b' ' => self.part()?,
+            b' ' => self.part(),
             b'0'..=b'9' => self.add_digit(sign - b'0'),
             b'~' => self.previews = true,
             b'?' => self.open()?,
             b'+' => self.subject.joined(self.moment),
-            b'=' => self.put_state()?,
+            b'=' => self.put_state(),
             other => self.take(heap, other)?,
+        }
+        Ok(())
+    }
+
+    fn run(&mut self, heap: &Heap, script: &[u8]) -> Result<(), Memory> {
+        for sign in script {
+            self.step(heap, *sign)?;
         }
         Ok(())
     }
 }
 
-fn start(free: &Heap, tight: &Heap, named: Named) -> Result<Tried, Fail> {
+fn start(free: &Heap, tight: &Heap, named: Named) -> Result<Tried, Memory> {
     let mut misses = 0;
     let subject = match TapeSubject::new(tight.clone()?, kind_of(free, named)?) {
         Ok(subject) => subject,
@@ -139,63 +164,54 @@ fn start(free: &Heap, tight: &Heap, named: Named) -> Result<Tried, Fail> {
         subject,
         moment: 0,
         previews: false,
-        told: Vec::new(free.clone()?),
+        told: Told::new(),
         misses,
     })
 }
 
-/// A script for a subject of a kind, and what is told of it.
+/// A script for a subject of a kind.
 #[derive(Clone, Copy)]
 struct Row {
     named: Named,
     script: &'static str,
-    told: &'static str,
 }
 
 impl Row {
-    fn tried(&self, free: &Heap, tight: &Heap) -> Result<Tried, Fail> {
-        let mut tried = start(free, tight, self.named)?;
-        for sign in self.script.as_bytes() {
-            tried.step(free, *sign)?;
-        }
-        Ok(tried)
+    // How many items are on the tape in the end.
+    fn kept(&self, heap: &Heap) -> Result<usize, Memory> {
+        let mut tried = start(heap, heap, self.named)?;
+        tried.run(heap, self.script.as_bytes())?;
+        Ok(tried.tape.len())
     }
 }
 
-impl Refusable for Row {
-    fn run_by(&self, free: &Heap, tight: &Heap) -> Result<Seen, Fail> {
-        let tried = self.tried(free, tight)?;
-        Ok(Seen {
-            is_made: true,
+impl Script for Row {
+    fn tell(&self, free: &Heap, tight: &Heap) -> Result<Tale, Fail> {
+        let mut tried = start(free, tight, self.named)?;
+        tried.run(free, self.script.as_bytes())?;
+        Ok(Tale {
+            told: tried.told,
             misses: tried.misses,
-            is_right: tried.told.as_slice() == self.told.as_bytes(),
         })
     }
+}
+
+// Whether a kind is within its limits.
+fn is_within(heap: &Heap, named: Named) -> Result<bool, Memory> {
+    Ok(kind_of(heap, named)?.check().is_ok())
 }
 
 #[test]
 fn tape_subject_call_by_call(rt: HostRuntime) -> Result<(), Fail> {
     let heap = unlimited(&rt);
     for (named, script, wanted) in &ROWS {
-        if kind_of(&heap, *named)?.check().is_err() {
-            continue;
+        if is_within(&heap, *named)? {
+            let row = Row {
+                named: *named,
+                script,
+            };
+            expect_in_turn(&rt, rt.alloc(), &row, wanted, script)?;
         }
-        let row = Row {
-            named: *named,
-            script,
-            told: wanted,
-        };
-        let tried = row.tried(&heap, &heap)?;
-        assert_eq!(rt;
-            tried.told.as_slice(),
-            wanted.as_bytes(),
-            "{named:?} {script}, wanted {wanted}"
-        );
-        assert_eq!(rt;
-            refuse_in_turn(&row, rt.alloc())?.fault,
-            "",
-            "{named:?} {script}"
-        );
     }
     Ok(())
 }
@@ -212,13 +228,8 @@ fn a_tape_keeps_what_joiners_may_need(rt: HostRuntime) -> Result<(), Fail> {
         (Named::Replay(None, Some(10)), "0a 5b 10c", 2),
         (Named::Replay(None, Some(10)), "0a 5b 10c 10. 99+", 2),
     ] {
-        let row = Row {
-            named,
-            script,
-            told: "",
-        };
-        let tried = row.tried(&heap, &heap)?;
-        assert_eq!(rt; tried.tape.len(), kept, "{named:?} {script}");
+        let row = Row { named, script };
+        expect_count(&rt, row.kept(&heap)? as u64, kept, script);
     }
     Ok(())
 }

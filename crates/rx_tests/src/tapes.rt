@@ -6,9 +6,9 @@
 
 ghost use Rattle.std.specs.Prelude.{◌≡◌};
 
-use crate::heaps::unlimited;
-use crate::in_turn::{Refusable, Seen, refuse_in_turn};
-use crate::signs::{digit_of, item, sign_of_item};
+use crate::in_turn::{Script, Tale, expect_in_turn};
+use crate::signs::{item, sign_of_item};
+use crate::told::Told;
 use rx_heap::{Heap, Memory};
 use rx_note::Item;
 use rx_tape::Tape;
@@ -20,7 +20,7 @@ use std::test::Fail;
 struct Tried {
     tape: Tape,
     cursor: u32,
-    told: Vec<u8, Heap>,
+    told: Told,
     misses: u64,
 }
 
@@ -41,77 +41,83 @@ fn sign_read(item: Option<&Item>) -> u8 {
 }
 
 impl Tried {
-    fn push(&mut self, heap: &Heap, text: &[u8]) -> Result<(), Fail> {
+    fn count_miss(&mut self) {
+        self.misses = self.misses.saturating_add(1);
+    }
+
+    fn push(&mut self, heap: &Heap, text: &[u8]) -> Result<(), Memory> {
         if self.tape.push(item(heap, text)?).is_err() {
-            self.misses = self.misses.saturating_add(1);
+            self.count_miss();
             self.tape.push(item(heap, text)?)?;
         }
         Ok(())
     }
 
-    fn make(&mut self, back: usize) -> Result<(), Fail> {
+    fn make(&mut self, back: usize) -> Result<(), Memory> {
         self.cursor = match cursor_of(&mut self.tape, back) {
             Ok(cursor) => cursor,
-            Err(_) => {
-                self.misses = self.misses.saturating_add(1);
+            Err(Memory) => {
+                self.count_miss();
                 cursor_of(&mut self.tape, back)?
             }
         };
-        Ok(self.told.push(digit_of(self.cursor as usize))?)
+        self.told.put_digit(self.cursor as usize);
+        Ok(())
     }
 
-    fn step(&mut self, heap: &Heap, sign: u8) -> Result<(), Fail> {
+    fn read(&mut self) {
+        let sign = sign_read(self.tape.read(self.cursor));
+        self.told.put(sign);
+    }
+
+    fn read_ahead(&mut self) {
+        let sign = sign_read(self.tape.read_ahead(self.cursor, 1));
+        self.told.put(sign);
+    }
+
+    fn step(&mut self, heap: &Heap, sign: u8) -> Result<(), Memory> {
         match sign {
-            b'<' => Ok(self.told.push(sign_read(self.tape.read(self.cursor)))?),
-            b'~' => Ok(
-                self.told
-                    .push(sign_read(self.tape.read_ahead(self.cursor, 1)))?,
-            ),
-            b'#' => Ok(self.told.push(digit_of(self.tape.len()))?),
-            b'>' => Ok(self.tape.advance(self.cursor)),
-            b'-' => Ok(self.tape.release(self.cursor)),
-            b'(' => Ok(self.tape.trim(0)),
-            b')' => Ok(self.tape.trim(1)),
-            b'@' => {
-                self.cursor = 0;
-                Ok(())
-            }
-            b'0'..=b'9' => self.make(usize::from(sign - b'0')),
-            letter => self.push(heap, &[letter]),
+            b'<' => self.read(),
+            b'~' => self.read_ahead(),
+            b'#' => self.told.put_digit(self.tape.len()),
+            b'>' => self.tape.advance(self.cursor),
+            b'-' => self.tape.release(self.cursor),
+            b'(' => self.tape.trim(0),
+            b')' => self.tape.trim(1),
+            b'@' => self.cursor = 0,
+            b'0'..=b'9' => self.make(usize::from(sign - b'0'))?,
+            letter => self.push(heap, &[letter])?,
         }
+        Ok(())
+    }
+
+    fn run(&mut self, heap: &Heap, script: &[u8]) -> Result<(), Memory> {
+        for sign in script {
+            self.step(heap, *sign)?;
+        }
+        Ok(())
     }
 }
 
-/// A script for a tape, and what is told of it.
+/// A script for a tape.
 #[derive(Clone, Copy)]
 struct Row {
     script: &'static str,
-    told: &'static str,
 }
 
-impl Row {
+impl Script for Row {
     // Tries a tape that grows by `tight`.
-    fn tried(&self, free: &Heap, tight: &Heap) -> Result<Tried, Fail> {
+    fn tell(&self, free: &Heap, tight: &Heap) -> Result<Tale, Fail> {
         let mut tried = Tried {
             tape: Tape::new(tight.clone()?),
             cursor: 0,
-            told: Vec::new(free.clone()?),
+            told: Told::new(),
             misses: 0,
         };
-        for sign in self.script.as_bytes() {
-            tried.step(free, *sign)?;
-        }
-        Ok(tried)
-    }
-}
-
-impl Refusable for Row {
-    fn run_by(&self, free: &Heap, tight: &Heap) -> Result<Seen, Fail> {
-        let tried = self.tried(free, tight)?;
-        Ok(Seen {
-            is_made: true,
+        tried.run(free, self.script.as_bytes())?;
+        Ok(Tale {
+            told: tried.told,
             misses: tried.misses,
-            is_right: tried.told.as_slice() == self.told.as_bytes(),
         })
     }
 }
@@ -128,18 +134,7 @@ fn tape_call_by_call(rt: HostRuntime) -> Result<(), Fail> {
         ("ab20@-2<@<", "010aa"),
         ("abcd4)#>>>>>)#<", "041_"),
     ] {
-        let row = Row {
-            script,
-            told: wanted,
-        };
-        let heap = unlimited(&rt);
-        let tried = row.tried(&heap, &heap)?;
-        assert_eq!(rt;
-            tried.told.as_slice(),
-            wanted.as_bytes(),
-            "{script}, wanted {wanted}"
-        );
-        assert_eq!(rt; refuse_in_turn(&row, rt.alloc())?.fault, "", "{script}");
+        expect_in_turn(&rt, rt.alloc(), &Row { script }, wanted, script)?;
     }
     Ok(())
 }

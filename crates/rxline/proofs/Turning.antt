@@ -11,6 +11,7 @@ use Rattle.rx_proto.specs.declared.script_line.ScriptLine.{ScriptLine}
 use Rattle.rx_session.specs.declared.session_end.SessionEnd.{SessionEnd}
 use Rattle.rx_session.specs.declared.session_end.SessionEnd.TheVariants as ends
 use Rattle.rx_session.specs.declared.step.Step.{Step}
+use Rattle.rx_session.specs.declared.step.Step.TheVariants as steps
 use Rattle.rxline.specs.declared.told.Told.{Told}
 use Rattle.rxline.specs.declared.told.Told.TheVariants as told
 use Rattle.rx_proto.specs.Bytes.{AppendsPrefix}
@@ -19,8 +20,9 @@ use Rattle.rx_session.specs.Lines.{TakesLine, without_cr}
 use Rattle.rx_proto.specs.Reading.{script_read}
 use Rattle.rx_proto.proofs.Exact.{script_exact}
 use Rattle.rx_session.specs.Steps.{unread, GoesOn, Goes, Advances}
-use Rattle.rxline.specs.Tellings.{IsIn, Quits, TellsOn, Turns, is_last}
+use Rattle.rxline.specs.Tellings.{IsIn, IsInHand, Quits, TellsOn, Turns, is_last}
 use Rattle.rxline.specs.Transcripts.{State, line_written, after_line, ends_script}
+use Rattle.rx_session.proofs.Stepping.{told-is_line}
 use Rattle.rx_session.proofs.Written.{Prefix-behind}
 
 -- what was held and then written is what was put
@@ -51,6 +53,15 @@ none_match (Some x) P Q e m = cc
 -- a step that begins with no end
 pub goes_by : (step : Step) (old new : Option (List ℕ)) (before after : LineState) → before.end ≡ None → Advances step old new before after → Goes step old new before after
 goes_by step old new before after none advances = none_match before.end _ _ none advances
+
+-- the line that a step took may be told
+pub in_hand : (step : Step) (old new : Option (List ℕ)) (before after : LineState) → Goes step old new before after → IsInHand step after
+in_hand (steps.Line len) old new before after goes =
+    let line = told-is_line _ _ _ _ after.window len goes.0 in (goes.0.said.within, line.0, line.1)
+in_hand steps.Long old new before after goes = tt
+in_hand steps.EndOfInput old new before after goes = tt
+in_hand steps.ReadFault old new before after goes = tt
+in_hand steps.TooManyReads old new before after goes = tt
 
 -- a line of more than 1,100 bytes is refused
 pub script_read-long : (line : List ℕ) → 1100 < length line → script_read line ≡ Err Long

@@ -1,5 +1,5 @@
 -- What telling a line does to the run of a script.
-use Rattle.std.specs.Prelude.{◌≡◌, ◌≤◌, ℕ, Bool, true, false, List, ◌++◌, Option, None, Some, Result, Err, MatchResult, if◌then◌else◌, length}
+use Rattle.std.specs.Prelude.{◌≡◌, ◌≤◌, ℕ, Bool, true, false, List, ◌++◌, Option, None, Some, Result, Err, MatchResult, if◌then◌else◌, length, take}
 use Rattle.std.specs.Io.KnownBytes.{Appends, IsAtEnd}
 use Rattle.std.specs.Borrow.{Bor}
 use Rattle.rxline.specs.declared.asked.Asked.{Asked}
@@ -12,6 +12,8 @@ use Rattle.rx_proto.specs.declared.line_error.BadLine.TheVariants.{Long}
 use Rattle.rx_session.specs.declared.line_state.LineState.{LineState}
 use Rattle.rx_session.specs.declared.session_end.SessionEnd.{SessionEnd}
 use Rattle.rx_session.specs.declared.session_end.SessionEnd.TheVariants as ends
+use Rattle.rx_session.specs.declared.step.Step.{Step}
+use Rattle.rx_session.specs.declared.step.Step.TheVariants as steps
 use Rattle.rxline.specs.declared.told.Told.{Told}
 use Rattle.rxline.specs.declared.told.Told.TheVariants as told
 use Rattle.rx_proto.specs.declared.writing.WriteFault.{WriteFault}
@@ -61,6 +63,14 @@ reading_of None = Err Long
 abbrev pub MayBeTold : Option (Bor (List ℕ)) → Type 0
 MayBeTold (Some line) = (length line.now ≤ 1100) × HasNoLf line.now
 MayBeTold None = Unit {0}
+
+-- a line that a step took stands at the front of the window, and may be told
+abbrev pub IsInHand : Step → LineState → Type 0
+IsInHand (steps.Line len) lines = (len ≤ length lines.window) × (length (take len lines.window) ≤ 1100) × HasNoLf (take len lines.window)
+IsInHand steps.Long lines = Unit {0}
+IsInHand steps.EndOfInput lines = Unit {0}
+IsInHand steps.ReadFault lines = Unit {0}
+IsInHand steps.TooManyReads lines = Unit {0}
 
 -- ending a script that said so writes all that is held, or meets a fault
 abbrev pub Quits : SessionEnd → Option (List ℕ) → Option (List ℕ) → List ℕ → Type 0

@@ -28,20 +28,26 @@ pub fn name_in<'a>(line: &Line<'a>) -> &'a [u8]
     }
 }
 
-/// The event for which a line asks, at a moment in milliseconds. Its text is made over `heap`.
+/// The event for which a line asks, at a moment in milliseconds. Its text is the spare one where that has room for the bytes,
+/// else it is made over `heap`.
 #[inline(always)]
-pub fn event_in(heap: &Heap, line: &Line<'_>, moment: u64) -> Result<Event, Memory>
+pub fn event_in(
+    heap: &Heap,
+    spare: &mut Option<Text>,
+    line: &Line<'_>,
+    moment: u64,
+) -> Result<Event, Memory>
     requires spelled { IsSpelled (meaning_of line.now) }
     requires named { names_subject (meaning_of line.now) ≡ true }
     ensures { MakesEvent result (asks moment (meaning_of line.now)) }
 {
     match line {
         Line::Pub { text, .. } => {
-            let text = text_of(heap, text)?;
+            let text = text_of(heap, spare, text)?;
             Ok(emitted(Note::Next(Item { from: 0, text }), moment))
         }
         Line::Fail { text, .. } => {
-            let text = text_of(heap, text)?;
+            let text = text_of(heap, spare, text)?;
             Ok(emitted(Note::Failed(text), moment))
         }
         Line::End { .. } => Ok(emitted(Note::Completed, moment)),
@@ -69,9 +75,14 @@ fn joined(policy: Policy, first: u32, at: u64) -> Event
 
 // The text of these bytes, which are one.
 #[inline(always)]
-fn text_of(heap: &Heap, bytes: &[u8]) -> Result<Text, Memory>
+fn text_of(heap: &Heap, spare: &mut Option<Text>, bytes: &[u8]) -> Result<Text, Memory>
     requires { IsText bytes.now }
     ensures { IfOk result (λ text. text ≡ bytes.now) }
 {
+    if let Some(mut text) = spare.take()
+        && text.refill(bytes)
+    {
+        return Ok(text);
+    }
     Text::of_line(heap.clone()?, bytes)
 }

@@ -16,7 +16,7 @@ use crate::printing::put_given;
 use crate::told::Told;
 use crate::topic::{Topic, place_of, topics_of};
 use rx_heap::{Heap, Memory};
-use rx_note::{Answer, Event, Given, Refusal};
+use rx_note::{Answer, Event, Given, Item, Note, Refusal, Text};
 use rx_proto::{BadLine, Line, Name, Response, Word, WriteFault, read_script_without_lf};
 use rx_server::{Config, response_to};
 use rx_session::{LineState, Outbox, SessionEnd, Step};
@@ -39,10 +39,10 @@ pub fn run_script<R: Read, W: Write>(
     let mut script = Script::new(alloc, config)?;
     let mut lines = LineState::new(max_reads);
     loop {
-        let Ok(()) = script.catch_up(&mut lines, writer) else {
+        let Ok(step) = script.next_step(&mut lines, reader, writer) else {
             return Ok(SessionEnd::WriteFault);
         };
-        if let Some(end) = script.turn(&mut lines, reader, writer) {
+        if let Some(end) = script.tell_step(&lines, writer, step) {
             return Ok(end);
         }
     }
@@ -55,13 +55,17 @@ pub(crate) struct Script {
     moment: u64,
     outs: Vec<Given, Heap>,
     outbox: Outbox,
+    // A text that was let go, in whose block the next one may stand.
+    spare: Option<Text>,
     ghost nothing_left: { outs.items ≡ [] },
 }
 
 impl Script {
     ghost use Rattle.rxline.specs.Scripts.{TakesAt};
-    ghost use Rattle.rx_session.specs.Steps.{unread};
-    ghost use Rattle.rxline.specs.Tellings.{CarriesOut, IsIn, MayBeTold, Quits, Tells, TellsOn, Turns, reading_of};
+    ghost use Rattle.std.specs.Prelude.{List, Option, ℕ};
+    ghost use Rattle.rx_session.specs.declared.line_state.LineState.{LineState};
+    ghost use Rattle.rx_session.specs.Steps.{unread, Goes};
+    ghost use Rattle.rxline.specs.Tellings.{CarriesOut, IsIn, IsInHand, MayBeTold, Quits, Tells, TellsOn, Turns, reading_of};
     ghost use Rattle.rxline.specs.Transcripts.{new_state};
 
     // The run of a script over the subjects of a configuration, with no line yet.
@@ -74,40 +78,48 @@ impl Script {
             moment: 0,
             outs: Vec::new(alloc),
             outbox: Outbox::new(),
+            spare: None,
         })
     }
 
-    // Writes all that was answered, where the next line asks for a read.
-    fn catch_up<W: Write>(
-        &mut self,
-        lines: &mut LineState,
-        writer: &mut W,
-    ) -> Result<(), WriteFault>
-        ensures puts { Puts result self.old.outbox self.new.outbox (W.contents writer.old) (W.contents writer.new) [] }
-        ensures empty { OnOk result (HasNoLf (unread lines.new) → self.new.outbox ≡ []) }
-        ensures topics { self.new.topics.items ≡ self.old.topics.items }
-        ensures moment { self.new.moment ≡ self.old.moment }
-        ensures unread { unread lines.new ≡ unread lines.old }
-        ensures reads { lines.new.reads ≡ lines.old.reads }
-        ensures end { lines.new.end ≡ lines.old.end }
-    {
-        if lines.has_line() {
-            return Ok(());
-        }
-        self.flush(writer)
-    }
-
-    // Reads the next line and tells it. How the script ended, if it did.
-    fn turn<R: Read, W: Write>(
+    // Takes the next line, or finds the end. Where that takes a read, all that was answered is written first.
+    #[inline(always)]
+    fn next_step<R: Read, W: Write>(
         &mut self,
         lines: &mut LineState,
         reader: &mut R,
         writer: &mut W,
-    ) -> Option<SessionEnd>
+    ) -> Result<Step, WriteFault>
         requires { lines.old.end ≡ None }
-        ensures { Turns result self.old self.new (W.contents writer.old) (W.contents writer.new) (R.remaining reader.old) (R.remaining reader.new) lines.old lines.new }
+        ensures puts { Puts result self.old.outbox self.new.outbox (W.contents writer.old) (W.contents writer.new) [] }
+        ensures empty { OnOk result (HasNoLf (unread lines.old) → self.new.outbox ≡ []) }
+        ensures topics { self.new.topics.items ≡ self.old.topics.items }
+        ensures moment { self.new.moment ≡ self.old.moment }
+        ensures goes { IfOk result (λ step. Goes step (R.remaining reader.old) (R.remaining reader.new) lines.old lines.new) }
+        ensures no_read { OnErr result (R.remaining reader.new ≡ R.remaining reader.old) }
     {
-        match lines.advance(reader) {
+        if let Some(step) = lines.known() {
+            return Ok(step);
+        }
+        match self.flush(writer) {
+            Ok(()) => Ok(lines.advance(reader)),
+            Err(fault) => Err(fault),
+        }
+    }
+
+    // Tells the line that a step took, or the end that it found. How the script ended, if it did.
+    #[inline(always)]
+    fn tell_step<W: Write>(
+        &mut self,
+        lines: &LineState,
+        writer: &mut W,
+        step: Step,
+    ) -> Option<SessionEnd>
+        requires { IsInHand step lines.now }
+        ensures { (read_old read_new : Option (List ℕ)) (before : LineState) → Goes step read_old read_new before lines.now
+            → Turns result self.old self.new (W.contents writer.old) (W.contents writer.new) read_old read_new before lines.now }
+    {
+        match step {
             Step::Line(len) => self.tell_on(writer, Some(lines.line(len))),
             Step::Long => self.tell_on(writer, None),
             Step::EndOfInput => Some(SessionEnd::EndOfInput),
@@ -117,6 +129,7 @@ impl Script {
     }
 
     // Writes all that was answered, and flushes the writer.
+    #[inline(never)]
     fn flush<W: Write>(&mut self, writer: &mut W) -> Result<(), WriteFault>
         ensures written { Writes result (W.contents writer.old) (W.contents writer.new) self.old.outbox }
         ensures empty { self.new.outbox ≡ [] }
@@ -202,7 +215,7 @@ impl Script {
         let Some(place) = place_of(&self.topics, name_in(line)) else {
             return self.refuse(writer, Word::Subject);
         };
-        match event_in(&self.topics[place].heap, line, self.moment) {
+        match event_in(&self.topics[place].heap, &mut self.spare, line, self.moment) {
             Ok(event) => self.take(writer, place, event),
             Err(Memory) => self.refuse(writer, Word::Memory),
         }
@@ -237,6 +250,7 @@ impl Script {
             &mut self.topics[place],
             event,
             &mut self.outs,
+            &mut self.spare,
             &mut self.outbox,
             writer,
         )?;
@@ -260,6 +274,7 @@ fn take_event<W: Write>(
     topic: &mut Topic,
     event: Event,
     outs: &mut Vec<Given, Heap>,
+    spare: &mut Option<Text>,
     outbox: &mut Outbox,
     writer: &mut W,
 ) -> Result<(), WriteFault>
@@ -269,8 +284,30 @@ fn take_event<W: Write>(
 {
     let answered = topic.hub.step(0, event, outs);
     let put = put_answer(outbox, writer, &topic.name, answered, outs);
-    outs.clear();
+    let_go(outs, &topic.heap, spare);
     put
+}
+
+// Lets go of the notes that were put. The text of the last is kept where the next text may stand in its block, unless there
+// is a limit, by which a block that is kept would count.
+#[inline(always)]
+fn let_go(outs: &mut Vec<Given, Heap>, heap: &Heap, spare: &mut Option<Text>)
+    ensures { outs.new.items ≡ [] }
+{
+    if let Some(
+        Given {
+            who: _,
+            note: Note::Next(Item { from: _, text }),
+        },
+    ) = outs.pop()
+        && text.has_block()
+        && heap.asked() == 0
+    {
+        *spare = Some(text);
+    }
+    if !outs.is_empty() {
+        outs.clear();
+    }
 }
 
 // Puts the answer to an event, and a line for each note given.

@@ -1,14 +1,13 @@
-use Rattle.std.proofs.Common.{◌≡◌, ◌<◌, ◌++◌, true, length, take, get_or, arith, ap, subst, sym, ◌∙◌, append_assoc}
+use Rattle.std.proofs.Common.{◌<◌, ◌++◌, length, take, get_or, arith, ap, sym, ◌∙◌, append_assoc}
 use Rattle.std.proofs.Math.Seq.{map-set_same}
 use Rattle.std.proofs.lemmas.List.{length-map}
-use Rattle.std.proofs.lemmas.List.Elements.{AllWithin-more, AllWithin-more_set}
+use Rattle.std.proofs.lemmas.List.Elements.{AllWithin-more_set}
 use Rattle.rx_history.specs.Histories.{addressed}
 use Rattle.rx_hub.specs.declared.subscription.Subscription.{Subscription}
-use Rattle.rx_hub.specs.Seats.{HoldsCopy, owing_of, given_now}
-use Rattle.rx_hub.specs.Audiences.{Place, place_of, places_of, gifts}
+use Rattle.rx_hub.specs.Seats.{HoldsCopy, given_now}
+use Rattle.rx_hub.specs.Audiences.{place_of, places_of, gifts}
 use Rattle.rx_hub.proofs.Feeding.{gifts-more}
 use Rattle.rx_hub.proofs.Places.{place-at}
-use Rattle.rx_hub.proofs.audience.give_item.Goals.{then-not-branch, else-not-branch}
 use Rattle.rx_hub.proofs.audience.give_item.Goals as goal
 
 pub returns-in_err-give_now-clause-places : goal.returns-in_err-give_now-clause-places
@@ -38,16 +37,6 @@ loop-i-preserved c =
           ∙ ap (λ os. os ++ gift) was.given
           ∙ append_assoc before (gifts item (take i places)) gift
           ∙ ap (λ gs. before ++ gs) (sym (gifts-more item places i (place_of one) within at));
-      owed = λ all.
-          elim c.if-not-branch.branch [
-            | then-not-branch w ↦ absurd cc
-            | else-not-branch w ↦
-                let so_far : c.loop-i.all ≡ true = cc in
-                let is : c.in_ok-give_now.field-0 ≡ true = cc in
-                let here : 0 < owing_of one.seat = c.in_ok-give_now.ensures.owed is in
-                AllWithin-more (λ (p : Place). 0 < owing_of p.seat) places 0 i (was.owed so_far)
-                (λ d. subst (λ (p : Place). 0 < owing_of p.seat) (sym (place-at subs i one d lt c.index_mut.ensures.value) ∙ ap (λ ps. get_or ps i d) was.places) here)
-          ];
       holds = AllWithin-more_set subs i c.give_now.new.self lt (λ (s : Subscription). HoldsCopy item s.ready.item s.seat) was.holds c.in_ok-give_now.ensures.holds;
       room = omega (arith, c.give_now.ensures.len, c.give_now.ensures.capacity, was.room, was.len);
     }

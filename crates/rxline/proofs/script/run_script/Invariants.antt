@@ -5,11 +5,11 @@ use Rattle.rx_session.specs.Steps.{unread}
 use Rattle.rxline.proofs.SoFar.{SoFar}
 use Rattle.rxline.proofs.script.run_script.Given as goal
 
-abbrev pub invariant-loop-script : goal.invariant-loop-script
-invariant-loop-script g l =
+abbrev pub invariant-loop-step : goal.invariant-loop-step
+invariant-loop-step g l =
     SoFar (new_subjects l.fn.config.subjects.items) (g.R.Read.remaining l.initial.reader) (g.R.Read.remaining l.reader)
     (g.W.Write.contents l.initial.writer) (g.W.Write.contents l.writer) l.script (unread l.lines)
     × (l.lines.end ≡ None)
 
-abbrev pub decreases-loop-script : goal.decreases-loop-script
-decreases-loop-script g l = ahead l.lines.reads (unread l.lines)
+abbrev pub decreases-loop-step : goal.decreases-loop-step
+decreases-loop-step g l = ahead l.lines.reads (unread l.lines)

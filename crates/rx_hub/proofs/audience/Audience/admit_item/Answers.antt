@@ -1,4 +1,4 @@
-use Rattle.std.proofs.Common.{◌≡◌, ◌∷◌, [], ◌++◌, List, false, sym, ap, subst, ◌∙◌}
+use Rattle.std.proofs.Common.{◌≡◌, ◌∷◌, [], ◌++◌, List, sym, ap, subst, ◌∙◌}
 use Rattle.rx_note.specs.declared.event.Event.TheVariants.{Emit}
 use Rattle.rx_note.specs.declared.item.Item.{Item}
 use Rattle.rx_note.specs.declared.note.Note.TheVariants.{Next}
@@ -7,42 +7,53 @@ use Rattle.rx_history.specs.Histories.{◌▹◌}
 use Rattle.rx_subject.specs.Subjects as subjects
 use Rattle.rx_subject.specs.TapeSubjects.{subject_on}
 use Rattle.rx_hub.specs.Subscriptions.{Observer, AllFed}
-use Rattle.rx_hub.specs.Audiences.{AudienceState, Place, places_of, observers_on, gifts, AllOn}
+use Rattle.rx_tape.specs.Tapes.{TapeState, pushed}
+use Rattle.rx_hub.specs.Audiences.{AudienceState, places_of, observers_on, gifts, Owned}
 use Rattle.rx_hub.specs.Audiences as audiences
 use Rattle.rx_hub.proofs.Places.{apart_same}
 use Rattle.rx_hub.proofs.Tight.{owned_same}
 use Rattle.rx_hub.proofs.audience.Audience.admit_item.Goals as goal
 
-pub invariant_of-self-then-keeps_nothing : goal.invariant_of-self-then-keeps_nothing
-invariant_of-self-then-keeps_nothing c =
+pub invariant_of-self : goal.invariant_of-self
+invariant_of-self c =
     let a = c.self.inside in
     let olds = places_of a.subscriptions.items in
     let news = places_of c.pass_owed_all.new.subscriptions.items in
-    let on = subst (λ (ps : List Place). AllOn a.tape false ps) (sym c.in-Ok.ensures.places) c.self.invariant.0 in
-    let same : audiences.cursors news ≡ audiences.cursors olds = c.pass_owed_all.ensures.cursors ∙ ap audiences.cursors c.in-Ok.ensures.places in
-    (c.pass_owed_all.ensures.on a.tape on, apart_same olds news same c.self.invariant.1, owned_same a.tape olds news same c.self.invariant.2)
+    let same : audiences.cursors news ≡ audiences.cursors olds = c.pass_owed_all.ensures.cursors in
+    (c.pass_owed_all.ensures.on a.tape c.self.invariant.0, apart_same olds news same c.self.invariant.1, owned_same a.tape olds news same c.self.invariant.2)
 
-pub returns-then-keeps_nothing-clause-stands : goal.returns-then-keeps_nothing-clause-stands
-returns-then-keeps_nothing-clause-stands c = λ from rules H stands.
+pub returns-then-are_owed-clause-stands : goal.returns-then-are_owed-clause-stands
+returns-then-are_owed-clause-stands c = λ from rules H stands.
     c.pass_item.ensures.stands c.self.inside.tape.items c.args.item.from (record { from = from; text = c.args.item.text }) rules H
     (subst (λ (v : AudienceState). subjects.StandsFor (subject_on v.items c.args.subject.now) rules H) (sym c.self.view_is) stands)
 
-pub returns-then-keeps_nothing-clause-fed : goal.returns-then-keeps_nothing-clause-fed
-returns-then-keeps_nothing-clause-fed c =
+pub returns-then-are_owed-clause-fed : goal.returns-then-are_owed-clause-fed
+returns-then-are_owed-clause-fed c =
     let a = c.self.inside in
     let items = a.tape.items in
     let item = c.args.item in
     let before = c.args.outs.now.items in
-    let places = c.in-Ok.ensures.places in
     let news = observers_on items (places_of c.pass_owed_all.new.subscriptions.items) in
     let fed = c.pass_owed_all.ensures.fed items item in
-    let olds = ap (observers_on items) places ∙ ap (λ (v : AudienceState). v.observers) c.self.view_is in (
+    let olds = ap (λ (v : AudienceState). v.observers) c.self.view_is in (
       fed.0,
       c.in-Ok.ensures.given
           ∙ ap (λ os. os ++ gifts item (places_of a.subscriptions.items)) c.in_ok-reserve.ensures.items
-          ∙ ap (λ ps. before ++ gifts item ps) (sym places)
           ∙ ap (λ gs. before ++ gs) fed.1,
       subst (λ (os : List Observer). AllFed (Offered item ∷ []) os news fed.0) olds fed.2,
+    )
+
+pub invariant_of-self-2 : goal.invariant_of-self-2
+invariant_of-self-2 c =
+    let a = c.self.inside in
+    let olds = places_of a.subscriptions.items in
+    let made = places_of c.give_item.new.subscriptions.items in
+    let news = places_of c.pass_all.new.subscriptions.items in
+    let same_made : audiences.cursors made ≡ audiences.cursors olds = ap audiences.cursors c.in-Ok-give_item.ensures.places in
+    let owned : Owned (pushed a.tape c.args.item) made = owned_same a.tape olds made same_made c.self.invariant.2 in (
+      c.pass_all.ensures.on,
+      apart_same olds news (c.pass_all.ensures.cursors ∙ same_made) c.self.invariant.1,
+      c.pass_all.ensures.owned (subst (λ (tape : TapeState). Owned tape made) (sym c.in-Ok-admit_on.ensures.tape) owned),
     )
 
 pub returns-clause-stands : goal.returns-clause-stands

@@ -1,7 +1,7 @@
 use Rattle.std.proofs.Common.{◌≡◌, arith}
-use Rattle.rx_tests.specs.declared.boxes.TheConstants.{BODIES}
+use Rattle.rx_tests.specs.declared.two_threads.TheConstants.{BODIES}
 use Rattle.rx_tests.proofs.Bodies.{bodies_more, bodies_end}
-use Rattle.rx_tests.proofs.boxes.send_all.Goals as goal
+use Rattle.rx_tests.proofs.two_threads.send_all.Goals as goal
 
 pub loop-body-preserved : goal.loop-body-preserved
 loop-body-preserved g c = bodies_more c.args.port _ _ c.loop-body.body c.loop-body.invariant c.send.ensures

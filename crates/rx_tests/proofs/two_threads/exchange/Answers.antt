@@ -1,8 +1,8 @@
 use Rattle.std.proofs.Common.{ℕ, ap}
-use Rattle.rx_tests.specs.declared.boxes.TheConstants.{BODIES}
+use Rattle.rx_tests.specs.declared.two_threads.TheConstants.{BODIES}
 use Rattle.rx_mailbox.specs.Boxes.{Outgoing}
 use Rattle.rx_tests.proofs.Bodies.{got_bodies}
-use Rattle.rx_tests.proofs.boxes.exchange.Goals as goal
+use Rattle.rx_tests.proofs.two_threads.exchange.Goals as goal
 
 pub returns-clause-first : goal.returns-clause-first
 returns-clause-first g c =

@@ -1,6 +1,6 @@
 use Rattle.std.proofs.Common.{◌≡◌, [], ◌∷◌, rules}
 use Rattle.rx_tests.proofs.Bodies.{both_got}
-use Rattle.rx_tests.proofs.boxes.settle_two.Goals as goal
+use Rattle.rx_tests.proofs.two_threads.settle_two.Goals as goal
 
 pub returns-clause-first : goal.returns-clause-first
 returns-clause-first g c =

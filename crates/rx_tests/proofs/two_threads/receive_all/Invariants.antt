@@ -1,5 +1,5 @@
 use Rattle.std.proofs.Common.{◌≡◌}
-use Rattle.rx_tests.proofs.boxes.receive_all.Given as goal
+use Rattle.rx_tests.proofs.two_threads.receive_all.Given as goal
 
 abbrev pub invariant-loop : goal.invariant-loop
 invariant-loop g l = record {
