@@ -1,6 +1,6 @@
 -- The queue of an observer whose items stand on a tape that several observers share: what contracts see of it, and the
 -- queue that it is over the items of that tape.
-use Rattle.std.specs.Prelude.{◌≡◌, ℕ, ◌-◌, ◌<◌, ◌≤◌, ◌++◌, Bool, List, [], ◌∷◌, length, map, Option, None, Some, nat_lt, option_to_list, if◌then◌else◌}
+use Rattle.std.specs.Prelude.{◌≡◌, ◌≢◌, ℕ, ◌-◌, ◌<◌, ◌≤◌, ◌++◌, Bool, List, [], ◌∷◌, length, map, Option, None, Some, nat_lt, option_to_list, if◌then◌else◌}
 use Rattle.rx_note.specs.declared.item.Item.{Item}
 use Rattle.rx_note.specs.declared.note.Note.{Note}
 use Rattle.rx_note.specs.declared.note.Note.TheVariants.{Next}
@@ -21,6 +21,10 @@ pub record StandsBack (tape : TapeState) (cursor back : ℕ) : Type 0 where
 -- the same, where items of the tape wait
 abbrev pub StandsWhereSome : TapeState → ℕ → ℕ → Type 0
 StandsWhereSome tape cursor back = 0 < back → StandsBack tape cursor back
+
+-- no other number has a cursor
+abbrev pub IsAlone : TapeState → ℕ → Type 0
+IsAlone tape cursor = (other : ℕ) → other ≢ cursor → place_of tape.places other ≡ None
 
 -- THE LANE
 

@@ -1,13 +1,13 @@
-ghost use Rattle.std.specs.Prelude.{ℕ, ◌≡◌, ◌≤◌, ◌<◌, ◌+◌, ◌^◌, ◌↔◌, [], ◌++◌, ◌∷◌, List, ◌⊎◌, Ok, Err, None, Some, map, take, length, min, option_to_list, vec_len, OnOk, OnErr, IfOk};
+ghost use Rattle.std.specs.Prelude.{ℕ, ◌≡◌, ◌≤◌, ◌<◌, ◌+◌, ◌-◌, ◌^◌, ◌↔◌, [], ◌++◌, ◌∷◌, List, ◌⊎◌, Ok, Err, None, Some, map, take, length, min, option_to_list, vec_len, vec_capacity, OnOk, OnErr, IfOk};
 ghost use Rattle.rx_note.specs.declared.item.Item.{Item};
 ghost use Rattle.rx_note.specs.declared.note.Note.TheVariants.{Next};
 ghost use Rattle.rx_note.specs.Signals.{Signals, Requested, Offered, Ended, owed};
 ghost use Rattle.rx_tape.specs.Tapes.{waits, place_of, Spares, MovesOn};
-ghost use Rattle.rx_lane.specs.Lanes.{StandsFor, Gives, GoesOn, GivesInto, GivesTo, is_over};
-ghost use Rattle.rx_lane.specs.TapeLanes.{lane_on, StandsBack, StandsWhereSome, IsShared, HoldsSame, BeginsInto, Offers, Passes};
+ghost use Rattle.rx_lane.specs.Lanes.{StandsFor, Gives, GoesOn, GivesInto, GivesTo, addressed, is_over};
+ghost use Rattle.rx_lane.specs.TapeLanes.{lane_on, StandsBack, StandsWhereSome, IsAlone, IsShared, HoldsSame, BeginsInto, Offers, Passes};
 
 use crate::ask_error::AskError;
-use crate::waiting::Waiting;
+use crate::waiting::{Waiting, copy_lead, move_passed};
 use rx_heap::{Heap, Memory};
 use rx_note::{Given, Item, Note, Policy};
 use rx_tape::Tape;
@@ -199,6 +199,79 @@ impl TapeLane {
         Ok(())
     }
 
+    /// Adds a request of `n` items as `ask_for` does, where no other cursor stands on the tape and nobody needs later what is
+    /// given now: it may be taken off the tape, and no copy made of it. What is given, the refusals and what they leave are
+    /// those of `ask_for`.
+    pub fn ask_alone(
+        &mut self,
+        who: u32,
+        n: u32,
+        tape: &mut Tape,
+        outs: &mut Vec<Given, Heap>,
+    ) -> Result<(), AskError>
+        requires stands_back { StandsBack tape.old self.old.cursor self.old.back }
+        requires alone { IsAlone tape.old self.old.cursor }
+        ensures zero { (result ≡ Err AskError.ZeroRequest) ↔ (n ≡ 0) }
+        ensures too_much { (result ≡ Err AskError.TooMuch) ↔ ((0 < n) × (2 ^ 32 ≤ self.old.owing + n)) }
+        ensures err { OnErr result ((self.new ≡ self.old) × (tape.new ≡ tape.old) × (outs.new.items ≡ outs.old.items)) }
+        ensures gives { OnOk result (GivesTo who (lane_on tape.old.items self.old) (Requested n) outs.old.items outs.new.items) }
+        ensures stands { OnOk result (GoesOn (lane_on tape.old.items self.old) (lane_on tape.new.items self.new) (Requested n)) }
+        ensures stands_back { StandsBack tape.new self.new.cursor self.new.back }
+        ensures alone { IsAlone tape.new self.new.cursor }
+        ensures cursor { self.new.cursor ≡ self.old.cursor }
+    {
+        if self.waiting.back < tape.len() {
+            return self.ask_for(who, n, tape, outs);
+        }
+        let owed = self.owed_by(n)?;
+        let items = self.released(owed);
+        let Ok(()) = outs.reserve(self.notes_released(items)) else {
+            return Err(AskError::Memory);
+        };
+        let Ok(last) = self.move_out(who, items, owed, tape, outs) else {
+            return Err(AskError::Memory);
+        };
+        if let Some(note) = last {
+            outs.push_reserved(Given { who, note });
+        }
+        Ok(())
+    }
+
+    // Takes the items that are given where so many are owed off a tape on which all wait, and puts them at the end of `outs`,
+    // which has room for them. The terminal comes back where it goes behind the last of them. `Memory` leaves all.
+    fn move_out(
+        &mut self,
+        who: u32,
+        items: usize,
+        owed: u32,
+        tape: &mut Tape,
+        outs: &mut Vec<Given, Heap>,
+    ) -> Result<Option<Note>, Memory>
+        requires stands_back { StandsBack tape.old self.old.cursor self.old.back }
+        requires alone { IsAlone tape.old self.old.cursor }
+        requires wait { self.old.back ≡ length tape.old.items }
+        requires items { items ≡ min (length (option_to_list self.old.lead) + self.old.back) owed }
+        requires room { vec_len outs.old + items ≤ vec_capacity outs.old }
+        ensures err { OnErr result ((self.new ≡ self.old) × (tape.new ≡ tape.old) × (outs.new.items ≡ outs.old.items)) }
+        ensures put { OnOk result (outs.new.items ≡ outs.old.items ++ addressed who (map Next (take items (waits self.old.lead tape.old.items self.old.back)))) }
+        ensures len { OnOk result (vec_len outs.new ≡ vec_len outs.old + items) }
+        ensures capacity { vec_capacity outs.new ≡ vec_capacity outs.old }
+        ensures gives { (n : ℕ) → owed ≡ self.old.owing + n
+            → IfOk result (λ last. Gives (lane_on tape.old.items self.old) (Requested n) (map Next (take items (waits self.old.lead tape.old.items self.old.back)) ++ option_to_list last)) }
+        ensures goes_on { (n : ℕ) → owed ≡ self.old.owing + n
+            → OnOk result (GoesOn (lane_on tape.old.items self.old) (lane_on tape.new.items self.new) (Requested n)) }
+        ensures all { IfOk result (λ last. option_to_list last ≡ self.old.last ⊎ last ≡ None) }
+        ensures part { items < length (option_to_list self.old.lead) + self.old.back → IfOk result (λ last. last ≡ None) }
+        ensures stands_back { StandsBack tape.new self.new.cursor self.new.back }
+        ensures alone { IsAlone tape.new self.new.cursor }
+        ensures cursor { self.new.cursor ≡ self.old.cursor }
+    {
+        let more = copy_lead(who, items, &self.waiting.lead, outs)?;
+        let last = self.release(items, owed, tape);
+        move_passed(who, more, tape, outs);
+        Ok(last)
+    }
+
     // How many items may be given once `n` more are requested.
     fn owed_by(&self, n: u32) -> Result<u32, AskError>
         ensures zero { (result ≡ Err AskError.ZeroRequest) ↔ (n ≡ 0) }
@@ -243,6 +316,7 @@ impl TapeLane {
             → GoesOn (lane_on tape.old.items self.old) (lane_on tape.new.items self.new) (Requested n) }
         ensures all { option_to_list result ≡ self.old.last ⊎ result ≡ None }
         ensures part { items < length (option_to_list self.old.lead) + self.old.back → result ≡ None }
+        ensures back { self.new.back ≡ self.old.back - (items - length (option_to_list self.old.lead)) }
         ensures stands_back { StandsBack tape.old self.old.cursor self.old.back → StandsBack tape.new self.new.cursor self.new.back }
         ensures stands_where { StandsWhereSome tape.new self.new.cursor self.new.back }
         ensures cursor { self.new.cursor ≡ self.old.cursor }

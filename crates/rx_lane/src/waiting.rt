@@ -1,12 +1,15 @@
 ghost use Rattle.std.specs.Prelude.{◌≡◌, ◌+◌, ◌-◌, ◌<◌, ◌≤◌, ◌^◌, ◌++◌, [], None, map, take, drop, length, min, slice_get, option_copied, option_to_list, IfOk, OnOk, OnErr, vec_len, vec_capacity};
 ghost use Rattle.rx_note.specs.declared.note.Note.TheVariants.{Next};
-ghost use Rattle.rx_tape.specs.Tapes.{last_items, waits, Spares};
+ghost use Rattle.rx_tape.specs.Tapes.{last_items, waits, without, HavePassed, Spares};
 ghost use Rattle.rx_lane.specs.Lanes.{addressed};
 ghost use Rattle.rx_lane.specs.TapeLanes.{StandsBack, StandsWhereSome, IsShared, within_room};
 
 use rx_heap::{Heap, Memory};
 use rx_note::{Given, Item, Note, Strategy};
 use rx_tape::Tape;
+
+// From so many items on, a request that takes them off the tape gives memory back half-way.
+const MANY: usize = 4096;
 
 /// What waits for an observer whose items stand on a tape: an item of its own in front, and the last `back` items of the
 /// tape, at which its cursor stands.
@@ -93,7 +96,7 @@ impl Waiting {
         requires stands { StandsWhereSome tape.old self.old.cursor self.old.back }
         ensures waits { waits self.new.lead tape.new.items self.new.back ≡ drop count (waits self.old.lead tape.old.items self.old.back) }
         ensures stands_back { StandsBack tape.old self.old.cursor self.old.back → StandsBack tape.new self.new.cursor self.new.back }
-        ensures back { self.new.back ≤ self.old.back }
+        ensures back { self.new.back ≡ self.old.back - (count - length (option_to_list self.old.lead)) }
         ensures cursor { self.new.cursor ≡ self.old.cursor }
         ensures spares { Spares tape.old tape.new self.old.cursor }
     {
@@ -154,9 +157,9 @@ impl Waiting {
     }
 }
 
-// Puts a copy of the item in front, if there is one, at the end of `outs`, for an observer, and says how many others are
-// then to be copied.
-fn copy_lead(
+/// Puts a copy of the item in front, if there is one, at the end of `outs`, for an observer, and says how many others are
+/// then to be given.
+pub(crate) fn copy_lead(
     who: u32,
     count: usize,
     lead: &Option<Item>,
@@ -203,4 +206,37 @@ fn copy_items(
         outs.push_reserved(Given { who, note });
     }
     Ok(())
+}
+
+/// Takes the first `count` items off a tape, which every cursor has passed, and puts them at the end of `outs`, which has
+/// room for them, for an observer. Where they are many, the tape gives back half-way the memory that it no longer needs.
+pub(crate) fn move_passed(who: u32, count: usize, tape: &mut Tape, outs: &mut Vec<Given, Heap>)
+    requires there { count ≤ length tape.old.items }
+    requires passed { HavePassed tape.old count }
+    requires room { vec_len outs.old + count ≤ vec_capacity outs.old }
+    ensures put { outs.new.items ≡ outs.old.items ++ addressed who (map Next (take count tape.old.items)) }
+    ensures left { tape.new ≡ without tape.old count }
+    ensures capacity { vec_capacity outs.new ≡ vec_capacity outs.old }
+{
+    let half = count / 2;
+    move_first(who, half, tape, outs);
+    if half >= MANY && half >= tape.len() / 2 {
+        tape.shrink_to_fit();
+    }
+    move_first(who, count - half, tape, outs);
+}
+
+// The same, with no thought of memory.
+fn move_first(who: u32, count: usize, tape: &mut Tape, outs: &mut Vec<Given, Heap>)
+    requires there { count ≤ length tape.old.items }
+    requires passed { HavePassed tape.old count }
+    requires room { vec_len outs.old + count ≤ vec_capacity outs.old }
+    ensures put { outs.new.items ≡ outs.old.items ++ addressed who (map Next (take count tape.old.items)) }
+    ensures left { tape.new ≡ without tape.old count }
+    ensures capacity { vec_capacity outs.new ≡ vec_capacity outs.old }
+{
+    for _ in 0..count {
+        let note = Note::Next(tape.take_first());
+        outs.push_reserved(Given { who, note });
+    }
 }

@@ -1,6 +1,6 @@
 -- A list of items and the cursors that stand on it. Items are numbered from 0 as they come, and a cursor stands at the
 -- number of an item or behind the last one, so that neither an item more nor one that is removed moves it.
-use Rattle.std.specs.Prelude.{◌≡◌, ◌≢◌, ℕ, ◌+◌, ◌-◌, min, List, [], ◌∷◌, ◌++◌, length, drop, get_or, Option, None, Some, option_to_list}
+use Rattle.std.specs.Prelude.{◌≡◌, ◌≢◌, ℕ, ◌+◌, ◌-◌, ◌≤◌, min, List, [], ◌∷◌, ◌++◌, length, drop, get_or, Option, None, Some, option_to_list}
 use Rattle.rx_note.specs.declared.item.Item.{Item}
 
 -- the items that are left, the number of the first of them, and where the cursors stand; None: no cursor has this number
@@ -72,10 +72,18 @@ lowest (place ∷ places) bound = lower_of place (lowest places bound)
 abbrev pub passed : TapeState → ℕ → ℕ
 passed tape keep = min (lowest tape.places (end_of tape) - tape.front) (length tape.items - keep)
 
--- the tape without these
-abbrev pub trimmed : TapeState → ℕ → TapeState
-trimmed tape keep = record {
-  front = tape.front + passed tape keep;
-  items = drop (passed tape keep) tape.items;
+-- the tape without so many of its first items
+abbrev pub without : TapeState → ℕ → TapeState
+without tape count = record {
+  front = tape.front + count;
+  items = drop count tape.items;
   places = tape.places;
 }
+
+-- the tape without what every cursor has passed, save the last ones that are to be kept
+abbrev pub trimmed : TapeState → ℕ → TapeState
+trimmed tape keep = without tape (passed tape keep)
+
+-- every cursor has passed so many of the first items
+abbrev pub HavePassed : TapeState → ℕ → Type 0
+HavePassed tape count = (cursor place : ℕ) → place_of tape.places cursor ≡ Some place → tape.front + count ≤ place

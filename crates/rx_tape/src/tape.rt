@@ -1,5 +1,5 @@
 ghost use Rattle.std.specs.Prelude.{◌≡◌, ◌≤◌, ◌<◌, ◌^◌, ◌-◌, ◌+◌, ◌↔◌, ℕ, true, drop, None, Some, is_some, length, min, slice_get, option_copied, IfOk, OnOk, OnErr};
-ghost use Rattle.rx_tape.specs.Tapes.{end_of, place_of, ahead, tape_at_first, pushed, MovesOn, Spares, trimmed};
+ghost use Rattle.rx_tape.specs.Tapes.{end_of, place_of, ahead, tape_at_first, pushed, HavePassed, MovesOn, Spares, trimmed, without};
 
 use crate::places::Places;
 use rx_heap::{Heap, Memory};
@@ -149,6 +149,28 @@ impl Tape {
         let gone = ((low - self.front) as usize).min(self.items.len() - keep);
         drop_front(&mut self.items, gone);
         self.front += gone as u64;
+    }
+
+    /// Takes the first item off, which every cursor has passed.
+    #[inline]
+    pub fn take_first(&mut self) -> Item
+        requires some { 0 < length self.old.items }
+        requires passed { HavePassed self.old 1 }
+        ensures first { slice_get self.old.items 0 ≡ Some result }
+        ensures left { self.new ≡ without self.old 1 }
+    {
+        let Some(item) = self.items.pop_front() else {
+            unreachable!()
+        };
+        self.front += 1;
+        item
+    }
+
+    /// Gives back the memory that its items do not need, in a step for each of them.
+    pub fn shrink_to_fit(&mut self)
+        ensures { self.new ≡ self.old }
+    {
+        self.items.shrink_to_fit();
     }
 
     // The number of the next item to come.
