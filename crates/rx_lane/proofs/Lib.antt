@@ -1,4 +1,5 @@
 pub mod Followed
 pub mod Moving
+pub mod Passed
 pub mod Shared
 pub mod Steps

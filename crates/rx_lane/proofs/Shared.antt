@@ -3,7 +3,7 @@ use Rattle.std.proofs.Common.{◌≡◌, ℕ, zero, suc, ◌+◌, ◌-◌, ◌<�
 use Rattle.std.specs.Prelude.{slice_get}
 use Rattle.std.proofs.lemmas.List.{length-append, map-append, take-take, take_more}
 use Rattle.std.proofs.lemmas.Option.{get_or_from_slice_get}
-use Rattle.std.proofs.Math.Seq.{take-append_seam}
+use Rattle.std.proofs.Math.Seq.{take-append_seam, take-add}
 use Rattle.circular_buffer.proofs.Places.{slice_get-drop}
 use Rattle.rx_note.specs.declared.item.Item.{Item}
 use Rattle.rx_note.specs.declared.note.Note.{Note}
@@ -83,3 +83,32 @@ pushed_on tape item cursor back stands =
     let longer = length-append tape.items (item ∷ []) in
     let same : end_of tape - back ≡ end_of (pushed tape item) - (back + 1) = omega (arith, longer, stands.within) in
     record { within = omega (arith, longer, stands.within); place = stands.place ∙ ap (λ (n : ℕ). Some n) same }
+
+-- one more of several items is put
+pub put_more : (who : ℕ) (items : List Item) (i : ℕ) (item : Item) (before middle after : List Given)
+    → take (i + 1) items ≡ take i items ++ item ∷ []
+    → middle ≡ before ++ addressed who (map Next (take i items))
+    → after ≡ middle ++ addressed who (Next item ∷ [])
+    → after ≡ before ++ addressed who (map Next (take (i + 1) items))
+put_more who items i item before middle after more first then =
+    then
+    ∙ ap (λ put. put ++ addressed who (Next item ∷ [])) first
+    ∙ append_assoc before (addressed who (map Next (take i items))) (addressed who (Next item ∷ []))
+    ∙ ap (λ put. before ++ put) (sym (addressed-append who (map Next (take i items)) (Next item ∷ [])))
+    ∙ ap (λ notes. before ++ addressed who notes) (sym (map-append Next (take i items) (item ∷ [])))
+    ∙ ap (λ taken. before ++ addressed who (map Next taken)) (sym more)
+
+-- the first of several items put, and then those behind them
+pub put_both : (who : ℕ) (items : List Item) (n m : ℕ) (before middle after : List Given)
+    → middle ≡ before ++ addressed who (map Next (take n items))
+    → after ≡ middle ++ addressed who (map Next (take m (drop n items)))
+    → after ≡ before ++ addressed who (map Next (take (n + m) items))
+put_both who items n m before middle after first then =
+    let xs = take n items in
+    let ys = take m (drop n items) in
+    then
+    ∙ ap (λ put. put ++ addressed who (map Next ys)) first
+    ∙ append_assoc before (addressed who (map Next xs)) (addressed who (map Next ys))
+    ∙ ap (λ put. before ++ put) (sym (addressed-append who (map Next xs) (map Next ys)))
+    ∙ ap (λ notes. before ++ addressed who notes) (sym (map-append Next xs ys))
+    ∙ ap (λ taken. before ++ addressed who (map Next taken)) (sym (take-add n m items))

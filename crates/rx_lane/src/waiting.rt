@@ -220,10 +220,17 @@ pub(crate) fn move_passed(who: u32, count: usize, tape: &mut Tape, outs: &mut Ve
 {
     let half = count / 2;
     move_first(who, half, tape, outs);
-    if half >= MANY && half >= tape.len() / 2 {
+    give_back(half, tape);
+    move_first(who, count - half, tape, outs);
+}
+
+// Has a tape that lost so many items give back memory, where they were many beside those that are left.
+fn give_back(gone: usize, tape: &mut Tape)
+    ensures { tape.new ≡ tape.old }
+{
+    if gone >= MANY && gone >= tape.len() / 2 {
         tape.shrink_to_fit();
     }
-    move_first(who, count - half, tape, outs);
 }
 
 // The same, with no thought of memory.
