@@ -112,3 +112,13 @@ put_both who items n m before middle after first then =
     ∙ ap (λ put. before ++ put) (sym (addressed-append who (map Next xs) (map Next ys)))
     ∙ ap (λ notes. before ++ addressed who notes) (sym (map-append Next xs ys))
     ∙ ap (λ taken. before ++ addressed who (map Next taken)) (sym (take-add n m items))
+
+-- notes that are put, and then those behind them
+pub put_behind : (who : ℕ) (before room middle after : List Given) (notes last : List Note)
+    → room ≡ before → middle ≡ room ++ addressed who notes → after ≡ middle ++ addressed who last → after ≡ before ++ addressed who (notes ++ last)
+put_behind who before room middle after notes last room_is first then =
+    then
+    ∙ ap (λ put. put ++ addressed who last) first
+    ∙ ap (λ put. (put ++ addressed who notes) ++ addressed who last) room_is
+    ∙ append_assoc before (addressed who notes) (addressed who last)
+    ∙ ap (λ put. before ++ put) (sym (addressed-append who notes last))

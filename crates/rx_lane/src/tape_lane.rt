@@ -193,9 +193,8 @@ impl TapeLane {
             outs.truncate(before);
             return Err(AskError::Memory);
         };
-        if let Some(note) = self.release(items, owed, tape) {
-            outs.push_reserved(Given { who, note });
-        }
+        let last = self.release(items, owed, tape);
+        put_last(who, last, outs);
         Ok(())
     }
 
@@ -231,9 +230,7 @@ impl TapeLane {
         let Ok(last) = self.move_out(who, items, owed, tape, outs) else {
             return Err(AskError::Memory);
         };
-        if let Some(note) = last {
-            outs.push_reserved(Given { who, note });
-        }
+        put_last(who, last, outs);
         Ok(())
     }
 
@@ -448,4 +445,14 @@ fn copy_into(
 {
     outs.reserve(count)?;
     waiting.copy_out(count, tape, outs)
+}
+
+// Puts a terminal, if there is one, at the end of `outs`, which has room for it, for an observer.
+fn put_last(who: u32, last: Option<Note>, outs: &mut Vec<Given, Heap>)
+    requires { vec_len outs.old + length (option_to_list last) ≤ vec_capacity outs.old }
+    ensures { outs.new.items ≡ outs.old.items ++ addressed who (option_to_list last) }
+{
+    if let Some(note) = last {
+        outs.push_reserved(Given { who, note });
+    }
 }

@@ -1,31 +1,26 @@
-use Rattle.std.proofs.Common.{List, ◌++◌, ◌∷◌, [], map, take, sym, ap, ◌∙◌, append_assoc}
+use Rattle.std.proofs.Common.{List, ◌++◌, map, take, option_to_list, ap, ◌∙◌}
 use Rattle.rx_note.specs.declared.note.Note.{Note}
 use Rattle.rx_note.specs.declared.note.Note.TheVariants.{Next}
 use Rattle.rx_tape.specs.Tapes.{waits}
 use Rattle.rx_lane.specs.Lanes.{addressed}
 use Rattle.rx_lane.specs.TapeLanes.{TapeLaneState}
-use Rattle.rx_lane.proofs.Shared.{addressed-append}
+use Rattle.rx_lane.proofs.Shared.{put_behind}
 use Rattle.rx_lane.proofs.tape_lane.TapeLane.ask_for.Goals as goal
 
-pub returns-in-Some-clause-gives : goal.returns-in-Some-clause-gives
-returns-in-Some-clause-gives c =
+pub returns-clause-gives : goal.returns-clause-gives
+returns-clause-gives c =
     let who = c.args.who in
-    let before = c.args.outs.now.items in
+    let room = c.reserve.new.self.items in
     let released : TapeLaneState → List Note = λ lane. map Next (take c.released-items.result (waits lane.lead c.args.tape.now.items lane.back)) in
     let notes = released c.args.self.now in
-    let last = c.in-Some.note ∷ [] in (
+    let last = option_to_list c.release-last.result in (
       notes ++ last,
-      c.push_reserved.ensures.items
-          ∙ ap (λ put. put ++ addressed who last) c.in-Ok-copy_to.ensures.ok
-          ∙ ap (λ (lane : TapeLaneState). (c.reserve.new.self.items ++ addressed who (released lane)) ++ addressed who last) c.self.view_is
-          ∙ ap (λ put. (put ++ addressed who notes) ++ addressed who last) c.reserve.ensures.items
-          ∙ append_assoc before (addressed who notes) (addressed who last)
-          ∙ ap (λ put. before ++ put) (sym (addressed-append who notes last)),
-      c.in-Some.ensures.gives c.args.n c.in_ok-owed.ensures.owed,
+      put_behind who c.args.outs.now.items room c.copy_to.new.outs.items c.put_last.new.outs.items notes last
+          c.reserve.ensures.items
+          (c.in-Ok-copy_to.ensures.ok ∙ ap (λ (lane : TapeLaneState). room ++ addressed who (released lane)) c.self.view_is)
+          c.put_last.ensures,
+      c.release-last.ensures.gives c.args.n c.in_ok-owed.ensures.owed,
     )
 
-pub returns-in-Some-clause-stands : goal.returns-in-Some-clause-stands
-returns-in-Some-clause-stands c = c.in-Some.ensures.goes_on c.args.n c.in_ok-owed.ensures.owed
-
-pub returns-in_default-release-clause-stands : goal.returns-in_default-release-clause-stands
-returns-in_default-release-clause-stands c = c.in_default-release.ensures.goes_on c.args.n c.in_ok-owed.ensures.owed
+pub returns-clause-stands : goal.returns-clause-stands
+returns-clause-stands c = c.release-last.ensures.goes_on c.args.n c.in_ok-owed.ensures.owed
