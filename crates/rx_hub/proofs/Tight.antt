@@ -16,7 +16,7 @@ use Rattle.rx_hub.proofs.Places.{cursor-at}
 -- EACH CURSOR IS A SEAT'S
 
 -- a cursor that is there stands within the list
-within : (cs : List (Option ℕ)) (k cursor : ℕ) → get_or cs k None ≡ Some cursor → k < length cs
+pub within : (cs : List (Option ℕ)) (k cursor : ℕ) → get_or cs k None ≡ Some cursor → k < length cs
 within [] k cursor is = absurd cc
 within (c ∷ cs) zero cursor is = omega arith
 within (c ∷ cs) (suc k) cursor is = let rest = within cs k cursor is in omega (arith, rest)
@@ -32,7 +32,7 @@ same_or_not a b =
     ]
 
 -- whether a cursor is the one that moved
-moved_or_not : (moved : Option ℕ) (cursor : ℕ) → (moved ≡ Some cursor) ⊎ (moved ≢ Some cursor)
+pub moved_or_not : (moved : Option ℕ) (cursor : ℕ) → (moved ≡ Some cursor) ⊎ (moved ≢ Some cursor)
 moved_or_not None cursor = inr (λ e. cc)
 moved_or_not (Some other) cursor =
     elim (same_or_not other cursor) [

@@ -36,6 +36,10 @@ pub record Leaves (old new : TapeState) (cursor : Option ℕ) : Type 0 where
   pub items : new.items ≡ old.items
   pub others : (other : ℕ) → cursor ≢ Some other → place_of new.places other ≡ place_of old.places other
 
+-- the tape has no cursor but this one
+abbrev pub IsAlone : TapeState → Option ℕ → Type 0
+IsAlone tape cursor = (other : ℕ) → cursor ≢ Some other → place_of tape.places other ≡ None
+
 -- the copy of an item that its offer takes: on the tape one is needed where the item is owed, else where it isn't lost
 abbrev pub copy_needed : Seat → Item → Option Item
 copy_needed (Shared lane) item = copy_for lane.owing item

@@ -243,9 +243,49 @@ impl Audience {
         Ok(())
     }
 
-    /// Adds a request of the observer at a place, and puts at the end of `outs` what is then given. Refused as its queue does,
-    /// which leaves all.
+    /// Adds a request of the observer at a place, and puts at the end of `outs` what is then given. The last `keep` items of the
+    /// tape stay. Refused as its queue does, which leaves all.
     pub(crate) fn ask(
+        &mut self,
+        place: usize,
+        n: u32,
+        keep: usize,
+        outs: &mut Vec<Given, Heap>,
+    ) -> Result<(), AskError>
+        requires { place < length self.old.observers }
+        ensures zero { (result ≡ Err AskError.ZeroRequest) ↔ (n ≡ 0) }
+        ensures too_much { (default : Observer) → (result ≡ Err AskError.TooMuch) ↔ ((0 < n) × (2 ^ 32 ≤ (get_or self.old.observers place default).lane.owing + n)) }
+        ensures err { OnErr result ((self.new ≡ self.old) × (outs.new.items ≡ outs.old.items)) }
+        ensures kept { (count : ℕ) → count ≤ keep → count ≤ length self.old.items
+            → (count ≤ length self.new.items) × (last_items self.new.items count ≡ last_items self.old.items count) }
+        ensures asked { OnOk result ((default : Observer) → AsksAt self.old.observers self.new.observers place default n outs.old.items outs.new.items) }
+    {
+        if keep == 0 && self.subscriptions.len() == 1 {
+            self.ask_alone(place, n, outs)
+        } else {
+            self.ask_among(place, n, outs)
+        }
+    }
+
+    // Adds a request of the only observer, for which items may leave the tape.
+    fn ask_alone(
+        &mut self,
+        place: usize,
+        n: u32,
+        outs: &mut Vec<Given, Heap>,
+    ) -> Result<(), AskError>
+        requires place { place < length self.old.observers }
+        requires alone { length self.old.observers ≡ 1 }
+        ensures zero { (result ≡ Err AskError.ZeroRequest) ↔ (n ≡ 0) }
+        ensures too_much { (default : Observer) → (result ≡ Err AskError.TooMuch) ↔ ((0 < n) × (2 ^ 32 ≤ (get_or self.old.observers place default).lane.owing + n)) }
+        ensures err { OnErr result ((self.new ≡ self.old) × (outs.new.items ≡ outs.old.items)) }
+        ensures asked { OnOk result ((default : Observer) → AsksAt self.old.observers self.new.observers place default n outs.old.items outs.new.items) }
+    {
+        self.subscriptions[place].ask_alone(n, &mut self.tape, &mut self.notes, outs)
+    }
+
+    // Adds a request of one of the observers, for which the tape keeps its items.
+    fn ask_among(
         &mut self,
         place: usize,
         n: u32,

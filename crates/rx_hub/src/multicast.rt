@@ -136,9 +136,10 @@ impl Multicast {
         let Some(place) = self.audience.place_of(who) else {
             return Err(Refusal::NoObserver);
         };
-        match self.audience.ask(place, n, outs) {
+        let keep = self.subject.keep();
+        match self.audience.ask(place, n, keep, outs) {
             Ok(()) => {
-                self.audience.trim(self.subject.keep());
+                self.audience.trim(keep);
                 Ok(Answer::Asked)
             }
             Err(AskError::ZeroRequest) => Err(Refusal::ZeroRequest),

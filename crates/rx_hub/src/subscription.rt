@@ -6,7 +6,7 @@ ghost use Rattle.rx_history.specs.Histories.{addressed, ended_by};
 ghost use Rattle.rx_lane.specs.Lanes.{HasRoomFor, GivesTo, GoesOn};
 ghost use Rattle.rx_subject.specs.Offers.{offer_signals};
 ghost use Rattle.rx_hub.specs.declared.seat.Seat.TheVariants.{Own};
-ghost use Rattle.rx_hub.specs.Seats.{lane_of, cursor_of, Stands, Leaves, HoldsCopy, copy_needed, given_now, needed, owing_of, IsReady};
+ghost use Rattle.rx_hub.specs.Seats.{lane_of, cursor_of, Stands, Leaves, IsAlone, HoldsCopy, copy_needed, given_now, needed, owing_of, IsReady};
 ghost use Rattle.rx_hub.specs.Subscriptions.{Serves, Feeds, FeedsInto, AsksInto};
 
 use crate::seat::Seat;
@@ -159,6 +159,31 @@ impl Subscription {
     {
         match &mut self.seat {
             Seat::Shared(lane) => lane.ask_for(self.who, n, tape, outs),
+            Seat::Own(lane) => ask_own(self.who, n, lane, notes, outs),
+        }
+    }
+
+    /// Adds a request as `ask` does, where the tape has no other cursor and nobody needs later what is given now: it may be
+    /// taken off the tape.
+    pub(crate) fn ask_alone(
+        &mut self,
+        n: u32,
+        tape: &mut Tape,
+        notes: &mut Option<Vec<Note, Heap>>,
+        outs: &mut Vec<Given, Heap>,
+    ) -> Result<(), AskError>
+        requires stands { Stands tape.old false self.old.seat }
+        requires alone { IsAlone tape.old (cursor_of self.old.seat) }
+        ensures zero { (result ≡ Err AskError.ZeroRequest) ↔ (n ≡ 0) }
+        ensures too_much { (result ≡ Err AskError.TooMuch) ↔ ((0 < n) × (2 ^ 32 ≤ (lane_of tape.old.items self.old.seat).owing + n)) }
+        ensures err { OnErr result ((observer_on tape.new.items (place_of self.new) ≡ observer_on tape.old.items (place_of self.old)) × (tape.new.items ≡ tape.old.items) × (outs.new.items ≡ outs.old.items)) }
+        ensures asked { OnOk result (AsksInto (observer_on tape.old.items (place_of self.old)) (observer_on tape.new.items (place_of self.new)) n outs.old.items outs.new.items) }
+        ensures stands { Stands tape.new false self.new.seat }
+        ensures cursor { cursor_of self.new.seat ≡ cursor_of self.old.seat }
+        ensures alone { IsAlone tape.new (cursor_of self.new.seat) }
+    {
+        match &mut self.seat {
+            Seat::Shared(lane) => lane.ask_alone(self.who, n, tape, outs),
             Seat::Own(lane) => ask_own(self.who, n, lane, notes, outs),
         }
     }

@@ -1,7 +1,6 @@
-use Rattle.std.proofs.Common.{ℕ, ◌+◌, ◌<◌, ◌≤◌, List, length, inl, inr, sym, ◌∙◌, refl, ap, arith, Err}
+use Rattle.std.proofs.Common.{ℕ, ◌+◌, ◌<◌, ◌≤◌, length, inl, inr, sym, ◌∙◌, refl, ap, arith, Err}
 use Rattle.std.proofs.lemmas.Bool.{cases_lt}
 use Rattle.std.proofs.lemmas.List.{length-set}
-use Rattle.rx_note.specs.declared.item.Item.{Item}
 use Rattle.rx_subject.specs.TapeSubjects.{subject_on}
 use Rattle.rx_hub.specs.Audiences.{AudienceState}
 use Rattle.rx_hub.specs.Hubs.{HubState}
@@ -27,17 +26,17 @@ returns-in_default c port = record {
 few : (n owing : ℕ) → ((0 < n) × (4294967296 ≤ owing + n) → ⊥) → 0 < n → owing + n < 4294967296
 few n owing none more = elim (cases_lt (owing + n) 4294967296) [ inl lt ↦ lt | inr le ↦ absurd (none (more, le)) ]
 
-pub invariant_of-self-in-Ok : goal.invariant_of-self-in-Ok
-invariant_of-self-in-Ok c =
+pub invariant_of-self : goal.invariant_of-self
+invariant_of-self c =
     let old = c.args.self.now in
     let asked = c.in-Ok.ensures.asked nobody in
     let same = ap length (c.trim.ensures.observers ∙ asked.news_are) ∙ length-set old.audience.observers c.in-Some.place asked.observer in
-    let items = ap length c.in-Ok.ensures.items in
-    let kept = c.trim.ensures.kept (length old.subject.stamps) (omega (arith, c.keep.ensures)) (omega (arith, old.within, items)) in
+    let stay = c.in-Ok.ensures.kept (length old.subject.stamps) (omega (arith, c.keep-keep.ensures)) old.within in
+    let kept = c.trim.ensures.kept (length old.subject.stamps) (omega (arith, c.keep-keep.ensures)) stay.0 in
     record {
       fits = (omega (arith, same, old.fits.0), old.fits.1);
       within = kept.0;
-      tight = omega (arith, c.trim.ensures.tight, c.keep.ensures);
+      tight = omega (arith, c.trim.ensures.tight, c.keep-keep.ensures);
     }
 
 pub returns-in-Ok : goal.returns-in-Ok
@@ -48,13 +47,13 @@ returns-in-Ok c port =
     let is = named old.audience.observers c.args.who place nobody c.in-Some.ensures in
     let more : 0 < c.args.n = omega arith in
     let asked = c.in-Ok.ensures.asked nobody in
-    let items = ap length c.in-Ok.ensures.items in
-    let kept = c.trim.ensures.kept (length subject.stamps) (omega (arith, c.keep.ensures)) (omega (arith, old.within, items)) in
+    let stay = c.in-Ok.ensures.kept (length subject.stamps) (omega (arith, c.keep-keep.ensures)) old.within in
+    let kept = c.trim.ensures.kept (length subject.stamps) (omega (arith, c.keep-keep.ensures)) stay.0 in
     request_done (state_of old) (subject_on c.trim.new.self.items subject) c.ask.new.self.observers c.trim.new.self.observers c.args.outs.now.items c.ask.new.outs.items
     port c.args.who c.args.n place nobody is.0 is.1 more
     (few c.args.n _ (λ much. let no = (c.in-Ok.ensures.too_much nobody).1 much in cc) more)
     asked c.trim.ensures.observers
-    (subject_kept subject c.ask.new.self.items c.trim.new.self.items kept.1 ∙ ap (λ (items : List Item). subject_on items subject) c.in-Ok.ensures.items)
+    (subject_kept subject c.ask.new.self.items c.trim.new.self.items kept.1 ∙ subject_kept subject old.audience.items c.ask.new.self.items stay.1)
 
 pub returns-in-Err-TooMuch : goal.returns-in-Err-TooMuch
 returns-in-Err-TooMuch c port =

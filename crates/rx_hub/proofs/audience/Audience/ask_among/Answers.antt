@@ -8,7 +8,7 @@ use Rattle.rx_hub.specs.Subscriptions.{AsksInto, AsksAt}
 use Rattle.rx_hub.proofs.Outcomes.{on_ok, on_err}
 use Rattle.rx_hub.proofs.Places.{observers-length, place-at, observer-at, set_on, set_cursors, set_observers, set_unchanged, apart_same}
 use Rattle.rx_hub.proofs.Tight.{owned_moved, owned_same}
-use Rattle.rx_hub.proofs.audience.Audience.ask.Goals as goal
+use Rattle.rx_hub.proofs.audience.Audience.ask_among.Goals as goal
 
 pub ask-requires : goal.ask-requires
 ask-requires c =
