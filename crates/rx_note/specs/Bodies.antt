@@ -1,18 +1,25 @@
 -- Where the bytes of a text are: in the text itself where they are few, else in memory that its copies share.
 use Rattle.std.specs.Prelude.{ℕ, ◌≤◌, List, take}
-use Rattle.std.specs.Arc.{arc_value, arc_slice_items}
+use Rattle.std.specs.Arc.{arc_value}
 use Rattle.rx_note.specs.declared.body.Body.{Body}
-use Rattle.rx_note.specs.declared.body.Body.TheVariants.{Short, Medium, Long}
-use Rattle.rx_note.specs.Blocks.{block_bytes, IsFilled}
+use Rattle.rx_note.specs.declared.body.Body.TheVariants.{Short, Long}
+use Rattle.rx_note.specs.declared.shared.Shared.{Shared}
+use Rattle.rx_note.specs.declared.shared.Shared.TheVariants.{UpTo56, UpTo120, UpTo248, UpTo504, UpTo1024}
+
+-- the bytes in a block that copies share
+abbrev pub bytes_in : Shared → List ℕ
+bytes_in (UpTo56 block) = arc_value block
+bytes_in (UpTo120 block) = arc_value block
+bytes_in (UpTo248 block) = arc_value block
+bytes_in (UpTo504 block) = arc_value block
+bytes_in (UpTo1024 block) = arc_value block
 
 -- the bytes
 abbrev pub bytes_of : Body → List ℕ
 bytes_of (Short len bytes) = take len bytes
-bytes_of (Medium shared) = block_bytes (arc_value shared)
-bytes_of (Long shared) = arc_slice_items shared
+bytes_of (Long shared) = bytes_in shared
 
--- a short or medium one has no more bytes than there is room for
+-- a short one has no more bytes than there is room for
 abbrev pub IsWithin : Body → Type 0
 IsWithin (Short len bytes) = len ≤ 20
-IsWithin (Medium shared) = IsFilled (arc_value shared)
 IsWithin (Long shared) = Unit {0}

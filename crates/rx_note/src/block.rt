@@ -1,47 +1,88 @@
-ghost use Rattle.std.specs.Prelude.{◌≡◌, ◌≤◌, length};
-ghost use Rattle.rx_note.specs.Blocks.{block_bytes, IsFilled};
+ghost use Rattle.std.specs.Prelude.{◌≡◌, ◌≤◌, true, false, length, IfOk};
+ghost use Rattle.std.specs.Arc.{arc_value};
 
-/// The most bytes of a medium text, so many that a block has 64 in all.
-pub(crate) const MEDIUM: usize = 56;
+use rx_heap::{Heap, Memory};
+use std::marker::Model;
+use std::sync::Arc;
 
-/// The bytes of a medium text: the first `len` of these.
+/// The bytes of a text, `N` at most. Contracts see the list of them.
 #[derive(Drop, Debug)]
-pub(crate) struct Block {
+pub(crate) struct Block<const N: usize> {
     len: usize,
-    bytes: [u8; MEDIUM],
+    bytes: [u8; N],
 }
 
-impl Block {
-    /// The block of these bytes.
-    pub(crate) fn new(bytes: &[u8]) -> Block
-        requires { length bytes.now ≤ 56 }
-        ensures bytes { block_bytes result ≡ bytes.now }
-        ensures filled { IsFilled result }
+impl<const N: usize> Model for Block<N> {
+    ghost use Rattle.std.specs.Prelude.{◌≤◌, List, ℕ, take};
+
+    ghost Value = { List ℕ };
+
+    ghost view = { λ b. take b.len b.bytes };
+
+    ghost invariant = { λ b. b.len ≤ N };
+}
+
+impl<const N: usize> Block<N> {
+    /// A block of these bytes, in one growth.
+    pub(crate) fn shared(alloc: Heap, bytes: &[u8]) -> Result<Arc<Block<N>, Heap>, Memory>
+        requires { length bytes.now ≤ N }
+        ensures { IfOk result (λ block. arc_value block ≡ bytes.now) }
     {
-        let mut block = Block {
-            len: 0,
-            bytes: [0; MEDIUM],
-        };
-        block.fill(bytes);
-        block
+        match Arc::new(alloc, Block::new(bytes)) {
+            Ok(block) => Ok(block),
+            Err(_) => Err(Memory),
+        }
     }
 
-    /// Puts these bytes in the place of its own.
+    fn new(bytes: &[u8]) -> Block<N>
+        requires { length bytes.now ≤ N }
+        ensures { result ≡ bytes.now }
+    {
+        let mut made = Block {
+            len: 0,
+            bytes: [0; N],
+        };
+        made.fill(bytes);
+        made
+    }
+
     #[inline]
-    pub(crate) fn fill(&mut self, bytes: &[u8])
-        requires { length bytes.now ≤ 56 }
-        ensures bytes { block_bytes self.new ≡ bytes.now }
-        ensures filled { IsFilled self.new }
+    fn fill(&mut self, bytes: &[u8])
+        requires { length bytes.now ≤ N }
+        ensures { self.new ≡ bytes.now }
     {
         let len = bytes.len();
         self.len = len;
         self.bytes[..len].copy_from_slice(bytes);
     }
 
+    /// Puts these bytes in the place of its own, where no copy shares the block. Whether it did so.
+    #[inline]
+    pub(crate) fn refill(shared: &mut Arc<Block<N>, Heap>, bytes: &[u8]) -> bool
+        requires { length bytes.now ≤ N }
+        ensures filled { result ≡ true → arc_value shared.new ≡ bytes.now }
+        ensures kept { result ≡ false → shared.new ≡ shared.old }
+    {
+        let Some(block) = Arc::get_mut(shared) else {
+            return false;
+        };
+        block.fill(bytes);
+        true
+    }
+
+    /// The same block, shared by one more.
+    pub(crate) fn share(block: &Arc<Block<N>, Heap>) -> Result<Arc<Block<N>, Heap>, Memory>
+        ensures { IfOk result (λ copy. arc_value copy ≡ arc_value block.now) }
+    {
+        match Arc::try_clone(block) {
+            Ok(block) => Ok(block),
+            Err(_) => Err(Memory),
+        }
+    }
+
     /// The bytes.
     pub(crate) fn as_bytes(&self) -> &[u8]
-        requires { IsFilled self.now }
-        ensures { result.now ≡ block_bytes self.now }
+        ensures { result.now ≡ self.now }
     {
         &self.bytes[..self.len]
     }

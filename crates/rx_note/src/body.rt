@@ -1,22 +1,19 @@
 ghost use Rattle.std.specs.Prelude.{◌≡◌, ◌≤◌, true, false, length, IfOk};
 
-use crate::block::{Block, MEDIUM};
+use crate::shared::Shared;
 use rx_heap::{Heap, Memory};
-use std::sync::{Arc, ArcSlice};
 
 /// The most bytes of a short text, so many that a `Text` has 24 bytes in all, and that its words are moved whole.
 const SHORT: usize = 20;
 
-/// Where the bytes of a text are. Most texts are short: these take no memory, and their copies touch no count. A medium one
-/// takes one growth, a long one two.
+/// Where the bytes of a text are. Most texts are short: these take no memory, and their copies touch no count. A longer one
+/// takes one growth.
 #[derive(Debug)]
 pub(crate) enum Body {
     /// Here, the first `len` of these.
     Short { len: u16, bytes: [u8; SHORT] },
     /// In a block that the copies share.
-    Medium(Arc<Block, Heap>),
-    /// In a list that the copies share.
-    Long(ArcSlice<u8, Heap>),
+    Long(Shared),
 }
 
 // By hand, so that to let a text go is one step in each function that does, whichever form it has.
@@ -25,22 +22,15 @@ impl Drop for Body {
     fn drop(self) {
         match self {
             Body::Short { len: _, bytes: _ } => {}
-            Body::Medium(block) => let_go_block(block),
-            Body::Long(bytes) => let_go_list(bytes),
+            Body::Long(shared) => let_go(shared),
         }
     }
 }
 
 // Lets go of a block that the copies share. It is kept out of line, so that to let a short text go costs one test.
 #[inline(never)]
-fn let_go_block(block: Arc<Block, Heap>) {
-    drop(Arc::try_unwrap(block));
-}
-
-// Lets go of a list that the copies share.
-#[inline(never)]
-fn let_go_list(bytes: ArcSlice<u8, Heap>) {
-    drop(bytes);
+fn let_go(shared: Shared) {
+    drop(shared);
 }
 
 impl Body {
@@ -49,28 +39,25 @@ impl Body {
     /// The body of these bytes.
     #[inline(always)]
     pub(crate) fn new(alloc: Heap, bytes: &[u8]) -> Result<Body, Memory>
+        requires { length bytes.now ≤ 1024 }
         ensures bytes { IfOk result (λ body. bytes_of body ≡ bytes.now) }
         ensures within { IfOk result (λ body. IsWithin body) }
     {
         if bytes.len() <= SHORT {
             return Ok(Body::short(bytes));
         }
-        Body::shared(alloc, bytes)
+        Body::long(alloc, bytes)
     }
 
     // The body of bytes that the copies share. It is kept out of line, so that a short text is made in place.
     #[inline(never)]
-    fn shared(alloc: Heap, bytes: &[u8]) -> Result<Body, Memory>
+    fn long(alloc: Heap, bytes: &[u8]) -> Result<Body, Memory>
+        requires { length bytes.now ≤ 1024 }
         ensures bytes { IfOk result (λ body. bytes_of body ≡ bytes.now) }
         ensures within { IfOk result (λ body. IsWithin body) }
     {
-        if bytes.len() <= MEDIUM {
-            return Body::medium(alloc, bytes);
-        }
-        match ArcSlice::from_slice(alloc, bytes) {
-            Ok(bytes) => Ok(Body::Long(bytes)),
-            Err(_) => Err(Memory),
-        }
+        let shared = Shared::new(alloc, bytes)?;
+        Ok(Body::Long(shared))
     }
 
     #[inline(always)]
@@ -88,43 +75,25 @@ impl Body {
         }
     }
 
-    fn medium(alloc: Heap, bytes: &[u8]) -> Result<Body, Memory>
-        requires { length bytes.now ≤ 56 }
-        ensures bytes { IfOk result (λ body. bytes_of body ≡ bytes.now) }
-        ensures within { IfOk result (λ body. IsWithin body) }
-    {
-        match Arc::new(alloc, Block::new(bytes)) {
-            Ok(block) => Ok(Body::Medium(block)),
-            Err(_) => Err(Memory),
-        }
-    }
-
-    /// Puts these bytes in the place of its own, where its block has room for them and no copy shares it, and they are too
-    /// many for a short text. Whether it did so.
+    /// Puts these bytes in the place of its own, where it stands in a block that has room for them, and no much larger one, no
+    /// copy shares it, and they are too many for a short text. Whether it did so.
     #[inline]
     pub(crate) fn refill(&mut self, bytes: &[u8]) -> bool
         ensures bytes { result ≡ true → bytes_of self.new ≡ bytes.now }
         ensures within { result ≡ true → IsWithin self.new }
         ensures kept { result ≡ false → self.new ≡ self.old }
     {
-        if bytes.len() <= SHORT || bytes.len() > MEDIUM {
-            return false;
+        match self {
+            Body::Long(shared) if bytes.len() > SHORT => shared.refill(bytes),
+            _ => false,
         }
-        let Body::Medium(shared) = self else {
-            return false;
-        };
-        let Some(block) = Arc::get_mut(shared) else {
-            return false;
-        };
-        block.fill(bytes);
-        true
     }
 
     /// Whether its bytes stand in a block.
     pub(crate) fn has_block(&self) -> bool {
         match self {
-            Body::Medium(_) => true,
-            Body::Short { .. } | Body::Long(_) => false,
+            Body::Short { .. } => false,
+            Body::Long(_) => true,
         }
     }
 
@@ -135,8 +104,7 @@ impl Body {
     {
         match self {
             Body::Short { len, bytes } => &bytes[..*len as usize],
-            Body::Medium(block) => block.as_bytes(),
-            Body::Long(bytes) => bytes.as_slice(),
+            Body::Long(shared) => shared.as_bytes(),
         }
     }
 
@@ -151,14 +119,7 @@ impl Body {
                 len: *len,
                 bytes: *bytes,
             }),
-            Body::Medium(block) => match Arc::try_clone(block) {
-                Ok(block) => Ok(Body::Medium(block)),
-                Err(_) => Err(Memory),
-            },
-            Body::Long(bytes) => match bytes.clone() {
-                Ok(bytes) => Ok(Body::Long(bytes)),
-                Err(_) => Err(Memory),
-            },
+            Body::Long(shared) => Ok(Body::Long(shared.share()?)),
         }
     }
 }

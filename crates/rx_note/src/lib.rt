@@ -18,6 +18,7 @@ mod note;
 mod policy;
 mod refusal;
 mod rules;
+mod shared;
 mod strategy;
 mod text;
 

@@ -26,8 +26,8 @@ pub enum TextError {
 
 /// What an item or an error says: 0 to 1,024 bytes of any kind but LF. Contracts see a text as the list of its bytes.
 ///
-/// A text of up to 20 bytes takes no memory, one of up to 56 one growth, a longer one two; the copies of all but the shortest
-/// share their bytes. The limits are this project's own.
+/// A text of up to 20 bytes takes no memory, a longer one one growth; the copies of all but the shortest share their bytes. The
+/// limits are this project's own.
 #[derive(Drop, Debug)]
 pub struct Text {
     body: Body,
@@ -90,7 +90,7 @@ impl Text {
         self.body.refill(bytes)
     }
 
-    /// Whether it stands in a block, which a text of 21 to 56 bytes does, so that it may be refilled.
+    /// Whether it stands in a block, which a text of more than 20 bytes does, so that it may be refilled.
     #[inline]
     pub fn has_block(&self) -> bool {
         self.body.has_block()
