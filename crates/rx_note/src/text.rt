@@ -13,6 +13,9 @@ pub const MAX_TEXT: usize = 1024;
 
 const LF: u8 = b'\n';
 
+// A text is three words, with the bytes of a short one.
+const _: () = prove!(size_of::<Text>() == 24);
+
 /// Why a text was refused.
 #[derive(Clone, Copy, Debug, PartialEq, Eq)]
 pub enum TextError {
