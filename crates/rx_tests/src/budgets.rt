@@ -61,9 +61,9 @@ impl Waiting {
         self.step(Event::Emit { note, at: 0 })
     }
 
-    // Emits until want of memory: how many items were admitted; none where no emission found that.
-    fn fill(&mut self, rt: &impl Abort) -> Option<u32> {
-        for admitted in 0..MAX_ITEMS {
+    // Emits until want of memory, so many items at most: how many were admitted; none where no emission found that.
+    fn fill(&mut self, rt: &impl Abort, most: u32) -> Option<u32> {
+        for admitted in 0..most {
             if self.emit(rt) == Err(Refusal::Memory) {
                 return Some(admitted);
             }
@@ -75,7 +75,7 @@ impl Waiting {
 // Fills the budget, and how many items were admitted.
 fn fill_first(rt: &impl Abort, waiting: &mut Waiting, tight: &Heap) -> u32 {
     expect_answer(rt, waiting.join(rt), Ok(Answer::Joined(0)));
-    let first = waiting.fill(rt).unwrap_or(0);
+    let first = waiting.fill(rt, MAX_ITEMS).unwrap_or(0);
     expect_that(rt, first > 10, "more than ten items");
     expect_answer(rt, waiting.emit(rt), Err(Refusal::Memory));
     expect_count(rt, waiting.hub.misses(), 2, "misses");
@@ -86,7 +86,11 @@ fn fill_first(rt: &impl Abort, waiting: &mut Waiting, tight: &Heap) -> u32 {
 // Requests some of what waits, fills the budget again, and requests all.
 fn fill_again(rt: &impl Abort, waiting: &mut Waiting, first: u32) {
     expect_answer(rt, waiting.request(3), Ok(Answer::Asked));
-    expect_that(rt, waiting.fill(rt) == Some(3), "three items more");
+    expect_that(
+        rt,
+        waiting.fill(rt, MAX_ITEMS) == Some(3),
+        "three items more",
+    );
     expect_answer(rt, waiting.request(MAX_ITEMS), Ok(Answer::Asked));
     let given = waiting.outs.len() as u64;
     expect_count(rt, given, u64::from(first).saturating_add(3), "given");
@@ -117,7 +121,11 @@ fn bytes_of(alloc: Global, notes: usize) -> Result<u64, Fail> {
 fn request_all(rt: &impl Abort, free: &Heap, tight: &Heap) {
     let mut waiting = Waiting::new(rt, copy(rt, free), copy(rt, free), copy(rt, tight));
     expect_answer(rt, waiting.join(rt), Ok(Answer::Joined(0)));
-    expect_that(rt, waiting.fill(rt) == None, "no emission is refused");
+    expect_that(
+        rt,
+        waiting.fill(rt, MAX_ITEMS) == None,
+        "no emission is refused",
+    );
     expect_answer(rt, waiting.request(MAX_ITEMS), Ok(Answer::Asked));
     expect_count(rt, waiting.outs.len() as u64, u64::from(MAX_ITEMS), "given");
 }
@@ -128,6 +136,31 @@ fn a_request_holds_each_note_once(rt: HostRuntime) -> Result<(), Fail> {
     let bytes = bytes_of(rt.alloc(), MAX_ITEMS as usize + 8)?;
     let tight = Heap::with_budget(rt.alloc(), bytes)?;
     request_all(&rt, &unlimited(&rt), &tight);
+    expect_count(&rt, tight.used(), 0, "bytes that were not given back");
+    Ok(())
+}
+
+// The bytes that a hub's tape holds before and after its only observer requests all that waits, so many items.
+fn held_around_a_request(rt: &impl Abort, free: &Heap, tight: &Heap, items: u32) -> (u64, u64) {
+    let mut waiting = Waiting::new(rt, copy(rt, free), copy(rt, tight), copy(rt, free));
+    expect_answer(rt, waiting.join(rt), Ok(Answer::Joined(0)));
+    expect_that(
+        rt,
+        waiting.fill(rt, items) == None,
+        "no emission is refused",
+    );
+    let before = tight.used();
+    expect_answer(rt, waiting.request(items), Ok(Answer::Asked));
+    expect_count(rt, waiting.outs.len() as u64, u64::from(items), "given");
+    (before, tight.used())
+}
+
+// Half-way there are as many items on the tape as went, so that it gives back what is beyond them.
+#[test]
+fn a_large_request_gives_memory_back(rt: HostRuntime) -> Result<(), Fail> {
+    let tight = Heap::with_budget(rt.alloc(), u64::MAX)?;
+    let (before, after) = held_around_a_request(&rt, &unlimited(&rt), &tight, 10_000);
+    expect_that(&rt, after <= before / 2, "half of it comes back");
     expect_count(&rt, tight.used(), 0, "bytes that were not given back");
     Ok(())
 }
@@ -145,7 +178,7 @@ fn growths_of(alloc: Global, len: usize) -> Result<(u64, bool), Fail> {
 
 #[test]
 fn a_text_takes_few_growths(rt: HostRuntime) -> Result<(), Fail> {
-    for (len, growths) in [(0, 0), (20, 0), (21, 1), (56, 1), (57, 2), (1024, 2)] {
+    for (len, growths) in [(0, 0), (20, 0), (21, 1), (56, 1), (57, 1), (1024, 1)] {
         let (asked, refused) = growths_of(rt.alloc(), len)?;
         expect_count(&rt, asked, growths, "growths of a text");
         expect_that(&rt, refused == (growths > 0), "a text without memory");
@@ -188,13 +221,18 @@ fn a_text_in_a_block_of_its_own_is_refilled(rt: HostRuntime) -> Result<(), Fail>
         (50, 20, false, false),
         (50, 57, false, false),
         (57, 50, false, false),
+        (57, 120, false, true),
+        (121, 248, false, true),
+        (249, 504, false, true),
+        (505, 1024, false, true),
+        (505, 504, false, false),
+        (1024, 1024, true, false),
         (20, 50, false, false),
     ];
     for (len, other, shared, did) in rows {
-        let growths = if len > 56 { 2 } else { (len > 20) as u64 };
         let (is_refilled, asked) = refilled(rt.alloc(), len, other, shared)?;
         expect_that(&rt, is_refilled == did, "a text that is refilled");
-        expect_count(&rt, asked, growths, "growths of two texts");
+        expect_count(&rt, asked, (len > 20) as u64, "growths of two texts");
     }
     Ok(())
 }
