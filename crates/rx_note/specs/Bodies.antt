@@ -2,13 +2,12 @@
 use Rattle.std.specs.Prelude.{ℕ, ◌≤◌, List, take}
 use Rattle.std.specs.Arc.{arc_value}
 use Rattle.rx_note.specs.declared.body.Body.{Body}
-use Rattle.rx_note.specs.declared.body.Body.TheVariants.{Short, Long}
-use Rattle.rx_note.specs.declared.shared.Shared.{Shared}
-use Rattle.rx_note.specs.declared.shared.Shared.TheVariants.{UpTo56, UpTo120, UpTo248, UpTo504, UpTo1024}
+use Rattle.rx_note.specs.declared.body.Body.TheVariants.{Short, Medium, Long}
+use Rattle.rx_note.specs.declared.long_block.LongBlock.{LongBlock}
+use Rattle.rx_note.specs.declared.long_block.LongBlock.TheVariants.{UpTo120, UpTo248, UpTo504, UpTo1024}
 
--- the bytes in a block that copies share
-abbrev pub bytes_in : Shared → List ℕ
-bytes_in (UpTo56 block) = arc_value block
+-- the bytes in the block of a long text
+abbrev pub bytes_in : LongBlock → List ℕ
 bytes_in (UpTo120 block) = arc_value block
 bytes_in (UpTo248 block) = arc_value block
 bytes_in (UpTo504 block) = arc_value block
@@ -17,9 +16,11 @@ bytes_in (UpTo1024 block) = arc_value block
 -- the bytes
 abbrev pub bytes_of : Body → List ℕ
 bytes_of (Short len bytes) = take len bytes
-bytes_of (Long shared) = bytes_in shared
+bytes_of (Medium block) = arc_value block
+bytes_of (Long block) = bytes_in block
 
 -- a short one has no more bytes than there is room for
 abbrev pub IsWithin : Body → Type 0
 IsWithin (Short len bytes) = len ≤ 20
-IsWithin (Long shared) = Unit {0}
+IsWithin (Medium block) = Unit {0}
+IsWithin (Long block) = Unit {0}

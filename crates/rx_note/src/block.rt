@@ -5,7 +5,7 @@ use rx_heap::{Heap, Memory};
 use std::marker::Model;
 use std::sync::Arc;
 
-/// The bytes of a text, `N` at most. Contracts see the list of them.
+/// The bytes of a text that its copies share, `N` at most. Contracts see the list of them.
 #[derive(Drop, Debug)]
 pub(crate) struct Block<const N: usize> {
     len: usize,
@@ -23,7 +23,8 @@ impl<const N: usize> Model for Block<N> {
 }
 
 impl<const N: usize> Block<N> {
-    /// A block of these bytes, in one growth.
+    /// A block of these bytes, in one growth. It is kept out of line, so that who makes a small block has no room for a large one.
+    #[inline(never)]
     pub(crate) fn shared(alloc: Heap, bytes: &[u8]) -> Result<Arc<Block<N>, Heap>, Memory>
         requires { length bytes.now ≤ N }
         ensures { IfOk result (λ block. arc_value block ≡ bytes.now) }

@@ -1,10 +1,15 @@
 ghost use Rattle.std.specs.Prelude.{◌≡◌, ◌≤◌, true, false, length, IfOk};
 
-use crate::shared::Shared;
+use crate::block::Block;
+use crate::long_block::LongBlock;
 use rx_heap::{Heap, Memory};
+use std::sync::Arc;
 
 /// The most bytes of a short text, so many that a `Text` has 24 bytes in all, and that its words are moved whole.
 const SHORT: usize = 20;
+
+/// The most bytes of a medium text, so many that its block has 64 in all.
+const MEDIUM: usize = 56;
 
 /// Where the bytes of a text are. Most texts are short: these take no memory, and their copies touch no count. A longer one
 /// takes one growth.
@@ -12,8 +17,10 @@ const SHORT: usize = 20;
 pub(crate) enum Body {
     /// Here, the first `len` of these.
     Short { len: u16, bytes: [u8; SHORT] },
-    /// In a block that the copies share.
-    Long(Shared),
+    /// In a small block that the copies share.
+    Medium(Arc<Block<MEDIUM>, Heap>),
+    /// In a larger one.
+    Long(LongBlock),
 }
 
 // By hand, so that to let a text go is one step in each function that does, whichever form it has.
@@ -22,15 +29,23 @@ impl Drop for Body {
     fn drop(self) {
         match self {
             Body::Short { len: _, bytes: _ } => {}
-            Body::Long(shared) => let_go(shared),
+            Body::Medium(block) => let_go(block),
+            Body::Long(block) => let_go_long(block),
         }
     }
 }
 
-// Lets go of a block that the copies share. It is kept out of line, so that to let a short text go costs one test.
+// Lets go of a block that the copies share. It is kept out of line, so that to let a short text go costs one test. The block is
+// taken out of its count, which is cheaper where no copy shares it.
 #[inline(never)]
-fn let_go(shared: Shared) {
-    drop(shared);
+fn let_go(block: Arc<Block<MEDIUM>, Heap>) {
+    drop(Arc::try_unwrap(block));
+}
+
+// Lets go of a larger one, which isn't taken out, since that would move its bytes.
+#[inline(never)]
+fn let_go_long(block: LongBlock) {
+    drop(block);
 }
 
 impl Body {
@@ -46,18 +61,21 @@ impl Body {
         if bytes.len() <= SHORT {
             return Ok(Body::short(bytes));
         }
-        Body::long(alloc, bytes)
+        Body::shared(alloc, bytes)
     }
 
     // The body of bytes that the copies share. It is kept out of line, so that a short text is made in place.
     #[inline(never)]
-    fn long(alloc: Heap, bytes: &[u8]) -> Result<Body, Memory>
+    fn shared(alloc: Heap, bytes: &[u8]) -> Result<Body, Memory>
         requires { length bytes.now ≤ 1024 }
         ensures bytes { IfOk result (λ body. bytes_of body ≡ bytes.now) }
         ensures within { IfOk result (λ body. IsWithin body) }
     {
-        let shared = Shared::new(alloc, bytes)?;
-        Ok(Body::Long(shared))
+        if bytes.len() <= MEDIUM {
+            Ok(Body::Medium(Block::shared(alloc, bytes)?))
+        } else {
+            Ok(Body::Long(LongBlock::new(alloc, bytes)?))
+        }
     }
 
     #[inline(always)]
@@ -84,7 +102,10 @@ impl Body {
         ensures kept { result ≡ false → self.new ≡ self.old }
     {
         match self {
-            Body::Long(shared) if bytes.len() > SHORT => shared.refill(bytes),
+            Body::Medium(block) if bytes.len() > SHORT && bytes.len() <= MEDIUM => {
+                Block::refill(block, bytes)
+            }
+            Body::Long(block) => block.refill(bytes),
             _ => false,
         }
     }
@@ -93,7 +114,7 @@ impl Body {
     pub(crate) fn has_block(&self) -> bool {
         match self {
             Body::Short { .. } => false,
-            Body::Long(_) => true,
+            Body::Medium(_) | Body::Long(_) => true,
         }
     }
 
@@ -104,7 +125,8 @@ impl Body {
     {
         match self {
             Body::Short { len, bytes } => &bytes[..*len as usize],
-            Body::Long(shared) => shared.as_bytes(),
+            Body::Medium(block) => block.as_bytes(),
+            Body::Long(block) => block.as_bytes(),
         }
     }
 
@@ -119,7 +141,8 @@ impl Body {
                 len: *len,
                 bytes: *bytes,
             }),
-            Body::Long(shared) => Ok(Body::Long(shared.share()?)),
+            Body::Medium(block) => Ok(Body::Medium(Block::share(block)?)),
+            Body::Long(block) => Ok(Body::Long(block.share()?)),
         }
     }
 }

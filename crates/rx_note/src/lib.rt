@@ -14,11 +14,11 @@ mod given;
 mod item;
 mod kind;
 mod limits;
+mod long_block;
 mod note;
 mod policy;
 mod refusal;
 mod rules;
-mod shared;
 mod strategy;
 mod text;
 
