@@ -198,3 +198,14 @@ audits-faulty end first subjects after read_old read_new written_old written_new
       (learned.are ∙ ap (λ ss. audited (new_state ss) (lines_of learned.read)) same) front;
   ends = tt;
 }
+
+-- want of memory ended the printing
+pub audits-broken : (end : SessionEnd) (first subjects after : List Subject) (read_old read_new written_old written_new : Option (List ℕ))
+    → subjects ≡ first → Learns (new_state subjects) after end read_old read_new → AppendsPrefix written_old written_new (audit_written after)
+    → (read : List ℕ) × Consumes read_old read_new read × AppendsPrefix written_old written_new (audit_written (audited (new_state first) (lines_of read)))
+audits-broken end first subjects after read_old read_new written_old written_new same learned front = (
+  learned.read,
+  learned.consumed,
+  subst (λ (ss : List Subject). AppendsPrefix written_old written_new (audit_written ss))
+      (learned.are ∙ ap (λ ss. audited (new_state ss) (lines_of learned.read)) same) front,
+)

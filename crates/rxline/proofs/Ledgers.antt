@@ -2,6 +2,7 @@
 use Rattle.std.proofs.Common.{◌≡◌, ℕ, zero, suc, ◌+◌, ◌<◌, ◌≤◌, Bool, true, false, cond, ◌&&◌, nat_lt, ltb, List, [], ◌∷◌, ◌++◌, length, get_or, set, Option, None, Some, is_some, position, inl, inr, ◌⊎◌, refl, sym, ap, subst, ◌∙◌, append_assoc, append-nil, arith}
 use Rattle.std.proofs.Math.Numerals.{add-one}
 use Rattle.std.proofs.lemmas.Bool.Decides.{nat_tests}
+use Rattle.std.proofs.lemmas.List.{map-append}
 use Rattle.std.proofs.lemmas.List.Quantifiers.{position-Some}
 use Rattle.rx_hub.proofs.Positions.{position-None}
 use Rattle.rx_note.specs.declared.event.Event.{Event}
@@ -15,10 +16,22 @@ use Rattle.rx_history.proofs.Entries.{is_some-signals}
 use Rattle.rx_history.proofs.Extending.{extended-push}
 use Rattle.rxline.specs.declared.ledger.Ledger.{Ledger}
 use Rattle.rxline.specs.Audits.{subject_in, subjects_in, observer_written, observers_written, observed_lines, subject_written}
+use Rattle.rxline.specs.Scripts.{new_subject, new_subjects}
+use Rattle.rx_server.specs.declared.subject_config.SubjectConfig.{SubjectConfig}
 use Rattle.rx_session.specs.Bytes.{Loses}
 use Rattle.rx_proto.specs.Reading.{same_word}
 use Rattle.rxline.specs.Transcripts.{Subject, taking, all_taking}
 use Rattle.rx_session.proofs.Written.{Loses-more}
+
+-- A LEDGER MORE
+
+-- the ledgers of some subjects and one more
+pub subjects_in-push : (ledgers pushed : List Ledger) (ledger : Ledger) (configs : List SubjectConfig) (config : SubjectConfig)
+    → subjects_in ledgers ≡ new_subjects configs → subject_in ledger ≡ new_subject config → pushed ≡ ledgers ++ ledger ∷ []
+    → subjects_in pushed ≡ new_subjects (configs ++ config ∷ [])
+subjects_in-push ledgers pushed ledger configs config are one is =
+    ap subjects_in is ∙ map-append subject_in ledgers (ledger ∷ []) ∙ ap (λ ss. ss ++ subject_in ledger ∷ []) are
+    ∙ ap (λ s. new_subjects configs ++ s ∷ []) one ∙ sym (map-append new_subject configs (config ∷ []))
 
 -- THE EVENT
 

@@ -7,6 +7,7 @@ use crate::tests::servers::{
 };
 use std::io::{self, Write};
 use std::net::Shutdown;
+use std::os::unix::net::UnixStream;
 use std::test::Fail;
 use std::thread::join;
 
@@ -30,7 +31,7 @@ fn is_answered(rt: &impl Host, paths: &Paths, lines: &[u8], answers: &[u8]) -> i
     let mut peer = connect(rt, paths)?;
     peer.write_all(lines)?;
     peer.shutdown(Shutdown::Write)?;
-    Ok(reads(&mut peer, answers)? && is_at_end(&mut peer)?)
+    ends_with(&mut peer, answers)
 }
 
 // Lines that no session takes, and what each is answered. A script takes two of them.
@@ -96,20 +97,51 @@ fn is_joined(rt: &impl Host, paths: &Paths, joined: &[u8]) -> io::Result<bool> {
     reads(&mut peer, joined)
 }
 
+// Whether these bytes come next, and then nothing any more.
+fn ends_with(stream: &mut UnixStream, wanted: &[u8]) -> io::Result<bool> {
+    Ok(reads(stream, wanted)? && is_at_end(stream)?)
+}
+
+// Whether a producer that ends the subject is answered.
+fn ends_subject(producer: &mut UnixStream) -> io::Result<bool> {
+    producer.write_all(b"END s\nQUIT\n")?;
+    reads(producer, b"OK\nOK\n")
+}
+
+// Whether the subject's end is told to one who joined late too.
+fn ends_beside_one_late(
+    rt: &impl Host,
+    paths: &Paths,
+    producer: &mut UnixStream,
+    reader: &mut UnixStream,
+) -> io::Result<bool> {
+    let mut late = subscribe(rt, paths)?;
+    let mut right = reads(&mut late, b"JOINED 2\n")?;
+    right &= ends_subject(producer)?;
+    right &= ends_with(reader, b"DONE\n")?;
+    right &= ends_with(&mut late, b"DONE\n")?;
+    Ok(right)
+}
+
+// A producer emits for a reader before and after another subscriber comes and closes.
+fn emits_beside_one_gone(
+    rt: &impl Host,
+    paths: &Paths,
+    reader: &mut UnixStream,
+) -> io::Result<bool> {
+    let mut producer = connect(rt, paths)?;
+    let mut right = emit_all(&mut producer, reader, ITEMS)?;
+    right &= is_joined(rt, paths, b"JOINED 1\n")?;
+    right &= emit_all(&mut producer, reader, ITEMS)?;
+    right &= ends_beside_one_late(rt, paths, &mut producer, reader)?;
+    Ok(right)
+}
+
 // One subscriber closes once it has joined. Its place is free again at the next item.
 fn talk_beside_one_gone(rt: &impl Host, paths: &Paths) -> io::Result<bool> {
     let mut reader = subscribe(rt, paths)?;
     let mut right = reads(&mut reader, b"JOINED 0\n")?;
-    let mut producer = connect(rt, paths)?;
-    right &= emit_all(&mut producer, &mut reader, ITEMS)?;
-    right &= is_joined(rt, paths, b"JOINED 1\n")?;
-    right &= emit_all(&mut producer, &mut reader, ITEMS)?;
-    let mut late = subscribe(rt, paths)?;
-    right &= reads(&mut late, b"JOINED 2\n")?;
-    producer.write_all(b"END s\nQUIT\n")?;
-    right &= reads(&mut producer, b"OK\nOK\n")?;
-    right &= reads(&mut reader, b"DONE\n")? && is_at_end(&mut reader)?;
-    right &= reads(&mut late, b"DONE\n")? && is_at_end(&mut late)?;
+    right &= emits_beside_one_gone(rt, paths, &mut reader)?;
     Ok(right)
 }
 
@@ -137,23 +169,49 @@ fn is_reset(rt: &impl Host, paths: &Paths) -> io::Result<bool> {
     reads(&mut peer, b"O")
 }
 
+// A producer and a subscriber close before they have read all, beside one who reads.
+fn reads_beside_resets(
+    rt: &impl Host,
+    paths: &Paths,
+    mut unread: UnixStream,
+    reader: &mut UnixStream,
+) -> io::Result<bool> {
+    let mut right = reads(reader, b"JOINED 1\n")?;
+    right &= is_reset(rt, paths)?;
+    right &= reads(reader, b"NEXT a\nNEXT b\n")?;
+    right &= reads(&mut unread, b"N")?;
+    Ok(right)
+}
+
+// Whether one who comes after them is served beside the one who reads, to the subject's end.
+fn is_served_to_the_end(
+    rt: &impl Host,
+    paths: &Paths,
+    reader: &mut UnixStream,
+) -> io::Result<bool> {
+    let mut late = subscribe(rt, paths)?;
+    let mut right = reads(&mut late, b"JOINED 2\n")?;
+    right &= is_answered(rt, paths, b"END s\nQUIT\n", b"OK\nOK\n")?;
+    right &= ends_with(reader, b"DONE\n")?;
+    right &= ends_with(&mut late, b"DONE\n")?;
+    Ok(right)
+}
+
+// Whether one who reads is served while the unread one resets, and afterwards.
+fn is_served_beside(rt: &impl Host, paths: &Paths, unread: UnixStream) -> io::Result<bool> {
+    let mut reader = subscribe(rt, paths)?;
+    let mut right = reads_beside_resets(rt, paths, unread, &mut reader)?;
+    right &= is_answered(rt, paths, b"PUB s c\nQUIT\n", b"OK\nOK\n")?;
+    right &= reads(&mut reader, b"NEXT c\n")?;
+    right &= is_served_to_the_end(rt, paths, &mut reader)?;
+    Ok(right)
+}
+
 // A producer and a subscriber close before they have read all. One worker serves the others after them.
 fn talk_beside_resets(rt: &impl Host, paths: &Paths) -> io::Result<bool> {
     let mut unread = subscribe(rt, paths)?;
     let mut right = reads(&mut unread, b"JOINED 0\n")?;
-    let mut reader = subscribe(rt, paths)?;
-    right &= reads(&mut reader, b"JOINED 1\n")?;
-    right &= is_reset(rt, paths)?;
-    right &= reads(&mut reader, b"NEXT a\nNEXT b\n")?;
-    right &= reads(&mut unread, b"N")?;
-    drop(unread);
-    right &= is_answered(rt, paths, b"PUB s c\nQUIT\n", b"OK\nOK\n")?;
-    right &= reads(&mut reader, b"NEXT c\n")?;
-    let mut late = subscribe(rt, paths)?;
-    right &= reads(&mut late, b"JOINED 2\n")?;
-    right &= is_answered(rt, paths, b"END s\nQUIT\n", b"OK\nOK\n")?;
-    right &= reads(&mut reader, b"DONE\n")? && is_at_end(&mut reader)?;
-    right &= reads(&mut late, b"DONE\n")? && is_at_end(&mut late)?;
+    right &= is_served_beside(rt, paths, unread)?;
     Ok(right)
 }
 
