@@ -99,7 +99,9 @@ impl Multicast {
         Ok(Answer::Admitted)
     }
 
-    // An observer joins.
+    // An observer joins. It is kept out of line, as requests and disposals are: an emission, by far the commonest event, then has
+    // no room to make for what they need.
+    #[inline(never)]
     fn join(
         &mut self,
         policy: Policy,
@@ -127,6 +129,7 @@ impl Multicast {
     }
 
     // An observer requests items.
+    #[inline(never)]
     fn request(&mut self, who: u32, n: u32, outs: &mut Vec<Given, Heap>) -> Result<Answer, Refusal>
         ensures { (port : ℕ) → Takes (state_of self.old) (state_of self.new) outs.old.items outs.new.items result (port, Request who n) }
     {
@@ -149,6 +152,7 @@ impl Multicast {
     }
 
     // An observer leaves, with what waits for it.
+    #[inline(never)]
     fn dispose(&mut self, who: u32) -> Result<Answer, Refusal>
         ensures { (port : ℕ) (outs : List Given) → Takes (state_of self.old) (state_of self.new) outs outs result (port, Dispose who) }
     {

@@ -165,6 +165,7 @@ impl Subscription {
 
     /// Adds a request as `ask` does, where the tape has no other cursor and nobody needs later what is given now: it may be
     /// taken off the tape.
+    #[inline(never)]
     pub(crate) fn ask_alone(
         &mut self,
         n: u32,

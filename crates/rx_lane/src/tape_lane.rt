@@ -163,6 +163,7 @@ impl TapeLane {
 
     /// Adds a request of `n` items as `ask` does, and puts at the end of `outs` what is then given, addressed to the observer of
     /// the number `who`. Refused in the order `ZeroRequest`, `TooMuch`, `Memory`; a refusal leaves the lane, the tape and `outs`.
+    #[inline(always)]
     pub fn ask_for(
         &mut self,
         who: u32,
@@ -304,6 +305,7 @@ impl TapeLane {
     }
 
     // Passes the items that are given where so many are owed. The terminal comes back where it goes behind the last of them.
+    #[inline(always)]
     fn release(&mut self, items: usize, owed: u32, tape: &mut Tape) -> Option<Note>
         requires stands { StandsWhereSome tape.old self.old.cursor self.old.back }
         requires items { items ≡ min (length (option_to_list self.old.lead) + self.old.back) owed }
@@ -448,6 +450,7 @@ fn copy_into(
 }
 
 // Puts a terminal, if there is one, at the end of `outs`, which has room for it, for an observer.
+#[inline(always)]
 fn put_last(who: u32, last: Option<Note>, outs: &mut Vec<Given, Heap>)
     requires { vec_len outs.old + length (option_to_list last) ≤ vec_capacity outs.old }
     ensures { outs.new.items ≡ outs.old.items ++ addressed who (option_to_list last) }

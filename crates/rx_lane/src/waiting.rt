@@ -71,6 +71,7 @@ impl Waiting {
 
     /// Puts copies of the first `count` items, addressed to an observer, at the end of `outs`, which has room for them. On
     /// `Memory` some of them may have been put.
+    #[inline(always)]
     pub(crate) fn copy_to(
         &self,
         who: u32,
@@ -159,6 +160,7 @@ impl Waiting {
 
 /// Puts a copy of the item in front, if there is one, at the end of `outs`, for an observer, and says how many others are
 /// then to be given.
+#[inline(always)]
 pub(crate) fn copy_lead(
     who: u32,
     count: usize,
@@ -183,6 +185,7 @@ pub(crate) fn copy_lead(
 
 // Puts copies of the first `count` of the last `back` items of a tape at the end of `outs`, for an observer. On `Memory`
 // some of them may have been put.
+#[inline(always)]
 fn copy_items(
     who: u32,
     count: usize,
