@@ -1,4 +1,4 @@
-use Rattle.std.proofs.Common.{◌++◌, map, take, option_to_list, ◌∙◌}
+use Rattle.std.proofs.Common.{◌++◌, map, take, option_to_list}
 use Rattle.rx_note.specs.declared.note.Note.TheVariants.{Next}
 use Rattle.rx_tape.specs.Tapes.{waits}
 use Rattle.rx_lane.proofs.Shared.{put_behind}
