@@ -86,6 +86,7 @@ impl Audience {
     /// Has the subject admit a note, and puts at the end of `outs` what it gives to each observer, by rising number. All
     /// that may be refused comes first: room, copies for those to whom something is owed, and the tape. `Memory` leaves the
     /// subject, the observers and `outs`.
+    #[inline(always)]
     pub(crate) fn admit(
         &mut self,
         subject: &mut TapeSubject,
@@ -115,8 +116,9 @@ impl Audience {
         }
     }
 
-    // Has the subject admit an item, which comes by the port that it names and is offered at once. What is given is put where
-    // it goes in the first pass. An item that all are owed, and nobody may need later, goes by no tape.
+    // Has the subject admit an item, which comes by the port that it names and is offered at once. One that all are owed, and
+    // nobody may need later, goes by no tape.
+    #[inline(always)]
     fn admit_item(
         &mut self,
         subject: &mut TapeSubject,
@@ -134,9 +136,9 @@ impl Audience {
         ensures within { length subject.new.stamps ≤ length self.new.items }
         ensures kind { subject.new.kind ≡ subject.old.kind }
     {
-        let before = outs.len();
-        outs.reserve(self.subscriptions.len())?;
         if subject.keeps_nothing() && are_owed(&self.subscriptions) {
+            let before = outs.len();
+            make_room(outs, self.subscriptions.len())?;
             let Ok(()) = give_owed(&self.subscriptions, item, outs) else {
                 outs.truncate(before);
                 return Err(Memory);
@@ -145,6 +147,31 @@ impl Audience {
             pass_owed_all(&mut self.subscriptions);
             return Ok(());
         }
+        self.put_item(subject, item, at, outs)
+    }
+
+    // The same by the tape. What is given is put where it goes in the first pass. It is kept out of line, as all is that is
+    // rarer than an item that goes by no tape.
+    #[inline(never)]
+    fn put_item(
+        &mut self,
+        subject: &mut TapeSubject,
+        item: Item,
+        at: u64,
+        outs: &mut Vec<Given, Heap>,
+    ) -> Result<(), Memory>
+        requires stamps { length subject.old.stamps ≤ length self.old.items }
+        requires open { is_some subject.old.terminal ≡ false }
+        requires offered { subject.old.kind ≢ Async }
+        ensures err { OnErr result ((subject.new ≡ subject.old) × (self.new ≡ self.old) × (outs.new.items ≡ outs.old.items)) }
+        ensures stands { OnOk result ((from : ℕ) (rules : Rules) (H : History) → subjects.StandsFor (subject_on self.old.items subject.old) rules H
+            → subjects.StandsFor (subject_on self.new.items subject.new) rules (H ▹ (item.from, Emit (Next (record { from = from; text = item.text })) at))) }
+        ensures fed { OnOk result (AllFedInto (Offered item ∷ []) self.old.observers self.new.observers outs.old.items outs.new.items) }
+        ensures within { length subject.new.stamps ≤ length self.new.items }
+        ensures kind { subject.new.kind ≡ subject.old.kind }
+    {
+        let before = outs.len();
+        make_room(outs, self.subscriptions.len())?;
         let Ok(()) = give_item(&mut self.subscriptions, &item, outs) else {
             outs.truncate(before);
             return Err(Memory);
@@ -158,6 +185,7 @@ impl Audience {
     }
 
     // Has the subject admit a note that ends it, or an item that it keeps back.
+    #[inline(never)]
     fn admit_offer(
         &mut self,
         subject: &mut TapeSubject,
@@ -333,7 +361,24 @@ fn place_in(subscriptions: &Vec<Subscription, Heap>, who: u32) -> Option<usize>
     subscriptions.iter().position(|s| s.who == who)
 }
 
+// Has room for so many more notes in `outs`, which is asked for only where it is not there.
+#[inline(always)]
+fn make_room(outs: &mut Vec<Given, Heap>, more: usize) -> Result<(), Memory>
+    ensures room { OnOk result (vec_len outs.new + more ≤ vec_capacity outs.new) }
+    ensures items { outs.new.items ≡ outs.old.items }
+    ensures len { vec_len outs.new ≡ vec_len outs.old }
+{
+    match outs.len().checked_add(more) {
+        Some(needed) if needed <= outs.capacity() => Ok(()),
+        _ => {
+            outs.reserve(more)?;
+            Ok(())
+        }
+    }
+}
+
 // Whether each observer is owed an item.
+#[inline(always)]
 fn are_owed(subscriptions: &Vec<Subscription, Heap>) -> bool
     ensures { IsTrue result ↔ AllOwed (places_of subscriptions.now.items) }
 {
@@ -347,6 +392,7 @@ fn are_owed(subscriptions: &Vec<Subscription, Heap>) -> bool
 
 // Puts an item at the end of `outs` for each observer, all of which are owed it: copies, and to the last the item itself. On
 // `Memory` some may have been put.
+#[inline(always)]
 fn give_owed(
     subscriptions: &Vec<Subscription, Heap>,
     item: Item,
@@ -360,11 +406,54 @@ fn give_owed(
     let Some(last) = subscriptions.len().checked_sub(1) else {
         return Ok(());
     };
-    for i in 0..last {
+    give_copies(subscriptions, last, &item, outs)?;
+    subscriptions[last].give(item, outs);
+    Ok(())
+}
+
+// Puts a copy of an item at the end of `outs` for each of the first observers, so many, all of which are owed it. On `Memory`
+// some may have been put.
+#[inline(always)]
+fn give_copies(
+    subscriptions: &Vec<Subscription, Heap>,
+    count: usize,
+    item: &Item,
+    outs: &mut Vec<Given, Heap>,
+) -> Result<(), Memory>
+    requires within { count ≤ vec_len subscriptions.now }
+    requires owed { AllOwed (places_of subscriptions.now.items) }
+    requires room { vec_len outs.old + count ≤ vec_capacity outs.old }
+    ensures given { OnOk result (outs.new.items ≡ outs.old.items ++ gifts item.now (take count (places_of subscriptions.now.items))) }
+    ensures front { take (vec_len outs.old) outs.new.items ≡ outs.old.items }
+    ensures len { OnOk result (vec_len outs.new ≡ vec_len outs.old + count) }
+    ensures capacity { vec_capacity outs.new ≡ vec_capacity outs.old }
+{
+    if count == 0 {
+        return Ok(());
+    }
+    put_copies(subscriptions, count, item, outs)
+}
+
+// The same, out of line, so that what goes to one observer alone stays short.
+#[inline(never)]
+fn put_copies(
+    subscriptions: &Vec<Subscription, Heap>,
+    count: usize,
+    item: &Item,
+    outs: &mut Vec<Given, Heap>,
+) -> Result<(), Memory>
+    requires within { count ≤ vec_len subscriptions.now }
+    requires owed { AllOwed (places_of subscriptions.now.items) }
+    requires room { vec_len outs.old + count ≤ vec_capacity outs.old }
+    ensures given { OnOk result (outs.new.items ≡ outs.old.items ++ gifts item.now (take count (places_of subscriptions.now.items))) }
+    ensures front { take (vec_len outs.old) outs.new.items ≡ outs.old.items }
+    ensures len { OnOk result (vec_len outs.new ≡ vec_len outs.old + count) }
+    ensures capacity { vec_capacity outs.new ≡ vec_capacity outs.old }
+{
+    for i in 0..count {
         let copy = item.copy()?;
         subscriptions[i].give(copy, outs);
     }
-    subscriptions[last].give(item, outs);
     Ok(())
 }
 
@@ -389,6 +478,7 @@ fn give_item(
 }
 
 // Passes an item that each observer is owed and was given, and that is not on the tape.
+#[inline(always)]
 fn pass_owed_all(subscriptions: &mut Vec<Subscription, Heap>)
     requires { AllOwed (places_of subscriptions.old.items) }
     ensures fed { (items : List Item) (item : Item) → AllFedInto (Offered item ∷ []) (observers_on items (places_of subscriptions.old.items))

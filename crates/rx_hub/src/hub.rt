@@ -65,6 +65,7 @@ impl Hub {
     /// to each observer in its order. Refused in the order of its kind: Emit Ended, Memory; Join Full, Spent, Memory;
     /// Request ZeroRequest, NoObserver, TooMuch, Memory; Dispose NoObserver, for it takes no memory. A refusal leaves the hub
     /// and `outs`, but a Memory answer is counted in `misses`.
+    #[inline(always)]
     pub fn step(
         &mut self,
         port: u32,
@@ -140,6 +141,7 @@ impl Hub {
 }
 
 // The number of Memory answers with this answer.
+#[inline(always)]
 fn counted(misses: u64, answered: &Result<Answer, Refusal>) -> u64
     ensures { result ≡ (if is_miss answered.now then min (misses + 1) (2 ^ 64 - 1) else misses) }
 {

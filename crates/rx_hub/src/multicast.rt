@@ -45,7 +45,9 @@ impl Multicast {
         })
     }
 
-    /// Takes one event from a port.
+    /// Takes one event from a port. An emission, by far the commonest, is taken in line, so that its text is moved once; all else
+    /// is out of line, and an emission has no room to make for what that needs.
+    #[inline(always)]
     pub(crate) fn take(
         &mut self,
         port: u32,
@@ -80,6 +82,7 @@ impl Multicast {
     }
 
     // A note is emitted from a port.
+    #[inline(always)]
     fn emit(
         &mut self,
         port: u32,
@@ -99,8 +102,7 @@ impl Multicast {
         Ok(Answer::Admitted)
     }
 
-    // An observer joins. It is kept out of line, as requests and disposals are: an emission, by far the commonest event, then has
-    // no room to make for what they need.
+    // An observer joins.
     #[inline(never)]
     fn join(
         &mut self,

@@ -59,7 +59,11 @@ pub fn read_script_without_lf(line: &[u8]) -> Result<Line<'_>, BadLine>
     if let Some(rest) = line.strip_prefix(b"PUB ".as_slice()) {
         return read_pub(rest);
     }
-    read_other_of_script(line)
+    // (taken apart, so that what a PUB means is handed on word for word)
+    match read_other_of_script(line) {
+        Ok(read) => Ok(read),
+        Err(fault) => Err(fault),
+    }
 }
 
 /// Why these bytes are no line whatever their words are. None where they have no LF and are no more than a line may have.

@@ -79,7 +79,8 @@ fn text_of(heap: &Heap, spare: &mut Option<Text>, bytes: &[u8]) -> Result<Text, 
     requires { IsText bytes.now }
     ensures { IfOk result (λ text. text ≡ bytes.now) }
 {
-    if let Some(mut text) = spare.take()
+    if spare.is_some()
+        && let Some(mut text) = spare.take()
         && text.refill(bytes)
     {
         return Ok(text);

@@ -294,19 +294,37 @@ fn take_event<W: Write>(
 fn let_go(outs: &mut Vec<Given, Heap>, heap: &Heap, spare: &mut Option<Text>)
     ensures { outs.new.items ≡ [] }
 {
+    if ends_in_block(outs) && heap.asked() == 0 {
+        keep_last(outs, spare);
+    }
+    outs.clear();
+}
+
+// Whether the last note is an item whose text stands in a block.
+#[inline(always)]
+fn ends_in_block(outs: &Vec<Given, Heap>) -> bool {
+    match outs.last() {
+        Some(
+            Given {
+                who: _,
+                note: Note::Next(Item { from: _, text }),
+            },
+        ) => text.has_block(),
+        _ => false,
+    }
+}
+
+// Keeps the text of the last note, which is taken out.
+#[inline(never)]
+fn keep_last(outs: &mut Vec<Given, Heap>, spare: &mut Option<Text>) {
     if let Some(
         Given {
             who: _,
             note: Note::Next(Item { from: _, text }),
         },
     ) = outs.pop()
-        && text.has_block()
-        && heap.asked() == 0
     {
         *spare = Some(text);
-    }
-    if !outs.is_empty() {
-        outs.clear();
     }
 }
 

@@ -10,60 +10,26 @@ use Rattle.rx_hub.proofs.audience.give_owed.Goals as goal
 pub give-requires-clause-owed : goal.give-requires-clause-owed
 give-requires-clause-owed c =
     let subs = c.args.subscriptions.now.items in
-    let i = c.loop-i.i in
+    let i = c.in-Some.last in
     let one = c.index.result.now in
     let lt : i < length subs = omega arith in
     subst (λ (p : Place). 0 < owing_of p.seat) (place-at subs i one (place_of one) lt c.index.ensures)
     (c.requires.owed i (place_of one) (omega (arith, lt, length-map subs place_of)))
 
-pub loop-i-preserved : goal.loop-i-preserved
-loop-i-preserved c =
-    let was = c.loop-i.invariant in
+pub returns-clause-given : goal.returns-clause-given
+returns-clause-given c =
     let subs = c.args.subscriptions.now.items in
     let places = places_of subs in
     let before = c.args.outs.now.items in
     let item = c.args.item in
-    let i = c.loop-i.i in
+    let i = c.in-Some.last in
     let one = c.index.result.now in
     let gift = addressed one.who (given_now one.seat item) in
     let lt : i < length subs = omega arith in
     let within : i < length places = omega (arith, lt, length-map subs place_of) in
     let at = sym (place-at subs i one (place_of one) lt c.index.ensures) in
-    record {
-      given =
-          c.give.ensures.given
-          ∙ ap (λ copy. c.loop-i.outs.items ++ addressed one.who (given_now one.seat copy)) c.in_ok-copy.ensures
-          ∙ ap (λ os. os ++ gift) was.given
-          ∙ append_assoc before (gifts item (take i places)) gift
-          ∙ ap (λ gs. before ++ gs) (sym (gifts-more item places i (place_of one) within at));
-      room = omega (arith, c.give.ensures.len, c.give.ensures.capacity, was.room, lt);
-    }
-
-pub give-requires-2-clause-owed : goal.give-requires-2-clause-owed
-give-requires-2-clause-owed c =
-    let subs = c.args.subscriptions.now.items in
-    let i = c.in-Some.last in
-    let one = c.index-2.result.now in
-    let lt : i < length subs = omega arith in
-    subst (λ (p : Place). 0 < owing_of p.seat) (place-at subs i one (place_of one) lt c.index-2.ensures)
-    (c.requires.owed i (place_of one) (omega (arith, lt, length-map subs place_of)))
-
-pub returns-clause-given : goal.returns-clause-given
-returns-clause-given c =
-    let was = c.loop-i.invariant in
-    let subs = c.args.subscriptions.now.items in
-    let places = places_of subs in
-    let before = c.args.outs.now.items in
-    let item = c.args.item in
-    let i = c.in-Some.last in
-    let one = c.index-2.result.now in
-    let gift = addressed one.who (given_now one.seat item) in
-    let lt : i < length subs = omega arith in
-    let within : i < length places = omega (arith, lt, length-map subs place_of) in
-    let at = sym (place-at subs i one (place_of one) lt c.index-2.ensures) in
-    let last : c.loop-i.i ≡ i = omega arith in
     let all : take (i + 1) places ≡ places = take_all (i + 1) places (omega (arith, lt, length-map subs place_of)) in
-    c.give-2.ensures.given
-    ∙ ap (λ os. os ++ gift) (was.given ∙ ap (λ n. before ++ gifts item (take n places)) last)
+    c.give.ensures.given
+    ∙ ap (λ os. os ++ gift) c.in_ok-give_copies.ensures.given
     ∙ append_assoc before (gifts item (take i places)) gift
     ∙ ap (λ gs. before ++ gs) (sym (gifts-more item places i (place_of one) within at) ∙ ap (gifts item) all)
