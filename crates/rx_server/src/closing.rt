@@ -64,7 +64,7 @@ impl<S: Sink> Server<S> {
         let pump_ends = pump_ends?;
         let (taken, put_away) = list_rests(drain_ends?, put_away);
         Ok(Report {
-            subjects: report_subjects(pump_ends, subjects),
+            subjects: report_subjects(&pump_ends, subjects),
             taken,
             put_away,
         })
@@ -155,22 +155,29 @@ fn keep<E: Drop, F: Drop>(
 
 // What is reported of the pumps, put into `list`.
 fn report_subjects<S: Sink>(
-    ends: Vec<PumpEnd<S>, Heap>,
+    ends: &Vec<PumpEnd<S>, Heap>,
     list: Vec<SubjectReport, Heap>,
 ) -> Vec<SubjectReport, Heap>
     requires empty { list.items ≡ [] }
-    requires room { vec_len ends ≤ vec_capacity list }
-    ensures { result.items ≡ map report_of ends.items }
+    requires room { vec_len ends.now ≤ vec_capacity list }
+    ensures { result.items ≡ map report_of ends.now.items }
 {
     let mut list = list;
-    for end in ends {
-        list.push_reserved(SubjectReport {
-            calls: end.calls,
-            refused: end.refused,
-            joins: end.hub.joins(),
-        });
+    for i in 0..ends.len() {
+        list.push_reserved(report_of(&ends[i]));
     }
     list
+}
+
+// What is reported of a pump.
+fn report_of<S: Sink>(end: &PumpEnd<S>) -> SubjectReport
+    ensures { result ≡ report_of end.now }
+{
+    SubjectReport {
+        calls: end.calls,
+        refused: end.refused,
+        joins: end.hub.joins(),
+    }
 }
 
 // How many notes the sinks of the drainers took, and what they left, put into `lists`.
@@ -187,7 +194,14 @@ fn list_rests<S: Sink>(
     let mut taken: u64 = 0;
     for end in ends {
         taken = taken.saturating_add(end.taken);
-        lists.push_reserved(end.put_away);
+        lists.push_reserved(put_away_by(end));
     }
     (taken, lists)
+}
+
+// What the sinks of a drainer left.
+fn put_away_by<S: Sink>(end: DrainEnd<S>) -> Vec<PutAway<S::Rest>, Heap>
+    ensures { result ≡ end.put_away }
+{
+    end.put_away
 }

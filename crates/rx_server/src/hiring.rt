@@ -39,6 +39,18 @@ fn make_tools<M: Drop, C: Drop, W: Drop>(
 ) -> Result<Tools<M, C, W>, Memory>
     ensures { IfOk result (λ tools. arc_value tools.config ≡ arc_value config.now) }
 {
+    let (inbox, port) = open_box(heap)?;
+    Ok(Tools {
+        heap: heap.clone()?,
+        config: Arc::try_clone(config)?,
+        moments: Arc::try_clone(moments)?,
+        inbox,
+        port,
+    })
+}
+
+// The inbox of a worker, and the port to it.
+fn open_box<T: Drop>(heap: &Heap) -> Result<(Inbox<T>, Port<T>), Memory> {
     let (inbox, mut ports) = match open(heap.clone()?, WORKER_BOX, 1) {
         Ok(made) => made,
         Err(OpenError::Memory) => return Err(Memory),
@@ -47,13 +59,7 @@ fn make_tools<M: Drop, C: Drop, W: Drop>(
     let Some(port) = ports.pop() else {
         unreachable!()
     };
-    Ok(Tools {
-        heap: heap.clone()?,
-        config: Arc::try_clone(config)?,
-        moments: Arc::try_clone(moments)?,
-        inbox,
-        port,
-    })
+    Ok((inbox, port))
 }
 
 // A desk for which no worker was hired, and whether there was no thread or no memory.

@@ -14,7 +14,7 @@ use crate::subject_config::SubjectConfig;
 use rx_drain::Drainer;
 use rx_heap::{Heap, Memory};
 use rx_hub::{Hub, HubError};
-use rx_mailbox::Inbox;
+use rx_mailbox::{Inbox, Port};
 use rx_note::Kind;
 use rx_pump::{Call, CallDesk, Out, Pump, Reply, room};
 use rx_sink::Sink;
@@ -124,12 +124,46 @@ fn make_pump<S: Drop>(
     ensures drainers { OnOk result (drainers.new.items ≡ map (behind 1) drainers.old.items) }
     ensures replies { OnOk result (replies.new.items ≡ map (behind 1) replies.old.items) }
 {
-    let to_drainers = next_ports(alloc, drainers)?;
-    let to_callers = next_ports(alloc, replies)?;
-    match Pump::new(alloc.clone()?, hub, inbox, to_drainers, to_callers) {
+    let PumpPorts {
+        heap,
+        to_drainers,
+        to_callers,
+    } = pump_ports(alloc, drainers, replies)?;
+    match Pump::new(heap, hub, inbox, to_drainers, to_callers) {
         Ok(pump) => Ok(pump),
         Err(_) => Err(Memory),
     }
+}
+
+// What a pump has beside its hub and its inbox.
+#[derive(Drop)]
+struct PumpPorts<S: Drop> {
+    heap: Heap,
+    to_drainers: Vec<Port<Out<S>>, Heap>,
+    to_callers: Vec<Port<Reply<S>>, Heap>,
+}
+
+// The next port to each drainer and of each reply box.
+fn pump_ports<S: Drop>(
+    alloc: &Heap,
+    drainers: &mut Vec<PortRow<Out<S>>, Heap>,
+    replies: &mut Vec<PortRow<Reply<S>>, Heap>,
+) -> Result<PumpPorts<S>, Memory>
+    requires drainers { All (λ row. 0 < row.count) drainers.old.items }
+    requires replies { All (λ row. 0 < row.count) replies.old.items }
+    ensures to_drainers { IfOk result (λ ports. ports.to_drainers.items ≡ map next_port drainers.old.items) }
+    ensures to_callers { IfOk result (λ ports. ports.to_callers.items ≡ map next_port replies.old.items) }
+    ensures drainers { OnOk result (drainers.new.items ≡ map (behind 1) drainers.old.items) }
+    ensures replies { OnOk result (replies.new.items ≡ map (behind 1) replies.old.items) }
+{
+    let heap = alloc.clone()?;
+    let to_drainers = next_ports(alloc, drainers)?;
+    let to_callers = next_ports(alloc, replies)?;
+    Ok(PumpPorts {
+        heap,
+        to_drainers,
+        to_callers,
+    })
 }
 
 // One desk for each inbox, with the next port to each subject. `Err` at the first for which there was no memory.

@@ -1,9 +1,11 @@
 ghost use Rattle.std.specs.Prelude.{◌≡◌, ◌+◌, length, vec_len};
-ghost use Rattle.rx_server.specs.SessionDesks.{followed};
+ghost use Rattle.rx_server.specs.SessionDesks.{followed, place_of};
 
 use crate::config::Config;
 use crate::moments::Moments;
 use crate::responding::{has_joined, response_of, sink_in};
+use crate::subject_config::SubjectConfig;
+use rx_heap::Heap;
 use rx_note::{Event, Note, Policy};
 use rx_proto::{Name, Response, Word};
 use rx_pump::{CallDesk, CallError, Reply};
@@ -68,10 +70,7 @@ impl<'a, R, M: Drop, W: Write + Drop> SessionDesk<'a, R, M, W> {
     fn place_of(&self, name: &Name) -> Option<usize>
         ensures { result ≡ place_of name.now self.now.subjects }
     {
-        self.config
-            .subjects
-            .iter()
-            .position(|subject| subject.name.as_bytes() == name.as_bytes())
+        place_in(&self.config.subjects, name)
     }
 }
 
@@ -103,6 +102,15 @@ impl<'a, R: Wait, M: Moments + Drop, W: Write + Drop> Desk<W> for SessionDesk<'a
         let answered = self.calls.call(self.rt, place, event, Some(sink));
         followed(answered)
     }
+}
+
+// The place of the first subject of this name.
+fn place_in(subjects: &Vec<SubjectConfig, Heap>, name: &Name) -> Option<usize>
+    ensures { result ≡ place_of name.now subjects.now.items }
+{
+    subjects
+        .iter()
+        .position(|subject| subject.name.as_bytes() == name.as_bytes())
 }
 
 // What becomes of the writer, by the answer to the call of its sink.
