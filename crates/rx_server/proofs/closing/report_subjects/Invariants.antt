@@ -1,4 +1,4 @@
-use Rattle.std.proofs.Common.{◌≡◌, ◌+◌, ◌-◌, ◌≤◌, length, map, take, vec_len, vec_capacity}
+use Rattle.std.proofs.Common.{◌≡◌, ◌+◌, ◌-◌, ◌≤◌, map, take, vec_len, vec_capacity}
 use Rattle.rx_server.specs.Servers.{report_of}
 use Rattle.rx_server.proofs.closing.report_subjects.Given as goal
 
