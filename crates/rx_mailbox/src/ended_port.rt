@@ -1,15 +1,30 @@
-ghost use Rattle.std.specs.Prelude.{◌≡◌};
+ghost use Rattle.std.specs.Prelude.{◌≡◌, ◌++◌, ◌∷◌, []};
+ghost use Rattle.crossbeam_channel.specs.Claims.{view};
+ghost use Rattle.rx_mailbox.specs.Boxes.{HasBye};
+ghost use Rattle.rx_mailbox.specs.Passes.{inbox_of, notes_of, IsReader};
+ghost use Rattle.rx_mailbox.specs.Settling.{GotAll};
 
 use crate::channel::{BoxPass, BoxSender};
+use crate::rule::{JoinPort, Show};
 use std::marker::Model;
 
 /// A port after its Bye. Contracts see its number and its own list, whose last letter is the Bye.
-#[derive(Drop)]
 pub struct EndedPort<B: Drop> {
     pub(crate) number: u32,
     // The inbox's pass is joined with this one through it, when the box settles.
     pub(crate) sender: BoxSender<B>,
     pub(crate) pass: BoxPass<B>,
+}
+
+// It stands here, and isn't derived, so that what lets go of an ended port is one call that is proved once.
+impl<B: Drop> Drop for EndedPort<B> {
+    fn drop(self) {
+        let EndedPort {
+            number: _,
+            sender: _,
+            pass: _,
+        } = self;
+    }
 }
 
 impl<B: Drop> Model for EndedPort<B> {
@@ -32,5 +47,25 @@ impl<B: Drop> EndedPort<B> {
         ensures { result ≡ self.now.number }
     {
         self.number
+    }
+    // Joins its pass into that of the inbox, which received its Bye: then all that it put was received.
+    pub(crate) fn join_into(self, pass: &mut BoxPass<B>)
+        requires reader { IsReader (view pass.old) }
+        requires free { pass.old.me.1 ≡ [] }
+        requires from_box { self.box ≡ (inbox_of pass.old).box }
+        requires bye { HasBye (inbox_of pass.old) self.number }
+        ensures reader { IsReader (view pass.new) }
+        ensures free { pass.new.me.1 ≡ [] }
+        ensures same { inbox_of pass.new ≡ inbox_of pass.old }
+        ensures noted { notes_of (view pass.new) ≡ notes_of (view pass.old) ++ (self.number, self.own) ∷ [] }
+        ensures got { GotAll (inbox_of pass.old) self }
+    {
+        let EndedPort {
+            number: _,
+            sender,
+            pass: own,
+        } = self;
+        sender.absorb::<JoinPort>(pass, own);
+        sender.learn_as::<Show>(pass);
     }
 }

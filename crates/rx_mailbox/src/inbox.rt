@@ -1,6 +1,9 @@
-ghost use Rattle.std.specs.Prelude.{◌≡◌, ◌<◌, ◌↔◌, true, if◌then◌else◌, vec_len, slice_set, IsTrue, IfOk, MatchResult};
+ghost use Rattle.std.specs.Prelude.{◌≡◌, ◌<◌, ◌↔◌, [], true, if◌then◌else◌, vec_len, slice_set, IsTrue, IfOk, MatchResult};
 ghost use Rattle.rx_mailbox.specs.Letters.{ends};
 ghost use Rattle.rx_mailbox.specs.Boxes.{with_letter, HasBye, HasEachBye};
+ghost use Rattle.crossbeam_channel.specs.Claims.{view};
+ghost use Rattle.rx_mailbox.specs.Passes.{inbox_of, taken_of, IsReader};
+ghost use Rattle.rx_mailbox.specs.Settling.{counted};
 
 use crate::channel::{BoxPass, BoxReceiver, take};
 use crate::letter::{Letter, Post};
@@ -23,7 +26,6 @@ impl fmt::Display for Gone {
 impl Error for Gone {}
 
 /// The receiver of a box. Contracts see how many ports the box has, and the letters that were received, in their order.
-#[derive(Drop)]
 pub struct Inbox<B: Drop> {
     pub(crate) receiver: BoxReceiver<B>,
     pub(crate) pass: BoxPass<B>,
@@ -31,6 +33,18 @@ pub struct Inbox<B: Drop> {
     pub(crate) byes: Vec<bool, Heap>,
     // How many letters were received.
     pub(crate) letters: u64,
+}
+
+// It stands here, and isn't derived, so that what lets go of an inbox is one call that is proved once.
+impl<B: Drop> Drop for Inbox<B> {
+    fn drop(self) {
+        let Inbox {
+            receiver: _,
+            pass: _,
+            byes: _,
+            letters: _,
+        } = self;
+    }
 }
 
 impl<B: Drop> Model for Inbox<B> {
@@ -62,6 +76,22 @@ impl<B: Drop> Inbox<B> {
         mark(&mut self.byes, &letter);
         self.letters = self.letters.saturating_add(1);
         Ok(letter)
+    }
+
+    // Its pass, and how many letters were received.
+    pub(crate) fn into_pass(self) -> (BoxPass<B>, u64)
+        ensures pass { inbox_of result.0 ≡ self }
+        ensures reader { IsReader (view result.0) }
+        ensures free { result.0.me.1 ≡ [] }
+        ensures letters { result.1 ≡ counted (taken_of (view result.0)) }
+    {
+        let Inbox {
+            receiver: _,
+            pass,
+            byes: _,
+            letters,
+        } = self;
+        (pass, letters)
     }
 
     /// How many ports the box has.

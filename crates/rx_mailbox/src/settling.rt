@@ -9,7 +9,6 @@ ghost use Rattle.rx_mailbox.specs.Settling.{IsEachOnce, GotAll, CanHold, IsCause
 use crate::channel::BoxPass;
 use crate::ended_port::EndedPort;
 use crate::inbox::Inbox;
-use crate::rule::{JoinPort, Show};
 use crate::settle_cause::SettleCause;
 use crate::settled::Settled;
 use crate::unsettled::Unsettled;
@@ -46,12 +45,7 @@ pub fn settle<B: Drop>(
             ports,
         });
     }
-    let Inbox {
-        receiver: _,
-        mut pass,
-        byes: _,
-        letters,
-    } = inbox;
+    let (mut pass, letters) = inbox.into_pass();
     join_all(&mut pass, ports);
     Ok(Settled { pass, letters })
 }
@@ -106,27 +100,6 @@ fn join_all<B: Drop>(pass: &mut BoxPass<B>, ports: Vec<EndedPort<B>, Heap>)
     ensures got { All (GotAll (inbox_of pass.old)) ports.items }
 {
     for port in ports {
-        join(pass, port);
+        port.join_into(pass);
     }
-}
-
-// Joins the pass of one of them.
-fn join<B: Drop>(pass: &mut BoxPass<B>, port: EndedPort<B>)
-    requires reader { IsReader (view pass.old) }
-    requires free { pass.old.me.1 ≡ [] }
-    requires from_box { port.box ≡ (inbox_of pass.old).box }
-    requires bye { HasBye (inbox_of pass.old) port.number }
-    ensures reader { IsReader (view pass.new) }
-    ensures free { pass.new.me.1 ≡ [] }
-    ensures same { inbox_of pass.new ≡ inbox_of pass.old }
-    ensures noted { notes_of (view pass.new) ≡ notes_of (view pass.old) ++ (port.number, port.own) ∷ [] }
-    ensures got { GotAll (inbox_of pass.old) port }
-{
-    let EndedPort {
-        number: _,
-        sender,
-        pass: own,
-    } = port;
-    sender.absorb::<JoinPort>(pass, own);
-    sender.learn_as::<Show>(pass);
 }

@@ -101,6 +101,10 @@ pub empty : {X : Type 0} (xs : List X) → length xs ≡ 0 → xs ≡ []
 empty [] none = refl
 empty (x ∷ xs) none = absurd (omega arith)
 
+-- one more was put behind
+pub put-count : {X : Type 0} (xs after : List X) (x : X) → after ≡ xs ++ x ∷ [] → length after ≡ length xs + 1
+put-count xs after x put = ap length put ∙ length-append xs (x ∷ [])
+
 -- ONE FOR EACH
 
 -- of a list's items, numbered from 0, the first have been made into parts, and these are left

@@ -39,7 +39,7 @@ impl<S: Sink> Server<S> {
             pumps,
             drainers,
             mut leaves,
-            desks,
+            mut desks,
             rooms,
             heap: _,
             config: _,
@@ -53,7 +53,7 @@ impl<S: Sink> Server<S> {
             subjects,
             put_away,
         } = rooms;
-        finish_desks(rt, desks, &mut unused);
+        finish_desks(rt, &mut desks, &mut unused);
         let _ = finish_all(rt, &mut leaves, &mut left);
         let pump_ends = join_pumps(rt, pumps, pump_ends);
         let drain_ends = join_drainers(rt, drainers, drain_ends);
@@ -71,15 +71,16 @@ impl<S: Sink> Server<S> {
     }
 }
 
-// Ends the desks. One whose subject is gone is given up: its pump ended by a fault, which is found when it is joined.
-fn finish_desks<S: Sink, R: Wait>(
+// Ends the desks, and puts them behind what was ended: until the pumps have ended, replies may be on their way to them. One
+// whose subject is gone is given up: its pump ended by a fault, which is found when it is joined.
+pub(crate) fn finish_desks<S: Drop, R: Wait>(
     rt: &R,
-    desks: IntoIter<CallDesk<S>, Heap>,
+    desks: &mut IntoIter<CallDesk<S>, Heap>,
     ended: &mut Vec<EndedDesk<S>, Heap>,
 )
-    requires { vec_len ended.old + length (into_iter_items desks) ≤ vec_capacity ended.old }
+    requires { vec_len ended.old + length (into_iter_items desks.old) ≤ vec_capacity ended.old }
 {
-    for desk in desks {
+    while let Some(desk) = desks.next() {
         if let Ok(desk) = desk.finish(rt) {
             ended.push_reserved(desk);
         }

@@ -2,13 +2,14 @@
 ghost use Rattle.std.specs.Prelude.{◌≡◌, ◌+◌, ◌≤◌, ◌++◌, [], Err, OnOk, length, vec_len, vec_capacity};
 ghost use Rattle.std.specs.Vec.Iter.{into_iter_items};
 
+use crate::closing::finish_desks;
 use crate::dispatching::serve_connections;
 use crate::listener::Listener;
 use crate::moments::Moments;
 use crate::serve_fault::ServeFault;
 use crate::server::Server;
 use rx_heap::Heap;
-use rx_pump::{CallDesk, EndedDesk, room};
+use rx_pump::room;
 use rx_sink::LineSink;
 use std::io::Write;
 use std::sync::Wait;
@@ -49,7 +50,7 @@ impl<W: Write + Drop + Send + 'static> Server<LineSink<W>> {
         };
         take_all(&mut self.desks, &mut desks);
         let served = serve_connections(rt, &self.heap, &self.config, listener, moments, &mut desks);
-        keep_all(rt, desks, &mut kept);
+        finish_desks(rt, &mut desks.into_iter(), &mut kept);
         self.kept = kept;
         served
     }
@@ -63,21 +64,5 @@ fn take_all<T: Drop>(left: &mut IntoIter<T, Heap>, taken: &mut Vec<T, Heap>)
 {
     while let Some(one) = left.next() {
         taken.push_reserved(one);
-    }
-}
-
-// Ends the desks, and keeps them: until the pumps have ended, replies may be on their way to them. One whose subject is gone is
-// given up.
-fn keep_all<W: Write + Drop, R: Wait>(
-    rt: &R,
-    desks: Vec<CallDesk<LineSink<W>>, Heap>,
-    kept: &mut Vec<EndedDesk<LineSink<W>>, Heap>,
-)
-    requires { vec_len kept.old + vec_len desks ≤ vec_capacity kept.old }
-{
-    for desk in desks {
-        if let Ok(ended) = desk.finish(rt) {
-            kept.push_reserved(ended);
-        }
     }
 }

@@ -1,6 +1,7 @@
 // The parts of a server, made of new boxes.
-ghost use Rattle.std.specs.Prelude.{◌≡◌, ◌+◌, ◌<◌, ◌≤◌, [], length, map, vec_len, IfOk, OnOk};
+ghost use Rattle.std.specs.Prelude.{◌≡◌, ◌+◌, ◌<◌, ◌≤◌, ◌++◌, ◌∷◌, [], length, map, vec_len, vec_capacity, IfOk, OnOk};
 ghost use Rattle.std.specs.List.{All, enumerate_from, zip};
+ghost use Rattle.std.specs.Vec.Iter.{into_iter_items};
 ghost use Rattle.rx_history.specs.Histories.{NoEvents};
 ghost use Rattle.rx_hub.specs.Hubs.{StandsFor};
 ghost use Rattle.rx_pump.specs.Desks.{fresh_desk};
@@ -18,6 +19,7 @@ use rx_mailbox::{Inbox, Port};
 use rx_note::Kind;
 use rx_pump::{Call, CallDesk, Out, Pump, Reply, room};
 use rx_sink::Sink;
+use std::vec::IntoIter;
 
 // The hubs of these subjects, in their order. `Err` at the first for which there was no memory.
 pub(crate) fn make_hubs(
@@ -70,40 +72,64 @@ fn copy_kind(kind: &Kind) -> Result<Kind, Memory>
     })
 }
 
-// One pump for each hub and inbox, with the next port to each drainer and of each reply box. `Err` at the first for which there
-// was no memory.
+// One pump for each hub and inbox that is left, with the next port to each drainer and of each reply box. `Err` at the first for
+// which there was no memory.
 pub(crate) fn make_pumps<S: Drop>(
     alloc: &Heap,
-    hubs: Vec<Hub, Heap>,
-    inboxes: Vec<Inbox<Call<S>>, Heap>,
+    hubs: &mut IntoIter<Hub, Heap>,
+    inboxes: &mut IntoIter<Inbox<Call<S>>, Heap>,
     drainers: &mut Vec<PortRow<Out<S>>, Heap>,
     replies: &mut Vec<PortRow<Reply<S>>, Heap>,
-) -> Result<Vec<Pump<S>, Heap>, StartFault>
-    requires hubs { All (λ hub. StandsFor hub.state NoEvents) hubs.items }
-    requires inboxes { All (λ inbox. (inbox.received ≡ []) × (length replies.old.items ≤ inbox.ports)) inboxes.items }
+    pumps: &mut Vec<Pump<S>, Heap>,
+) -> Result<(), StartFault>
+    requires hubs { All (λ hub. StandsFor hub.state NoEvents) (into_iter_items hubs.old) }
+    requires inboxes { All (λ inbox. (inbox.received ≡ []) × (length replies.old.items ≤ inbox.ports)) (into_iter_items inboxes.old) }
     requires some { 0 < vec_len drainers.old }
-    requires drainers { All (λ row. length inboxes.items ≤ row.count) drainers.old.items }
-    requires replies { All (λ row. length inboxes.items ≤ row.count) replies.old.items }
-    ensures pumps { IfOk result (λ pumps. pumps.items
-        ≡ map (λ x. fresh_pump x.1.0 x.1.1 (row_ports x.0 drainers.old.items) (row_ports x.0 replies.old.items)) (enumerate_from 0 (zip hubs.items inboxes.items))) }
-    ensures drainers { IfOk result (λ pumps. drainers.new.items ≡ map (behind (vec_len pumps)) drainers.old.items) }
+    requires drainers { All (λ row. length (into_iter_items inboxes.old) ≤ row.count) drainers.old.items }
+    requires replies { All (λ row. length (into_iter_items inboxes.old) ≤ row.count) replies.old.items }
+    requires none { pumps.old.items ≡ [] }
+    requires room { length (into_iter_items inboxes.old) ≤ vec_capacity pumps.old }
+    ensures pumps { OnOk result (pumps.new.items
+        ≡ map (λ x. fresh_pump x.1.0 x.1.1 (row_ports x.0 drainers.old.items) (row_ports x.0 replies.old.items)) (enumerate_from 0 (zip (into_iter_items hubs.old) (into_iter_items inboxes.old)))) }
+    ensures drainers { OnOk result (drainers.new.items ≡ map (behind (vec_len pumps.new)) drainers.old.items) }
 {
-    let Ok(mut pumps) = room(alloc, inboxes.len()) else {
-        return Err(StartFault::memory(Role::Pump, 0));
-    };
-    let mut hubs = hubs.into_iter();
-    for inbox in inboxes {
+    while let Some(inbox) = inboxes.next() {
         let Some(hub) = hubs.next() else {
-            return Ok(pumps);
+            return Ok(());
         };
-        let Ok(pump) = make_pump(alloc, hub, inbox, drainers, replies) else {
-            return Err(StartFault::memory(Role::Pump, pumps.len()));
-        };
-        let Ok(()) = pumps.push(pump) else {
-            return Err(StartFault::memory(Role::Pump, pumps.len()));
-        };
+        put_pump(alloc, hub, inbox, drainers, replies, pumps)?;
     }
-    Ok(pumps)
+    Ok(())
+}
+
+// Makes one more pump.
+fn put_pump<S: Drop>(
+    alloc: &Heap,
+    hub: Hub,
+    inbox: Inbox<Call<S>>,
+    drainers: &mut Vec<PortRow<Out<S>>, Heap>,
+    replies: &mut Vec<PortRow<Reply<S>>, Heap>,
+    pumps: &mut Vec<Pump<S>, Heap>,
+) -> Result<(), StartFault>
+    requires hub { StandsFor hub.state NoEvents }
+    requires inbox { inbox.received ≡ [] }
+    requires ports { vec_len replies.old ≤ inbox.ports }
+    requires some { 0 < vec_len drainers.old }
+    requires drainers { All (λ row. 0 < row.count) drainers.old.items }
+    requires replies { All (λ row. 0 < row.count) replies.old.items }
+    requires room { vec_len pumps.old < vec_capacity pumps.old }
+    ensures pumps { OnOk result (pumps.new.items ≡ pumps.old.items ++ fresh_pump hub inbox (map next_port drainers.old.items) (map next_port replies.old.items) ∷ []) }
+    ensures capacity { vec_capacity pumps.new ≡ vec_capacity pumps.old }
+    ensures drainers { OnOk result (drainers.new.items ≡ map (behind 1) drainers.old.items) }
+    ensures replies { OnOk result (replies.new.items ≡ map (behind 1) replies.old.items) }
+{
+    match make_pump(alloc, hub, inbox, drainers, replies) {
+        Ok(pump) => {
+            pumps.push_reserved(pump);
+            Ok(())
+        }
+        Err(Memory) => Err(StartFault::memory(Role::Pump, pumps.len())),
+    }
 }
 
 // A pump of this hub and this inbox.
@@ -166,29 +192,47 @@ fn pump_ports<S: Drop>(
     })
 }
 
-// One desk for each inbox, with the next port to each subject. `Err` at the first for which there was no memory.
+// One desk for each inbox that is left, with the next port to each subject. `Err` at the first for which there was no memory.
 pub(crate) fn make_desks<S: Drop>(
     alloc: &Heap,
-    inboxes: Vec<Inbox<Reply<S>>, Heap>,
+    inboxes: &mut IntoIter<Inbox<Reply<S>>, Heap>,
     subjects: &mut Vec<PortRow<Call<S>>, Heap>,
-) -> Result<Vec<CallDesk<S>, Heap>, StartFault>
-    requires inboxes { All (λ inbox. inbox.received ≡ []) inboxes.items }
-    requires subjects { All (λ row. length inboxes.items ≤ row.count) subjects.old.items }
-    ensures desks { IfOk result (λ desks. desks.items ≡ map (λ x. fresh_desk (row_ports x.0 subjects.old.items) x.1) (enumerate_from 0 inboxes.items)) }
-    ensures subjects { IfOk result (λ desks. subjects.new.items ≡ map (behind (vec_len desks)) subjects.old.items) }
+    desks: &mut Vec<CallDesk<S>, Heap>,
+) -> Result<(), StartFault>
+    requires inboxes { All (λ inbox. inbox.received ≡ []) (into_iter_items inboxes.old) }
+    requires subjects { All (λ row. length (into_iter_items inboxes.old) ≤ row.count) subjects.old.items }
+    requires none { desks.old.items ≡ [] }
+    requires room { length (into_iter_items inboxes.old) ≤ vec_capacity desks.old }
+    ensures desks { OnOk result (desks.new.items ≡ map (λ x. fresh_desk (row_ports x.0 subjects.old.items) x.1) (enumerate_from 0 (into_iter_items inboxes.old))) }
+    ensures subjects { OnOk result (subjects.new.items ≡ map (behind (vec_len desks.new)) subjects.old.items) }
 {
-    let Ok(mut desks) = room(alloc, inboxes.len()) else {
-        return Err(StartFault::memory(Role::Worker, 0));
-    };
-    for inbox in inboxes {
-        let Ok(desk) = make_desk(alloc, inbox, subjects) else {
-            return Err(StartFault::memory(Role::Worker, desks.len()));
-        };
-        let Ok(()) = desks.push(desk) else {
-            return Err(StartFault::memory(Role::Worker, desks.len()));
-        };
+    while let Some(inbox) = inboxes.next() {
+        put_desk(alloc, inbox, subjects, desks)?;
     }
-    Ok(desks)
+    Ok(())
+}
+
+// Makes one more desk.
+fn put_desk<S: Drop>(
+    alloc: &Heap,
+    inbox: Inbox<Reply<S>>,
+    subjects: &mut Vec<PortRow<Call<S>>, Heap>,
+    desks: &mut Vec<CallDesk<S>, Heap>,
+) -> Result<(), StartFault>
+    requires inbox { inbox.received ≡ [] }
+    requires subjects { All (λ row. 0 < row.count) subjects.old.items }
+    requires room { vec_len desks.old < vec_capacity desks.old }
+    ensures desks { OnOk result (desks.new.items ≡ desks.old.items ++ fresh_desk (map next_port subjects.old.items) inbox ∷ []) }
+    ensures capacity { vec_capacity desks.new ≡ vec_capacity desks.old }
+    ensures subjects { OnOk result (subjects.new.items ≡ map (behind 1) subjects.old.items) }
+{
+    match make_desk(alloc, inbox, subjects) {
+        Ok(desk) => {
+            desks.push_reserved(desk);
+            Ok(())
+        }
+        Err(Memory) => Err(StartFault::memory(Role::Worker, desks.len())),
+    }
 }
 
 // A desk with this inbox.
@@ -202,36 +246,56 @@ fn make_desk<S: Drop>(
     ensures desk { IfOk result (λ desk. desk ≡ fresh_desk (map next_port subjects.old.items) inbox) }
     ensures subjects { OnOk result (subjects.new.items ≡ map (behind 1) subjects.old.items) }
 {
+    let heap = alloc.clone()?;
     let subjects = next_ports(alloc, subjects)?;
-    match CallDesk::new(alloc.clone()?, subjects, inbox) {
+    match CallDesk::new(heap, subjects, inbox) {
         Ok(desk) => Ok(desk),
         Err(_) => Err(Memory),
     }
 }
 
-// One drainer for each inbox, with the next port to each subject. `Err` at the first for which there was no
+// One drainer for each inbox that is left, with the next port to each subject. `Err` at the first for which there was no
 // memory.
 pub(crate) fn make_drainers<S: Sink>(
     alloc: &Heap,
-    inboxes: Vec<Inbox<Out<S>>, Heap>,
+    inboxes: &mut IntoIter<Inbox<Out<S>>, Heap>,
     subjects: &mut Vec<PortRow<Call<S>>, Heap>,
-) -> Result<Vec<Drainer<S>, Heap>, StartFault>
-    requires inboxes { All (λ inbox. (inbox.received ≡ []) × (inbox.ports ≡ length subjects.old.items + 1)) inboxes.items }
-    requires subjects { All (λ row. length inboxes.items ≤ row.count) subjects.old.items }
-    ensures drainers { IfOk result (λ drainers. drainers.items ≡ map (λ x. fresh_drainer x.1 (row_ports x.0 subjects.old.items)) (enumerate_from 0 inboxes.items)) }
+    drainers: &mut Vec<Drainer<S>, Heap>,
+) -> Result<(), StartFault>
+    requires inboxes { All (λ inbox. (inbox.received ≡ []) × (inbox.ports ≡ length subjects.old.items + 1)) (into_iter_items inboxes.old) }
+    requires subjects { All (λ row. length (into_iter_items inboxes.old) ≤ row.count) subjects.old.items }
+    requires none { drainers.old.items ≡ [] }
+    requires room { length (into_iter_items inboxes.old) ≤ vec_capacity drainers.old }
+    ensures { OnOk result (drainers.new.items ≡ map (λ x. fresh_drainer x.1 (row_ports x.0 subjects.old.items)) (enumerate_from 0 (into_iter_items inboxes.old))) }
 {
-    let Ok(mut drainers) = room(alloc, inboxes.len()) else {
-        return Err(StartFault::memory(Role::Drainer, 0));
-    };
-    for inbox in inboxes {
-        let Ok(drainer) = make_drainer(alloc, inbox, subjects) else {
-            return Err(StartFault::memory(Role::Drainer, drainers.len()));
-        };
-        let Ok(()) = drainers.push(drainer) else {
-            return Err(StartFault::memory(Role::Drainer, drainers.len()));
-        };
+    while let Some(inbox) = inboxes.next() {
+        put_drainer(alloc, inbox, subjects, drainers)?;
     }
-    Ok(drainers)
+    Ok(())
+}
+
+// Makes one more drainer.
+fn put_drainer<S: Sink>(
+    alloc: &Heap,
+    inbox: Inbox<Out<S>>,
+    subjects: &mut Vec<PortRow<Call<S>>, Heap>,
+    drainers: &mut Vec<Drainer<S>, Heap>,
+) -> Result<(), StartFault>
+    requires inbox { inbox.received ≡ [] }
+    requires senders { inbox.ports ≡ vec_len subjects.old + 1 }
+    requires subjects { All (λ row. 0 < row.count) subjects.old.items }
+    requires room { vec_len drainers.old < vec_capacity drainers.old }
+    ensures drainers { OnOk result (drainers.new.items ≡ drainers.old.items ++ fresh_drainer inbox (map next_port subjects.old.items) ∷ []) }
+    ensures capacity { vec_capacity drainers.new ≡ vec_capacity drainers.old }
+    ensures subjects { OnOk result (subjects.new.items ≡ map (behind 1) subjects.old.items) }
+{
+    match make_drainer(alloc, inbox, subjects) {
+        Ok(drainer) => {
+            drainers.push_reserved(drainer);
+            Ok(())
+        }
+        Err(Memory) => Err(StartFault::memory(Role::Drainer, drainers.len())),
+    }
 }
 
 // A drainer with this inbox.
@@ -246,8 +310,9 @@ fn make_drainer<S: Sink>(
     ensures drainer { IfOk result (λ drainer. drainer ≡ fresh_drainer inbox (map next_port subjects.old.items)) }
     ensures subjects { OnOk result (subjects.new.items ≡ map (behind 1) subjects.old.items) }
 {
+    let heap = alloc.clone()?;
     let subjects = next_ports(alloc, subjects)?;
-    match Drainer::new(alloc.clone()?, inbox, subjects) {
+    match Drainer::new(heap, inbox, subjects) {
         Ok(drainer) => Ok(drainer),
         Err(_) => Err(Memory),
     }

@@ -1,5 +1,6 @@
 // Boxes of one kind.
-ghost use Rattle.std.specs.Prelude.{◌≡◌, ◌++◌, [], ◌∷◌, IfOk, OnOk, List};
+ghost use Rattle.std.specs.Prelude.{◌≡◌, ◌+◌, ◌<◌, ◌≤◌, ◌++◌, [], ◌∷◌, IfOk, OnOk, List, vec_len, vec_capacity};
+ghost use Rattle.std.specs.Vec.Iter.{into_iter_items};
 ghost use Rattle.rx_mailbox.specs.Boxes.{Box, capacity_of, incoming};
 ghost use Rattle.rx_mailbox.specs.Sizes.{IsSize};
 ghost use Rattle.rx_server.specs.Wirings.{AreOpened, whole_row};
@@ -9,11 +10,12 @@ use crate::start_fault::{Role, StartFault};
 use rx_heap::{Heap, Memory};
 use rx_mailbox::{Inbox, open};
 use rx_pump::room;
+use std::vec::IntoIter;
 
-// The inboxes of some boxes, and their ports.
+// The inboxes of some boxes, of which one after another is taken, and their ports.
 #[derive(Drop)]
 pub(crate) struct Opened<B: Drop> {
-    pub(crate) inboxes: Vec<Inbox<B>, Heap>,
+    pub(crate) inboxes: IntoIter<Inbox<B>, Heap>,
     pub(crate) rows: Vec<PortRow<B>, Heap>,
 }
 
@@ -27,21 +29,48 @@ pub(crate) fn open_all<B: Drop>(
     senders: u32,
 ) -> Result<Opened<B>, StartFault>
     requires { IsSize capacity senders }
-    ensures { IfOk result (λ opened. (boxes : List (Box B)) × AreOpened count capacity senders boxes opened.inboxes.items opened.rows.items) }
+    ensures { IfOk result (λ opened. (boxes : List (Box B)) × AreOpened count capacity senders boxes (into_iter_items opened.inboxes) opened.rows.items) }
 {
-    let Ok(inboxes) = room(alloc, count) else {
+    let Ok(mut opening) = Opening::new(alloc, count) else {
         return Err(StartFault::memory(role, 0));
     };
-    let Ok(rows) = room(alloc, count) else {
-        return Err(StartFault::memory(role, 0));
-    };
-    let mut opened = Opened { inboxes, rows };
     for place in 0..count {
-        let Ok(()) = open_one(alloc, capacity, senders, &mut opened) else {
+        let Ok(()) = open_one(alloc, capacity, senders, &mut opening) else {
             return Err(StartFault::memory(role, place));
         };
     }
-    Ok(opened)
+    Ok(opening.opened())
+}
+
+// The boxes that were opened so far.
+#[derive(Drop)]
+struct Opening<B: Drop> {
+    inboxes: Vec<Inbox<B>, Heap>,
+    rows: Vec<PortRow<B>, Heap>,
+}
+
+impl<B: Drop> Opening<B> {
+    // None yet, and room for so many.
+    fn new(alloc: &Heap, count: usize) -> Result<Opening<B>, Memory>
+        ensures none { IfOk result (λ opening. opening.inboxes.items ≡ []) }
+        ensures no_row { IfOk result (λ opening. opening.rows.items ≡ []) }
+        ensures room { IfOk result (λ opening. (count ≤ vec_capacity opening.inboxes) × (count ≤ vec_capacity opening.rows)) }
+    {
+        let inboxes = room(alloc, count)?;
+        let rows = room(alloc, count)?;
+        Ok(Opening { inboxes, rows })
+    }
+
+    fn opened(self) -> Opened<B>
+        ensures inboxes { into_iter_items result.inboxes ≡ self.inboxes.items }
+        ensures rows { result.rows.items ≡ self.rows.items }
+    {
+        let Opening { inboxes, rows } = self;
+        Opened {
+            inboxes: inboxes.into_iter(),
+            rows,
+        }
+    }
 }
 
 // Opens one more.
@@ -49,18 +78,21 @@ fn open_one<B: Drop>(
     alloc: &Heap,
     capacity: usize,
     senders: u32,
-    opened: &mut Opened<B>,
+    opening: &mut Opening<B>,
 ) -> Result<(), Memory>
-    requires { IsSize capacity senders }
-    ensures { OnOk result ((box : Box B) × (capacity_of box ≡ capacity)
-        × (opened.new.inboxes.items ≡ opened.old.inboxes.items ++ incoming box senders [] ∷ [])
-        × (opened.new.rows.items ≡ opened.old.rows.items ++ whole_row senders box ∷ [])) }
+    requires size { IsSize capacity senders }
+    requires inboxes { vec_len opening.old.inboxes < vec_capacity opening.old.inboxes }
+    requires rows { vec_len opening.old.rows < vec_capacity opening.old.rows }
+    ensures opened { OnOk result ((box : Box B) × (capacity_of box ≡ capacity)
+        × (opening.new.inboxes.items ≡ opening.old.inboxes.items ++ incoming box senders [] ∷ [])
+        × (opening.new.rows.items ≡ opening.old.rows.items ++ whole_row senders box ∷ [])) }
+    ensures capacities { (vec_capacity opening.new.inboxes ≡ vec_capacity opening.old.inboxes) × (vec_capacity opening.new.rows ≡ vec_capacity opening.old.rows) }
 {
     let Ok(made) = open(alloc.clone()?, capacity, senders) else {
         return Err(Memory);
     };
     let (inbox, ports) = made;
-    opened.rows.push(PortRow::new(&inbox, ports))?;
-    opened.inboxes.push(inbox)?;
+    opening.rows.push_reserved(PortRow::new(&inbox, ports));
+    opening.inboxes.push_reserved(inbox);
     Ok(())
 }

@@ -1,5 +1,5 @@
 // The ports of new boxes, and how they are handed out.
-ghost use Rattle.std.specs.Prelude.{◌≡◌, ◌<◌, ◌≤◌, vec_len, map, IfOk, OnOk};
+ghost use Rattle.std.specs.Prelude.{◌≡◌, ◌<◌, ◌≤◌, [], vec_len, vec_capacity, map, IfOk, OnOk};
 ghost use Rattle.std.specs.List.{All};
 ghost use Rattle.rx_server.specs.Wirings.{behind, next_port, ports_from, whole_row};
 
@@ -70,8 +70,19 @@ pub(crate) fn next_ports<B: Drop>(
     ensures rows { OnOk result (rows.new.items ≡ map (behind 1) rows.old.items) }
 {
     let mut ports = room(alloc, rows.len())?;
-    for place in 0..rows.len() {
-        ports.push(rows[place].next_port())?;
-    }
+    put_ports(rows, &mut ports);
     Ok(ports)
+}
+
+// Puts the next port of each row, in the order of the rows.
+pub(crate) fn put_ports<B: Drop>(rows: &mut Vec<PortRow<B>, Heap>, ports: &mut Vec<Port<B>, Heap>)
+    requires rows { All (λ row. 0 < row.count) rows.old.items }
+    requires none { ports.old.items ≡ [] }
+    requires room { vec_len rows.old ≤ vec_capacity ports.old }
+    ensures ports { ports.new.items ≡ map next_port rows.old.items }
+    ensures rows { rows.new.items ≡ map (behind 1) rows.old.items }
+{
+    for place in 0..rows.len() {
+        ports.push_reserved(rows[place].next_port());
+    }
 }

@@ -1,19 +1,19 @@
 // All parts of a server, joined by new boxes.
-ghost use Rattle.std.specs.Prelude.{◌≡◌, ◌≤◌, ◌*◌, ◌+◌, max, length, List, IfOk, map};
+ghost use Rattle.std.specs.Prelude.{◌≡◌, ◌≤◌, ◌*◌, ◌+◌, max, length, List, IfOk, OnOk, map};
 ghost use Rattle.rx_hub.specs.Hubs.{HubView};
-ghost use Rattle.rx_server.specs.OpenBoxes.{AreOpenFor};
+ghost use Rattle.rx_server.specs.OpenBoxes.{AreOpenFor, IsEmptyFor};
 ghost use Rattle.rx_server.specs.Wirings.{IsWired, Wiring, drainer_capacity, most_observers};
 
 use crate::config::Config;
 use crate::making::{make_desks, make_drainers, make_hubs, make_pumps};
 use crate::opened::{Opened, open_all};
-use crate::port_row::next_ports;
+use crate::port_row::put_ports;
 use crate::start_fault::{Role, StartFault};
 use crate::subject_config::SubjectConfig;
 use rx_drain::Drainer;
-use rx_heap::Heap;
+use rx_heap::{Heap, Memory};
 use rx_mailbox::Port;
-use rx_pump::{Call, CallDesk, Out, Pump, Reply};
+use rx_pump::{Call, CallDesk, Out, Pump, Reply, room};
 use rx_sink::Sink;
 
 // How many letters the box of a subject holds.
@@ -36,12 +36,35 @@ struct Boxes<S: Drop> {
     replies: Opened<Reply<S>>,
 }
 
+impl<S: Sink> Wired<S> {
+    ghost use Rattle.rx_server.specs.OpenBoxes.{IsEmptyFor};
+
+    // No part yet, and room for all that a configuration asks for.
+    fn room(alloc: &Heap, config: &Config) -> Result<Wired<S>, Memory>
+        ensures { IfOk result (IsEmptyFor config.now) }
+    {
+        let count = config.subjects.len();
+        let drainers = config.drainers as usize;
+        let workers = config.workers as usize;
+        Ok(Wired {
+            pumps: room(alloc, count)?,
+            drainers: room(alloc, drainers)?,
+            leaves: room(alloc, drainers)?,
+            desks: room(alloc, workers)?,
+        })
+    }
+}
+
 // The parts of the server that a configuration asks for.
 pub(crate) fn wire<S: Sink>(alloc: &Heap, config: &Config) -> Result<Wired<S>, StartFault>
     ensures { IfOk result (λ wired. (w : Wiring S) × (hubs : List HubView) × IsWired config.now w hubs wired.pumps.items wired.drainers.items wired.leaves.items wired.desks.items) }
 {
-    let boxes = open_boxes(alloc, config)?;
-    join(alloc, config, boxes)
+    let mut boxes = open_boxes(alloc, config)?;
+    let Ok(mut wired) = Wired::room(alloc, config) else {
+        return Err(StartFault::memory(Role::Pump, 0));
+    };
+    join(alloc, config, &mut boxes, &mut wired)?;
+    Ok(wired)
 }
 
 // Opens the boxes that a configuration asks for.
@@ -61,34 +84,38 @@ fn open_boxes<S: Drop>(alloc: &Heap, config: &Config) -> Result<Boxes<S>, StartF
 }
 
 // Makes the parts of these boxes.
-fn join<S: Sink>(alloc: &Heap, config: &Config, boxes: Boxes<S>) -> Result<Wired<S>, StartFault>
-    requires { (w : Wiring S) × AreOpenFor config.now w boxes }
-    ensures { IfOk result (λ wired. (w : Wiring S) × (hubs : List HubView) × IsWired config.now w hubs wired.pumps.items wired.drainers.items wired.leaves.items wired.desks.items) }
+fn join<S: Sink>(
+    alloc: &Heap,
+    config: &Config,
+    boxes: &mut Boxes<S>,
+    wired: &mut Wired<S>,
+) -> Result<(), StartFault>
+    requires boxes { (w : Wiring S) × AreOpenFor config.now w boxes.old }
+    requires rooms { IsEmptyFor config.now wired.old }
+    ensures { OnOk result ((w : Wiring S) × (hubs : List HubView) × IsWired config.now w hubs wired.new.pumps.items wired.new.drainers.items wired.new.leaves.items wired.new.desks.items) }
 {
-    let Boxes {
-        mut subjects,
-        mut drainers,
-        mut replies,
-    } = boxes;
-    let hubs = make_hubs(alloc, &config.subjects)?;
-    let pumps = make_pumps(
+    let mut hubs = make_hubs(alloc, &config.subjects)?.into_iter();
+    make_pumps(
         alloc,
-        hubs,
-        subjects.inboxes,
-        &mut drainers.rows,
-        &mut replies.rows,
+        &mut hubs,
+        &mut boxes.subjects.inboxes,
+        &mut boxes.drainers.rows,
+        &mut boxes.replies.rows,
+        &mut wired.pumps,
     )?;
-    let Ok(leaves) = next_ports(alloc, &mut drainers.rows) else {
-        return Err(StartFault::memory(Role::Drainer, 0));
-    };
-    let desks = make_desks(alloc, replies.inboxes, &mut subjects.rows)?;
-    let drainers = make_drainers(alloc, drainers.inboxes, &mut subjects.rows)?;
-    Ok(Wired {
-        pumps,
-        drainers,
-        leaves,
-        desks,
-    })
+    put_ports(&mut boxes.drainers.rows, &mut wired.leaves);
+    make_desks(
+        alloc,
+        &mut boxes.replies.inboxes,
+        &mut boxes.subjects.rows,
+        &mut wired.desks,
+    )?;
+    make_drainers(
+        alloc,
+        &mut boxes.drainers.inboxes,
+        &mut boxes.subjects.rows,
+        &mut wired.drainers,
+    )
 }
 
 // How many letters the box of a drainer holds.

@@ -14,11 +14,11 @@ loop-port-preserved g c =
     let before = c.loop-port.invariant in
     let port = c.in-Some.port in
     record {
-      reader = c.join.ensures.reader;
-      free = c.join.ensures.free;
-      same = c.join.ensures.same ∙ before.same;
-      noted = noted_more (view c.loop-port.pass) (view c.join.new.pass) _ port c.join.ensures.noted before.noted;
-      got = All-push (GotAll (inbox_of c.args.pass.now)) _ port before.got (subst (λ (inbox : Incoming _). GotAll inbox port) before.same c.join.ensures.got);
+      reader = c.join_into.ensures.reader;
+      free = c.join_into.ensures.free;
+      same = c.join_into.ensures.same ∙ before.same;
+      noted = noted_more (view c.loop-port.pass) (view c.join_into.new.pass) _ port c.join_into.ensures.noted before.noted;
+      got = All-push (GotAll (inbox_of c.args.pass.now)) _ port before.got (subst (λ (inbox : Incoming _). GotAll inbox port) before.same c.join_into.ensures.got);
     }
 
 pub returns-clause-noted : goal.returns-clause-noted

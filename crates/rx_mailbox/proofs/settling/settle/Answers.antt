@@ -17,7 +17,7 @@ pub join_all-requires-clause-byes : goal.join_all-requires-clause-byes
 join_all-requires-clause-byes g c =
     let ports = c.args.ports.items in
     let byes = byes_of_all c.args.inbox ports (c.is_each_once.ensures.0 c.if-not-is_each_once.false) (c.has_each_bye.ensures.0 c.if-not-has_each_bye.false) in
-    subst (λ (inbox : Incoming _). All (λ (port : Outgoing _). HasBye inbox port.number) ports) (sym c.inbox.view_is) byes
+    subst (λ (inbox : Incoming _). All (λ (port : Outgoing _). HasBye inbox port.number) ports) (sym c.into_pass-pass.ensures.pass) byes
 
 pub returns-clause-complete : goal.returns-clause-complete
 returns-clause-complete g c =
@@ -27,13 +27,13 @@ pub returns-clause-empty : goal.returns-clause-empty
 returns-clause-empty g c =
     let ports = c.args.ports.items in
     let once = c.is_each_once.ensures.0 c.if-not-is_each_once.false in
-    nothing_left c.args.inbox ports once (subst (λ (inbox : Incoming _). All (GotAll inbox) ports) c.inbox.view_is c.join_all.ensures.got)
+    nothing_left c.args.inbox ports once (subst (λ (inbox : Incoming _). All (GotAll inbox) ports) c.into_pass-pass.ensures.pass c.join_all.ensures.got)
 
 pub invariant_of-result : goal.invariant_of-result
 invariant_of-result g c =
     let ports = c.args.ports.items in
     let pass = c.join_all.new.pass in
     let once = c.is_each_once.ensures.0 c.if-not-is_each_once.false in
-    let got = subst (λ (inbox : Incoming _). All (GotAll inbox) ports) c.inbox.view_is c.join_all.ensures.got in
-    let same = c.join_all.ensures.same ∙ c.inbox.view_is in
+    let got = subst (λ (inbox : Incoming _). All (GotAll inbox) ports) c.into_pass-pass.ensures.pass c.join_all.ensures.got in
+    let same = c.join_all.ensures.same ∙ c.into_pass-pass.ensures.pass in
     (leaves_empty (view pass) c.args.inbox (inbox_of pass) ports c.join_all.ensures.reader same refl refl c.join_all.ensures.noted once got, search rules)

@@ -4,4 +4,7 @@ use Rattle.rx_server.proofs.closing.finish_desks.Given as goal
 
 -- there is room for the others
 abbrev pub invariant-loop-desk : goal.invariant-loop-desk
-invariant-loop-desk g l = vec_len l.ended + length (into_iter_items l.desk-iterator) ≤ vec_capacity l.ended
+invariant-loop-desk g l = vec_len l.ended + length (into_iter_items l.desks) ≤ vec_capacity l.ended
+
+abbrev pub decreases-loop-desk : goal.decreases-loop-desk
+decreases-loop-desk g l = length (into_iter_items l.desks)

@@ -1,27 +1,37 @@
-use Rattle.std.proofs.Common.{◌≡◌, ◌∙◌, ap, List, []}
-use Rattle.std.proofs.lemmas.List.Elements.{All-rest, All-same}
+use Rattle.std.proofs.Common.{◌≡◌, ◌∙◌, ap, refl, List, [], length, arith}
+use Rattle.std.proofs.lemmas.List.Elements.{All-rest}
 use Rattle.rx_mailbox.specs.Boxes.{Incoming, Outgoing}
 use Rattle.rx_pump.specs.Desks.{fresh_desk}
 use Rattle.rx_server.specs.Wirings.{row_ports}
-use Rattle.rx_server.proofs.Rows.{Handed-begun, Handed-ports, Handed-more, Made-begun, Made-more}
+use Rattle.rx_server.proofs.Rows.{All-first, Handed-begun, Handed-ports, Handed-more, Handed-some, Made-begun, Made-more, put-count}
 use Rattle.rx_server.proofs.making.make_desks.Goals as goal
 
 pub loop-inbox-init : goal.loop-inbox-init
-loop-inbox-init g c =
-    let all = c.into_iter-inbox-iterator.ensures.into_iter_gives.0 in
-    record {
-      made = Made-begun (λ x. fresh_desk (row_ports x.0 c.args.subjects.now.items) x.1) _ _ _ c.in-Ok.ensures.items all;
-      handed = Handed-begun _ _ _ _ c.in-Ok.ensures.items all c.requires.subjects;
-      fresh = All-same (λ (inbox : Incoming _). inbox.received ≡ []) _ _ all c.requires.inboxes;
-    }
+loop-inbox-init g c = record {
+  made = Made-begun (λ x. fresh_desk (row_ports x.0 c.args.subjects.now.items) x.1) _ _ _ c.requires.none refl;
+  handed = Handed-begun _ _ _ _ c.requires.none refl c.requires.subjects;
+  fresh = c.requires.inboxes;
+  room = omega (arith, c.requires.room, ap length c.requires.none, c.args.desks.now.ok);
+}
+
+pub put_desk-requires-clause-inbox : goal.put_desk-requires-clause-inbox
+put_desk-requires-clause-inbox g c =
+    All-first (λ (inbox : Incoming _). inbox.received ≡ []) _ _ _ c.in-Some.ensures.items c.loop-inbox.invariant.fresh
+
+pub put_desk-requires-clause-subjects : goal.put_desk-requires-clause-subjects
+put_desk-requires-clause-subjects g c = Handed-some _ _ _ _ _ _ c.in-Some.ensures.items c.loop-inbox.invariant.handed
+
+pub put_desk-requires-clause-room : goal.put_desk-requires-clause-room
+put_desk-requires-clause-room g c = omega (arith, c.loop-inbox.invariant.room, ap length c.in-Some.ensures.items)
 
 pub loop-inbox-preserved : goal.loop-inbox-preserved
 loop-inbox-preserved g c =
     let before = c.loop-inbox.invariant in
-    let cut = c.in-Some.ensures.steps.0 in
+    let cut = c.in-Some.ensures.items in
     record {
-      made = Made-more (λ x. fresh_desk (row_ports x.0 c.args.subjects.now.items) x.1) _ _ _ _ _ _ _ cut c.in-Ok-push.ensures.items
-          (c.in-Ok-make_desk.ensures.desk ∙ ap (λ (ports : List (Outgoing _)). fresh_desk ports c.in-Some.inbox) (Handed-ports _ _ _ _ before.handed)) before.made;
-      handed = Handed-more _ _ _ _ _ _ _ _ _ cut c.in-Ok-push.ensures.items c.in-Ok-make_desk.ensures.subjects before.handed;
+      made = Made-more (λ x. fresh_desk (row_ports x.0 c.args.subjects.now.items) x.1) _ _ _ _ _ _ _ cut c.in_ok-put_desk.ensures.desks
+          (ap (λ (ports : List (Outgoing _)). fresh_desk ports c.in-Some.inbox) (Handed-ports _ _ _ _ before.handed)) before.made;
+      handed = Handed-more _ _ _ _ _ _ _ _ _ cut c.in_ok-put_desk.ensures.desks c.in_ok-put_desk.ensures.subjects before.handed;
       fresh = All-rest (λ (inbox : Incoming _). inbox.received ≡ []) _ _ _ cut before.fresh;
+      room = omega (arith, before.room, ap length cut, put-count _ _ _ c.in_ok-put_desk.ensures.desks, c.put_desk.ensures.capacity);
     }

@@ -1,4 +1,4 @@
-use Rattle.std.proofs.Common.{◌≡◌, ◌+◌, [], length}
+use Rattle.std.proofs.Common.{◌≡◌, ◌+◌, ◌≤◌, [], length, vec_len, vec_capacity}
 use Rattle.std.specs.List.{All}
 use Rattle.std.specs.Vec.Iter.{into_iter_items}
 use Rattle.rx_drain.specs.Drainers.{fresh_drainer}
@@ -9,7 +9,11 @@ use Rattle.rx_server.proofs.making.make_drainers.Given as goal
 -- the first inboxes have their drainers, and each subject has a port for each of the others
 abbrev pub invariant-loop-inbox : goal.invariant-loop-inbox
 invariant-loop-inbox g l = record {
-  made : Made (λ x. fresh_drainer x.1 (row_ports x.0 l.fn.subjects.items)) l.fn.inboxes.items l.drainers.items (into_iter_items l.inbox-iterator);
-  handed : Handed l.fn.subjects.items l.subjects.items l.drainers.items (into_iter_items l.inbox-iterator);
-  fresh : All (λ inbox. (inbox.received ≡ []) × (inbox.ports ≡ length l.fn.subjects.items + 1)) (into_iter_items l.inbox-iterator);
+  made : Made (λ x. fresh_drainer x.1 (row_ports x.0 l.initial.subjects.items)) (into_iter_items l.initial.inboxes) l.drainers.items (into_iter_items l.inboxes);
+  handed : Handed l.initial.subjects.items l.subjects.items l.drainers.items (into_iter_items l.inboxes);
+  fresh : All (λ inbox. (inbox.received ≡ []) × (inbox.ports ≡ length l.initial.subjects.items + 1)) (into_iter_items l.inboxes);
+  room : vec_len l.drainers + length (into_iter_items l.inboxes) ≤ vec_capacity l.drainers;
 }
+
+abbrev pub decreases-loop-inbox : goal.decreases-loop-inbox
+decreases-loop-inbox g l = length (into_iter_items l.inboxes)

@@ -1,7 +1,0 @@
-use Rattle.std.proofs.Common.{◌+◌, ◌≤◌, length, vec_len, vec_capacity}
-use Rattle.std.specs.Vec.Iter.{into_iter_items}
-use Rattle.rx_server.proofs.hosting.keep_all.Given as goal
-
--- there is room for the others
-abbrev pub invariant-loop-desk : goal.invariant-loop-desk
-invariant-loop-desk g l = vec_len l.kept + length (into_iter_items l.desk-iterator) ≤ vec_capacity l.kept
