@@ -94,7 +94,8 @@ fn join<S: Sink>(
     requires rooms { IsEmptyFor config.now wired.old }
     ensures { OnOk result ((w : Wiring S) × (hubs : List HubView) × IsWired config.now w hubs wired.new.pumps.items wired.new.drainers.items wired.new.leaves.items wired.new.desks.items) }
 {
-    let mut hubs = make_hubs(alloc, &config.subjects)?.into_iter();
+    let hubs = make_hubs(alloc, &config.subjects)?;
+    let mut hubs = hubs.into_iter();
     make_pumps(
         alloc,
         &mut hubs,
@@ -115,7 +116,8 @@ fn join<S: Sink>(
         &mut boxes.drainers.inboxes,
         &mut boxes.subjects.rows,
         &mut wired.drainers,
-    )
+    )?;
+    Ok(())
 }
 
 // How many letters the box of a drainer holds.

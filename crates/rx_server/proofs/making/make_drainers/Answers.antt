@@ -1,4 +1,4 @@
-use Rattle.std.proofs.Common.{◌≡◌, ◌+◌, ◌∙◌, ap, refl, length, List, [], arith}
+use Rattle.std.proofs.Common.{◌≡◌, ◌+◌, ap, refl, length, List, [], arith}
 use Rattle.std.proofs.lemmas.List.Elements.{All-rest}
 use Rattle.rx_mailbox.specs.Boxes.{Incoming, Outgoing}
 use Rattle.rx_drain.specs.Drainers.{fresh_drainer}

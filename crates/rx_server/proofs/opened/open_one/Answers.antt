@@ -10,15 +10,15 @@ new-requires-clause-ports g c = ports-whole _ _ _ _ c.in-Ok.made.1.ok.0 c.in-Ok.
 pub new-requires-clause-count : goal.new-requires-clause-count
 new-requires-clause-count g c =
     let count = ports-count c.in-Ok.made.0.box c.args.senders c.in-Ok.made.1.items c.in-Ok.ensures.ports in
-    omega (arith, c.requires.3)
+    omega (arith, c.requires.size.3)
 
-pub returns : goal.returns
-returns g c =
+pub returns-clause-opened : goal.returns-clause-opened
+returns-clause-opened g c =
     let count = ports-count c.in-Ok.made.0.box c.args.senders c.in-Ok.made.1.items c.in-Ok.ensures.ports in (
       c.in-Ok.made.0.box,
       c.in-Ok.ensures.capacity,
-      c.in_ok-push-2.ensures.items ∙ ap (λ (inbox : Incoming _). c.args.opened.now.inboxes.items ++ inbox ∷ []) c.in-Ok.ensures.inbox,
-      c.in_ok-push.ensures.items
-          ∙ ap (λ (row : RowView _). c.args.opened.now.rows.items ++ row ∷ [])
+      c.push_reserved-2.ensures.items ∙ ap (λ (inbox : Incoming _). c.args.opening.now.inboxes.items ++ inbox ∷ []) c.in-Ok.ensures.inbox,
+      c.push_reserved.ensures.items
+          ∙ ap (λ (row : RowView _). c.args.opening.now.rows.items ++ row ∷ [])
           (c.new.ensures ∙ ap (λ (n : ℕ). whole_row n c.in-Ok.made.0.box) (c.in-Ok.made.1.ok.0 ∙ count)),
     )
