@@ -1,9 +1,9 @@
-ghost use Rattle.std.specs.Prelude.{◌≡◌, ◌==◌, ◌<◌, ◌↔◌, ℕ, List, [], ◌∷◌, ◌++◌, IsTrue, IfOk, IfErr};
+ghost use Rattle.std.specs.Prelude.{◌≡◌, ◌==◌, ◌<◌, ◌↔◌, ℕ, List, [], IsTrue, IfOk, IfErr};
 ghost use Rattle.std.specs.List.{All, count_by};
 ghost use Rattle.crossbeam_channel.specs.Claims.{view};
 ghost use Rattle.rx_mailbox.specs.declared.letter.Letter.{Letter};
 ghost use Rattle.rx_mailbox.specs.Boxes.{AreOf, HasBye, HasEachBye};
-ghost use Rattle.rx_mailbox.specs.Passes.{inbox_of, notes_of, IsReader, IsNoted};
+ghost use Rattle.rx_mailbox.specs.Passes.{inbox_of, IsReader, IsNoted};
 ghost use Rattle.rx_mailbox.specs.Settling.{IsEachOnce, GotAll, CanHold, IsCause};
 
 use crate::channel::BoxPass;
