@@ -39,5 +39,5 @@ pub use denote.Triple.Table.{entered, cited}
 pub use denote.Triple.Walked.{Stays, stay_dropped, walk_of, ends_at, walked, Goes-dropped, walk_Meets}
 pub use Rattle.std.proofs.alloc.Shapes.{after, head, arm_body}
 pub use Rattle.std.proofs.alloc.Calls.{Al, α, seen, token, Answer, answer_val, Answer-typed, Answer-Ok, Answer-err, takes_key, Takes, at_takes, Answered, Takes-goes, Takes-gives, answers, gives_key, Gives, at_gives, Gives-goes, Gives-Gives}
-pub use Rattle.std.proofs.alloc.Resizes.{Grows, resize_key, Resizes, at_resizes, Resizes-goes, Resizes-gives, Flagged, flagged, result_of, result_own, asked, heard_all}
+pub use Rattle.std.proofs.alloc.Resizes.{Grows, Shrinks, resize_key, Resizes, at_resizes, Resizes-goes, Resizes-gives, Flagged, flagged, result_of, result_own, asked, heard_all}
 pub use Rattle.std.specs.Allocator.{block_with_items, resized_if_ok}

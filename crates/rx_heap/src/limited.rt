@@ -8,7 +8,7 @@ use std::mem::size_of;
 ///
 /// A block is charged to the handle that allocated it, with the bytes that were asked for, and its bytes come back when it is
 /// given back. So a text is charged to the heap that it was made over, whoever holds a copy of it. A collection that grows
-/// needs the bytes that it has more; one that is cut to its length needs its new block and its old one for a moment.
+/// needs the bytes that it has more; one that is cut to its length gives those back that it has less.
 #[derive(Clone, Drop)]
 pub struct Limited<B: Allocator> {
     inner: B,
@@ -67,7 +67,8 @@ impl Limited<Global> {
     }
 }
 
-// `shrink` is the trait's: a new block, a copy, and the old block given back.
+// `shrink` is written out, though the trait has one, since the proof of the trait's would be checked anew in each crate above,
+// with all that rests on it.
 unsafe impl<B: Allocator> Allocator for Limited<B> {
     ghost dealloc_token = { λ heap ty ptr. B.dealloc_token heap.inner ty ptr };
 
@@ -105,6 +106,25 @@ unsafe impl<B: Allocator> Allocator for Limited<B> {
                 self.limit.regains_change(old_cap, new_cap, size_of::<T>());
                 Err(refused)
             }
+        }
+    }
+
+    unsafe fn shrink<T>(
+        &self,
+        ptr: *mut T,
+        len: usize,
+        old_cap: usize,
+        new_cap: usize,
+    ) -> Result<*mut T, AllocError> {
+        if self.limit.refuses_change(old_cap, new_cap, size_of::<T>()) {
+            return Err(AllocError);
+        }
+        match self.inner.shrink(ptr, len, old_cap, new_cap) {
+            Ok(block) => {
+                self.limit.regains_change(new_cap, old_cap, size_of::<T>());
+                Ok(block)
+            }
+            Err(refused) => Err(refused),
         }
     }
 }
