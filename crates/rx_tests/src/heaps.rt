@@ -1,8 +1,9 @@
 //! Handles under a limit: a budget is kept and given back, a growth is refused in its turn, and two threads never have the
 //! same bytes.
 //!
-//! In a script a digit takes a block of so many times ten bytes, and `-` gives the last one back. Told is `!` where a block
-//! was refused, behind `?` the bytes used, in tens, and behind `#` how many growths were asked for.
+//! In a script a digit takes a block of so many times ten bytes, `/` cuts the last one to half of its room, and `-` gives it
+//! back. Told is `!` where a block was refused, behind `?` the bytes used, in tens, and behind `#` how many growths were asked
+//! for.
 
 use crate::expecting::{expect_count, expect_that, expect_told};
 use crate::told::Told;
@@ -35,9 +36,16 @@ impl Tried {
         Ok(())
     }
 
+    fn cut(&mut self) {
+        if let Some(block) = self.blocks.last_mut() {
+            block.shrink_to(block.capacity() / 2);
+        }
+    }
+
     fn step(&mut self, sign: u8) -> Result<(), Fail> {
         match sign {
             b'0'..=b'9' => self.take(10 * usize::from(sign - b'0'))?,
+            b'/' => self.cut(),
             b'?' => self.told.put_digit((self.heap.used() / 10) as usize),
             b'#' => self.told.put_digit(self.heap.asked() as usize),
             _ => drop(self.blocks.pop()),
@@ -70,6 +78,7 @@ fn a_budget_is_kept_and_given_back(rt: HostRuntime) -> Result<(), Fail> {
     for (budget, script, wanted) in [
         (Some(90), "6?4?3?1?-?-?9?1-?", "6!69!9609!0"),
         (Some(90), "96#?", "!29"),
+        (Some(90), "8?/?5?#", "8493"),
         (Some(0), "1?0#", "!01"),
         (Some(u64::MAX), "9?", "9"),
         (None, "99?#", "00"),
