@@ -6,7 +6,7 @@ use std::marker::Model;
 use std::sync::Arc;
 
 /// The bytes of a text that its copies share, `N` at most. Contracts see the list of them.
-#[derive(Drop, Debug)]
+#[derive(Drop)]
 pub(crate) struct Block<const N: usize> {
     len: usize,
     bytes: [u8; N],

@@ -13,7 +13,6 @@ const MEDIUM: usize = 56;
 
 /// Where the bytes of a text are. Most texts are short: these take no memory, and their copies touch no count. A longer one
 /// takes one growth.
-#[derive(Debug)]
 pub(crate) enum Body {
     /// Here, the first `len` of these.
     Short { len: u16, bytes: [u8; SHORT] },

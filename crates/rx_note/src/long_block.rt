@@ -6,7 +6,7 @@ use std::sync::Arc;
 
 /// The block of a long text, which its copies share: the smallest that has room for the bytes, so that about half of it is left
 /// over at most. What is done with one is kept out of line, so that the way of shorter texts stays short.
-#[derive(Drop, Debug)]
+#[derive(Drop)]
 pub(crate) enum LongBlock {
     UpTo120(Arc<Block<120>, Heap>),
     UpTo248(Arc<Block<248>, Heap>),

@@ -6,6 +6,7 @@ ghost use Rattle.rx_note.specs.Texts.{HasLf};
 
 use crate::body::Body;
 use rx_heap::{Heap, Memory};
+use std::fmt;
 use std::marker::Model;
 
 /// The most bytes that a text has.
@@ -31,7 +32,7 @@ pub enum TextError {
 ///
 /// A text of up to 20 bytes takes no memory, a longer one one growth; the copies of all but the shortest share their bytes. The
 /// limits are this project's own.
-#[derive(Drop, Debug)]
+#[derive(Drop)]
 pub struct Text {
     body: Body,
 }
@@ -114,6 +115,13 @@ impl Text {
     {
         let body = self.body.copy()?;
         Ok(Text { body })
+    }
+}
+
+// As its bytes, wherever they stand.
+impl fmt::Debug for Text {
+    fn fmt<W: fmt::Write>(&self, f: &mut fmt::Formatter<W>) -> fmt::Result {
+        fmt::Debug::fmt(self.as_bytes(), f)
     }
 }
 
