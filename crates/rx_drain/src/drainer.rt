@@ -17,7 +17,6 @@ use std::sync::Wait;
 
 /// The owner of the sinks of some observers: it takes the letters of the subjects one by one, hands the notes to the sinks,
 /// and asks the subjects for more.
-#[derive(Drop)]
 pub struct Drainer<S: Sink> {
     hands: DrainerLeft<S>,
     // The number of the leave port in its box, which is that of its subjects.
@@ -25,6 +24,18 @@ pub struct Drainer<S: Sink> {
     // The Bye of the leave port came.
     left: bool,
     fault: Option<DrainFault>,
+}
+
+// It stands here, and isn't derived, so that what lets go of a drainer is one call that is proved once.
+impl<S: Sink> Drop for Drainer<S> {
+    fn drop(self) {
+        let Drainer {
+            hands: _,
+            leave: _,
+            left: _,
+            fault: _,
+        } = self;
+    }
 }
 
 impl<S: Sink> Model for Drainer<S> {
@@ -130,7 +141,13 @@ impl<S: Sink> Drainer<S> {
         ensures parts { view_of result self.left self.fault ≡ self }
         ensures drained { IsDrained S.acts self }
     {
-        self.hands
+        let Drainer {
+            hands,
+            leave: _,
+            left: _,
+            fault: _,
+        } = self;
+        hands
     }
 
     // Takes letters until the Bye of each port came.
@@ -143,7 +160,8 @@ impl<S: Sink> Drainer<S> {
             return Err(fault);
         }
         for _ in rt.forever() {
-            if self.hands.parts.inbox.has_each_bye() {
+            let is_over = self.hands.parts.inbox.has_each_bye();
+            if is_over {
                 return Ok(());
             }
             self.turn(rt)?;
@@ -157,6 +175,12 @@ impl<S: Sink> Drainer<S> {
         requires each_bye { HasEachBye self.inbox }
         ensures { HasServed S.acts self result }
     {
+        let Drainer {
+            hands,
+            leave: _,
+            left: _,
+            fault: _,
+        } = self;
         let DrainerLeft {
             parts,
             ended,
@@ -164,7 +188,7 @@ impl<S: Sink> Drainer<S> {
             put_away,
             places,
             taken,
-        } = self.hands;
+        } = hands;
         DrainEnd {
             inbox: parts.inbox,
             ports: ended,
@@ -179,10 +203,13 @@ impl<S: Sink> Drainer<S> {
         requires { self.fault ≡ Some fault }
         ensures { HasStopped S.acts self result }
     {
-        DrainStop {
-            fault,
-            left: self.hands,
-        }
+        let Drainer {
+            hands: left,
+            leave: _,
+            left: _,
+            fault: _,
+        } = self;
+        DrainStop { fault, left }
     }
 }
 

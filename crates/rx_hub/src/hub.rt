@@ -22,10 +22,19 @@ pub enum HubError {
 
 /// The core of one subject. Contracts see its state and the number of its Memory answers, and tell by the history that
 /// it stands for what it answers and gives. It stores no history.
-#[derive(Drop)]
 pub struct Hub {
     multicast: Multicast,
     misses: u64,
+}
+
+// It stands here, and isn't derived, so that what lets go of a hub is one call that is proved once.
+impl Drop for Hub {
+    fn drop(self) {
+        let Hub {
+            multicast: _,
+            misses: _,
+        } = self;
+    }
 }
 
 impl Model for Hub {

@@ -19,7 +19,6 @@ use std::marker::Model;
 use std::sync::Wait;
 
 /// The owner of a subject's hub: it takes the calls one by one, and sends what comes of them. It stores no letter.
-#[derive(Drop)]
 pub struct Pump<S: Drop> {
     parts: PumpParts<S>,
     // Room for what one call gives.
@@ -32,6 +31,22 @@ pub struct Pump<S: Drop> {
     // What the hub had counted when the pump was made.
     misses_before: u64,
     fault: Option<PumpFault>,
+}
+
+// It stands here, and isn't derived, so that what lets go of a pump is one call that is proved once.
+impl<S: Drop> Drop for Pump<S> {
+    fn drop(self) {
+        let Pump {
+            parts: _,
+            outs: _,
+            ended_drainers: _,
+            ended_replies: _,
+            calls: _,
+            refused: _,
+            misses_before: _,
+            fault: _,
+        } = self;
+    }
 }
 
 impl<S: Drop> Model for Pump<S> {
@@ -144,7 +159,17 @@ impl<S: Drop> Pump<S> {
         ensures replies { result.replies.items ≡ self.replies }
         ensures pumped { IsPumped self }
     {
-        self.parts
+        let Pump {
+            parts,
+            outs: _,
+            ended_drainers: _,
+            ended_replies: _,
+            calls: _,
+            refused: _,
+            misses_before: _,
+            fault: _,
+        } = self;
+        parts
     }
 
     // Takes letters until the Bye of each port came.
@@ -157,7 +182,8 @@ impl<S: Drop> Pump<S> {
             return Err(fault);
         }
         for _ in rt.forever() {
-            if self.parts.inbox.has_each_bye() {
+            let is_over = self.parts.inbox.has_each_bye();
+            if is_over {
                 return Ok(());
             }
             self.turn(rt)?;
@@ -211,11 +237,21 @@ impl<S: Drop> Pump<S> {
     fn stop(self, fault: PumpFault) -> PumpStop<S>
         ensures { HasStopped self result }
     {
+        let Pump {
+            parts,
+            outs: _,
+            ended_drainers,
+            ended_replies,
+            calls: _,
+            refused: _,
+            misses_before: _,
+            fault: _,
+        } = self;
         PumpStop {
             fault,
-            parts: self.parts,
-            ended_drainers: self.ended_drainers,
-            ended_replies: self.ended_replies,
+            parts,
+            ended_drainers,
+            ended_replies,
         }
     }
 

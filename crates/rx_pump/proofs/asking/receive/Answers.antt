@@ -1,0 +1,6 @@
+-- What is read is the letter that was received.
+use Rattle.std.proofs.Common.{rules}
+use Rattle.rx_pump.proofs.asking.receive.Goals as goal
+
+pub returns : goal.returns
+returns g c = search rules
