@@ -37,9 +37,15 @@ impl<S: Sink> Promise<Result<DrainEnd<S>, DrainStop<S>>> for Served<S> {
 }
 
 /// A drainer that serves in a thread of its own. One that is let go without a `join` is not waited for.
-#[derive(Drop)]
 pub struct RunningDrainer<S: Sink> {
     handle: PromisedHandle<Result<DrainEnd<S>, DrainStop<S>>, Served<S>>,
+}
+
+// It stands here, and isn't derived, so that what lets go of a running drainer is one call that is proved once.
+impl<S: Sink> Drop for RunningDrainer<S> {
+    fn drop(self) {
+        let RunningDrainer { handle: _ } = self;
+    }
 }
 
 /// Starts a thread in which the drainer serves. Contracts see the drainer that was handed in.

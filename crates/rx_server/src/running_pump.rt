@@ -28,9 +28,15 @@ impl<S: Drop> Promise<Result<PumpEnd<S>, PumpStop<S>>> for Served<S> {
 
 // A pump that serves in a thread of its own. Contracts see the pump that was handed in. One that is let go without a `join`
 // is not waited for.
-#[derive(Drop)]
 pub(crate) struct RunningPump<S: Drop> {
     handle: PromisedHandle<Result<PumpEnd<S>, PumpStop<S>>, Served<S>>,
+}
+
+// It stands here, and isn't derived, so that what lets go of a running pump is one call that is proved once.
+impl<S: Drop> Drop for RunningPump<S> {
+    fn drop(self) {
+        let RunningPump { handle: _ } = self;
+    }
 }
 
 impl<S: Drop> Model for RunningPump<S> {

@@ -26,9 +26,15 @@ impl<M: Moments + Drop, C: Read + Drop, W: Write + Drop> Promise<WorkerEnd<C, W>
 
 /// A worker that serves in a thread of its own. One that is let go without a `join` is not waited for. Contracts see the worker
 /// that was handed in.
-#[derive(Drop)]
 pub struct RunningWorker<M: Moments + Drop, C: Read + Drop, W: Write + Drop> {
     handle: PromisedHandle<WorkerEnd<C, W>, Worked<M, C, W>>,
+}
+
+// It stands here, and isn't derived, so that what lets go of a running worker is one call that is proved once.
+impl<M: Moments + Drop, C: Read + Drop, W: Write + Drop> Drop for RunningWorker<M, C, W> {
+    fn drop(self) {
+        let RunningWorker { handle: _ } = self;
+    }
 }
 
 /// Starts a thread in which the worker serves, and hands back the port to its inbox. `Err` where there is no thread for it:
