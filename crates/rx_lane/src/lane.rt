@@ -208,7 +208,8 @@ impl Lane {
             self.queue.clear();
             return Some(note);
         }
-        if self.waiting_len() == 0 {
+        let nothing_waits = self.waiting_len() == 0;
+        if nothing_waits {
             return Some(note);
         }
         self.last = Some(note);

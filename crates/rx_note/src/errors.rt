@@ -18,6 +18,7 @@ impl Errors {
     pub fn goes_ahead(self, note: &Note) -> bool
         ensures { result ≡ goes_ahead self note.now }
     {
-        matches!((self, note), (Errors::Ahead, Note::Failed(_)))
+        let is_error = matches!(note, Note::Failed(_));
+        is_error && self == Errors::Ahead
     }
 }

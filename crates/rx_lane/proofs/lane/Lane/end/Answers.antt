@@ -15,14 +15,14 @@ returns-then-goes_ahead-clause-stands c = λ s st open_now.
     let ahead : goes_ahead c.self.inside.errors c.args.note ≡ true = sym c.goes_ahead.ensures ∙ c.if-goes_ahead.true in
     rw (c.clear.ensures.items, c.clear.ensures.strategy) (end_first _ c.args.note ahead s (stands_as c.self.view_is st) open_now).stands
 
-pub returns-then-waiting_len-eq0-clause-gives : goal.returns-then-waiting_len-eq0-clause-gives
-returns-then-waiting_len-eq0-clause-gives c = λ s st open_now.
+pub returns-then-nothing_waits-clause-gives : goal.returns-then-nothing_waits-clause-gives
+returns-then-nothing_waits-clause-gives c = λ s st open_now.
     let behind : goes_ahead c.self.inside.errors c.args.note ≡ false = sym c.goes_ahead.ensures ∙ c.if-goes_ahead.false in
     let none : length (items_of c.self.inside.queue) ≡ 0 = grind (arith, nat_tests) in
     (end_now _ c.args.note behind none s (stands_as c.self.view_is st) open_now).gives
 
-pub returns-then-waiting_len-eq0-clause-stands : goal.returns-then-waiting_len-eq0-clause-stands
-returns-then-waiting_len-eq0-clause-stands c = λ s st open_now.
+pub returns-then-nothing_waits-clause-stands : goal.returns-then-nothing_waits-clause-stands
+returns-then-nothing_waits-clause-stands c = λ s st open_now.
     let behind : goes_ahead c.self.inside.errors c.args.note ≡ false = sym c.goes_ahead.ensures ∙ c.if-goes_ahead.false in
     let none : length (items_of c.self.inside.queue) ≡ 0 = grind (arith, nat_tests) in
     (end_now _ c.args.note behind none s (stands_as c.self.view_is st) open_now).stands
