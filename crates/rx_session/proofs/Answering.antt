@@ -20,7 +20,7 @@ use Rattle.rx_session.specs.Lines.{TakesLine, without_cr}
 use Rattle.rx_session.specs.Sessions.{Parties, Place, Outcome, answered, Emits, Goes}
 use Rattle.rx_session.specs.Steps.{Advances, Goes as Steps}
 use Rattle.rx_session.specs.Turns.{hands, Tells, Quits, IsAt, Comes, Carries}
-use Rattle.rx_session.specs.declared.follow.Follow.TheVariants.{Back}
+use Rattle.rx_session.specs.declared.follow.Follow.TheVariants.{Taken, Back}
 use Rattle.rx_session.specs.declared.input_end.InputEnd.{InputEnd}
 use Rattle.rx_session.specs.declared.line_state.LineState.{LineState}
 use Rattle.rx_session.specs.declared.serving.Turned.{Turned}
@@ -73,6 +73,30 @@ module _ {D W : Type 0} (p : Parties D W) where
   emitted at name note desk after writer held held_after response result is emits tells =
       told at desk after writer held held_after response result (Emits p at name note) is tells
       (response, after, subst (λ (d : D). p.emits d name note response after) (sym is.desk_is) emits, refl)
+
+  -- the writer faulted where all that is held was to be written
+  pub flush_faulted : (reading : Result Command BadLine) (at : Place D W) (desk : D) (writer mid : W) (held held_after : List ℕ)
+      → IsAt p at (hands desk writer held) → AppendsPrefix (p.contents writer) (p.contents mid) held
+      → Carries p reading at (Over ends.WriteFault (Some mid)) desk held_after
+  flush_faulted reading at desk writer mid held held_after is faulted = inl (
+    mid,
+    subst (λ (bytes : List ℕ). AppendsPrefix (p.contents at.writer) (p.contents mid) bytes) is.parts
+        (Prefix-behind (p.contents at.writer) (p.contents writer) (p.contents mid) is.written held is.since faulted),
+    ap (λ (d : D). record { end = ends.WriteFault; desk = d; back = Some mid }) (sym is.desk_is),
+  )
+
+  -- the desk has the writer, which had all that was told to it
+  pub handed_over : (at : Place D W) (name : List ℕ) (policy : Choice) (desk after : D) (writer mid : W) (held held_after : List ℕ)
+      → IsAt p at (hands desk writer held) → Appends (p.contents writer) (p.contents mid) held → p.follows desk name policy mid Taken after
+      → Carries p (Ok (Sub name policy)) at (Over ends.HandedOver None) after held_after
+  handed_over at name policy desk after writer mid held held_after is flushed follows = inr (inl (
+    mid,
+    after,
+    subst (λ (bytes : List ℕ). Appends (p.contents at.writer) (p.contents mid) bytes) is.parts
+        (Appends-trans (p.contents at.writer) (p.contents writer) (p.contents mid) is.written held is.since flushed),
+    subst (λ (d : D). p.follows d name policy mid Taken after) (sym is.desk_is) follows,
+    refl,
+  ))
 
   -- the writer came back
   pub came_back : (at : Place D W) (name : List ℕ) (policy : Choice) (desk after : D) (writer mid back : W) (held none held_after : List ℕ) (response : Response) (result : Turned W)

@@ -31,3 +31,6 @@ pub returns-clause-parts : goal.returns-clause-parts
 returns-clause-parts g c =
     let box = box_of c.loop-number.pass in
     All-same (λ (port : Outgoing _). port.box ≡ box) _ _ c.loop-number.invariant.ports (of_one_box box c.loop-number.number 0)
+
+pub returns-clause-capacity : goal.returns-clause-capacity
+returns-clause-capacity g c = search rules

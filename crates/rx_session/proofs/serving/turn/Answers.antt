@@ -1,8 +1,10 @@
-use Rattle.std.proofs.Common.{◌<◌, length, Err, refl, inl}
+-- What comes of each step: a line is carried out, a long one is refused, and each end is told with the writer back.
+use Rattle.std.proofs.Common.{◌<◌, length, Err, refl, inl, inr}
 use Rattle.rx_proto.specs.Reading.{session_read}
 use Rattle.rx_proto.specs.declared.line_error.LineError.TheVariants as errors
 use Rattle.rx_session.specs.Sessions.{parties}
-use Rattle.rx_session.specs.declared.step.Step.TheVariants.{Line, Long}
+use Rattle.rx_session.specs.declared.input_end.InputEnd.TheVariants as inputs
+use Rattle.rx_session.specs.declared.step.Step.TheVariants.{Line, Long, EndOfInput, ReadFault, TooManyReads}
 use Rattle.rx_session.proofs.Answering.{steps_by, long_read, taken, refused}
 use Rattle.rx_session.proofs.Stepping.{told-is_line}
 use Rattle.rx_session.proofs.serving.turn.Goals as goal
@@ -28,3 +30,18 @@ returns-in-Long g c =
           steps.0;
       goes_on = steps.1;
     })
+
+pub returns-in-EndOfInput : goal.returns-in-EndOfInput
+returns-in-EndOfInput g c =
+    let steps = steps_by EndOfInput (g.R.Read.remaining c.args.reader.now) (g.R.Read.remaining c.advance.new.reader) c.args.lines.now c.advance.new.self c.requires c.in-EndOfInput.ensures.advances in
+    inr (record { none = steps.0; end = inputs.EndOfInput; input = steps.1; left = steps.2; over = refl; desk_is = refl })
+
+pub returns-in-ReadFault : goal.returns-in-ReadFault
+returns-in-ReadFault g c =
+    let steps = steps_by ReadFault (g.R.Read.remaining c.args.reader.now) (g.R.Read.remaining c.advance.new.reader) c.args.lines.now c.advance.new.self c.requires c.in-ReadFault.ensures.advances in
+    inr (record { none = steps.0; end = inputs.ReadFault; input = steps.1; left = tt; over = refl; desk_is = refl })
+
+pub returns-in-TooManyReads : goal.returns-in-TooManyReads
+returns-in-TooManyReads g c =
+    let steps = steps_by TooManyReads (g.R.Read.remaining c.args.reader.now) (g.R.Read.remaining c.advance.new.reader) c.args.lines.now c.advance.new.self c.requires c.in-TooManyReads.ensures.advances in
+    inr (record { none = steps.0; end = inputs.TooManyReads; input = steps.1; left = tt; over = refl; desk_is = refl })
