@@ -5,3 +5,9 @@ use Rattle.rx_subject.proofs.subject.Subject.admit_item.Goals as goal
 
 pub returns-clause-state : goal.returns-clause-state
 returns-clause-state c = grind (arith, common_steps)
+
+pub returns-then-matches-clause-state : goal.returns-then-matches-clause-state
+returns-then-matches-clause-state c = grind (arith, common_steps)
+
+pub returns-then-matches-clause-offers : goal.returns-then-matches-clause-offers
+returns-then-matches-clause-offers c = grind (arith, common_steps)
