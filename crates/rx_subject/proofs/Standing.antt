@@ -49,6 +49,17 @@ signals-signalled s rules H port note stands =
     ∙ ap (λ w. map Offered (offers_by rules.kind (unstamped (take 1 w)) port note) ++ ended_by (terminal_in note)) stands.window_is
     ∙ ap (λ xs. map Offered xs ++ ended_by (terminal_in note)) (offers_known rules.kind rules H (age_moment rules H (stamp rules H)) port note)
 
+-- an item is offered with the port that it came by, whatever port it names
+offers-by_port : (kind : Kind) (last : List Item) (port : ℕ) (item : Item)
+    → offers_by kind last port (Next (record { from = port; text = item.text })) ≡ offers_by kind last port (Next item)
+offers-by_port Publish last port item = refl
+offers-by_port (Behavior seed) last port item = refl
+offers-by_port Async last port item = refl
+offers-by_port (Replay count age) last port item = refl
+
+pub signals-by_port : (s : SubjectState) (port : ℕ) (item : Item) → signals_by s port (Next (record { from = port; text = item.text })) ≡ signals_by s port (Next item)
+signals-by_port s port item = ap (λ xs. map Offered xs ++ []) (offers-by_port s.kind (unstamped (take 1 s.window)) port item)
+
 -- WHAT A JOINER BEGINS WITH
 
 replay_opens : (ended : Bool) (end now z : ℕ) (count age : Option ℕ) (xs : List Stamped) → RisesTo 0 xs now → now ≤ z

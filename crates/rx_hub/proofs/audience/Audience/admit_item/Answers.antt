@@ -1,4 +1,4 @@
-use Rattle.std.proofs.Common.{◌≡◌, ◌∷◌, [], ◌++◌, List, sym, ap, subst, ◌∙◌}
+use Rattle.std.proofs.Common.{◌≡◌, ◌∷◌, [], ◌++◌, List, sym, ap, subst, ◌∙◌, rules}
 use Rattle.rx_note.specs.Signals.{Offered}
 use Rattle.rx_subject.specs.Subjects as subjects
 use Rattle.rx_subject.specs.TapeSubjects.{subject_on}
@@ -37,3 +37,6 @@ returns-then-are_owed-clause-fed c =
           ∙ ap (λ gs. before ++ gs) fed.1,
       subst (λ (os : List Observer). AllFed (Offered item ∷ []) os news fed.0) olds fed.2,
     )
+
+pub pass_item-requires : goal.pass_item-requires
+pass_item-requires c = search rules

@@ -1,4 +1,5 @@
-use Rattle.std.proofs.Common.{◌≤◌, ℕ, max, length, false, sym, ap, subst, ◌∙◌}
+use Rattle.std.proofs.Common.{◌≤◌, ℕ, max, length, false, sym, ap, subst, ◌∙◌, arith}
+use Rattle.std.proofs.lemmas.Grind.{common_steps}
 use Rattle.rx_tape.specs.Tapes.{TapeState, trimmed}
 use Rattle.rx_hub.specs.Audiences.{AudienceState, AllOn, Owned, most_waiting, places_of, observers_on}
 use Rattle.rx_hub.proofs.Places.{trimmed_all, trimmed_observers}
@@ -30,3 +31,6 @@ returns-clause-tight c =
     subst (λ (tape : TapeState). length tape.items ≤ max c.args.keep (most_waiting (observers_on tape.items places))) (sym c.trim.ensures)
     (subst (λ (n : ℕ). length (trimmed a.tape c.args.keep).items ≤ max c.args.keep n) (ap most_waiting (sym same))
     (trimmed_tight a.tape c.args.keep places c.self.invariant.0 c.self.invariant.2))
+
+pub returns-clause-kept : goal.returns-clause-kept
+returns-clause-kept c = grind (arith, common_steps)

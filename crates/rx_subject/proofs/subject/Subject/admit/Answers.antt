@@ -1,6 +1,6 @@
 use Rattle.std.proofs.Common.{◌≡◌, false, is_some, sym, ap, ◌∙◌}
-use Rattle.rx_subject.specs.Subjects.{SubjectState}
-use Rattle.rx_subject.proofs.Standing.{is_terminal, not_ended, signals-signalled, stands_item, stands_end}
+use Rattle.rx_subject.specs.Subjects.{SubjectState, signals_by}
+use Rattle.rx_subject.proofs.Standing.{is_terminal, not_ended, signals-by_port, signals-signalled, stands_item, stands_end}
 use Rattle.rx_subject.proofs.subject.Subject.admit.Goals as goal
 
 pub returns-in_ok-offer-in-Next-clause-stands : goal.returns-in_ok-offer-in-Next-clause-stands
@@ -23,3 +23,11 @@ returns-in_ok-offer-in_default c =
           (stands_end c.args.self.now rules H c.args.port c.args.note c.args.at (not_ended c.args.self.now rules H open_now stands) terminal stands);
       kind = ap (λ (s : SubjectState). s.kind) c.in_ok-offer-in_default.ensures.state;
     }
+
+pub returns-in_ok-offer-in-Next-clause-offers : goal.returns-in_ok-offer-in-Next-clause-offers
+returns-in_ok-offer-in-Next-clause-offers c =
+    c.in_ok-offer-in-Next.ensures.offers ∙ signals-by_port c.args.self.now c.args.port c.in-Next.field-0 ∙ ap (signals_by c.args.self.now c.args.port) (sym c.in-Next.is)
+
+pub returns-in_ok-offer-in-Next-clause-signalled : goal.returns-in_ok-offer-in-Next-clause-signalled
+returns-in_ok-offer-in-Next-clause-signalled c = λ rules H stands.
+    returns-in_ok-offer-in-Next-clause-offers c ∙ signals-signalled c.args.self.now rules H c.args.port c.args.note stands

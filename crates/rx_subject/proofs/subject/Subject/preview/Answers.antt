@@ -1,4 +1,5 @@
-use Rattle.std.proofs.Common.{◌≡◌, false, ◌++◌, map, take, Some, is_some, sym, ap, ◌∙◌}
+use Rattle.std.proofs.Common.{◌≡◌, false, [], ◌++◌, map, take, Some, is_some, sym, ap, ◌∙◌}
+use Rattle.rx_note.specs.declared.note.Note.TheVariants.{Next}
 use Rattle.rx_note.specs.Signals.{Offered}
 use Rattle.rx_history.specs.Histories.{unstamped, terminal_in, offers_by, ended_by}
 use Rattle.rx_subject.specs.Offers.{offer_signals}
@@ -22,3 +23,13 @@ returns-in_ok-copy-in_default c =
       offers = offers;
       signalled = λ rules H stands. offers ∙ signals-signalled c.args.self.now rules H c.args.port note stands;
     }
+
+pub returns-in_ok-item-in-Next-clause-offers : goal.returns-in_ok-item-in-Next-clause-offers
+returns-in_ok-item-in-Next-clause-offers c =
+    ap (λ xs. map Offered xs ++ []) (c.in_ok-item-in-Next.ensures (unstamped (take 1 (stamped_of c.self.inside.window))))
+    ∙ ap (λ (s : SubjectState). signals_by s c.args.port (Next c.in-Next.item)) c.self.view_is
+    ∙ ap (signals_by c.args.self.now c.args.port) (sym c.in-Next.is)
+
+pub returns-in_ok-item-in-Next-clause-signalled : goal.returns-in_ok-item-in-Next-clause-signalled
+returns-in_ok-item-in-Next-clause-signalled c = λ rules H stands.
+    returns-in_ok-item-in-Next-clause-offers c ∙ signals-signalled c.args.self.now rules H c.args.port c.args.note.now stands
