@@ -9,10 +9,18 @@ use std::mem::size_of;
 /// A block is charged to the handle that allocated it, with the bytes that were asked for, and its bytes come back when it is
 /// given back. So a text is charged to the heap that it was made over, whoever holds a copy of it. A collection that grows
 /// needs the bytes that it has more; one that is cut to its length gives those back that it has less.
-#[derive(Clone, Drop)]
-pub struct Limited<B: Allocator> {
+#[derive(Clone)]
+pub struct Limited<B: Allocator + Drop> {
     inner: B,
     limit: Limit,
+}
+
+// It stands here, and isn't derived, so that what lets go of a heap is one call that is proved once.
+impl<B: Allocator + Drop> Drop for Limited<B> {
+    #[inline(always)]
+    fn drop(self) {
+        let Limited { inner: _, limit: _ } = self;
+    }
 }
 
 impl Limited<Global> {
@@ -69,7 +77,7 @@ impl Limited<Global> {
 
 // `shrink` is written out, though the trait has one, since the proof of the trait's would be checked anew in each crate above,
 // with all that rests on it.
-unsafe impl<B: Allocator> Allocator for Limited<B> {
+unsafe impl<B: Allocator + Drop> Allocator for Limited<B> {
     ghost dealloc_token = { λ heap ty ptr. B.dealloc_token heap.inner ty ptr };
 
     fn allocate(&self, size: usize, align: usize) -> Result<*mut u8, AllocError> {

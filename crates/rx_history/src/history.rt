@@ -14,9 +14,15 @@ use std::marker::Model;
 ///
 /// It reads what an observer is to be given from the events alone, from the first one on at each call, by rules that are
 /// in this project's limits: no more than 64 observers are held at a time.
-#[derive(Drop)]
 pub struct History {
     entries: Vec<(u32, Event), Heap>,
+}
+
+// It stands here, and isn't derived, so that what lets go of a history is one call that is proved once.
+impl Drop for History {
+    fn drop(self) {
+        let History { entries: _ } = self;
+    }
 }
 
 impl Model for History {

@@ -13,11 +13,21 @@ const NO_PORT: u32 = u32::MAX;
 
 /// What a subject remembers of its past for the observers that join later: its end, the moment in milliseconds at which
 /// the ages of its items are told, and its items. The moment stands still once the subject has ended.
-#[derive(Drop)]
 pub(crate) struct Past {
     pub(crate) end: Option<Note>,
     pub(crate) moment: u64,
     pub(crate) items: Vec<Stamped, Heap>,
+}
+
+// It stands here, and isn't derived, so that what lets go of a past is one call that is proved once.
+impl Drop for Past {
+    fn drop(self) {
+        let Past {
+            end: _,
+            moment: _,
+            items: _,
+        } = self;
+    }
 }
 
 impl Past {

@@ -9,7 +9,6 @@ use rx_note::{Errors, Item, Note, Policy, Strategy};
 
 /// What the events so far mean for one observer: its policy, the items of its line, how many of these were given, how
 /// many items more it is owed, and the end.
-#[derive(Drop)]
 pub(crate) struct Trace {
     pub(crate) strategy: Strategy,
     pub(crate) errors: Errors,
@@ -18,6 +17,20 @@ pub(crate) struct Trace {
     pub(crate) owed: u32,
     pub(crate) end: Option<Note>,
     pub(crate) ghost in_line: { given ≤ vec_len items },
+}
+
+// It stands here, and isn't derived, so that what lets go of a trace is one call that is proved once.
+impl Drop for Trace {
+    fn drop(self) {
+        let Trace {
+            strategy: _,
+            errors: _,
+            items: _,
+            given: _,
+            owed: _,
+            end: _,
+        } = self;
+    }
 }
 
 impl Trace {

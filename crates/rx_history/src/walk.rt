@@ -14,7 +14,6 @@ use rx_note::{Event, Item, Note, Policy, Rules, copy_of};
 
 /// A walk over the events of a subject, from the first one on, for the sake of one observer: the observers that are held,
 /// the past of the subject, and the trace of the observer once it has joined.
-#[derive(Drop)]
 pub(crate) struct Walk {
     pub(crate) who: u32,
     pub(crate) roster: Roster,
@@ -22,8 +21,33 @@ pub(crate) struct Walk {
     pub(crate) trace: Option<Trace>,
 }
 
+// It stands here, and isn't derived, so that what lets go of a walk is one call that is proved once.
+impl Drop for Walk {
+    fn drop(self) {
+        let Walk {
+            who: _,
+            roster: _,
+            past: _,
+            trace: _,
+        } = self;
+    }
+}
+
 impl Walk {
     ghost use Rattle.rx_history.specs.Walks.{Passes};
+
+    // The trace, once the walk is over.
+    fn into_trace(self) -> Option<Trace>
+        ensures { result ≡ self.trace }
+    {
+        let Walk {
+            who: _,
+            roster: _,
+            past: _,
+            trace,
+        } = self;
+        trace
+    }
 
     /// Goes on over one event from a port.
     fn turn(&mut self, heap: &Heap, rules: &Rules, port: u32, event: &Event) -> Result<(), Memory>
@@ -156,11 +180,5 @@ pub(crate) fn trace_of(
     for entry in entries {
         walk.turn(heap, rules, entry.0, &entry.1)?;
     }
-    let Walk {
-        who: _,
-        roster: _,
-        past: _,
-        trace,
-    } = walk;
-    Ok(trace)
+    Ok(walk.into_trace())
 }

@@ -28,13 +28,23 @@ use std::marker::Model;
 
 /// The observers of a subject, by rising number, and the tape that they share. Contracts see the items of the tape and what
 /// waits for each observer.
-#[derive(Drop)]
 pub(crate) struct Audience {
     tape: Tape,
     subscriptions: Vec<Subscription, Heap>,
     // What an observer that joins, or one with a queue of its own by a request, is given, over the memory of the list that
     // it goes to; none before the first. A room that isn't large is kept from step to step.
     notes: Option<Vec<Note, Heap>>,
+}
+
+// It stands here, and isn't derived, so that what lets go of the observers is one call that is proved once.
+impl Drop for Audience {
+    fn drop(self) {
+        let Audience {
+            tape: _,
+            subscriptions: _,
+            notes: _,
+        } = self;
+    }
 }
 
 impl Model for Audience {

@@ -14,7 +14,6 @@ use rx_note::{Answer, Event, Given, Kind, Limits, Note, Policy, Refusal};
 use rx_subject::TapeSubject;
 
 /// A subject and its observers, by rising number.
-#[derive(Drop)]
 pub(crate) struct Multicast {
     pub(crate) limits: Limits,
     pub(crate) subject: TapeSubject,
@@ -26,6 +25,18 @@ pub(crate) struct Multicast {
     ghost within: { length subject.stamps ≤ length audience.items },
     // No more items are on the tape than the most that wait for one observer, or are kept for joiners.
     ghost tight: { length audience.items ≤ max (length subject.stamps) (most_waiting audience.observers) },
+}
+
+// It stands here, and isn't derived, so that what lets go of a subject and its observers is one call that is proved once.
+impl Drop for Multicast {
+    fn drop(self) {
+        let Multicast {
+            limits: _,
+            subject: _,
+            joins: _,
+            audience: _,
+        } = self;
+    }
 }
 
 impl Multicast {

@@ -19,13 +19,25 @@ use std::marker::Model;
 /// Demand is that of the Observable Contract (<https://reactivex.io/documentation/contract.html>), strategies are those of
 /// the Backpressure operators (<https://reactivex.io/documentation/operators/backpressure.html>); rooms, `Latest` and all
 /// refusals are this project's own.
-#[derive(Drop)]
 pub struct Lane {
     errors: Errors,
     queue: Queue,
     last: Option<Note>,
     ended: bool,
     owed: u32,
+}
+
+// It stands here, and isn't derived, so that what lets go of a lane is one call that is proved once.
+impl Drop for Lane {
+    fn drop(self) {
+        let Lane {
+            errors: _,
+            queue: _,
+            last: _,
+            ended: _,
+            owed: _,
+        } = self;
+    }
 }
 
 impl Model for Lane {

@@ -6,12 +6,23 @@ use std::sync::Arc;
 
 /// The block of a long text, which its copies share: the smallest that has room for the bytes, so that about half of it is left
 /// over at most. What is done with one is kept out of line, so that the way of shorter texts stays short.
-#[derive(Drop)]
 pub(crate) enum LongBlock {
     UpTo120(Arc<Block<120>, Heap>),
     UpTo248(Arc<Block<248>, Heap>),
     UpTo504(Arc<Block<504>, Heap>),
     UpTo1024(Arc<Block<1024>, Heap>),
+}
+
+// It stands here, and isn't derived, so that what lets go of a block is one call that is proved once.
+impl Drop for LongBlock {
+    fn drop(self) {
+        match self {
+            LongBlock::UpTo120(_) => {}
+            LongBlock::UpTo248(_) => {}
+            LongBlock::UpTo504(_) => {}
+            LongBlock::UpTo1024(_) => {}
+        }
+    }
 }
 
 impl LongBlock {

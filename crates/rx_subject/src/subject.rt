@@ -44,13 +44,25 @@ impl From<Memory> for AdmitError {
 ///
 /// The kinds are those of the page Subject (<https://reactivex.io/documentation/subject.html>); moments, ages and seeds are
 /// this project's own.
-#[derive(Drop)]
 pub struct Subject {
     kind: Kind,
     window: Window,
     terminal: Option<Note>,
     stamp: u64,
     heap: Heap,
+}
+
+// It stands here, and isn't derived, so that what lets go of a subject is one call that is proved once.
+impl Drop for Subject {
+    fn drop(self) {
+        let Subject {
+            kind: _,
+            window: _,
+            terminal: _,
+            stamp: _,
+            heap: _,
+        } = self;
+    }
 }
 
 impl Model for Subject {

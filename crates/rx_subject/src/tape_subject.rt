@@ -27,7 +27,6 @@ use std::marker::Model;
 ///
 /// The kinds are those of the page Subject (<https://reactivex.io/documentation/subject.html>); moments, ages, seeds and the
 /// tape are this project's own.
-#[derive(Drop)]
 pub struct TapeSubject {
     kind: Kind,
     // Of Async its last item, which does not stand on the tape: no observer waits for it before the completion.
@@ -35,6 +34,19 @@ pub struct TapeSubject {
     stamps: VecDeque<u64, Heap>,
     terminal: Option<Note>,
     stamp: u64,
+}
+
+// It stands here, and isn't derived, so that what lets go of a subject is one call that is proved once.
+impl Drop for TapeSubject {
+    fn drop(self) {
+        let TapeSubject {
+            kind: _,
+            own: _,
+            stamps: _,
+            terminal: _,
+            stamp: _,
+        } = self;
+    }
 }
 
 impl Model for TapeSubject {

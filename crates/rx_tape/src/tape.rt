@@ -11,13 +11,24 @@ use std::marker::Model;
 /// them among all that were pushed, and where the cursors stand.
 ///
 /// That observers share what waits for them is this project's own; no page of ReactiveX asks for it.
-#[derive(Drop)]
 pub struct Tape {
     items: VecDeque<Item, Heap>,
     front: u64,
     places: Places,
     // The cursor that was lowest when this was last looked for. While it stands at the front nothing can be removed.
     slowest: u32,
+}
+
+// It stands here, and isn't derived, so that what lets go of a tape is one call that is proved once.
+impl Drop for Tape {
+    fn drop(self) {
+        let Tape {
+            items: _,
+            front: _,
+            places: _,
+            slowest: _,
+        } = self;
+    }
 }
 
 impl Model for Tape {
