@@ -18,6 +18,15 @@ module _ {B : Type 0} where
       ∙ sym (map-range_with_len_more (λ number. outgoing box number []) 0 made made (omega arith))
       ∙ ap (λ b. map (λ number. outgoing b number []) (range_with_len 0 (made + 1))) (sym same)
 
+  -- the same ports, where their box and their count have other names
+  pub ports_of : (box next : Box B) (made count : ℕ) (ports : List (Outgoing B)) → next ≡ box → made ≡ count
+      → ports ≡ map (λ number. outgoing box number []) (range_with_len 0 made)
+      → ports ≡ map (λ number. outgoing next number []) (range_with_len 0 count)
+  ports_of box next made count ports same all are =
+      are
+      ∙ ap (λ b. map (λ number. outgoing b number []) (range_with_len 0 made)) (sym same)
+      ∙ ap (λ n. map (λ number. outgoing next number []) (range_with_len 0 n)) all
+
   -- new ports are of their box
   pub of_one_box : (box : Box B) (made first : ℕ) → All (λ (port : Outgoing B). port.box ≡ box) (map (λ number. outgoing box number []) (range_with_len first made))
   of_one_box box made first = All-map (λ (port : Outgoing B). port.box ≡ box) (λ number. outgoing box number []) (range_with_len first made) (λ k d within. refl)

@@ -13,6 +13,7 @@ mod channel;
 mod ended_port;
 mod inbox;
 mod letter;
+mod new_box;
 mod opening;
 mod port;
 mod rule;

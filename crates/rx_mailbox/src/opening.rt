@@ -1,19 +1,12 @@
-ghost use Rattle.std.specs.Prelude.{◌≡◌, ◌+◌, ◌↔◌, [], Err, map, IsTrue, IfOk, OnOk};
+ghost use Rattle.std.specs.Prelude.{◌≡◌, ◌↔◌, [], Err, map, IsTrue, IfOk};
 ghost use Rattle.std.specs.List.{range_with_len};
-ghost use Rattle.crossbeam_channel.specs.Claims.{view, IsSeatAt};
-ghost use Rattle.crossbeam_channel.specs.Ends.{sends_on};
 ghost use Rattle.rx_mailbox.specs.declared.opening.OpenError.TheVariants.{BadSize};
-ghost use Rattle.rx_mailbox.specs.declared.rule.View.TheVariants.{Receives};
 ghost use Rattle.rx_mailbox.specs.Boxes.{capacity_of, incoming, outgoing, AreOf};
 ghost use Rattle.rx_mailbox.specs.Sizes.{IsSize};
-ghost use Rattle.rx_mailbox.specs.Passes.{box_of};
 
-use crate::channel::{BoxPass, BoxSender};
 use crate::inbox::Inbox;
-use crate::letter::Letter;
+use crate::new_box::NewBox;
 use crate::port::Port;
-use crate::rule::{MailboxRule, SplitPort, View};
-use crossbeam_channel::bounded_with;
 use rx_heap::{Heap, Memory};
 use std::error::Error;
 use std::fmt;
@@ -84,41 +77,10 @@ fn make<B: Drop>(
     ensures parts { IfOk result (λ made. AreOf made.0 made.1.items) }
     ensures capacity { IfOk result (λ made. capacity_of made.0.box ≡ capacity) }
 {
-    let byes = vec![in alloc.clone()?; false; senders as usize]?;
     let mut ports = Vec::with_capacity(alloc.clone()?, senders as usize)?;
-    let (sender, receiver, mut pass) = bounded_with::<Letter<B>, View<B>, MailboxRule, Heap>(
-        alloc, capacity,
-    )?;
+    let mut new = NewBox::new(alloc, capacity, senders)?;
     for number in 0..senders {
-        let port = make_port(&sender, &mut pass, number)?;
-        ports.push(port)?;
+        ports.push(new.port(number)?)?;
     }
-    let inbox = Inbox {
-        receiver,
-        pass,
-        byes,
-        letters: 0,
-    };
-    Ok((inbox, ports))
-}
-
-// Makes the port with the next number.
-fn make_port<B: Drop>(
-    sender: &BoxSender<B>,
-    pass: &mut BoxPass<B>,
-    number: u32,
-) -> Result<Port<B>, Memory>
-    requires pass { IsSeatAt (sends_on sender.now) pass.old }
-    requires made { view pass.old ≡ Receives number [] [] }
-    ensures pass { IsSeatAt (sends_on sender.now) pass.new }
-    ensures made { OnOk result (view pass.new ≡ Receives (number + 1) [] []) }
-    ensures port { IfOk result (λ port. port ≡ outgoing (box_of pass.old) number []) }
-{
-    let sender = sender.try_clone()?;
-    let own = sender.another::<SplitPort>(pass);
-    Ok(Port {
-        number,
-        sender,
-        pass: own,
-    })
+    Ok((new.into_inbox(), ports))
 }

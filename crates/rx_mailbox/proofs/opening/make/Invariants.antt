@@ -1,16 +1,16 @@
 use Rattle.std.proofs.Common.{◌≡◌, [], map}
 use Rattle.std.specs.List.{range_with_len}
-use Rattle.crossbeam_channel.specs.Claims.{view, IsSeatAt}
-use Rattle.crossbeam_channel.specs.Ends.{sends_on}
+use Rattle.crossbeam_channel.specs.Claims.{view}
 use Rattle.rx_mailbox.specs.declared.rule.View.TheVariants.{Receives}
-use Rattle.rx_mailbox.specs.Boxes.{outgoing}
-use Rattle.rx_mailbox.specs.Passes.{box_of}
+use Rattle.rx_mailbox.specs.Boxes.{capacity_of, outgoing}
+use Rattle.rx_mailbox.specs.Passes.{box_of, IsTally}
 use Rattle.rx_mailbox.proofs.opening.make.Given as goal
 
 -- the ports so far are numbered from 0, each of them new
 abbrev pub invariant-loop-number : goal.invariant-loop-number
 invariant-loop-number g l = record {
-  pass : IsSeatAt (sends_on l.sender) l.pass;
-  made : view l.pass ≡ Receives l.number [] [];
-  ports : l.ports.items ≡ map (λ number. outgoing (box_of l.pass) number []) (range_with_len 0 l.number);
+  view : view l.new.pass ≡ Receives l.number [] [];
+  tally : IsTally {B = g.row.B.Denot} l.new.byes.items 0 (Receives l.senders [] []);
+  capacity : capacity_of (box_of l.new.pass) ≡ l.capacity;
+  ports : l.ports.items ≡ map (λ number. outgoing (box_of l.new.pass) number []) (range_with_len 0 l.number);
 }

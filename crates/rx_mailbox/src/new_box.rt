@@ -1,0 +1,95 @@
+ghost use Rattle.std.specs.Prelude.{◌≡◌, ◌+◌, [], IfOk, OnOk};
+ghost use Rattle.crossbeam_channel.specs.Claims.{view, IsSeatAt};
+ghost use Rattle.crossbeam_channel.specs.Ends.{sends_on, receives_on};
+ghost use Rattle.rx_mailbox.specs.declared.rule.View.TheVariants.{Receives};
+ghost use Rattle.rx_mailbox.specs.Boxes.{capacity_of, outgoing};
+ghost use Rattle.rx_mailbox.specs.Passes.{box_of, inbox_of, IsReader, IsTally};
+ghost use Rattle.rx_mailbox.specs.Sizes.{IsSize};
+
+use crate::channel::{BoxPass, BoxReceiver, BoxSender};
+use crate::inbox::Inbox;
+use crate::letter::Letter;
+use crate::port::Port;
+use crate::rule::{MailboxRule, SplitPort, View};
+use crossbeam_channel::bounded_with;
+use rx_heap::{Heap, Memory};
+
+/// A box whose ports are being made: both ends of its channel, and the pass that those of the ports are split from.
+pub(crate) struct NewBox<B: Drop> {
+    sender: BoxSender<B>,
+    receiver: BoxReceiver<B>,
+    pass: BoxPass<B>,
+    byes: Vec<bool, Heap>,
+    ghost sends: { IsSeatAt (sends_on sender) pass },
+    ghost receives: { IsSeatAt (receives_on receiver) pass },
+}
+
+// It stands here, and isn't derived, so that what lets go of a new box is one call that is proved once.
+impl<B: Drop> Drop for NewBox<B> {
+    fn drop(self) {
+        let NewBox {
+            sender: _,
+            receiver: _,
+            pass: _,
+            byes: _,
+        } = self;
+    }
+}
+
+impl<B: Drop> NewBox<B> {
+    /// A box of a size that is allowed, with no port yet.
+    pub(crate) fn new(alloc: Heap, capacity: usize, senders: u32) -> Result<NewBox<B>, Memory>
+        requires { IsSize capacity senders }
+        ensures view { IfOk result (λ new. view new.pass ≡ Receives 0 [] []) }
+        ensures tally { IfOk result (λ new. IsTally {B = B} new.byes.items 0 (Receives senders [] [])) }
+        ensures capacity { IfOk result (λ new. capacity_of (box_of new.pass) ≡ capacity) }
+    {
+        let byes = vec![in alloc.clone()?; false; senders as usize]?;
+        let (sender, receiver, pass) = bounded_with::<Letter<B>, View<B>, MailboxRule, Heap>(
+            alloc, capacity,
+        )?;
+        Ok(NewBox {
+            sender,
+            receiver,
+            pass,
+            byes,
+        })
+    }
+
+    /// The port with the next number.
+    pub(crate) fn port(&mut self, number: u32) -> Result<Port<B>, Memory>
+        requires { view self.old.pass ≡ Receives number [] [] }
+        ensures view { OnOk result (view self.new.pass ≡ Receives (number + 1) [] []) }
+        ensures same_box { box_of self.new.pass ≡ box_of self.old.pass }
+        ensures byes { self.new.byes.items ≡ self.old.byes.items }
+        ensures port { IfOk result (λ port. port ≡ outgoing (box_of self.old.pass) number []) }
+    {
+        let sender = self.sender.try_clone()?;
+        let own = sender.another::<SplitPort>(&mut self.pass);
+        Ok(Port {
+            number,
+            sender,
+            pass: own,
+        })
+    }
+
+    /// Its inbox, once each port is made.
+    pub(crate) fn into_inbox(self) -> Inbox<B>
+        requires reader { IsReader (view self.pass) }
+        requires tally { IsTally self.byes.items 0 (view self.pass) }
+        ensures { result ≡ inbox_of self.pass }
+    {
+        let NewBox {
+            sender: _,
+            receiver,
+            pass,
+            byes,
+        } = self;
+        Inbox {
+            receiver,
+            pass,
+            byes,
+            letters: 0,
+        }
+    }
+}
