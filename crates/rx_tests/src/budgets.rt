@@ -20,11 +20,21 @@ const MAX_ITEMS: u32 = 1_000;
 
 /// A hub with one observer that grows by a budget, and what it gave. The budget bears what waits; the items that are
 /// emitted and the list of what is given are made by `free`.
-#[derive(Drop)]
 struct Waiting {
     free: Heap,
     hub: Hub,
     outs: Vec<Given, Heap>,
+}
+
+// It stands here, and isn't derived, so that what lets go of it is one call that is proved once.
+impl Drop for Waiting {
+    fn drop(self) {
+        let Waiting {
+            free: _,
+            hub: _,
+            outs: _,
+        } = self;
+    }
 }
 
 impl Waiting {

@@ -20,11 +20,21 @@ pub(crate) fn unlimited(rt: &HostRuntime) -> Heap {
 }
 
 /// A handle that is tried, the blocks that were taken by it, and what is told.
-#[derive(Drop)]
 struct Tried {
     heap: Heap,
     blocks: Vec<Vec<u8, Heap>>,
     told: Told,
+}
+
+// It stands here, and isn't derived, so that what lets go of it is one call that is proved once.
+impl Drop for Tried {
+    fn drop(self) {
+        let Tried {
+            heap: _,
+            blocks: _,
+            told: _,
+        } = self;
+    }
 }
 
 impl Tried {

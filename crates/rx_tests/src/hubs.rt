@@ -119,19 +119,38 @@ fn drawn_rules(heap: &Heap, named: Named) -> Result<Rules, Fail>
 }
 
 /// A history, and the rules that it is read by.
-#[derive(Drop)]
 pub(crate) struct Reading {
     pub(crate) history: History,
     pub(crate) rules: Rules,
     pub(crate) ghost limited: { rules.limits.observers ≤ 64 },
 }
 
+// It stands here, and isn't derived, so that what lets go of a reading is one call that is proved once.
+impl Drop for Reading {
+    fn drop(self) {
+        let Reading {
+            history: _,
+            rules: _,
+        } = self;
+    }
+}
+
 /// A run of some events, the hub behind it, and the history of the same events.
-#[derive(Drop)]
 pub(crate) struct Ran {
     pub(crate) reading: Reading,
     pub(crate) run: Run,
     pub(crate) hub: Hub,
+}
+
+// It stands here, and isn't derived, so that what lets go of a run is one call that is proved once.
+impl Drop for Ran {
+    fn drop(self) {
+        let Ran {
+            reading: _,
+            run: _,
+            hub: _,
+        } = self;
+    }
 }
 
 fn history_of(heap: &Heap, plan: Plan) -> Result<History, Fail> {

@@ -91,10 +91,16 @@ fn put_given(cell: &mut Told, outs: &[Given], who: u32) {
 }
 
 /// The events of a picture and their run.
-#[derive(Drop)]
 struct Drawing {
     events: Vec<(u32, Event), Heap>,
     run: Run,
+}
+
+// It stands here, and isn't derived, so that what lets go of a drawing is one call that is proved once.
+impl Drop for Drawing {
+    fn drop(self) {
+        let Drawing { events: _, run: _ } = self;
+    }
 }
 
 fn events_of(heap: &Heap, picture: &Picture) -> Result<Vec<(u32, Event), Heap>, Fail> {

@@ -6,10 +6,19 @@ use rx_history::{History, LineError};
 use rx_server::SubjectConfig;
 
 /// A subject of an audit, and its stored history.
-#[derive(Drop)]
 pub struct Ledger {
     pub subject: SubjectConfig,
     pub history: History,
+}
+
+// It stands here, and isn't derived, so that what lets go of a ledger is one call that is proved once.
+impl Drop for Ledger {
+    fn drop(self) {
+        let Ledger {
+            subject: _,
+            history: _,
+        } = self;
+    }
 }
 
 impl Ledger {

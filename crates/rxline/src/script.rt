@@ -49,7 +49,6 @@ pub fn run_script<R: Read, W: Write>(
 }
 
 /// The run of a script: its topics, the moment of the events that follow, in milliseconds, and what is to be written.
-#[derive(Drop)]
 pub(crate) struct Script {
     topics: Vec<Topic, Heap>,
     moment: u64,
@@ -58,6 +57,19 @@ pub(crate) struct Script {
     // A text that was let go, in whose block the next one may stand.
     spare: Option<Text>,
     ghost nothing_left: { outs.items ≡ [] },
+}
+
+// It stands here, and isn't derived, so that what lets go of a script is one call that is proved once.
+impl Drop for Script {
+    fn drop(self) {
+        let Script {
+            topics: _,
+            moment: _,
+            outs: _,
+            outbox: _,
+            spare: _,
+        } = self;
+    }
 }
 
 impl Script {
