@@ -1,5 +1,5 @@
 // How a server is closed: its desks and leave ports end, and its threads are joined.
-ghost use Rattle.std.specs.Prelude.{◌≡◌, ◌+◌, ◌<◌, ◌≤◌, [], ◌++◌, length, map, vec_len, vec_capacity, MatchResult};
+ghost use Rattle.std.specs.Prelude.{◌≡◌, ◌+◌, ◌<◌, ◌≤◌, [], length, map, vec_len, vec_capacity, MatchResult};
 ghost use Rattle.std.specs.List.{AllZip, sum_by};
 ghost use Rattle.std.specs.Vec.Iter.{into_iter_items};
 ghost use Rattle.rx_pump.specs.Pumps.{counted};
@@ -10,7 +10,6 @@ ghost use Rattle.rx_server.specs.Servers.{IsOf, report_of};
 
 use crate::close_fault::CloseFault;
 use crate::report::{Report, SubjectReport};
-use crate::rooms::Rooms;
 use crate::running_pump::RunningPump;
 use crate::server::Server;
 use crate::start_fault::Role;
@@ -35,39 +34,16 @@ impl<S: Sink> Server<S> {
     ) -> Result<Report<S::Rest>, CloseFault>
         ensures { MatchResult result (Closes S.acts self) (NamesOne self) }
     {
-        let Server {
-            pumps,
-            drainers,
-            mut leaves,
-            mut desks,
-            rooms,
-            heap: _,
-            config: _,
-            kept,
-        } = self;
-        let Rooms {
-            desks: mut unused,
-            leaves: mut left,
-            pumps: pump_ends,
-            drainers: drain_ends,
-            subjects,
-            put_away,
-        } = rooms;
-        finish_desks(rt, &mut desks, &mut unused);
-        let _ = finish_all(rt, &mut leaves, &mut left);
-        let pump_ends = join_pumps(rt, pumps, pump_ends);
-        let drain_ends = join_drainers(rt, drainers, drain_ends);
+        let (running, mut leaves, mut desks, mut rooms) = self.into_parts();
+        finish_desks(rt, &mut desks, &mut rooms.desks);
+        let _ = finish_all(rt, &mut leaves, &mut rooms.leaves);
+        let joined = running.join(rt, &mut rooms);
         // Until then replies may have been on their way to them.
         drop(ended);
-        drop(kept);
-        drop(unused);
-        let pump_ends = pump_ends?;
-        let (taken, put_away) = list_rests(drain_ends?, put_away);
-        Ok(Report {
-            subjects: report_subjects(&pump_ends, subjects),
-            taken,
-            put_away,
-        })
+        match joined {
+            Ok(()) => Ok(rooms.into_report()),
+            Err(fault) => Err(fault),
+        }
     }
 }
 
@@ -79,6 +55,7 @@ pub(crate) fn finish_desks<S: Drop, R: Wait>(
     ended: &mut Vec<EndedDesk<S>, Heap>,
 )
     requires { vec_len ended.old + length (into_iter_items desks.old) ≤ vec_capacity ended.old }
+    ensures { vec_len ended.new ≤ vec_capacity ended.new }
 {
     while let Some(desk) = desks.next() {
         if let Ok(desk) = desk.finish(rt) {
@@ -87,48 +64,46 @@ pub(crate) fn finish_desks<S: Drop, R: Wait>(
     }
 }
 
-// Waits until each pump has ended, and puts what they left behind what is in `ends`.
-fn join_pumps<S: Sink, R: Threads>(
+// Waits until each pump has ended, and puts what they left into `ends`.
+pub(crate) fn join_pumps<S: Sink, R: Threads>(
     rt: &R,
     pumps: Vec<RunningPump<S>, Heap>,
-    ends: Vec<PumpEnd<S>, Heap>,
-) -> Result<Vec<PumpEnd<S>, Heap>, CloseFault>
-    requires empty { ends.items ≡ [] }
-    requires room { vec_len pumps ≤ vec_capacity ends }
+    ends: &mut Vec<PumpEnd<S>, Heap>,
+) -> Result<(), CloseFault>
+    requires empty { ends.old.items ≡ [] }
+    requires room { vec_len pumps ≤ vec_capacity ends.old }
     ensures { MatchResult result
-        (λ ends. AllZip pump_serving.HasServed pumps.items ends.items)
+        (λ _. AllZip pump_serving.HasServed pumps.items ends.new.items)
         (IsOf Role.Pump (length pumps.items)) }
 {
-    let mut ends = ends;
     let mut fault = None;
     for running in pumps {
-        keep(Role::Pump, running.join(rt), &mut ends, &mut fault);
+        keep(Role::Pump, running.join(rt), ends, &mut fault);
     }
     match fault {
-        None => Ok(ends),
+        None => Ok(()),
         Some(fault) => Err(fault),
     }
 }
 
 // Waits until each drainer has ended, and puts what they left into `ends`.
-fn join_drainers<S: Sink, R: Threads>(
+pub(crate) fn join_drainers<S: Sink, R: Threads>(
     rt: &R,
     drainers: Vec<RunningDrainer<S>, Heap>,
-    ends: Vec<DrainEnd<S>, Heap>,
-) -> Result<Vec<DrainEnd<S>, Heap>, CloseFault>
-    requires empty { ends.items ≡ [] }
-    requires room { vec_len drainers ≤ vec_capacity ends }
+    ends: &mut Vec<DrainEnd<S>, Heap>,
+) -> Result<(), CloseFault>
+    requires empty { ends.old.items ≡ [] }
+    requires room { vec_len drainers ≤ vec_capacity ends.old }
     ensures { MatchResult result
-        (λ ends. AllZip (λ drainer end. drainer_serving.HasServed S.acts drainer.handle.promise.0.value end) drainers.items ends.items)
+        (λ _. AllZip (λ drainer end. drainer_serving.HasServed S.acts drainer.handle.promise.0.value end) drainers.items ends.new.items)
         (IsOf Role.Drainer (length drainers.items)) }
 {
-    let mut ends = ends;
     let mut fault = None;
     for running in drainers {
-        keep(Role::Drainer, running.join(rt), &mut ends, &mut fault);
+        keep(Role::Drainer, running.join(rt), ends, &mut fault);
     }
     match fault {
-        None => Ok(ends),
+        None => Ok(()),
         Some(fault) => Err(fault),
     }
 }
@@ -155,7 +130,7 @@ fn keep<E: Drop, F: Drop>(
 }
 
 // What is reported of the pumps, put into `list`.
-fn report_subjects<S: Sink>(
+pub(crate) fn report_subjects<S: Sink>(
     ends: &Vec<PumpEnd<S>, Heap>,
     list: Vec<SubjectReport, Heap>,
 ) -> Vec<SubjectReport, Heap>
@@ -182,7 +157,7 @@ fn report_of<S: Sink>(end: &PumpEnd<S>) -> SubjectReport
 }
 
 // How many notes the sinks of the drainers took, and what they left, put into `lists`.
-fn list_rests<S: Sink>(
+pub(crate) fn list_rests<S: Sink>(
     ends: Vec<DrainEnd<S>, Heap>,
     lists: Vec<Vec<PutAway<S::Rest>, Heap>, Heap>,
 ) -> (u64, Vec<Vec<PutAway<S::Rest>, Heap>, Heap>)

@@ -45,13 +45,9 @@ impl<W: Write + Drop + Send + 'static> Server<LineSink<W>> {
         let Ok(mut desks) = room(&self.heap, count) else {
             return Err(ServeFault::Memory);
         };
-        let Ok(mut kept) = room(&self.heap, count) else {
-            return Err(ServeFault::Memory);
-        };
         take_all(&mut self.desks, &mut desks);
         let served = serve_connections(rt, &self.heap, &self.config, listener, moments, &mut desks);
-        finish_desks(rt, &mut desks.into_iter(), &mut kept);
-        self.kept = kept;
+        finish_desks(rt, &mut desks.into_iter(), &mut self.rooms.desks);
         served
     }
 }

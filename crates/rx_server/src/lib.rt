@@ -28,6 +28,7 @@ mod reading;
 mod report;
 mod responding;
 mod rooms;
+mod running;
 mod running_pump;
 mod running_worker;
 mod serve_fault;

@@ -1,18 +1,18 @@
-ghost use Rattle.std.specs.Prelude.{◌≡◌, ◌+◌, ◌<◌, [], List, IfOk, IfSome, MatchOption, length, map};
+ghost use Rattle.std.specs.Prelude.{◌≡◌, ◌+◌, ◌<◌, [], List, IfOk, IfSome, MatchOption, length, map, vec_len};
 ghost use Rattle.std.specs.Arc.{arc_value};
+ghost use Rattle.std.specs.Vec.Iter.{into_iter_items};
 ghost use Rattle.rx_hub.specs.Hubs.{HubView};
 ghost use Rattle.rx_server.specs.Wirings.{Wiring};
 ghost use Rattle.rx_server.specs.Servers.{IsServerOf};
 
 use crate::config::Config;
 use crate::rooms::Rooms;
-use crate::running_pump::{RunningPump, start_pump};
+use crate::running::Running;
 use crate::start_fault::{Role, StartFault};
-use crate::wiring::{Wired, wire};
-use rx_drain::{Drainer, RunningDrainer, start_drainer};
+use crate::wiring::wire;
 use rx_heap::{Heap, Memory};
 use rx_mailbox::Port;
-use rx_pump::{CallDesk, EndedDesk, Out, Pump, room};
+use rx_pump::{CallDesk, Out};
 use rx_sink::Sink;
 use std::marker::Model;
 use std::sync::{Arc, Wait};
@@ -21,19 +21,29 @@ use std::vec::IntoIter;
 
 /// Subjects and drainers that run, each in a thread of its own, and the desks that were not handed out. One that is let go
 /// without `close` leaves its threads without the ports of the desks, and does not wait for them.
-#[derive(Drop)]
 pub struct Server<S: Sink> {
-    pub(crate) pumps: Vec<RunningPump<S>, Heap>,
-    pub(crate) drainers: Vec<RunningDrainer<S>, Heap>,
+    running: Running<S>,
     // The ports by which the drainers are told to leave.
-    pub(crate) leaves: Vec<Port<Out<S>>, Heap>,
+    leaves: Vec<Port<Out<S>>, Heap>,
     pub(crate) desks: IntoIter<CallDesk<S>, Heap>,
     pub(crate) rooms: Rooms<S>,
     // What its workers are made of.
     pub(crate) heap: Heap,
     pub(crate) config: Arc<Config, Heap>,
-    // The desks of workers that have ended.
-    pub(crate) kept: Vec<EndedDesk<S>, Heap>,
+}
+
+// It stands here, and isn't derived, so that what lets go of a server is one call that is proved once.
+impl<S: Sink> Drop for Server<S> {
+    fn drop(self) {
+        let Server {
+            running: _,
+            leaves: _,
+            desks: _,
+            rooms: _,
+            heap: _,
+            config: _,
+        } = self;
+    }
 }
 
 impl<S: Sink> Model for Server<S> {
@@ -47,14 +57,15 @@ impl<S: Sink> Model for Server<S> {
 
     ghost Value = { ServerView S S.Rest };
 
-    ghost view = { λ s. record { config = arc_value s.config; pumps = s.pumps.items; drainers = map (λ drainer. drainer.handle.promise.0.value) s.drainers.items; leaves = s.leaves.items; desks = into_iter_items s.desks } };
+    ghost view = { λ s. record { config = arc_value s.config; pumps = s.running.pumps.items; drainers = map (λ drainer. drainer.handle.promise.0.value) s.running.drainers.items; leaves = s.leaves.items; desks = into_iter_items s.desks } };
 
-    ghost invariant = { λ s. AreRooms (vec_len s.pumps) (vec_len s.drainers) (length (into_iter_items s.desks)) s.rooms × (vec_len s.leaves ≡ vec_len s.drainers)
+    ghost invariant = { λ s. AreRooms (vec_len s.running.pumps) (vec_len s.running.drainers) (length (into_iter_items s.desks)) s.rooms × (vec_len s.leaves ≡ vec_len s.running.drainers)
         × All (IsFor (arc_value s.config)) (into_iter_items s.desks) × (0 < vec_len (arc_value s.config).subjects) };
 }
 
 impl<S: Sink> Server<S> {
     ghost use Rattle.rx_server.specs.Crews.{IsFor};
+    ghost use Rattle.rx_server.specs.Rooms.{AreRooms};
     ghost use Rattle.rx_server.specs.Servers.{with_desk};
 
     /// The next desk, in their order, each once, or None where all were handed out. It has a port for each subject, of which
@@ -65,6 +76,32 @@ impl<S: Sink> Server<S> {
         ensures some { IfSome result (λ desk. 0 < length desk.ports + length desk.ended) }
     {
         self.desks.next()
+    }
+
+    // What runs, the ports by which the drainers are told to leave, the desks that were not handed out, and room for what all
+    // these leave.
+    pub(crate) fn into_parts(
+        self,
+    ) -> (
+        Running<S>,
+        Vec<Port<Out<S>>, Heap>,
+        IntoIter<CallDesk<S>, Heap>,
+        Rooms<S>,
+    )
+        ensures pumps { result.0.pumps.items ≡ self.pumps }
+        ensures drainers { map (λ drainer. drainer.handle.promise.0.value) result.0.drainers.items ≡ self.drainers }
+        ensures leaves { vec_len result.1 ≡ vec_len result.0.drainers }
+        ensures rooms { AreRooms (vec_len result.0.pumps) (vec_len result.0.drainers) (length (into_iter_items result.2)) result.3 }
+    {
+        let Server {
+            running,
+            leaves,
+            desks,
+            rooms,
+            heap: _,
+            config: _,
+        } = self;
+        (running, leaves, desks, rooms)
     }
 }
 
@@ -79,29 +116,22 @@ where
     S::Rest: Send + 'static,
     ensures { IfOk result (λ server. (w : Wiring S) × (hubs : List HubView) × IsServerOf config w hubs server) }
 {
-    let Wired {
-        pumps,
-        drainers,
-        leaves,
-        desks,
-    } = wire(&alloc, &config)?;
-    let Ok(rooms) = Rooms::new(&alloc, pumps.len(), drainers.len(), desks.len()) else {
+    let mut wired = wire(&alloc, &config)?;
+    let Ok(rooms) = wired.rooms(&alloc) else {
         return Err(StartFault::memory(Role::Pump, 0));
     };
     let Ok((heap, config)) = shared(&alloc, config) else {
         return Err(StartFault::memory(Role::Worker, 0));
     };
-    let pumps = start_pumps(rt, &alloc, pumps)?;
-    let drainers = start_drainers(rt, &alloc, drainers)?;
+    let running = wired.run(rt, &alloc)?;
+    let (leaves, desks) = wired.into_ends();
     Ok(Server {
-        pumps,
-        drainers,
+        running,
         leaves,
-        desks: desks.into_iter(),
+        desks,
         rooms,
         heap,
         config,
-        kept: Vec::new(alloc),
     })
 }
 
@@ -111,50 +141,4 @@ fn shared(alloc: &Heap, config: Config) -> Result<(Heap, Arc<Config, Heap>), Mem
 {
     let shared = Arc::new(alloc.clone()?, config)?;
     Ok((alloc.clone()?, shared))
-}
-
-// Starts each pump in a thread of its own.
-fn start_pumps<S: Drop + Send + 'static, R: Threads + Wait + Clone + Drop + Send + 'static>(
-    rt: &R,
-    alloc: &Heap,
-    pumps: Vec<Pump<S>, Heap>,
-) -> Result<Vec<RunningPump<S>, Heap>, StartFault>
-    ensures { IfOk result (λ running. running.items ≡ pumps.items) }
-{
-    let Ok(mut running) = room(alloc, pumps.len()) else {
-        return Err(StartFault::memory(Role::Pump, 0));
-    };
-    for pump in pumps {
-        let Ok(one) = start_pump(rt, pump) else {
-            return Err(StartFault::no_thread(Role::Pump, running.len()));
-        };
-        let Ok(()) = running.push(one) else {
-            return Err(StartFault::memory(Role::Pump, running.len()));
-        };
-    }
-    Ok(running)
-}
-
-// Starts each drainer in a thread of its own.
-fn start_drainers<S: Sink + Send + 'static, R: Threads + Wait + Clone + Drop + Send + 'static>(
-    rt: &R,
-    alloc: &Heap,
-    drainers: Vec<Drainer<S>, Heap>,
-) -> Result<Vec<RunningDrainer<S>, Heap>, StartFault>
-where
-    S::Rest: Send + 'static,
-    ensures { IfOk result (λ running. map (λ drainer. drainer.handle.promise.0.value) running.items ≡ drainers.items) }
-{
-    let Ok(mut running) = room(alloc, drainers.len()) else {
-        return Err(StartFault::memory(Role::Drainer, 0));
-    };
-    for drainer in drainers {
-        let Ok(one) = start_drainer(rt, drainer) else {
-            return Err(StartFault::no_thread(Role::Drainer, running.len()));
-        };
-        let Ok(()) = running.push(one) else {
-            return Err(StartFault::memory(Role::Drainer, running.len()));
-        };
-    }
-    Ok(running)
 }

@@ -1,5 +1,6 @@
 // All parts of a server, joined by new boxes.
-ghost use Rattle.std.specs.Prelude.{◌≡◌, ◌≤◌, ◌*◌, ◌+◌, max, length, List, IfOk, OnOk, map};
+ghost use Rattle.std.specs.Prelude.{◌≡◌, ◌≤◌, List, IfOk, OnOk, map, vec_len};
+ghost use Rattle.std.specs.Vec.Iter.{into_iter_items};
 ghost use Rattle.rx_hub.specs.Hubs.{HubView};
 ghost use Rattle.rx_server.specs.OpenBoxes.{AreOpenFor, IsEmptyFor};
 ghost use Rattle.rx_server.specs.Wirings.{IsWired, Wiring, drainer_capacity, most_observers};
@@ -8,6 +9,8 @@ use crate::config::Config;
 use crate::making::{make_desks, make_drainers, make_hubs, make_pumps};
 use crate::opened::{Opened, open_all};
 use crate::port_row::put_ports;
+use crate::rooms::Rooms;
+use crate::running::{Running, start_drainers, start_pumps};
 use crate::start_fault::{Role, StartFault};
 use crate::subject_config::SubjectConfig;
 use rx_drain::Drainer;
@@ -15,12 +18,14 @@ use rx_heap::{Heap, Memory};
 use rx_mailbox::Port;
 use rx_pump::{Call, CallDesk, Out, Pump, Reply, room};
 use rx_sink::Sink;
+use std::sync::Wait;
+use std::thread::Threads;
+use std::vec::IntoIter;
 
 // How many letters the box of a subject holds.
 const SUBJECT_CAPACITY: usize = 64;
 
 // The parts of a server before a thread runs.
-#[derive(Drop)]
 pub(crate) struct Wired<S: Sink> {
     pub(crate) pumps: Vec<Pump<S>, Heap>,
     pub(crate) drainers: Vec<Drainer<S>, Heap>,
@@ -28,16 +33,39 @@ pub(crate) struct Wired<S: Sink> {
     pub(crate) desks: Vec<CallDesk<S>, Heap>,
 }
 
+// It stands here, and isn't derived, so that what lets go of the parts of a server is one call that is proved once.
+impl<S: Sink> Drop for Wired<S> {
+    fn drop(self) {
+        let Wired {
+            pumps: _,
+            drainers: _,
+            leaves: _,
+            desks: _,
+        } = self;
+    }
+}
+
 // The boxes of a server, with all their ports.
-#[derive(Drop)]
 struct Boxes<S: Drop> {
     subjects: Opened<Call<S>>,
     drainers: Opened<Out<S>>,
     replies: Opened<Reply<S>>,
 }
 
+// It stands here, and isn't derived, so that what lets go of the boxes of a server is one call that is proved once.
+impl<S: Drop> Drop for Boxes<S> {
+    fn drop(self) {
+        let Boxes {
+            subjects: _,
+            drainers: _,
+            replies: _,
+        } = self;
+    }
+}
+
 impl<S: Sink> Wired<S> {
     ghost use Rattle.rx_server.specs.OpenBoxes.{IsEmptyFor};
+    ghost use Rattle.rx_server.specs.Rooms.{AreRooms};
 
     // No part yet, and room for all that a configuration asks for.
     fn room(alloc: &Heap, config: &Config) -> Result<Wired<S>, Memory>
@@ -52,6 +80,53 @@ impl<S: Sink> Wired<S> {
             leaves: room(alloc, drainers)?,
             desks: room(alloc, workers)?,
         })
+    }
+
+    // Room for what they leave.
+    pub(crate) fn rooms(&self, alloc: &Heap) -> Result<Rooms<S>, Memory>
+        ensures { IfOk result (AreRooms (vec_len self.now.pumps) (vec_len self.now.drainers) (vec_len self.now.desks)) }
+    {
+        Rooms::new(
+            alloc,
+            self.pumps.len(),
+            self.drainers.len(),
+            self.desks.len(),
+        )
+    }
+
+    // The leave ports and the desks.
+    pub(crate) fn into_ends(self) -> (Vec<Port<Out<S>>, Heap>, IntoIter<CallDesk<S>, Heap>)
+        ensures leaves { result.0.items ≡ self.leaves.items }
+        ensures desks { into_iter_items result.1 ≡ self.desks.items }
+    {
+        let Wired {
+            pumps: _,
+            drainers: _,
+            leaves,
+            desks,
+        } = self;
+        (leaves, desks.into_iter())
+    }
+}
+
+impl<S: Sink + Send + 'static> Wired<S>
+where
+    S::Rest: Send + 'static,
+{
+    // Starts the pumps and the drainers, each in a thread of its own.
+    pub(crate) fn run<R: Threads + Wait + Clone + Drop + Send + 'static>(
+        &mut self,
+        rt: &R,
+        alloc: &Heap,
+    ) -> Result<Running<S>, StartFault>
+        ensures pumps { IfOk result (λ running. running.pumps.items ≡ self.old.pumps.items) }
+        ensures drainers { IfOk result (λ running. map (λ drainer. drainer.handle.promise.0.value) running.drainers.items ≡ self.old.drainers.items) }
+        ensures others { (self.new.leaves ≡ self.old.leaves) × (self.new.desks ≡ self.old.desks) }
+    {
+        let mut running = Running::new(alloc, self.pumps.len(), self.drainers.len())?;
+        start_pumps(rt, &mut self.pumps, &mut running.pumps)?;
+        start_drainers(rt, &mut self.drainers, &mut running.drainers)?;
+        Ok(running)
     }
 }
 

@@ -1,3 +1,4 @@
+use Rattle.std.proofs.Common.{ap, length, arith}
 use Rattle.rx_server.proofs.rooms.Rooms.new.Goals as goal
 
 pub returns : goal.returns
@@ -9,13 +10,12 @@ returns g c =
     let subjects = c.in_ok-room-5.ensures in
     let put_away = c.in_ok-room-6.ensures in
     record {
-      no_desks = desks.items;
       no_leaves = leaves.items;
       no_pumps = pumps.items;
       no_drainers = drainers.items;
       no_subjects = subjects.items;
       none_put_away = put_away.items;
-      desks_fit = desks.capacity;
+      desks_fit = omega (arith, desks.capacity, ap length desks.items, c.in_ok-room.field-0.ok);
       leaves_fit = leaves.capacity;
       pumps_fit = pumps.capacity;
       drainers_fit = drainers.capacity;

@@ -18,7 +18,6 @@ invariant_of-self g c =
     let count = ap length c.next.ensures.items in
     let joined = length-append (option_to_list c.next.result) rest in (
       record {
-        no_desks = rooms.no_desks;
         no_leaves = rooms.no_leaves;
         no_pumps = rooms.no_pumps;
         no_drainers = rooms.no_drainers;
