@@ -2,17 +2,17 @@
 ghost use Rattle.std.specs.Prelude.{MatchResult};
 ghost use Rattle.rxline.specs.Programs.{MayServe};
 
-use crate::clocked::Clocked;
 use crate::host::Host;
+use crate::names::Names;
 use crate::program_fault::ProgramFault;
-use crate::socket::Socket;
+use crate::site::Site;
 use crate::telling::tell;
-use rx_heap::{Heap, Memory};
+use rx_heap::Heap;
 use rx_proto::Name;
-use rx_server::{Config, Report, ServeFault, SubjectReport, start};
+use rx_server::{CloseFault, Config, Report, ServeFault, SubjectReport, start};
 use rx_sink::{LineRest, LineSink};
 use std::io::Write;
-use std::os::unix::net::{UnixListener, UnixStream};
+use std::os::unix::net::UnixStream;
 
 /// Serves a configuration on a new Unix socket of this path, until as many connections have ended as it says. Once it listens
 /// it tells so on `faults`; at the end it writes the report, one line a subject, also after a fault of serving.
@@ -31,33 +31,35 @@ pub fn serve_on<F: Host, W: Write, E: Write>(
 ) -> Result<(), ProgramFault>
     ensures { MatchResult result (λ _. Unit {0}) MayServe }
 {
-    let Ok(names) = names_of(heap, &config) else {
-        return Err(ProgramFault::Memory);
-    };
-    let Ok(clock) = rt.clone() else {
+    let Ok(names) = Names::of(heap, &config) else {
         return Err(ProgramFault::Memory);
     };
     let Ok(own) = heap.clone() else {
         return Err(ProgramFault::Memory);
     };
-    let Ok(none) = heap.clone() else {
-        return Err(ProgramFault::Memory);
-    };
-    let Ok(listener) = UnixListener::bind(rt, path) else {
-        return Err(ProgramFault::Listen);
-    };
-    let mut server = match start::<LineSink<UnixStream>, F>(rt, own, config) {
-        Ok(server) => server,
-        Err(fault) => return Err(ProgramFault::Start(fault)),
-    };
-    let _ = writeln!(faults, "rxline: listening on {path}");
-    let mut socket = Socket::new(listener);
-    let served = server.serve(rt, &mut socket, Clocked::new(clock));
-    let closed = match server.close(rt, Vec::new(none)) {
-        Ok(report) => write_report(&names, &report, writer),
+    let site = Site::at(rt, heap, path)?;
+    match start::<LineSink<UnixStream>, F>(rt, own, config) {
+        Ok(server) => {
+            let _ = writeln!(faults, "rxline: listening on {path}");
+            let (served, closed) = site.serve(rt, server);
+            ended(served, told(&names, closed, writer), faults)
+        }
+        Err(fault) => Err(ProgramFault::Start(fault)),
+    }
+}
+
+// Tells the report of a server that was closed, or why there is none.
+fn told<W: Write>(
+    names: &Names,
+    closed: Result<Report<LineRest>, CloseFault>,
+    writer: &mut W,
+) -> Result<(), ProgramFault>
+    ensures { MatchResult result (λ _. Unit {0}) MayServe }
+{
+    match closed {
+        Ok(report) => write_report(names.as_slice(), &report, writer),
         Err(fault) => Err(ProgramFault::Close(fault)),
-    };
-    ended(served, closed, faults)
+    }
 }
 
 // How it ended, by how serving and closing did. Where both had a fault, the first is told here.
@@ -83,20 +85,9 @@ fn ended<E: Write>(
     closed
 }
 
-// The names of the subjects, in their order.
-fn names_of(heap: &Heap, config: &Config) -> Result<Vec<Name, Heap>, Memory> {
-    let mut names = Vec::new(heap.clone()?);
-    for subject in &config.subjects {
-        if let Some(name) = Name::new(subject.name.as_bytes()) {
-            names.push(name)?;
-        }
-    }
-    Ok(names)
-}
-
 // Writes the report, and flushes it.
 fn write_report<W: Write>(
-    names: &Vec<Name, Heap>,
+    names: &[Name],
     report: &Report<LineRest>,
     writer: &mut W,
 ) -> Result<(), ProgramFault>
