@@ -1,11 +1,12 @@
 -- What is left, thread by thread.
-use Rattle.std.proofs.Common.{sym, subst, Option, Some, None, Result, Ok, Err, List, [], ◌∷◌, ◌++◌, length, length-append, map, arith, MatchOption, MatchResult}
+use Rattle.std.proofs.Common.{◌≡◌, refl, reverse, sym, subst, Option, Some, None, Result, Ok, Err, List, [], ◌∷◌, ◌++◌, length, length-append, map, arith, MatchOption, MatchResult}
 use Rattle.std.proofs.lemmas.Slice.Zip.{all_zipped_more, AllZip-long}
 use Rattle.std.specs.List.{AllZip}
 use Rattle.rx_server.specs.declared.close_fault.CloseFault.{CloseFault}
 use Rattle.rx_server.specs.declared.start_fault.Role.{Role}
 use Rattle.rx_server.specs.Ends.{Keeps}
 use Rattle.rx_server.specs.Servers.{IsOf}
+use Rattle.rx_server.proofs.Starting.{Started, started-one, started-all}
 
 module _ {A B : Type 0} (R : A → B → Type 0) (role : Role) where
   -- each of these threads left what it promises, or this is the fault of one of them
@@ -27,6 +28,27 @@ module _ {A B : Type 0} (R : A → B → Type 0) (role : Role) where
       let more = length-append xs (x ∷ []) in
       let first : HaveJoined (xs ++ x ∷ []) after (Some kept.1.0) = (kept.1.2, omega (arith, kept.1.3, long, more)) in
       subst (λ (f : Option CloseFault). HaveJoined (xs ++ x ∷ []) after f) (sym kept.1.1) first
+
+  -- of these threads, the first one last, some were joined, and the others are left
+  pub record JoinedSome (turned left : List A) (ends : List B) (fault : Option CloseFault) : Type 0 where
+    pub done : List A
+    pub so_far : Started turned done left
+    pub joined : HaveJoined done ends fault
+
+  pub joined-none : (turned : List A) (ends : List B) → ends ≡ [] → JoinedSome turned turned ends None
+  joined-none turned ends none = record { done = []; so_far = refl; joined = subst (λ (l : List B). AllZip R [] l) (sym none) tt }
+
+  pub joined-next : {F : Type 0} (Q : F → Type 0) (turned left rest : List A) (ys after : List B) (x : A) (joined : Result B F) (before fault : Option CloseFault)
+      → left ≡ rest ++ x ∷ [] → MatchResult joined (λ y. R x y) Q → Keeps role joined ys before after fault → JoinedSome turned left ys before → JoinedSome turned rest after fault
+  joined-next Q turned left rest ys after x joined before fault took ended kept some = record {
+    done = some.done ++ x ∷ [];
+    so_far = started-one turned some.done (some.done ++ x ∷ []) left rest x x took refl refl some.so_far;
+    joined = joined-one Q some.done ys after x joined before fault ended kept some.joined;
+  }
+
+  pub joined-all : (all turned left : List A) (ends : List B) (fault : Option CloseFault) → turned ≡ reverse all → left ≡ [] → JoinedSome turned left ends fault → HaveJoined all ends fault
+  joined-all all turned left ends fault is none some =
+      subst (λ (l : List A). HaveJoined l ends fault) (started-all all turned some.done left is none some.so_far) some.joined
 
 -- what holds of what the threads stand for
 pub zip-stands : {A B X : Type 0} (R : A → B → Type 0) (f : X → A) (xs : List X) (ys : List B) → AllZip (λ x y. R (f x) y) xs ys → AllZip R (map f xs) ys

@@ -67,17 +67,18 @@ pub(crate) fn finish_desks<S: Drop, R: Wait>(
 // Waits until each pump has ended, and puts what they left into `ends`.
 pub(crate) fn join_pumps<S: Sink, R: Threads>(
     rt: &R,
-    pumps: Vec<RunningPump<S>, Heap>,
+    pumps: &mut Vec<RunningPump<S>, Heap>,
     ends: &mut Vec<PumpEnd<S>, Heap>,
 ) -> Result<(), CloseFault>
     requires empty { ends.old.items ≡ [] }
-    requires room { vec_len pumps ≤ vec_capacity ends.old }
+    requires room { vec_len pumps.old ≤ vec_capacity ends.old }
     ensures { MatchResult result
-        (λ _. AllZip pump_serving.HasServed pumps.items ends.new.items)
-        (IsOf Role.Pump (length pumps.items)) }
+        (λ _. AllZip pump_serving.HasServed pumps.old.items ends.new.items)
+        (IsOf Role.Pump (length pumps.old.items)) }
 {
     let mut fault = None;
-    for running in pumps {
+    pumps.reverse();
+    while let Some(running) = pumps.pop() {
         keep(Role::Pump, running.join(rt), ends, &mut fault);
     }
     match fault {
@@ -89,17 +90,18 @@ pub(crate) fn join_pumps<S: Sink, R: Threads>(
 // Waits until each drainer has ended, and puts what they left into `ends`.
 pub(crate) fn join_drainers<S: Sink, R: Threads>(
     rt: &R,
-    drainers: Vec<RunningDrainer<S>, Heap>,
+    drainers: &mut Vec<RunningDrainer<S>, Heap>,
     ends: &mut Vec<DrainEnd<S>, Heap>,
 ) -> Result<(), CloseFault>
     requires empty { ends.old.items ≡ [] }
-    requires room { vec_len drainers ≤ vec_capacity ends.old }
+    requires room { vec_len drainers.old ≤ vec_capacity ends.old }
     ensures { MatchResult result
-        (λ _. AllZip (λ drainer end. drainer_serving.HasServed S.acts drainer.handle.promise.0.value end) drainers.items ends.new.items)
-        (IsOf Role.Drainer (length drainers.items)) }
+        (λ _. AllZip (λ drainer end. drainer_serving.HasServed S.acts drainer.handle.promise.0.value end) drainers.old.items ends.new.items)
+        (IsOf Role.Drainer (length drainers.old.items)) }
 {
     let mut fault = None;
-    for running in drainers {
+    drainers.reverse();
+    while let Some(running) = drainers.pop() {
         keep(Role::Drainer, running.join(rt), ends, &mut fault);
     }
     match fault {

@@ -61,9 +61,9 @@ impl<S: Sink> Running<S> {
         ensures failed { IfErr result (λ fault. IsOf Role.Pump (length self.pumps.items) fault ⊎ IsOf Role.Drainer (length self.drainers.items) fault) }
         ensures others { (rooms.new.subjects ≡ rooms.old.subjects) × (rooms.new.put_away ≡ rooms.old.put_away) }
     {
-        let Running { pumps, drainers } = self;
-        let pumped = join_pumps(rt, pumps, &mut rooms.pumps);
-        let drained = join_drainers(rt, drainers, &mut rooms.drainers);
+        let mut running = self;
+        let pumped = join_pumps(rt, &mut running.pumps, &mut rooms.pumps);
+        let drained = join_drainers(rt, &mut running.drainers, &mut rooms.drainers);
         match pumped {
             Ok(()) => drained,
             Err(fault) => Err(fault),

@@ -1,8 +1,14 @@
-use Rattle.std.proofs.Common.{arith}
+use Rattle.std.proofs.Common.{ap, length, arith}
 use Rattle.rx_drain.specs.Serving.{HasServed, HasStopped}
 use Rattle.rx_server.specs.declared.start_fault.Role.TheVariants.{Drainer}
-use Rattle.rx_server.proofs.Leaving.{joined-one}
+use Rattle.rx_server.proofs.Leaving.{joined-none, joined-next}
 use Rattle.rx_server.proofs.closing.join_drainers.Goals as goal
+
+pub loop-running-init : goal.loop-running-init
+loop-running-init g c = record {
+  joined = joined-none (λ drainer end. HasServed g.S.Sink.acts drainer.handle.promise.0.value end) Drainer c.reverse.new.self.items c.args.ends.now.items c.requires.empty;
+  room = omega (arith, c.requires.room, c.reverse.ensures.len, ap length c.requires.empty, c.args.ends.now.ok);
+}
 
 -- one more ended
 pub loop-running-preserved : goal.loop-running-preserved
@@ -10,7 +16,7 @@ loop-running-preserved g c =
     let before = c.loop-running.invariant in
     record {
       joined =
-          joined-one (λ drainer end. HasServed g.S.Sink.acts drainer.handle.promise.0.value end) Drainer (HasStopped g.S.Sink.acts c.in-Some.running.handle.promise.0.value) c.loop-running.yielded c.loop-running.ends.items c.keep.new.ends.items c.in-Some.running c.join.result
-          c.loop-running.fault c.keep.new.fault c.join.ensures c.keep.ensures.kept before.joined;
-      room = omega (arith, before.room, c.keep.ensures.room, c.keep.ensures.capacity, c.in-Some.ensures.steps);
+          joined-next (λ drainer end. HasServed g.S.Sink.acts drainer.handle.promise.0.value end) Drainer (HasStopped g.S.Sink.acts c.in-Some.running.handle.promise.0.value) c.reverse.new.self.items c.loop-running.drainers.items c.pop.new.self.items c.loop-running.ends.items c.keep.new.ends.items c.in-Some.running c.join.result
+          c.loop-running.fault c.keep.new.fault c.in-Some.ensures.items c.join.ensures c.keep.ensures.kept before.joined;
+      room = omega (arith, before.room, c.keep.ensures.room, c.keep.ensures.capacity, c.in-Some.ensures.cases);
     }
