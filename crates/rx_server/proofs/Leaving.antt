@@ -1,12 +1,12 @@
 -- What is left, thread by thread.
-use Rattle.std.proofs.Common.{◌≡◌, refl, reverse, sym, subst, Option, Some, None, Result, Ok, Err, List, [], ◌∷◌, ◌++◌, length, length-append, map, arith, MatchOption, MatchResult}
+use Rattle.std.proofs.Common.{◌≡◌, refl, sym, subst, Option, Some, None, Result, Ok, Err, List, [], ◌∷◌, ◌++◌, length, length-append, map, arith, MatchOption, MatchResult}
 use Rattle.std.proofs.lemmas.Slice.Zip.{all_zipped_more, AllZip-long}
 use Rattle.std.specs.List.{AllZip}
 use Rattle.rx_server.specs.declared.close_fault.CloseFault.{CloseFault}
 use Rattle.rx_server.specs.declared.start_fault.Role.{Role}
 use Rattle.rx_server.specs.Ends.{Keeps}
 use Rattle.rx_server.specs.Servers.{IsOf}
-use Rattle.rx_server.proofs.Starting.{Started, started-one, started-all}
+use Rattle.rx_server.proofs.Starting.{Started, started-one}
 
 module _ {A B : Type 0} (R : A → B → Type 0) (role : Role) where
   -- each of these threads left what it promises, or this is the fault of one of them
@@ -45,10 +45,6 @@ module _ {A B : Type 0} (R : A → B → Type 0) (role : Role) where
     so_far = started-one turned some.done (some.done ++ x ∷ []) left rest x x took refl refl some.so_far;
     joined = joined-one Q some.done ys after x joined before fault ended kept some.joined;
   }
-
-  pub joined-all : (all turned left : List A) (ends : List B) (fault : Option CloseFault) → turned ≡ reverse all → left ≡ [] → JoinedSome turned left ends fault → HaveJoined all ends fault
-  joined-all all turned left ends fault is none some =
-      subst (λ (l : List A). HaveJoined l ends fault) (started-all all turned some.done left is none some.so_far) some.joined
 
 -- what holds of what the threads stand for
 pub zip-stands : {A B X : Type 0} (R : A → B → Type 0) (f : X → A) (xs : List X) (ys : List B) → AllZip (λ x y. R (f x) y) xs ys → AllZip R (map f xs) ys
