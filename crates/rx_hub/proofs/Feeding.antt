@@ -1,5 +1,6 @@
 -- The loop that feeds each observer: what it has done at its i-th turn.
 use Rattle.std.proofs.Common.{◌≡◌, ℕ, ◌+◌, ◌<◌, List, [], ◌∷◌, ◌++◌, length, take, drop, get_or, set, refl, sym, ap, ◌∙◌, subst, arith, append_assoc, append-nil}
+use Rattle.std.proofs.Math.Seq.{take-append_seam}
 use Rattle.std.proofs.lemmas.List.{take_more, take_more_set, drop-drop, get_or-drop, map-append, drop-set-lt}
 use Rattle.rx_note.specs.declared.item.Item.{Item}
 use Rattle.rx_note.specs.declared.given.Given.{Given}
@@ -10,6 +11,10 @@ use Rattle.rx_hub.specs.declared.subscription.Subscription.{Subscription}
 use Rattle.rx_hub.specs.Subscriptions.{AllFed, AllFedInto, FeedsInto, Feeds, Observer}
 use Rattle.rx_hub.specs.Seats.{given_now}
 use Rattle.rx_hub.specs.Audiences.{Place, place_of, places_of, observer_on, observers_on, gifts}
+
+-- what stood before is in front
+pub front_of : {A : Type 0} (n : ℕ) (xs ys zs : List A) → n ≡ length xs → zs ≡ xs ++ ys → take n zs ≡ xs
+front_of n xs ys zs long is = ap (λ k. take k zs) long ∙ ap (take (length xs)) is ∙ take-append_seam xs ys
 
 -- one observer more was fed
 pub AllFed-push : (signals : List Signal) (olds news : List Observer) (outs : List Given) (old new : Observer) (notes : List Note)

@@ -12,6 +12,7 @@ pub mod Running
 pub mod Seats
 pub mod Serving
 pub mod Sharing
+pub mod Staying
 pub mod Tables
 pub mod Taking
 pub mod Tight

@@ -1,9 +1,9 @@
-use Rattle.std.proofs.Common.{◌<◌, ◌++◌, length, take, sym, ap, subst, ◌∙◌, arith, append_assoc}
+use Rattle.std.proofs.Common.{◌≡◌, ◌<◌, ◌++◌, length, take, vec_len, sym, ap, subst, ◌∙◌, arith, append_assoc}
 use Rattle.std.proofs.lemmas.List.{length-map}
 use Rattle.rx_history.specs.Histories.{addressed}
 use Rattle.rx_hub.specs.Seats.{owing_of, given_now}
 use Rattle.rx_hub.specs.Audiences.{Place, place_of, places_of, gifts}
-use Rattle.rx_hub.proofs.Feeding.{gifts-more}
+use Rattle.rx_hub.proofs.Feeding.{gifts-more, front_of}
 use Rattle.rx_hub.proofs.Places.{place-at}
 use Rattle.rx_hub.proofs.audience.put_copies.Goals as goal
 
@@ -46,3 +46,15 @@ returns-clause-given c =
     let before = c.args.outs.now.items in
     let places = places_of c.args.subscriptions.now.items in
     c.loop-i.invariant.given ∙ ap (λ n. before ++ gifts c.args.item.now (take n places)) (omega arith)
+
+pub returns-in_err-copy-clause-front : goal.returns-in_err-copy-clause-front
+returns-in_err-copy-clause-front c =
+    let outs = c.args.outs.now in
+    let long : vec_len outs ≡ length outs.items = omega (arith, outs.ok.0) in
+    front_of (vec_len outs) outs.items (gifts c.args.item.now (take c.loop-i.i (places_of c.args.subscriptions.now.items))) c.loop-i.outs.items long c.loop-i.invariant.given
+
+pub returns-clause-front : goal.returns-clause-front
+returns-clause-front c =
+    let outs = c.args.outs.now in
+    let long : vec_len outs ≡ length outs.items = omega (arith, outs.ok.0) in
+    front_of (vec_len outs) outs.items (gifts c.args.item.now (take c.loop-i.i (places_of c.args.subscriptions.now.items))) c.loop-i.outs.items long c.loop-i.invariant.given

@@ -1,13 +1,90 @@
-use Rattle.std.proofs.Common.{◌≡◌, ◌++◌, List, option_to_list, ap, subst, ◌∙◌}
+use Rattle.std.proofs.Common.{◌≡◌, ◌≤◌, ◌++◌, List, length, option_to_list, refl, sym, ap, subst, ◌∙◌}
+use Rattle.rx_note.specs.declared.event.Event.TheVariants.{Emit}
 use Rattle.rx_note.specs.declared.given.Given.{Given}
+use Rattle.rx_note.specs.declared.item.Item.{Item}
+use Rattle.rx_history.specs.Histories.{◌▹◌}
 use Rattle.rx_tape.specs.Tapes.{TapeState}
 use Rattle.rx_subject.specs.Offers.{offer_signals}
 use Rattle.rx_subject.specs.Subjects.{offered_by}
-use Rattle.rx_subject.specs.TapeSubjects.{subject_on}
+use Rattle.rx_subject.specs.Subjects as subjects
+use Rattle.rx_subject.specs.TapeSubjects.{subject_on, pushed_all}
 use Rattle.rx_subject.proofs.Taped.{pushed_items}
 use Rattle.rx_hub.specs.Subscriptions.{Observer, AllFedInto}
-use Rattle.rx_hub.specs.Audiences.{AudienceState, places_of, observers_on}
+use Rattle.rx_hub.specs.Audiences.{AudienceState, places_of, observers_on, cursors}
+use Rattle.rx_hub.proofs.Places.{apart_same}
+use Rattle.rx_hub.proofs.Staying.{on_err_known, shown, stays, on_pushed, owned_by}
 use Rattle.rx_hub.proofs.audience.Audience.admit_end.Goals as goal
+
+pub feed_all-requires-clause-ready : goal.feed_all-requires-clause-ready
+feed_all-requires-clause-ready c = c.in_ok-prepare_all.ensures.ready
+
+pub feed_all-requires-clause-on : goal.feed_all-requires-clause-on
+feed_all-requires-clause-on c =
+    let a = c.self.inside in
+    let subject = c.args.subject.now in
+    let pushed = c.in-Ok.ensures.tape
+    ∙ ap (pushed_all a.tape) (ap (λ (v : AudienceState). offered_by (subject_on v.items subject) c.args.port c.args.note) c.self.view_is ∙ c.requires.item) in
+    on_pushed a.tape c.admit_offered.new.tape c.args.offer.now.item (places_of a.subscriptions.items) (places_of c.prepare_all.new.subscriptions.items)
+    pushed c.in_ok-prepare_all.ensures.places c.self.invariant.0
+
+pub feed_all-requires-clause-apart : goal.feed_all-requires-clause-apart
+feed_all-requires-clause-apart c =
+    apart_same (places_of c.self.inside.subscriptions.items) (places_of c.prepare_all.new.subscriptions.items)
+    (ap cursors c.in_ok-prepare_all.ensures.places) c.self.invariant.1
+
+pub invariant_of-self : goal.invariant_of-self
+invariant_of-self c =
+    let a = c.self.inside in
+    stays a.tape a.tape (places_of a.subscriptions.items) (places_of c.prepare_all.new.subscriptions.items) refl c.in_err-prepare_all.ensures.places c.self.invariant
+
+pub invariant_of-self-in_default-admit_offered : goal.invariant_of-self-in_default-admit_offered
+invariant_of-self-in_default-admit_offered c =
+    let a = c.self.inside in
+    stays a.tape c.admit_offered.new.tape (places_of a.subscriptions.items) (places_of c.prepare_all.new.subscriptions.items)
+    c.in_default-admit_offered.ensures.err.1 c.in_ok-prepare_all.ensures.places c.self.invariant
+
+pub returns-in_err-prepare_all-clause-err : goal.returns-in_err-prepare_all-clause-err
+returns-in_err-prepare_all-clause-err c =
+    let a = c.self.inside in
+    on_err_known c.from_residual-in_err-prepare_all.result (
+      refl,
+      shown a.tape.items a.tape.items (places_of a.subscriptions.items) (places_of c.prepare_all.new.subscriptions.items) refl c.in_err-prepare_all.ensures.places ∙ c.self.view_is,
+      c.in_ok-reserve.ensures.items,
+    )
+
+pub returns-in_default-admit_offered-clause-err : goal.returns-in_default-admit_offered-clause-err
+returns-in_default-admit_offered-clause-err c =
+    let a = c.self.inside in
+    let err = c.in_default-admit_offered.ensures.err in (
+      err.0,
+      shown a.tape.items c.admit_offered.new.tape.items (places_of a.subscriptions.items) (places_of c.prepare_all.new.subscriptions.items) (ap (λ (t : TapeState). t.items) err.1) c.in_ok-prepare_all.ensures.places
+          ∙ c.self.view_is,
+      c.in_ok-reserve.ensures.items,
+    )
+
+pub invariant_of-self-2 : goal.invariant_of-self-2
+invariant_of-self-2 c =
+    let a = c.self.inside in
+    let subject = c.args.subject.now in
+    let olds = places_of a.subscriptions.items in
+    let made = places_of c.prepare_all.new.subscriptions.items in
+    let news = places_of c.feed_all.new.subscriptions.items in
+    let same = c.in_ok-prepare_all.ensures.places in
+    let pushed = c.in-Ok.ensures.tape
+    ∙ ap (pushed_all a.tape) (ap (λ (v : AudienceState). offered_by (subject_on v.items subject) c.args.port c.args.note) c.self.view_is ∙ c.requires.item) in (
+      c.feed_all.ensures.on,
+      apart_same olds news (c.feed_all.ensures.cursors ∙ ap cursors same) c.self.invariant.1,
+      c.feed_all.ensures.owned (owned_by a.tape c.admit_offered.new.tape c.args.offer.now.item olds made pushed same c.self.invariant.2),
+    )
+
+pub returns-clause-stands : goal.returns-clause-stands
+returns-clause-stands c = λ rules H stands.
+    subst (λ (xs : List Item). subjects.StandsFor (subject_on xs c.admit_offered.new.self) rules (H ▹ (c.args.port, Emit c.args.note c.args.at))) (sym c.feed_all.ensures.items)
+    (c.in-Ok.ensures.stands rules H (subst (λ (v : AudienceState). subjects.StandsFor (subject_on v.items c.args.subject.now) rules H) (sym c.self.view_is) stands))
+
+pub returns-clause-within : goal.returns-clause-within
+returns-clause-within c =
+    subst (λ (xs : List Item). length c.admit_offered.new.self.stamps ≤ length xs) (sym c.feed_all.ensures.items) c.admit_offered.ensures.within
 
 pub returns-clause-fed : goal.returns-clause-fed
 returns-clause-fed c =

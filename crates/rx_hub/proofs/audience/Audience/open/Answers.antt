@@ -1,4 +1,4 @@
-use Rattle.std.proofs.Common.{◌≡◌, ◌∷◌, [], ◌++◌, ℕ, List, Some, map, max, option_to_list, false, sym, ap, subst, ◌∙◌}
+use Rattle.std.proofs.Common.{◌≡◌, ◌≤◌, ◌∷◌, [], ◌++◌, ℕ, List, Some, length, map, max, option_to_list, false, refl, sym, ap, subst, ◌∙◌}
 use Rattle.std.proofs.lemmas.List.{map-append}
 use Rattle.rx_note.specs.declared.item.Item.{Item}
 use Rattle.rx_note.specs.Signals.{Offered}
@@ -12,6 +12,7 @@ use Rattle.rx_hub.specs.Audiences.{AudienceState, Place, AllOn, Apart, Owned, pl
 use Rattle.rx_hub.proofs.Seats.{leaves_then}
 use Rattle.rx_hub.proofs.Serving.{begins_then, offers-unended, given-then}
 use Rattle.rx_hub.proofs.Places.{joined_on, joined_apart}
+use Rattle.rx_hub.proofs.Staying.{on_err_known, shown, stays, stays_held}
 use Rattle.rx_hub.proofs.Tight.{owned_joined}
 use Rattle.rx_hub.proofs.audience.Audience.open.Goals as goal
 
@@ -75,3 +76,69 @@ returns-clause-joins c =
           ∙ ap (λ ns. before ++ addressed who ns) (made.begins.1 ∙ ap (λ ns. ns ++ given) c.in_ok-notes.ensures))
           c.give.ensures.items;
     }
+
+pub opening-requires : goal.opening-requires
+opening-requires c = subst (λ (v : AudienceState). length c.args.subject.now.stamps ≤ length v.items) (sym c.self.view_is) c.requires
+
+pub returns-in_err-lead-clause-err : goal.returns-in_err-lead-clause-err
+returns-in_err-lead-clause-err c = on_err_known c.from_residual.result (refl, refl)
+
+pub returns-in_err-reserve-clause-err : goal.returns-in_err-reserve-clause-err
+returns-in_err-reserve-clause-err c = on_err_known c.from_residual-in_err-reserve.result (refl, c.in_err-reserve.ensures.items)
+
+pub invariant_of-self : goal.invariant_of-self
+invariant_of-self c =
+    let a = c.self.inside in
+    stays a.tape a.tape (places_of a.subscriptions.items) (places_of c.reserve-2.new.self.items) refl (ap places_of c.in_err-reserve-2.ensures.items) c.self.invariant
+
+pub returns-in_err-reserve-2-clause-err : goal.returns-in_err-reserve-2-clause-err
+returns-in_err-reserve-2-clause-err c =
+    let a = c.self.inside in
+    on_err_known c.from_residual-in_err-reserve-2.result (
+      shown a.tape.items a.tape.items (places_of a.subscriptions.items) (places_of c.reserve-2.new.self.items) refl (ap places_of c.in_err-reserve-2.ensures.items)
+          ∙ c.self.view_is,
+      c.in_ok-reserve.ensures.items,
+    )
+
+pub invariant_of-self-in_err-notes : goal.invariant_of-self-in_err-notes
+invariant_of-self-in_err-notes c =
+    let a = c.self.inside in
+    stays a.tape a.tape (places_of a.subscriptions.items) (places_of c.reserve-2.new.self.items) refl (ap places_of c.in_ok-reserve-2.ensures.items) c.self.invariant
+
+pub returns-in_err-notes-clause-err : goal.returns-in_err-notes-clause-err
+returns-in_err-notes-clause-err c =
+    let a = c.self.inside in
+    on_err_known c.from_residual-in_err-notes.result (
+      shown a.tape.items a.tape.items (places_of a.subscriptions.items) (places_of c.reserve-2.new.self.items) refl (ap places_of c.in_ok-reserve-2.ensures.items)
+          ∙ c.self.view_is,
+      c.in_ok-reserve.ensures.items,
+    )
+
+pub open-requires : goal.open-requires
+open-requires c = record { there = c.in_ok-lead.ensures.within }
+
+pub invariant_of-self-in_err-seat : goal.invariant_of-self-in_err-seat
+invariant_of-self-in_err-seat c =
+    let a = c.self.inside in
+    stays_held a.tape c.open.new.tape (places_of a.subscriptions.items) (places_of c.reserve-2.new.self.items) c.in_err-seat.ensures.err
+    (ap places_of c.in_ok-reserve-2.ensures.items) c.self.invariant
+
+pub returns-in_err-seat-clause-err : goal.returns-in_err-seat-clause-err
+returns-in_err-seat-clause-err c =
+    let a = c.self.inside in
+    on_err_known c.from_residual-in_err-seat.result (
+      shown a.tape.items c.open.new.tape.items (places_of a.subscriptions.items) (places_of c.reserve-2.new.self.items) c.in_err-seat.ensures.err.items
+          (ap places_of c.in_ok-reserve-2.ensures.items)
+          ∙ c.self.view_is,
+      c.in_ok-reserve.ensures.items,
+    )
+
+pub returns-in_err-seat-clause-items : goal.returns-in_err-seat-clause-items
+returns-in_err-seat-clause-items c = c.in_err-seat.ensures.err.items ∙ ap (λ (v : AudienceState). v.items) c.self.view_is
+
+pub returns-clause-items : goal.returns-clause-items
+returns-clause-items c =
+    c.end_by-last.ensures.leaves.items ∙ c.in_ok-seat.ensures.leaves.items ∙ ap (λ (v : AudienceState). v.items) c.self.view_is
+
+pub end_by-last-requires : goal.end_by-last-requires
+end_by-last-requires c = c.in_ok-seat.ensures.stands
