@@ -1,5 +1,5 @@
-use Rattle.std.proofs.Common.{arith}
-use Rattle.rx_pump.proofs.Ending.{Ended-more}
+use Rattle.std.proofs.Common.{refl, arith}
+use Rattle.rx_pump.proofs.Ending.{Ended-none, Ended-more, Ended-stop}
 use Rattle.rx_pump.proofs.finishing.finish_all.Goals as goal
 
 pub loop-port-preserved : goal.loop-port-preserved
@@ -11,3 +11,30 @@ loop-port-preserved g c =
       ended = Ended-more _ c.loop-port.ports.items c.pop.new.self.items c.args.ended.now.items c.loop-port.ended.items c.push_reserved.new.self.items c.in-Some.port c.in-Ok.port
           c.in-Some.ensures.items c.in-Ok.ensures c.push_reserved.ensures.items before.ended;
     }
+
+pub loop-port-init : goal.loop-port-init
+loop-port-init g c = record {
+  room = omega (arith, c.requires, c.reverse.ensures.len);
+  capacity = refl;
+  ended = Ended-none c.reverse.new.self.items c.args.ended.now.items;
+}
+
+pub push_reserved-requires : goal.push_reserved-requires
+push_reserved-requires g c = omega (arith, c.loop-port.invariant.room, c.in-Some.ensures.cases)
+
+pub loop-port-smaller : goal.loop-port-smaller
+loop-port-smaller g c = omega (arith, c.in-Some.ensures.cases)
+
+pub returns-in-Err-clause-ended : goal.returns-in-Err-clause-ended
+returns-in-Err-clause-ended g c = (
+  Ended-stop c.args.ports.now.items c.reverse.new.self.items c.loop-port.ports.items c.pop.new.self.items c.push_reserved-in-Err.new.self.items
+      c.reverse-in-Err.new.self.items c.args.ended.now.items c.loop-port.ended.items c.in-Some.port c.in-Err.port
+      c.reverse.ensures.items c.in-Some.ensures.items c.in-Err.ensures c.push_reserved-in-Err.ensures.items c.reverse-in-Err.ensures.items c.loop-port.invariant.ended,
+  c.len.ensures,
+)
+
+pub returns-in-Err-clause-capacity : goal.returns-in-Err-clause-capacity
+returns-in-Err-clause-capacity g c = c.loop-port.invariant.capacity
+
+pub returns-clause-capacity : goal.returns-clause-capacity
+returns-clause-capacity g c = c.loop-port.invariant.capacity
