@@ -1,10 +1,94 @@
-use Rattle.std.proofs.Common.{◌≡◌, ◌∙◌, sym, refl, subst, List, ◌++◌, length, length-append, map, arith}
+use Rattle.std.proofs.Common.{◌≡◌, ◌≤◌, ◌+◌, ◌∙◌, sym, refl, ap, subst, ℕ, List, [], ◌++◌, length, length-append, map, true, is_some, vec_len, vec_capacity, arith}
+use Rattle.std.proofs.lemmas.List.{length-map}
+use Rattle.rx_mailbox.specs.Boxes.{Outgoing}
+use Rattle.rx_pump.specs.Sends.{with_bye, EndsSome}
+use Rattle.rx_pump.proofs.Pumping.{AreSame-length}
 use Rattle.rx_sink.specs.declared.kept.Kept.{Kept}
 use Rattle.rx_drain.specs.Calls.{SendsAll, disposal}
 use Rattle.rx_drain.specs.Logs.{owed}
 use Rattle.rx_drain.proofs.Events.{sent_none}
 use Rattle.rx_drain.proofs.Standing.{same_sent, named_sent, same_ended, same_half, named_half, sent_in_part, sent_ended, sent_half, stands_left}
 use Rattle.rx_drain.proofs.handling.leave_all.Goals as goal
+
+-- as many ports, in other lists
+room_for : {before now room room_now : ℕ} → now ≡ before → room_now ≡ room → before ≤ room → now ≤ room_now
+room_for same same_room fits = omega arith
+
+no_more : (away room : ℕ) {kept : ℕ} → kept ≡ 0 → away ≤ room → away + kept ≤ room
+no_more away room none fits = omega arith
+
+counted_none : {before after left : ℕ} → after ≡ before → left ≡ 0 → after + left ≡ before
+counted_none many none = omega arith
+
+ended_counts : {ended olds after left n_ended n_olds n_news n_after n_left : ℕ} → ended ≡ n_ended → olds ≡ n_olds → after ≡ n_after → left ≡ n_left
+    → n_news ≡ n_olds → n_after + n_left ≡ n_ended + n_news → after + left ≡ ended + olds
+ended_counts a b c d same many = omega arith
+
+all_ended : {X : Type 0} (ports before after : List (Outgoing X)) → after ≡ before ++ map with_bye ports → length after ≡ length before + length ports
+all_ended ports before after is = omega (arith, ap length is, length-append before (map with_bye ports), length-map ports with_bye)
+
+some_ended : {X : Type 0} (ports left before after : List (Outgoing X)) → EndsSome ports left before after → length after + length left ≡ length before + length ports
+some_ended ports left before after e =
+    omega (arith, ap length e.parts, length-append e.done left, ap length e.ended, length-append before (map with_bye e.done), length-map e.done with_bye)
+
+pub returns-then-is_some-clause-fits : goal.returns-then-is_some-clause-fits
+returns-then-is_some-clause-fits g c =
+    let ended = c.args.hands.now.ended in
+    let olds = c.args.hands.now.parts.subjects in
+    let news = c.dispose_all-fault.new.subjects in
+    let kept = c.put_all_away.new.kept in
+    let same = AreSame-length olds.items news.items
+    (same_sent c.dispose_all-fault.result (map disposal c.as_slice.result.now) [] olds.items news.items c.dispose_all-fault.ensures) in
+    let long : vec_len ended + vec_len news ≡ vec_len ended + vec_len olds = ap (λ (n : ℕ). vec_len ended + n) (news.ok.0 ∙ same ∙ sym olds.ok.0) in
+    let some : is_some c.dispose_all-fault.result ≡ true = sym c.is_some.ensures ∙ c.if-is_some.true in
+    record {
+      leave_is = c.requires.leave_is ∙ sym long;
+      away_room = no_more (vec_len c.put_all_away.new.away) (vec_capacity c.put_all_away.new.away) (kept.ok.0 ∙ ap length c.put_all_away.ensures.kept) c.put_all_away.ensures.room;
+      ended_room = room_for long refl c.requires.ended_room;
+      open_ports = λ e. cc;
+      ended_ports = λ left fine. let none = ap is_some fine in cc;
+    }
+
+pub returns-in-Ok-clause-fits : goal.returns-in-Ok-clause-fits
+returns-in-Ok-clause-fits g c =
+    let ended = c.args.hands.now.ended in
+    let olds = c.args.hands.now.parts.subjects in
+    let news = c.dispose_all-fault.new.subjects in
+    let kept = c.put_all_away.new.kept in
+    let after = c.finish_all.new.ended in
+    let left = c.finish_all.new.ports in
+    let same = AreSame-length olds.items news.items
+    (same_sent c.dispose_all-fault.result (map disposal c.as_slice.result.now) [] olds.items news.items c.dispose_all-fault.ensures) in
+    let none = ap length c.in-Ok.ensures.ended.1 in
+    let many = all_ended news.items ended.items after.items c.in-Ok.ensures.ended.0 in
+    let long = ended_counts ended.ok.0 olds.ok.0 after.ok.0 left.ok.0 same (counted_none many none) in
+    record {
+      leave_is = c.requires.leave_is ∙ sym long;
+      away_room = no_more (vec_len c.put_all_away.new.away) (vec_capacity c.put_all_away.new.away) (kept.ok.0 ∙ ap length c.put_all_away.ensures.kept) c.put_all_away.ensures.room;
+      ended_room = room_for long c.finish_all.ensures.capacity c.requires.ended_room;
+      open_ports = λ e. cc;
+      ended_ports = λ all fine. c.in-Ok.ensures.ended.1;
+    }
+
+pub returns-in-Err-clause-fits : goal.returns-in-Err-clause-fits
+returns-in-Err-clause-fits g c =
+    let ended = c.args.hands.now.ended in
+    let olds = c.args.hands.now.parts.subjects in
+    let news = c.dispose_all-fault.new.subjects in
+    let kept = c.put_all_away.new.kept in
+    let after = c.finish_all.new.ended in
+    let left = c.finish_all.new.ports in
+    let same = AreSame-length olds.items news.items
+    (same_sent c.dispose_all-fault.result (map disposal c.as_slice.result.now) [] olds.items news.items c.dispose_all-fault.ensures) in
+    let many = some_ended news.items left.items ended.items after.items c.in-Err.ensures.ended.0 in
+    let long = ended_counts ended.ok.0 olds.ok.0 after.ok.0 left.ok.0 same many in
+    record {
+      leave_is = c.requires.leave_is ∙ sym long;
+      away_room = no_more (vec_len c.put_all_away.new.away) (vec_capacity c.put_all_away.new.away) (kept.ok.0 ∙ ap length c.put_all_away.ensures.kept) c.put_all_away.ensures.room;
+      ended_room = room_for long c.finish_all.ensures.capacity c.requires.ended_room;
+      open_ports = λ e. cc;
+      ended_ports = λ all fine. cc;
+    }
 
 pub returns-then-is_some-clause-ports : goal.returns-then-is_some-clause-ports
 returns-then-is_some-clause-ports g c =
