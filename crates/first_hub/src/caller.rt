@@ -8,16 +8,10 @@ use rx_server::Server;
 use std::sync::Wait;
 
 /// Calls the first subject of a server by a desk, one call at a time, and waits for each reply.
+#[derive(Drop)]
 pub struct Caller {
     desk: CallDesk<Shelf>,
     ghost has_a_subject: { 0 < length desk.ports + length desk.ended },
-}
-
-// It stands here, and isn't derived, so that what lets go of a caller is one call that is proved once.
-impl Drop for Caller {
-    fn drop(self) {
-        let Caller { desk: _ } = self;
-    }
 }
 
 impl Caller {
