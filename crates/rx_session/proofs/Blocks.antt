@@ -114,19 +114,11 @@ pub record IsReady (block : List ℕ) (start searched end : ℕ) (bytes : List �
   pub room : end < 65536
   pub holds : between start end block ≡ bytes
 
--- there is room behind a window that does not end at the block's end
-pub IsReady-kept : (i now : Inside) (bytes : List ℕ) → now ≡ i → IsWindow i.block i.start i.searched i.end → length i.block ≡ 65536
-    → between i.start i.end i.block ≡ bytes → (i.end ≡ 65536 → ⊥) → IsReady now.block now.start now.searched now.end bytes
-IsReady-kept i now bytes same w full holds here =
-    let P : Inside → Type 0 = λ j. IsReady j.block j.start j.searched j.end bytes in
-    subst P (sym same) (record { window = w; full = full; room = omega (arith, here, w.room); holds = holds })
-
 -- there is room behind a window that was moved to the front, where it does not fill the block
-pub IsReady-moved : (i now : Inside) (bytes moved : List ℕ) → now ≡ record { block = moved; start = 0; searched = i.searched - i.start; end = i.end - i.start }
+pub IsReady-moved : (i : Inside) (bytes moved : List ℕ)
     → IsWindow i.block i.start i.searched i.end → length i.block ≡ 65536 → between i.start i.end i.block ≡ bytes → length bytes < 65536
-    → moved ≡ copy_within i.block i.start i.end 0 → length moved ≡ length i.block → IsReady now.block now.start now.searched now.end bytes
-IsReady-moved i now bytes moved same w full holds few after len =
-    let P : Inside → Type 0 = λ j. IsReady j.block j.start j.searched j.end bytes in
+    → moved ≡ copy_within i.block i.start i.end 0 → length moved ≡ length i.block → IsReady moved 0 (i.searched - i.start) (i.end - i.start) bytes
+IsReady-moved i bytes moved w full holds few after len =
     let size : length (between i.start i.end i.block) ≡ i.end - i.start = length-between i.block i.start i.end (omega (arith, w.room)) in
     let same_end : i.end - i.start - 0 ≡ i.end - i.start = omega arith in
     let same_searched : i.searched - i.start - 0 ≡ i.searched - i.start = omega arith in
@@ -136,12 +128,12 @@ IsReady-moved i now bytes moved same w full holds few after len =
     sym (take-take (i.searched - i.start) (i.end - i.start) moved (omega (arith, w.within)))
     ∙ ap (λ t. take (i.searched - i.start) t) front
     ∙ take-take (i.searched - i.start) (i.end - i.start) (drop i.start i.block) (omega (arith, w.within)) in
-    subst P (sym same) (record {
+    record {
       window = record { ordered = omega arith; within = omega (arith, w.within); room = omega (arith, w.room); passed = subst HasNoLf (sym (ap (λ n. take n moved) same_searched ∙ searched)) w.passed };
       full = len ∙ full;
       room = omega (arith, size, ap length holds);
       holds = ap (λ n. take n moved) same_end ∙ front ∙ holds;
-    })
+    }
 
 -- what a read put behind the window
 pub IsReady-filled : (block : List ℕ) (start searched end : ℕ) (bytes buf : List ℕ) (n to : ℕ) → IsReady block start searched end bytes

@@ -104,12 +104,11 @@ impl Window {
         ensures fills { Fills result (R.remaining reader.old) (R.remaining reader.new) self.old self.new }
         ensures within { length self.new ≤ 65536 }
     {
-        if self.end == BLOCK {
-            self.block.copy_within(self.start..self.end, 0);
-            self.searched -= self.start;
-            self.end -= self.start;
-            self.start = 0;
-        }
+        // What is left of a line goes to the front, so that the read has room for nearly a whole block.
+        self.block.copy_within(self.start..self.end, 0);
+        self.searched -= self.start;
+        self.end -= self.start;
+        self.start = 0;
         let result = reader.read(&mut self.block[self.end..]);
         self.end += count_of(&result);
         result
