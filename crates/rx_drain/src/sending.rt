@@ -1,5 +1,5 @@
 // What a drainer sends its subjects.
-ghost use Rattle.std.specs.Prelude.{◌≡◌, [], ◌∷◌, map, option_to_list};
+ghost use Rattle.std.specs.Prelude.{[], ◌∷◌, map, option_to_list};
 ghost use Rattle.rx_drain.specs.Calls.{SendsAll, disposal};
 
 use crate::DrainFault;

@@ -1,7 +1,7 @@
-ghost use Rattle.std.specs.Prelude.{◌≡◌, ◌≢◌, ◌+◌, ◌-◌, ◌^◌, ◌↔◌, min, Err, false, IfOk, OnErr, IsOk, if◌then◌else◌, length};
+ghost use Rattle.std.specs.Prelude.{◌≡◌, ◌≢◌, ◌+◌, ◌-◌, ◌^◌, ◌↔◌, min, Err, false, IfOk, OnErr, if◌then◌else◌, length};
 ghost use Rattle.rx_hub.specs.Counts.{waiting_count};
 ghost use Rattle.rx_hub.specs.Hubs.{is_miss};
-ghost use Rattle.rx_history.specs.Histories.{History, NoEvents, answer, held, joins};
+ghost use Rattle.rx_history.specs.Histories.{History, NoEvents, held, joins};
 
 use crate::multicast::Multicast;
 use crate::no_observer::NoObserver;

@@ -9,6 +9,7 @@ mod audience;
 mod hub;
 mod multicast;
 mod no_observer;
+mod passes;
 mod run;
 mod seat;
 mod step;

@@ -9,7 +9,7 @@ ghost use Rattle.rx_lane.specs.Queues.{HasRoom};
 ghost use Rattle.rx_lane.specs.TapeLanes.{HoldsSame};
 ghost use Rattle.rx_hub.specs.declared.seat.Seat.TheVariants.{Own};
 ghost use Rattle.rx_hub.specs.Seats.{copy_needed, given_now};
-ghost use Rattle.rx_hub.specs.Subscriptions.{Serves, Begins, BeginsInto};
+ghost use Rattle.rx_hub.specs.Subscriptions.{Serves, BeginsInto};
 
 use rx_heap::{Heap, Memory};
 use rx_lane::{Lane, TapeLane};

@@ -1,5 +1,5 @@
 // Ending several ports.
-ghost use Rattle.std.specs.Prelude.{◌≡◌, ◌+◌, ◌≤◌, ◌++◌, [], map, length, vec_len, vec_capacity, MatchResult};
+ghost use Rattle.std.specs.Prelude.{◌≡◌, ◌+◌, ◌≤◌, ◌++◌, [], map, vec_len, vec_capacity, MatchResult};
 ghost use Rattle.rx_pump.specs.Sends.{with_bye, EndsSome};
 
 use rx_heap::Heap;

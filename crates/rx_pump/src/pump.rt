@@ -1,4 +1,4 @@
-ghost use Rattle.std.specs.Prelude.{◌≡◌, ◌+◌, ◌-◌, ◌^◌, ◌<◌, ◌≤◌, min, [], vec_len, vec_capacity, if◌then◌else◌, Some, None, Err, MatchResult, IfOk, OnOk, IfSome};
+ghost use Rattle.std.specs.Prelude.{◌≡◌, ◌+◌, ◌-◌, ◌^◌, ◌<◌, ◌≤◌, min, [], vec_len, vec_capacity, if◌then◌else◌, Some, None, Err, MatchResult, OnOk, IfSome};
 ghost use Rattle.rx_pump.specs.Pumps.{AreFresh};
 
 use crate::call::Call;

@@ -1,5 +1,5 @@
 // What a letter does to the sinks that are kept and to those that were put away.
-ghost use Rattle.std.specs.Prelude.{◌≡◌, if◌then◌else◌, ◌+◌, ◌<◌, ◌≤◌, [], ◌∷◌, ◌++◌, List, ℕ, Some, vec_len, vec_capacity, slice_get, option_to_list};
+ghost use Rattle.std.specs.Prelude.{◌≡◌, if◌then◌else◌, ◌+◌, ◌<◌, ◌≤◌, [], ◌++◌, List, Some, vec_len, vec_capacity, option_to_list};
 ghost use Rattle.std.specs.List.{position, remove};
 ghost use Rattle.rx_sink.specs.Acts.{raised};
 ghost use Rattle.rx_sink.specs.Attachments.{Attachment, Why, closed, is_for, is_last};

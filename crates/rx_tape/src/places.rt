@@ -1,4 +1,4 @@
-ghost use Rattle.std.specs.Prelude.{◌≡◌, ◌≢◌, ◌≤◌, ◌<◌, ◌^◌, ◌-◌, ◌+◌, [], ℕ, Option, None, Some, is_some, true, length, min, vec_len, IfOk, OnOk, OnErr};
+ghost use Rattle.std.specs.Prelude.{◌≡◌, ◌≤◌, ◌<◌, ◌^◌, ◌-◌, [], ℕ, Option, None, Some, is_some, true, length, min, vec_len, IfOk, OnErr};
 ghost use Rattle.rx_tape.specs.Tapes.{place_of, lowest, lower_of, OneMoved};
 
 use rx_heap::{Heap, Memory};

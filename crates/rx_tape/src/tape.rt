@@ -1,4 +1,4 @@
-ghost use Rattle.std.specs.Prelude.{◌≡◌, ◌≤◌, ◌<◌, ◌^◌, ◌-◌, ◌+◌, ◌↔◌, ℕ, true, drop, None, Some, is_some, length, min, slice_get, option_copied, IfOk, OnOk, OnErr};
+ghost use Rattle.std.specs.Prelude.{◌≡◌, ◌≤◌, ◌<◌, ◌^◌, ◌-◌, ◌+◌, ◌↔◌, ℕ, true, drop, None, Some, length, min, slice_get, option_copied, IfOk, OnOk, OnErr};
 ghost use Rattle.rx_tape.specs.Tapes.{end_of, place_of, ahead, tape_at_first, pushed, HavePassed, MovesOn, Spares, trimmed, without};
 
 use crate::places::Places;

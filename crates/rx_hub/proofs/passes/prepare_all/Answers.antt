@@ -4,7 +4,7 @@ use Rattle.std.proofs.lemmas.List.Elements.{AllWithin-more_set}
 use Rattle.rx_hub.specs.declared.subscription.Subscription.{Subscription}
 use Rattle.rx_hub.specs.Seats.{IsReady}
 use Rattle.rx_hub.specs.Audiences.{place_of}
-use Rattle.rx_hub.proofs.audience.prepare_all.Goals as goal
+use Rattle.rx_hub.proofs.passes.prepare_all.Goals as goal
 
 pub returns-in_err-prepare-clause-places : goal.returns-in_err-prepare-clause-places
 returns-in_err-prepare-clause-places c =

@@ -1,6 +1,6 @@
 use Rattle.std.proofs.Common.{◌≡◌, ◌+◌, ◌-◌, ◌≤◌, ◌++◌, take, vec_len, vec_capacity}
 use Rattle.rx_hub.specs.Audiences.{places_of, gifts}
-use Rattle.rx_hub.proofs.audience.put_copies.Given as goal
+use Rattle.rx_hub.proofs.passes.put_copies.Given as goal
 
 abbrev pub invariant-loop-i : goal.invariant-loop-i
 invariant-loop-i l = record {

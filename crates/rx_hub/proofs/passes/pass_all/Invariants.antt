@@ -8,7 +8,7 @@ use Rattle.rx_hub.specs.Subscriptions.{AllFedInto}
 use Rattle.rx_hub.specs.Audiences.{places_of, observers_on, gifts}
 use Rattle.rx_hub.specs.Audiences as audiences
 use Rattle.rx_hub.proofs.Places.{Turning}
-use Rattle.rx_hub.proofs.audience.pass_all.Given as goal
+use Rattle.rx_hub.proofs.passes.pass_all.Given as goal
 
 abbrev pub invariant-loop-i : goal.invariant-loop-i
 invariant-loop-i l = record {

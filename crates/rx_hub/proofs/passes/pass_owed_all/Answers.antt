@@ -9,7 +9,7 @@ use Rattle.rx_hub.specs.Audiences.{Place, place_of, places_of, observer_on, obse
 use Rattle.rx_hub.specs.Audiences as audiences
 use Rattle.rx_hub.proofs.Feeding.{still-at, rest-more, fed-more, gifts-more}
 use Rattle.rx_hub.proofs.Places.{place-at, set_cursors}
-use Rattle.rx_hub.proofs.audience.pass_owed_all.Goals as goal
+use Rattle.rx_hub.proofs.passes.pass_owed_all.Goals as goal
 
 pub loop-i-init : goal.loop-i-init
 loop-i-init c = record {

@@ -8,7 +8,7 @@ use Rattle.rx_hub.specs.Seats.{HoldsCopy, given_now}
 use Rattle.rx_hub.specs.Audiences.{place_of, places_of, gifts}
 use Rattle.rx_hub.proofs.Feeding.{gifts-more, front_of}
 use Rattle.rx_hub.proofs.Places.{place-at}
-use Rattle.rx_hub.proofs.audience.give_item.Goals as goal
+use Rattle.rx_hub.proofs.passes.give_item.Goals as goal
 
 all_of : {A : Type 0} (n : ℕ) (xs : List A) → n ≡ length xs → take n xs ≡ xs
 all_of n xs long = ap (λ k. take k xs) long ∙ take-length xs

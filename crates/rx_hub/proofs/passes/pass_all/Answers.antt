@@ -11,7 +11,7 @@ use Rattle.rx_hub.specs.Audiences as audiences
 use Rattle.rx_hub.proofs.Feeding.{still-at, rest-more, fed-more, gifts-more}
 use Rattle.rx_hub.proofs.Places.{Turning, Turning-more, place-at, set_cursors, apart_same}
 use Rattle.rx_hub.proofs.Tight.{owned_moved, owned_same}
-use Rattle.rx_hub.proofs.audience.pass_all.Goals as goal
+use Rattle.rx_hub.proofs.passes.pass_all.Goals as goal
 
 pub loop-i-init : goal.loop-i-init
 loop-i-init c = record {

@@ -4,7 +4,7 @@ use Rattle.std.proofs.lemmas.List.{length-map}
 use Rattle.rx_hub.specs.Seats.{owing_of}
 use Rattle.rx_hub.specs.Audiences.{Place, place_of, places_of}
 use Rattle.rx_hub.proofs.Places.{place-at}
-use Rattle.rx_hub.proofs.audience.are_owed.Goals as goal
+use Rattle.rx_hub.proofs.passes.are_owed.Goals as goal
 
 pub returns-then-owed-eq0 : goal.returns-then-owed-eq0
 returns-then-owed-eq0 c =

@@ -10,7 +10,7 @@ use Rattle.rx_hub.specs.Audiences as audiences
 use Rattle.rx_hub.proofs.Feeding.{still-at, rest-more, fed-more}
 use Rattle.rx_hub.proofs.Places.{Turning, Turning-more, place-at, set_cursors, apart_same}
 use Rattle.rx_hub.proofs.Tight.{owned_moved, owned_same}
-use Rattle.rx_hub.proofs.audience.feed_all.Goals as goal
+use Rattle.rx_hub.proofs.passes.feed_all.Goals as goal
 
 pub loop-i-init : goal.loop-i-init
 loop-i-init c = record {

@@ -5,7 +5,7 @@ use Rattle.rx_hub.specs.Subscriptions.{AllFedInto}
 use Rattle.rx_hub.specs.Audiences.{places_of, observers_on}
 use Rattle.rx_hub.specs.Audiences as audiences
 use Rattle.rx_hub.proofs.Places.{Turning}
-use Rattle.rx_hub.proofs.audience.feed_all.Given as goal
+use Rattle.rx_hub.proofs.passes.feed_all.Given as goal
 
 abbrev pub invariant-loop-i : goal.invariant-loop-i
 invariant-loop-i l = record {

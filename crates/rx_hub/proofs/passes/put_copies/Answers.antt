@@ -5,7 +5,7 @@ use Rattle.rx_hub.specs.Seats.{owing_of, given_now}
 use Rattle.rx_hub.specs.Audiences.{Place, place_of, places_of, gifts}
 use Rattle.rx_hub.proofs.Feeding.{gifts-more, front_of}
 use Rattle.rx_hub.proofs.Places.{place-at}
-use Rattle.rx_hub.proofs.audience.put_copies.Goals as goal
+use Rattle.rx_hub.proofs.passes.put_copies.Goals as goal
 
 pub give-requires-clause-owed : goal.give-requires-clause-owed
 give-requires-clause-owed c =

@@ -2,7 +2,7 @@ use Rattle.std.proofs.Common.{◌<◌}
 use Rattle.std.specs.List.{AllWithin}
 use Rattle.rx_hub.specs.Seats.{owing_of}
 use Rattle.rx_hub.specs.Audiences.{Place, places_of}
-use Rattle.rx_hub.proofs.audience.are_owed.Given as goal
+use Rattle.rx_hub.proofs.passes.are_owed.Given as goal
 
 abbrev pub invariant-loop-i : goal.invariant-loop-i
 invariant-loop-i l = record {

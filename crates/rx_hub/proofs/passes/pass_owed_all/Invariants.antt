@@ -5,7 +5,7 @@ use Rattle.rx_tape.specs.Tapes.{TapeState}
 use Rattle.rx_hub.specs.Subscriptions.{AllFedInto}
 use Rattle.rx_hub.specs.Audiences.{places_of, observers_on, gifts, AllOn}
 use Rattle.rx_hub.specs.Audiences as audiences
-use Rattle.rx_hub.proofs.audience.pass_owed_all.Given as goal
+use Rattle.rx_hub.proofs.passes.pass_owed_all.Given as goal
 
 abbrev pub invariant-loop-i : goal.invariant-loop-i
 invariant-loop-i l = record {

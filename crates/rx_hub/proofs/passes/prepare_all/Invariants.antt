@@ -3,7 +3,7 @@ use Rattle.std.specs.List.{AllWithin}
 use Rattle.rx_hub.specs.declared.subscription.Subscription.{Subscription}
 use Rattle.rx_hub.specs.Seats.{IsReady}
 use Rattle.rx_hub.specs.Audiences.{places_of}
-use Rattle.rx_hub.proofs.audience.prepare_all.Given as goal
+use Rattle.rx_hub.proofs.passes.prepare_all.Given as goal
 
 abbrev pub invariant-loop-i : goal.invariant-loop-i
 invariant-loop-i l = record {

@@ -3,7 +3,7 @@ use Rattle.std.specs.List.{AllWithin}
 use Rattle.rx_hub.specs.declared.subscription.Subscription.{Subscription}
 use Rattle.rx_hub.specs.Seats.{HoldsCopy}
 use Rattle.rx_hub.specs.Audiences.{places_of, gifts}
-use Rattle.rx_hub.proofs.audience.give_item.Given as goal
+use Rattle.rx_hub.proofs.passes.give_item.Given as goal
 
 abbrev pub invariant-loop-i : goal.invariant-loop-i
 invariant-loop-i l = record {
