@@ -1,38 +1,12 @@
 // What a call is answered on the line.
 ghost use Rattle.std.specs.Prelude.{◌≡◌};
-ghost use Rattle.rx_server.specs.Responses.{response_to, response_of, word_of, has_joined, sink_in};
+ghost use Rattle.rx_server.specs.Responses.{response_of, has_joined, sink_in};
 ghost use Rattle.rx_server.specs.Responses as responses;
 
-use rx_note::{Answer, Refusal};
+use rx_note::Answer;
 use rx_proto::{Response, Word};
 use rx_pump::{CallError, Reply};
-
-/// The response to an event that was answered so.
-pub fn response_to(answered: Result<Answer, Refusal>) -> Response
-    ensures { result ≡ response_to answered }
-{
-    match answered {
-        Ok(Answer::Joined(who)) => Response::Joined(who),
-        Ok(Answer::Admitted) => Response::Done,
-        Ok(Answer::Asked) => Response::Done,
-        Ok(Answer::Left) => Response::Done,
-        Err(refusal) => Response::Refused(word_of(refusal)),
-    }
-}
-
-fn word_of(refusal: Refusal) -> Word
-    ensures { result ≡ word_of refusal }
-{
-    match refusal {
-        Refusal::Ended => Word::Ended,
-        Refusal::Full => Word::Full,
-        Refusal::Spent => Word::Spent,
-        Refusal::ZeroRequest => Word::Zero,
-        Refusal::NoObserver => Word::Observer,
-        Refusal::TooMuch => Word::TooMuch,
-        Refusal::Memory => Word::Memory,
-    }
-}
+use rx_session::response_to;
 
 // The response to a call.
 pub fn response_of<S>(answered: &Result<Reply<S>, CallError<S>>) -> Response
