@@ -9,7 +9,7 @@ use Rattle.rx_pump.specs.Pumps.{counted}
 use Rattle.rx_pump.proofs.Pumping.{counted-more}
 use Rattle.rx_sink.specs.declared.line_sink.LineSink.{LineSink}
 use Rattle.rx_server.specs.SessionDesks.{SessionView, KeepsSession}
-use Rattle.rx_server.specs.declared.subject_config.SubjectConfig.{SubjectConfig}
+use Rattle.rx_config.specs.declared.subject_config.SubjectConfig.{SubjectConfig}
 use Rattle.rx_server.specs.declared.worker_end.WorkerEnd.{WorkerEnd}
 use Rattle.rx_server.specs.Workers.{view_of_end}
 use Rattle.rx_server.specs.Working.{WorkerView, worker, HasStopped, ServesOne, Works, HasWorked}

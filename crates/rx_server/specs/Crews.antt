@@ -5,7 +5,7 @@ use Rattle.rx_pump.specs.Desks.{DeskView, KeepsDesk}
 use Rattle.rx_sink.specs.declared.line_sink.LineSink.{LineSink}
 use Rattle.rx_server.specs.Accepting.{Accepts}
 use Rattle.rx_server.specs.Working.{WorkerView}
-use Rattle.rx_server.specs.declared.config.Config.{Config}
+use Rattle.rx_config.specs.declared.config.Config.{Config}
 
 -- a desk has a port for each subject of a configuration
 abbrev pub IsFor : {S : Type 0} → Config → DeskView S → Type 0

@@ -1,5 +1,4 @@
 pub mod Accepting
-pub mod Configurations
 pub mod Connections
 pub mod Crews
 pub mod Ends

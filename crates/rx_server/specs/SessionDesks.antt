@@ -17,7 +17,7 @@ use Rattle.rx_session.specs.declared.follow.Follow.{Follow}
 use Rattle.rx_session.specs.declared.follow.Follow.TheVariants.{Taken, Back}
 use Rattle.rx_sink.specs.declared.line_sink.LineSink.{LineSink}
 use Rattle.rx_server.specs.Responses.{response_of, has_joined, sink_in}
-use Rattle.rx_server.specs.declared.subject_config.SubjectConfig.{SubjectConfig}
+use Rattle.rx_config.specs.declared.subject_config.SubjectConfig.{SubjectConfig}
 
 -- a session's desk: the subjects, by whose names it finds them, the first request of an observer, where its moments come
 -- from, and the desk that makes its calls

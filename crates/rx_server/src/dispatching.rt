@@ -6,12 +6,12 @@ ghost use Rattle.rx_pump.specs.Desks.{KeepsDesk};
 ghost use Rattle.rx_server.specs.Crews.{IsFor, HasAcceptedAll};
 
 use crate::accepting::{AcceptStop, accept_all};
-use crate::config::Config;
 use crate::hiring::{dismiss_all, hire_all, join_all};
 use crate::listener::Listener;
 use crate::moments::Moments;
 use crate::running_worker::RunningWorker;
 use crate::serve_fault::ServeFault;
+use rx_config::Config;
 use rx_heap::{Heap, Memory};
 use rx_mailbox::Port;
 use rx_pump::{CallDesk, room};

@@ -6,11 +6,11 @@ ghost use Rattle.rx_pump.specs.Desks.{DeskView, KeepsDesk};
 ghost use Rattle.rx_sink.specs.declared.line_sink.LineSink.{LineSink};
 ghost use Rattle.rx_server.specs.Crews.{AreOut, IsFor, desk_of};
 
-use crate::config::Config;
 use crate::moments::Moments;
 use crate::running_worker::{RunningWorker, dismiss, start_worker};
 use crate::serve_fault::ServeFault;
 use crate::worker::Worker;
+use rx_config::Config;
 use rx_heap::{Heap, Memory};
 use rx_mailbox::{Inbox, OpenError, Port, open};
 use rx_pump::CallDesk;

@@ -5,11 +5,11 @@ ghost use Rattle.rx_hub.specs.Hubs.{HubView};
 ghost use Rattle.rx_server.specs.Wirings.{Wiring};
 ghost use Rattle.rx_server.specs.Servers.{IsServerOf};
 
-use crate::config::Config;
 use crate::rooms::Rooms;
 use crate::running::Running;
 use crate::start_fault::{Role, StartFault};
 use crate::wiring::wire;
+use rx_config::Config;
 use rx_heap::{Heap, Memory};
 use rx_mailbox::Port;
 use rx_pump::{CallDesk, Out};

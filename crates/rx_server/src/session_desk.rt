@@ -1,10 +1,9 @@
 ghost use Rattle.std.specs.Prelude.{◌≡◌, ◌+◌, length, vec_len};
 ghost use Rattle.rx_server.specs.SessionDesks.{followed, place_of};
 
-use crate::config::Config;
 use crate::moments::Moments;
 use crate::responding::{has_joined, response_of, sink_in};
-use crate::subject_config::SubjectConfig;
+use rx_config::{Config, SubjectConfig};
 use rx_heap::Heap;
 use rx_note::{Event, Note, Policy};
 use rx_proto::{Name, Response, Word};

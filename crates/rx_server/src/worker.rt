@@ -1,12 +1,12 @@
 ghost use Rattle.std.specs.Prelude.{◌≡◌, ◌+◌, length, vec_len};
 ghost use Rattle.std.specs.Arc.{arc_value};
 
-use crate::config::Config;
 use crate::moments::Moments;
 use crate::serving::serve_all;
 use crate::session_desk::SessionDesk;
 use crate::shared_moments::SharedMoments;
 use crate::worker_end::WorkerEnd;
+use rx_config::Config;
 use rx_heap::Heap;
 use rx_mailbox::Inbox;
 use rx_pump::CallDesk;
