@@ -19,7 +19,7 @@ use Rattle.rx_config.specs.declared.config.Config.{Config}
 use Rattle.rx_config.specs.declared.subject_config.SubjectConfig.{SubjectConfig}
 use Rattle.rx_server.specs.declared.rooms.Rooms.{Rooms}
 use Rattle.rx_server.specs.declared.wiring.Boxes.{Boxes}
-use Rattle.rx_server.specs.Crews.{IsFor}
+use Rattle.rx_workers.specs.Crews.{IsFor}
 use Rattle.rx_server.specs.OpenBoxes.{AreOpenFor}
 use Rattle.rx_server.specs.Rooms.{AreRooms}
 use Rattle.rx_server.specs.Wirings.{AreHubsOf, AreOpened, IsOf, RowView, Wiring, behind, desk_of, desks_of, drainer_of, drainers_of, greatest, leave_ports, most_observers, next_port, ports_at, pump_of, pumps_of, row_ports, whole_row}

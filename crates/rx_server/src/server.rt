@@ -51,7 +51,7 @@ impl<S: Sink> Model for Server<S> {
     ghost use Rattle.std.specs.Vec.Iter.{into_iter_items};
     ghost use Rattle.std.specs.Arc.{arc_value};
     ghost use Rattle.std.specs.List.{All};
-    ghost use Rattle.rx_server.specs.Crews.{IsFor};
+    ghost use Rattle.rx_workers.specs.Crews.{IsFor};
     ghost use Rattle.rx_server.specs.Servers.{ServerView};
     ghost use Rattle.rx_server.specs.Rooms.{AreRooms};
 
@@ -64,7 +64,7 @@ impl<S: Sink> Model for Server<S> {
 }
 
 impl<S: Sink> Server<S> {
-    ghost use Rattle.rx_server.specs.Crews.{IsFor};
+    ghost use Rattle.rx_workers.specs.Crews.{IsFor};
     ghost use Rattle.rx_server.specs.Rooms.{AreRooms};
     ghost use Rattle.rx_server.specs.Servers.{with_desk};
 
