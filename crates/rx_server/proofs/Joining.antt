@@ -15,11 +15,11 @@ use Rattle.rx_pump.specs.declared.reply.Reply.{Reply}
 use Rattle.rx_pump.specs.Pumps.{PumpView, fresh_pump}
 use Rattle.rx_pump.specs.Desks.{DeskView, fresh_desk}
 use Rattle.rx_drain.specs.Drainers.{DrainerView, fresh_drainer}
-use Rattle.rx_server.specs.declared.config.Config.{Config}
-use Rattle.rx_server.specs.declared.subject_config.SubjectConfig.{SubjectConfig}
+use Rattle.rx_config.specs.declared.config.Config.{Config}
+use Rattle.rx_config.specs.declared.subject_config.SubjectConfig.{SubjectConfig}
 use Rattle.rx_server.specs.declared.rooms.Rooms.{Rooms}
 use Rattle.rx_server.specs.declared.wiring.Boxes.{Boxes}
-use Rattle.rx_server.specs.Crews.{IsFor}
+use Rattle.rx_workers.specs.Crews.{IsFor}
 use Rattle.rx_server.specs.OpenBoxes.{AreOpenFor}
 use Rattle.rx_server.specs.Rooms.{AreRooms}
 use Rattle.rx_server.specs.Wirings.{AreHubsOf, AreOpened, IsOf, RowView, Wiring, behind, desk_of, desks_of, drainer_of, drainers_of, greatest, leave_ports, most_observers, next_port, ports_at, pump_of, pumps_of, row_ports, whole_row}

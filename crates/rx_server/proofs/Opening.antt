@@ -7,7 +7,7 @@ use Rattle.rx_history.specs.Histories.{NoEvents}
 use Rattle.rx_hub.specs.Hubs.{HubView, StandsFor}
 use Rattle.rx_note.specs.declared.rules.Rules.{Rules}
 use Rattle.rx_mailbox.specs.Boxes.{Box, Outgoing, Incoming, outgoing, incoming, capacity_of}
-use Rattle.rx_server.specs.declared.subject_config.SubjectConfig.{SubjectConfig}
+use Rattle.rx_config.specs.declared.subject_config.SubjectConfig.{SubjectConfig}
 use Rattle.rx_server.specs.Wirings.{RowView, AreHubsOf, AreOpened, ports_from, whole_row}
 
 module _ {B : Type 0} where

@@ -1,14 +1,5 @@
-pub mod Accepting
-pub mod Configurations
-pub mod Connections
-pub mod Crews
 pub mod Ends
 pub mod OpenBoxes
-pub mod Responses
 pub mod Rooms
 pub mod Servers
-pub mod SessionDesks
-pub mod Telling
 pub mod Wirings
-pub mod Workers
-pub mod Working

@@ -13,7 +13,7 @@ use Rattle.rx_drain.specs.declared.drain_end.DrainEnd.{DrainEnd}
 use Rattle.rx_drain.specs.Drainers.{DrainerView}
 use Rattle.rx_drain.specs.Serving as drainer_serving
 use Rattle.rx_server.specs.declared.close_fault.CloseFault.{CloseFault}
-use Rattle.rx_server.specs.declared.config.Config.{Config}
+use Rattle.rx_config.specs.declared.config.Config.{Config}
 use Rattle.rx_server.specs.declared.report.SubjectReport.{SubjectReport}
 use Rattle.rx_server.specs.declared.report.Report.{Report}
 use Rattle.rx_server.specs.declared.start_fault.Role.{Role}

@@ -10,8 +10,8 @@ use Rattle.rx_pump.specs.declared.reply.Reply.{Reply}
 use Rattle.rx_pump.specs.Pumps.{PumpView, fresh_pump}
 use Rattle.rx_pump.specs.Desks.{DeskView, fresh_desk}
 use Rattle.rx_drain.specs.Drainers.{DrainerView, fresh_drainer}
-use Rattle.rx_server.specs.declared.config.Config.{Config}
-use Rattle.rx_server.specs.declared.subject_config.SubjectConfig.{SubjectConfig}
+use Rattle.rx_config.specs.declared.config.Config.{Config}
+use Rattle.rx_config.specs.declared.subject_config.SubjectConfig.{SubjectConfig}
 
 -- PORTS BEFORE THEY ARE HANDED OUT
 

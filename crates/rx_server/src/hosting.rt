@@ -3,21 +3,18 @@ ghost use Rattle.std.specs.Prelude.{◌≡◌, ◌+◌, ◌≤◌, ◌++◌, [],
 ghost use Rattle.std.specs.Vec.Iter.{into_iter_items};
 
 use crate::closing::finish_desks;
-use crate::dispatching::serve_connections;
-use crate::listener::Listener;
-use crate::moments::Moments;
-use crate::serve_fault::ServeFault;
 use crate::server::Server;
 use rx_heap::Heap;
 use rx_pump::room;
 use rx_sink::LineSink;
+use rx_workers::{Listener, Moments, ServeFault, serve_connections};
 use std::io::Write;
 use std::sync::Wait;
 use std::thread::Threads;
 use std::vec::IntoIter;
 
 impl<W: Write + Drop + Send + 'static> Server<LineSink<W>> {
-    ghost use Rattle.rx_server.specs.Crews.{HasAcceptedAll};
+    ghost use Rattle.rx_workers.specs.Crews.{HasAcceptedAll};
     ghost use Rattle.rx_server.specs.Servers.{RunsOn};
 
     /// Serves each connection that comes by a session, until as many have ended as the configuration says. A worker serves for

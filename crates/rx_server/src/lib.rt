@@ -1,67 +1,37 @@
-//! The parts of a server: its configuration, and sessions served by workers.
+//! A server: the threads of its subjects and sinks, the desks that call them, and its close.
 //!
-//! [`read_config`] reads from TOML what a server is made of: exactly the configuration that the table says, or the first
-//! cause that holds (`specs/Configurations.antt`). [`SessionDesk`] makes of each command of a session one call to its subject
-//! (`specs/SessionDesks.antt`). A [`Worker`] serves one connection after another by a desk; [`serve_connections`] has one for
-//! each desk, in a thread of its own, and deals the connections of a [`Listener`] to them.
+//! [`start`] makes the hubs and boxes of a configuration and starts its pumps and drainers; [`Server::desk`] hands out desks, and
+//! [`Server::serve`] serves the connections of a listener by those that are left; [`Server::close`] ends what is left, waits
+//! until all threads have ended, and reports. Nothing is said of when a thread runs, and `close` isn't promised to return.
+//!
+//! The programs above rest on this: a server is wired as its configuration says (`specs/Wirings.antt`), and a report tells what
+//! each pump and each drainer did (`Servers.antt`).
+//!
+//! The configuration, and the desks of sessions with their workers, stand in crates of their own below this one, and are
+//! exported again.
 #![tactic(auto)]
 
-mod accepting;
 mod close_fault;
 mod closing;
-mod config;
-mod config_error;
-mod dispatching;
-mod entry;
-mod fault;
-mod hiring;
 mod hosting;
-mod keys;
-mod listener;
 mod making;
-mod moments;
-mod numbers;
 mod opened;
-mod pool;
 mod port_row;
-mod reading;
 mod report;
-mod responding;
 mod rooms;
 mod running;
 mod running_pump;
-mod running_worker;
-mod serve_fault;
 mod server;
-mod serving;
-mod session;
-mod session_desk;
-mod shared_moments;
 mod start_fault;
-mod subject_config;
-mod subjects;
-mod texts;
 mod wiring;
-mod worker;
-mod worker_end;
 
-pub use accepting::{AcceptStop, accept_all};
 pub use close_fault::{CloseCause, CloseFault};
-pub use config::Config;
-pub use config_error::ConfigError;
-pub use dispatching::serve_connections;
-pub use listener::{AcceptFault, Listener};
-pub use moments::Moments;
-pub use reading::read_config;
 pub use report::{Report, SubjectReport};
-pub use responding::response_to;
-pub use running_worker::{RunningWorker, start_worker};
-pub use serve_fault::ServeFault;
+pub use rx_config::{Config, ConfigError, SubjectConfig, read_config};
+pub use rx_session::response_to;
+pub use rx_workers::{
+    AcceptFault, AcceptStop, Listener, MAX_READS, Moments, RunningWorker, ServeFault, SessionDesk,
+    SharedMoments, Worker, WorkerEnd, accept_all, serve_connections, serve_one, start_worker,
+};
 pub use server::{Server, start};
-pub use session::{MAX_READS, serve_one};
-pub use session_desk::SessionDesk;
-pub use shared_moments::SharedMoments;
 pub use start_fault::{Role, StartCause, StartFault};
-pub use subject_config::SubjectConfig;
-pub use worker::Worker;
-pub use worker_end::WorkerEnd;

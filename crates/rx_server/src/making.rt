@@ -11,7 +11,7 @@ ghost use Rattle.rx_server.specs.Wirings.{AreHubsOf, behind, next_port, row_port
 
 use crate::port_row::{PortRow, next_ports};
 use crate::start_fault::{Role, StartFault};
-use crate::subject_config::SubjectConfig;
+use rx_config::SubjectConfig;
 use rx_drain::Drainer;
 use rx_heap::{Heap, Memory};
 use rx_hub::{Hub, HubError};

@@ -5,11 +5,11 @@ ghost use Rattle.rx_hub.specs.Hubs.{HubView};
 ghost use Rattle.rx_server.specs.Wirings.{Wiring};
 ghost use Rattle.rx_server.specs.Servers.{IsServerOf};
 
-use crate::config::Config;
 use crate::rooms::Rooms;
 use crate::running::Running;
 use crate::start_fault::{Role, StartFault};
 use crate::wiring::wire;
+use rx_config::Config;
 use rx_heap::{Heap, Memory};
 use rx_mailbox::Port;
 use rx_pump::{CallDesk, Out};
@@ -51,7 +51,7 @@ impl<S: Sink> Model for Server<S> {
     ghost use Rattle.std.specs.Vec.Iter.{into_iter_items};
     ghost use Rattle.std.specs.Arc.{arc_value};
     ghost use Rattle.std.specs.List.{All};
-    ghost use Rattle.rx_server.specs.Crews.{IsFor};
+    ghost use Rattle.rx_workers.specs.Crews.{IsFor};
     ghost use Rattle.rx_server.specs.Servers.{ServerView};
     ghost use Rattle.rx_server.specs.Rooms.{AreRooms};
 
@@ -64,7 +64,7 @@ impl<S: Sink> Model for Server<S> {
 }
 
 impl<S: Sink> Server<S> {
-    ghost use Rattle.rx_server.specs.Crews.{IsFor};
+    ghost use Rattle.rx_workers.specs.Crews.{IsFor};
     ghost use Rattle.rx_server.specs.Rooms.{AreRooms};
     ghost use Rattle.rx_server.specs.Servers.{with_desk};
 

@@ -5,14 +5,13 @@ ghost use Rattle.rx_hub.specs.Hubs.{HubView};
 ghost use Rattle.rx_server.specs.OpenBoxes.{AreOpenFor, IsEmptyFor};
 ghost use Rattle.rx_server.specs.Wirings.{IsWired, Wiring, drainer_capacity, most_observers};
 
-use crate::config::Config;
 use crate::making::{make_desks, make_drainers, make_hubs, make_pumps};
 use crate::opened::{Opened, open_all};
 use crate::port_row::put_ports;
 use crate::rooms::Rooms;
 use crate::running::{Running, start_drainers, start_pumps};
 use crate::start_fault::{Role, StartFault};
-use crate::subject_config::SubjectConfig;
+use rx_config::{Config, SubjectConfig};
 use rx_drain::Drainer;
 use rx_heap::{Heap, Memory};
 use rx_mailbox::Port;

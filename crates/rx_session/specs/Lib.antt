@@ -3,6 +3,7 @@ pub mod Laws
 pub mod Lines
 pub mod Nexts
 pub mod Reads
+pub mod Responses
 pub mod Sessions
 pub mod Steps
 pub mod Turns

@@ -4,9 +4,9 @@
 use crate::drawing::Plan;
 use crate::heaps::unlimited;
 use crate::hubs::{Ran, joined, run_drawn};
-use crate::signs::Named;
 use rx_heap::Heap;
 use rx_note::{Answer, Errors, Refusal, Strategy};
+use rx_signs::Named;
 use std::process::Abort;
 use std::test::Fail;
 

@@ -1,14 +1,13 @@
 //! A hub over a budget of bytes in use, a list of what is given over one, and what a text takes of one.
 
-use crate::boxes::copy;
 use crate::expecting::{expect_answer, expect_count, expect_that};
-use crate::heaps::unlimited;
-use crate::signs::{item, policy_of, text_of};
+use crate::heaps::{copy, unlimited};
 use rx_heap::{Heap, Memory};
 use rx_hub::Hub;
 use rx_note::{
     Answer, Event, Given, Kind, Limits, MAX_TEXT, Note, Refusal, Strategy, Text, TextError,
 };
+use rx_signs::{item, policy_of, text_of};
 use std::alloc::Global;
 use std::process::Abort;
 use std::test::Fail;
@@ -74,7 +73,7 @@ impl Waiting {
     // Emits until want of memory, so many items at most: how many were admitted; none where no emission found that.
     fn fill(&mut self, rt: &impl Abort, most: u32) -> Option<u32> {
         for admitted in 0..most {
-            if self.emit(rt) == Err(Refusal::Memory) {
+            if matches!(self.emit(rt), Err(Refusal::Memory)) {
                 return Some(admitted);
             }
         }

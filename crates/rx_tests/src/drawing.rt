@@ -1,8 +1,8 @@
 //! Events drawn by a fixed rule.
 
-use crate::signs::{item, policy_by};
 use rx_heap::Heap;
 use rx_note::{BadRoom, Errors, Event, Note, Policy, Strategy, Text};
+use rx_signs::{item, policy_by};
 use std::test::Fail;
 
 // The first event that may be an item.

@@ -4,10 +4,10 @@
 use crate::drawing::Plan;
 use crate::heaps::unlimited;
 use crate::hubs::{OBSERVERS, Ran, Reading, joined, reading_of, run_drawn};
-use crate::signs::{Named, SEED_PORT};
 use rx_heap::Heap;
 use rx_hub::{NoObserver, Step};
 use rx_note::{Answer, Errors, Given, Note, Refusal, Strategy};
+use rx_signs::{Named, SEED_PORT};
 use std::process::Abort;
 use std::test::Fail;
 

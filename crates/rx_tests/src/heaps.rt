@@ -1,22 +1,24 @@
-//! Handles under a limit: a budget is kept and given back, a growth is refused in its turn, and two threads never have the
-//! same bytes.
+//! Handles under a limit: a budget is kept and given back, and a growth is refused in its turn.
 //!
 //! In a script a digit takes a block of so many times ten bytes, `/` cuts the last one to half of its room, and `-` gives it
 //! back. Told is `!` where a block was refused, behind `?` the bytes used, in tens, and behind `#` how many growths were asked
 //! for.
 
 use crate::expecting::{expect_count, expect_that, expect_told};
-use crate::told::Told;
 use rx_heap::Heap;
+use rx_signs::Told;
 use std::alloc::Global;
 use std::process::Abort;
-use std::sync::atomic::{AtomicU64, Ordering};
 use std::test::Fail;
-use std::thread::join;
 
 /// The memory of a test: the runtime's, without a limit.
 pub(crate) fn unlimited(rt: &HostRuntime) -> Heap {
     Heap::unlimited(rt.alloc())
+}
+
+/// Another handle on the same memory.
+pub(crate) fn copy(rt: &impl Abort, heap: &Heap) -> Heap {
+    heap.clone().expect(rt, "a handle")
 }
 
 /// A handle that is tried, the blocks that were taken by it, and what is told.
@@ -100,7 +102,7 @@ fn a_budget_is_kept_and_given_back(rt: HostRuntime) -> Result<(), Fail> {
 }
 
 /// What is seen of a list that grows while one growth is refused.
-#[derive(Clone, Copy, Debug, PartialEq, Eq)]
+#[derive(Clone, Copy)]
 struct Growing {
     refused: u32,
     // Whether it holds in the end what was pushed.
@@ -139,50 +141,5 @@ fn each_growth_of_a_list_is_refused_in_turn(rt: HostRuntime) -> Result<(), Fail>
         met = met.saturating_add(u64::from(seen.refused));
     }
     expect_that(&rt, met >= 2, "growths that were met");
-    Ok(())
-}
-
-/// How often a thread had its block, and how often another one had its own at the same time.
-#[derive(Clone, Copy)]
-struct Turns {
-    had: u64,
-    shared: u64,
-}
-
-fn block(heap: &Heap, bytes: usize) -> Option<Vec<u8, Heap>> {
-    let heap = heap.clone().ok()?;
-    Vec::with_capacity(heap, bytes).ok()
-}
-
-// Takes a block and gives it back, a thousand times. More than one block is more than the budget.
-fn take_turns(heap: &Heap, holders: &AtomicU64) -> Turns {
-    let mut turns = Turns { had: 0, shared: 0 };
-    for _ in 0..1_000 {
-        let block = block(heap, 60);
-        if block.is_some() {
-            turns.had = turns.had.saturating_add(1);
-            let others = holders.fetch_add(1, Ordering::SeqCst);
-            turns.shared = turns.shared.saturating_add(others);
-            holders.fetch_sub(1, Ordering::SeqCst);
-        }
-        drop(block);
-    }
-    turns
-}
-
-#[test]
-fn two_threads_over_one_budget(rt: HostRuntime) -> Result<(), Fail> {
-    let heap = Heap::with_budget(rt.alloc(), 100)?;
-    let holders = AtomicU64::new(0);
-    let (first, second) = join(
-        &rt,
-        || take_turns(&heap, &holders),
-        || take_turns(&heap, &holders),
-    );
-    expect_that(&rt, first.had > 0 || second.had > 0, "no block at all");
-    expect_count(&rt, first.shared, 0, "shared by the first");
-    expect_count(&rt, second.shared, 0, "shared by the second");
-    expect_count(&rt, heap.asked(), 2_000, "growths");
-    expect_count(&rt, heap.used(), 0, "bytes that were not given back");
     Ok(())
 }

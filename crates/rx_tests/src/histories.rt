@@ -8,11 +8,10 @@ ghost use Rattle.std.specs.Prelude.{◌≤◌};
 
 use crate::expecting::expect_told;
 use crate::heaps::unlimited;
-use crate::signs::{Named, event_of, kind_of, policy_by, rules_of};
-use crate::told::Told;
 use rx_heap::{Heap, Memory};
 use rx_history::{History, LineError};
 use rx_note::{Errors, Note, Policy, Rules, Strategy};
+use rx_signs::{Named, Told, event_of, kind_of, policy_by, rules_of};
 use std::test::Fail;
 
 fn history_of(heap: &Heap, policy: Policy, first: u32, script: &[u8]) -> Result<History, Memory> {

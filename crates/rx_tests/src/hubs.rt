@@ -10,12 +10,11 @@ ghost use Rattle.std.specs.Prelude.{◌≤◌, IfOk};
 use crate::drawing::{Plan, drawn};
 use crate::expecting::expect_told;
 use crate::heaps::unlimited;
-use crate::signs::{Named, event_of, kind_of, policy_of, rules_of, sign_of};
-use crate::told::Told;
 use rx_heap::Heap;
 use rx_history::History;
 use rx_hub::{Hub, NoObserver, Run, Step};
 use rx_note::{Answer, Event, Given, Kind, Limits, Note, Refusal, Rules, Strategy};
+use rx_signs::{Named, Told, event_of, kind_of, policy_of, rules_of, sign_of};
 use std::test::Fail;
 
 fn events_of(

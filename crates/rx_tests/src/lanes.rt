@@ -5,12 +5,11 @@
 //! that, where the request was refused, `Z` for no items, `T` for too much, `M` for want of memory. The state is how many
 //! items wait, how many notes wait, how many items are owed, and `!` where the lane is over, else `-`.
 
-use crate::in_turn::{Script, Tale, expect_in_turn};
-use crate::signs::{item, note_of, policy_by, sign_of};
-use crate::told::Told;
+use crate::in_turn::{Script, expect_in_turn};
 use rx_heap::{Heap, Memory};
 use rx_lane::{AskError, Lane};
 use rx_note::{Errors, Item, Note, Policy, Strategy};
+use rx_signs::{Tale, Told, item, note_of, policy_by, sign_of};
 use std::test::Fail;
 
 // A new lane, or one that was joined with a first request.

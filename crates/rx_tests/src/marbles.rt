@@ -7,11 +7,10 @@
 
 use crate::expecting::expect_that;
 use crate::heaps::unlimited;
-use crate::signs::{Named, event_of, kind_of, rules_of, sign_of};
-use crate::told::Told;
 use rx_heap::Heap;
 use rx_hub::{Hub, Run};
 use rx_note::{Errors, Event, Given, Note, Policy, Rules, Strategy};
+use rx_signs::{Named, Told, event_of, kind_of, rules_of, sign_of};
 use std::test::Fail;
 
 /// A run, and how it is drawn.

@@ -7,12 +7,11 @@ ghost use Rattle.std.specs.Prelude.{◌≤◌, IfOk};
 
 use crate::expecting::{expect_that, expect_words};
 use crate::hubs::{Ran, Reading};
-use crate::in_turn::{Refusable, Seen, refuse_in_turn};
-use crate::signs::{Named, event_at, kind_of, policy_of, rules_of};
 use rx_heap::Heap;
 use rx_history::History;
 use rx_hub::{Hub, HubError, Run, Step};
 use rx_note::{Event, Refusal, Rules, Strategy};
+use rx_signs::{Named, Refusable, Seen, event_at, kind_of, policy_of, refuse_in_turn, rules_of};
 use std::test::Fail;
 
 /// A worked run: the kind of its subject, the strategy and the first request of each observer, and its events.

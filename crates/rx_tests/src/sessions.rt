@@ -7,11 +7,11 @@
 
 use crate::expecting::{expect_count, expect_told};
 use crate::heaps::unlimited;
-use crate::told::Told;
 use rx_heap::Heap;
 use rx_note::{Note, Policy};
 use rx_proto::{Name, Response, Word};
 use rx_session::{Desk, Follow, LineReader, Next, SessionEnd, serve_lines};
+use rx_signs::Told;
 use std::io::{self, ErrorKind, Read, Write};
 
 /// Gives its bytes so many at a time. The first reads are interrupted, and one fails.

@@ -1,17 +1,18 @@
 //! Runs of a hub at sizes at which a list might be too short: none of them is refused for want of memory.
 
+use crate::expecting::expect_count;
 use crate::heaps::unlimited;
 use crate::hubs::{hub_of, run_of};
-use crate::signs::{item, note_of, policy_of, rules_of};
 use rx_heap::Heap;
 use rx_hub::Run;
 use rx_note::{Event, Kind, Note, Strategy};
+use rx_signs::{item, note_of, policy_of, rules_of};
 use std::process::Abort;
 use std::test::Fail;
 
 /// A run: so many observers join with a first request, items of so many bytes are emitted, the end comes or not, so many
 /// more join, and observer 0 requests or not.
-#[derive(Clone, Copy, Debug)]
+#[derive(Clone, Copy)]
 struct Shape {
     joins: u32,
     first: u32,
@@ -24,7 +25,7 @@ struct Shape {
 
 /// How many events were refused, how many of them for want of memory, how many notes were given, and how many bytes their
 /// texts have.
-#[derive(Clone, Copy, Debug, PartialEq, Eq)]
+#[derive(Clone, Copy)]
 struct Told {
     refused: usize,
     misses: u64,
@@ -124,9 +125,10 @@ const NOTHING: Shape = Shape {
     request: 0,
 };
 
-// Runs, and of each how many events are refused, how many notes are given, and the bytes of their texts.
-const RUNS: [(Shape, usize, usize, usize); 9] = [
+// Runs by their names, and of each how many events are refused, how many notes are given, and the bytes of their texts.
+const RUNS: [(&str, Shape, usize, usize, usize); 9] = [
     (
+        "the longest text",
         Shape {
             joins: 2,
             first: 1,
@@ -139,6 +141,7 @@ const RUNS: [(Shape, usize, usize, usize); 9] = [
         2048,
     ),
     (
+        "64 observers",
         Shape {
             joins: 64,
             first: 1,
@@ -150,6 +153,7 @@ const RUNS: [(Shape, usize, usize, usize); 9] = [
         64,
     ),
     (
+        "65 observers",
         Shape {
             joins: 65,
             first: 1,
@@ -161,6 +165,7 @@ const RUNS: [(Shape, usize, usize, usize); 9] = [
         64,
     ),
     (
+        "a join after the completion",
         Shape {
             end: Some(b'.'),
             later: 1,
@@ -171,6 +176,7 @@ const RUNS: [(Shape, usize, usize, usize); 9] = [
         0,
     ),
     (
+        "a join after the failure",
         Shape {
             end: Some(b'!'),
             later: 1,
@@ -181,6 +187,7 @@ const RUNS: [(Shape, usize, usize, usize); 9] = [
         1,
     ),
     (
+        "the greatest request",
         Shape {
             joins: 1,
             first: ALL,
@@ -192,6 +199,7 @@ const RUNS: [(Shape, usize, usize, usize); 9] = [
         3,
     ),
     (
+        "20 items that wait",
         Shape {
             joins: 1,
             items: 20,
@@ -203,6 +211,7 @@ const RUNS: [(Shape, usize, usize, usize); 9] = [
         20,
     ),
     (
+        "600 items that wait",
         Shape {
             joins: 1,
             items: 600,
@@ -214,6 +223,7 @@ const RUNS: [(Shape, usize, usize, usize); 9] = [
         600,
     ),
     (
+        "1,100 items and the end",
         Shape {
             joins: 1,
             first: ALL,
@@ -228,22 +238,24 @@ const RUNS: [(Shape, usize, usize, usize); 9] = [
 ];
 
 // This is told of a run.
-fn expect_run(rt: &impl Abort, told: Told, wanted: Told, shape: &Shape) {
-    assert_eq!(rt; told, wanted, "{shape:?}");
+fn expect_run(rt: &impl Abort, told: Told, wanted: Told, row: &str) {
+    expect_count(rt, told.refused as u64, wanted.refused as u64, row);
+    expect_count(rt, told.misses, wanted.misses, row);
+    expect_count(rt, told.given as u64, wanted.given as u64, row);
+    expect_count(rt, told.bytes as u64, wanted.bytes as u64, row);
 }
 
 #[test]
 fn no_size_wants_memory(rt: HostRuntime) -> Result<(), Fail> {
     let heap = unlimited(&rt);
-    for (shape, refused, given, bytes) in &RUNS {
-        let (refused, given, bytes) = (*refused, *given, *bytes);
+    for (row, shape, refused, given, bytes) in &RUNS {
         let wanted = Told {
-            refused,
+            refused: *refused,
             misses: 0,
-            given,
-            bytes,
+            given: *given,
+            bytes: *bytes,
         };
-        expect_run(&rt, told_of(&heap, shape)?, wanted, shape);
+        expect_run(&rt, told_of(&heap, shape)?, wanted, row);
     }
     Ok(())
 }

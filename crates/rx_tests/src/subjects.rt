@@ -6,11 +6,10 @@
 //! opening; of the state the stamp, and `!` where the subject has ended, else `-`. Of a kind that is out of its limits
 //! nothing is told but `C` for its count, `A` for its age.
 
-use crate::in_turn::{Script, Tale, expect_in_turn};
-use crate::signs::{Named, kind_of, note_of, sign_of, sign_of_item};
-use crate::told::Told;
+use crate::in_turn::{Script, expect_in_turn};
 use rx_heap::{Heap, Memory};
 use rx_note::{Item, KindError, Note};
+use rx_signs::{Named, Tale, Told, kind_of, note_of, sign_of, sign_of_item};
 use rx_subject::{AdmitError, Offer, Opening, Subject};
 use std::test::Fail;
 

@@ -12,12 +12,11 @@
 ghost use Rattle.std.specs.Prelude.{◌≡◌, true, IfOk};
 ghost use Rattle.rx_lane.specs.TapeLanes.{StandsBack, StandsWhereSome, IsShared};
 
-use crate::in_turn::{Script, Tale, expect_in_turn};
-use crate::signs::{item, note_of, policy_by, sign_of};
-use crate::told::Told;
+use crate::in_turn::{Script, expect_in_turn};
 use rx_heap::{Heap, Memory};
 use rx_lane::{AskError, TapeLane};
 use rx_note::{Errors, Given, Item, Note, Policy, Strategy};
+use rx_signs::{Tale, Told, item, note_of, policy_by, sign_of};
 use rx_tape::Tape;
 use std::test::Fail;
 

@@ -5,13 +5,12 @@ ghost use Rattle.std.specs.Prelude.{◌≤◌, length};
 
 use crate::expecting::expect_count;
 use crate::heaps::unlimited;
-use crate::in_turn::{Script, Tale, expect_in_turn};
-use crate::signs::{Named, kind_of, note_of, sign_of_item};
+use crate::in_turn::{Script, expect_in_turn};
 use crate::subjects::{ROWS, is_memory, put_end, put_item, put_offered};
 use crate::tapes::cursor_of;
-use crate::told::Told;
 use rx_heap::{Heap, Memory};
 use rx_note::Note;
+use rx_signs::{Named, Tale, Told, kind_of, note_of, sign_of_item};
 use rx_subject::{AdmitError, Offer, TapeOpening, TapeSubject};
 use rx_tape::Tape;
 use std::test::Fail;

@@ -6,11 +6,10 @@
 
 ghost use Rattle.std.specs.Prelude.{◌≡◌};
 
-use crate::in_turn::{Script, Tale, expect_in_turn};
-use crate::signs::{item, sign_of_item};
-use crate::told::Told;
+use crate::in_turn::{Script, expect_in_turn};
 use rx_heap::{Heap, Memory};
 use rx_note::Item;
+use rx_signs::{Tale, Told, item, sign_of_item};
 use rx_tape::Tape;
 use std::test::Fail;
 

@@ -1,41 +1,13 @@
 //! The line server: it reads script lines from standard input and answers on standard output.
 //!
-//! `read_words` says what a command line asks for, and `run_words` is the program over any streams; `main` hands it the
-//! standard ones. `run_script` and `run_audit` are its runs.
+//! `rx_program::run_words` is the program over any streams; `main` hands it the standard ones.
 #![tactic(auto)]
 
-mod asked;
-mod asking;
-pub mod audit;
-pub mod clocked;
-mod config_file;
-pub mod host;
-mod ledger;
-mod ledger_list;
-mod names;
-mod observed;
-mod printing;
-pub mod program;
-pub mod program_fault;
-pub mod script;
-pub mod serving;
-mod site;
-pub mod socket;
-pub mod task;
-pub mod telling;
-#[cfg(test)]
-mod tests;
-mod told;
-mod topic;
-pub mod words;
-
-use program::run_words;
-use program_fault::ProgramFault;
+use rx_program::{ProgramFault, run_words, tell};
 use std::alloc::AllocError;
 use std::env;
 use std::io::{self, Write};
 use std::process::ExitCode;
-use telling::tell;
 
 fn main(rt: HostRuntime) -> ExitCode {
     let mut faults = rt.stderr();

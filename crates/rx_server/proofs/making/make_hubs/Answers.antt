@@ -1,6 +1,6 @@
 use Rattle.std.proofs.Common.{◌≤◌, ◌∙◌, ap, length, get_or, List, subst, arith}
 use Rattle.std.proofs.lemmas.List.{take_all}
-use Rattle.rx_server.specs.declared.subject_config.SubjectConfig.{SubjectConfig}
+use Rattle.rx_config.specs.declared.subject_config.SubjectConfig.{SubjectConfig}
 use Rattle.rx_server.specs.Wirings.{AreHubsOf}
 use Rattle.rx_server.proofs.Opening.{Hubs-none, Hubs-more}
 use Rattle.rx_server.proofs.making.make_hubs.Goals as goal

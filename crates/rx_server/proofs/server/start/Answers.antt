@@ -2,8 +2,8 @@ use Rattle.std.proofs.Common.{◌≡◌, ◌∙◌, ◌<◌, sym, ap, subst, len
 use Rattle.std.proofs.lemmas.List.Elements.{All-same}
 use Rattle.std.specs.List.{All}
 use Rattle.std.specs.Vec.Iter.{into_iter_items}
-use Rattle.rx_server.specs.declared.config.Config.{Config}
-use Rattle.rx_server.specs.Crews.{IsFor}
+use Rattle.rx_config.specs.declared.config.Config.{Config}
+use Rattle.rx_workers.specs.Crews.{IsFor}
 use Rattle.rx_server.proofs.Joining.{desks-fit, leaves-fit, mapped-count, Rooms-as}
 use Rattle.rx_server.proofs.server.start.Goals as goal
 

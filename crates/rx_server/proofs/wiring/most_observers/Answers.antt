@@ -1,5 +1,5 @@
 use Rattle.std.proofs.Common.{◌∙◌, ap, get_or, List, arith}
-use Rattle.rx_server.specs.declared.subject_config.SubjectConfig.{SubjectConfig}
+use Rattle.rx_config.specs.declared.subject_config.SubjectConfig.{SubjectConfig}
 use Rattle.rx_server.proofs.Joining.{larger, most-more, observers-few}
 use Rattle.rx_server.proofs.wiring.most_observers.Goals as goal
 

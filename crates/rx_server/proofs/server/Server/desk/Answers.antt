@@ -3,7 +3,7 @@ use Rattle.std.proofs.lemmas.List.Elements.{All-tail}
 use Rattle.std.specs.Arc.{arc_value}
 use Rattle.std.specs.List.{All}
 use Rattle.std.specs.Vec.Iter.{into_iter_items}
-use Rattle.rx_server.specs.Crews.{IsFor}
+use Rattle.rx_workers.specs.Crews.{IsFor}
 use Rattle.rx_server.proofs.server.Server.desk.Goals as goal
 
 -- what holds of all holds of those behind the first, if there is one

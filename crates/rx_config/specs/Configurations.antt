@@ -1,0 +1,274 @@
+-- What a configuration says: the settings that stand in the table of a TOML text, or the first cause for which it is
+-- refused. The keys, the ranges and the order are this project's own.
+use Rattle.std.specs.Prelude.{◌≤◌, ◌≡◌, ◌⊎◌, ℕ, ℤ, suc, pos, negsuc, Bool, true, false, ◌&&◌, ◌||◌, not, nat_le, nat_eq, List, [], ◌∷◌, ◌++◌, map, length, codes, Option, None, Some, Result, Ok, Err, if◌then◌else◌, option_and_then, option_map}
+use Rattle.std.specs.List.{list_all, list_any}
+use Rattle.std.specs.Str.{IsUtf8}
+use Rattle.rx_note.specs.declared.kind.Kind.{Kind}
+use Rattle.rx_note.specs.declared.kind.Kind.TheVariants.{Publish, Behavior, Async, Replay}
+use Rattle.rx_note.specs.declared.limits.Limits.{Limits}
+use Rattle.rx_note.specs.declared.rules.Rules.{Rules}
+use Rattle.rx_proto.specs.Reading.{is_name_byte, same_word}
+use Rattle.rx_config.specs.declared.config.Config.{Config}
+use Rattle.rx_config.specs.declared.config_error.ConfigError.{ConfigError}
+use Rattle.rx_config.specs.declared.config_error.ConfigError.TheVariants.{Syntax, UnknownKey, BadPool, NoSubject, TooManySubjects, BadSubject, DuplicateName, Memory}
+use Rattle.rx_config.specs.declared.fault.Fault.{Fault}
+use Rattle.rx_config.specs.declared.fault.Fault.TheVariants as faults
+use Rattle.rx_config.specs.declared.pool.Pool.{Pool}
+use Rattle.rx_config.specs.declared.subject_config.SubjectConfig.{SubjectConfig}
+use Rattle.toml.specs.Parse.{parse_document}
+use Rattle.toml.specs.Data.{Data, Items, no_items, item, Members, no_members, member, get_member, as_str, as_integer, as_array, as_table}
+
+-- WHAT IS READ
+
+-- a subject of a configuration
+pub record Subject : Type 0 where
+  pub name : List ℕ
+  pub rules : Rules
+
+-- what a configuration says
+pub record Settings : Type 0 where
+  pub subjects : List Subject
+  pub pool : Pool
+
+abbrev pub subject_of_config : SubjectConfig → Subject
+subject_of_config config = record { name = config.name; rules = config.rules }
+
+abbrev pub settings_of : Config → Settings
+settings_of config = record { subjects = map subject_of_config config.subjects.items; pool = record { drainers = config.drainers; workers = config.workers; window = config.window; connections = config.connections } }
+
+abbrev pub standard_pool : Pool
+standard_pool = record { drainers = 1; workers = 4; window = 16; connections = 4294967295 }
+
+-- one Publish subject `s`, with the greatest limits
+abbrev pub standard_settings : Settings
+standard_settings = record { subjects = record { name = codes "s"; rules = record { kind = Publish; limits = record { observers = 64; joins = 4294967295 } } } ∷ []; pool = standard_pool }
+
+-- KEYS
+
+-- whether a key is one of these
+abbrev pub is_among : List ℕ → List (List ℕ) → Bool
+is_among key [] = false
+is_among key (this ∷ known) = same_word key this || is_among key known
+
+-- whether all keys are among these
+abbrev pub has_only : List (List ℕ) → Members → Bool
+has_only known no_members = true
+has_only known (member key value members) = is_among key known && has_only known members
+
+-- NUMBERS
+
+-- a number that is not negative
+abbrev pub natural_of : ℤ → Option ℕ
+natural_of (pos n) = Some n
+natural_of (negsuc n) = None
+
+-- a number of 1 to `most`
+abbrev pub in_range : ℕ → ℕ → Option ℕ
+in_range most n = if nat_le 1 n && nat_le n most then Some n else None
+
+abbrev pub number_of : ℕ → Data → Option ℕ
+number_of most value = option_and_then (in_range most) (option_and_then natural_of (as_integer value))
+
+-- the number that a key may have, else another one
+abbrev pub number_or : ℕ → ℕ → Option Data → Option ℕ
+number_or most missing None = Some missing
+number_or most missing (Some value) = number_of most value
+
+abbrev pub number_at : List ℕ → ℕ → ℕ → Members → Option ℕ
+number_at key most missing members = number_or most missing (get_member key members)
+
+-- the bound that a key may have
+abbrev pub bound_or : ℕ → Option Data → Option (Option ℕ)
+bound_or most None = Some None
+bound_or most (Some value) = option_map Some (number_of most value)
+
+abbrev pub bound_at : List ℕ → ℕ → Members → Option (Option ℕ)
+bound_at key most members = bound_or most (get_member key members)
+
+-- THE POOL
+
+abbrev pub pool_with : Option ℕ → Option ℕ → Option ℕ → Option ℕ → Option Pool
+pool_with (Some drainers) (Some workers) (Some window) (Some connections) = Some (record { drainers = drainers; workers = workers; window = window; connections = connections })
+pool_with _ _ _ _ = None
+
+-- the numbers are in their ranges
+pub record IsInRange (pool : Pool) : Type 0 where
+  pub drainers : (1 ≤ pool.drainers) × (pool.drainers ≤ 8)
+  pub workers : (1 ≤ pool.workers) × (pool.workers ≤ 32)
+  pub window : (1 ≤ pool.window) × (pool.window ≤ 16)
+  pub connections : 1 ≤ pool.connections
+
+abbrev pub pool_keys : List (List ℕ)
+pool_keys = codes "drainers" ∷ codes "workers" ∷ codes "window" ∷ codes "connections" ∷ []
+
+abbrev pub pool_in : Members → Option Pool
+pool_in members =
+    if has_only pool_keys members
+    then pool_with (number_at (codes "drainers") 8 1 members) (number_at (codes "workers") 32 4 members) (number_at (codes "window") 16 16 members) (number_at (codes "connections") 4294967295 4294967295 members)
+    else None
+
+-- the pool, which may be missing
+abbrev pub pool_of : Option Data → Option Pool
+pool_of None = Some standard_pool
+pool_of (Some value) = option_and_then pool_in (as_table value)
+
+abbrev pub pool_at : Members → Option Pool
+pool_at members = pool_of (get_member (codes "pool") members)
+
+-- A SUBJECT
+
+-- the text at a key
+abbrev pub text_at : List ℕ → Members → Option (List ℕ)
+text_at key members = option_and_then as_str (get_member key members)
+
+-- a name: 1 to 32 bytes of a to z, 0 to 9 and -
+abbrev pub name_in : List ℕ → Option (List ℕ)
+name_in bytes = if nat_le 1 (length bytes) && nat_le (length bytes) 32 && list_all is_name_byte bytes then Some bytes else None
+
+-- a text: at most 1,024 bytes, none of them LF
+abbrev pub line_in : List ℕ → Option (List ℕ)
+line_in bytes = if nat_le (length bytes) 1024 && not (list_any (λ b. nat_eq b 10) bytes) then Some bytes else None
+
+-- the seed, which may be missing
+abbrev pub seed_of : Option Data → Option (Option (List ℕ))
+seed_of None = Some None
+seed_of (Some value) = option_map Some (option_and_then line_in (as_str value))
+
+abbrev pub seed_in : Members → Option (Option (List ℕ))
+seed_in members = seed_of (get_member (codes "seed") members)
+
+abbrev pub plain_keys : List (List ℕ)
+plain_keys = codes "name" ∷ codes "kind" ∷ codes "observers" ∷ codes "joins" ∷ []
+
+abbrev pub behavior_keys : List (List ℕ)
+behavior_keys = codes "name" ∷ codes "kind" ∷ codes "observers" ∷ codes "joins" ∷ codes "seed" ∷ []
+
+abbrev pub replay_keys : List (List ℕ)
+replay_keys = codes "name" ∷ codes "kind" ∷ codes "observers" ∷ codes "joins" ∷ codes "count" ∷ codes "age" ∷ []
+
+abbrev pub plain_in : Kind → Members → Option Kind
+plain_in kind members = if has_only plain_keys members then Some kind else None
+
+abbrev pub behavior_in : Members → Option Kind
+behavior_in members = if has_only behavior_keys members then option_map Behavior (seed_in members) else None
+
+-- the count of a Replay, which may be missing
+abbrev pub count_at : Members → Option (Option ℕ)
+count_at members = bound_at (codes "count") 4096 members
+
+abbrev pub replay_with : Option (Option ℕ) → Option (Option ℕ) → Option Kind
+replay_with (Some count) (Some age) = Some (Replay count age)
+replay_with _ _ = None
+
+abbrev pub replay_in : Members → Option Kind
+replay_in members = if has_only replay_keys members then replay_with (count_at members) (bound_at (codes "age") 9223372036854775807 members) else None
+
+-- the kind of this name, with the keys of that kind alone
+abbrev pub kind_named : Members → List ℕ → Option Kind
+kind_named members word =
+    if same_word word (codes "publish") then plain_in Publish members
+    else (if same_word word (codes "behavior") then behavior_in members
+    else (if same_word word (codes "async") then plain_in Async members
+    else (if same_word word (codes "replay") then replay_in members else None)))
+
+abbrev pub kind_in : Members → Option Kind
+kind_in members = option_and_then (kind_named members) (text_at (codes "kind") members)
+
+abbrev pub limits_with : Option ℕ → Option ℕ → Option Limits
+limits_with (Some observers) (Some joins) = Some (record { observers = observers; joins = joins })
+limits_with _ _ = None
+
+abbrev pub limits_in : Members → Option Limits
+limits_in members = limits_with (number_at (codes "observers") 64 64 members) (number_at (codes "joins") 4294967295 4294967295 members)
+
+abbrev pub subject_with : Option (List ℕ) → Option Limits → Option Kind → Option Subject
+subject_with (Some name) (Some limits) (Some kind) = Some (record { name = name; rules = record { kind = kind; limits = limits } })
+subject_with _ _ _ = None
+
+abbrev pub subject_in : Members → Option Subject
+subject_in members = subject_with (option_and_then name_in (text_at (codes "name") members)) (limits_in members) (kind_in members)
+
+-- a subject, as an entry says it
+abbrev pub subject_of : Data → Option Subject
+subject_of value = option_and_then subject_in (as_table value)
+
+-- THE SUBJECTS
+
+-- what was read goes on to the next reading; a cause stays
+abbrev pub and_then : {A B : Type 0} → (A → Result B ConfigError) → Result A ConfigError → Result B ConfigError
+and_then next (Ok x) = next x
+and_then next (Err cause) = Err cause
+
+abbrev pub or_cause : {A : Type 0} → ConfigError → Option A → Result A ConfigError
+or_cause cause None = Err cause
+or_cause cause (Some x) = Ok x
+
+-- whether a name stands among those of the subjects
+abbrev pub has_name : List ℕ → List Subject → Bool
+has_name name [] = false
+has_name name (subject ∷ subjects) = same_word subject.name name || has_name name subjects
+
+-- a subject behind these, whose name has to be another
+abbrev pub named_anew : List Subject → Subject → Result Subject ConfigError
+named_anew before subject = if has_name subject.name before then Err (DuplicateName (length before)) else Ok subject
+
+-- what the next entry says, behind these subjects
+abbrev pub next_subject : List Subject → Data → Result Subject ConfigError
+next_subject before value = and_then (named_anew before) (or_cause (BadSubject (length before)) (subject_of value))
+
+-- these subjects and those of all entries, or the first cause
+abbrev pub subjects_from : List Subject → Items → Result (List Subject) ConfigError
+subjects_from before no_items = Ok before
+subjects_from before (item value items) = and_then (λ subject. subjects_from (before ++ subject ∷ []) items) (next_subject before value)
+
+abbrev pub count_of : Items → ℕ
+count_of no_items = 0
+count_of (item value items) = suc (count_of items)
+
+-- the subjects of 1 to 16 entries
+abbrev pub entries_read : Items → Result (List Subject) ConfigError
+entries_read no_items = Err NoSubject
+entries_read (item value items) = if nat_le (count_of items) 15 then subjects_from [] (item value items) else Err TooManySubjects
+
+abbrev pub subjects_of : Option Data → Result (List Subject) ConfigError
+subjects_of value = and_then entries_read (or_cause NoSubject (option_and_then as_array value))
+
+abbrev pub subjects_at : Members → Result (List Subject) ConfigError
+subjects_at members = subjects_of (get_member (codes "subject") members)
+
+-- THE CONFIGURATION: what a table says, or the first cause that holds
+
+abbrev pub top_keys : List (List ℕ)
+top_keys = codes "subject" ∷ codes "pool" ∷ []
+
+abbrev pub with_subjects : Pool → List Subject → Result Settings ConfigError
+with_subjects pool subjects = Ok (record { subjects = subjects; pool = pool })
+
+abbrev pub settings_in : Members → Result Settings ConfigError
+settings_in members =
+    if has_only top_keys members
+    then and_then (λ pool. and_then (with_subjects pool) (subjects_at members)) (or_cause BadPool (pool_at members))
+    else Err UnknownKey
+
+-- what the table of a TOML text says: settings, or the cause for which it is refused
+abbrev pub Says : List ℕ → Result Settings ConfigError → Type 0
+Says bytes said = (t : Members) × IsUtf8 bytes × (parse_document bytes ≡ Some t) × (settings_in t ≡ said)
+
+-- a text is refused: it is no TOML, or its table is refused for this cause; or there was no memory
+abbrev pub IsRefused : List ℕ → ConfigError → Type 0
+IsRefused bytes cause =
+    (cause ≡ Memory) ⊎ ((cause ≡ Syntax) × (IsUtf8 bytes → parse_document bytes ≡ None)) ⊎ Says bytes (Err cause)
+
+-- A READING
+
+-- a part was read as it is defined, unless there was no memory for it
+abbrev pub Reads : {A : Type 0} → Option A → Result A Fault → Type 0
+Reads defined (Ok x) = defined ≡ Some x
+Reads defined (Err faults.Refused) = defined ≡ None
+Reads defined (Err faults.Memory) = Unit {0}
+
+-- the same of a subject
+abbrev pub ReadsSubject : Option Subject → Result SubjectConfig Fault → Type 0
+ReadsSubject defined (Ok config) = defined ≡ Some (subject_of_config config)
+ReadsSubject defined (Err faults.Refused) = defined ≡ None
+ReadsSubject defined (Err faults.Memory) = Unit {0}

@@ -1,0 +1,59 @@
+ghost use Rattle.std.specs.Prelude.{◌≡◌, ◌≤◌, IfOk, vec_len};
+
+use crate::subject_config::SubjectConfig;
+use rx_heap::{Heap, Memory};
+use rx_note::{Kind, Limits, Rules};
+use rx_proto::Name;
+
+/// What a run is made of. The limits are this project's own.
+#[derive(Drop, Debug)]
+pub struct Config {
+    /// The subjects, 1 to 16, each of another name.
+    pub subjects: Vec<SubjectConfig, Heap>,
+    /// How many drainers hand notes to sinks, 1 to 8.
+    pub drainers: u8,
+    /// How many workers serve sessions, 1 to 32.
+    pub workers: u8,
+    /// The first request of an observer that is a session, 1 to 16 items.
+    pub window: u8,
+    /// How many connections are served, 1 to 4,294,967,295.
+    pub connections: u32,
+    ghost subjects_in_range: { (1 ≤ vec_len subjects) × (vec_len subjects ≤ 16) },
+    ghost drainers_in_range: { (1 ≤ drainers) × (drainers ≤ 8) },
+    ghost workers_in_range: { (1 ≤ workers) × (workers ≤ 32) },
+    ghost window_in_range: { (1 ≤ window) × (window ≤ 16) },
+    ghost some_connections: { 1 ≤ connections },
+}
+
+impl Config {
+    ghost use Rattle.rx_config.specs.Configurations.{settings_of, standard_settings};
+
+    /// One Publish subject `s`, with the greatest limits.
+    ///
+    /// # Errors
+    ///
+    /// `Memory`: there was none for the list of subjects.
+    pub fn standard(alloc: Heap) -> Result<Config, Memory>
+        ensures { IfOk result (λ config. settings_of config ≡ standard_settings) }
+    {
+        let Some(name) = Name::new(b"s") else {
+            unreachable!()
+        };
+        let rules = Rules {
+            kind: Kind::Publish,
+            limits: Limits {
+                observers: 64,
+                joins: u32::MAX,
+            },
+        };
+        let mut subjects = Vec::new(alloc);
+        subjects.push(SubjectConfig { name, rules })?;
+        Ok(Config {
+            subjects,
+            drainers: 1,
+            workers: 4,
+            window: 16,
+            connections: u32::MAX,
+        })
+    }
+}

@@ -1,0 +1,107 @@
+ghost use Rattle.std.specs.Prelude.{◌≡◌, ◌≢◌, ◌≤◌, ◌⊎◌, map, vec_len, IfErr, IfOk, Err, Ok, []};
+ghost use Rattle.toml.specs.View.{array_view, table_view, view};
+ghost use Rattle.rx_config.specs.Configurations.{has_name, next_subject, entries_read, subject_of_config, subjects_from, subjects_at};
+
+use crate::config_error::ConfigError;
+use crate::entry::subject_of;
+use crate::fault::Fault;
+use crate::keys::value_at;
+use crate::subject_config::SubjectConfig;
+use rx_heap::Heap;
+use rx_proto::Name;
+use toml::{Table, Value};
+
+/// The most subjects of a configuration.
+const MAX_SUBJECTS: usize = 16;
+
+/// The subjects of a configuration's table: an array of 1 to 16 entries.
+pub(crate) fn subjects_at(
+    heap: &Heap,
+    table: &Table,
+) -> Result<Vec<SubjectConfig, Heap>, ConfigError>
+    ensures ok { IfOk result (λ subjects. subjects_at (table_view table.now) ≡ Ok (map subject_of_config subjects.items)) }
+    ensures refused { IfErr result (λ cause. (cause ≡ ConfigError.Memory) ⊎ (subjects_at (table_view table.now) ≡ Err cause)) }
+    ensures read { IfErr result (λ cause. cause ≢ ConfigError.Syntax) }
+    ensures count { IfOk result (λ subjects. (1 ≤ vec_len subjects) × (vec_len subjects ≤ 16)) }
+{
+    let Some(value) = value_at(table, "subject") else {
+        return Err(ConfigError::NoSubject);
+    };
+    match value.as_array() {
+        None => Err(ConfigError::NoSubject),
+        Some(entries) => entries_read(heap, entries),
+    }
+}
+
+// The subjects of these entries.
+fn entries_read(heap: &Heap, entries: &Vec<Value>) -> Result<Vec<SubjectConfig, Heap>, ConfigError>
+    ensures ok { IfOk result (λ subjects. entries_read (array_view entries.now) ≡ Ok (map subject_of_config subjects.items)) }
+    ensures refused { IfErr result (λ cause. (cause ≡ ConfigError.Memory) ⊎ (entries_read (array_view entries.now) ≡ Err cause)) }
+    ensures read { IfErr result (λ cause. cause ≢ ConfigError.Syntax) }
+    ensures count { IfOk result (λ subjects. (1 ≤ vec_len subjects) × (vec_len subjects ≤ 16)) }
+{
+    if entries.is_empty() {
+        return Err(ConfigError::NoSubject);
+    }
+    if entries.len() > MAX_SUBJECTS {
+        return Err(ConfigError::TooManySubjects);
+    }
+    all_subjects(heap, entries)
+}
+
+// The subjects of all these entries, in their order.
+fn all_subjects(heap: &Heap, entries: &Vec<Value>) -> Result<Vec<SubjectConfig, Heap>, ConfigError>
+    ensures ok { IfOk result (λ subjects. subjects_from [] (array_view entries.now) ≡ Ok (map subject_of_config subjects.items)) }
+    ensures refused { IfErr result (λ cause. (cause ≡ ConfigError.Memory) ⊎ (subjects_from [] (array_view entries.now) ≡ Err cause)) }
+    ensures read { IfErr result (λ cause. cause ≢ ConfigError.Syntax) }
+    ensures count { IfOk result (λ subjects. vec_len subjects ≡ vec_len entries.now) }
+{
+    let Ok(mine) = heap.clone() else {
+        return Err(ConfigError::Memory);
+    };
+    let mut subjects = Vec::new(mine);
+    for entry in entries {
+        match next_subject(heap, &subjects, entry) {
+            Err(cause) => return Err(cause),
+            Ok(subject) => {
+                if subjects.push(subject).is_err() {
+                    return Err(ConfigError::Memory);
+                }
+            }
+        }
+    }
+    Ok(subjects)
+}
+
+// The subject of the next entry, behind these.
+fn next_subject(
+    heap: &Heap,
+    before: &Vec<SubjectConfig, Heap>,
+    entry: &Value,
+) -> Result<SubjectConfig, ConfigError>
+    ensures ok { IfOk result (λ subject. next_subject (map subject_of_config before.now.items) (view entry.now) ≡ Ok (subject_of_config subject)) }
+    ensures refused { IfErr result (λ cause. (cause ≡ ConfigError.Memory) ⊎ (next_subject (map subject_of_config before.now.items) (view entry.now) ≡ Err cause)) }
+    ensures read { IfErr result (λ cause. cause ≢ ConfigError.Syntax) }
+{
+    let subject = match subject_of(heap, entry) {
+        Ok(subject) => subject,
+        Err(Fault::Refused) => return Err(ConfigError::BadSubject(before.len())),
+        Err(Fault::Memory) => return Err(ConfigError::Memory),
+    };
+    if has_name(before, &subject.name) {
+        return Err(ConfigError::DuplicateName(before.len()));
+    }
+    Ok(subject)
+}
+
+// Whether one of these has this name.
+fn has_name(subjects: &Vec<SubjectConfig, Heap>, name: &Name) -> bool
+    ensures { result ≡ has_name name.now (map subject_of_config subjects.now.items) }
+{
+    for subject in subjects {
+        if subject.name == *name {
+            return true;
+        }
+    }
+    false
+}

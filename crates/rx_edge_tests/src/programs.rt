@@ -1,0 +1,189 @@
+//! The program over streams in memory: its status, what it writes, and what it tells of faults.
+
+use crate::expecting::{expect_that, expect_told};
+use rx_program::{Host, run_words};
+use std::alloc::Global;
+use std::fs::{self, File};
+use std::io::{self, ErrorKind, Read, Write};
+use std::process::Abort;
+use std::test::Fail;
+
+const SCRIPT: &[u8] = b"JOIN s BUFFER DELAY 1\nPUB s a\nPUB s b\n";
+
+// What a run told: its status, what it wrote, and behind a bar what it told of faults. A part that finds no memory is
+// left out, and then what is told is not what is wanted.
+pub(crate) fn joined(alloc: Global, status: u8, written: &[u8], faults: &[u8]) -> Vec<u8> {
+    let mut told = Vec::new(alloc);
+    let _ = write!(told, "{status} ");
+    let _ = told.extend_from_slice(written);
+    let _ = told.extend_from_slice(b"|");
+    let _ = told.extend_from_slice(faults);
+    told
+}
+
+// What is told of a run.
+fn told_of<R: Read>(rt: &impl Host, words: &[&str], reader: &mut R) -> Vec<u8> {
+    let mut written = Vec::new(rt.alloc());
+    let mut faults = Vec::new(rt.alloc());
+    let status = run_words(rt, words, reader, &mut written, &mut faults);
+    joined(rt.alloc(), status, written.as_slice(), faults.as_slice())
+}
+
+// What is told of a run over the script.
+fn told_by(rt: &impl Host, words: &[&str]) -> Vec<u8> {
+    let mut reader = SCRIPT;
+    told_of(rt, words, &mut reader)
+}
+
+// This is told of a run by these words.
+fn expect_run(rt: &(impl Host + Abort), words: &[&str], wanted: &str) {
+    let told = told_by(rt, words);
+    expect_told(rt, told.as_slice(), wanted, "the words");
+}
+
+// Words, and what is told of the run by them.
+const STATUSES: [(&[&str], &str); 4] = [
+    (&[], "0 OK 0\nOK\ns 0 NEXT a\nOK\n|"),
+    (
+        &["script", "no/such/file"],
+        "1 |rxline: cannot read config\n",
+    ),
+    (
+        &["audit", "no/such/file"],
+        "1 |rxline: cannot read config\n",
+    ),
+    (
+        &["serve", "no/such/file", "no/such/socket"],
+        "1 |rxline: cannot read config\n",
+    ),
+];
+
+#[test]
+fn statuses(rt: HostRuntime) {
+    for (words, wanted) in &STATUSES {
+        expect_run(&rt, words, wanted);
+    }
+}
+
+const PATH: &str = "rxline-test.toml";
+
+fn write_config(rt: &impl Host, config: &[u8]) -> io::Result<()> {
+    File::create(rt, PATH)?.write_all(config)
+}
+
+// What is told of a command over a file with these bytes, which is removed again.
+fn told_over(rt: &impl Host, command: &str, config: &[u8]) -> io::Result<Vec<u8>> {
+    write_config(rt, config)?;
+    let told = told_by(rt, &[command, PATH]);
+    fs::remove_file(rt, PATH)?;
+    Ok(told)
+}
+
+// Commands, the configurations in the file that each is given, and what is told.
+const FILES: [(&str, &str, &str); 4] = [
+    (
+        "script",
+        "[[subject]]\nname = \"s\"\nkind = \"replay\"\ncount = 0\n",
+        "1 |rxline: config: subject 0 is refused\n",
+    ),
+    ("audit", "", "1 |rxline: config: no subject\n"),
+    (
+        "script",
+        "[[subject]]\nname = \"s\"\nkind = \"behavior\"\nseed = \"z\"\n",
+        "0 OK 0\ns 0 NEXT z\nOK\nOK\n|",
+    ),
+    (
+        "audit",
+        "[[subject]]\nname = \"s\"\nkind = \"behavior\"\nseed = \"z\"\n",
+        "0 OBSERVER s 0\nGIVEN NEXT z\nWAITING NEXT a\nWAITING NEXT b\n|",
+    ),
+];
+
+#[test]
+fn configurations_of_files(rt: HostRuntime) -> Result<(), Fail> {
+    for (command, config, wanted) in &FILES {
+        let told = told_over(&rt, command, config.as_bytes())?;
+        expect_told(&rt, told.as_slice(), wanted, config);
+    }
+    Ok(())
+}
+
+// A configuration of so many bytes. Those that find no memory are left out.
+fn config_of(alloc: Global, len: usize) -> Vec<u8> {
+    let mut config = Vec::new(alloc);
+    let _ = config.extend_from_slice(b"[[subject]]\nname = \"s\"\nkind = \"async\"\n#");
+    for _ in config.len()..len {
+        let _ = config.push(b'.');
+    }
+    config
+}
+
+// This is told of a script over a file of so many bytes.
+fn expect_bytes(rt: &(impl Host + Abort), len: usize, wanted: &str) -> Result<(), Fail> {
+    let config = config_of(rt.alloc(), len);
+    let told = told_over(rt, "script", config.as_slice())?;
+    expect_told(rt, told.as_slice(), wanted, "a file of these bytes");
+    Ok(())
+}
+
+#[test]
+fn most_bytes_of_a_configuration(rt: HostRuntime) -> Result<(), Fail> {
+    expect_bytes(&rt, 65_536, "0 OK 0\nOK\nOK\n|")?;
+    expect_bytes(&rt, 65_537, "1 |rxline: cannot read config\n")
+}
+
+// Words, and how what is told of the run by them begins and ends.
+const WRONG: [(&[&str], &str, &str); 3] = [
+    (&["--help"], "0 Multicasts items", "|"),
+    (&["serve", "a"], "2 |error: ", "\n"),
+    (&["script"], "2 |error: ", "\n"),
+];
+
+#[test]
+fn help_and_wrong_words(rt: HostRuntime) {
+    for (words, front, back) in &WRONG {
+        let told = told_by(&rt, words);
+        expect_that(&rt, told.starts_with(front.as_bytes()), front);
+        expect_that(&rt, told.ends_with(back.as_bytes()), back);
+    }
+}
+
+/// Gives all of a script at once, and then fails.
+#[derive(Drop)]
+struct Fails {
+    rest: &'static [u8],
+}
+
+impl Read for Fails {
+    fn read(&mut self, buf: &mut [u8]) -> io::Result<usize> {
+        if self.rest.is_empty() {
+            return Err(io::Error::from(ErrorKind::Other));
+        }
+        self.rest.read(buf)
+    }
+}
+
+#[test]
+fn faults_of_readers(rt: HostRuntime) {
+    let mut reader = Fails { rest: SCRIPT };
+    let told = told_of(&rt, &[], &mut reader);
+    let wanted = "1 OK 0\nOK\ns 0 NEXT a\nOK\n|rxline: read fault\n";
+    expect_told(&rt, told.as_slice(), wanted, "a read that fails");
+}
+
+// What is told of a run whose writer has room for four bytes.
+fn told_in_four(rt: &impl Host) -> Vec<u8> {
+    let mut reader = SCRIPT;
+    let mut room = [0; 4];
+    let mut writer = room.as_mut_slice();
+    let mut faults = Vec::new(rt.alloc());
+    let status = run_words(rt, &[], &mut reader, &mut writer, &mut faults);
+    joined(rt.alloc(), status, room.as_slice(), faults.as_slice())
+}
+
+#[test]
+fn faults_of_writers(rt: HostRuntime) {
+    let told = told_in_four(&rt);
+    let wanted = "1 OK 0|rxline: write fault\n";
+    expect_told(&rt, told.as_slice(), wanted, "room for four bytes");
+}

@@ -1,0 +1,22 @@
+use Rattle.std.proofs.Common.{◌≡◌, [], List, true, refl, subst, inr}
+use Rattle.clap.specs.Words.{App, HasMatchesOf, Text, fault_of, is_simple_and_free, subcommand_of, subcommand_rows_of}
+use Rattle.clap.specs.declared.parser.matches.ArgMatches.{ArgMatches}
+use Rattle.rx_program.specs.CommandLines.{line_app}
+use Rattle.rx_program.proofs.words.read_words.Goals as goal
+
+-- what is stated of a parse by the declared command line
+no_fault : (app : App) (words : List Text) → app ≡ line_app → (is_simple_and_free app ≡ true → fault_of app words ≡ []) → fault_of line_app words ≡ []
+no_fault app words is none = subst (λ (a : App). is_simple_and_free a ≡ true → fault_of a words ≡ []) is none refl
+
+are_named : (app : App) (words : List Text) (matches : ArgMatches) → app ≡ line_app → HasMatchesOf app words matches → subcommand_rows_of matches ≡ subcommand_of line_app words
+are_named app words matches is has = (subst (λ (a : App). HasMatchesOf a words matches) is has refl).1
+
+pub returns-in-Some : goal.returns-in-Some
+returns-in-Some c =
+    let named = are_named _ _ c.in_ok-matches.matches c.in_ok-line.ensures.app c.in_ok-matches.ensures.matches in
+    (no_fault _ _ c.in_ok-line.ensures.app c.in_ok-matches.ensures.kinds, rw (← named) c.in-Some.ensures)
+
+pub returns : goal.returns
+returns c =
+    let named = are_named _ _ c.in_ok-matches.matches c.in_ok-line.ensures.app c.in_ok-matches.ensures.matches in
+    inr (inr (c.in_ok-unknown-in-None.ensures, no_fault _ _ c.in_ok-line.ensures.app c.in_ok-matches.ensures.kinds, rw (← named) c.in-None.ensures))

@@ -1,0 +1,175 @@
+-- What the program does: for the words of its command line, its exit status, what becomes of its streams, and what it
+-- tells on the standard error. The statuses and the lines of faults are this project's own.
+use Rattle.std.specs.Prelude.{◌≡◌, ◌≢◌, ◌⊎◌, ◌≤◌, ◌++◌, ℕ, List, codes, length, Option, Some, Result, Ok, Err, MatchOption, MatchResult, IsSome, option_map}
+use Rattle.clap.specs.Words.{Text}
+use Rattle.clap.specs.declared.error.kind.ErrorKind.{ErrorKind}
+use Rattle.clap.specs.declared.error.kind.ErrorKind.TheVariants.{OutOfMemory}
+use Rattle.rx_heap.specs.declared.refused.Memory.{Memory}
+use Rattle.rx_proto.specs.Bytes.{AppendsPrefix, Writes}
+use Rattle.rx_proto.specs.Printing.{line}
+use Rattle.rx_config.specs.Configurations.{IsRefused, Says, Settings, settings_of, standard_settings}
+use Rattle.rx_config.specs.declared.config.Config.{Config}
+use Rattle.rx_session.specs.declared.session_end.SessionEnd.{SessionEnd}
+use Rattle.rx_session.specs.declared.session_end.SessionEnd.TheVariants as ends
+use Rattle.rx_script.specs.Audits.{Audits, BreaksOff}
+use Rattle.rx_program.specs.CommandLines.{Asks, IsAgainst, IsHelp}
+use Rattle.rx_script.specs.Scripts.{Runs, new_subjects}
+use Rattle.rx_script.specs.Transcripts.{Subject}
+use Rattle.rx_program.specs.declared.program_fault.ProgramFault.{ProgramFault}
+use Rattle.rx_program.specs.declared.program_fault.ProgramFault.TheVariants as faults
+use Rattle.rx_program.specs.declared.task.Task.{Task}
+use Rattle.rx_program.specs.declared.task.Task.TheVariants.{Script, Audit, Serve}
+
+-- the bytes that the reader has left and those that the writer has, where they are known
+pub record Streams : Type 0 where
+  pub left : Option (List ℕ)
+  pub written : Option (List ℕ)
+
+-- finished, or the fault that ended it
+abbrev pub Done : Type 0
+Done = Result (Unit {0}) ProgramFault
+
+-- FAULTS
+
+-- what is told of a fault; for the cause of a refused configuration, and for a thread, stand the words that it is told by
+abbrev pub fault_text : ProgramFault → List ℕ → List ℕ
+fault_text faults.NoConfig words = codes "cannot read config"
+fault_text (faults.Config cause) words = codes "config: " ++ words
+fault_text faults.Read words = codes "read fault"
+fault_text faults.Write words = codes "write fault"
+fault_text faults.TooManyReads words = codes "too many reads"
+fault_text faults.Memory words = codes "out of memory"
+fault_text faults.Listen words = codes "cannot listen"
+fault_text (faults.Start fault) words = codes "cannot start " ++ words
+fault_text faults.Accept words = codes "accept fault"
+fault_text faults.Serve words = codes "serve fault"
+fault_text (faults.Close fault) words = codes "close fault: " ++ words
+
+-- the line of a fault
+abbrev pub fault_line : ProgramFault → List ℕ → List ℕ
+fault_line fault words = line (codes "rxline: " ++ fault_text fault words)
+
+-- the line of a fault was written
+abbrev pub Tells : {T E : Type 0} → Result T E → ProgramFault → Option (List ℕ) → Option (List ℕ) → Type 0
+Tells result fault old new = (words : List ℕ) × Writes result old new (fault_line fault words)
+
+-- THE STATUS
+
+-- status 0, and nothing is told; or status 1 and the line of the fault, of which a front is told where telling failed
+abbrev pub EndsWith : Done → ℕ → Option (List ℕ) → Option (List ℕ) → Type 0
+EndsWith (Ok finished) status old new = (status ≡ 0) × (new ≡ old)
+EndsWith (Err fault) status old new = (status ≡ 1) × ((words : List ℕ) × AppendsPrefix old new (fault_line fault words))
+
+-- how the program ends after a run that ended so; want of memory is a fault
+abbrev pub done_of : Result SessionEnd Memory → Done
+done_of (Ok ends.Quit) = Ok tt
+done_of (Ok ends.EndOfInput) = Ok tt
+done_of (Ok ends.HandedOver) = Ok tt
+done_of (Ok ends.ReadFault) = Err faults.Read
+done_of (Ok ends.WriteFault) = Err faults.Write
+done_of (Ok ends.TooManyReads) = Err faults.TooManyReads
+done_of (Err memory) = Err faults.Memory
+
+-- THE CONFIGURATION
+
+-- what the configuration of a path says: without one the standard one; else what at most 65,536 bytes say, and that they
+-- are the file's no contract can tell
+abbrev pub Configures : Option (List ℕ) → Settings → Type 0
+Configures path settings =
+    MatchOption path (settings ≡ standard_settings) (λ _. (bytes : List ℕ) × (length bytes ≤ 65536) × Says bytes (Ok settings))
+
+-- why there is none
+abbrev pub LacksConfig : Option (List ℕ) → ProgramFault → Type 0
+LacksConfig path faults.NoConfig = IsSome path
+LacksConfig path (faults.Config cause) = IsSome path × ((bytes : List ℕ) × (length bytes ≤ 65536) × IsRefused bytes cause)
+LacksConfig path faults.Read = ⊥
+LacksConfig path faults.Write = ⊥
+LacksConfig path faults.TooManyReads = ⊥
+LacksConfig path faults.Memory = Unit {0}
+LacksConfig path faults.Listen = ⊥
+LacksConfig path (faults.Start fault) = ⊥
+LacksConfig path faults.Accept = ⊥
+LacksConfig path faults.Serve = ⊥
+LacksConfig path (faults.Close fault) = ⊥
+
+-- THE TASK
+
+-- nothing was read or written
+abbrev pub Untouched : Streams → Streams → Type 0
+Untouched old new = (new.left ≡ old.left) × (new.written ≡ old.written)
+
+-- a script was run over subjects
+abbrev pub RunsScript : List Subject → Done → Streams → Streams → Type 0
+RunsScript subjects done old new =
+    (ended : Result SessionEnd Memory) × (done ≡ done_of ended)
+    × MatchResult ended (λ end. Runs subjects end old.left new.left old.written new.written) (λ _. Untouched old new)
+
+-- a script was audited over subjects
+abbrev pub RunsAudit : List Subject → Done → Streams → Streams → Type 0
+RunsAudit subjects done old new =
+    (ended : Result SessionEnd Memory) × (done ≡ done_of ended)
+    × MatchResult ended (λ end. Audits subjects end old.left new.left old.written new.written) (λ _. BreaksOff subjects old.left new.left old.written new.written)
+
+-- a run over the subjects of the configuration of a path; or there is none, and nothing was read or written
+abbrev pub Over : Option (List ℕ) → (List Subject → Done → Streams → Streams → Type 0) → Done → Streams → Streams → Type 0
+Over path runs done old new =
+    ((config : Config) × Configures path (settings_of config) × runs (new_subjects config.subjects.items) done old new)
+    ⊎ ((fault : ProgramFault) × (done ≡ Err fault) × LacksConfig path fault × Untouched old new)
+
+-- why a server may not have served to its end
+abbrev pub MayServe : ProgramFault → Type 0
+MayServe faults.NoConfig = ⊥
+MayServe (faults.Config cause) = ⊥
+MayServe faults.Read = ⊥
+MayServe faults.Write = Unit {0}
+MayServe faults.TooManyReads = ⊥
+MayServe faults.Memory = Unit {0}
+MayServe faults.Listen = Unit {0}
+MayServe (faults.Start fault) = Unit {0}
+MayServe faults.Accept = Unit {0}
+MayServe faults.Serve = Unit {0}
+MayServe (faults.Close fault) = Unit {0}
+
+-- the subjects of the configuration of a path were served, or there is none; nothing was read
+abbrev pub Serves : Option (List ℕ) → Done → Streams → Streams → Type 0
+Serves path done old new =
+    (new.left ≡ old.left)
+    × (((config : Config) × Configures path (settings_of config) × MatchResult done (λ _. Unit {0}) MayServe)
+    ⊎ ((fault : ProgramFault) × (done ≡ Err fault) × LacksConfig path fault × (new.written ≡ old.written)))
+
+-- a task was done; for a script and an audit nothing was told meanwhile
+abbrev pub Does : Task → Done → Streams → Streams → Option (List ℕ) → Option (List ℕ) → Type 0
+Does (Script path) done old new told_old told = Over (option_map (λ s. s.now) path) RunsScript done old new × (told ≡ told_old)
+Does (Audit path) done old new told_old told = Over (Some path.now) RunsAudit done old new × (told ≡ told_old)
+Does (Serve path socket) done old new told_old told = Serves (Some path.now) done old new
+
+-- THE PROGRAM
+
+-- help is on the writer, or it could not be written
+abbrev pub ShowsHelp : Done → Type 0
+ShowsHelp done = (done ≡ Ok tt) ⊎ (done ≡ Err faults.Write)
+
+-- what the words ask for was done, or there was no memory to read them
+abbrev pub Carries : List Text → Done → Streams → Streams → Option (List ℕ) → Option (List ℕ) → Type 0
+Carries words done old new told_old told =
+    ((task : Task) × Asks words task × Does task done old new told_old told)
+    ⊎ ((kind : ErrorKind) × IsAgainst words kind × IsHelp kind × ShowsHelp done × (new.left ≡ old.left) × (told ≡ told_old))
+    ⊎ ((done ≡ Err faults.Memory) × Untouched old new × (told ≡ told_old))
+
+-- the words are none that the program takes, and that is told
+abbrev pub Refuses : List Text → Streams → Streams → Type 0
+Refuses words old new =
+    ((kind : ErrorKind) × IsAgainst words kind × ¬ IsHelp kind × (kind ≢ OutOfMemory)) × Untouched old new
+
+-- what was answered to words for which an error of this kind was found: help is shown, want of memory is told, or the error
+abbrev pub Answers : ErrorKind → ℕ → Option (List ℕ) → Option (List ℕ) → Option (List ℕ) → Option (List ℕ) → Type 0
+Answers kind status written_old written_new told_old told_new =
+    (IsHelp kind × ((done : Done) × ShowsHelp done × EndsWith done status told_old told_new))
+    ⊎ ((kind ≡ OutOfMemory) × (written_new ≡ written_old) × EndsWith (Err faults.Memory) status told_old told_new)
+    ⊎ (¬ IsHelp kind × (kind ≢ OutOfMemory) × (status ≡ 2) × (written_new ≡ written_old))
+
+-- THE PROGRAM'S STATUS: 0 or 1 by how that ended which the words ask for, or 2 for other words
+abbrev pub Program : List Text → ℕ → Streams → Streams → Option (List ℕ) → Option (List ℕ) → Type 0
+Program words status old new told_old told_new =
+    ((done : Done) × (told : Option (List ℕ)) × Carries words done old new told_old told × EndsWith done status told told_new)
+    ⊎ ((status ≡ 2) × Refuses words old new)

@@ -1,0 +1,129 @@
+ghost use Rattle.std.specs.Prelude.{◌≡◌, ◌⊎◌, map};
+ghost use Rattle.clap.specs.Words.{kind_of};
+ghost use Rattle.rx_program.specs.Programs.{Answers, Does, EndsWith, Program, ShowsHelp, done_of};
+
+use crate::config_file::config_at;
+use crate::host::Host;
+use crate::program_fault::ProgramFault;
+use crate::serving::serve_on;
+use crate::task::Task;
+use crate::telling::tell;
+use crate::words::read_words;
+use clap::Error;
+use clap::error::ErrorKind;
+use rx_heap::{Heap, Memory};
+use rx_script::{run_audit, run_script};
+use rx_session::SessionEnd;
+use std::io::{Read, Write};
+
+/// The most reads of one script.
+const MAX_READS: u64 = 4_294_967_296;
+
+const FINISHED: u8 = 0;
+
+const FAULT: u8 = 1;
+
+const WRONG_WORDS: u8 = 2;
+
+/// The program with its streams handed in: it does what the words behind its name ask for, tells faults on `faults`, and
+/// answers the exit status.
+///
+/// 0: the run was finished, or help was asked for, which goes to `writer`. 1: a fault, told in one line. 2: the words are
+/// no command line, which is told with what would be one.
+pub fn run_words<'a, F: Host, R: Read, W: Write, E: Write>(
+    rt: &F,
+    words: &'a [&'a str],
+    reader: &mut R,
+    writer: &mut W,
+    faults: &mut E,
+) -> u8
+    ensures { Program (map (λ s. s.now) words.entry.now) result (record { left = R.remaining reader.old; written = W.contents writer.old }) (record { left = R.remaining reader.new; written = W.contents writer.new }) (E.contents faults.old) (E.contents faults.new) }
+{
+    match read_words(rt.alloc(), words) {
+        Ok(task) => {
+            let done = run_task(rt, task, reader, writer, faults);
+            status_of(done, faults)
+        }
+        Err(error) => answer(&error, writer, faults),
+    }
+}
+
+// The status of what was done, whose fault is told.
+fn status_of<E: Write>(done: Result<(), ProgramFault>, faults: &mut E) -> u8
+    ensures { EndsWith done result (E.contents faults.old) (E.contents faults.new) }
+{
+    match done {
+        Ok(()) => FINISHED,
+        Err(fault) => {
+            let _ = tell(fault, faults);
+            FAULT
+        }
+    }
+}
+
+// Shows help that was asked for, or tells what is wrong with the words.
+fn answer<W: Write, E: Write>(error: &Error, writer: &mut W, faults: &mut E) -> u8
+    ensures { Answers (kind_of error.now) result (W.contents writer.old) (W.contents writer.new) (E.contents faults.old) (E.contents faults.new) }
+{
+    match error.kind() {
+        ErrorKind::DisplayHelp | ErrorKind::DisplayVersion => {
+            let done = show_help(error, writer);
+            status_of(done, faults)
+        }
+        ErrorKind::OutOfMemory => status_of(Err(ProgramFault::Memory), faults),
+        _ => {
+            let _ = write!(faults, "{error}");
+            WRONG_WORDS
+        }
+    }
+}
+
+// Shows the help that was asked for.
+fn show_help<W: Write>(error: &Error, writer: &mut W) -> Result<(), ProgramFault>
+    ensures { ShowsHelp result }
+{
+    if write!(writer, "{error}").is_err() || writer.flush().is_err() {
+        return Err(ProgramFault::Write);
+    }
+    Ok(())
+}
+
+// Runs or audits a script, or serves.
+fn run_task<F: Host, R: Read, W: Write, E: Write>(
+    rt: &F,
+    task: Task<'_>,
+    reader: &mut R,
+    writer: &mut W,
+    faults: &mut E,
+) -> Result<(), ProgramFault>
+    ensures { Does task.entry result (record { left = R.remaining reader.old; written = W.contents writer.old }) (record { left = R.remaining reader.new; written = W.contents writer.new }) (E.contents faults.old) (E.contents faults.new) }
+{
+    let heap = Heap::unlimited(rt.alloc());
+    match task {
+        Task::Script(path) => match config_at(rt, &heap, path) {
+            Ok(config) => done_of(run_script(heap, config, reader, writer, MAX_READS)),
+            Err(fault) => Err(fault),
+        },
+        Task::Audit(path) => match config_at(rt, &heap, Some(path)) {
+            Ok(config) => done_of(run_audit(heap, config, reader, writer, MAX_READS)),
+            Err(fault) => Err(fault),
+        },
+        Task::Serve(path, socket) => match config_at(rt, &heap, Some(path)) {
+            Ok(config) => serve_on(rt, &heap, config, socket, writer, faults),
+            Err(fault) => Err(fault),
+        },
+    }
+}
+
+// How the program ends after a run that ended so.
+fn done_of(ended: Result<SessionEnd, Memory>) -> Result<(), ProgramFault>
+    ensures { result ≡ done_of ended }
+{
+    match ended {
+        Ok(SessionEnd::Quit | SessionEnd::EndOfInput | SessionEnd::HandedOver) => Ok(()),
+        Ok(SessionEnd::ReadFault) => Err(ProgramFault::Read),
+        Ok(SessionEnd::WriteFault) => Err(ProgramFault::Write),
+        Ok(SessionEnd::TooManyReads) => Err(ProgramFault::TooManyReads),
+        Err(Memory) => Err(ProgramFault::Memory),
+    }
+}

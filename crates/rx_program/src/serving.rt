@@ -1,0 +1,121 @@
+//! The server: a configuration served on a Unix socket.
+ghost use Rattle.std.specs.Prelude.{MatchResult};
+ghost use Rattle.rx_program.specs.Programs.{MayServe};
+
+use crate::host::Host;
+use crate::names::Names;
+use crate::program_fault::ProgramFault;
+use crate::site::Site;
+use crate::telling::tell;
+use rx_config::Config;
+use rx_heap::Heap;
+use rx_proto::Name;
+use rx_server::{CloseFault, Report, ServeFault, SubjectReport, start};
+use rx_sink::{LineRest, LineSink};
+use std::io::Write;
+use std::os::unix::net::UnixStream;
+
+/// Serves a configuration on a new Unix socket of this path, until as many connections have ended as it says. Once it listens
+/// it tells so on `faults`; at the end it writes the report, one line a subject, also after a fault of serving.
+///
+/// # Errors
+///
+/// `Listen`: the socket can't be had. `Start`, `Memory`: the server did not start. `Accept`, `Serve`: it served fewer
+/// connections. `Close`: a thread ended by a fault, and there is no report. `Write`: the report was not written.
+pub fn serve_on<F: Host, W: Write, E: Write>(
+    rt: &F,
+    heap: &Heap,
+    config: Config,
+    path: &str,
+    writer: &mut W,
+    faults: &mut E,
+) -> Result<(), ProgramFault>
+    ensures { MatchResult result (λ _. Unit {0}) MayServe }
+{
+    let Ok(names) = Names::of(heap, &config) else {
+        return Err(ProgramFault::Memory);
+    };
+    let Ok(own) = heap.clone() else {
+        return Err(ProgramFault::Memory);
+    };
+    let site = Site::at(rt, heap, path)?;
+    match start::<LineSink<UnixStream>, F>(rt, own, config) {
+        Ok(server) => {
+            let _ = writeln!(faults, "rxline: listening on {path}");
+            let (served, closed) = site.serve(rt, server);
+            ended(served, told(&names, closed, writer), faults)
+        }
+        Err(fault) => Err(ProgramFault::Start(fault)),
+    }
+}
+
+// Tells the report of a server that was closed, or why there is none.
+fn told<W: Write>(
+    names: &Names,
+    closed: Result<Report<LineRest>, CloseFault>,
+    writer: &mut W,
+) -> Result<(), ProgramFault>
+    ensures { MatchResult result (λ _. Unit {0}) MayServe }
+{
+    match closed {
+        Ok(report) => write_report(names.as_slice(), &report, writer),
+        Err(fault) => Err(ProgramFault::Close(fault)),
+    }
+}
+
+// How it ended, by how serving and closing did. Where both had a fault, the first is told here.
+fn ended<E: Write>(
+    served: Result<(), ServeFault>,
+    closed: Result<(), ProgramFault>,
+    faults: &mut E,
+) -> Result<(), ProgramFault>
+    requires { MatchResult closed (λ _. Unit {0}) MayServe }
+    ensures { MatchResult result (λ _. Unit {0}) MayServe }
+{
+    let Err(fault) = served else {
+        return closed;
+    };
+    let fault = match fault {
+        ServeFault::Accept => ProgramFault::Accept,
+        ServeFault::NoDesk | ServeFault::Thread(_) | ServeFault::Memory => ProgramFault::Serve,
+    };
+    if closed.is_ok() {
+        return Err(fault);
+    }
+    let _ = tell(fault, faults);
+    closed
+}
+
+// Writes the report, and flushes it.
+fn write_report<W: Write>(
+    names: &[Name],
+    report: &Report<LineRest>,
+    writer: &mut W,
+) -> Result<(), ProgramFault>
+    ensures { MatchResult result (λ _. Unit {0}) MayServe }
+{
+    for (name, subject) in names.iter().zip(report.subjects.iter()) {
+        write_subject(name, subject, writer)?;
+    }
+    match writer.flush() {
+        Ok(()) => Ok(()),
+        Err(_) => Err(ProgramFault::Write),
+    }
+}
+
+// Writes the line of a subject.
+fn write_subject<W: Write>(
+    name: &Name,
+    subject: &SubjectReport,
+    writer: &mut W,
+) -> Result<(), ProgramFault>
+    ensures { MatchResult result (λ _. Unit {0}) MayServe }
+{
+    let SubjectReport { joins, refused, .. } = subject;
+    if writer.write_all(name.as_bytes()).is_err()
+        || writeln!(writer, " joins {joins} refused {refused}").is_err()
+    {
+        return Err(ProgramFault::Write);
+    }
+    Ok(())
+}

@@ -1,0 +1,64 @@
+ghost use Rattle.std.specs.Prelude.{◌≡◌, IfOk, position};
+ghost use Rattle.rx_proto.specs.Reading.{same_word};
+ghost use Rattle.rx_script.specs.Scripts.{Stands, AllStand, new_subject, new_subjects};
+
+use rx_config::SubjectConfig;
+use rx_heap::{Heap, Memory};
+use rx_hub::{Hub, HubError};
+use rx_proto::Name;
+
+/// A subject of a script: its name, its hub, and the memory of the hub and of the texts that it is handed.
+pub struct Topic {
+    pub name: Name,
+    pub hub: Hub,
+    pub heap: Heap,
+}
+
+// It stands here, and isn't derived, so that what lets go of a subject is one call that is proved once.
+impl Drop for Topic {
+    fn drop(self) {
+        let Topic {
+            name: _,
+            hub: _,
+            heap: _,
+        } = self;
+    }
+}
+
+impl Topic {
+    /// The topic of a subject, with no event yet.
+    fn new(heap: Heap, subject: SubjectConfig) -> Result<Topic, Memory>
+        ensures { IfOk result (λ topic. Stands topic (new_subject subject)) }
+    {
+        let SubjectConfig { name, rules } = subject;
+        match Hub::new(heap.clone()?, rules.kind, rules.limits) {
+            Ok(hub) => Ok(Topic { name, hub, heap }),
+            Err(HubError::Memory) => Err(Memory),
+            Err(HubError::BadLimits) => unreachable!(),
+        }
+    }
+}
+
+/// The topics of these subjects, in their order.
+pub fn topics_of(
+    alloc: &Heap,
+    subjects: Vec<SubjectConfig, Heap>,
+) -> Result<Vec<Topic, Heap>, Memory>
+    ensures { IfOk result (λ topics. AllStand topics.items (new_subjects subjects.items)) }
+{
+    let mut topics = Vec::with_capacity(alloc.clone()?, subjects.len())?;
+    for subject in subjects {
+        topics.push(Topic::new(alloc.clone()?, subject)?)?;
+    }
+    Ok(topics)
+}
+
+/// The place of the first topic of this name.
+#[inline(always)]
+pub fn place_of(topics: &Vec<Topic, Heap>, name: &[u8]) -> Option<usize>
+    ensures { result ≡ position (λ topic. same_word topic.name name.now) topics.now.items }
+{
+    topics
+        .iter()
+        .position(|topic| topic.name.as_bytes() == name)
+}

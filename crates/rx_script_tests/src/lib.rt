@@ -1,0 +1,19 @@
+//! Tests of scripts, audits and configurations: worked runs, told as tables of scripts and what is written for them, readers
+//! and writers that fail midway, runs with each growth refused in its turn, and what a configuration says.
+//!
+//! There is no code here but tests, and nothing stands on it. It stands above all that it tests, so that none of those
+//! crates is proved a second time for tests of its own.
+#![tactic(auto)]
+
+#[cfg(test)]
+mod audits;
+#[cfg(test)]
+mod configurations;
+#[cfg(test)]
+mod expecting;
+#[cfg(test)]
+mod kinds;
+#[cfg(test)]
+mod refusals;
+#[cfg(test)]
+mod rows;

@@ -1,0 +1,246 @@
+//! The worked runs: each a script for the standard configuration and what is written for it.
+
+use crate::expecting::{Ran, expect_ran, expect_that};
+use rx_config::Config;
+use rx_heap::{Heap, Memory};
+use rx_script::run_script;
+use rx_session::SessionEnd;
+use std::alloc::Global;
+use std::io::{self, ErrorKind, Read, Write};
+use std::test::Fail;
+
+const MAX_READS: u64 = 4_294_967_296;
+
+const FIRST_RUN: &[u8] =
+    b"JOIN s BUFFER DELAY 0\nPUB s a\nPUB s b\nREQUEST s 0 1\nEND s\nREQUEST s 0 5\n";
+
+const FIRST_ANSWERS: &[u8] = b"OK 0\nOK\nOK\nOK\ns 0 NEXT a\nOK\nOK\ns 0 NEXT b\ns 0 DONE\n";
+
+// Runs a script over the standard configuration.
+fn run<R: Read, W: Write>(
+    alloc: Global,
+    reader: &mut R,
+    writer: &mut W,
+    max_reads: u64,
+) -> Result<SessionEnd, Memory> {
+    let config = Config::standard(Heap::unlimited(alloc))?;
+    run_script(Heap::unlimited(alloc), config, reader, writer, max_reads)
+}
+
+fn run_of<R: Read>(alloc: Global, reader: &mut R, max_reads: u64) -> Result<Ran, Memory> {
+    let mut written = Vec::new(alloc);
+    let end = run(alloc, reader, &mut written, max_reads)?;
+    Ok(Ran { end, written })
+}
+
+/// A worked run: its name, its script, and what is written for it.
+pub(crate) type Row = (&'static str, &'static [u8], &'static [u8]);
+
+pub(crate) const ROWS: [Row; 11] = [
+    ("first_run", FIRST_RUN, FIRST_ANSWERS),
+    ("empty_input", b"", b""),
+    (
+        "error_delayed",
+        b"JOIN s BUFFER DELAY 1\nPUB s a\nPUB s b\nPUB s c\nFAIL s x\nREQUEST s 0 2\n",
+        b"OK 0\nOK\ns 0 NEXT a\nOK\nOK\nOK\nOK\ns 0 NEXT b\ns 0 NEXT c\ns 0 FAILED x\n",
+    ),
+    (
+        "texts_that_take_memory",
+        b"JOIN s BUFFER DELAY 1\nPUB s the first of two long items\nPUB s the second of two long items\nFAIL s the end of the long items\nREQUEST s 0 1\n",
+        b"OK 0\nOK\ns 0 NEXT the first of two long items\nOK\nOK\nOK\ns 0 NEXT the second of two long items\ns 0 FAILED the end of the long items\n",
+    ),
+    (
+        "error_ahead",
+        b"JOIN s BUFFER AHEAD 1\nPUB s a\nPUB s b\nPUB s c\nFAIL s x\nREQUEST s 0 3\n",
+        b"OK 0\nOK\ns 0 NEXT a\nOK\nOK\nOK\ns 0 FAILED x\nOK\n",
+    ),
+    (
+        "refusals_in_order",
+        b"JOIN s BUFFER DELAY 0\nREQUEST s 0 0\nREQUEST s 7 0\nREQUEST s 0 4294967295\nREQUEST s 0 1\nREQUEST s 7 1\nEND s\nPUB s a\nPUB t a\n",
+        b"OK 0\nERR ZERO\nERR ZERO\nOK\nERR TOOMUCH\nERR OBSERVER\nOK\ns 0 DONE\nERR ENDED\nERR SUBJECT\n",
+    ),
+    (
+        "moments_of_64_bits",
+        b"AT 5\nAT 18446744073709551615\nAT 18446744073709551616\nJOIN s BUFFER DELAY 1\nAT 0\nPUB s a\nAT\n",
+        b"OK\nOK\nERR SYNTAX\nOK 0\nOK\nOK\ns 0 NEXT a\nERR SYNTAX\n",
+    ),
+    (
+        "drop_zero_honours_demand",
+        b"JOIN s DROP:0 DELAY 0\nPUB s a\nREQUEST s 0 1\nPUB s b\n",
+        b"OK 0\nOK\nOK\nOK\ns 0 NEXT b\n",
+    ),
+    (
+        "drop_two",
+        b"JOIN s DROP:2 DELAY 0\nPUB s a\nPUB s b\nPUB s c\nPUB s d\nPUB s e\nREQUEST s 0 9\nREQUEST s 0 4294967289\n",
+        b"OK 0\nOK\nOK\nOK\nOK\nOK\nOK\ns 0 NEXT a\ns 0 NEXT b\nERR TOOMUCH\n",
+    ),
+    (
+        "latest_two",
+        b"JOIN s LATEST:2 DELAY 1\nPUB s a\nPUB s b\nPUB s c\nPUB s d\nREQUEST s 0 5\nPUB s e\n",
+        b"OK 0\nOK\ns 0 NEXT a\nOK\nOK\nOK\nOK\ns 0 NEXT c\ns 0 NEXT d\nOK\ns 0 NEXT e\n",
+    ),
+    (
+        "latest_one_then_done",
+        b"JOIN s LATEST:1 DELAY 0\nPUB s a\nPUB s b\nEND s\nREQUEST s 0 1\n",
+        b"OK 0\nOK\nOK\nOK\nOK\ns 0 NEXT b\ns 0 DONE\n",
+    ),
+];
+
+#[test]
+fn worked_runs(rt: HostRuntime) -> Result<(), Fail> {
+    for (name, script, answers) in &ROWS {
+        let mut reader = *script;
+        let ran = run_of(rt.alloc(), &mut reader, MAX_READS)?;
+        expect_ran(&rt, &ran, SessionEnd::EndOfInput, answers, name);
+    }
+    Ok(())
+}
+
+/// Gives a script a few bytes at a time, and fails as told.
+#[derive(Drop)]
+struct Drips {
+    rest: &'static [u8],
+    step: usize,
+    interrupted: u64,
+    fails_at: u64,
+    reads: u64,
+}
+
+impl Read for Drips {
+    fn read(&mut self, buf: &mut [u8]) -> io::Result<usize> {
+        self.reads = self.reads.saturating_add(1);
+        if self.reads <= self.interrupted {
+            return Err(io::Error::from(ErrorKind::Interrupted));
+        }
+        if self.reads == self.fails_at {
+            return Err(io::Error::from(ErrorKind::Other));
+        }
+        let len = self.step.min(self.rest.len()).min(buf.len());
+        buf[..len].copy_from_slice(&self.rest[..len]);
+        self.rest = &self.rest[len..];
+        Ok(len)
+    }
+}
+
+const STEPS: [usize; 5] = [1, 2, 3, 7, 64];
+
+#[test]
+fn reads_are_cut_anywhere(rt: HostRuntime) -> Result<(), Fail> {
+    for step in &STEPS {
+        let mut reader = Drips {
+            rest: FIRST_RUN,
+            step: *step,
+            interrupted: 0,
+            fails_at: 0,
+            reads: 0,
+        };
+        let ran = run_of(rt.alloc(), &mut reader, MAX_READS)?;
+        expect_ran(&rt, &ran, SessionEnd::EndOfInput, FIRST_ANSWERS, step);
+    }
+    Ok(())
+}
+
+// The most reads, the one that fails, how the script ends, and what is written.
+const INTERRUPTED: [(u64, u64, SessionEnd, &str); 3] = [
+    (3, 0, SessionEnd::Quit, "OK\n"),
+    (2, 0, SessionEnd::TooManyReads, ""),
+    (9, 3, SessionEnd::ReadFault, ""),
+];
+
+#[test]
+fn interrupted_reads(rt: HostRuntime) -> Result<(), Fail> {
+    for (max_reads, fails_at, end, answers) in &INTERRUPTED {
+        let mut reader = Drips {
+            rest: b"QUIT\n",
+            step: 16,
+            interrupted: 2,
+            fails_at: *fails_at,
+            reads: 0,
+        };
+        let ran = run_of(rt.alloc(), &mut reader, *max_reads)?;
+        expect_ran(&rt, &ran, *end, answers.as_bytes(), max_reads);
+        expect_that(&rt, reader.reads <= *max_reads, max_reads);
+    }
+    Ok(())
+}
+
+/// Takes so many bytes, one at a time, and then fails.
+#[derive(Drop)]
+struct Full {
+    taken: Vec<u8>,
+    room: usize,
+}
+
+impl Write for Full {
+    fn write(&mut self, buf: &[u8]) -> io::Result<usize> {
+        if self.taken.len() >= self.room {
+            return Err(io::Error::from(ErrorKind::Other));
+        }
+        let len = buf.len().min(1);
+        self.taken.extend_from_slice(&buf[..len])?;
+        Ok(len)
+    }
+
+    fn flush(&mut self) -> io::Result<()> {
+        Ok(())
+    }
+}
+
+// Runs the first script with a writer of so much room.
+fn run_in(alloc: Global, room: usize) -> Result<Ran, Memory> {
+    let mut writer = Full {
+        taken: Vec::new(alloc),
+        room,
+    };
+    let mut reader = FIRST_RUN;
+    let end = run(alloc, &mut reader, &mut writer, MAX_READS)?;
+    Ok(Ran {
+        end,
+        written: writer.taken,
+    })
+}
+
+#[test]
+fn writer_fails_at_each_byte(rt: HostRuntime) -> Result<(), Fail> {
+    for room in 0..FIRST_ANSWERS.len() {
+        let ran = run_in(rt.alloc(), room)?;
+        let written = &FIRST_ANSWERS[..room];
+        expect_ran(&rt, &ran, SessionEnd::WriteFault, written, &room);
+    }
+    Ok(())
+}
+
+fn put_filled(script: &mut Vec<u8>, front: &[u8], len: usize, end: &[u8]) -> Result<(), Memory> {
+    script.extend_from_slice(front)?;
+    for _ in 0..len {
+        script.push(b'x')?;
+    }
+    script.extend_from_slice(end)?;
+    Ok(())
+}
+
+// Lines of letters x: what stands before them, how many they are, and how the line ends.
+const FILLED: [(&str, usize, &str); 5] = [
+    ("", 1100, "\n"),
+    ("", 1101, "\n"),
+    ("", 1100, "\r\n"),
+    ("", 40000, "\n"),
+    ("PUB S ", 1025, "\nPUB s a\nPUB s b"),
+];
+
+fn script_of_long_lines(alloc: Global) -> Result<Vec<u8>, Memory> {
+    let mut script = Vec::new(alloc);
+    for (front, len, end) in &FILLED {
+        put_filled(&mut script, front.as_bytes(), *len, end.as_bytes())?;
+    }
+    Ok(script)
+}
+
+#[test]
+fn limits_of_a_line(rt: HostRuntime) -> Result<(), Fail> {
+    let script = script_of_long_lines(rt.alloc())?;
+    let ran = run_of(rt.alloc(), &mut script.as_slice(), MAX_READS)?;
+    let answers = b"ERR SYNTAX\nERR LONG\nERR SYNTAX\nERR LONG\nERR SYNTAX\nOK\n".as_slice();
+    expect_ran(&rt, &ran, SessionEnd::EndOfInput, answers, &"long lines");
+    Ok(())
+}

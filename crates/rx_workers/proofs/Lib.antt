@@ -1,0 +1,5 @@
+pub mod Crews
+pub mod Dealing
+pub mod Keeping
+pub mod Sessions
+pub mod Working

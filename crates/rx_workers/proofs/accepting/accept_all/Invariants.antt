@@ -1,0 +1,10 @@
+use Rattle.std.proofs.Common.{◌<◌, vec_len}
+use Rattle.rx_workers.proofs.Dealing.{SoFar}
+use Rattle.rx_workers.proofs.accepting.accept_all.Given as goal
+
+-- the connections so far went to their workers
+abbrev pub invariant-loop-number : goal.invariant-loop-number
+invariant-loop-number g l = record {
+  some : 0 < vec_len l.ports;
+  so_far : SoFar g.L.Listener.accepts l.number l.initial.listener l.listener l.initial.ports.items l.ports.items;
+}

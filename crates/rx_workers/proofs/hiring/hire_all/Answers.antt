@@ -1,0 +1,27 @@
+use Rattle.std.proofs.Common.{arith}
+use Rattle.std.specs.Arc.{arc_value}
+use Rattle.rx_workers.specs.Crews.{IsFor}
+use Rattle.rx_workers.proofs.Crews.{All-first, split-one, split-back}
+use Rattle.rx_workers.proofs.hiring.hire_all.Goals as goal
+
+-- one more was hired
+pub loop-desk-preserved : goal.loop-desk-preserved
+loop-desk-preserved g c =
+    let before = c.loop-desk.invariant in
+    let P = IsFor (arc_value c.args.config.now) in
+    record {
+      fit = All-first P c.loop-desk.desks.items c.pop.new.self.items c.in-Some.desk c.in-Some.ensures.items before.fit;
+      split =
+          split-one c.args.desks.now.items c.loop-desk.desks.items c.pop.new.self.items c.loop-desk.workers.items c.push_reserved.new.self.items c.in-Some.desk c.in-Ok.hired.0
+          c.in-Some.ensures.items c.push_reserved.ensures.items c.in-Ok.ensures before.split;
+      room = omega (arith, before.room, c.in-Some.ensures.cases, c.in-Some.ensures.capacity, c.push_reserved.ensures.len);
+      workers = omega (arith, before.workers, c.in-Some.ensures.cases, c.push_reserved.ensures.len, c.push_reserved.ensures.capacity);
+      ports = omega (arith, before.ports, c.in-Some.ensures.cases, c.push_reserved-in-Ok.ensures.len, c.push_reserved-in-Ok.ensures.capacity);
+      count = omega (arith, before.count, c.in-Some.ensures.cases, c.push_reserved-in-Ok.ensures.len);
+    }
+
+-- there is no worker for this one
+pub returns-in-Err-clause-out : goal.returns-in-Err-clause-out
+returns-in-Err-clause-out g c =
+    split-back c.args.desks.now.items c.loop-desk.desks.items c.pop.new.self.items c.push_reserved-in-Err.new.self.items c.loop-desk.workers.items c.in-Some.desk c.in-Err.back.desk
+    c.in-Some.ensures.items c.push_reserved-in-Err.ensures.items c.in-Err.ensures c.loop-desk.invariant.split

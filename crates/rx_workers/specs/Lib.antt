@@ -1,0 +1,8 @@
+pub mod Accepting
+pub mod Connections
+pub mod Crews
+pub mod Responses
+pub mod SessionDesks
+pub mod Telling
+pub mod Workers
+pub mod Working

@@ -1,0 +1,84 @@
+-- What a session's desk does: it makes one call to the subject of a name, and answers by what came of it (this project's
+-- own rule).
+use Rattle.std.specs.Prelude.{◌≡◌, ℕ, List, Option, None, Some, MatchOption, Result, Err, position, if◌then◌else◌}
+use Rattle.rx_note.specs.Choices.{Choice}
+use Rattle.rx_note.specs.declared.event.Event.{Event}
+use Rattle.rx_note.specs.declared.event.Event.TheVariants.{Emit, Join}
+use Rattle.rx_note.specs.declared.note.Note.{Note}
+use Rattle.rx_proto.specs.Reading.{same_word}
+use Rattle.rx_proto.specs.declared.response.Response.{Response}
+use Rattle.rx_proto.specs.declared.response.Response.TheVariants.{Refused}
+use Rattle.rx_proto.specs.declared.word.Word.TheVariants as words
+use Rattle.rx_pump.specs.Desks.{DeskView, Called, IsOver, KeepsDesk}
+use Rattle.rx_pump.specs.declared.call_error.CallError.{CallError}
+use Rattle.rx_pump.specs.declared.call_error.CallError.TheVariants.{SubjectGone}
+use Rattle.rx_pump.specs.declared.reply.Reply.{Reply}
+use Rattle.rx_session.specs.declared.follow.Follow.{Follow}
+use Rattle.rx_session.specs.declared.follow.Follow.TheVariants.{Taken, Back}
+use Rattle.rx_sink.specs.declared.line_sink.LineSink.{LineSink}
+use Rattle.rx_workers.specs.Responses.{response_of, has_joined, sink_in}
+use Rattle.rx_config.specs.declared.subject_config.SubjectConfig.{SubjectConfig}
+
+-- a session's desk: the subjects, by whose names it finds them, the first request of an observer, where its moments come
+-- from, and the desk that makes its calls
+pub record SessionView (M S : Type 0) : Type 0 where
+  pub subjects : List SubjectConfig
+  pub window : ℕ
+  pub moments : M
+  pub calls : DeskView S
+
+-- the place of the first subject of a name
+abbrev pub place_of : List ℕ → List SubjectConfig → Option ℕ
+place_of name subjects = position (λ subject. same_word subject.name name) subjects
+
+-- what no call of a session's desk changes: the subjects, the window, and to which boxes it belongs
+pub record KeepsSession {M S : Type 0} (before after : SessionView M S) : Type 0 where
+  pub subjects : after.subjects ≡ before.subjects
+  pub window : after.window ≡ before.window
+  pub calls : KeepsDesk before.calls after.calls
+
+module _ {W : Type 0} where
+  -- the sink over a writer, of which nothing was written yet
+  abbrev pub line_sink : W → LineSink W
+  line_sink writer = record { writer = writer; notes = 0; faults = 0 }
+
+  -- the writer of the sink that came back, with a response; without one it is taken
+  abbrev pub back_with : Response → Option (LineSink W) → Follow W
+  back_with response None = Taken
+  back_with response (Some sink) = Back response sink.writer
+
+  -- what becomes of a writer by the answer to its call: it is taken by the observer that was made, else its sink came back or
+  -- was lost
+  abbrev pub followed : Result (Reply (LineSink W)) (CallError (LineSink W)) → Follow W
+  followed answered = if has_joined answered then Taken else back_with (response_of answered) (sink_in answered)
+
+module _ {M W : Type 0} (tells : M → ℕ → M → Type 0) where
+  -- a moment was told, and one call made to a subject with the event at that moment; the rest is as it was
+  pub record CallsOnce (before after : SessionView M (LineSink W)) (subject : ℕ) (event : ℕ → Event) (sink : Option (LineSink W)) (answered : Result (Reply (LineSink W)) (CallError (LineSink W))) : Type 0 where
+    pub at : ℕ
+    pub told : tells before.moments at after.moments
+    pub called : Called before.calls after.calls subject (event at) sink answered
+    pub over : IsOver before.calls → (answered ≡ Err (SubjectGone sink)) × (after.calls ≡ before.calls)
+    pub kept : KeepsSession before after
+
+  -- a note was emitted at the subject at this place, and the response is that of the answer
+  abbrev pub EmitsAt : SessionView M (LineSink W) → Note → Response → SessionView M (LineSink W) → ℕ → Type 0
+  EmitsAt before note response after subject =
+      (answered : Result (Reply (LineSink W)) (CallError (LineSink W))) × CallsOnce before after subject (λ at. Emit note at) None answered
+      × (response ≡ response_of answered)
+
+  -- an Emit at the subject of a name; without such a subject no call is made
+  abbrev pub emits : SessionView M (LineSink W) → List ℕ → Note → Response → SessionView M (LineSink W) → Type 0
+  emits before name note response after =
+      MatchOption (place_of name before.subjects) ((response ≡ Refused words.Subject) × (after ≡ before)) (EmitsAt before note response after)
+
+  -- an observer joined at the subject at this place, with the window as its first request and a sink over the writer
+  abbrev pub FollowsAt : SessionView M (LineSink W) → Choice → W → Follow W → SessionView M (LineSink W) → ℕ → Type 0
+  FollowsAt before policy writer result after subject =
+      (answered : Result (Reply (LineSink W)) (CallError (LineSink W)))
+      × CallsOnce before after subject (λ at. Join policy before.window at) (Some (line_sink writer)) answered × (result ≡ followed answered)
+
+  -- a Join at the subject of a name; without such a subject no call is made, and the writer comes back
+  abbrev pub follows : SessionView M (LineSink W) → List ℕ → Choice → W → Follow W → SessionView M (LineSink W) → Type 0
+  follows before name policy writer result after =
+      MatchOption (place_of name before.subjects) ((result ≡ Back (Refused words.Subject) writer) × (after ≡ before)) (FollowsAt before policy writer result after)

@@ -1,0 +1,55 @@
+// The acceptor: it deals the connections that it accepts to the workers.
+ghost use Rattle.std.specs.Prelude.{◌<◌, ◌≡◌, vec_len};
+ghost use Rattle.rx_workers.specs.Accepting.{AcceptsAll, AcceptsNext};
+
+use crate::listener::Listener;
+use rx_heap::Heap;
+use rx_mailbox::Port;
+use std::sync::Wait;
+
+/// Why an acceptor stopped.
+#[derive(Clone, Copy, Debug, PartialEq, Eq)]
+pub enum AcceptStop {
+    /// The listener failed.
+    NoConnection,
+    /// The worker at this place, from 0, is gone. The connection that was for it is given up.
+    WorkerGone(usize),
+}
+
+/// Accepts so many connections, and sends each to its worker: connection i, from 0, to worker i modulo their number. `Err`
+/// where the listener fails or a worker is gone; those accepted before went to their workers.
+pub fn accept_all<L: Listener, R: Wait>(
+    rt: &R,
+    listener: &mut L,
+    ports: &mut Vec<Port<(L::Reader, L::Writer)>, Heap>,
+    connections: u32,
+) -> Result<(), AcceptStop>
+    requires { 0 < vec_len ports.old }
+    ensures { AcceptsAll L.accepts L.fails connections result listener.old listener.new ports.old.items ports.new.items }
+{
+    for number in 0..connections {
+        accept_next(rt, listener, ports, number)?;
+    }
+    Ok(())
+}
+
+// Accepts the connection of this number, and sends it to its worker.
+fn accept_next<L: Listener, R: Wait>(
+    rt: &R,
+    listener: &mut L,
+    ports: &mut Vec<Port<(L::Reader, L::Writer)>, Heap>,
+    number: u32,
+) -> Result<(), AcceptStop>
+    requires { 0 < vec_len ports.old }
+    ensures accepts { AcceptsNext L.accepts L.fails number result listener.old listener.new ports.old.items ports.new.items }
+    ensures count { vec_len ports.new ≡ vec_len ports.old }
+{
+    let Ok(connection) = listener.accept_one() else {
+        return Err(AcceptStop::NoConnection);
+    };
+    let place = number as usize % ports.len();
+    let Ok(()) = ports[place].send(rt, connection) else {
+        return Err(AcceptStop::WorkerGone(place));
+    };
+    Ok(())
+}

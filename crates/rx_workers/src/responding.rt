@@ -1,0 +1,40 @@
+// What a call is answered on the line.
+ghost use Rattle.std.specs.Prelude.{◌≡◌};
+ghost use Rattle.rx_workers.specs.Responses.{response_of, has_joined, sink_in};
+ghost use Rattle.rx_workers.specs.Responses as responses;
+
+use rx_note::Answer;
+use rx_proto::{Response, Word};
+use rx_pump::{CallError, Reply};
+use rx_session::response_to;
+
+// The response to a call.
+pub fn response_of<S>(answered: &Result<Reply<S>, CallError<S>>) -> Response
+    ensures { result ≡ response_of answered.now }
+{
+    match answered {
+        Ok(reply) => response_to(reply.result),
+        Err(_) => Response::Refused(Word::Gone),
+    }
+}
+
+// Whether the call made an observer.
+pub fn has_joined<S>(answered: &Result<Reply<S>, CallError<S>>) -> bool
+    ensures { result ≡ responses.has_joined answered.now }
+{
+    match answered {
+        Ok(reply) => matches!(reply.result, Ok(Answer::Joined(_))),
+        Err(_) => false,
+    }
+}
+
+// The sink that came back, if one did.
+pub fn sink_in<S: Drop>(answered: Result<Reply<S>, CallError<S>>) -> Option<S>
+    ensures { result ≡ sink_in answered }
+{
+    match answered {
+        Ok(reply) => reply.sink,
+        Err(CallError::SubjectGone { sink }) => sink,
+        Err(CallError::Strange { sink }) => sink,
+    }
+}

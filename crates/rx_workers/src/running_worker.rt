@@ -1,0 +1,93 @@
+//! Workers in threads of their own.
+ghost use Rattle.std.specs.Prelude.{◌≡◌, MatchResult};
+ghost use Rattle.rx_workers.specs.Workers.{HasEnded};
+
+use crate::moments::Moments;
+use crate::worker::Worker;
+use crate::worker_end::WorkerEnd;
+use rx_mailbox::Port;
+use std::io::{Read, Write};
+use std::marker::Model;
+use std::snapshot::Snapshot;
+use std::sync::Wait;
+use std::thread;
+use std::thread::{Promise, PromisedHandle, Threads};
+
+/// What the thread of a worker answers is what `serve` promises of that worker.
+#[derive(Drop)]
+pub struct Worked<M: Drop, C: Drop, W: Write + Drop>(Snapshot<Worker<M, C, W>>);
+
+impl<M: Moments + Drop, C: Read + Drop, W: Write + Drop> Promise<WorkerEnd<C, W>>
+    for Worked<M, C, W> {
+    ghost use Rattle.rx_workers.specs.Workers.{HasEnded};
+
+    ghost kept_by = { λ p end. HasEnded M.tells C.remaining W.contents p.0.value end };
+}
+
+/// A worker that serves in a thread of its own. One that is let go without a `join` is not waited for. Contracts see the worker
+/// that was handed in.
+pub struct RunningWorker<M: Moments + Drop, C: Read + Drop, W: Write + Drop> {
+    handle: PromisedHandle<WorkerEnd<C, W>, Worked<M, C, W>>,
+}
+
+// It stands here, and isn't derived, so that what lets go of a running worker is one call that is proved once.
+impl<M: Moments + Drop, C: Read + Drop, W: Write + Drop> Drop for RunningWorker<M, C, W> {
+    fn drop(self) {
+        let RunningWorker { handle: _ } = self;
+    }
+}
+
+/// Starts a thread in which the worker serves, and hands back the port to its inbox. `Err` where there is no thread for it:
+/// the port has ended, and this is what the worker leaves, whose inbox had nothing but the Bye.
+pub fn start_worker<
+    M: Moments + Drop + Send + 'static,
+    C: Read + Drop + Send + 'static,
+    W: Write + Drop + Send + 'static,
+    R: Threads + Wait + Clone + Drop + Send + 'static,
+>(
+    rt: &R,
+    worker: Worker<M, C, W>,
+    port: Port<(C, W)>,
+) -> Result<(RunningWorker<M, C, W>, Port<(C, W)>), WorkerEnd<C, W>>
+    ensures { MatchResult result
+        (λ started. (started.0 ≡ worker) × (started.1 ≡ port))
+        (λ end. HasEnded M.tells C.remaining W.contents worker end) }
+{
+    let Ok(own) = rt.clone() else {
+        dismiss(rt, port);
+        return Err(worker.serve(rt));
+    };
+    let promise = Worked(Snapshot::of(&worker));
+    match thread::spawn_with(rt, promise, move || worker.serve(&own)) {
+        Ok(handle) => Ok((RunningWorker { handle }, port)),
+        Err(refused) => {
+            dismiss(rt, port);
+            Err((refused.value)())
+        }
+    }
+}
+
+impl<M: Moments + Drop, C: Read + Drop, W: Write + Drop> Model for RunningWorker<M, C, W> {
+    ghost use Rattle.rx_workers.specs.Working.{WorkerView};
+
+    ghost Value = { WorkerView (Unit {0}) C W };
+
+    ghost view = { λ r. r.handle.promise.0.value };
+}
+
+/// Tells a worker, by the port to its inbox, that no connection comes any more.
+pub(crate) fn dismiss<B: Drop, R: Wait>(rt: &R, port: Port<B>) {
+    drop(port.finish(rt));
+}
+
+impl<M: Moments + Drop, C: Read + Drop, W: Write + Drop> RunningWorker<M, C, W> {
+    ghost use Rattle.rx_workers.specs.Workers.{HasEnded};
+
+    /// Waits until the thread has ended. It answers what the worker left.
+    pub fn join<R: Threads>(self, rt: &R) -> WorkerEnd<C, W>
+        ensures { HasEnded M.tells C.remaining W.contents self result }
+    {
+        let RunningWorker { handle } = self;
+        handle.join(rt)
+    }
+}

@@ -1,0 +1,129 @@
+ghost use Rattle.std.specs.Prelude.{◌≡◌, ◌+◌, length, vec_len};
+ghost use Rattle.rx_workers.specs.SessionDesks.{followed, place_of};
+
+use crate::moments::Moments;
+use crate::responding::{has_joined, response_of, sink_in};
+use rx_config::{Config, SubjectConfig};
+use rx_heap::Heap;
+use rx_note::{Event, Note, Policy};
+use rx_proto::{Name, Response, Word};
+use rx_pump::{CallDesk, CallError, Reply};
+use rx_session::{Desk, Follow};
+use rx_sink::LineSink;
+use std::io::Write;
+use std::marker::Model;
+use std::sync::Wait;
+
+/// The desk of a session: it finds the subject of a name in the configuration, and makes one call to it for each command,
+/// with the moment at which the call is made.
+#[derive(Drop)]
+pub struct SessionDesk<'a, R, M: Drop, W: Write + Drop> {
+    rt: &'a R,
+    config: &'a Config,
+    moments: M,
+    calls: CallDesk<LineSink<W>>,
+}
+
+impl<'a, R, M: Drop, W: Write + Drop> Model for SessionDesk<'a, R, M, W> {
+    ghost use Rattle.std.specs.Prelude.{◌+◌, ◌≡◌, length, vec_len};
+    ghost use Rattle.rx_sink.specs.declared.line_sink.LineSink.{LineSink};
+    ghost use Rattle.rx_workers.specs.SessionDesks.{SessionView};
+
+    ghost Value = { SessionView M (LineSink W) };
+
+    ghost view = { λ d. record { subjects = d.config.now.subjects.items; window = d.config.now.window; moments = d.moments; calls = d.calls } };
+
+    ghost invariant = { λ d. length d.calls.ports + length d.calls.ended ≡ vec_len d.config.now.subjects };
+}
+
+impl<'a, R, M: Drop, W: Write + Drop> SessionDesk<'a, R, M, W> {
+    ghost use Rattle.rx_workers.specs.SessionDesks.{place_of};
+
+    /// The desk of a session over a desk that has a port for each subject, in the order of the configuration.
+    pub fn new(
+        rt: &'a R,
+        calls: CallDesk<LineSink<W>>,
+        config: &'a Config,
+        moments: M,
+    ) -> SessionDesk<'a, R, M, W>
+        requires { length calls.ports + length calls.ended ≡ vec_len config.now.subjects }
+        ensures { result ≡ record { subjects = config.now.subjects.items; window = config.now.window; moments = moments; calls = calls } }
+    {
+        SessionDesk {
+            rt,
+            config,
+            moments,
+            calls,
+        }
+    }
+
+    /// The desk that made the calls, as they left it.
+    pub fn into_desk(self) -> CallDesk<LineSink<W>>
+        ensures calls { result ≡ self.entry.calls }
+        ensures ports { length result.ports + length result.ended ≡ length self.entry.subjects }
+    {
+        self.calls
+    }
+
+    // The place of the first subject of this name.
+    fn place_of(&self, name: &Name) -> Option<usize>
+        ensures { result ≡ place_of name.now self.now.subjects }
+    {
+        place_in(&self.config.subjects, name)
+    }
+}
+
+impl<'a, R: Wait, M: Moments + Drop, W: Write + Drop> Desk<W> for SessionDesk<'a, R, M, W> {
+    ghost use Rattle.rx_workers.specs.SessionDesks.{emits, follows};
+
+    ghost emits = { emits M.tells };
+
+    ghost follows = { follows M.tells };
+
+    fn emit(&mut self, name: &Name, note: Note) -> Response {
+        let Some(place) = self.place_of(name) else {
+            return Response::Refused(Word::Subject);
+        };
+        let at = self.moments.now();
+        let event = Event::Emit { note, at };
+        let answered = self.calls.call(self.rt, place, event, None);
+        response_of(&answered)
+    }
+
+    fn follow(&mut self, name: &Name, policy: Policy, writer: W) -> Follow<W> {
+        let Some(place) = self.place_of(name) else {
+            return Follow::Back(Response::Refused(Word::Subject), writer);
+        };
+        let at = self.moments.now();
+        let first = u32::from(self.config.window);
+        let event = Event::Join { policy, first, at };
+        let sink = LineSink::new(writer);
+        let answered = self.calls.call(self.rt, place, event, Some(sink));
+        followed(answered)
+    }
+}
+
+// The place of the first subject of this name.
+fn place_in(subjects: &Vec<SubjectConfig, Heap>, name: &Name) -> Option<usize>
+    ensures { result ≡ place_of name.now subjects.now.items }
+{
+    subjects
+        .iter()
+        .position(|subject| subject.name.as_bytes() == name.as_bytes())
+}
+
+// What becomes of the writer, by the answer to the call of its sink.
+fn followed<W: Write + Drop>(
+    answered: Result<Reply<LineSink<W>>, CallError<LineSink<W>>>,
+) -> Follow<W>
+    ensures { result ≡ followed answered }
+{
+    if has_joined(&answered) {
+        return Follow::Taken;
+    }
+    let response = response_of(&answered);
+    match sink_in(answered) {
+        None => Follow::Taken,
+        Some(sink) => Follow::Back(response, sink.into_writer()),
+    }
+}

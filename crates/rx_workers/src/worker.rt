@@ -1,0 +1,97 @@
+ghost use Rattle.std.specs.Prelude.{◌≡◌, ◌+◌, length, vec_len};
+ghost use Rattle.std.specs.Arc.{arc_value};
+
+use crate::moments::Moments;
+use crate::serving::serve_all;
+use crate::session_desk::SessionDesk;
+use crate::shared_moments::SharedMoments;
+use crate::worker_end::WorkerEnd;
+use rx_config::Config;
+use rx_heap::Heap;
+use rx_mailbox::Inbox;
+use rx_pump::CallDesk;
+use rx_sink::LineSink;
+use std::io::{Read, Write};
+use std::marker::Model;
+use std::sync::{Arc, Mutex, Wait};
+
+/// Serves the connections that come to its inbox, one after another, by a desk of its own. The configuration and the moments
+/// are shared with other workers.
+pub struct Worker<M: Drop, C: Drop, W: Write + Drop> {
+    heap: Heap,
+    config: Arc<Config, Heap>,
+    moments: Arc<Mutex<M>, Heap>,
+    desk: CallDesk<LineSink<W>>,
+    inbox: Inbox<(C, W)>,
+}
+
+// It stands here, and isn't derived, so that what lets go of a worker is one call that is proved once.
+impl<M: Drop, C: Drop, W: Write + Drop> Drop for Worker<M, C, W> {
+    fn drop(self) {
+        let Worker {
+            heap: _,
+            config: _,
+            moments: _,
+            desk: _,
+            inbox: _,
+        } = self;
+    }
+}
+
+impl<M: Drop, C: Drop, W: Write + Drop> Model for Worker<M, C, W> {
+    ghost use Rattle.std.specs.Prelude.{◌≡◌, ◌+◌, length, vec_len};
+    ghost use Rattle.std.specs.Arc.{arc_value};
+    ghost use Rattle.rx_workers.specs.Working.{WorkerView, worker};
+
+    ghost Value = { WorkerView (Unit {0}) C W };
+
+    ghost view = { λ w. worker (record { subjects = (arc_value w.config).subjects.items; window = (arc_value w.config).window; moments = tt; calls = w.desk }) w.inbox };
+
+    ghost invariant = { λ w. length w.desk.ports + length w.desk.ended ≡ vec_len (arc_value w.config).subjects };
+}
+
+impl<M: Moments + Drop, C: Read + Drop, W: Write + Drop> Worker<M, C, W> {
+    ghost use Rattle.rx_workers.specs.Working.{worker};
+    ghost use Rattle.rx_workers.specs.Workers.{HasEnded};
+
+    /// A worker over a desk that has a port for each subject, in the order of the configuration.
+    pub fn new(
+        heap: Heap,
+        config: Arc<Config, Heap>,
+        moments: Arc<Mutex<M>, Heap>,
+        desk: CallDesk<LineSink<W>>,
+        inbox: Inbox<(C, W)>,
+    ) -> Worker<M, C, W>
+        requires { length desk.ports + length desk.ended ≡ vec_len (arc_value config).subjects }
+        ensures { result ≡ worker (record { subjects = (arc_value config).subjects.items; window = (arc_value config).window; moments = tt; calls = desk }) inbox }
+    {
+        Worker {
+            heap,
+            config,
+            moments,
+            desk,
+            inbox,
+        }
+    }
+
+    /// Serves each connection that comes, until the Bye or until none comes any more.
+    pub fn serve<R: Wait>(self, rt: &R) -> WorkerEnd<C, W>
+        ensures { HasEnded M.tells C.remaining W.contents self result }
+    {
+        let Worker {
+            heap,
+            config,
+            moments,
+            desk,
+            mut inbox,
+        } = self;
+        let shared = SharedMoments::new(rt, &moments);
+        let mut session = SessionDesk::new(rt, desk, &config, shared);
+        let sessions = serve_all(rt, &heap, &mut session, &mut inbox);
+        WorkerEnd {
+            desk: session.into_desk(),
+            inbox,
+            sessions,
+        }
+    }
+}

@@ -1,8 +1,0 @@
-use Rattle.std.proofs.Common.{take}
-use Rattle.rxline.specs.Audits.{note_lines}
-use Rattle.rx_session.specs.Bytes.{Holds}
-use Rattle.rxline.proofs.audit.put_notes.Given as goal
-
-abbrev pub invariant-loop-note : goal.invariant-loop-note
-invariant-loop-note g l =
-    Holds l.initial.outbox l.outbox (g.W.Write.contents l.initial.writer) (g.W.Write.contents l.writer) (note_lines l.mark (take l.note-index l.note-items))

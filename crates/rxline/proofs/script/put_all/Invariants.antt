@@ -1,8 +1,0 @@
-use Rattle.std.proofs.Common.{take}
-use Rattle.rx_session.specs.Bytes.{Holds}
-use Rattle.rxline.specs.Transcripts.{given_lines}
-use Rattle.rxline.proofs.script.put_all.Given as goal
-
-abbrev pub invariant-loop-given : goal.invariant-loop-given
-invariant-loop-given g l =
-    Holds l.initial.outbox l.outbox (g.W.Write.contents l.initial.writer) (g.W.Write.contents l.writer) (given_lines l.name (take l.given-index l.given-items))
