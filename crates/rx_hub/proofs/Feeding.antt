@@ -1,5 +1,5 @@
 -- The loop that feeds each observer: what it has done at its i-th turn.
-use Rattle.std.proofs.Common.{◌≡◌, ℕ, ◌+◌, ◌<◌, List, [], ◌∷◌, ◌++◌, length, take, drop, get_or, set, refl, sym, ap, ◌∙◌, subst, arith, append_assoc, append-nil}
+use Rattle.std.proofs.Common.{◌≡◌, ℕ, suc, ◌+◌, ◌<◌, List, [], ◌∷◌, ◌++◌, length, take, drop, get_or, set, refl, sym, ap, ◌∙◌, subst, arith, append_assoc, append-nil}
 use Rattle.std.proofs.Math.Seq.{take-append_seam}
 use Rattle.std.proofs.lemmas.List.{take_more, take_more_set, drop-drop, get_or-drop, map-append, drop-set-lt}
 use Rattle.rx_note.specs.declared.item.Item.{Item}
@@ -31,6 +31,13 @@ AllFed-push signals (o ∷ olds) (n ∷ news) outs old new notes all feeds = (
   all.3,
   AllFed-push signals olds news all.1 old new notes all.4 feeds,
 )
+
+-- those that were fed are as many as before
+pub AllFed-length : (signals : List Signal) (olds news : List Observer) (outs : List Given) → AllFed signals olds news outs → length news ≡ length olds
+AllFed-length signals [] [] outs fed = refl
+AllFed-length signals [] (new ∷ news) outs fed = absurd fed
+AllFed-length signals (old ∷ olds) [] outs fed = absurd fed
+AllFed-length signals (old ∷ olds) (new ∷ news) outs fed = ap suc (AllFed-length signals olds news fed.1 fed.4)
 
 -- the observer of the next turn is still the old one
 pub still-at : (olds news : List Subscription) (i : ℕ) (d : Subscription) → drop i news ≡ drop i olds → get_or news i d ≡ get_or olds i d

@@ -16,5 +16,4 @@ pub mod Staying
 pub mod Tables
 pub mod Taking
 pub mod Tight
-pub mod Trimming
 pub mod Waiting

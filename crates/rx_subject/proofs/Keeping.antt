@@ -1,16 +1,14 @@
 -- What a window keeps of items whose stamps rise.
-use Rattle.std.proofs.Common.{◌≡◌, ℕ, zero, suc, ◌+◌, ◌-◌, ◌<◌, ◌≤◌, Bool, true, false, cond, List, [], ◌∷◌, ◌++◌, length, map, drop, Option, None, Some, ◌⊎◌, inl, inr, refl, sym, ap, ◌∙◌, arith, add-one}
-use Rattle.std.specs.Prelude.{slice_get}
+use Rattle.std.proofs.Common.{◌≡◌, ℕ, suc, ◌+◌, ◌-◌, ◌<◌, ◌≤◌, Bool, true, false, cond, List, [], ◌∷◌, ◌++◌, length, drop, Option, None, Some, ◌⊎◌, inl, inr, refl, sym, ap, ◌∙◌, arith}
 use Rattle.std.proofs.Math.Seq.{drop-nil}
 use Rattle.std.proofs.lemmas.Bool.{cases_lt}
 use Rattle.std.proofs.lemmas.Bool.Decides.{nat_tests}
-use Rattle.std.proofs.lemmas.List.{length-append, length-drop, length-map, map-append, drop-append-le, drop-drop, drop-map}
+use Rattle.std.proofs.lemmas.List.{length-append, length-drop, drop-append-le, drop-drop}
 use Rattle.std.proofs.lemmas.List.Elements.{filter-append}
 use Rattle.std.specs.List.{filter}
 use Rattle.rx_note.specs.declared.item.Item.{Item}
 use Rattle.rx_history.specs.Histories.{Stamped, newest, is_young, young, at_most}
-use Rattle.rx_subject.specs.declared.window.Kept.{Kept}
-use Rattle.rx_subject.specs.Windows.{stamped_by, from_young}
+use Rattle.rx_subject.specs.Windows.{from_young}
 use Rattle.rx_subject.proofs.Rising.{RisesTo, pushed, dropped, sifted}
 
 -- YOUNG ITEMS
@@ -151,46 +149,3 @@ kept-pushed count bound now later xs high item rises above le =
     ∙ from_young-young bound later 0 (at_most count (in_time ++ one)) later (at_most-rises count 0 (in_time ++ one) later rises_on)
     ∙ sym (at_most-young count bound later 0 (in_time ++ one) later rises_on)
     ∙ ap (at_most count) (filter-append test in_time one ∙ ap (λ ys. ys ++ filter test one) (young-later bound now later xs le) ∙ sym (filter-append test xs one))
-
--- A RING
-
--- the last of a ring's items
-pub ring_keeps : (n : ℕ) (kept : List Kept) (one : Kept)
-    → map stamped_by (drop (length (kept ++ one ∷ []) - n) (kept ++ one ∷ [])) ≡ newest n (map stamped_by kept ++ (one.item, one.stamp) ∷ [])
-ring_keeps n kept one =
-    let all = kept ++ one ∷ [] in
-    let whole : map stamped_by all ≡ map stamped_by kept ++ (one.item, one.stamp) ∷ [] = map-append stamped_by kept (one ∷ []) in
-    sym (drop-map stamped_by (length all - n) all)
-    ∙ ap (λ k. drop (k - n) (map stamped_by all)) (sym (length-map all stamped_by))
-    ∙ ap (newest n) whole
-
--- ONE BY ONE
-
-from_young-next : (bound : Option ℕ) (now : ℕ) (xs : List Stamped) (k : ℕ) (x : Stamped) → Some x ≡ slice_get xs k
-    → from_young bound now (drop k xs) ≡ cond (is_young bound (now - x.1)) (drop k xs) (from_young bound now (drop (suc k) xs))
-from_young-next bound now [] zero x is = absurd cc
-from_young-next bound now [] (suc k) x is = absurd cc
-from_young-next bound now (y ∷ ys) zero x is = let same : x ≡ y = cc in
-    ap (λ (z : Stamped). cond (is_young bound (now - z.1)) (y ∷ ys) (from_young bound now ys)) (sym same)
-from_young-next bound now (y ∷ ys) (suc k) x is = from_young-next bound now ys k x is
-
--- from a place on: whether the item there is young
-pub from_young-at : (bound : Option ℕ) (now : ℕ) (xs : List Stamped) (k : ℕ) (x : Stamped) → Some x ≡ slice_get xs k
-    → from_young bound now (drop k xs) ≡ cond (is_young bound (now - x.1)) (drop k xs) (from_young bound now (drop (k + 1) xs))
-from_young-at bound now xs k x is = rw add-one (from_young-next bound now xs k x is)
-
--- there is an item at each place
-pub is_there : (xs : List Stamped) (k : ℕ) → k < length xs → None ≡ slice_get xs k → ⊥
-is_there [] k lt none = absurd (omega arith)
-is_there (x ∷ xs) zero lt none = cc
-is_there (x ∷ xs) (suc k) lt none = is_there xs k (omega arith) none
-
-drop-next : (xs : List Stamped) (k : ℕ) (x : Stamped) → Some x ≡ slice_get xs k → drop k xs ≡ x ∷ drop (suc k) xs
-drop-next [] zero x is = absurd cc
-drop-next [] (suc k) x is = absurd cc
-drop-next (y ∷ ys) zero x is = let same : x ≡ y = cc in ap (λ z. z ∷ ys) (sym same)
-drop-next (y ∷ ys) (suc k) x is = drop-next ys k x is
-
--- the item at a place, and those behind it
-pub drop-at : (xs : List Stamped) (k : ℕ) (x : Stamped) → Some x ≡ slice_get xs k → drop k xs ≡ x ∷ drop (k + 1) xs
-drop-at xs k x is = rw add-one (drop-next xs k x is)

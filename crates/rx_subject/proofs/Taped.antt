@@ -1,19 +1,21 @@
 -- What a subject keeps of the last items of a tape, by their stamps.
-use Rattle.std.proofs.Common.{◌≡◌, ℕ, zero, suc, ◌-◌, ◌≤◌, ◌≢◌, max, Bool, true, false, cond, List, [], ◌∷◌, ◌++◌, length, take, drop, Option, None, Some, is_some, refl, sym, ap, ◌∙◌, arith, append_assoc, append-nil}
+use Rattle.std.proofs.Common.{◌≡◌, ℕ, zero, suc, ◌-◌, ◌≤◌, ◌≢◌, max, Bool, true, false, cond, List, [], ◌∷◌, ◌++◌, length, take, drop, Option, None, Some, is_some, refl, sym, ap, subst, ◌∙◌, arith, append_assoc, append-nil}
 use Rattle.std.proofs.lemmas.List.{length-append, length-drop, take_all}
 use Rattle.rx_note.specs.declared.item.Item.{Item}
 use Rattle.rx_note.specs.declared.kind.Kind.{Kind}
 use Rattle.rx_note.specs.declared.kind.Kind.TheVariants.{Publish, Behavior, Async, Replay}
 use Rattle.rx_note.specs.declared.note.Note.{Note}
 use Rattle.rx_note.specs.declared.note.Note.TheVariants.{Next, Completed, Failed}
+use Rattle.rx_note.specs.declared.rules.Rules.{Rules}
 use Rattle.rx_note.specs.declared.text.Text.{Text}
-use Rattle.rx_history.specs.Histories.{Stamped, unstamped, is_young, at_most, or_else, seed_item, terminal_in, item_in, offers_by}
+use Rattle.rx_history.specs.Histories.{NoEvents, Stamped, unstamped, is_young, at_most, or_else, seed_item, terminal_in, item_in, offers_by}
 use Rattle.rx_tape.specs.Tapes.{TapeState, pushed, last_items}
 use Rattle.rx_tape.proofs.Lasts.{none_back, lasts-more, fewer_last}
 use Rattle.rx_subject.specs.Windows.{count_kept, age_kept, from_young}
-use Rattle.rx_subject.specs.Subjects.{items_by, window_with, after_item, after_end, after_join}
-use Rattle.rx_subject.specs.TapeSubjects.{TapeSubjectState, subject_on, taped, paired, last_stamped, window_on, old_count, beyond, pushed_all}
+use Rattle.rx_subject.specs.Subjects.{StandsFor, items_by, subject_at_first, window_with, after_item, after_end, after_join}
+use Rattle.rx_subject.specs.TapeSubjects.{TapeSubjectState, tape_subject_at_first, subject_on, taped, paired, last_stamped, window_on, old_count, beyond, pushed_all}
 use Rattle.rx_subject.proofs.Keeping.{from_young-none}
+use Rattle.rx_subject.proofs.Standing.{stands_first}
 
 -- ITEMS WITH THEIR STAMPS
 
@@ -140,7 +142,7 @@ last_kept count age now items item stamps all h all_is =
     ∙ ap (from_young age now) (sym (at_most-beyond count (last_stamped (items ++ item ∷ []) (stamps ++ now ∷ []))))
     ∙ ap (λ xs. from_young age now (at_most count xs)) (last_stamped-more items stamps item now h)
 
--- nothing is kept of Publish
+-- where no stamp is kept no item is
 none_stamped : (items : List Item) (stamps : List ℕ) → length stamps ≡ 0 → last_stamped items stamps ≡ []
 none_stamped items [] h = ap (λ xs. paired xs []) (none_back items)
 none_stamped items (s ∷ ss) h = absurd (omega (arith, h))
@@ -162,6 +164,32 @@ window_more Async now items item own stamps all left other h few all_is left_is 
 window_more (Replay count age) now items item own stamps all left other h few all_is left_is =
     ap (last_stamped (items ++ item ∷ [])) left_is
     ∙ last_kept count age now items item stamps all h all_is
+
+-- nothing at first
+none_at_first : (kind : Kind) (items : List Item) → window_on kind items [] [] ≡ []
+none_at_first Publish items = none_stamped items [] refl
+none_at_first (Behavior seed) items = none_stamped items [] refl
+none_at_first Async items = refl
+none_at_first (Replay count age) items = none_stamped items [] refl
+
+-- so that a new subject stands for no event
+pub stands_at_first : (kind : Kind) (items : List Item) (rules : Rules) → rules.kind ≡ kind → StandsFor (subject_on items (tape_subject_at_first kind)) rules NoEvents
+stands_at_first kind items rules is =
+    subst (λ (w : List Stamped). StandsFor (record (subject_at_first kind) { window = w }) rules NoEvents) (sym (none_at_first kind items)) (stands_first kind rules is)
+
+-- what the subject keeps is among the last items
+window_kept : (kind : Kind) (items left : List Item) (own : List Stamped) (stamps : List ℕ) → last_items left (length stamps) ≡ last_items items (length stamps)
+    → window_on kind left own stamps ≡ window_on kind items own stamps
+window_kept Publish items left own stamps same = ap (λ xs. paired xs stamps) same
+window_kept (Behavior seed) items left own stamps same = ap (λ xs. paired xs stamps) same
+window_kept Async items left own stamps same = refl
+window_kept (Replay count age) items left own stamps same = ap (λ xs. paired xs stamps) same
+
+-- so that it is as it was where others have gone
+pub subject_kept : (subject : TapeSubjectState) (items left : List Item) → last_items left (length subject.stamps) ≡ last_items items (length subject.stamps)
+    → subject_on left subject ≡ subject_on items subject
+subject_kept subject items left same =
+    ap (λ (w : List Stamped). record (subject_on items subject) { window = w }) (window_kept subject.kind items left subject.own subject.stamps same)
 
 -- WHAT STANDS ON THE TAPE
 

@@ -8,6 +8,7 @@ use Rattle.rx_note.specs.declared.note.Note.{Note}
 use Rattle.rx_note.specs.declared.rules.Rules.{Rules}
 use Rattle.rx_history.specs.Histories.{History, Stamped, stamp, item_in, opening_by, end_of, is_young}
 use Rattle.rx_tape.specs.Tapes.{TapeState, last_items, waits, pushed}
+use Rattle.rx_subject.specs.declared.kept.Kept.{Kept}
 use Rattle.rx_subject.specs.declared.tape_opening.TapeOpening.{TapeOpening}
 use Rattle.rx_subject.specs.Subjects.{SubjectState}
 
@@ -18,6 +19,11 @@ pub record TapeSubjectState : Type 0 where
   pub clock : ℕ
   pub own : List Stamped
   pub stamps : List ℕ
+
+-- the item that it keeps itself, if there is one, with its stamp
+abbrev pub own_of : Option Kept → List Stamped
+own_of None = []
+own_of (Some kept) = (kept.item, kept.stamp) ∷ []
 
 -- a subject with no event yet
 abbrev pub tape_subject_at_first : Kind → TapeSubjectState

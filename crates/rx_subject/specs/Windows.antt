@@ -1,13 +1,9 @@
 -- What a subject has to keep of its items for later joiners.
-use Rattle.std.specs.Prelude.{ℕ, ◌-◌, List, [], ◌∷◌, map, Option, None, Some, if◌then◌else◌}
-use Rattle.std.specs.VecDeque.{deque_len, deque_capacity}
+use Rattle.std.specs.Prelude.{ℕ, ◌-◌, List, [], ◌∷◌, Option, None, Some, if◌then◌else◌}
 use Rattle.rx_note.specs.declared.kind.Kind.{Kind}
 use Rattle.rx_note.specs.declared.kind.Kind.TheVariants.{Publish, Behavior, Async, Replay}
 use Rattle.rx_note.specs.declared.rules.Rules.{Rules}
 use Rattle.rx_history.specs.Histories.{History, Stamped, stamp, items, is_young, young, at_most, age_moment}
-use Rattle.rx_subject.specs.declared.window.Kept.{Kept}
-use Rattle.rx_subject.specs.declared.window.Window.{Window}
-use Rattle.rx_subject.specs.declared.window.Window.TheVariants.{Nothing, Ring, Growing}
 
 -- how many of the last items are kept, by kind; None: all
 abbrev pub count_kept : Kind → Option ℕ
@@ -30,35 +26,6 @@ kept_by kind now stamped = at_most (count_kept kind) (young (age_kept kind) now 
 -- the items that a subject keeps after a history: those young enough at its stamp or, once it ended, at its end
 abbrev pub window_of : Rules → History → List Stamped
 window_of rules H = kept_by rules.kind (age_moment rules H (stamp rules H)) (items rules H)
-
--- WHAT CONTRACTS SEE OF A WINDOW
-
--- an item and its stamp
-abbrev pub stamped_by : Kept → Stamped
-stamped_by kept = (kept.item, kept.stamp)
-
--- the items with their stamps, the oldest first
-abbrev pub stamped_of : Window → List Stamped
-stamped_of Nothing = []
-stamped_of (Ring ring) = map stamped_by ring.items
-stamped_of (Growing deque) = map stamped_by deque.items
-
--- the most items that there are; a ring's capacity is its count
-abbrev pub limit_of : Window → Option ℕ
-limit_of Nothing = Some 0
-limit_of (Ring ring) = Some ring.capacity
-limit_of (Growing deque) = None
-
--- how many items more need no memory; a ring never needs any
-abbrev pub spare_of : Window → ℕ
-spare_of Nothing = 1
-spare_of (Ring ring) = 1
-spare_of (Growing deque) = deque_capacity deque - deque_len deque
-
--- the stamp of the oldest item
-abbrev pub oldest : List Stamped → Option ℕ
-oldest [] = None
-oldest (first ∷ rest) = Some first.1
 
 -- the items without those at the front that are too old
 abbrev pub from_young : Option ℕ → ℕ → List Stamped → List Stamped

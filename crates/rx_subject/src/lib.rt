@@ -6,17 +6,20 @@
 //! where its items stand on a tape that its observers share.
 #![tactic(auto)]
 
+mod admit_error;
+mod kept;
+mod kinds;
 mod offer;
 mod opening;
 mod stamps;
 mod subject;
 mod tape_opening;
 mod tape_subject;
-mod window;
 
+pub use admit_error::AdmitError;
 pub use offer::Offer;
 pub use opening::Opening;
 pub use rx_note::{Kind, KindError};
-pub use subject::{AdmitError, Subject};
+pub use subject::Subject;
 pub use tape_opening::TapeOpening;
 pub use tape_subject::TapeSubject;

@@ -1,4 +1,4 @@
-ghost use Rattle.std.specs.Prelude.{◌≡◌, ◌≢◌, ◌↔◌, ◌≤◌, ◌++◌, ℕ, List, None, Some, map, max, length, is_some, true, false, Err, IfOk, OnOk, OnErr, option_to_list};
+ghost use Rattle.std.specs.Prelude.{◌≡◌, ◌≢◌, ◌↔◌, ◌≤◌, ℕ, List, None, Some, max, length, is_some, true, false, Err, IfOk, OnOk, OnErr, option_to_list};
 ghost use Rattle.rx_note.specs.declared.event.Event.TheVariants.{Emit, Join};
 ghost use Rattle.rx_note.specs.declared.kind.Kind.TheVariants.{Publish, Async};
 ghost use Rattle.rx_note.specs.declared.note.Note.TheVariants.{Next};
@@ -11,11 +11,12 @@ ghost use Rattle.rx_subject.specs.Offers.{offer_signals};
 ghost use Rattle.rx_subject.specs.Subjects.{StandsFor, signals_by, offered_by, items_by, after_item, after_end, after_join};
 ghost use Rattle.rx_subject.specs.TapeSubjects.{TapeSubjectState, tape_subject_at_first, subject_on, taped, pushed_all, TapeOpens};
 
+use crate::admit_error::AdmitError;
+use crate::kept::{Kept, copy_kept};
+use crate::kinds::{age_kept, count_kept, item_offered, last_offered, seed_of};
 use crate::offer::Offer;
 use crate::stamps::{count_old_stamps, drop_old_stamps, keep_stamp, reserve_stamp};
-use crate::subject::{AdmitError, age_kept, count_kept, item_offered, last_offered, seed_of};
 use crate::tape_opening::TapeOpening;
-use crate::window::{Kept, Window};
 use rx_heap::{Heap, Memory};
 use rx_note::{Item, Kind, Note, copy_of};
 use rx_tape::Tape;
@@ -30,7 +31,7 @@ use std::marker::Model;
 pub struct TapeSubject {
     kind: Kind,
     // Of Async its last item, which does not stand on the tape: no observer waits for it before the completion.
-    own: Window,
+    own: Option<Kept>,
     stamps: VecDeque<u64, Heap>,
     terminal: Option<Note>,
     stamp: u64,
@@ -50,27 +51,27 @@ impl Drop for TapeSubject {
 }
 
 impl Model for TapeSubject {
-    ghost use Rattle.std.specs.Prelude.{◌≡◌, Some, length};
-    ghost use Rattle.rx_subject.specs.Windows.{stamped_of, limit_of, count_kept as count_kept_by};
-    ghost use Rattle.rx_subject.specs.TapeSubjects.{TapeSubjectState, beyond};
+    ghost use Rattle.std.specs.Prelude.{◌≡◌, length};
+    ghost use Rattle.rx_subject.specs.Windows.{count_kept as count_kept_by};
+    ghost use Rattle.rx_subject.specs.TapeSubjects.{TapeSubjectState, beyond, own_of};
 
     ghost Value = { TapeSubjectState };
 
-    ghost view = { λ s. record { kind = s.kind; terminal = s.terminal; clock = s.stamp; own = stamped_of s.own; stamps = s.stamps.items } };
+    ghost view = { λ s. record { kind = s.kind; terminal = s.terminal; clock = s.stamp; own = own_of s.own; stamps = s.stamps.items } };
 
-    ghost invariant = { λ s. (limit_of s.own ≡ Some 1) × (beyond (count_kept_by s.kind) (length s.stamps.items) ≡ 0) };
+    ghost invariant = { λ s. beyond (count_kept_by s.kind) (length s.stamps.items) ≡ 0 };
 }
 
 impl TapeSubject {
     /// A subject of this kind, with no event yet. `Memory` where there was none for it.
     pub fn new(alloc: Heap, kind: Kind) -> Result<TapeSubject, Memory>
-        ensures { IfOk result (λ subject. subject ≡ tape_subject_at_first kind) }
+        ensures state { IfOk result (λ subject. subject ≡ tape_subject_at_first kind) }
+        ensures stands { IfOk result (λ subject. (items : List Item) (rules : Rules) → rules.kind ≡ kind → StandsFor (subject_on items subject) rules NoEvents) }
     {
-        let stamps = VecDeque::new(alloc.clone()?);
-        let own = Window::new(alloc, Some(1))?;
+        let stamps = VecDeque::new(alloc);
         Ok(TapeSubject {
             kind,
-            own,
+            own: None,
             stamps,
             terminal: None,
             stamp: 0,
@@ -90,6 +91,7 @@ impl TapeSubject {
         ensures ended { (result ≡ Err AdmitError.Ended) ↔ (is_some self.old.terminal ≡ true) }
         ensures err { OnErr result ((self.new ≡ self.old) × (tape.new ≡ tape.old)) }
         ensures offers { IfOk result (λ offer. offer_signals offer ≡ signals_by (subject_on tape.old.items self.old) port note) }
+        ensures signalled { IfOk result (λ offer. (rules : Rules) (H : History) → StandsFor (subject_on tape.old.items self.old) rules H → offer_signals offer ≡ signalled rules H port note) }
         ensures stands { OnOk result ((rules : Rules) (H : History) → StandsFor (subject_on tape.old.items self.old) rules H
             → StandsFor (subject_on tape.new.items self.new) rules (H ▹ (port, Emit note at))) }
         ensures tape { OnOk result (tape.new ≡ pushed_all tape.old (taped self.old.kind port note)) }
@@ -179,6 +181,7 @@ impl TapeSubject {
     pub fn preview(&self, port: u32, note: &Note) -> Result<Offer, AdmitError>
         ensures ended { (result ≡ Err AdmitError.Ended) ↔ (is_some self.now.terminal ≡ true) }
         ensures offers { (items : List Item) → IfOk result (λ offer. offer_signals offer ≡ signals_by (subject_on items self.now) port note.now) }
+        ensures signalled { (items : List Item) → IfOk result (λ offer. (rules : Rules) (H : History) → StandsFor (subject_on items self.now) rules H → offer_signals offer ≡ signalled rules H port note.now) }
         ensures item { (items : List Item) → IfOk result (λ offer. option_to_list offer.item ≡ offered_by (subject_on items self.now) port note.now) }
     {
         if self.is_ended() {
@@ -212,6 +215,7 @@ impl TapeSubject {
 
     /// An observer joined at a moment, in milliseconds.
     pub fn joined(&mut self, at: u64)
+        ensures state { (items : List Item) → length self.old.stamps ≤ length items → subject_on items self.new ≡ after_join (subject_on items self.old) at }
         ensures stands { (items : List Item) (rules : Rules) (H : History) (port : ℕ) (policy : Choice) (first : ℕ) → length self.old.stamps ≤ length items
             → may_join rules H ≡ true → StandsFor (subject_on items self.old) rules H
             → StandsFor (subject_on items self.new) rules (H ▹ (port, Join policy first at)) }
@@ -297,7 +301,7 @@ impl TapeSubject {
     {
         let stamp = self.stamp.max(at);
         if is_async(&self.kind) {
-            self.own.push(Kept { item, stamp });
+            self.own = Some(Kept { item, stamp });
             self.stamp = stamp;
             return Ok(());
         }
@@ -342,7 +346,7 @@ impl TapeSubject {
         match (&self.kind, &self.terminal) {
             (Kind::Behavior(seed), None) if kept == 0 => Ok((seed_of(seed)?, 0)),
             (Kind::Behavior(_), None) => Ok((None, 1)),
-            (Kind::Async, Some(Note::Completed)) => Ok((self.own.copy_oldest()?, 0)),
+            (Kind::Async, Some(Note::Completed)) => Ok((copy_kept(&self.own)?, 0)),
             (Kind::Replay { count: _, age }, None) => {
                 let old = count_old_stamps(&self.stamps, *age, self.stamp.max(at));
                 Ok((None, kept - old))

@@ -2,10 +2,10 @@ use Rattle.std.proofs.Common.{◌+◌, List, length, take, drop, sym, ap, ◌∙
 use Rattle.std.proofs.lemmas.List.{length-append, length-take, length-drop}
 use Rattle.rx_note.specs.declared.item.Item.{Item}
 use Rattle.rx_subject.specs.TapeSubjects.{subject_on}
+use Rattle.rx_subject.proofs.Taped.{subject_kept}
 use Rattle.rx_hub.specs.Multicasts.{state_of}
 use Rattle.rx_hub.proofs.Asking.{nobody, named}
 use Rattle.rx_hub.proofs.Leaving.{leave_unheld, leave_done}
-use Rattle.rx_hub.proofs.Trimming.{subject_kept}
 use Rattle.rx_hub.proofs.multicast.Multicast.dispose.Goals as goal
 
 pub returns-in_default : goal.returns-in_default

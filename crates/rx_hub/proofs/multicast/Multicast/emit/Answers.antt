@@ -6,11 +6,12 @@ use Rattle.rx_history.specs.Histories.{◌▹◌}
 use Rattle.rx_subject.specs.Subjects.{SubjectState, signals_by}
 use Rattle.rx_subject.specs.Subjects as subjects
 use Rattle.rx_subject.specs.TapeSubjects.{subject_on}
+use Rattle.rx_subject.proofs.Taped.{subject_kept}
 use Rattle.rx_hub.specs.Subscriptions.{Observer, AllFedInto}
 use Rattle.rx_hub.specs.Multicasts.{state_of}
 use Rattle.rx_hub.proofs.Quiet.{emit_refused}
 use Rattle.rx_hub.proofs.Emitting.{emit_done}
-use Rattle.rx_hub.proofs.Trimming.{subject_kept, AllFed-length}
+use Rattle.rx_hub.proofs.Feeding.{AllFed-length}
 use Rattle.rx_hub.proofs.multicast.Multicast.emit.Goals as goal
 
 pub returns-then-is_ended : goal.returns-then-is_ended

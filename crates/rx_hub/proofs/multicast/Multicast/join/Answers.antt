@@ -9,11 +9,11 @@ use Rattle.rx_history.specs.Histories.{◌▹◌}
 use Rattle.rx_subject.specs.Subjects.{SubjectState}
 use Rattle.rx_subject.specs.Subjects as subjects
 use Rattle.rx_subject.specs.TapeSubjects.{subject_on}
+use Rattle.rx_subject.proofs.Taped.{subject_kept}
 use Rattle.rx_hub.specs.Subscriptions.{Observer}
 use Rattle.rx_hub.specs.Multicasts.{state_of}
 use Rattle.rx_hub.proofs.Quiet.{join_full, join_spent}
 use Rattle.rx_hub.proofs.Joining.{join_done}
-use Rattle.rx_hub.proofs.Trimming.{subject_kept}
 use Rattle.rx_hub.proofs.multicast.Multicast.join.Goals as goal
 
 pub returns-then-len-self : goal.returns-then-len-self

@@ -2,11 +2,11 @@ use Rattle.std.proofs.Common.{ℕ, ◌+◌, ◌<◌, ◌≤◌, length, inl, inr
 use Rattle.std.proofs.lemmas.Bool.{cases_lt}
 use Rattle.std.proofs.lemmas.List.{length-set}
 use Rattle.rx_subject.specs.TapeSubjects.{subject_on}
+use Rattle.rx_subject.proofs.Taped.{subject_kept}
 use Rattle.rx_hub.specs.Audiences.{AudienceState}
 use Rattle.rx_hub.specs.Hubs.{HubState}
 use Rattle.rx_hub.specs.Multicasts.{state_of}
 use Rattle.rx_hub.proofs.Asking.{nobody, named, request_zero, request_unheld, request_more, request_done, request_missed}
-use Rattle.rx_hub.proofs.Trimming.{subject_kept}
 use Rattle.rx_hub.proofs.multicast.Multicast.request.Goals as goal
 
 pub returns-then-n-eq0 : goal.returns-then-n-eq0

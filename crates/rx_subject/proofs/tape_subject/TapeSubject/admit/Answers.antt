@@ -1,7 +1,7 @@
 use Rattle.std.proofs.Common.{◌≡◌, false, is_some, sym, ap, ◌∙◌, arith}
 use Rattle.rx_subject.specs.Subjects.{SubjectState}
 use Rattle.rx_subject.specs.TapeSubjects.{subject_on, pushed_all}
-use Rattle.rx_subject.proofs.Standing.{is_terminal, not_ended, stands_item, stands_end}
+use Rattle.rx_subject.proofs.Standing.{is_terminal, not_ended, signals-signalled, stands_item, stands_end}
 use Rattle.rx_subject.proofs.Taped.{untaped}
 use Rattle.rx_subject.proofs.tape_subject.TapeSubject.admit.Goals as goal
 
@@ -18,10 +18,12 @@ returns-in_ok-offer-in_default c =
     let open_now : is_some c.args.self.now.terminal ≡ false = sym c.is_ended.ensures ∙ c.if-is_ended.false in
     let terminal = is_terminal c.args.note c.in_default.not-Next in
     let state = c.in_ok-offer-in_default.ensures.state items c.requires in
+    let offers = c.in_ok-offer-in_default.ensures.offers items c.args.port terminal in
     record {
       ended = (λ e. cc, λ e. cc);
       err = tt;
-      offers = c.in_ok-offer-in_default.ensures.offers items c.args.port terminal;
+      offers = offers;
+      signalled = λ rules H stands. offers ∙ signals-signalled s rules H c.args.port c.args.note stands;
       stands = λ rules H stands.
           rw state (stands_end s rules H c.args.port c.args.note c.args.at (not_ended s rules H open_now stands) terminal stands);
       tape = ap (pushed_all c.args.tape.now) (sym (untaped c.args.self.now.kind c.args.port c.args.note terminal));

@@ -2,8 +2,7 @@ use Rattle.std.proofs.Common.{◌≡◌, ◌≢◌, ◌∷◌, [], ◌++◌, Lis
 use Rattle.rx_note.specs.declared.kind.Kind.TheVariants.{Async}
 use Rattle.rx_tape.specs.Tapes.{TapeState}
 use Rattle.rx_subject.specs.Subjects.{after_item}
-use Rattle.rx_subject.specs.Windows.{stamped_of}
-use Rattle.rx_subject.specs.TapeSubjects.{TapeSubjectState, subject_on, old_count, beyond}
+use Rattle.rx_subject.specs.TapeSubjects.{TapeSubjectState, own_of, subject_on, old_count, beyond}
 use Rattle.rx_subject.proofs.Taped.{item_on}
 use Rattle.rx_subject.proofs.tape_subject.TapeSubject.keep_item.Goals as goal
 
@@ -12,7 +11,7 @@ returns-clause-state c =
     let s = c.self.inside in
     let items = c.args.tape.now.items in
     let item = c.args.item in
-    let v : TapeSubjectState = record { kind = s.kind; terminal = s.terminal; clock = s.stamp; own = stamped_of s.own; stamps = s.stamps.items } in
+    let v : TapeSubjectState = record { kind = s.kind; terminal = s.terminal; clock = s.stamp; own = own_of s.own; stamps = s.stamps.items } in
     let count = ap (λ (t : TapeSubjectState). length t.stamps) c.self.view_is in
     let clock = c.max-stamp.result in
     let all = c.keep_stamp.new.stamps.items in
@@ -25,4 +24,4 @@ returns-clause-state c =
     let other : s.kind ≢ Async = λ is. let e = c.if-is_async.ensures.1 is in cc in
     ap (λ (tape : TapeState). subject_on tape.items (record v { clock = clock; stamps = left })) c.in_ok-push.ensures.ok
     ∙ subst (λ (t : TapeSubjectState). subject_on (items ++ item ∷ []) (record v { clock = clock; stamps = left }) ≡ after_item (subject_on items t) item c.args.at) c.self.view_is
-    (item_on v items item c.args.at clock all left other (omega (arith, c.requires, count)) c.self.invariant.1 c.max-stamp.ensures all_is left_is)
+    (item_on v items item c.args.at clock all left other (omega (arith, c.requires, count)) c.self.invariant c.max-stamp.ensures all_is left_is)

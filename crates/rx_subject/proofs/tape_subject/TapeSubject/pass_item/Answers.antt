@@ -2,9 +2,8 @@ use Rattle.std.proofs.Common.{max, ℕ, sym, ap, subst, ◌∙◌}
 use Rattle.rx_note.specs.declared.event.Event.TheVariants.{Emit}
 use Rattle.rx_note.specs.declared.note.Note.TheVariants.{Next}
 use Rattle.rx_history.specs.Histories.{◌▹◌}
-use Rattle.rx_subject.specs.Windows.{stamped_of}
 use Rattle.rx_subject.specs.Subjects.{SubjectState, StandsFor}
-use Rattle.rx_subject.specs.TapeSubjects.{TapeSubjectState, subject_on}
+use Rattle.rx_subject.specs.TapeSubjects.{TapeSubjectState, own_of, subject_on}
 use Rattle.rx_subject.proofs.Standing.{not_ended, stands_item}
 use Rattle.rx_subject.proofs.Taped.{passed_on}
 use Rattle.rx_subject.proofs.tape_subject.TapeSubject.pass_item.Goals as goal
@@ -12,7 +11,7 @@ use Rattle.rx_subject.proofs.tape_subject.TapeSubject.pass_item.Goals as goal
 pub returns-clause-stands : goal.returns-clause-stands
 returns-clause-stands c = λ items port item rules H stands.
     let i = c.self.inside in
-    let v : TapeSubjectState = record { kind = i.kind; terminal = i.terminal; clock = i.stamp; own = stamped_of i.own; stamps = i.stamps.items } in
+    let v : TapeSubjectState = record { kind = i.kind; terminal = i.terminal; clock = i.stamp; own = own_of i.own; stamps = i.stamps.items } in
     let s = subject_on items c.args.self.now in
     let unended = not_ended s rules H c.requires.open stands in
     let same =
