@@ -1,6 +1,6 @@
-ghost use Rattle.std.specs.Prelude.{◌≡◌, ◌≢◌, ◌≤◌, ◌⊎◌, map, vec_len, IfErr, IfOk, Err, Ok, []};
+ghost use Rattle.std.specs.Prelude.{◌≡◌, ◌≢◌, ◌≤◌, ◌⊎◌, map, vec_len, IfErr, IfOk, OnOk, Err, Ok, []};
 ghost use Rattle.toml.specs.View.{array_view, table_view, view};
-ghost use Rattle.rx_config.specs.Configurations.{has_name, next_subject, entries_read, subject_of_config, subjects_from, subjects_at};
+ghost use Rattle.rx_config.specs.Configurations.{has_name, named_anew, next_subject, entries_read, subject_of_config, subjects_from, subjects_at};
 
 use crate::config_error::ConfigError;
 use crate::entry::subject_of;
@@ -60,17 +60,35 @@ fn all_subjects(heap: &Heap, entries: &Vec<Value>) -> Result<Vec<SubjectConfig, 
         return Err(ConfigError::Memory);
     };
     let mut subjects = Vec::new(mine);
+    match put_subjects(heap, entries, &mut subjects) {
+        Ok(()) => Ok(subjects),
+        Err(cause) => Err(cause),
+    }
+}
+
+// Puts the subjects of all these entries, in their order, into a list that is empty.
+fn put_subjects(
+    heap: &Heap,
+    entries: &Vec<Value>,
+    subjects: &mut Vec<SubjectConfig, Heap>,
+) -> Result<(), ConfigError>
+    requires { subjects.old.items ≡ [] }
+    ensures ok { OnOk result (subjects_from [] (array_view entries.now) ≡ Ok (map subject_of_config subjects.new.items)) }
+    ensures refused { IfErr result (λ cause. (cause ≡ ConfigError.Memory) ⊎ (subjects_from [] (array_view entries.now) ≡ Err cause)) }
+    ensures read { IfErr result (λ cause. cause ≢ ConfigError.Syntax) }
+    ensures count { OnOk result (vec_len subjects.new ≡ vec_len entries.now) }
+{
     for entry in entries {
-        match next_subject(heap, &subjects, entry) {
+        match next_subject(heap, subjects, entry) {
             Err(cause) => return Err(cause),
             Ok(subject) => {
-                if subjects.push(subject).is_err() {
+                let Ok(()) = subjects.push(subject) else {
                     return Err(ConfigError::Memory);
-                }
+                };
             }
         }
     }
-    Ok(subjects)
+    Ok(())
 }
 
 // The subject of the next entry, behind these.
@@ -83,11 +101,21 @@ fn next_subject(
     ensures refused { IfErr result (λ cause. (cause ≡ ConfigError.Memory) ⊎ (next_subject (map subject_of_config before.now.items) (view entry.now) ≡ Err cause)) }
     ensures read { IfErr result (λ cause. cause ≢ ConfigError.Syntax) }
 {
-    let subject = match subject_of(heap, entry) {
-        Ok(subject) => subject,
-        Err(Fault::Refused) => return Err(ConfigError::BadSubject(before.len())),
-        Err(Fault::Memory) => return Err(ConfigError::Memory),
-    };
+    match subject_of(heap, entry) {
+        Ok(subject) => named_anew(before, subject),
+        Err(Fault::Refused) => Err(ConfigError::BadSubject(before.len())),
+        Err(Fault::Memory) => Err(ConfigError::Memory),
+    }
+}
+
+// This subject, whose name has to be another than those of these.
+fn named_anew(
+    before: &Vec<SubjectConfig, Heap>,
+    subject: SubjectConfig,
+) -> Result<SubjectConfig, ConfigError>
+    ensures ok { IfOk result (λ same. named_anew (map subject_of_config before.now.items) (subject_of_config subject) ≡ Ok (subject_of_config same)) }
+    ensures refused { IfErr result (λ cause. named_anew (map subject_of_config before.now.items) (subject_of_config subject) ≡ Err cause) }
+{
     if has_name(before, &subject.name) {
         return Err(ConfigError::DuplicateName(before.len()));
     }

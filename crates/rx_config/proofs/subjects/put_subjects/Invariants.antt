@@ -1,7 +1,7 @@
 use Rattle.std.proofs.Common.{◌≡◌, [], length, map, drop}
 use Rattle.rx_config.specs.Configurations.{subject_of_config, subjects_from}
 use Rattle.toml.specs.View.{array_view, items_view}
-use Rattle.rx_config.proofs.subjects.all_subjects.Given as goal
+use Rattle.rx_config.proofs.subjects.put_subjects.Given as goal
 
 abbrev pub invariant-loop-entry : goal.invariant-loop-entry
 invariant-loop-entry l =
