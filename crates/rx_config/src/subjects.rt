@@ -82,9 +82,9 @@ fn put_subjects(
         match next_subject(heap, subjects, entry) {
             Err(cause) => return Err(cause),
             Ok(subject) => {
-                if subjects.push(subject).is_err() {
+                let Ok(()) = subjects.push(subject) else {
                     return Err(ConfigError::Memory);
-                }
+                };
             }
         }
     }
