@@ -82,13 +82,17 @@ pub(crate) fn config_of(heap: &Heap, run: &Run) -> Result<Config, Memory> {
     Ok(config)
 }
 
-// What is written for a run; `?` stands behind it where it did not end with the input.
-fn written_for(heap: &Heap, run: &Run) -> Result<Vec<u8, Heap>, Memory> {
+// Runs it, and says how it ended.
+fn end_of(heap: &Heap, run: &Run, written: &mut Vec<u8, Heap>) -> Result<SessionEnd, Memory> {
     let config = config_of(heap, run)?;
     let mut reader = run.script;
+    run_script(heap.clone()?, config, &mut reader, written, MAX_READS)
+}
+
+// What is written for a run; `?` stands behind it where it did not end with the input.
+fn written_for(heap: &Heap, run: &Run) -> Result<Vec<u8, Heap>, Memory> {
     let mut written = Vec::new(heap.clone()?);
-    let end = run_script(heap.clone()?, config, &mut reader, &mut written, MAX_READS)?;
-    if end != SessionEnd::EndOfInput {
+    if end_of(heap, run, &mut written)? != SessionEnd::EndOfInput {
         written.push(b'?')?;
     }
     Ok(written)
