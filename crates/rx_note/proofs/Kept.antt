@@ -7,7 +7,7 @@ use Rattle.std.proofs.lemmas.List.Folds.{list_any-append}
 use Rattle.rx_note.specs.declared.item.Item.{Item}
 use Rattle.rx_note.specs.declared.note.Note.{Note}
 use Rattle.rx_note.specs.declared.strategy.Strategy.{Strategy}
-use Rattle.rx_note.specs.declared.strategy.Strategy.TheVariants.{Buffer, Drop, Latest}
+use Rattle.rx_note.specs.declared.strategy.Strategy.TheVariants.{Buffer, Drop, Latest, Bounded}
 use Rattle.rx_note.specs.Signals.{Signal, Requested, Offered, Ended, Signals, Start, ◌▸◌, policy_of, demand, offered_count, beyond_room, excess, losses, place_lost, lost_places, is_lost, without, kept}
 use Rattle.rx_note.specs.Queues.{queued}
 
@@ -18,18 +18,21 @@ beyond_room-rises : (g : Strategy) (a b : ℕ) → a ≤ b → beyond_room g a �
 beyond_room-rises Buffer a b h = omega arith
 beyond_room-rises (Drop room) a b h = omega arith
 beyond_room-rises (Latest room) a b h = omega arith
+beyond_room-rises (Bounded room) a b h = omega arith
 
 -- by no more than who is ahead
 beyond_room-within : (g : Strategy) (a : ℕ) → beyond_room g a ≤ a
 beyond_room-within Buffer a = omega arith
 beyond_room-within (Drop room) a = omega arith
 beyond_room-within (Latest room) a = omega arith
+beyond_room-within (Bounded room) a = omega arith
 
 -- one more ahead is beyond the room by at most one more
 beyond_room-next : (g : Strategy) (a b : ℕ) → b ≤ a + 1 → beyond_room g b ≤ beyond_room g a + 1
 beyond_room-next Buffer a b h = omega arith
 beyond_room-next (Drop room) a b h = omega arith
 beyond_room-next (Latest room) a b h = omega arith
+beyond_room-next (Bounded room) a b h = omega arith
 
 excess-losses : (s : Signals) → excess s ≤ losses s
 excess-losses (Start policy) = beyond_room-within policy.strategy 0
@@ -234,6 +237,8 @@ counted-fits s item c same =
 counted-full : (g : Strategy) (s : Signals) (item : Item) → (policy_of s).strategy ≡ g → Counted s → losses s < losses (s ▸ Offered item) → Counted (s ▸ Offered item)
 counted-full Buffer s item e c more =
     absurd (omega (arith, ap (λ g. beyond_room g (offered_count s + 1 - demand s)) e))
+counted-full (Bounded room) s item e c more =
+    absurd (omega (arith, ap (λ g. beyond_room g (offered_count s + 1 - demand s)) e))
 counted-full (Drop room) s item e c more =
     let places = lost_places-more (Drop room) s (Offered item) e more in
     record {
@@ -304,25 +309,36 @@ within_drop room s e = within_room (Drop room) room s e refl
 pub within_latest : (room : ℕ) (s : Signals) → (policy_of s).strategy ≡ Latest room → length (kept s) ≤ demand s + room
 within_latest room s e = within_room (Latest room) room s e refl
 
--- Buffer loses nothing
-losses-buffer : (s : Signals) → (policy_of s).strategy ≡ Buffer → losses s ≡ 0
-losses-buffer (Start policy) e = refl
-losses-buffer (s ▸ signal) e =
-    omega (arith, losses-buffer s e, ap (λ g. beyond_room g (offered_count (s ▸ signal) - demand (s ▸ signal))) e)
+-- a strategy loses nothing, however many items are ahead of the demand
+abbrev pub LosesNothing : Strategy → Type 0
+LosesNothing g = (ahead : ℕ) → beyond_room g ahead ≡ 0
 
-lost_places-buffer : (s : Signals) → (policy_of s).strategy ≡ Buffer → lost_places s ≡ []
-lost_places-buffer (Start policy) e = refl
-lost_places-buffer (s ▸ signal) e =
-    lost_places-same s signal (losses-buffer (s ▸ signal) e ∙ sym (losses-buffer s e)) ∙ lost_places-buffer s e
+-- so there are no losses
+pub losses-none : (g : Strategy) (s : Signals) → (policy_of s).strategy ≡ g → LosesNothing g → losses s ≡ 0
+losses-none g (Start policy) e none = refl
+losses-none g (s ▸ signal) e none =
+    let ahead : ℕ = offered_count (s ▸ signal) - demand (s ▸ signal) in
+    omega (arith, losses-none g s e none, ap (λ g'. beyond_room g' ahead) e, none ahead)
 
--- Buffer keeps every item
-pub kept-buffer : (s : Signals) → (policy_of s).strategy ≡ Buffer → kept s ≡ without [] s
-kept-buffer s e = ap (λ lost. without lost s) (lost_places-buffer s e)
+lost_places-none : (g : Strategy) (s : Signals) → (policy_of s).strategy ≡ g → LosesNothing g → lost_places s ≡ []
+lost_places-none g (Start policy) e none = refl
+lost_places-none g (s ▸ signal) e none =
+    lost_places-same s signal (losses-none g (s ▸ signal) e none ∙ sym (losses-none g s e none)) ∙ lost_places-none g s e none
+
+-- and every item is kept
+pub kept-all : (g : Strategy) (s : Signals) → (policy_of s).strategy ≡ g → LosesNothing g → kept s ≡ without [] s
+kept-all g s e none = ap (λ lost. without lost s) (lost_places-none g s e none)
 
 -- the first n, the rest and one more
 parted : (n : ℕ) (items : List Item) (item : Item) → items ++ item ∷ [] ≡ take n items ++ (drop n items ++ item ∷ [])
 parted n items item =
     ap (λ xs. xs ++ item ∷ []) (sym (take-append-drop n items)) ∙ append_assoc (take n items) (drop n items) (item ∷ [])
+
+-- where nothing is lost, an item waits behind the others
+queued_all : (g : Strategy) (s : Signals) (item : Item) → (policy_of s).strategy ≡ g → LosesNothing g
+    → kept (s ▸ Offered item) ≡ take (demand s) (kept s) ++ (drop (demand s) (kept s) ++ item ∷ [])
+queued_all g s item e none =
+    kept-fits s item (counted s) (losses-none g (s ▸ Offered item) e none ∙ sym (losses-none g s e none)) ∙ parted (demand s) (kept s) item
 
 -- where there is room, nothing is lost
 fits : (g : Strategy) (room : ℕ) (s : Signals) (item : Item) → (policy_of s).strategy ≡ g → beyond_room g (offered_count s + 1 - demand s) ≡ offered_count s + 1 - demand s - room → length (kept s) < demand s + room → losses (s ▸ Offered item) ≡ losses s
@@ -388,7 +404,7 @@ replacing room s item e h =
 
 -- an item that was not requested yet is queued behind those that were
 pub kept-queued : (g : Strategy) (s : Signals) (item : Item) → (policy_of s).strategy ≡ g → demand s ≤ length (kept s) → kept (s ▸ Offered item) ≡ take (demand s) (kept s) ++ queued g (drop (demand s) (kept s)) item
-kept-queued Buffer s item e h =
-    kept-fits s item (counted s) (losses-buffer (s ▸ Offered item) e ∙ sym (losses-buffer s e)) ∙ parted (demand s) (kept s) item
+kept-queued Buffer s item e h = queued_all Buffer s item e (λ ahead. refl)
 kept-queued (Drop room) s item e h = dropping room s item e h
 kept-queued (Latest room) s item e h = replacing room s item e h
+kept-queued (Bounded room) s item e h = queued_all (Bounded room) s item e (λ ahead. refl)

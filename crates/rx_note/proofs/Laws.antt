@@ -10,7 +10,7 @@ use Rattle.rx_note.specs.declared.note.Note.TheVariants.{Next, Completed, Failed
 use Rattle.rx_note.specs.declared.strategy.Strategy.TheVariants.{Buffer}
 use Rattle.rx_note.specs.declared.errors.Errors.TheVariants.{Delay}
 use Rattle.rx_note.specs.Signals.{Signal, Requested, Offered, Ended, Signals, Start, ◌▸◌, policy_of, demand, terminal_of, without, kept, goes_ahead, line_items, ending, line, given, waiting_items, waiting_end, waiting, owed}
-use Rattle.rx_note.proofs.Kept.{kept-requested, kept-ended, kept-buffer}
+use Rattle.rx_note.proofs.Kept.{kept-requested, kept-ended, kept-all}
 use Rattle.rx_note.proofs.Lines.{owed-rest}
 use Rattle.rx_note.proofs.Released.{released_all}
 use Rattle.rx_note.proofs.Steps.{offer_given, offer_waits, end_given, end_waits, end_ahead, ask_releases}
@@ -123,4 +123,4 @@ line_items-within (s ▸ Ended terminal) =
 pub line-whole : (s : Signals) → (policy_of s).strategy ≡ Buffer → (policy_of s).errors ≡ Delay → line s ≡ map Next (offered s) ++ ending s
 line-whole s e delay =
     ap (λ items. map Next items ++ ending s)
-    (line_items-kept s (λ terminal. ap (λ errors. goes_ahead errors terminal) delay) ∙ kept-buffer s e ∙ without-none s)
+    (line_items-kept s (λ terminal. ap (λ errors. goes_ahead errors terminal) delay) ∙ kept-all Buffer s e (λ ahead. refl) ∙ without-none s)

@@ -3,4 +3,5 @@ pub mod Laws
 pub mod Lines
 pub mod Order
 pub mod Released
+pub mod Sending
 pub mod Steps

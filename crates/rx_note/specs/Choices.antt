@@ -1,7 +1,7 @@
 -- What a policy is: a strategy and an error mode.
 use Rattle.std.specs.Prelude.{◌&&◌, nat_le, Bool, true, Result, Ok, Err, if◌then◌else◌}
 use Rattle.rx_note.specs.declared.strategy.Strategy.{Strategy}
-use Rattle.rx_note.specs.declared.strategy.Strategy.TheVariants.{Buffer, Drop, Latest}
+use Rattle.rx_note.specs.declared.strategy.Strategy.TheVariants.{Buffer, Drop, Latest, Bounded}
 use Rattle.rx_note.specs.declared.errors.Errors.{Errors}
 use Rattle.rx_note.specs.declared.policy.BadRoom.{BadRoom}
 
@@ -19,6 +19,7 @@ abbrev pub is_in_limits : Strategy → Bool
 is_in_limits Buffer = true
 is_in_limits (Drop room) = nat_le room 1024
 is_in_limits (Latest room) = nat_le 1 room && nat_le room 1024
+is_in_limits (Bounded room) = nat_le room 1024
 
 -- the policy made of these two, or that the room is out of its limits
 abbrev pub policy_made : Strategy → Errors → Result Choice BadRoom

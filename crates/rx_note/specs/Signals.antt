@@ -3,16 +3,17 @@
 -- Demand and the end are those of the Observable Contract (reactivex.io/documentation/contract.html), strategies those
 -- of the Backpressure operators (reactivex.io/documentation/operators/backpressure.html); rooms and losses are this
 -- project's own words. That an error may go ahead of what waits is an operator's word (reactivex.io/documentation/operators/observeon.html).
-use Rattle.std.specs.Prelude.{ℕ, ◌+◌, ◌-◌, max, Bool, true, false, if◌then◌else◌, ◌==◌, nat_lt, nat_le, List, [], ◌∷◌, ◌++◌, length, map, take, drop, Option, None, Some, option_to_list}
+use Rattle.std.specs.Prelude.{ℕ, ◌+◌, ◌-◌, max, Bool, true, false, if◌then◌else◌, ◌==◌, nat_lt, nat_le, List, [], ◌∷◌, ◌++◌, length, map, take, drop, Option, None, Some, is_some, option_to_list, codes}
 use Rattle.std.specs.List.{list_any}
 use Rattle.rx_note.specs.declared.item.Item.{Item}
 use Rattle.rx_note.specs.declared.note.Note.{Note}
 use Rattle.rx_note.specs.declared.note.Note.TheVariants.{Next, Completed, Failed}
 use Rattle.rx_note.specs.declared.strategy.Strategy.{Strategy}
-use Rattle.rx_note.specs.declared.strategy.Strategy.TheVariants.{Buffer, Drop, Latest}
+use Rattle.rx_note.specs.declared.strategy.Strategy.TheVariants.{Buffer, Drop, Latest, Bounded}
 use Rattle.rx_note.specs.declared.errors.Errors.{Errors}
 use Rattle.rx_note.specs.declared.errors.Errors.TheVariants.{Ahead, Delay}
 use Rattle.rx_note.specs.declared.policy.Policy.{Policy}
+use Rattle.rx_note.specs.declared.text.Text.{Text}
 
 -- one signal: n more items are requested, an item is offered, or the subject ended by this terminal
 pub data Signal : Type 0 where
@@ -52,11 +53,36 @@ terminal_of (s ▸ Requested n) = terminal_of s
 terminal_of (s ▸ Offered item) = terminal_of s
 terminal_of (s ▸ Ended terminal) = Some terminal
 
+-- the error by which an overflow ends an observer
+abbrev pub overflow : Note
+overflow = Failed (codes "OVERFLOW")
+
+-- whether so many items ahead of the demand end an observer of a strategy
+abbrev pub are_too_many : Strategy → ℕ → Bool
+are_too_many Buffer ahead = false
+are_too_many (Drop room) ahead = false
+are_too_many (Latest room) ahead = false
+are_too_many (Bounded room) ahead = nat_lt room ahead
+
+-- whether an item more would overflow
+abbrev pub overflows : Signals → Bool
+overflows s = are_too_many (policy_of s).strategy (offered_count s + 1 - demand s)
+
+-- the signals with one that the subject sends: behind an end there is nothing more, and in the place of the first item that
+-- overflows stands the end that it is
+abbrev pub sent : Signals → Signal → Signals
+sent s (Requested n) = s ▸ Requested n
+sent s (Offered item) =
+    if is_some (terminal_of s) then s
+    else (if overflows s then s ▸ Ended overflow else s ▸ Offered item)
+sent s (Ended terminal) = if is_some (terminal_of s) then s else s ▸ Ended terminal
+
 -- by how many of the items ahead of the demand the room is exceeded
 abbrev pub beyond_room : Strategy → ℕ → ℕ
 beyond_room Buffer ahead = 0
 beyond_room (Drop room) ahead = ahead - room
 beyond_room (Latest room) ahead = ahead - room
+beyond_room (Bounded room) ahead = 0
 
 -- by how many items the offers are ahead of the demand and of the room
 abbrev pub excess : Signals → ℕ
@@ -72,6 +98,7 @@ abbrev pub place_lost : Strategy → Signals → ℕ
 place_lost Buffer s = 0
 place_lost (Drop room) s = offered_count s - 1
 place_lost (Latest room) s = demand s + losses s - 1
+place_lost (Bounded room) s = 0
 
 -- the places lost: one wherever the losses rise
 abbrev pub lost_places : Signals → List ℕ

@@ -1,7 +1,8 @@
 ghost use Rattle.std.specs.Prelude.{◌≡◌, IfOk};
+ghost use Rattle.rx_note.specs.Signals.{overflow};
 
 use crate::{Item, Text};
-use rx_heap::Memory;
+use rx_heap::{Heap, Memory};
 
 /// What an observer is given: an item, or a terminal, after which nothing comes (<https://reactivex.io/documentation/contract.html>).
 #[derive(Drop, Debug, PartialEq, Eq)]
@@ -15,6 +16,13 @@ pub enum Note {
 }
 
 impl Note {
+    /// The error by which an overflow ends an observer under `Bounded`. Its text takes no memory.
+    pub fn overflow(alloc: Heap) -> Result<Note, Memory>
+        ensures { IfOk result (λ note. note ≡ overflow) }
+    {
+        Ok(Note::Failed(Text::of_line(alloc, b"OVERFLOW")?))
+    }
+
     /// An equal note, whose text is a copy (`Text::copy`).
     pub fn copy(&self) -> Result<Note, Memory>
         ensures { IfOk result (λ note. note ≡ self.now) }

@@ -6,8 +6,8 @@ use std::marker::Model;
 /// The most items that a room holds.
 pub const MAX_ROOM: u16 = 1024;
 
-/// The room of a strategy is out of its limits, which are this project's own: 0 to 1,024 for `Drop`, 1 to 1,024 for
-/// `Latest`.
+/// The room of a strategy is out of its limits, which are this project's own: 0 to 1,024 for `Drop` and `Bounded`, 1 to 1,024
+/// for `Latest`.
 #[derive(Clone, Copy, Debug, PartialEq, Eq)]
 pub struct BadRoom;
 
@@ -42,7 +42,7 @@ impl Policy {
     {
         let is_in_limits = match strategy {
             Strategy::Buffer => true,
-            Strategy::Drop(room) => room <= MAX_ROOM,
+            Strategy::Drop(room) | Strategy::Bounded(room) => room <= MAX_ROOM,
             Strategy::Latest(room) => 1 <= room && room <= MAX_ROOM,
         };
         if is_in_limits {
