@@ -22,7 +22,7 @@ use Rattle.rx_note.specs.declared.answer.Answer.{Answer}
 use Rattle.rx_note.specs.declared.answer.Answer.TheVariants.{Admitted, Joined, Asked, Left}
 use Rattle.rx_note.specs.declared.refusal.Refusal.{Refusal}
 use Rattle.rx_note.specs.declared.refusal.Refusal.TheVariants as refused
-use Rattle.rx_note.specs.Signals.{Signal, Requested, Offered, Ended, Signals, Start, ◌▸◌, line, given, waiting, owed}
+use Rattle.rx_note.specs.Signals.{Signal, Requested, Offered, Ended, Signals, Start, ◌▸◌, sent, line, given, waiting, owed}
 
 -- an event and the port that it came by
 abbrev pub Entry : Type 0
@@ -189,10 +189,10 @@ opening_by (Replay count age) rules H z = unstamped (at_most count (young age (a
 
 -- THE SIGNALS OF AN OBSERVER
 
--- several signals more
+-- the signals with several that the subject sends; what an overflow cuts off is not among them
 abbrev pub followed_by : Signals → List Signal → Signals
 followed_by s [] = s
-followed_by s (signal ∷ signals) = followed_by (s ▸ signal) signals
+followed_by s (signal ∷ signals) = followed_by (sent s signal) signals
 
 -- a terminal as a signal
 abbrev pub ended_by : Option Note → List Signal
