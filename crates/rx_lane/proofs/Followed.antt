@@ -6,14 +6,15 @@ use Rattle.std.proofs.lemmas.List.{append-nil, length-append, length-drop, drop-
 use Rattle.rx_note.specs.declared.item.Item.{Item}
 use Rattle.rx_note.specs.declared.note.Note.TheVariants.{Next}
 use Rattle.rx_note.specs.declared.strategy.Strategy.{Strategy}
-use Rattle.rx_note.specs.declared.strategy.Strategy.TheVariants.{Buffer, Drop, Latest}
+use Rattle.rx_note.specs.declared.strategy.Strategy.TheVariants.{Buffer, Drop, Latest, Bounded}
 use Rattle.rx_note.specs.Choices.{Choice}
-use Rattle.rx_note.specs.Signals.{Requested, Offered, Signals, Start, ◌▸◌, demand, line_items, terminal_of, given, waiting_items, owed}
+use Rattle.rx_note.specs.Signals.{Requested, Offered, Signals, Start, ◌▸◌, sent, demand, line_items, given, waiting_items, owed}
 use Rattle.rx_note.specs.Queues.{queued}
 use Rattle.rx_note.proofs.Lines.{owed-rest}
 use Rattle.rx_lane.specs.Lanes.{LaneState, StandsFor}
+use Rattle.rx_lane.specs.Queues.{overfills}
 use Rattle.rx_lane.specs.TapeLanes.{TapeLaneState, lane_on, within_room, IsShared, copy_for, offered_all, Begins}
-use Rattle.rx_lane.proofs.Steps.{offer_now, offer_later}
+use Rattle.rx_lane.proofs.Steps.{is_open, offer_now, offer_later}
 
 -- views that are equal stand for the same signals
 pub stands_on : {a b : TapeLaneState} {s : Signals} (items : List Item) → a ≡ b → StandsFor (lane_on items b) s → StandsFor (lane_on items a) s
@@ -37,6 +38,7 @@ none_waits s h = drop_all (demand s) (line_items s) (omega (arith, owed-rest s, 
 pub queued_within : (g : Strategy) (items : List Item) (item : Item) → IsShared g → queued g items item ≡ within_room g (items ++ item ∷ [])
 queued_within Buffer items item shared = refl
 queued_within (Drop room) items item shared = elim shared [ ]
+queued_within (Bounded room) items item shared = elim shared [ ]
 queued_within (Latest room) items item shared =
     let same : length items + 1 - room ≡ length (items ++ item ∷ []) - room = omega (arith, length-append items (item ∷ [])) in
     ap (λ n. drop n (items ++ item ∷ [])) same
@@ -45,7 +47,15 @@ queued_within (Latest room) items item shared =
 pub queued_first : (g : Strategy) (item : Item) → IsShared g → queued g [] item ≡ item ∷ []
 queued_first Buffer item shared = refl
 queued_first (Drop room) item shared = elim shared [ ]
+queued_first (Bounded room) item shared = elim shared [ ]
 queued_first (Latest room) item shared = let none : length {A = Item} [] + 1 - room ≡ 0 = omega (arith, shared) in ap (λ n. drop n (item ∷ [])) none
+
+-- a shared queue never overflows
+pub shared_fits : (g : Strategy) (count : ℕ) → IsShared g → overfills g count ≡ false
+shared_fits Buffer count shared = refl
+shared_fits (Drop room) count shared = elim shared [ ]
+shared_fits (Latest room) count shared = refl
+shared_fits (Bounded room) count shared = elim shared [ ]
 
 -- the copy of an item that is owed
 pub copy_owed : (owing : ℕ) (item : Item) → 0 < owing → copy_for owing item ≡ Some item
@@ -63,6 +73,7 @@ copy_unowed owing item h = ap (λ n. copy_for n item) h
 within_twice : (g : Strategy) (xs ys : List Item) → within_room g (within_room g xs ++ ys) ≡ within_room g (xs ++ ys)
 within_twice Buffer xs ys = refl
 within_twice (Drop room) xs ys = refl
+within_twice (Bounded room) xs ys = refl
 within_twice (Latest room) xs ys =
     let m = length xs - room in
     let left : length (drop m xs) ≡ length xs - m = length-drop m xs in
@@ -99,13 +110,13 @@ offer_none g lane s st fits = record {
       refl refl (omega arith) st;
 }
 
-pub offer_all : (g : Strategy) (xs : List Item) (lane : LaneState) (s : Signals) → IsShared g → lane.policy.strategy ≡ g → StandsFor lane s → terminal_of s ≡ None → (0 < lane.owing → lane.items ≡ []) → within_room g lane.items ≡ lane.items → GoesAll s lane g xs
+pub offer_all : (g : Strategy) (xs : List Item) (lane : LaneState) (s : Signals) → IsShared g → lane.policy.strategy ≡ g → StandsFor lane s → lane.ended ≡ false → (0 < lane.owing → lane.items ≡ []) → within_room g lane.items ≡ lane.items → GoesAll s lane g xs
 offer_all g [] lane s shared is st open_now none fits = offer_none g lane s st fits
 offer_all g (x ∷ xs) lane s shared is st open_now none fits =
     elim (cases_lt 0 lane.owing) [
       | inl lt ↦
-          let now = offer_now lane x lt s st open_now in
-          let rest = offer_all g xs (record lane { owing = lane.owing - 1 }) (s ▸ Offered x) shared is now.stands open_now (λ more. none lt) fits in
+          let now = offer_now lane x lt s st (is_open lane s open_now st) in
+          let rest = offer_all g xs (record lane { owing = lane.owing - 1 }) (sent s (Offered x)) shared is now.stands open_now (λ more. none lt) fits in
           record {
             gives =
                 rest.gives
@@ -116,15 +127,16 @@ offer_all g (x ∷ xs) lane s shared is st open_now none fits =
           }
       | inr le ↦
           let zero_owed : lane.owing ≡ 0 = omega (arith, le) in
-          let wait = offer_later lane x zero_owed s st open_now in
+          let never : overfills lane.policy.strategy (length lane.items) ≡ false = ap (λ k. overfills k (length lane.items)) is ∙ shared_fits g (length lane.items) shared in
+          let wait = offer_later lane x zero_owed never s st (is_open lane s open_now st) in
           let room : queued lane.policy.strategy lane.items x ≡ within_room g (lane.items ++ x ∷ []) = ap (λ k. queued k lane.items x) is ∙ queued_within g lane.items x shared in
           let next = stands_alike {b = record lane { items = within_room g (lane.items ++ x ∷ []) }} refl (sym room) refl refl refl wait.stands in
-          let rest = offer_all g xs (record lane { items = within_room g (lane.items ++ x ∷ []) }) (s ▸ Offered x) shared is next open_now (λ more. absurd (omega (arith, more, zero_owed))) (within_again g (lane.items ++ x ∷ [])) in
+          let rest = offer_all g xs (record lane { items = within_room g (lane.items ++ x ∷ []) }) (sent s (Offered x)) shared is next open_now (λ more. absurd (omega (arith, more, zero_owed))) (within_again g (lane.items ++ x ∷ [])) in
           record {
             gives =
                 rest.gives
-                ∙ ap (λ n. given (s ▸ Offered x) ++ map Next (take n xs)) zero_owed
-                ∙ append-nil (given (s ▸ Offered x))
+                ∙ ap (λ n. given (sent s (Offered x)) ++ map Next (take n xs)) zero_owed
+                ∙ append-nil (given (sent s (Offered x)))
                 ∙ wait.gives
                 ∙ ap (λ n. given s ++ map Next (take n (x ∷ xs))) (sym zero_owed);
             stands = stands_alike refl
@@ -155,6 +167,7 @@ drop_least n count xs is =
 within_none : (g : Strategy) → within_room g [] ≡ []
 within_none Buffer = refl
 within_none (Drop room) = refl
+within_none (Bounded room) = refl
 within_none (Latest room) = drop_all (length {A = Item} [] - room) [] (omega arith)
 
 -- of the items that a joiner is offered the first ones are given, as many as it requested, and of the others those wait that

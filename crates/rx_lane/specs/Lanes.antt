@@ -1,11 +1,13 @@
 -- The queue of one observer: what contracts see of it, and the signals that it stands for.
-use Rattle.std.specs.Prelude.{◌≡◌, ◌+◌, ◌&&◌, nat_le, ℕ, Bool, List, ◌++◌, None, is_some, length, map}
+use Rattle.std.specs.Prelude.{◌≡◌, ◌+◌, ◌&&◌, nat_le, ℕ, Bool, List, ◌++◌, Option, Some, is_some, length, map}
 use Rattle.rx_note.specs.declared.given.Given.{Given}
 use Rattle.rx_note.specs.declared.item.Item.{Item}
 use Rattle.rx_note.specs.declared.note.Note.{Note}
+use Rattle.rx_note.specs.declared.strategy.Strategy.{Strategy}
+use Rattle.rx_note.specs.declared.strategy.Strategy.TheVariants.{Buffer, Drop, Latest, Bounded}
 use Rattle.rx_note.specs.Choices.{Choice}
-use Rattle.rx_note.specs.Signals.{Signal, Requested, Offered, Ended, Signals, ◌▸◌, policy_of, demand, terminal_of, line_items, waiting_items, waiting_end, owed, given}
-use Rattle.rx_lane.specs.Queues.{HasRoom, is_full}
+use Rattle.rx_note.specs.Signals.{Signal, Signals, policy_of, demand, terminal_of, overflow, sent, line_items, waiting_items, waiting_end, owed, given}
+use Rattle.rx_lane.specs.Queues.{HasRoom, is_full, overfills}
 
 -- what waits in a lane, and what it owes
 pub record LaneState : Type 0 where
@@ -40,15 +42,20 @@ KeepsRoom old new more = (count : ℕ) → HasRoomFor old (count + more) → Has
 abbrev pub loses_next : LaneState → Bool
 loses_next lane = nat_le lane.owing 0 && is_full lane.policy.strategy (length lane.items)
 
--- whether a signal may come next: after the end only requests do
-abbrev pub MayFollow : Signals → Signal → Type 0
-MayFollow s (Requested n) = Unit {0}
-MayFollow s (Offered item) = terminal_of s ≡ None
-MayFollow s (Ended terminal) = terminal_of s ≡ None
+-- whether an item that is offered now overflows: nothing is owed, and the room is full under Bounded
+abbrev pub overflows_next : LaneState → Bool
+overflows_next lane = nat_le lane.owing 0 && overfills lane.policy.strategy (length lane.items)
+
+-- before its end the lane keeps the error by which an overflow would end it, where one may
+abbrev pub KeepsOverflow : Strategy → Option Note → Type 0
+KeepsOverflow Buffer kept = Unit {0}
+KeepsOverflow (Drop room) kept = Unit {0}
+KeepsOverflow (Latest room) kept = Unit {0}
+KeepsOverflow (Bounded room) kept = kept ≡ Some overflow
 
 -- by this signal exactly these notes are given
 abbrev pub Gives : LaneState → Signal → List Note → Type 0
-Gives lane signal notes = (s : Signals) → StandsFor lane s → MayFollow s signal → given (s ▸ signal) ≡ given s ++ notes
+Gives lane signal notes = (s : Signals) → StandsFor lane s → given (sent s signal) ≡ given s ++ notes
 
 -- by this signal exactly what was put at the end of the list is given
 abbrev pub GivesInto : LaneState → Signal → List Note → List Note → Type 0
@@ -64,7 +71,7 @@ GivesTo who lane signal before after = (notes : List Note) × (after ≡ before 
 
 -- the lane stands for the signals with this one more
 abbrev pub GoesOn : LaneState → LaneState → Signal → Type 0
-GoesOn old new signal = (s : Signals) → StandsFor old s → MayFollow s signal → StandsFor new (s ▸ signal)
+GoesOn old new signal = (s : Signals) → StandsFor old s → StandsFor new (sent s signal)
 
 -- whether the terminal was given: there is one, and every item before it was requested
 abbrev pub is_over : Signals → Bool

@@ -5,9 +5,9 @@ use Rattle.rx_note.specs.declared.item.Item.{Item}
 use Rattle.rx_note.specs.declared.note.Note.{Note}
 use Rattle.rx_note.specs.declared.note.Note.TheVariants.{Next}
 use Rattle.rx_note.specs.declared.strategy.Strategy.{Strategy}
-use Rattle.rx_note.specs.declared.strategy.Strategy.TheVariants.{Buffer, Drop, Latest}
+use Rattle.rx_note.specs.declared.strategy.Strategy.TheVariants.{Buffer, Drop, Latest, Bounded}
 use Rattle.rx_note.specs.Choices.{Choice}
-use Rattle.rx_note.specs.Signals.{Requested, Offered, Signals, Start, ◌▸◌, given}
+use Rattle.rx_note.specs.Signals.{Requested, Offered, Signals, Start, ◌▸◌, sent, given}
 use Rattle.rx_tape.specs.Tapes.{TapeState, end_of, place_of, last_items, waits}
 use Rattle.rx_lane.specs.Lanes.{LaneState, StandsFor, Gives, GoesOn}
 
@@ -53,12 +53,14 @@ abbrev pub IsShared : Strategy → Type 0
 IsShared Buffer = Unit {0}
 IsShared (Drop room) = ⊥
 IsShared (Latest room) = 0 < room
+IsShared (Bounded room) = ⊥
 
 -- what a strategy leaves of the items that wait
 abbrev pub within_room : Strategy → List Item → List Item
 within_room Buffer items = items
 within_room (Drop room) items = items
 within_room (Latest room) items = last_items items room
+within_room (Bounded room) items = items
 
 -- the copy of an item that is handed over with it: it is needed where the item is owed
 abbrev pub copy_for : ℕ → Item → Option Item
@@ -75,7 +77,7 @@ pub record HoldsSame (old new : TapeState) : Type 0 where
 -- several items offered
 abbrev pub offered_all : Signals → List Item → Signals
 offered_all s [] = s
-offered_all s (item ∷ items) = offered_all (s ▸ Offered item) items
+offered_all s (item ∷ items) = offered_all (sent s (Offered item)) items
 
 -- a lane that joins with this policy and request and is then offered these items: what it gives, put at the end of a list
 pub record Begins (lane : LaneState) (policy : Choice) (first : ℕ) (items : List Item) (notes : List Note) : Type 0 where

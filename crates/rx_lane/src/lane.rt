@@ -1,16 +1,16 @@
-ghost use Rattle.std.specs.Prelude.{◌≡◌, ◌≤◌, ◌<◌, ◌+◌, ◌^◌, ◌↔◌, [], ◌++◌, ◌∷◌, false, Ok, Err, None, map, take, drop, length, option_to_list, OnOk, OnErr, IfOk, min, vec_len, vec_capacity};
-ghost use Rattle.rx_note.specs.Signals.{Signals, Start, ◌▸◌, Requested, Offered, Ended, owed, waiting, waiting_items};
+ghost use Rattle.std.specs.Prelude.{◌≡◌, ◌≤◌, ◌<◌, ◌+◌, ◌^◌, ◌↔◌, [], ◌++◌, ◌∷◌, true, false, is_some, Some, Ok, Err, None, map, take, drop, length, option_to_list, OnOk, OnErr, IfOk, min, vec_len, vec_capacity};
+ghost use Rattle.rx_note.specs.Signals.{Signals, Start, ◌▸◌, Requested, Offered, Ended, terminal_of, goes_ahead, owed, waiting, waiting_items};
 ghost use Rattle.rx_note.specs.declared.item.Item.{Item};
 ghost use Rattle.rx_note.specs.declared.note.Note.TheVariants.{Next};
 ghost use Rattle.rx_note.specs.declared.strategy.Strategy.TheVariants.{Buffer};
-ghost use Rattle.rx_lane.specs.Lanes.{StandsFor, loses_next, HasRoomFor, KeepsRoom, Gives, GoesOn, GivesInto, is_over};
-ghost use Rattle.rx_lane.specs.Queues.{items_of, strategy_of, spare_of};
+ghost use Rattle.rx_lane.specs.Lanes.{StandsFor, loses_next, overflows_next, KeepsOverflow, HasRoomFor, KeepsRoom, Gives, GoesOn, GivesInto, is_over};
+ghost use Rattle.rx_lane.specs.Queues.{items_of, overfills, strategy_of, spare_of};
 
 use crate::ask_error::AskError;
 use crate::last::give_last;
 use crate::queue::Queue;
 use rx_heap::{Heap, Memory};
-use rx_note::{Errors, Item, Note, Policy};
+use rx_note::{Errors, Item, Note, Policy, Strategy};
 use std::marker::Model;
 
 /// The queue of one observer. Contracts see what waits in it and what it owes, and tell by the observer's signals what
@@ -23,6 +23,8 @@ pub struct Lane {
     errors: Errors,
     queue: Queue,
     last: Option<Note>,
+    // Under `Bounded`, before the end, the error by which an overflow would end the lane: so an offer takes no memory.
+    overflow: Option<Note>,
     ended: bool,
     owed: u32,
 }
@@ -34,6 +36,7 @@ impl Drop for Lane {
             errors: _,
             queue: _,
             last: _,
+            overflow: _,
             ended: _,
             owed: _,
         } = self;
@@ -57,11 +60,16 @@ impl Model for Lane {
       };
       spare = spare_of l.queue;
     } };
+
+    ghost use Rattle.std.specs.Prelude.{◌≡◌, false};
+    ghost use Rattle.rx_lane.specs.Lanes.{KeepsOverflow};
+
+    ghost invariant = { λ l. l.ended ≡ false → KeepsOverflow (strategy_of l.queue) l.overflow };
 }
 
 impl Lane {
-    /// The lane of an observer with this policy, by no signal yet. Under `Drop` and `Latest` all its memory is taken here,
-    /// for as many items as the room; `Memory` where there was none.
+    /// The lane of an observer with this policy, by no signal yet. But under `Buffer` all its memory is taken here, for as many
+    /// items as the room; `Memory` where there was none.
     pub fn new(alloc: Heap, policy: Policy) -> Result<Lane, Memory>
         ensures { IfOk result (λ lane. StandsFor lane.state (Start policy)) }
     {
@@ -81,17 +89,19 @@ impl Lane {
         ensures policy { IfOk result (λ lane. lane.state.policy ≡ policy) }
         ensures rest { IfOk result (λ lane. (lane.state.items ≡ []) × (lane.state.last ≡ []) × (lane.state.ended ≡ false) × (lane.state.owing ≡ owed)) }
     {
+        let overflow = overflow_of(alloc.clone()?, policy.strategy())?;
         let queue = Queue::new(alloc, policy.strategy())?;
         Ok(Lane {
             errors: policy.errors(),
             queue,
             last: None,
+            overflow,
             ended: false,
             owed,
         })
     }
 
-    /// Makes room for `items` offers; under `Drop` and `Latest` there always is. `Memory` leaves the lane, and comes only where
+    /// Makes room for `items` offers; but under `Buffer` there always is. `Memory` leaves the lane, and comes only where
     /// there was no such room already.
     pub fn reserve(&mut self, items: usize) -> Result<(), Memory>
         ensures state { self.new.state ≡ self.old.state }
@@ -110,7 +120,7 @@ impl Lane {
         self.owed
     }
 
-    /// How many items wait; under `Drop` and `Latest` no more than the room.
+    /// How many items wait; but under `Buffer` no more than the room.
     pub fn waiting_len(&self) -> usize
         ensures state { result ≡ length self.now.state.items }
         ensures waiting { (s : Signals) → StandsFor self.now.state s → result ≡ length (waiting_items s) }
@@ -136,6 +146,22 @@ impl Lane {
         ensures { result ≡ loses_next self.now.state }
     {
         self.owed == 0 && self.queue.is_full()
+    }
+
+    /// Whether an item that is offered now overflows and ends the lane: by `Bounded`, where nothing is owed and the room is
+    /// full. It is meant before the end.
+    pub fn overflows_next(&self) -> bool
+        ensures { result ≡ overflows_next self.now.state }
+    {
+        self.owed == 0 && self.queue.overflows()
+    }
+
+    /// Whether it has ended: a terminal waits or was given.
+    pub fn is_ended(&self) -> bool
+        ensures state { result ≡ self.now.state.ended }
+        ensures ended { (s : Signals) → StandsFor self.now.state s → result ≡ is_some (terminal_of s) }
+    {
+        self.ended
     }
 
     /// Whether the terminal was given.
@@ -180,27 +206,49 @@ impl Lane {
         Ok(())
     }
 
-    /// Offers an item, which comes back where it is given at once; else it waits, or it or the oldest that waits is lost, by
-    /// the strategy. It takes no memory: room for it was reserved. It is meant before the end alone.
+    /// Offers an item, which comes back as a note where it is given at once; else it waits, or it or the oldest that waits is
+    /// lost, by the strategy. Where it overflows, the lane ends by the error `OVERFLOW`, which comes back where it is given at
+    /// once, and the item is let go. It takes no memory: room for it was reserved.
     #[inline(always)]
-    pub fn offer(&mut self, item: Item) -> Option<Item>
-        requires { HasRoomFor self.old 1 }
-        ensures gives { Gives self.old.state (Offered item) (map Next (option_to_list result)) }
+    pub fn offer(&mut self, item: Item) -> Option<Note>
+        requires room { HasRoomFor self.old 1 }
+        requires open { self.old.state.ended ≡ false }
+        ensures gives { Gives self.old.state (Offered item) (option_to_list result) }
         ensures stands { GoesOn self.old.state self.new.state (Offered item) }
         ensures room { KeepsRoom self.old self.new 1 }
     {
         if self.owed > 0 {
             self.pass();
-            return Some(item);
+            return Some(Note::Next(item));
+        }
+        if self.queue.overflows() {
+            return self.overflow();
         }
         self.queue.push(item);
         None
     }
 
-    /// Passes an item that is owed and that the caller gives: no item need be at hand. It is meant before the end alone.
+    // Ends by an overflow.
+    fn overflow(&mut self) -> Option<Note>
+        requires open { self.old.state.ended ≡ false }
+        requires none_owed { self.old.state.owing ≡ 0 }
+        requires full { overfills self.old.state.policy.strategy (length self.old.state.items) ≡ true }
+        ensures gives { (item : Item) → Gives self.old.state (Offered item) (option_to_list result) }
+        ensures stands { (item : Item) → GoesOn self.old.state self.new.state (Offered item) }
+        ensures room { KeepsRoom self.old self.new 0 }
+    {
+        let Some(note) = self.overflow.take() else {
+            unreachable!()
+        };
+        self.ended = true;
+        end_queue(self.errors, note, &mut self.queue, &mut self.last)
+    }
+
+    /// Passes an item that is owed and that the caller gives: no item need be at hand.
     #[inline(always)]
     pub fn pass(&mut self)
-        requires { 0 < self.old.state.owing }
+        requires owed { 0 < self.old.state.owing }
+        requires open { self.old.state.ended ≡ false }
         ensures gives { (item : Item) → Gives self.old.state (Offered item) (Next item ∷ []) }
         ensures stands { (item : Item) → GoesOn self.old.state self.new.state (Offered item) }
         ensures room { KeepsRoom self.old self.new 0 }
@@ -209,24 +257,47 @@ impl Lane {
     }
 
     /// Ends the lane by a terminal, which comes back where it is given at once; else it waits behind the items. An error that
-    /// goes ahead of them discards them. It takes no memory. It is meant once.
+    /// goes ahead of them discards them. It takes no memory.
     pub fn end(&mut self, note: Note) -> Option<Note>
+        requires { self.old.state.ended ≡ false }
         ensures gives { Gives self.old.state (Ended note) (option_to_list result) }
         ensures stands { GoesOn self.old.state self.new.state (Ended note) }
         ensures room { KeepsRoom self.old self.new 0 }
     {
         self.ended = true;
-        if self.errors.goes_ahead(&note) {
-            self.queue.clear();
-            return Some(note);
-        }
-        let nothing_waits = self.waiting_len() == 0;
-        if nothing_waits {
-            return Some(note);
-        }
-        self.last = Some(note);
-        None
+        end_queue(self.errors, note, &mut self.queue, &mut self.last)
     }
+}
+
+// The error by which an overflow ends a lane, where the strategy has one.
+fn overflow_of(alloc: Heap, strategy: Strategy) -> Result<Option<Note>, Memory>
+    ensures { IfOk result (λ kept. KeepsOverflow strategy kept) }
+{
+    match strategy {
+        Strategy::Bounded(_) => Ok(Some(Note::overflow(alloc)?)),
+        Strategy::Buffer | Strategy::Drop(_) | Strategy::Latest(_) => Ok(None),
+    }
+}
+
+// Puts a terminal behind the items that wait, and answers it where it is given at once. One that goes ahead discards them.
+fn end_queue(errors: Errors, note: Note, queue: &mut Queue, last: &mut Option<Note>) -> Option<Note>
+    ensures ahead { goes_ahead errors note ≡ true → (result ≡ Some note) × (items_of queue.new ≡ []) × (last.new ≡ last.old) }
+    ensures at_once { goes_ahead errors note ≡ false → length (items_of queue.old) ≡ 0
+        → (result ≡ Some note) × (items_of queue.new ≡ items_of queue.old) × (last.new ≡ last.old) }
+    ensures behind { goes_ahead errors note ≡ false → 0 < length (items_of queue.old)
+        → (result ≡ None) × (items_of queue.new ≡ items_of queue.old) × (last.new ≡ Some note) }
+    ensures strategy { strategy_of queue.new ≡ strategy_of queue.old }
+    ensures spare { spare_of queue.old ≤ spare_of queue.new }
+{
+    if errors.goes_ahead(&note) {
+        queue.clear();
+        return Some(note);
+    }
+    if queue.len() == 0 {
+        return Some(note);
+    }
+    *last = Some(note);
+    None
 }
 
 // Moves the front items into `outs`.

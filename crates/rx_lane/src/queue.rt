@@ -1,7 +1,7 @@
-ghost use Rattle.std.specs.Prelude.{◌≡◌, ◌<◌, ◌≤◌, ◌+◌, ◌^◌, [], length, drop, slice_get, IfOk, OnOk, OnErr};
+ghost use Rattle.std.specs.Prelude.{◌≡◌, ◌<◌, ◌≤◌, ◌+◌, ◌^◌, [], false, length, drop, slice_get, IfOk, OnOk, OnErr};
 ghost use Rattle.rx_note.specs.Queues.{queued};
 ghost use Rattle.rx_note.specs.declared.strategy.Strategy.TheVariants.{Buffer};
-ghost use Rattle.rx_lane.specs.Queues.{HasRoom, is_full, items_of, strategy_of, spare_of};
+ghost use Rattle.rx_lane.specs.Queues.{HasRoom, is_full, overfills, items_of, strategy_of, spare_of};
 
 use circular_buffer::HeapCircularBuffer;
 use rx_heap::{Heap, Memory};
@@ -19,6 +19,8 @@ pub(crate) enum Queue {
     Dropping(HeapCircularBuffer<Item, Heap>),
     /// The latest ones for which there is room.
     Replacing(HeapCircularBuffer<Item, Heap>),
+    /// All of them, for which there always was room: one for which there is none ends the queue.
+    Bounding(HeapCircularBuffer<Item, Heap>),
 }
 
 impl Queue {
@@ -37,6 +39,10 @@ impl Queue {
                 let ring = HeapCircularBuffer::with_capacity(alloc, room as usize)?;
                 Ok(Queue::Replacing(ring))
             }
+            Strategy::Bounded(room) => {
+                let ring = HeapCircularBuffer::with_capacity(alloc, room as usize)?;
+                Ok(Queue::Bounding(ring))
+            }
         }
     }
 
@@ -50,6 +56,7 @@ impl Queue {
             Queue::Empty => 0,
             Queue::Dropping(ring) => ring.len(),
             Queue::Replacing(ring) => ring.len(),
+            Queue::Bounding(ring) => ring.len(),
         }
     }
 
@@ -58,9 +65,19 @@ impl Queue {
         ensures { result ≡ is_full (strategy_of self.now) (length (items_of self.now)) }
     {
         match self {
-            Queue::Growing(_) | Queue::Replacing(_) => false,
+            Queue::Growing(_) | Queue::Replacing(_) | Queue::Bounding(_) => false,
             Queue::Empty => true,
             Queue::Dropping(ring) => ring.len() >= ring.capacity(),
+        }
+    }
+
+    /// Whether what comes has no room and ends it.
+    pub(crate) fn overflows(&self) -> bool
+        ensures { result ≡ overfills (strategy_of self.now) (length (items_of self.now)) }
+    {
+        match self {
+            Queue::Bounding(ring) => ring.len() >= ring.capacity(),
+            _ => false,
         }
     }
 
@@ -80,7 +97,8 @@ impl Queue {
 
     /// Queues an item by the strategy.
     pub(crate) fn push(&mut self, item: Item)
-        requires { HasRoom (strategy_of self.old) 1 (spare_of self.old) }
+        requires room { HasRoom (strategy_of self.old) 1 (spare_of self.old) }
+        requires fits { overfills (strategy_of self.old) (length (items_of self.old)) ≡ false }
         ensures items { items_of self.new ≡ queued (strategy_of self.old) (items_of self.old) item }
         ensures strategy { strategy_of self.new ≡ strategy_of self.old }
         ensures spare { spare_of self.old ≤ spare_of self.new + 1 }
@@ -89,6 +107,7 @@ impl Queue {
             Queue::Growing(items) => items.push_back_reserved(item),
             Queue::Empty => {}
             Queue::Dropping(ring) => drop(ring.try_push_back(item)),
+            Queue::Bounding(ring) => drop(ring.try_push_back(item)),
             Queue::Replacing(ring) => {
                 ring.push_back(item);
             }
@@ -106,6 +125,7 @@ impl Queue {
             Queue::Empty => {}
             Queue::Dropping(ring) => ring.clear(),
             Queue::Replacing(ring) => ring.clear(),
+            Queue::Bounding(ring) => ring.clear(),
         }
     }
 
@@ -121,6 +141,7 @@ impl Queue {
             Queue::Empty => None,
             Queue::Dropping(ring) => ring.pop_front(),
             Queue::Replacing(ring) => ring.pop_front(),
+            Queue::Bounding(ring) => ring.pop_front(),
         }
     }
 }

@@ -1,7 +1,7 @@
-ghost use Rattle.std.specs.Prelude.{ℕ, ◌≡◌, ◌≤◌, ◌<◌, ◌+◌, ◌-◌, ◌^◌, ◌↔◌, [], ◌++◌, ◌∷◌, List, ◌⊎◌, Ok, Err, None, Some, map, take, length, min, option_to_list, vec_len, vec_capacity, OnOk, OnErr, IfOk};
+ghost use Rattle.std.specs.Prelude.{ℕ, ◌≡◌, ◌≤◌, ◌<◌, ◌+◌, ◌-◌, ◌^◌, ◌↔◌, [], ◌++◌, ◌∷◌, List, ◌⊎◌, false, is_some, Ok, Err, None, Some, map, take, length, min, option_to_list, vec_len, vec_capacity, OnOk, OnErr, IfOk};
 ghost use Rattle.rx_note.specs.declared.item.Item.{Item};
 ghost use Rattle.rx_note.specs.declared.note.Note.TheVariants.{Next};
-ghost use Rattle.rx_note.specs.Signals.{Signals, Requested, Offered, Ended, owed};
+ghost use Rattle.rx_note.specs.Signals.{Signals, Requested, Offered, Ended, terminal_of, owed};
 ghost use Rattle.rx_tape.specs.Tapes.{waits, place_of, Spares, MovesOn};
 ghost use Rattle.rx_lane.specs.Lanes.{StandsFor, Gives, GoesOn, GivesInto, GivesTo, addressed, is_over};
 ghost use Rattle.rx_lane.specs.TapeLanes.{lane_on, StandsBack, StandsWhereSome, IsAlone, IsShared, HoldsSame, BeginsInto, Offers, Passes};
@@ -126,6 +126,14 @@ impl TapeLane {
             Some(_) => items + 1,
             None => items,
         }
+    }
+
+    /// Whether it has ended: a terminal waits or was given.
+    pub fn is_ended(&self) -> bool
+        ensures state { result ≡ self.now.ended }
+        ensures ended { (items : List Item) (s : Signals) → StandsFor (lane_on items self.now) s → result ≡ is_some (terminal_of s) }
+    {
+        self.ended
     }
 
     /// Whether the terminal was given.
@@ -340,11 +348,11 @@ impl TapeLane {
     }
 
     /// Offers the last item of the tape; where it is owed `copy` is that item and comes back, else `copy` is None, the item
-    /// waits, and by `Latest` the oldest that waits is lost where the room is full. It takes no memory. It is meant before the
-    /// end alone.
+    /// waits, and by `Latest` the oldest that waits is lost where the room is full. It takes no memory.
     #[inline(always)]
     pub fn offer(&mut self, copy: Option<Item>, tape: &mut Tape) -> Option<Item>
-        requires { StandsBack tape.old self.old.cursor (self.old.back + 1) }
+        requires open { self.old.ended ≡ false }
+        requires stands { StandsBack tape.old self.old.cursor (self.old.back + 1) }
         ensures offers { Offers tape.old tape.new self.old self.new copy result }
         ensures stands_back { StandsBack tape.new self.new.cursor self.new.back }
         ensures cursor { self.new.cursor ≡ self.old.cursor }
@@ -357,7 +365,8 @@ impl TapeLane {
     /// Offers the last item of the tape as `offer` does, where the caller has given it already if it is owed.
     #[inline(always)]
     pub fn pass(&mut self, tape: &mut Tape)
-        requires { StandsBack tape.old self.old.cursor (self.old.back + 1) }
+        requires open { self.old.ended ≡ false }
+        requires stands { StandsBack tape.old self.old.cursor (self.old.back + 1) }
         ensures passes { Passes tape.old tape.new self.old self.new }
         ensures stands_back { StandsBack tape.new self.new.cursor self.new.back }
         ensures cursor { self.new.cursor ≡ self.old.cursor }
@@ -373,11 +382,11 @@ impl TapeLane {
         self.waiting.make_room(self.policy.strategy(), tape);
     }
 
-    /// Passes an item that is owed and that the caller gives: it need be neither at hand nor on the tape. It is meant before the
-    /// end alone.
+    /// Passes an item that is owed and that the caller gives: it need be neither at hand nor on the tape.
     #[inline(always)]
     pub fn pass_owed(&mut self)
-        requires { 0 < self.old.owing }
+        requires open { self.old.ended ≡ false }
+        requires owed { 0 < self.old.owing }
         ensures gives { (items : List Item) (item : Item) → Gives (lane_on items self.old) (Offered item) (Next item ∷ []) }
         ensures stands { (items : List Item) (item : Item) → GoesOn (lane_on items self.old) (lane_on items self.new) (Offered item) }
         ensures back { (self.new.back ≡ self.old.back) × (self.new.cursor ≡ self.old.cursor) }
@@ -386,9 +395,10 @@ impl TapeLane {
     }
 
     /// Offers an item that isn't on the tape, which comes back where it is given at once; else it waits. It takes no memory. It
-    /// is meant before the end, where nothing waits.
+    /// is meant where nothing waits.
     pub fn offer_lead(&mut self, item: Item) -> Option<Item>
-        requires { (self.old.lead ≡ None) × (self.old.back ≡ 0) }
+        requires open { self.old.ended ≡ false }
+        requires none_waits { (self.old.lead ≡ None) × (self.old.back ≡ 0) }
         ensures gives { (items : List Item) → Gives (lane_on items self.old) (Offered item) (map Next (option_to_list result)) }
         ensures stands { (items : List Item) → GoesOn (lane_on items self.old) (lane_on items self.new) (Offered item) }
         ensures back { (self.new.back ≡ 0) × (self.new.cursor ≡ self.old.cursor) }
@@ -402,8 +412,9 @@ impl TapeLane {
     }
 
     /// Ends the lane by a terminal, which comes back where it is given at once; else it waits behind the items. An error that
-    /// goes ahead of them lets them go. It takes no memory. It is meant once.
+    /// goes ahead of them lets them go. It takes no memory.
     pub fn end(&mut self, note: Note) -> Option<Note>
+        requires { self.old.ended ≡ false }
         ensures gives { (items : List Item) → self.old.back ≤ length items → Gives (lane_on items self.old) (Ended note) (option_to_list result) }
         ensures stands { (items : List Item) → self.old.back ≤ length items → GoesOn (lane_on items self.old) (lane_on items self.new) (Ended note) }
         ensures back { (self.new.back ≡ self.old.back) ⊎ (self.new.back ≡ 0) }
@@ -423,7 +434,8 @@ impl TapeLane {
 
     /// Ends the lane as `end` does, and moves its cursor past what waits no more.
     pub fn end_on(&mut self, note: Note, tape: &mut Tape) -> Option<Note>
-        requires { StandsBack tape.old self.old.cursor self.old.back }
+        requires open { self.old.ended ≡ false }
+        requires stands { StandsBack tape.old self.old.cursor self.old.back }
         ensures gives { Gives (lane_on tape.old.items self.old) (Ended note) (option_to_list result) }
         ensures stands { GoesOn (lane_on tape.old.items self.old) (lane_on tape.new.items self.new) (Ended note) }
         ensures stands_back { StandsBack tape.new self.new.cursor self.new.back }

@@ -41,7 +41,7 @@ sent-overflow s item open_now over = sent-open s item true open_now over
 
 -- WHAT OVERFLOWS
 
-overflows-by : (g : Strategy) (s : Signals) → (policy_of s).strategy ≡ g → overflows s ≡ are_too_many g (offered_count s + 1 - demand s)
+pub overflows-by : (g : Strategy) (s : Signals) → (policy_of s).strategy ≡ g → overflows s ≡ are_too_many g (offered_count s + 1 - demand s)
 overflows-by g s e = ap (λ g'. are_too_many g' (offered_count s + 1 - demand s)) e
 
 -- under Bounded every item offered is in the line of an observer without an end

@@ -1,5 +1,5 @@
 -- A terminal that waits is one note more.
-use Rattle.std.proofs.Common.{◌≡◌, ◌+◌, Option, length, map, option_to_list, ap, sym, ◌∙◌, arith}
+use Rattle.std.proofs.Common.{◌≡◌, ◌+◌, Option, length, map, option_to_list, ap, arith}
 use Rattle.std.proofs.lemmas.List.{length-append, length-map}
 use Rattle.rx_note.specs.declared.note.Note.{Note}
 use Rattle.rx_note.specs.declared.note.Note.TheVariants.{Next}

@@ -26,7 +26,7 @@ returns-clause-put c =
     ∙ ap (λ (v : TapeLaneState). before ++ addressed who (map Next (take c.args.items (waits v.lead items v.back)))) c.self.view_is
 
 pub returns-clause-goes_on : goal.returns-clause-goes_on
-returns-clause-goes_on c = λ n owed_is s st open_now.
+returns-clause-goes_on c = λ n owed_is s st.
     let new = c.release-last.new.self in
     let tape = c.args.tape.now in
     let items = c.release-last.new.tape.items in
@@ -36,4 +36,4 @@ returns-clause-goes_on c = λ n owed_is s st open_now.
     let fits : c.in_ok-more.more + new.back ≤ length items =
     omega (arith, c.in_ok-more.ensures.more, c.release-last.ensures.back, same, lead, c.requires.wait, c.requires.items) in
     stands_alike refl (last_stay new.lead items c.move_passed.new.tape.items c.in_ok-more.more new.back left fits) refl refl refl
-    (c.release-last.ensures.goes_on n owed_is s st open_now)
+    (c.release-last.ensures.goes_on n owed_is s st)

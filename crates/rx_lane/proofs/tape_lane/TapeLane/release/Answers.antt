@@ -11,7 +11,7 @@ use Rattle.rx_lane.proofs.Followed.{stands_on, stands_alike}
 use Rattle.rx_lane.proofs.tape_lane.TapeLane.release.Goals as goal
 
 pub returns-then-all-clause-gives : goal.returns-then-all-clause-gives
-returns-then-all-clause-gives c = λ n owed_is s st open_now.
+returns-then-all-clause-gives c = λ n owed_is s st.
     let t = c.args.tape.now in
     let w = c.args.self.now in
     let back = ap (λ (v : TapeLaneState). length (option_to_list v.lead) + v.back) c.self.view_is in
@@ -23,7 +23,7 @@ returns-then-all-clause-gives c = λ n owed_is s st open_now.
     ∙ ap (λ notes. given s ++ (map Next (take c.args.items (waits w.lead t.items w.back)) ++ notes)) (sym last)
 
 pub returns-else-all-clause-gives : goal.returns-else-all-clause-gives
-returns-else-all-clause-gives c = λ n owed_is s st open_now.
+returns-else-all-clause-gives c = λ n owed_is s st.
     let t = c.args.tape.now in
     let w = c.args.self.now in
     let long = waits-length w.lead t.items w.back (λ some. (c.requires.stands some).within) in
@@ -33,7 +33,7 @@ returns-else-all-clause-gives c = λ n owed_is s st open_now.
     ∙ ap (λ notes. given s ++ notes) (sym (append-nil (map Next (take c.args.items (waits w.lead t.items w.back)))))
 
 pub returns-else-all-clause-goes_on : goal.returns-else-all-clause-goes_on
-returns-else-all-clause-goes_on c = λ n owed_is s st open_now.
+returns-else-all-clause-goes_on c = λ n owed_is s st.
     let t = c.args.tape.now in
     let w = c.self.inside.waiting in
     let stands = subst (λ (v : TapeLaneState). StandsWhereSome t v.cursor v.back) (sym c.self.view_is) c.requires.stands in
