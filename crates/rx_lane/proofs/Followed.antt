@@ -8,10 +8,10 @@ use Rattle.rx_note.specs.declared.note.Note.TheVariants.{Next}
 use Rattle.rx_note.specs.declared.strategy.Strategy.{Strategy}
 use Rattle.rx_note.specs.declared.strategy.Strategy.TheVariants.{Buffer, Drop, Latest, Bounded}
 use Rattle.rx_note.specs.Choices.{Choice}
-use Rattle.rx_note.specs.Signals.{Requested, Offered, Signals, Start, ◌▸◌, sent, demand, line_items, given, waiting_items, owed}
+use Rattle.rx_note.specs.Signals.{Requested, Offered, Signals, Start, ◌▸◌, may_overflow, sent, demand, line_items, given, waiting_items, owed}
 use Rattle.rx_note.specs.Queues.{queued}
 use Rattle.rx_note.proofs.Lines.{owed-rest}
-use Rattle.rx_lane.specs.Lanes.{LaneState, StandsFor}
+use Rattle.rx_lane.specs.Lanes.{LaneState, StandsFor, MayBeSent}
 use Rattle.rx_lane.specs.Queues.{overfills}
 use Rattle.rx_lane.specs.TapeLanes.{TapeLaneState, lane_on, within_room, IsShared, copy_for, offered_all, Begins}
 use Rattle.rx_lane.proofs.Steps.{is_open, offer_now, offer_later}
@@ -56,6 +56,17 @@ shared_fits Buffer count shared = refl
 shared_fits (Drop room) count shared = elim shared [ ]
 shared_fits (Latest room) count shared = refl
 shared_fits (Bounded room) count shared = elim shared [ ]
+
+-- and never ended by one
+never : (g : Strategy) → IsShared g → may_overflow g ≡ false
+never Buffer shared = refl
+never (Drop room) shared = elim shared [ ]
+never (Latest room) shared = refl
+never (Bounded room) shared = elim shared [ ]
+
+-- so a lane on a tape to which more may be sent has no end
+pub shared_open : (lane : TapeLaneState) (policy : Choice) → MayBeSent lane.policy lane.ended → policy ≡ lane.policy → IsShared policy.strategy → lane.ended ≡ false
+shared_open lane policy may same shared = may (ap (λ (c : Choice). may_overflow c.strategy) (sym same) ∙ never policy.strategy shared)
 
 -- the copy of an item that is owed
 pub copy_owed : (owing : ℕ) (item : Item) → 0 < owing → copy_for owing item ≡ Some item

@@ -1,12 +1,12 @@
 -- The queue of one observer: what contracts see of it, and the signals that it stands for.
-use Rattle.std.specs.Prelude.{◌≡◌, ◌+◌, ◌&&◌, nat_le, ℕ, Bool, List, ◌++◌, Option, Some, is_some, length, map}
+use Rattle.std.specs.Prelude.{◌≡◌, ◌+◌, ◌&&◌, nat_le, ℕ, Bool, false, List, ◌++◌, Option, Some, is_some, length, map}
 use Rattle.rx_note.specs.declared.given.Given.{Given}
 use Rattle.rx_note.specs.declared.item.Item.{Item}
 use Rattle.rx_note.specs.declared.note.Note.{Note}
 use Rattle.rx_note.specs.declared.strategy.Strategy.{Strategy}
 use Rattle.rx_note.specs.declared.strategy.Strategy.TheVariants.{Buffer, Drop, Latest, Bounded}
 use Rattle.rx_note.specs.Choices.{Choice}
-use Rattle.rx_note.specs.Signals.{Signal, Signals, policy_of, demand, terminal_of, overflow, sent, line_items, waiting_items, waiting_end, owed, given}
+use Rattle.rx_note.specs.Signals.{Signal, Signals, policy_of, demand, terminal_of, may_overflow, overflow, sent, line_items, waiting_items, waiting_end, owed, given}
 use Rattle.rx_lane.specs.Queues.{HasRoom, is_full, overfills}
 
 -- what waits in a lane, and what it owes
@@ -45,6 +45,10 @@ loses_next lane = nat_le lane.owing 0 && is_full lane.policy.strategy (length la
 -- whether an item that is offered now overflows: nothing is owed, and the room is full under Bounded
 abbrev pub overflows_next : LaneState → Bool
 overflows_next lane = nat_le lane.owing 0 && overfills lane.policy.strategy (length lane.items)
+
+-- more may be sent to a lane of this policy: it has no end, or one that an overflow may have made
+abbrev pub MayBeSent : Choice → Bool → Type 0
+MayBeSent policy ended = may_overflow policy.strategy ≡ false → ended ≡ false
 
 -- before its end the lane keeps the error by which an overflow would end it, where one may
 abbrev pub KeepsOverflow : Strategy → Option Note → Type 0

@@ -3,7 +3,7 @@ ghost use Rattle.rx_note.specs.declared.item.Item.{Item};
 ghost use Rattle.rx_note.specs.declared.note.Note.TheVariants.{Next};
 ghost use Rattle.rx_note.specs.Signals.{Signals, Requested, Offered, Ended, terminal_of, owed};
 ghost use Rattle.rx_tape.specs.Tapes.{waits, place_of, Spares, MovesOn};
-ghost use Rattle.rx_lane.specs.Lanes.{StandsFor, Gives, GoesOn, GivesInto, GivesTo, addressed, is_over};
+ghost use Rattle.rx_lane.specs.Lanes.{StandsFor, MayBeSent, Gives, GoesOn, GivesInto, GivesTo, addressed, is_over};
 ghost use Rattle.rx_lane.specs.TapeLanes.{lane_on, StandsBack, StandsWhereSome, IsAlone, IsShared, HoldsSame, BeginsInto, Offers, Passes};
 
 use crate::ask_error::AskError;
@@ -75,7 +75,7 @@ impl TapeLane {
         requires there { back ≤ length tape.old.items }
         ensures err { OnErr result (HoldsSame tape.old tape.new × (outs.new.items ≡ outs.old.items)) }
         ensures begins { IfOk result (λ lane. BeginsInto (lane_on tape.new.items lane) policy first (waits lead tape.old.items back) outs.old.items outs.new.items) }
-        ensures policy { IfOk result (λ lane. lane.policy ≡ policy) }
+        ensures policy { IfOk result (λ lane. (lane.policy ≡ policy) × (lane.ended ≡ false)) }
         ensures stands_back { IfOk result (λ lane. StandsBack tape.new lane.cursor lane.back) }
         ensures fresh { IfOk result (λ lane. place_of tape.old.places lane.cursor ≡ None) }
         ensures spares { IfOk result (λ lane. Spares tape.old tape.new lane.cursor) }
@@ -351,9 +351,10 @@ impl TapeLane {
     /// waits, and by `Latest` the oldest that waits is lost where the room is full. It takes no memory.
     #[inline(always)]
     pub fn offer(&mut self, copy: Option<Item>, tape: &mut Tape) -> Option<Item>
-        requires open { self.old.ended ≡ false }
+        requires open { MayBeSent self.old.policy self.old.ended }
         requires stands { StandsBack tape.old self.old.cursor (self.old.back + 1) }
         ensures offers { Offers tape.old tape.new self.old self.new copy result }
+        ensures open { (self.new.policy ≡ self.old.policy) × (self.new.ended ≡ self.old.ended) }
         ensures stands_back { StandsBack tape.new self.new.cursor self.new.back }
         ensures cursor { self.new.cursor ≡ self.old.cursor }
         ensures spares { Spares tape.old tape.new self.old.cursor }
@@ -365,9 +366,10 @@ impl TapeLane {
     /// Offers the last item of the tape as `offer` does, where the caller has given it already if it is owed.
     #[inline(always)]
     pub fn pass(&mut self, tape: &mut Tape)
-        requires open { self.old.ended ≡ false }
+        requires open { MayBeSent self.old.policy self.old.ended }
         requires stands { StandsBack tape.old self.old.cursor (self.old.back + 1) }
         ensures passes { Passes tape.old tape.new self.old self.new }
+        ensures open { (self.new.policy ≡ self.old.policy) × (self.new.ended ≡ self.old.ended) }
         ensures stands_back { StandsBack tape.new self.new.cursor self.new.back }
         ensures cursor { self.new.cursor ≡ self.old.cursor }
         ensures spares { Spares tape.old tape.new self.old.cursor }
@@ -385,7 +387,7 @@ impl TapeLane {
     /// Passes an item that is owed and that the caller gives: it need be neither at hand nor on the tape.
     #[inline(always)]
     pub fn pass_owed(&mut self)
-        requires open { self.old.ended ≡ false }
+        requires open { MayBeSent self.old.policy self.old.ended }
         requires owed { 0 < self.old.owing }
         ensures gives { (items : List Item) (item : Item) → Gives (lane_on items self.old) (Offered item) (Next item ∷ []) }
         ensures stands { (items : List Item) (item : Item) → GoesOn (lane_on items self.old) (lane_on items self.new) (Offered item) }
@@ -397,7 +399,7 @@ impl TapeLane {
     /// Offers an item that isn't on the tape, which comes back where it is given at once; else it waits. It takes no memory. It
     /// is meant where nothing waits.
     pub fn offer_lead(&mut self, item: Item) -> Option<Item>
-        requires open { self.old.ended ≡ false }
+        requires open { MayBeSent self.old.policy self.old.ended }
         requires none_waits { (self.old.lead ≡ None) × (self.old.back ≡ 0) }
         ensures gives { (items : List Item) → Gives (lane_on items self.old) (Offered item) (map Next (option_to_list result)) }
         ensures stands { (items : List Item) → GoesOn (lane_on items self.old) (lane_on items self.new) (Offered item) }
@@ -414,7 +416,7 @@ impl TapeLane {
     /// Ends the lane by a terminal, which comes back where it is given at once; else it waits behind the items. An error that
     /// goes ahead of them lets them go. It takes no memory.
     pub fn end(&mut self, note: Note) -> Option<Note>
-        requires { self.old.ended ≡ false }
+        requires { MayBeSent self.old.policy self.old.ended }
         ensures gives { (items : List Item) → self.old.back ≤ length items → Gives (lane_on items self.old) (Ended note) (option_to_list result) }
         ensures stands { (items : List Item) → self.old.back ≤ length items → GoesOn (lane_on items self.old) (lane_on items self.new) (Ended note) }
         ensures back { (self.new.back ≡ self.old.back) ⊎ (self.new.back ≡ 0) }
@@ -434,7 +436,7 @@ impl TapeLane {
 
     /// Ends the lane as `end` does, and moves its cursor past what waits no more.
     pub fn end_on(&mut self, note: Note, tape: &mut Tape) -> Option<Note>
-        requires open { self.old.ended ≡ false }
+        requires open { MayBeSent self.old.policy self.old.ended }
         requires stands { StandsBack tape.old self.old.cursor self.old.back }
         ensures gives { Gives (lane_on tape.old.items self.old) (Ended note) (option_to_list result) }
         ensures stands { GoesOn (lane_on tape.old.items self.old) (lane_on tape.new.items self.new) (Ended note) }

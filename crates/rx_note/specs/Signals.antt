@@ -57,6 +57,13 @@ terminal_of (s ▸ Ended terminal) = Some terminal
 abbrev pub overflow : Note
 overflow = Failed (codes "OVERFLOW")
 
+-- whether a strategy may end its observer by an overflow
+abbrev pub may_overflow : Strategy → Bool
+may_overflow Buffer = false
+may_overflow (Drop room) = false
+may_overflow (Latest room) = false
+may_overflow (Bounded room) = true
+
 -- whether so many items ahead of the demand end an observer of a strategy
 abbrev pub are_too_many : Strategy → ℕ → Bool
 are_too_many Buffer ahead = false
