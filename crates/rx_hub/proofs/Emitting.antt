@@ -8,9 +8,8 @@ use Rattle.rx_note.specs.declared.rules.Rules.{Rules}
 use Rattle.rx_note.specs.declared.event.Event.TheVariants.{Emit}
 use Rattle.rx_note.specs.declared.answer.Answer.TheVariants.{Admitted}
 use Rattle.rx_note.specs.declared.refusal.Refusal.TheVariants as refused
-use Rattle.rx_note.specs.Signals.{Signal, Signals, terminal_of, given}
+use Rattle.rx_note.specs.Signals.{Signal, Signals, given}
 use Rattle.rx_history.specs.Histories.{History, ◌▹◌, end_of, is_ended, held, is_held, followed_by, signalled, signals, addressed}
-use Rattle.rx_history.proofs.Endings.{signals_open}
 use Rattle.rx_subject.specs.Subjects.{SubjectState, signals_by}
 use Rattle.rx_subject.specs.Subjects as subjects
 use Rattle.rx_subject.proofs.Standing.{not_ended, signals-signalled}
@@ -26,27 +25,25 @@ pub record Fed (table later : ℕ → Option Signals) (olds news : List Observer
 
 pub fed : (table later : ℕ → Option Signals) (signals : List Signal) (all : List ℕ) (olds news : List Observer) (given : List Given)
     → ((o : ℕ) → list_any (λ k. k == o) all ≡ true → later o ≡ option_map (λ s. followed_by s signals) (table o))
-    → ((o : ℕ) (s : Signals) → table o ≡ Some s → terminal_of s ≡ None)
     → AllAmong all (numbers olds) → AllStand table olds → AllFed signals olds news given → Fed table later olds news given
-fed table later signals all [] [] given more unended among stand feeds = record { same_numbers = refl; all_stand = tt; all_gained = feeds }
-fed table later signals all [] (new ∷ news) given more unended among stand feeds = absurd feeds
-fed table later signals all (old ∷ olds) [] given more unended among stand feeds = absurd feeds
-fed table later signals all (old ∷ olds) (new ∷ news) given more unended among stand feeds =
+fed table later signals all [] [] given more among stand feeds = record { same_numbers = refl; all_stand = tt; all_gained = feeds }
+fed table later signals all [] (new ∷ news) given more among stand feeds = absurd feeds
+fed table later signals all (old ∷ olds) [] given more among stand feeds = absurd feeds
+fed table later signals all (old ∷ olds) (new ∷ news) given more among stand feeds =
     let s = stand.0.these in
     let one = feeds.3 in
-    let now_open : terminal_of s ≡ None = unended old.who s stand.0.are in
     let is : later old.who ≡ Some (followed_by s signals) =
     more old.who among.0 ∙ ap (option_map (λ t. followed_by t signals)) stand.0.are in
-    let rest = fed table later signals all olds news feeds.1 more unended among.1 stand.1 feeds.4 in
+    let rest = fed table later signals all olds news feeds.1 more among.1 stand.1 feeds.4 in
     let mine : gains table later old.who ≡ addressed old.who feeds.0 =
-    gains-more table later old.who s (followed_by s signals) feeds.0 stand.0.are is (one.serves.gives s stand.0.stand now_open) in
+    gains-more table later old.who s (followed_by s signals) feeds.0 stand.0.are is (one.serves.gives s stand.0.stand) in
     record {
       same_numbers = ap (λ k. k ∷ numbers news) one.number ∙ ap (λ ks. old.who ∷ ks) rest.same_numbers;
       all_stand = (
         record {
           these = followed_by s signals;
           are = ap later one.number ∙ is;
-          stand = one.serves.goes_on s stand.0.stand now_open;
+          stand = one.serves.goes_on s stand.0.stand;
         },
         rest.all_stand,
       );
@@ -80,7 +77,6 @@ emit_admitted hub subject news before after H port note at unended takes feeds s
     let done = fed table later offers (held hub.rules H) hub.observers news feeds.0
     (λ o is_among. both (is_held hub.rules H o) (is_ended H) (option_map (λ s. followed_by s (signalled hub.rules H port note)) (table o)) (table o) is_among is
     ∙ ap (λ signals'. option_map (λ s. followed_by s signals') (table o)) told)
-    (λ o s has. signals_open hub.rules H o s none has)
     among stands.lanes_stand feeds.2 in
     record {
       answers = sym (ap (λ b. cond b (Err refused.Ended) (Ok Admitted)) is);

@@ -1,5 +1,6 @@
 pub mod Alone
 pub mod Asking
+pub mod Being
 pub mod Emitting
 pub mod Feeding
 pub mod Joining

@@ -1,6 +1,10 @@
 -- Seats on a tape: what others do to the tape leaves them as they are.
-use Rattle.std.proofs.Common.{◌≡◌, ◌≢◌, ℕ, ◌+◌, ◌-◌, ◌≤◌, Bool, true, false, List, ◌++◌, length, drop, Option, Some, option_to_list, refl, sym, ap, ◌∙◌, arith}
+use Rattle.std.proofs.Common.{◌≡◌, ◌≢◌, ℕ, ◌+◌, ◌-◌, ◌<◌, ◌≤◌, nat_le, Bool, true, false, cond, not, ◌&&◌, ◌⊎◌, inl, inr, List, ◌++◌, length, drop, Option, Some, option_to_list, refl, sym, ap, ◌∙◌, arith}
+use Rattle.std.proofs.lemmas.Bool.Decides.{nat_tests}
 use Rattle.std.proofs.lemmas.List.{length-drop, drop-drop}
+use Rattle.rx_history.proofs.Entries.{and_false}
+use Rattle.rx_lane.specs.Lanes.{LaneView}
+use Rattle.rx_lane.specs.Queues.{overfills}
 use Rattle.rx_note.specs.declared.item.Item.{Item}
 use Rattle.rx_tape.specs.Tapes.{TapeState, end_of, place_of, last_items, pushed, passed, trimmed, Spares}
 use Rattle.rx_tape.proofs.Lows.{lowest-le}
@@ -8,7 +12,7 @@ use Rattle.rx_lane.specs.TapeLanes.{StandsBack}
 use Rattle.rx_lane.proofs.Shared.{pushed_on}
 use Rattle.rx_hub.specs.declared.seat.Seat.{Seat}
 use Rattle.rx_hub.specs.declared.seat.Seat.TheVariants.{Shared, Own}
-use Rattle.rx_hub.specs.Seats.{lane_of, cursor_of, Stands, Leaves}
+use Rattle.rx_hub.specs.Seats.{lane_of, cursor_of, owing_of, overflows_at, Stands, Leaves}
 
 -- a cursor that did not move stands as it did
 pub back_same : {old new : TapeState} {cursor back : ℕ} → new.front ≡ old.front → new.items ≡ old.items → place_of new.places cursor ≡ place_of old.places cursor
@@ -76,3 +80,29 @@ trimmed_lane tape keep (Shared lane) stands =
     let waiting = ap (λ rest. option_to_list lane.lead ++ rest) (lasts_kept tape.items (passed tape keep) lane.back (back_passed tape keep lane.cursor lane.back stands)) in
     ap (λ (items : List Item). record { policy = lane.policy; items = items; last = lane.last; ended = lane.ended; owing = lane.owing }) waiting
 trimmed_lane tape keep (Own lane) stands = refl
+
+-- A QUEUE OF ITS OWN
+
+-- a seat that takes an item at once has not ended, and owes it
+pub takes_now : (ended : Bool) (owing : ℕ) → 0 < cond ended 0 owing → (ended ≡ false) × (0 < owing)
+takes_now true owing takes = absurd (omega (arith, takes))
+takes_now false owing takes = (refl, takes)
+
+-- it takes none where it has ended or owes none
+pub takes_none : (ended : Bool) (owing : ℕ) → cond ended 0 owing ≡ 0 → (ended ≡ true) ⊎ ((ended ≡ false) × (owing ≡ 0))
+takes_none true owing none = inl refl
+takes_none false owing none = inr (refl, none)
+
+-- an item that is taken at once does not overflow
+pub taken_fits : (lane : LaneView) → 0 < owing_of (Own lane) → overflows_at (Own lane) ≡ false
+taken_fits lane takes =
+    let now = takes_now lane.state.ended lane.state.owing takes in
+    let some : nat_le lane.state.owing 0 ≡ false = let more = now.1 in grind (arith, nat_tests) in
+    ap (λ b. not lane.state.ended && (b && overfills lane.state.policy.strategy (length lane.state.items))) some ∙ and_false (not lane.state.ended)
+
+-- one that fits and is not owed finds room
+pub room_for : (ended : Bool) (owing : ℕ) (over : Bool) → (not ended && (nat_le owing 0 && over)) ≡ false → ended ≡ false → owing ≡ 0 → over ≡ false
+room_for true owing over fits open_now none = cc
+room_for false owing over fits open_now none =
+    let zero_owed : nat_le owing 0 ≡ true = grind (arith, nat_tests) in
+    sym (ap (λ b. b && over) zero_owed) ∙ fits

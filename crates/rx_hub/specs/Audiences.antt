@@ -1,14 +1,15 @@
 -- Several observers on one tape: what contracts see of them, and how their cursors stand.
-use Rattle.std.specs.Prelude.{◌≡◌, ◌<◌, ℕ, max, Bool, List, [], ◌∷◌, ◌++◌, map, length, get_or, Option, None, Some}
+use Rattle.std.specs.Prelude.{◌≡◌, ◌<◌, ℕ, max, Bool, false, List, [], ◌∷◌, ◌++◌, map, length, get_or, Option, None, Some}
 use Rattle.std.specs.List.{All}
 use Rattle.rx_note.specs.declared.given.Given.{Given}
 use Rattle.rx_note.specs.declared.item.Item.{Item}
 use Rattle.rx_history.specs.Histories.{addressed}
 use Rattle.rx_tape.specs.Tapes.{TapeState}
 use Rattle.rx_tape.specs.Tapes as tapes
+use Rattle.rx_lane.specs.Lanes.{MayBeSent}
 use Rattle.rx_hub.specs.declared.seat.Seat.{Seat}
 use Rattle.rx_hub.specs.declared.subscription.Subscription.{Subscription}
-use Rattle.rx_hub.specs.Seats.{lane_of, cursor_of, owing_of, Stands, given_now}
+use Rattle.rx_hub.specs.Seats.{lane_of, cursor_of, owing_of, TakesMore, overflows_at, Stands, given_now}
 use Rattle.rx_hub.specs.Subscriptions.{Observer}
 
 -- an observer's number and its seat
@@ -40,7 +41,19 @@ AllOn tape offered places = All (λ place. Stands tape offered place.seat) place
 abbrev pub AllOwed : List Place → Type 0
 AllOwed places = All (λ place. 0 < owing_of place.seat) places
 
--- what an item that is offered to several gives at once, by rising place
+-- the subject may send more to each of them
+abbrev pub AllTakeMore : List Place → Type 0
+AllTakeMore places = All (λ place. TakesMore place.seat) places
+
+-- the same, told by the observers
+abbrev pub AllOpen : List Observer → Type 0
+AllOpen observers = All (λ observer. MayBeSent observer.lane.policy observer.lane.ended) observers
+
+-- an item that is offered now overflows at none of them
+abbrev pub AllFit : List Place → Type 0
+AllFit places = All (λ place. overflows_at place.seat ≡ false) places
+
+-- what an item that is offered to several, and fits, gives at once, by rising place
 abbrev pub gifts : Item → List Place → List Given
 gifts item [] = []
 gifts item (place ∷ places) = addressed place.who (given_now place.seat item) ++ gifts item places

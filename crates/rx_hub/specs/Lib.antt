@@ -4,4 +4,5 @@ pub mod Hubs
 pub mod Multicasts
 pub mod Runs
 pub mod Seats
+pub mod States
 pub mod Subscriptions

@@ -1,10 +1,10 @@
 -- Where what waits for an observer stands: on the tape that the observers share, or in a queue of its own.
-use Rattle.std.specs.Prelude.{◌≡◌, ◌≢◌, ℕ, ◌+◌, Bool, true, false, List, map, Option, None, Some, option_to_list, if◌then◌else◌}
+use Rattle.std.specs.Prelude.{◌≡◌, ◌≢◌, ℕ, ◌+◌, Bool, true, false, not, ◌&&◌, ◌||◌, List, map, Option, None, Some, option_to_list, if◌then◌else◌}
 use Rattle.rx_note.specs.declared.item.Item.{Item}
 use Rattle.rx_note.specs.declared.note.Note.{Note}
 use Rattle.rx_note.specs.declared.note.Note.TheVariants.{Next}
 use Rattle.rx_tape.specs.Tapes.{TapeState, place_of}
-use Rattle.rx_lane.specs.Lanes.{LaneState, HasRoomFor, loses_next}
+use Rattle.rx_lane.specs.Lanes.{LaneState, HasRoomFor, MayBeSent, loses_next, overflows_next}
 use Rattle.rx_lane.specs.TapeLanes.{StandsBack, lane_on, copy_for}
 use Rattle.rx_subject.specs.declared.offer.Offer.{Offer}
 use Rattle.rx_hub.specs.declared.seat.Seat.{Seat}
@@ -40,24 +40,35 @@ pub record Leaves (old new : TapeState) (cursor : Option ℕ) : Type 0 where
 abbrev pub IsAlone : TapeState → Option ℕ → Type 0
 IsAlone tape cursor = (other : ℕ) → cursor ≢ Some other → place_of tape.places other ≡ None
 
--- the copy of an item that its offer takes: on the tape one is needed where the item is owed, else where it isn't lost
+-- the subject may send more to a seat: one on the tape has no end, and one with a queue of its own tells whether it has
+abbrev pub TakesMore : Seat → Type 0
+TakesMore (Shared lane) = MayBeSent lane.policy lane.ended
+TakesMore (Own lane) = Unit {0}
+
+-- the copy of an item that its offer takes: on the tape one is needed where the item is owed, else where it isn't lost and the
+-- queue has not ended
 abbrev pub copy_needed : Seat → Item → Option Item
 copy_needed (Shared lane) item = copy_for lane.owing item
-copy_needed (Own lane) item = if loses_next lane.state then None else Some item
+copy_needed (Own lane) item = if lane.state.ended || loses_next lane.state then None else Some item
 
--- how many more items may be given before the observer requests more
+-- how many items are given at once that are offered: as many as are owed, and none once the seat has ended
 abbrev pub owing_of : Seat → ℕ
 owing_of (Shared lane) = lane.owing
-owing_of (Own lane) = lane.state.owing
+owing_of (Own lane) = if lane.state.ended then 0 else lane.state.owing
 
--- what an item that is offered gives at once
+-- whether an item that is offered now overflows and ends the seat
+abbrev pub overflows_at : Seat → Bool
+overflows_at (Shared lane) = false
+overflows_at (Own lane) = not lane.state.ended && overflows_next lane.state
+
+-- what an item that is offered and fits gives at once
 abbrev pub given_now : Seat → Item → List Note
 given_now seat item = map Next (option_to_list (copy_for (owing_of seat) item))
 
 -- this is the copy that a queue of its own keeps of an item that is not owed; on the tape none is kept
 abbrev pub HoldsCopy : Item → Option Item → Seat → Type 0
 HoldsCopy item copy (Shared lane) = Unit {0}
-HoldsCopy item copy (Own lane) = lane.state.owing ≡ 0 → copy ≡ copy_needed (Own lane) item
+HoldsCopy item copy (Own lane) = owing_of (Own lane) ≡ 0 → copy ≡ copy_needed (Own lane) item
 
 -- the same, where there may be no item
 abbrev pub needed : Seat → Option Item → Option Item

@@ -1,9 +1,9 @@
 -- The observers that a hub holds, and the signals that their queues stand for.
-use Rattle.std.specs.Prelude.{◌≡◌, ℕ, max, List, [], ◌∷◌, ◌++◌, map, get_or, set, Option, Some, None}
+use Rattle.std.specs.Prelude.{◌≡◌, ℕ, max, List, [], ◌∷◌, ◌++◌, map, get_or, set, Option, Some}
 use Rattle.rx_note.specs.declared.given.Given.{Given}
 use Rattle.rx_note.specs.declared.note.Note.{Note}
 use Rattle.rx_note.specs.declared.rules.Rules.{Rules}
-use Rattle.rx_note.specs.Signals.{Signal, Requested, Offered, Signals, Start, ◌▸◌, terminal_of, given}
+use Rattle.rx_note.specs.Signals.{Signal, Requested, Offered, Signals, Start, ◌▸◌, given}
 use Rattle.rx_note.specs.Choices.{Choice}
 use Rattle.rx_history.specs.Histories.{History, stamp, end_of, opening_by, ended_by, followed_by, addressed}
 use Rattle.rx_lane.specs.Lanes.{LaneState, StandsFor}
@@ -30,10 +30,10 @@ abbrev pub AllStand : (ℕ → Option Signals) → List Observer → Type 0
 AllStand table [] = Unit {0}
 AllStand table (observer ∷ observers) = StandsAt observer.lane (table observer.who) × AllStand table observers
 
--- by these signals exactly these notes are given from the queue
+-- by these signals of the subject exactly these notes are given from the queue
 pub record Serves (old new : LaneState) (signals : List Signal) (notes : List Note) : Type 0 where
-  pub gives : (s : Signals) → StandsFor old s → terminal_of s ≡ None → given (followed_by s signals) ≡ given s ++ notes
-  pub goes_on : (s : Signals) → StandsFor old s → terminal_of s ≡ None → StandsFor new (followed_by s signals)
+  pub gives : (s : Signals) → StandsFor old s → given (followed_by s signals) ≡ given s ++ notes
+  pub goes_on : (s : Signals) → StandsFor old s → StandsFor new (followed_by s signals)
 
 -- by these signals exactly these notes are given to the observer
 pub record Feeds (old new : Observer) (signals : List Signal) (notes : List Note) : Type 0 where

@@ -5,6 +5,7 @@ ghost use Rattle.rx_history.specs.Histories.{History};
 ghost use Rattle.rx_hub.specs.Hubs.{StandsFor, Takes};
 ghost use Rattle.rx_hub.specs.Counts.{waiting_count};
 ghost use Rattle.rx_hub.specs.Audiences.{most_waiting};
+ghost use Rattle.rx_hub.specs.States.{state_by, IsOfHistory};
 
 use crate::audience::Audience;
 use crate::no_observer::NoObserver;
@@ -23,6 +24,8 @@ pub(crate) struct Multicast {
     ghost fits: { (length audience.observers ≤ limits.observers) × (limits.observers < 2 ^ 32) },
     // What the subject keeps is on the tape.
     ghost within: { length subject.stamps ≤ length audience.items },
+    // It stands for some history.
+    ghost stands: { IsOfHistory (state_by limits subject joins audience) },
     // No more items are on the tape than the most that wait for one observer, or are kept for joiners.
     ghost tight: { length audience.items ≤ max (length subject.stamps) (most_waiting audience.observers) },
 }

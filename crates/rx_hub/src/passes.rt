@@ -1,5 +1,5 @@
 // The passes of an emission over all observers: what may be refused comes in the first, and what can't fail in the second.
-ghost use Rattle.std.specs.Prelude.{◌≡◌, ◌+◌, ◌*◌, ◌<◌, ◌≤◌, ◌↔◌, ◌==◌, ◌++◌, ◌∷◌, [], List, take, is_some, option_to_list, true, false, IsTrue, OnOk, vec_len, vec_capacity};
+ghost use Rattle.std.specs.Prelude.{◌≡◌, ◌+◌, ◌*◌, ◌<◌, ◌≤◌, ◌↔◌, ◌==◌, ◌++◌, ◌∷◌, [], List, take, is_some, option_to_list, true, false, IsTrue, IfOk, OnOk, vec_len, vec_capacity};
 ghost use Rattle.std.specs.List.{All};
 ghost use Rattle.rx_note.specs.declared.item.Item.{Item};
 ghost use Rattle.rx_note.specs.Signals.{Offered};
@@ -7,7 +7,7 @@ ghost use Rattle.rx_tape.specs.Tapes.{TapeState};
 ghost use Rattle.rx_subject.specs.Offers.{offer_signals};
 ghost use Rattle.rx_hub.specs.Seats.{IsReady, HoldsCopy};
 ghost use Rattle.rx_hub.specs.Subscriptions.{AllFedInto};
-ghost use Rattle.rx_hub.specs.Audiences.{places_of, observers_on, gifts, AllOn, AllOwed, Apart, Owned, cursors};
+ghost use Rattle.rx_hub.specs.Audiences.{places_of, observers_on, gifts, AllOn, AllOwed, AllTakeMore, AllFit, Apart, Owned, cursors};
 
 use crate::subscription::Subscription;
 use rx_heap::{Heap, Memory};
@@ -112,29 +112,34 @@ fn put_copies(
 }
 
 // Puts a copy of an item at the end of `outs` for each observer to which it is owed, and makes ready the copies that others
-// keep. On `Memory` some may have been put.
+// keep. Whether it fits all of them; where it overflows at one, and on `Memory`, some may have been put.
 pub(crate) fn give_item(
     subscriptions: &mut Vec<Subscription, Heap>,
     item: &Item,
     outs: &mut Vec<Given, Heap>,
-) -> Result<(), Memory>
+) -> Result<bool, Memory>
     requires { vec_len outs.old + vec_len subscriptions.old ≤ vec_capacity outs.old }
     ensures places { places_of subscriptions.new.items ≡ places_of subscriptions.old.items }
     ensures len { vec_len subscriptions.new ≡ vec_len subscriptions.old }
-    ensures given { OnOk result (outs.new.items ≡ outs.old.items ++ gifts item.now (places_of subscriptions.old.items)) }
-    ensures holds { OnOk result (All (λ s. HoldsCopy item.now s.ready.item s.seat) subscriptions.new.items) }
+    ensures fits { IfOk result (λ fits. fits ≡ true → AllFit (places_of subscriptions.old.items)) }
+    ensures given { IfOk result (λ fits. fits ≡ true → outs.new.items ≡ outs.old.items ++ gifts item.now (places_of subscriptions.old.items)) }
+    ensures holds { IfOk result (λ fits. fits ≡ true → All (λ s. HoldsCopy item.now s.ready.item s.seat) subscriptions.new.items) }
     ensures front { take (vec_len outs.old) outs.new.items ≡ outs.old.items }
 {
     for i in 0..subscriptions.len() {
-        subscriptions[i].give_now(item, outs)?;
+        let fits = subscriptions[i].give_now(item, outs)?;
+        if !fits {
+            return Ok(false);
+        }
     }
-    Ok(())
+    Ok(true)
 }
 
 // Passes an item that each observer is owed and was given, and that is not on the tape.
 #[inline(always)]
 pub(crate) fn pass_owed_all(subscriptions: &mut Vec<Subscription, Heap>)
-    requires { AllOwed (places_of subscriptions.old.items) }
+    requires owed { AllOwed (places_of subscriptions.old.items) }
+    requires open { AllTakeMore (places_of subscriptions.old.items) }
     ensures fed { (items : List Item) (item : Item) → AllFedInto (Offered item ∷ []) (observers_on items (places_of subscriptions.old.items))
         (observers_on items (places_of subscriptions.new.items)) [] (gifts item (places_of subscriptions.old.items)) }
     ensures on { (tape : TapeState) → AllOn tape false (places_of subscriptions.old.items) → AllOn tape false (places_of subscriptions.new.items) }
@@ -145,9 +150,11 @@ pub(crate) fn pass_owed_all(subscriptions: &mut Vec<Subscription, Heap>)
     }
 }
 
-// Offers each observer the last item of the tape, which was given already if it is owed.
+// Offers each observer the last item of the tape, which fits, and was given already if it is owed.
 pub(crate) fn pass_all(subscriptions: &mut Vec<Subscription, Heap>, tape: &mut Tape)
     requires on { AllOn tape.old true (places_of subscriptions.old.items) }
+    requires open { AllTakeMore (places_of subscriptions.old.items) }
+    requires fits { AllFit (places_of subscriptions.old.items) }
     requires apart { Apart (places_of subscriptions.old.items) }
     ensures fed { (items : List Item) (item : Item) → tape.old.items ≡ items ++ item ∷ [] → All (λ s. HoldsCopy item s.ready.item s.seat) subscriptions.old.items
         → AllFedInto (Offered item ∷ []) (observers_on items (places_of subscriptions.old.items))
@@ -186,6 +193,7 @@ pub(crate) fn feed_all(
 )
     requires ready { All (λ s. IsReady offer.now s.ready s.seat) subscriptions.old.items }
     requires on { AllOn tape.old (is_some offer.now.item) (places_of subscriptions.old.items) }
+    requires open { AllTakeMore (places_of subscriptions.old.items) }
     requires apart { Apart (places_of subscriptions.old.items) }
     requires outs_room { vec_len outs.old + 2 * vec_len subscriptions.old ≤ vec_capacity outs.old }
     ensures fed { (items : List Item) → tape.old.items ≡ items ++ option_to_list offer.now.item

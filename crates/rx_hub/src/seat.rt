@@ -8,7 +8,7 @@ ghost use Rattle.rx_lane.specs.Lanes.{StandsFor, HasRoomFor};
 ghost use Rattle.rx_lane.specs.Queues.{HasRoom};
 ghost use Rattle.rx_lane.specs.TapeLanes.{HoldsSame};
 ghost use Rattle.rx_hub.specs.declared.seat.Seat.TheVariants.{Own};
-ghost use Rattle.rx_hub.specs.Seats.{copy_needed, given_now};
+ghost use Rattle.rx_hub.specs.Seats.{HoldsCopy, given_now, overflows_at};
 ghost use Rattle.rx_hub.specs.Subscriptions.{Serves, BeginsInto};
 
 use rx_heap::{Heap, Memory};
@@ -21,12 +21,12 @@ use rx_tape::Tape;
 pub(crate) enum Seat {
     /// On the tape that the observers share.
     Shared(TapeLane),
-    /// In a queue of its own: what waits under `Drop` is no end of the tape.
+    /// In a queue of its own: what waits under `Drop` is no end of the tape, and under `Bounded` it may end before the others.
     Own(Lane),
 }
 
 impl Seat {
-    ghost use Rattle.rx_hub.specs.Seats.{lane_of, cursor_of, owing_of, Stands, Leaves, HoldsCopy, copy_needed, given_now, needed};
+    ghost use Rattle.rx_hub.specs.Seats.{lane_of, cursor_of, owing_of, Stands, Leaves, TakesMore, HoldsCopy, copy_needed, given_now, needed, overflows_at};
 
     /// The seat of an observer that joins with this policy and a request of `first` items, and is then offered `lead`, if
     /// there is one, and the last `back` items of the tape. What it gives at once is put at the end of `notes`. `Memory`
@@ -43,12 +43,13 @@ impl Seat {
         ensures err { OnErr result (HoldsSame tape.old tape.new) }
         ensures begins { IfOk result (λ seat. BeginsInto (lane_of tape.new.items seat) policy first (map Offered (waits lead tape.old.items back)) notes.old.items notes.new.items) }
         ensures stands { IfOk result (λ seat. Stands tape.new false seat) }
+        ensures open { IfOk result (λ seat. TakesMore seat) }
         ensures fresh { IfOk result (λ seat. (cursor : ℕ) → cursor_of seat ≡ Some cursor → place_of tape.old.places cursor ≡ None) }
         ensures leaves { IfOk result (λ seat. Leaves tape.old tape.new (cursor_of seat)) }
         ensures count { IfOk result (λ seat. length notes.new.items ≤ length notes.old.items + length (option_to_list lead) + back) }
     {
         match policy.strategy() {
-            Strategy::Drop(_) => {
+            Strategy::Drop(_) | Strategy::Bounded(_) => {
                 let lane = own_lane(policy, first, lead, back, tape, notes)?;
                 Ok(Seat::Own(lane))
             }
@@ -59,13 +60,13 @@ impl Seat {
         }
     }
 
-    /// How many more items may be given before the observer requests more.
+    /// How many items are given at once that are offered: as many as are owed, and none once it has ended.
     pub(crate) fn owed(&self) -> u32
-        ensures lane { (items : List Item) → result ≡ (lane_of items self.now).owing }
-        ensures owing { result ≡ owing_of self.now }
+        ensures { result ≡ owing_of self.now }
     {
         match self {
             Seat::Shared(lane) => lane.owed(),
+            Seat::Own(lane) if lane.is_ended() => 0,
             Seat::Own(lane) => lane.owed(),
         }
     }
@@ -106,24 +107,27 @@ impl Seat {
     {
         match self {
             Seat::Shared(lane) => lane.owed() > 0,
-            Seat::Own(lane) => !lane.loses_next(),
+            Seat::Own(lane) => !(lane.is_ended() || lane.loses_next()),
         }
     }
 
-    /// Offers the last item of the tape, with the copy that is needed, which comes back where it is given at once.
+    /// Offers the last item of the tape, with the copy that is needed. What it gives at once comes back: the item, or the error
+    /// of an overflow.
     #[inline(always)]
-    pub(crate) fn offer(&mut self, copy: Option<Item>, tape: &mut Tape) -> Option<Item>
-        requires { Stands tape.old true self.old }
+    pub(crate) fn offer(&mut self, copy: Option<Item>, tape: &mut Tape) -> Option<Note>
+        requires stands { Stands tape.old true self.old }
+        requires open { TakesMore self.old }
         ensures serves { (items : List Item) (item : Item) → tape.old.items ≡ items ++ item ∷ [] → copy ≡ copy_needed self.old item
-            → Serves (lane_of items self.old) (lane_of tape.new.items self.new) (Offered item ∷ []) (map Next (option_to_list result)) }
+            → Serves (lane_of items self.old) (lane_of tape.new.items self.new) (Offered item ∷ []) (option_to_list result) }
         ensures stands { Stands tape.new false self.new }
+        ensures open { TakesMore self.new }
         ensures cursor { cursor_of self.new ≡ cursor_of self.old }
         ensures leaves { Leaves tape.old tape.new (cursor_of self.old) }
     {
         match self {
-            Seat::Shared(lane) => lane.offer(copy, tape),
+            Seat::Shared(lane) => note_of(lane.offer(copy, tape)),
             Seat::Own(lane) => match copy {
-                Some(item) => lane.offer(item),
+                Some(item) => offer_own(lane, item),
                 None => None,
             },
         }
@@ -132,7 +136,9 @@ impl Seat {
     /// Offers the last item of the tape, which was given already if it is owed; a queue of its own that keeps it takes the copy.
     #[inline(always)]
     pub(crate) fn pass(&mut self, copy: &mut Option<Item>, tape: &mut Tape)
-        requires { Stands tape.old true self.old }
+        requires stands { Stands tape.old true self.old }
+        requires open { TakesMore self.old }
+        requires fits { overflows_at self.old ≡ false }
         ensures serves { (items : List Item) (item : Item) → tape.old.items ≡ items ++ item ∷ [] → HoldsCopy item copy.old self.old
             → Serves (lane_of items self.old) (lane_of tape.new.items self.new) (Offered item ∷ []) (given_now self.old item) }
         ensures stands { Stands tape.new false self.new }
@@ -148,7 +154,8 @@ impl Seat {
     /// Passes an item that is owed and was given, and that is not on the tape.
     #[inline(always)]
     pub(crate) fn pass_owed(&mut self)
-        requires { 0 < owing_of self.old }
+        requires owed { 0 < owing_of self.old }
+        requires open { TakesMore self.old }
         ensures serves { (items : List Item) (item : Item) → Serves (lane_of items self.old) (lane_of items self.new) (Offered item ∷ []) (given_now self.old item) }
         ensures stands { (tape : TapeState) → Stands tape false self.old → Stands tape false self.new }
         ensures cursor { cursor_of self.new ≡ cursor_of self.old }
@@ -161,7 +168,8 @@ impl Seat {
 
     /// Ends the queue by a terminal, which comes back where it is given at once.
     pub(crate) fn end(&mut self, note: Note, tape: &mut Tape) -> Option<Note>
-        requires { Stands tape.old false self.old }
+        requires stands { Stands tape.old false self.old }
+        requires open { TakesMore self.old }
         ensures serves { Serves (lane_of tape.old.items self.old) (lane_of tape.new.items self.new) (Ended note ∷ []) (option_to_list result) }
         ensures stands { Stands tape.new false self.new }
         ensures cursor { cursor_of self.new ≡ cursor_of self.old }
@@ -169,7 +177,7 @@ impl Seat {
     {
         match self {
             Seat::Shared(lane) => lane.end_on(note, tape),
-            Seat::Own(lane) => lane.end(note),
+            Seat::Own(lane) => end_own(lane, note),
         }
     }
 
@@ -208,13 +216,53 @@ fn own_lane(
     Ok(lane)
 }
 
-// Offers an item to a queue of its own, which was given already if it is owed; else the queue takes the copy, if it keeps one.
-fn pass_own(lane: &mut Lane, copy: Option<Item>)
+// Offers an item to a queue of its own. What it gives at once comes back; one that has ended gives nothing.
+fn offer_own(lane: &mut Lane, item: Item) -> Option<Note>
     requires { (count : ℕ) → HasRoomFor lane.old count }
-    ensures serves { (item : Item) → (lane.old.state.owing ≡ 0 → copy ≡ copy_needed (Own lane.old) item)
+    ensures serves { Serves lane.old.state lane.new.state (Offered item ∷ []) (option_to_list result) }
+    ensures room { (count : ℕ) → HasRoomFor lane.new count }
+{
+    if lane.is_ended() {
+        return None;
+    }
+    lane.offer(item)
+}
+
+// Ends a queue of its own, if it has not ended by an overflow. The terminal comes back where it is given at once.
+fn end_own(lane: &mut Lane, note: Note) -> Option<Note>
+    requires { (count : ℕ) → HasRoomFor lane.old count }
+    ensures serves { Serves lane.old.state lane.new.state (Ended note ∷ []) (option_to_list result) }
+    ensures room { (count : ℕ) → HasRoomFor lane.new count }
+{
+    if lane.is_ended() {
+        return None;
+    }
+    lane.end(note)
+}
+
+// An item as a note.
+#[inline(always)]
+fn note_of(item: Option<Item>) -> Option<Note>
+    ensures { option_to_list result ≡ map Next (option_to_list item) }
+{
+    match item {
+        Some(item) => Some(Note::Next(item)),
+        None => None,
+    }
+}
+
+// Offers an item that fits to a queue of its own, which was given already if it is owed; else the queue takes the copy, if it
+// keeps one.
+fn pass_own(lane: &mut Lane, copy: Option<Item>)
+    requires room { (count : ℕ) → HasRoomFor lane.old count }
+    requires fits { overflows_at (Own lane.old) ≡ false }
+    ensures serves { (item : Item) → HoldsCopy item copy (Own lane.old)
         → Serves lane.old.state lane.new.state (Offered item ∷ []) (given_now (Own lane.old) item) }
     ensures room { (count : ℕ) → HasRoomFor lane.new count }
 {
+    if lane.is_ended() {
+        return;
+    }
     if lane.owed() > 0 {
         lane.pass();
     } else if let Some(item) = copy {
@@ -263,19 +311,19 @@ fn offer_all(lane: &mut Lane, items: Vec<Item, Heap>, notes: &mut Vec<Note, Heap
     ensures len { vec_len notes.new ≤ vec_len notes.old + vec_len items }
 {
     for item in items {
-        let came = lane.offer(item);
+        let came = offer_own(lane, item);
         put(came, notes);
     }
 }
 
-// Puts an item, if there is one, at the end of `notes`.
-fn put(item: Option<Item>, notes: &mut Vec<Note, Heap>)
+// Puts a note, if there is one, at the end of `notes`.
+fn put(note: Option<Note>, notes: &mut Vec<Note, Heap>)
     requires { vec_len notes.old < vec_capacity notes.old }
-    ensures items { notes.new.items ≡ notes.old.items ++ map Next (option_to_list item) }
+    ensures items { notes.new.items ≡ notes.old.items ++ option_to_list note }
     ensures len { vec_len notes.new ≤ vec_len notes.old + 1 }
     ensures capacity { vec_capacity notes.new ≡ vec_capacity notes.old }
 {
-    if let Some(item) = item {
-        notes.push_reserved(Note::Next(item));
+    if let Some(note) = note {
+        notes.push_reserved(note);
     }
 }

@@ -6,7 +6,7 @@ ghost use Rattle.rx_history.specs.Histories.{addressed, ended_by};
 ghost use Rattle.rx_lane.specs.Lanes.{HasRoomFor, GivesTo, GoesOn};
 ghost use Rattle.rx_subject.specs.Offers.{offer_signals};
 ghost use Rattle.rx_hub.specs.declared.seat.Seat.TheVariants.{Own};
-ghost use Rattle.rx_hub.specs.Seats.{lane_of, cursor_of, Stands, Leaves, IsAlone, HoldsCopy, copy_needed, given_now, needed, owing_of, IsReady};
+ghost use Rattle.rx_hub.specs.Seats.{lane_of, cursor_of, Stands, Leaves, IsAlone, TakesMore, HoldsCopy, copy_needed, given_now, needed, owing_of, overflows_at, IsReady};
 ghost use Rattle.rx_hub.specs.Subscriptions.{Serves, Feeds, FeedsInto, AsksInto};
 
 use crate::seat::Seat;
@@ -61,17 +61,19 @@ impl Subscription {
     }
 
     /// Puts a copy of an item at the end of `outs` if it is owed; of one that is not, makes ready the copy that a queue of its
-    /// own keeps.
+    /// own keeps. Whether the item fits; where it overflows, nothing is put.
     #[inline(always)]
     pub(crate) fn give_now(
         &mut self,
         item: &Item,
         outs: &mut Vec<Given, Heap>,
-    ) -> Result<(), Memory>
+    ) -> Result<bool, Memory>
         requires { vec_len outs.old < vec_capacity outs.old }
         ensures place { place_of self.new ≡ place_of self.old }
-        ensures given { OnOk result (outs.new.items ≡ outs.old.items ++ addressed self.old.who (given_now self.old.seat item.now)) }
-        ensures holds { OnOk result (HoldsCopy item.now self.new.ready.item self.new.seat) }
+        ensures fits { IfOk result (λ fits. fits ≡ true → overflows_at self.old.seat ≡ false) }
+        ensures given { IfOk result (λ fits. fits ≡ true → outs.new.items ≡ outs.old.items ++ addressed self.old.who (given_now self.old.seat item.now)) }
+        ensures holds { IfOk result (λ fits. fits ≡ true → HoldsCopy item.now self.new.ready.item self.new.seat) }
+        ensures none { IfOk result (λ fits. fits ≡ false → outs.new.items ≡ outs.old.items) }
         ensures err { OnErr result (outs.new.items ≡ outs.old.items) }
         ensures len { vec_len outs.new ≤ vec_len outs.old + 1 }
         ensures capacity { vec_capacity outs.new ≡ vec_capacity outs.old }
@@ -79,15 +81,20 @@ impl Subscription {
         if self.seat.owed() > 0 {
             self.give(item.copy()?, outs);
         } else if let Seat::Own(lane) = &self.seat {
+            if overflows(lane) {
+                return Ok(false);
+            }
             self.ready.item = copy_kept(lane, item)?;
         }
-        Ok(())
+        Ok(true)
     }
 
     /// Offers the last item of the tape, which was given already if it is owed.
     #[inline(always)]
     pub(crate) fn pass(&mut self, tape: &mut Tape)
-        requires { Stands tape.old true self.old.seat }
+        requires stands { Stands tape.old true self.old.seat }
+        requires open { TakesMore self.old.seat }
+        requires fits { overflows_at self.old.seat ≡ false }
         ensures fed { (items : List Item) (item : Item) → tape.old.items ≡ items ++ item ∷ [] → HoldsCopy item self.old.ready.item self.old.seat
             → Feeds (observer_on items (place_of self.old)) (observer_on tape.new.items (place_of self.new)) (Offered item ∷ []) (given_now self.old.seat item) }
         ensures stands { Stands tape.new false self.new.seat }
@@ -100,7 +107,8 @@ impl Subscription {
     /// Passes an item that is owed and was given, and that is not on the tape.
     #[inline(always)]
     pub(crate) fn pass_owed(&mut self)
-        requires { 0 < owing_of self.old.seat }
+        requires owed { 0 < owing_of self.old.seat }
+        requires open { TakesMore self.old.seat }
         ensures fed { (items : List Item) (item : Item) → Feeds (observer_on items (place_of self.old)) (observer_on items (place_of self.new)) (Offered item ∷ []) (given_now self.old.seat item) }
         ensures stands { (tape : TapeState) → Stands tape false self.old.seat → Stands tape false self.new.seat }
         ensures cursor { cursor_of self.new.seat ≡ cursor_of self.old.seat }
@@ -122,6 +130,7 @@ impl Subscription {
     #[inline(always)]
     pub(crate) fn feed(&mut self, offer: &Offer, tape: &mut Tape, outs: &mut Vec<Given, Heap>)
         requires stands { Stands tape.old (is_some offer.now.item) self.old.seat }
+        requires open { TakesMore self.old.seat }
         requires ready { IsReady offer.now self.old.ready self.old.seat }
         requires room { vec_len outs.old + 2 ≤ vec_capacity outs.old }
         ensures fed { (items : List Item) → tape.old.items ≡ items ++ option_to_list offer.now.item
@@ -225,11 +234,18 @@ fn ask_own(
     Ok(())
 }
 
-// A copy of an item that is not owed, where the queue does not lose it.
+// Whether an item that is offered now overflows a queue.
+fn overflows(lane: &Lane) -> bool
+    ensures { result ≡ overflows_at (Own lane.now) }
+{
+    !lane.is_ended() && lane.overflows_next()
+}
+
+// A copy of an item that is not owed, where the queue has not ended and does not lose it.
 fn copy_kept(lane: &Lane, item: &Item) -> Result<Option<Item>, Memory>
     ensures { IfOk result (λ copy. copy ≡ copy_needed (Own lane.now) item.now) }
 {
-    if lane.loses_next() {
+    if lane.is_ended() || lane.loses_next() {
         Ok(None)
     } else {
         Ok(Some(item.copy()?))
@@ -245,26 +261,26 @@ fn offer_to(
     copy: Option<Item>,
     tape: &mut Tape,
 ) -> Option<Note>
-    requires { Stands tape.old (is_some item.now) seat.old }
+    requires stands { Stands tape.old (is_some item.now) seat.old }
+    requires open { TakesMore seat.old }
     ensures serves { (items : List Item) → tape.old.items ≡ items ++ option_to_list item.now → copy ≡ needed seat.old item.now
         → Serves (lane_of items seat.old) (lane_of tape.new.items seat.new) (map Offered (option_to_list item.now)) (option_to_list result) }
     ensures stands { Stands tape.new false seat.new }
+    ensures open { TakesMore seat.new }
     ensures cursor { cursor_of seat.new ≡ cursor_of seat.old }
     ensures leaves { Leaves tape.old tape.new (cursor_of seat.old) }
 {
     if item.is_none() {
         return None;
     }
-    match seat.offer(copy, tape) {
-        Some(item) => Some(Note::Next(item)),
-        None => None,
-    }
+    seat.offer(copy, tape)
 }
 
 // Ends a queue by a terminal, if there is one, and answers it where it is given at once.
 #[inline(always)]
 pub(crate) fn end_by(seat: &mut Seat, end: Option<Note>, tape: &mut Tape) -> Option<Note>
-    requires { Stands tape.old false seat.old }
+    requires stands { Stands tape.old false seat.old }
+    requires open { TakesMore seat.old }
     ensures serves { Serves (lane_of tape.old.items seat.old) (lane_of tape.new.items seat.new) (ended_by end) (option_to_list result) }
     ensures stands { Stands tape.new false seat.new }
     ensures cursor { cursor_of seat.new ≡ cursor_of seat.old }

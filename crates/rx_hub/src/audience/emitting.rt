@@ -12,6 +12,7 @@ ghost use Rattle.rx_subject.specs.Subjects.{offered_by, signals_by};
 ghost use Rattle.rx_subject.specs.Subjects as subjects;
 ghost use Rattle.rx_subject.specs.TapeSubjects.{subject_on};
 ghost use Rattle.rx_hub.specs.Subscriptions.{AllFedInto};
+ghost use Rattle.rx_hub.specs.Audiences.{AllOpen};
 
 use crate::audience::Audience;
 use crate::passes::{
@@ -36,6 +37,7 @@ impl Audience {
     ) -> Result<(), Memory>
         requires stamps { length subject.old.stamps ≤ length self.old.items }
         requires open { is_some subject.old.terminal ≡ false }
+        requires all_open { AllOpen self.old.observers }
         ensures err { OnErr result ((subject.new ≡ subject.old) × (self.new ≡ self.old) × (outs.new.items ≡ outs.old.items)) }
         ensures stands { OnOk result ((rules : Rules) (H : History) → subjects.StandsFor (subject_on self.old.items subject.old) rules H
             → subjects.StandsFor (subject_on self.new.items subject.new) rules (H ▹ (port, Emit note at))) }
@@ -67,6 +69,7 @@ impl Audience {
     ) -> Result<(), Memory>
         requires stamps { length subject.old.stamps ≤ length self.old.items }
         requires open { is_some subject.old.terminal ≡ false }
+        requires all_open { AllOpen self.old.observers }
         requires offered { subject.old.kind ≢ Async }
         ensures err { OnErr result ((subject.new ≡ subject.old) × (self.new ≡ self.old) × (outs.new.items ≡ outs.old.items)) }
         ensures stands { OnOk result ((from : ℕ) (rules : Rules) (H : History) → subjects.StandsFor (subject_on self.old.items subject.old) rules H
@@ -89,8 +92,9 @@ impl Audience {
         self.put_item(subject, item, at, outs)
     }
 
-    // The same by the tape. What is given is put where it goes in the first pass. It is kept out of line, as all is that is
-    // rarer than an item that goes by no tape.
+    // The same by the tape. What is given is put where it goes in the first pass, unless the item overflows at an observer, whose
+    // error stands among what the others are given. It is kept out of line, as all is that is rarer than an item that goes by
+    // no tape.
     #[inline(never)]
     fn put_item(
         &mut self,
@@ -101,6 +105,7 @@ impl Audience {
     ) -> Result<(), Memory>
         requires stamps { length subject.old.stamps ≤ length self.old.items }
         requires open { is_some subject.old.terminal ≡ false }
+        requires all_open { AllOpen self.old.observers }
         requires offered { subject.old.kind ≢ Async }
         ensures err { OnErr result ((subject.new ≡ subject.old) × (self.new ≡ self.old) × (outs.new.items ≡ outs.old.items)) }
         ensures stands { OnOk result ((from : ℕ) (rules : Rules) (H : History) → subjects.StandsFor (subject_on self.old.items subject.old) rules H
@@ -111,10 +116,14 @@ impl Audience {
     {
         let before = outs.len();
         make_room(outs, self.subscriptions.len())?;
-        let Ok(()) = give_item(&mut self.subscriptions, &item, outs) else {
+        let Ok(fits) = give_item(&mut self.subscriptions, &item, outs) else {
             outs.truncate(before);
             return Err(Memory);
         };
+        if !fits {
+            outs.truncate(before);
+            return self.admit_offer(subject, item.from, Note::Next(item), at, outs);
+        }
         let Ok(()) = subject.admit_on(item, at, &mut self.tape) else {
             outs.truncate(before);
             return Err(Memory);
@@ -123,7 +132,7 @@ impl Audience {
         Ok(())
     }
 
-    // Has the subject admit a note that ends it, or an item that it keeps back.
+    // Has the subject admit a note that ends it or an observer, or an item that it keeps back.
     #[inline(never)]
     fn admit_offer(
         &mut self,
@@ -133,7 +142,8 @@ impl Audience {
         at: u64,
         outs: &mut Vec<Given, Heap>,
     ) -> Result<(), Memory>
-        requires { length subject.old.stamps ≤ length self.old.items }
+        requires stamps { length subject.old.stamps ≤ length self.old.items }
+        requires all_open { AllOpen self.old.observers }
         ensures err { OnErr result ((subject.new ≡ subject.old) × (self.new ≡ self.old) × (outs.new.items ≡ outs.old.items)) }
         ensures stands { OnOk result ((rules : Rules) (H : History) → subjects.StandsFor (subject_on self.old.items subject.old) rules H
             → subjects.StandsFor (subject_on self.new.items subject.new) rules (H ▹ (port, Emit note at))) }
@@ -159,6 +169,7 @@ impl Audience {
     ) -> Result<(), Memory>
         requires stamps { length subject.old.stamps ≤ length self.old.items }
         requires item { offered_by (subject_on self.old.items subject.old) port note ≡ option_to_list offer.now.item }
+        requires all_open { AllOpen self.old.observers }
         ensures err { OnErr result ((subject.new ≡ subject.old) × (self.new ≡ self.old) × (outs.new.items ≡ outs.old.items)) }
         ensures stands { OnOk result ((rules : Rules) (H : History) → subjects.StandsFor (subject_on self.old.items subject.old) rules H
             → subjects.StandsFor (subject_on self.new.items subject.new) rules (H ▹ (port, Emit note at))) }

@@ -17,7 +17,7 @@ returns-then-owed-eq0 c =
           let here : 0 < owing_of one.seat =
           subst (λ (p : Place). 0 < owing_of p.seat) (place-at subs i one (place_of one) lt c.index.ensures)
           (all i (place_of one) (omega (arith, lt, length-map subs place_of))) in
-          absurd (omega (arith, here, c.owed.ensures.owing, c.if-owed-eq0.true)),
+          absurd (omega (arith, here, c.owed.ensures, c.if-owed-eq0.true)),
     )
 
 pub loop-i-preserved : goal.loop-i-preserved
@@ -26,7 +26,7 @@ loop-i-preserved c =
     let i = c.loop-i.i in
     let one = c.index.result.now in
     let within : i < length subs = omega arith in
-    let here : 0 < owing_of one.seat = omega (arith, c.owed.ensures.owing) in
+    let here : 0 < owing_of one.seat = omega (arith, c.owed.ensures) in
     record {
       owed = λ k d from below. elim (cases_lt k i) [
         | inl lt ↦ c.loop-i.invariant.owed k d from lt

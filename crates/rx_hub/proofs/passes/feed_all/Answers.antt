@@ -3,7 +3,7 @@ use Rattle.std.proofs.lemmas.List.{take_all, length-map, map-set}
 use Rattle.rx_note.specs.declared.item.Item.{Item}
 use Rattle.rx_subject.specs.Offers.{offer_signals}
 use Rattle.rx_hub.specs.declared.subscription.Subscription.{Subscription}
-use Rattle.rx_hub.specs.Seats.{Stands, IsReady}
+use Rattle.rx_hub.specs.Seats.{Stands, TakesMore, IsReady}
 use Rattle.rx_hub.specs.Subscriptions.{Observer, FeedsInto, AllFedInto}
 use Rattle.rx_hub.specs.Audiences.{Place, place_of, places_of, observer_on, observers_on}
 use Rattle.rx_hub.specs.Audiences as audiences
@@ -34,6 +34,16 @@ feed-requires-clause-stands c =
     let lt : c.loop-i.i < length subs = omega arith in
     let on = c.loop-i.invariant.turning.left c.loop-i.i (place_of one) (omega arith) (omega (arith, lt, length-map subs place_of)) in
     subst (λ (p : Place). Stands c.loop-i.tape (is_some c.args.offer.now.item) p.seat) (place-at subs c.loop-i.i one (place_of one) lt c.index_mut.ensures.value) on
+
+pub feed-requires-clause-open : goal.feed-requires-clause-open
+feed-requires-clause-open c =
+    let olds = c.args.subscriptions.now.items in
+    let i = c.loop-i.i in
+    let one = c.index_mut.result.now in
+    let lt_old : i < length olds = omega (arith, c.loop-i.invariant.len) in
+    let is_old = c.index_mut.ensures.value ∙ still-at olds c.loop-i.subscriptions.items i one c.loop-i.invariant.rest in
+    subst (λ (p : Place). TakesMore p.seat) (place-at olds i one (place_of one) lt_old is_old)
+    (c.requires.open i (place_of one) (omega (arith, lt_old, length-map olds place_of)))
 
 pub feed-requires-clause-ready : goal.feed-requires-clause-ready
 feed-requires-clause-ready c =

@@ -1,10 +1,10 @@
-use Rattle.std.proofs.Common.{◌≡◌, ◌<◌, ◌+◌, ◌∷◌, [], List, length, take, get_or, set, true, refl, sym, ap, subst, ◌∙◌, arith}
+use Rattle.std.proofs.Common.{◌≡◌, ◌<◌, ◌+◌, ◌∷◌, [], List, length, take, get_or, set, true, false, refl, sym, ap, subst, ◌∙◌, arith}
 use Rattle.std.proofs.lemmas.List.{take_all, length-map, map-set}
 use Rattle.rx_note.specs.declared.given.Given.{Given}
 use Rattle.rx_note.specs.declared.item.Item.{Item}
 use Rattle.rx_note.specs.Signals.{Offered}
 use Rattle.rx_hub.specs.declared.subscription.Subscription.{Subscription}
-use Rattle.rx_hub.specs.Seats.{Stands, HoldsCopy, given_now}
+use Rattle.rx_hub.specs.Seats.{Stands, TakesMore, overflows_at, HoldsCopy, given_now}
 use Rattle.rx_hub.specs.Subscriptions.{Observer, Feeds, FeedsInto, AllFedInto}
 use Rattle.rx_hub.specs.Audiences.{Place, place_of, places_of, observer_on, observers_on, gifts}
 use Rattle.rx_hub.specs.Audiences as audiences
@@ -27,13 +27,33 @@ loop-i-init c = record {
   len = refl;
 }
 
-pub pass-requires : goal.pass-requires
-pass-requires c =
+pub pass-requires-clause-stands : goal.pass-requires-clause-stands
+pass-requires-clause-stands c =
     let subs = c.loop-i.subscriptions.items in
     let one = c.index_mut.result.now in
     let lt : c.loop-i.i < length subs = omega arith in
     let on = c.loop-i.invariant.turning.left c.loop-i.i (place_of one) (omega arith) (omega (arith, lt, length-map subs place_of)) in
     subst (λ (p : Place). Stands c.loop-i.tape true p.seat) (place-at subs c.loop-i.i one (place_of one) lt c.index_mut.ensures.value) on
+
+pub pass-requires-clause-open : goal.pass-requires-clause-open
+pass-requires-clause-open c =
+    let olds = c.args.subscriptions.now.items in
+    let i = c.loop-i.i in
+    let one = c.index_mut.result.now in
+    let lt_old : i < length olds = omega (arith, c.loop-i.invariant.len) in
+    let is_old = c.index_mut.ensures.value ∙ still-at olds c.loop-i.subscriptions.items i one c.loop-i.invariant.rest in
+    subst (λ (p : Place). TakesMore p.seat) (place-at olds i one (place_of one) lt_old is_old)
+    (c.requires.open i (place_of one) (omega (arith, lt_old, length-map olds place_of)))
+
+pub pass-requires-clause-fits : goal.pass-requires-clause-fits
+pass-requires-clause-fits c =
+    let olds = c.args.subscriptions.now.items in
+    let i = c.loop-i.i in
+    let one = c.index_mut.result.now in
+    let lt_old : i < length olds = omega (arith, c.loop-i.invariant.len) in
+    let is_old = c.index_mut.ensures.value ∙ still-at olds c.loop-i.subscriptions.items i one c.loop-i.invariant.rest in
+    subst (λ (p : Place). overflows_at p.seat ≡ false) (place-at olds i one (place_of one) lt_old is_old)
+    (c.requires.fits i (place_of one) (omega (arith, lt_old, length-map olds place_of)))
 
 pub loop-i-preserved : goal.loop-i-preserved
 loop-i-preserved c =

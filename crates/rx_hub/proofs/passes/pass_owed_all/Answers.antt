@@ -3,7 +3,7 @@ use Rattle.std.proofs.lemmas.List.{take_all, length-map, map-set}
 use Rattle.std.proofs.lemmas.List.Elements.{All-set}
 use Rattle.rx_note.specs.declared.given.Given.{Given}
 use Rattle.rx_note.specs.Signals.{Offered}
-use Rattle.rx_hub.specs.Seats.{Stands, owing_of, given_now}
+use Rattle.rx_hub.specs.Seats.{Stands, TakesMore, owing_of, given_now}
 use Rattle.rx_hub.specs.Subscriptions.{Observer, FeedsInto, AllFedInto}
 use Rattle.rx_hub.specs.Audiences.{Place, place_of, places_of, observer_on, observers_on, gifts}
 use Rattle.rx_hub.specs.Audiences as audiences
@@ -20,15 +20,25 @@ loop-i-init c = record {
   len = refl;
 }
 
-pub pass_owed-requires : goal.pass_owed-requires
-pass_owed-requires c =
+pub pass_owed-requires-clause-owed : goal.pass_owed-requires-clause-owed
+pass_owed-requires-clause-owed c =
     let olds = c.args.subscriptions.now.items in
     let i = c.loop-i.i in
     let one = c.index_mut.result.now in
     let lt_old : i < length olds = omega (arith, c.loop-i.invariant.len) in
     let is_old = c.index_mut.ensures.value ∙ still-at olds c.loop-i.subscriptions.items i one c.loop-i.invariant.rest in
     subst (λ (p : Place). 0 < owing_of p.seat) (place-at olds i one (place_of one) lt_old is_old)
-    (c.requires i (place_of one) (omega (arith, lt_old, length-map olds place_of)))
+    (c.requires.owed i (place_of one) (omega (arith, lt_old, length-map olds place_of)))
+
+pub pass_owed-requires-clause-open : goal.pass_owed-requires-clause-open
+pass_owed-requires-clause-open c =
+    let olds = c.args.subscriptions.now.items in
+    let i = c.loop-i.i in
+    let one = c.index_mut.result.now in
+    let lt_old : i < length olds = omega (arith, c.loop-i.invariant.len) in
+    let is_old = c.index_mut.ensures.value ∙ still-at olds c.loop-i.subscriptions.items i one c.loop-i.invariant.rest in
+    subst (λ (p : Place). TakesMore p.seat) (place-at olds i one (place_of one) lt_old is_old)
+    (c.requires.open i (place_of one) (omega (arith, lt_old, length-map olds place_of)))
 
 pub loop-i-preserved : goal.loop-i-preserved
 loop-i-preserved c =

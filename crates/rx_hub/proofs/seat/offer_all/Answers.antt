@@ -1,28 +1,26 @@
-use Rattle.std.proofs.Common.{◌+◌, ◌++◌, ◌∷◌, [], List, map, option_to_list, sym, ap, subst, ◌∙◌, append_assoc, arith}
+use Rattle.std.proofs.Common.{◌++◌, ◌∷◌, [], List, option_to_list, sym, ap, subst, ◌∙◌, append_assoc, arith}
 use Rattle.std.proofs.lemmas.List.{length-append, map-append}
-use Rattle.rx_note.specs.declared.note.Note.TheVariants.{Next}
 use Rattle.rx_note.specs.Signals.{Signal, Offered}
 use Rattle.rx_hub.specs.Subscriptions.{Serves}
-use Rattle.rx_hub.proofs.Serving.{Serves-then, Serves-one, offers-unended}
+use Rattle.rx_hub.proofs.Serving.{Serves-then}
 use Rattle.rx_hub.proofs.seat.offer_all.Goals as goal
 
 pub loop-item-preserved : goal.loop-item-preserved
 loop-item-preserved c =
     let was = c.loop-item.invariant in
     let first = was.served.0 in
-    let then = map Next (option_to_list c.offer-came.result) in
+    let then = option_to_list c.offer_own-came.result in
     let yielded = c.loop-item.yielded in
     let one = c.in-Some.item ∷ [] in
     let more = length-append yielded one in
-    let By : List Signal → Type 0 = λ signals. Serves c.args.lane.now.state c.offer-came.new.self.state signals (first ++ then) in
-    let now = Serves-one c.loop-item.lane.state c.offer-came.new.self.state (Offered c.in-Some.item) then (λ s unended. unended) c.offer-came.ensures.gives c.offer-came.ensures.stands in
+    let By : List Signal → Type 0 = λ signals. Serves c.args.lane.now.state c.offer_own-came.new.lane.state signals (first ++ then) in
     record {
       served = (
         first ++ then,
         c.put.ensures.items ∙ ap (λ ns. ns ++ then) was.served.1 ∙ append_assoc c.args.notes.now.items first then,
-        subst By (sym (map-append Offered yielded one)) (Serves-then _ _ _ _ _ _ _ (offers-unended yielded) was.served.2 now),
+        subst By (sym (map-append Offered yielded one)) (Serves-then _ _ _ _ _ _ _ was.served.2 c.offer_own-came.ensures.serves),
       );
-      room = λ count. c.offer-came.ensures.room count (was.room (count + 1));
+      room = c.offer_own-came.ensures.room;
       len = omega (arith, c.put.ensures.len, was.len, more);
       capacity = c.put.ensures.capacity ∙ was.capacity;
     }

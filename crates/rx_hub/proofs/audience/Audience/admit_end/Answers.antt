@@ -11,6 +11,7 @@ use Rattle.rx_subject.specs.TapeSubjects.{subject_on, pushed_all}
 use Rattle.rx_subject.proofs.Taped.{pushed_items}
 use Rattle.rx_hub.specs.Subscriptions.{Observer, AllFedInto}
 use Rattle.rx_hub.specs.Audiences.{AudienceState, places_of, observers_on, cursors}
+use Rattle.rx_hub.proofs.Being.{seats_take_more}
 use Rattle.rx_hub.proofs.Places.{apart_same}
 use Rattle.rx_hub.proofs.Staying.{on_err_known, shown, stays, on_pushed, owned_by}
 use Rattle.rx_hub.proofs.audience.Audience.admit_end.Goals as goal
@@ -106,3 +107,8 @@ returns-clause-fed c =
     let By : List Observer → List Given → Type 0 = λ os gs. AllFedInto (offer_signals offer) os news gs after in
     subst (λ (os : List Observer). By os c.args.outs.now.items) olds
     (subst (λ (gs : List Given). By (observers_on items (places_of c.prepare_all.new.subscriptions.items)) gs) c.in_ok-reserve.ensures.items fed)
+
+pub feed_all-requires-clause-open : goal.feed_all-requires-clause-open
+feed_all-requires-clause-open c =
+    let a = c.self.inside in
+    seats_take_more c.args.self.now a.tape.items (places_of a.subscriptions.items) (places_of c.prepare_all.new.subscriptions.items) c.self.view_is c.in_ok-prepare_all.ensures.places c.requires.all_open

@@ -1,10 +1,11 @@
-use Rattle.std.proofs.Common.{◌≡◌, ◌∷◌, [], ◌++◌, List, sym, ap, subst, ◌∙◌, rules}
+use Rattle.std.proofs.Common.{◌≡◌, ◌∷◌, [], ◌++◌, List, refl, sym, ap, subst, ◌∙◌, rules}
 use Rattle.rx_note.specs.Signals.{Offered}
 use Rattle.rx_subject.specs.Subjects as subjects
 use Rattle.rx_subject.specs.TapeSubjects.{subject_on}
 use Rattle.rx_hub.specs.Subscriptions.{Observer, AllFed}
 use Rattle.rx_hub.specs.Audiences.{AudienceState, places_of, observers_on, gifts, Owned}
 use Rattle.rx_hub.specs.Audiences as audiences
+use Rattle.rx_hub.proofs.Being.{seats_take_more}
 use Rattle.rx_hub.proofs.Places.{apart_same}
 use Rattle.rx_hub.proofs.Tight.{owned_same}
 use Rattle.rx_hub.proofs.audience.Audience.admit_item.Goals as goal
@@ -40,3 +41,8 @@ returns-then-are_owed-clause-fed c =
 
 pub pass_item-requires : goal.pass_item-requires
 pass_item-requires c = search rules
+
+pub pass_owed_all-requires-clause-open : goal.pass_owed_all-requires-clause-open
+pass_owed_all-requires-clause-open c =
+    let a = c.self.inside in
+    seats_take_more c.args.self.now a.tape.items (places_of a.subscriptions.items) (places_of a.subscriptions.items) c.self.view_is refl c.requires.all_open

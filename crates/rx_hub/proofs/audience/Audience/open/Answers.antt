@@ -10,7 +10,7 @@ use Rattle.rx_hub.specs.Seats.{lane_of, cursor_of, Stands, Leaves}
 use Rattle.rx_hub.specs.Subscriptions.{Begins, Serves}
 use Rattle.rx_hub.specs.Audiences.{AudienceState, Place, AllOn, Apart, Owned, place_of, places_of, observer_on, observers_on}
 use Rattle.rx_hub.proofs.Seats.{leaves_then}
-use Rattle.rx_hub.proofs.Serving.{begins_then, offers-unended, given-then}
+use Rattle.rx_hub.proofs.Serving.{begins_then, given-then}
 use Rattle.rx_hub.proofs.Places.{joined_on, joined_apart}
 use Rattle.rx_hub.proofs.Staying.{on_err_known, shown, stays, stays_held}
 use Rattle.rx_hub.proofs.Tight.{owned_joined}
@@ -69,7 +69,7 @@ returns-clause-joins c =
           ap (λ xs. map Offered xs ++ ends) opens.items_are
           ∙ ap (λ end. map Offered (opening_by rules.kind rules H (max (stamp rules H) c.args.at)) ++ ended_by end) opens.end_is;
       begins = begins_then (lane_of c.open.new.tape.items c.in_ok-seat.seat) (lane_of later.items seat) c.args.policy c.args.first (map Offered waiting) ends given last
-          (offers-unended waiting) begun ended;
+          begun ended;
       given = given-then before c.give_all.new.outs.items c.give.new.outs.items who given last
           (c.give_all.ensures.items
           ∙ ap (λ os. os ++ addressed who c.open.new.notes.items) c.in_ok-reserve.ensures.items
@@ -141,4 +141,4 @@ returns-clause-items c =
     c.end_by-last.ensures.leaves.items ∙ c.in_ok-seat.ensures.leaves.items ∙ ap (λ (v : AudienceState). v.items) c.self.view_is
 
 pub end_by-last-requires : goal.end_by-last-requires
-end_by-last-requires c = c.in_ok-seat.ensures.stands
+end_by-last-requires c = record { stands = c.in_ok-seat.ensures.stands; «open» = c.in_ok-seat.ensures.open }

@@ -1,19 +1,32 @@
-use Rattle.std.proofs.Common.{◌≡◌, ◌≤◌, ◌++◌, ◌∷◌, [], ℕ, List, Some, length, take, refl, sym, ap, subst, ◌∙◌}
+use Rattle.std.proofs.Common.{◌≡◌, ◌≢◌, ◌≤◌, ◌++◌, ◌∷◌, [], ℕ, List, Some, length, map, take, refl, sym, ap, subst, ◌∙◌}
 use Rattle.rx_note.specs.declared.event.Event.TheVariants.{Emit}
 use Rattle.rx_note.specs.declared.item.Item.{Item}
 use Rattle.rx_note.specs.declared.note.Note.TheVariants.{Next}
-use Rattle.rx_note.specs.Signals.{Offered}
-use Rattle.rx_history.specs.Histories.{◌▹◌}
+use Rattle.rx_note.specs.declared.given.Given.{Given}
+use Rattle.rx_note.specs.declared.kind.Kind.{Kind}
+use Rattle.rx_note.specs.declared.kind.Kind.TheVariants.{Publish, Behavior, Async, Replay}
+use Rattle.rx_note.specs.Signals.{Signal, Offered}
+use Rattle.rx_history.specs.Histories.{◌▹◌, unstamped, offers_by}
+use Rattle.rx_subject.specs.Subjects.{signals_by}
 use Rattle.rx_subject.specs.Subjects as subjects
 use Rattle.rx_subject.specs.TapeSubjects.{subject_on}
 use Rattle.rx_tape.specs.Tapes.{TapeState, pushed}
-use Rattle.rx_hub.specs.Subscriptions.{Observer, AllFed}
+use Rattle.rx_hub.specs.Subscriptions.{Observer, AllFed, AllFedInto}
 use Rattle.rx_hub.specs.Audiences.{AudienceState, places_of, observers_on, gifts, Owned}
 use Rattle.rx_hub.specs.Audiences as audiences
+use Rattle.rx_hub.proofs.Being.{seats_take_more}
+use Rattle.rx_hub.proofs.Outcomes.{on_ok, on_err}
 use Rattle.rx_hub.proofs.Places.{apart_same}
 use Rattle.rx_hub.proofs.Staying.{on_err_known, shown, stays, on_pushed}
 use Rattle.rx_hub.proofs.Tight.{owned_same}
 use Rattle.rx_hub.proofs.audience.Audience.put_item.Goals as goal
+
+-- but for Async an item is offered at once
+offers_now : (kind : Kind) (last : List Item) (port : ℕ) (item : Item) → kind ≢ Async → map Offered (offers_by kind last port (Next item)) ++ [] ≡ Offered (record item { from = port }) ∷ []
+offers_now Publish last port item other = refl
+offers_now (Behavior seed) last port item other = refl
+offers_now Async last port item other = absurd (other refl)
+offers_now (Replay count age) last port item other = refl
 
 pub invariant_of-self-2 : goal.invariant_of-self-2
 invariant_of-self-2 c =
@@ -96,10 +109,10 @@ returns-clause-fed c =
     let before = c.args.outs.now.items in
     let olds = places_of a.subscriptions.items in
     let news = observers_on c.pass_all.new.tape.items (places_of c.pass_all.new.subscriptions.items) in
-    let fed = c.pass_all.ensures.fed items item (ap (λ (t : TapeState). t.items) c.in-Ok-admit_on.ensures.tape) c.in-Ok.ensures.holds in
+    let fed = c.pass_all.ensures.fed items item (ap (λ (t : TapeState). t.items) c.in-Ok-admit_on.ensures.tape) (c.in-Ok.ensures.holds c.if-not-fits.false) in
     let were = ap (observers_on items) c.in-Ok.ensures.places ∙ ap (λ (v : AudienceState). v.observers) c.self.view_is in (
       fed.0,
-      c.in-Ok.ensures.given
+      c.in-Ok.ensures.given c.if-not-fits.false
           ∙ ap (λ os. os ++ gifts item olds) c.in_ok-make_room.ensures.items
           ∙ ap (λ gs. before ++ gs) (ap (gifts item) (sym c.in-Ok.ensures.places) ∙ fed.1),
       subst (λ (os : List Observer). AllFed (Offered item ∷ []) os news fed.0) were fed.2,
@@ -108,3 +121,40 @@ returns-clause-fed c =
 pub returns-clause-within : goal.returns-clause-within
 returns-clause-within c =
     subst (λ (xs : List Item). length c.admit_on.new.self.stamps ≤ length xs) (sym c.pass_all.ensures.items) c.admit_on.ensures.within
+
+pub pass_all-requires-clause-open : goal.pass_all-requires-clause-open
+pass_all-requires-clause-open c =
+    let a = c.self.inside in
+    seats_take_more c.args.self.now a.tape.items (places_of a.subscriptions.items) (places_of c.give_item.new.subscriptions.items) c.self.view_is c.in-Ok.ensures.places c.requires.all_open
+
+-- where it overflows, all is as it was before the other way is taken
+pub returns-then-not-fits-clause-err : goal.returns-then-not-fits-clause-err
+returns-then-not-fits-clause-err c =
+    let a = c.self.inside in
+    let same = shown a.tape.items a.tape.items (places_of a.subscriptions.items) (places_of c.give_item.new.subscriptions.items) refl c.in-Ok.ensures.places ∙ c.self.view_is in
+    let outs =
+    c.truncate-then-not-fits.ensures.items
+    ∙ ap (λ (n : ℕ). take n c.give_item.new.outs.items) (c.len-before.ensures ∙ sym c.in_ok-make_room.ensures.len)
+    ∙ c.in-Ok.ensures.front
+    ∙ c.in_ok-make_room.ensures.items in
+    on_err c.admit_offer.result (λ known. (known.0, known.1 ∙ same, known.2 ∙ outs)) c.admit_offer.ensures.err
+
+pub returns-then-not-fits-clause-fed : goal.returns-then-not-fits-clause-fed
+returns-then-not-fits-clause-fed c =
+    let a = c.self.inside in
+    let item = c.args.item in
+    let subject = subject_on a.tape.items c.args.subject.now in
+    let same = shown a.tape.items a.tape.items (places_of a.subscriptions.items) (places_of c.give_item.new.subscriptions.items) refl c.in-Ok.ensures.places ∙ c.self.view_is in
+    let outs =
+    c.truncate-then-not-fits.ensures.items
+    ∙ ap (λ (n : ℕ). take n c.give_item.new.outs.items) (c.len-before.ensures ∙ sym c.in_ok-make_room.ensures.len)
+    ∙ c.in-Ok.ensures.front
+    ∙ c.in_ok-make_room.ensures.items in
+    let now : signals_by subject item.from (Next item) ≡ Offered item ∷ [] = offers_now c.args.subject.now.kind (unstamped (take 1 subject.window)) item.from item c.requires.offered in
+    let By : List Signal → List Observer → List Given → Type 0 = λ signals olds before. AllFedInto signals olds c.admit_offer.new.self.observers before c.admit_offer.new.outs.items in
+    on_ok c.admit_offer.result
+    (λ fed.
+    subst (λ (signals : List Signal). By signals c.args.self.now.observers c.args.outs.now.items) now
+    (subst (λ (v : AudienceState). By (signals_by subject item.from (Next item)) v.observers c.args.outs.now.items) same
+    (subst (λ (before : List Given). By (signals_by subject item.from (Next item)) (observers_on a.tape.items (places_of c.give_item.new.subscriptions.items)) before) outs fed)))
+    c.admit_offer.ensures.fed

@@ -1,4 +1,4 @@
-use Rattle.std.proofs.Common.{◌≡◌, List, length, sym, ◌∙◌, refl, ap, subst, arith}
+use Rattle.std.proofs.Common.{◌≡◌, Ok, List, length, sym, ◌∙◌, refl, ap, subst, arith}
 use Rattle.rx_note.specs.declared.kind.Kind.{Kind}
 use Rattle.rx_note.specs.declared.rules.Rules.{Rules}
 use Rattle.rx_note.specs.declared.event.Event.TheVariants.{Emit}
@@ -8,10 +8,15 @@ use Rattle.rx_subject.specs.Subjects as subjects
 use Rattle.rx_subject.specs.TapeSubjects.{subject_on}
 use Rattle.rx_subject.proofs.Taped.{subject_kept}
 use Rattle.rx_hub.specs.Subscriptions.{Observer, AllFedInto}
+use Rattle.rx_hub.specs.Hubs.{Takes}
 use Rattle.rx_hub.specs.Multicasts.{state_of}
+use Rattle.rx_hub.specs.States.{state_by}
+use Rattle.rx_note.specs.declared.answer.Answer.TheVariants.{Admitted}
 use Rattle.rx_hub.proofs.Quiet.{emit_refused}
 use Rattle.rx_hub.proofs.Emitting.{emit_done}
 use Rattle.rx_hub.proofs.Feeding.{AllFed-length}
+use Rattle.rx_hub.proofs.Being.{of_history, same_history, all_open}
+use Rattle.rx_hub.proofs.multicast.Multicast.emit.Goals.{After-trim}
 use Rattle.rx_hub.proofs.multicast.Multicast.emit.Goals as goal
 
 pub returns-then-is_ended : goal.returns-then-is_ended
@@ -21,20 +26,10 @@ returns-then-is_ended c = record {
       emit_refused (state_of c.args.self.now) c.args.outs.now.items H c.args.port c.args.note c.args.at (sym c.is_ended.ensures ∙ c.if-is_ended.true) stands;
 }
 
-pub invariant_of-self-2 : goal.invariant_of-self-2
-invariant_of-self-2 c =
-    let old = c.args.self.now in
-    let fed = c.in-Ok.ensures.fed in
-    let same = ap length c.trim.ensures.observers ∙ AllFed-length _ _ _ _ fed.2 in
-    let kept = c.trim.ensures.kept (length c.admit.new.subject.stamps) (omega (arith, c.keep.ensures)) c.in-Ok.ensures.within in
-    record {
-      fits = (omega (arith, same, old.fits.0), old.fits.1);
-      within = kept.0;
-      tight = omega (arith, c.trim.ensures.tight, c.keep.ensures);
-    }
-
-pub returns : goal.returns
-returns c =
+-- the note was taken
+taken : (c : After-trim) → Takes (state_of c.args.self.now) (state_by c.args.self.now.limits c.admit.new.subject c.args.self.now.joins c.trim.new.self)
+    c.args.outs.now.items c.admit.new.outs.items (Ok Admitted) (c.args.port, Emit c.args.note c.args.at)
+taken c =
     let old = c.args.self.now in
     let subject = c.admit.new.subject in
     let before = c.args.outs.now.items in
@@ -49,3 +44,30 @@ returns c =
     (λ rules H stands. subst (λ (s : SubjectState). subjects.StandsFor s rules (H ▹ (c.args.port, Emit c.args.note c.args.at))) (sym same) (c.in-Ok.ensures.stands rules H stands))
     refl refl
     (subst (λ (os : List Observer). AllFedInto signals old.audience.observers os before after) (sym c.trim.ensures.observers) c.in-Ok.ensures.fed)
+
+pub invariant_of-self-2 : goal.invariant_of-self-2
+invariant_of-self-2 c =
+    let old = c.args.self.now in
+    let fed = c.in-Ok.ensures.fed in
+    let same = ap length c.trim.ensures.observers ∙ AllFed-length _ _ _ _ fed.2 in
+    let kept = c.trim.ensures.kept (length c.admit.new.subject.stamps) (omega (arith, c.keep.ensures)) c.in-Ok.ensures.within in
+    record {
+      fits = (omega (arith, same, old.fits.0), old.fits.1);
+      within = kept.0;
+      stands = of_history (state_of old) _ _ _ _ _ (taken c) old.stands;
+      tight = omega (arith, c.trim.ensures.tight, c.keep.ensures);
+    }
+
+pub returns : goal.returns
+returns c = taken c.before
+
+pub admit-requires-clause-all_open : goal.admit-requires-clause-all_open
+admit-requires-clause-all_open c = all_open (state_of c.args.self.now) c.args.self.now.stands (sym c.is_ended.ensures ∙ c.if-is_ended.false)
+
+pub invariant_of-self-in_default-clause-stands : goal.invariant_of-self-in_default-clause-stands
+invariant_of-self-in_default-clause-stands c =
+    let old = c.args.self.now in
+    same_history old.limits old.joins c.in_default.ensures.err.0 c.in_default.ensures.err.1 old.stands
+
+pub invariant_of-self-in_default-clause-tight : goal.invariant_of-self-in_default-clause-tight
+invariant_of-self-in_default-clause-tight c = rw (c.in_default.ensures.err.0, c.in_default.ensures.err.1) c.args.self.now.tight

@@ -1,4 +1,4 @@
-use Rattle.std.proofs.Common.{◌≡◌, ◌∷◌, [], List, nat_lt, length, true, false, sym, subst, ◌∙◌, refl, ap, arith}
+use Rattle.std.proofs.Common.{◌≡◌, ℕ, ◌+◌, Ok, ◌∷◌, [], List, nat_lt, length, true, false, sym, subst, ◌∙◌, refl, ap, arith}
 use Rattle.std.proofs.lemmas.List.{length-append}
 use Rattle.std.proofs.lemmas.Bool.Decides.{nat_tests}
 use Rattle.rx_note.specs.declared.item.Item.{Item}
@@ -11,9 +11,14 @@ use Rattle.rx_subject.specs.Subjects as subjects
 use Rattle.rx_subject.specs.TapeSubjects.{subject_on}
 use Rattle.rx_subject.proofs.Taped.{subject_kept}
 use Rattle.rx_hub.specs.Subscriptions.{Observer}
+use Rattle.rx_hub.specs.Hubs.{Takes}
 use Rattle.rx_hub.specs.Multicasts.{state_of}
+use Rattle.rx_hub.specs.States.{state_by}
+use Rattle.rx_note.specs.declared.answer.Answer.TheVariants.{Joined}
 use Rattle.rx_hub.proofs.Quiet.{join_full, join_spent}
 use Rattle.rx_hub.proofs.Joining.{join_done}
+use Rattle.rx_hub.proofs.Being.{of_history, same_history}
+use Rattle.rx_hub.proofs.multicast.Multicast.join.Goals.{After-trim}
 use Rattle.rx_hub.proofs.multicast.Multicast.join.Goals as goal
 
 pub returns-then-len-self : goal.returns-then-len-self
@@ -33,22 +38,10 @@ returns-then-self c port = record {
       join_spent (state_of c.args.self.now) c.args.outs.now.items H port c.args.policy c.args.first c.args.at free spent stands;
 }
 
-pub invariant_of-self-2 : goal.invariant_of-self-2
-invariant_of-self-2 c =
-    let old = c.args.self.now in
-    let joins = c.in-Ok.ensures.joins in
-    let one : Observer = record { who = old.joins; lane = joins.lane } in
-    let more = ap length (c.trim.ensures.observers ∙ joins.news_are) ∙ length-append old.audience.observers (one ∷ []) in
-    let items = ap length c.in-Ok.ensures.items in
-    let kept = c.trim.ensures.kept (length c.joined.new.self.stamps) (omega (arith, c.keep.ensures)) (omega (arith, c.joined.ensures.within, old.within, items)) in
-    record {
-      fits = (omega (arith, more, c.len.ensures, c.if-len-self.false), old.fits.1);
-      within = kept.0;
-      tight = omega (arith, c.trim.ensures.tight, c.keep.ensures);
-    }
-
-pub returns : goal.returns
-returns c port =
+-- the Join was taken
+taken : (c : After-trim) (port : ℕ) → Takes (state_of c.args.self.now) (state_by c.args.self.now.limits c.joined.new.self (c.args.self.now.joins + 1) c.trim.new.self)
+    c.args.outs.now.items c.open.new.outs.items (Ok (Joined c.args.self.now.joins)) (port, Join c.args.policy c.args.first c.args.at)
+taken c port =
     let old = c.args.self.now in
     let subject = c.joined.new.self in
     let now = subject_on c.trim.new.self.items subject in
@@ -66,3 +59,29 @@ returns c port =
     subst (λ (s : SubjectState). subjects.StandsFor s rules (H ▹ (port, Join c.args.policy c.args.first c.args.at))) (sym same)
     (c.joined.ensures.stands old.audience.items rules H port c.args.policy c.args.first old.within may stands))
     joins.opens joins.begins (c.trim.ensures.observers ∙ joins.news_are) refl joins.given
+
+pub invariant_of-self-2 : goal.invariant_of-self-2
+invariant_of-self-2 c =
+    let old = c.args.self.now in
+    let joins = c.in-Ok.ensures.joins in
+    let one : Observer = record { who = old.joins; lane = joins.lane } in
+    let more = ap length (c.trim.ensures.observers ∙ joins.news_are) ∙ length-append old.audience.observers (one ∷ []) in
+    let items = ap length c.in-Ok.ensures.items in
+    let kept = c.trim.ensures.kept (length c.joined.new.self.stamps) (omega (arith, c.keep.ensures)) (omega (arith, c.joined.ensures.within, old.within, items)) in
+    record {
+      fits = (omega (arith, more, c.len.ensures, c.if-len-self.false), old.fits.1);
+      within = kept.0;
+      stands = of_history (state_of old) _ _ _ _ _ (taken c 0) old.stands;
+      tight = omega (arith, c.trim.ensures.tight, c.keep.ensures);
+    }
+
+pub returns : goal.returns
+returns c port = taken c.before port
+
+pub invariant_of-self-in_default-clause-stands : goal.invariant_of-self-in_default-clause-stands
+invariant_of-self-in_default-clause-stands c =
+    let old = c.args.self.now in
+    same_history old.limits old.joins refl c.in_default.ensures.err.0 old.stands
+
+pub invariant_of-self-in_default-clause-tight : goal.invariant_of-self-in_default-clause-tight
+invariant_of-self-in_default-clause-tight c = rw c.in_default.ensures.err.0 c.args.self.now.tight

@@ -14,6 +14,7 @@ returns-in_ok-lane-in-Buffer c =
       err = tt;
       begins = begins_so (lane_on c.new.new.tape.items lane) c.args.policy c.args.first (waits c.args.lead tape.items c.args.back) c.args.notes.now.items c.new.new.outs.items made.begins;
       stands = made.stands_back;
+      «open» = λ other. made.policy.1;
       fresh = λ cursor is. let same : lane.cursor ≡ cursor = cc in ap (place_of tape.places) (sym same) ∙ made.fresh;
       leaves = leaves_others tape c.new.new.tape lane.cursor made.spares;
       count = made.count;

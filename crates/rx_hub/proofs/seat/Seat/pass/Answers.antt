@@ -12,6 +12,6 @@ pub returns-in-Shared-clause-serves : goal.returns-in-Shared-clause-serves
 returns-in-Shared-clause-serves c = λ items item tape_is held.
     let lane = c.in-Shared.lane in
     let new = lane_on c.pass.new.tape.items c.pass.new.self in
-    let served = Serves-one (lane_on items lane) new (Offered item) (given_now (Shared lane) item) (λ s unended. unended)
+    let served = Serves-one (lane_on items lane) new (Offered item) (given_now (Shared lane) item)
     (c.pass.ensures.passes.gives items item tape_is) (c.pass.ensures.passes.stands items item tape_is) in
     subst (λ (s : Seat). Serves (lane_of items s) new (Offered item ∷ []) (given_now s item)) (sym c.in-Shared.is) served

@@ -3,7 +3,7 @@ use Rattle.rx_note.specs.declared.note.Note.{Note}
 use Rattle.rx_history.specs.Histories.{ended_by}
 use Rattle.rx_hub.specs.Seats.{lane_of}
 use Rattle.rx_hub.specs.Subscriptions.{Serves}
-use Rattle.rx_hub.proofs.Serving.{Serves-then, offered-unended, given-then}
+use Rattle.rx_hub.proofs.Serving.{Serves-then, given-then}
 use Rattle.rx_hub.proofs.subscription.Subscription.feed.Goals as goal
 
 pub returns-clause-fed : goal.returns-clause-fed
@@ -18,6 +18,6 @@ returns-clause-fed c = λ items tape_is.
       given-then c.args.outs.now.items c.give.new.outs.items c.give-2.new.outs.items c.args.self.now.who first then c.give.ensures.items c.give-2.ensures.items,
       record {
         number = refl;
-        serves = Serves-then _ _ _ _ _ _ _ (offered-unended c.args.offer.now.item) (c.offer_to-note.ensures.serves items tape_is copied) ended;
+        serves = Serves-then _ _ _ _ _ _ _ (c.offer_to-note.ensures.serves items tape_is copied) ended;
       },
     )
