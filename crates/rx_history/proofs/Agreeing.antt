@@ -11,13 +11,12 @@ use Rattle.rx_note.specs.Choices.{Choice}
 use Rattle.rx_note.specs.Signals.{Requested, Offered, Signals, Start, ◌▸◌}
 use Rattle.rx_history.specs.Histories.{History, ◌▹◌, Roster, with_one_more, without_one, admits, roster_of, joins, is_held, end_of, may_join, stamp, items, last_item, age_moment, opening_by, offers_by, terminal_in, followed_by, ended_by, may_request, signals}
 use Rattle.rx_history.specs.Pasts.{Remembers}
-use Rattle.rx_history.specs.Traces.{Traces, MayTrace, AreOpen}
+use Rattle.rx_history.specs.Traces.{Traces, MayTrace}
 use Rattle.rx_history.specs.Walks.{Passes}
 use Rattle.rx_history.specs.declared.past.Past.{Past}
 use Rattle.rx_history.specs.declared.trace.Trace.{Trace}
 use Rattle.rx_history.specs.declared.walk.Walk.{Walk}
 use Rattle.rx_history.proofs.Cases.{absent}
-use Rattle.rx_history.proofs.Endings.{signals_open}
 use Rattle.rx_history.proofs.Remembering.{remembers_not_joined, remembers_requested, remembers_left, age_moment-joined}
 use Rattle.rx_history.proofs.Entries.{and_false, signals-emitted, signals-passed_by, signals-not_joined, signals-joined, signals-not_requested, signals-requested}
 
@@ -30,7 +29,7 @@ pub passes_emitted : (rules : Rules) (old new : Walk) (port : ℕ) (note : Note)
     → list_any (λ k. k == old.who) old.roster.held ≡ true → new.who ≡ old.who → new.roster ≡ old.roster
     → ((H : History) → end_of H ≡ None → Remembers rules old.past H → Remembers rules new.past (H ▹ (port, Emit note at)))
     → ((H : History) → Remembers rules old.past H → offers ≡ offers_by rules.kind (last_item rules H) port note)
-    → ((s : Option Signals) → AreOpen s → MayTrace old.trace s → MayTrace new.trace (option_map (λ t. followed_by t (map Offered offers ++ ended_by (terminal_in note))) s))
+    → ((s : Option Signals) → MayTrace old.trace s → MayTrace new.trace (option_map (λ t. followed_by t (map Offered offers ++ ended_by (terminal_in note))) s))
     → Passes rules old new (port, Emit note at)
 passes_emitted rules old new port note at offers open_now holds who roster remembers offered follows H was =
     let unended : end_of H ≡ None = sym was.has_past.has_end ∙ absent old.past.end open_now in
@@ -44,7 +43,7 @@ passes_emitted rules old new port note at offers open_now holds who roster remem
           (ap (signals rules (H ▹ (port, Emit note at))) who
           ∙ signals-emitted rules H port note at old.who unended held
           ∙ ap follow (sym (offered H was.has_past)))
-          (follows (signals rules H old.who) (λ s is. signals_open rules H old.who s unended is) was.has_trace);
+          (follows (signals rules H old.who) was.has_trace);
     }
 
 -- and to one that is not

@@ -5,6 +5,7 @@ pub mod Delivered
 pub mod Endings
 pub mod Entries
 pub mod Extending
+pub mod Feeding
 pub mod Gaining
 pub mod Leaving
 pub mod Numbers
@@ -12,6 +13,7 @@ pub mod Offers
 pub mod Queueing
 pub mod Remembering
 pub mod Rooms
+pub mod Staying
 pub mod Subsequences
 pub mod Terminals
 pub mod Tracing

@@ -1,5 +1,5 @@
 -- The items offered to an observer, event by event.
-use Rattle.std.proofs.Common.{◌≡◌, ℕ, ◌-◌, ◌==◌, max, Bool, true, false, cond, ◌&&◌, List, [], ◌∷◌, ◌++◌, length, map, Option, None, Some, is_some, refl, sym, ap, ◌∙◌}
+use Rattle.std.proofs.Common.{◌≡◌, ℕ, zero, suc, ◌-◌, ◌==◌, max, Bool, true, false, cond, ◌&&◌, not, List, [], ◌∷◌, ◌++◌, length, map, take, Option, None, Some, is_some, refl, sym, ap, ◌∙◌}
 use Rattle.std.specs.Option.{option_map, option_map_or, option_or}
 use Rattle.std.proofs.lemmas.List.{append-nil, append_assoc, map-append}
 use Rattle.rx_note.specs.declared.item.Item.{Item}
@@ -10,19 +10,67 @@ use Rattle.rx_note.specs.declared.kind.Kind.{Kind}
 use Rattle.rx_note.specs.declared.kind.Kind.TheVariants.{Publish, Behavior, Async, Replay}
 use Rattle.rx_note.specs.declared.rules.Rules.{Rules}
 use Rattle.rx_note.specs.Choices.{Choice}
-use Rattle.rx_note.specs.Signals.{Requested, Offered, Signals, Start, ◌▸◌}
-use Rattle.rx_history.specs.Histories.{History, NoEvents, ◌▹◌, terminal_in, end_of, is_ended, is_completion, joins, is_held, may_join, stamp, Stamped, item_in, items, unstamped, newest, last_item, or_else, seed_item, is_young, young, at_most, age_moment, opening_by, offers_by, followed_by, ended_by, may_request, signals}
-use Rattle.rx_history.specs.Delivery.{offered, offered_to, emitted, seed_of, all_items, offers_at_once, IsSubsequence, AsyncOffersTheLast}
-use Rattle.rx_history.proofs.Subsequences.{along, none_of, all_of, both_of, some_of_some, filter_of, drop_of}
+use Rattle.rx_note.specs.Signals.{Signal, Requested, Offered, Ended, Signals, Start, ◌▸◌, policy_of, terminal_of, may_overflow, overflows, sent}
+use Rattle.rx_note.proofs.Sending.{sent-fits}
+use Rattle.rx_history.specs.Histories.{History, NoEvents, ◌▹◌, terminal_in, end_of, is_ended, is_completion, joins, is_held, may_join, stamp, Stamped, item_in, items, unstamped, newest, last_item, or_else, seed_item, is_young, young, at_most, age_moment, opening_by, offers_by, followed_by, ended_by, signalled, may_request, signals}
+use Rattle.rx_history.specs.Delivery.{offered, offered_to, emitted, seed_of, all_items, offers_at_once, is_bounded, IsSubsequence, EachItemIsOffered, AsyncOffersTheLast}
+use Rattle.rx_history.proofs.Subsequences.{along, none_of, all_of, take_of, both_of, some_of_some, filter_of, drop_of}
+use Rattle.rx_history.proofs.Cases.{neither}
+use Rattle.rx_history.proofs.Endings.{overflows-never, unended, ends_as_subject}
+use Rattle.rx_history.proofs.Feeding.{followed-behind, followed-overflow, followed-fits, policy_of-followed}
 use Rattle.rx_history.proofs.Entries.{held_made, held_before, is_held-not_joined, signals-emitted, signals-passed_by, signals-refused, signals-not_joined, signals-joined, signals-not_requested, signals-requested}
 
 -- WHAT SIGNALS OFFER
 
--- items that are offered come last, and an end offers nothing
-offered-followed : (s : Signals) (offers : List Item) (end : Option Note) → offered (followed_by s (map Offered offers ++ ended_by end)) ≡ offered s ++ offers
-offered-followed s [] None = sym (append-nil (offered s))
-offered-followed s [] (Some end) = sym (append-nil (offered s))
-offered-followed s (item ∷ offers) end = offered-followed (s ▸ Offered item) offers end ∙ append_assoc (offered s) (item ∷ []) offers
+-- an end offers nothing
+offered-end_by : (b : Bool) (s : Signals) (terminal : Note) → offered (cond b s (s ▸ Ended terminal)) ≡ offered s
+offered-end_by true s terminal = refl
+offered-end_by false s terminal = refl
+
+offered-end : (s : Signals) (terminal : Note) → offered (sent s (Ended terminal)) ≡ offered s
+offered-end s terminal = offered-end_by (is_some (terminal_of s)) s terminal
+
+-- of the items that are sent the first come last, up to an overflow
+abbrev OffersFirst : Signals → Signals → List Item → Type 0
+OffersFirst s later offers = (n : ℕ) × (offered later ≡ offered s ++ take n offers)
+
+no_more : (s later : Signals) (offers : List Item) → offered later ≡ offered s → OffersFirst s later offers
+no_more s later offers same = (0, same ∙ sym (append-nil (offered s)))
+
+first_by : (s : Signals) (item : Item) (offers : List Item) (end before : Option Note) (b : Bool) → terminal_of s ≡ before → overflows s ≡ b
+    → OffersFirst (s ▸ Offered item) (followed_by (s ▸ Offered item) (map Offered offers ++ ended_by end)) offers
+    → OffersFirst s (followed_by s (map Offered (item ∷ offers) ++ ended_by end)) (item ∷ offers)
+first_by s item offers end (Some terminal) b ended is rest =
+    no_more s (followed_by s (map Offered (item ∷ offers) ++ ended_by end)) (item ∷ offers) (ap offered (followed-behind s terminal (item ∷ offers) end ended))
+first_by s item offers end None true open_now over rest =
+    no_more s (followed_by s (map Offered (item ∷ offers) ++ ended_by end)) (item ∷ offers) (ap offered (followed-overflow s item offers end open_now over))
+first_by s item offers end None false open_now fits rest = (
+  suc rest.0,
+  ap offered (followed-fits s item offers end open_now fits) ∙ rest.1 ∙ append_assoc (offered s) (item ∷ []) (take rest.0 offers),
+)
+
+offered-first : (s : Signals) (offers : List Item) (end : Option Note) → OffersFirst s (followed_by s (map Offered offers ++ ended_by end)) offers
+offered-first s [] None = no_more s s [] refl
+offered-first s [] (Some terminal) = no_more s (sent s (Ended terminal)) [] (offered-end s terminal)
+offered-first s (item ∷ offers) end =
+    first_by s item offers end (terminal_of s) (overflows s) refl refl (offered-first (s ▸ Offered item) offers end)
+
+-- but by Bounded all of them do, before the end
+offered-whole : (s : Signals) (offers : List Item) (end : Option Note) → terminal_of s ≡ None → may_overflow (policy_of s).strategy ≡ false
+    → offered (followed_by s (map Offered offers ++ ended_by end)) ≡ offered s ++ offers
+offered-whole s [] None open_now other = sym (append-nil (offered s))
+offered-whole s [] (Some terminal) open_now other = offered-end s terminal ∙ sym (append-nil (offered s))
+offered-whole s (item ∷ offers) end open_now other =
+    ap offered (followed-fits s item offers end open_now (overflows-never s other))
+    ∙ offered-whole (s ▸ Offered item) offers end open_now other
+    ∙ append_assoc (offered s) (item ∷ []) offers
+
+-- a note whose item fits, or that has none
+offered-note : (s : Signals) (port : ℕ) (note : Note) → terminal_of s ≡ None → overflows s ≡ false
+    → offered (followed_by s (map Offered (item_in port note) ++ ended_by (terminal_in note))) ≡ offered s ++ item_in port note
+offered-note s port (Next item) open_now fits = ap offered (sent-fits s (record item { from = port }) open_now fits)
+offered-note s port Completed open_now fits = offered-end s Completed ∙ sym (append-nil (offered s))
+offered-note s port (Failed text) open_now fits = offered-end s (Failed text) ∙ sym (append-nil (offered s))
 
 offered-request : (b : Bool) (s : Signals) (n : ℕ) → offered (cond b (s ▸ Requested n) s) ≡ offered s
 offered-request true s n = refl
@@ -32,26 +80,58 @@ offered-request false s n = refl
 abbrev offered_of : Option Signals → List Item
 offered_of s = option_map_or offered s []
 
-offered-fed : (before : Option Signals) (offers : List Item) (end : Option Note) → is_some before ≡ true
-    → offered_of (option_map (λ s. followed_by s (map Offered offers ++ ended_by end)) before) ≡ offered_of before ++ offers
-offered-fed None offers end made = cc
-offered-fed (Some s) offers end made = offered-followed s offers end
+-- whether an overflow may end an observer of these signals
+abbrev pub bounded_of : Option Signals → Bool
+bounded_of s = option_map_or may_overflow (option_map (λ (policy : Choice). policy.strategy) (option_map policy_of s)) false
+
+pub unmade : (s : Option Signals) → s ≡ None → is_some s ≡ true → ⊥
+unmade None none made = cc
+unmade (Some s) none made = cc
 
 -- WHAT EACH ENTRY OFFERS
 
--- an accepted note offers what its kind says, to an observer that is held
-offered_to-emitted : (rules : Rules) (H : History) (o port : ℕ) (note : Note) (at : ℕ) → end_of H ≡ None → is_held rules H o ≡ true
-    → offered_to rules (H ▹ (port, Emit note at)) o ≡ offered_to rules H o ++ offers_by rules.kind (last_item rules H) port note
-offered_to-emitted rules H o port note at unended held =
-    ap offered_of (signals-emitted rules H port note at o unended held)
-    ∙ offered-fed (signals rules H o) (offers_by rules.kind (last_item rules H) port note) (terminal_in note) (held_made rules H o held)
+emitted_first_by : (rules : Rules) (H : History) (o port : ℕ) (note : Note) (at : ℕ) (before : Option Signals) → signals rules H o ≡ before → end_of H ≡ None → is_held rules H o ≡ true
+    → (n : ℕ) × (offered_to rules (H ▹ (port, Emit note at)) o ≡ offered_to rules H o ++ take n (offers_by rules.kind (last_item rules H) port note))
+emitted_first_by rules H o port note at None none unended held = absurd (unmade (signals rules H o) none (held_made rules H o held))
+emitted_first_by rules H o port note at (Some s) is unended held =
+    let offers = offers_by rules.kind (last_item rules H) port note in
+    let first = offered-first s offers (terminal_in note) in (
+      first.0,
+      ap offered_of (signals-emitted rules H port note at o unended held)
+          ∙ ap (λ b. offered_of (option_map (λ t. followed_by t (map Offered offers ++ ended_by (terminal_in note))) b)) is
+          ∙ first.1
+          ∙ ap (λ b. offered_of b ++ take first.0 offers) (sym is),
+    )
 
--- a Join offers the opening to the observer that it makes
+-- an accepted note offers the first of what its kind says, to an observer that is held
+offered_to-emitted : (rules : Rules) (H : History) (o port : ℕ) (note : Note) (at : ℕ) → end_of H ≡ None → is_held rules H o ≡ true
+    → (n : ℕ) × (offered_to rules (H ▹ (port, Emit note at)) o ≡ offered_to rules H o ++ take n (offers_by rules.kind (last_item rules H) port note))
+offered_to-emitted rules H o port note at unended held = emitted_first_by rules H o port note at (signals rules H o) refl unended held
+
+whole_by : (rules : Rules) (H : History) (o port : ℕ) (note : Note) (at : ℕ) (before : Option Signals) → signals rules H o ≡ before → end_of H ≡ None → is_held rules H o ≡ true
+    → bounded_of before ≡ false
+    → offered_to rules (H ▹ (port, Emit note at)) o ≡ offered_to rules H o ++ offers_by rules.kind (last_item rules H) port note
+whole_by rules H o port note at None none unended held other = absurd (unmade (signals rules H o) none (held_made rules H o held))
+whole_by rules H o port note at (Some s) is unended held other =
+    let offers = offers_by rules.kind (last_item rules H) port note in
+    ap offered_of (signals-emitted rules H port note at o unended held)
+    ∙ ap (λ b. offered_of (option_map (λ t. followed_by t (map Offered offers ++ ended_by (terminal_in note))) b)) is
+    ∙ offered-whole s offers (terminal_in note) (ends_as_subject rules H o s is held other ∙ unended) other
+    ∙ ap (λ b. offered_of b ++ offers) (sym is)
+
+-- a Join offers the first of the opening to the observer that it makes
 offered_to-joined : (rules : Rules) (H : History) (o port : ℕ) (policy : Choice) (first at : ℕ) → ((joins rules H == o) && may_join rules H) ≡ true
-    → offered_to rules (H ▹ (port, Join policy first at)) o ≡ opening_by rules.kind rules H (max (stamp rules H) at)
+    → (n : ℕ) × (offered_to rules (H ▹ (port, Join policy first at)) o ≡ take n (opening_by rules.kind rules H (max (stamp rules H) at)))
 offered_to-joined rules H o port policy first at it =
+    let some = offered-first (Start policy ▸ Requested first) (opening_by rules.kind rules H (max (stamp rules H) at)) (end_of H) in
+    (some.0, ap offered_of (signals-joined rules H port policy first at o it) ∙ some.1)
+
+-- but by Bounded all of it
+joined_whole : (rules : Rules) (H : History) (o port : ℕ) (policy : Choice) (first at : ℕ) → ((joins rules H == o) && may_join rules H) ≡ true → may_overflow policy.strategy ≡ false
+    → offered_to rules (H ▹ (port, Join policy first at)) o ≡ opening_by rules.kind rules H (max (stamp rules H) at)
+joined_whole rules H o port policy first at it other =
     ap offered_of (signals-joined rules H port policy first at o it)
-    ∙ offered-followed (Start policy ▸ Requested first) (opening_by rules.kind rules H (max (stamp rules H) at)) (end_of H)
+    ∙ offered-whole (Start policy ▸ Requested first) (opening_by rules.kind rules H (max (stamp rules H) at)) (end_of H) refl other
 
 asked_same : (before : Option Signals) (n : ℕ) → offered_of (option_map (λ s. cond (may_request n s) (s ▸ Requested n) s) before) ≡ offered_of before
 asked_same None n = refl
@@ -62,18 +142,27 @@ offered_to-request : (rules : Rules) (H : History) (port who n o : ℕ) (b : Boo
 offered_to-request rules H port who n o true own = ap offered_of (signals-requested rules H port who n o own) ∙ asked_same (signals rules H o) n
 offered_to-request rules H port who n o false other = ap offered_of (signals-not_requested rules H port who n o other)
 
-now_offered : (kind : Kind) (last : List Item) (port : ℕ) (note : Note) → offers_at_once kind ≡ true → offers_by kind last port note ≡ item_in port note
+pub now_offered : (kind : Kind) (last : List Item) (port : ℕ) (note : Note) → offers_at_once kind ≡ true → offers_by kind last port note ≡ item_in port note
 now_offered Publish last port note once = refl
 now_offered (Behavior seed) last port note once = refl
 now_offered Async last port note once = cc
 now_offered (Replay count age) last port note once = refl
 
--- but for Async, an accepted item is offered to each observer that is held
-pub each_is_offered : (rules : Rules) (H : History) (o port : ℕ) (note : Note) (at : ℕ) → offers_at_once rules.kind ≡ true → is_held rules H o ≡ true → end_of H ≡ None
+note_by : (rules : Rules) (H : History) (o port : ℕ) (note : Note) (at : ℕ) (before : Option Signals) → signals rules H o ≡ before → offers_at_once rules.kind ≡ true → is_held rules H o ≡ true
+    → option_map_or terminal_of before None ≡ None → option_map_or overflows before false ≡ false
     → offered_to rules (H ▹ (port, Emit note at)) o ≡ offered_to rules H o ++ item_in port note
-each_is_offered rules H o port note at once held unended =
-    offered_to-emitted rules H o port note at unended held
-    ∙ ap (λ offers. offered_to rules H o ++ offers) (now_offered rules.kind (last_item rules H) port note once)
+note_by rules H o port note at None none once held open_now fits = absurd (unmade (signals rules H o) none (held_made rules H o held))
+note_by rules H o port note at (Some s) is once held open_now fits =
+    let offers = offers_by rules.kind (last_item rules H) port note in
+    ap offered_of (signals-emitted rules H port note at o (unended rules H o s is held open_now) held)
+    ∙ ap (λ b. offered_of (option_map (λ t. followed_by t (map Offered offers ++ ended_by (terminal_in note))) b)) is
+    ∙ ap (λ xs. offered (followed_by s (map Offered xs ++ ended_by (terminal_in note)))) (now_offered rules.kind (last_item rules H) port note once)
+    ∙ offered-note s port note open_now fits
+    ∙ ap (λ b. offered_of b ++ item_in port note) (sym is)
+
+-- but for Async, an accepted item is offered to each observer that is held and has no end, unless it overflows
+pub each_item_is_offered : EachItemIsOffered
+each_item_is_offered rules H o port note at once holds open_now fits = note_by rules H o port note at (signals rules H o) refl once holds open_now fits
 
 -- THE ITEMS OF A HISTORY
 
@@ -122,17 +211,17 @@ async_note rules H port Completed at open_now =
 async_note rules H port (Failed text) at open_now = refl
 
 async-emitted : (rules : Rules) (H : History) (o port : ℕ) (note : Note) (at : ℕ) (end : Option Note) → rules.kind ≡ Async → is_held rules H o ≡ true → end_of H ≡ end
-    → offered_to rules H o ≡ last_alone rules H
+    → is_bounded rules H o ≡ false → offered_to rules H o ≡ last_alone rules H
     → offered_to rules (H ▹ (port, Emit note at)) o ≡ last_alone rules (H ▹ (port, Emit note at))
-async-emitted rules H o port note at None kind held unended was =
+async-emitted rules H o port note at None kind held unended other was =
     let later = H ▹ (port, Emit note at) in
     let end : end_of later ≡ terminal_in note = ap (λ e. option_or e (terminal_in note)) unended in
-    offered_to-emitted rules H o port note at unended held
+    whole_by rules H o port note at (signals rules H o) refl unended held other
     ∙ ap (λ xs. xs ++ offers_by rules.kind (last_item rules H) port note) (was ∙ nothing_yet rules H unended)
     ∙ ap (λ k. offers_by k (last_item rules H) port note) kind
     ∙ async_note rules H port note at (ap is_some unended)
     ∙ ap (λ e. cond (is_completion e) (last_item rules later) []) (sym end)
-async-emitted rules H o port note at (Some end) kind held ended was =
+async-emitted rules H o port note at (Some end) kind held ended other was =
     let later = H ▹ (port, Emit note at) in
     let same : end_of later ≡ end_of H = ap (λ e. option_or e (terminal_in note)) ended ∙ sym ended in
     ap offered_of (signals-refused rules H port note at o (ap is_some ended))
@@ -142,25 +231,98 @@ async-emitted rules H o port note at (Some end) kind held ended was =
     (sym (items-refused rules H port note at (ap is_some ended)))
 
 async-joined : (rules : Rules) (H : History) (o port : ℕ) (policy : Choice) (first at : ℕ) (b : Bool) → rules.kind ≡ Async → ((joins rules H == o) && may_join rules H) ≡ b
-    → (b ≡ false → offered_to rules H o ≡ last_alone rules H)
+    → (b ≡ true → may_overflow policy.strategy ≡ false) → (b ≡ false → offered_to rules H o ≡ last_alone rules H)
     → offered_to rules (H ▹ (port, Join policy first at)) o ≡ last_alone rules H
-async-joined rules H o port policy first at true kind it was =
-    offered_to-joined rules H o port policy first at it
+async-joined rules H o port policy first at true kind it other was =
+    joined_whole rules H o port policy first at it (other refl)
     ∙ ap (λ k. opening_by k rules H (max (stamp rules H) at)) kind
-async-joined rules H o port policy first at false kind not_it was =
+async-joined rules H o port policy first at false kind not_it other was =
     ap offered_of (signals-not_joined rules H port policy first at o not_it) ∙ was refl
 
--- of an Async subject an observer that is held is offered the last item alone, once the subject completed
+-- the policy of an observer stays
+bounded-followed : (before : Option Signals) (more : List Signal) → bounded_of (option_map (λ s. followed_by s more) before) ≡ bounded_of before
+bounded-followed None more = refl
+bounded-followed (Some s) more = ap (λ (policy : Choice). may_overflow policy.strategy) (policy_of-followed s more)
+
+bounded-asked_by : (b : Bool) (s : Signals) (n : ℕ) → may_overflow (policy_of (cond b (s ▸ Requested n) s)).strategy ≡ may_overflow (policy_of s).strategy
+bounded-asked_by true s n = refl
+bounded-asked_by false s n = refl
+
+bounded-asked : (before : Option Signals) (n : ℕ) → bounded_of (option_map (λ s. cond (may_request n s) (s ▸ Requested n) s) before) ≡ bounded_of before
+bounded-asked None n = refl
+bounded-asked (Some s) n = bounded-asked_by (may_request n s) s n
+
+bounded-emitted : (rules : Rules) (H : History) (o port : ℕ) (note : Note) (at : ℕ) (b : Bool) → (is_held rules H o && not (is_ended H)) ≡ b → is_bounded rules (H ▹ (port, Emit note at)) o ≡ is_bounded rules H o
+bounded-emitted rules H o port note at true fed =
+    ap (λ c. bounded_of (cond c (option_map (λ s. followed_by s (signalled rules H port note)) (signals rules H o)) (signals rules H o))) fed
+    ∙ bounded-followed (signals rules H o) (signalled rules H port note)
+bounded-emitted rules H o port note at false passed =
+    ap (λ c. bounded_of (cond c (option_map (λ s. followed_by s (signalled rules H port note)) (signals rules H o)) (signals rules H o))) passed
+
+bounded-requested : (rules : Rules) (H : History) (o port who n : ℕ) (b : Bool) → ((who == o) && is_held rules H o) ≡ b → is_bounded rules (H ▹ (port, Request who n)) o ≡ is_bounded rules H o
+bounded-requested rules H o port who n true own = ap bounded_of (signals-requested rules H port who n o own) ∙ bounded-asked (signals rules H o) n
+bounded-requested rules H o port who n false other = ap bounded_of (signals-not_requested rules H port who n o other)
+
+bounded-joined : (rules : Rules) (H : History) (o port : ℕ) (policy : Choice) (first at : ℕ) → ((joins rules H == o) && may_join rules H) ≡ true
+    → is_bounded rules (H ▹ (port, Join policy first at)) o ≡ may_overflow policy.strategy
+bounded-joined rules H o port policy first at it =
+    ap bounded_of (signals-joined rules H port policy first at o it)
+    ∙ ap (λ (chosen : Choice). may_overflow chosen.strategy)
+    (policy_of-followed (Start policy ▸ Requested first) (map Offered (opening_by rules.kind rules H (max (stamp rules H) at)) ++ ended_by (end_of H)))
+
+-- of an Async subject an observer that is held, but by Bounded, is offered the last item alone, once the subject completed
 pub async_offers_the_last : AsyncOffersTheLast
-async_offers_the_last rules NoEvents o kind held = refl
-async_offers_the_last rules (H ▹ (port, Emit note at)) o kind held =
-    async-emitted rules H o port note at (end_of H) kind held refl (async_offers_the_last rules H o kind held)
-async_offers_the_last rules (H ▹ (port, Join policy first at)) o kind held =
+async_offers_the_last rules NoEvents o kind held other = refl
+async_offers_the_last rules (H ▹ (port, Emit note at)) o kind held other =
+    let still = sym (bounded-emitted rules H o port note at (is_held rules H o && not (is_ended H)) refl) ∙ other in
+    async-emitted rules H o port note at (end_of H) kind held refl still (async_offers_the_last rules H o kind held still)
+async_offers_the_last rules (H ▹ (port, Join policy first at)) o kind held other =
     async-joined rules H o port policy first at ((joins rules H == o) && may_join rules H) kind refl
-    (λ not_it. async_offers_the_last rules H o kind (sym (is_held-not_joined rules H port policy first at o not_it) ∙ held))
-async_offers_the_last rules (H ▹ (port, Request who n)) o kind held =
-    offered_to-request rules H port who n o ((who == o) && is_held rules H o) refl ∙ async_offers_the_last rules H o kind held
-async_offers_the_last rules (H ▹ (port, Dispose who)) o kind held = async_offers_the_last rules H o kind (held_before rules H port who o held)
+    (λ it. sym (bounded-joined rules H o port policy first at it) ∙ other)
+    (λ not_it. async_offers_the_last rules H o kind (sym (is_held-not_joined rules H port policy first at o not_it) ∙ held)
+    (sym (ap bounded_of (signals-not_joined rules H port policy first at o not_it)) ∙ other))
+async_offers_the_last rules (H ▹ (port, Request who n)) o kind held other =
+    let own = (who == o) && is_held rules H o in
+    offered_to-request rules H port who n o own refl
+    ∙ async_offers_the_last rules H o kind held (sym (bounded-requested rules H o port who n own refl) ∙ other)
+async_offers_the_last rules (H ▹ (port, Dispose who)) o kind held other = async_offers_the_last rules H o kind (held_before rules H port who o held) other
+
+-- before its end an Async subject offers nothing, by any strategy
+take_none : (n : ℕ) → take {A = Item} n [] ≡ []
+take_none zero = refl
+take_none (suc n) = refl
+
+no_item : (note : Note) → terminal_in note ≡ None → is_completion (terminal_in note) ≡ false
+no_item note none = ap is_completion none
+
+nothing_emitted : (rules : Rules) (H : History) (o port : ℕ) (note : Note) (at : ℕ) (held : Bool) → rules.kind ≡ Async → end_of H ≡ None → terminal_in note ≡ None → is_held rules H o ≡ held
+    → offered_to rules H o ≡ [] → offered_to rules (H ▹ (port, Emit note at)) o ≡ []
+nothing_emitted rules H o port note at true kind unended none held was =
+    let first = offered_to-emitted rules H o port note at unended held in
+    let offers : offers_by rules.kind (last_item rules H) port note ≡ [] =
+    ap (λ k. offers_by k (last_item rules H) port note) kind ∙ ap (λ b. cond b (last_item rules H) []) (no_item note none) in
+    first.1 ∙ ap (λ xs. xs ++ take first.0 (offers_by rules.kind (last_item rules H) port note)) was ∙ ap (take first.0) offers ∙ take_none first.0
+nothing_emitted rules H o port note at false kind unended none left was = ap offered_of (signals-passed_by rules H port note at o left) ∙ was
+
+nothing_joined : (rules : Rules) (H : History) (o port : ℕ) (policy : Choice) (first at : ℕ) (b : Bool) → rules.kind ≡ Async → end_of H ≡ None → ((joins rules H == o) && may_join rules H) ≡ b
+    → offered_to rules H o ≡ [] → offered_to rules (H ▹ (port, Join policy first at)) o ≡ []
+nothing_joined rules H o port policy first at true kind unended it was =
+    let some = offered_to-joined rules H o port policy first at it in
+    let z = max (stamp rules H) at in
+    let opening : opening_by rules.kind rules H z ≡ [] = ap (λ k. opening_by k rules H z) kind ∙ nothing_yet rules H unended in
+    some.1 ∙ ap (take some.0) opening ∙ take_none some.0
+nothing_joined rules H o port policy first at false kind unended not_it was = ap offered_of (signals-not_joined rules H port policy first at o not_it) ∙ was
+
+nothing_before : (rules : Rules) (H : History) (o : ℕ) → rules.kind ≡ Async → end_of H ≡ None → offered_to rules H o ≡ []
+nothing_before rules NoEvents o kind unended = refl
+nothing_before rules (H ▹ (port, Emit note at)) o kind unended =
+    let both = neither (end_of H) (terminal_in note) unended in
+    nothing_emitted rules H o port note at (is_held rules H o) kind both.0 both.1 refl (nothing_before rules H o kind both.0)
+nothing_before rules (H ▹ (port, Join policy first at)) o kind unended =
+    nothing_joined rules H o port policy first at ((joins rules H == o) && may_join rules H) kind unended refl (nothing_before rules H o kind unended)
+nothing_before rules (H ▹ (port, Request who n)) o kind unended =
+    offered_to-request rules H port who n o ((who == o) && is_held rules H o) refl ∙ nothing_before rules H o kind unended
+nothing_before rules (H ▹ (port, Dispose who)) o kind unended = nothing_before rules H o kind unended
 
 -- IN ORDER
 
@@ -202,7 +364,7 @@ kind_in_order rules H o port note (Behavior seed) is held unended of = both_of _
 kind_in_order rules H o port note (Replay count age) is held unended of = both_of _ _ _ _ of (all_of (item_in port note))
 kind_in_order rules H o port note Async is held unended of =
     let last = cond (is_completion (terminal_in note)) (last_item rules H) [] in
-    let none : offered_to rules H o ≡ [] = async_offers_the_last rules H o is held ∙ nothing_yet rules H unended in
+    let none : offered_to rules H o ≡ [] = nothing_before rules H o is unended in
     let all : all_items rules H ≡ emitted rules H = ap (λ k. seed_of k ++ emitted rules H) is in
     along (last ++ []) (emitted rules H ++ item_in port note) _ _
     (ap (λ xs. xs ++ last) none ∙ sym (append-nil last))
@@ -221,8 +383,12 @@ accepted_in_order : (rules : Rules) (H : History) (o port : ℕ) (note : Note) (
     → IsSubsequence (offered_to rules H o) (all_items rules H)
     → IsSubsequence (offered_to rules (H ▹ (port, Emit note at)) o) (all_items rules (H ▹ (port, Emit note at)))
 accepted_in_order rules H o port note at true held unended of =
-    along _ _ _ _ (offered_to-emitted rules H o port note at unended held) (all_items-accepted rules H port note at unended)
-    (kind_in_order rules H o port note rules.kind refl held unended of)
+    let offers = offers_by rules.kind (last_item rules H) port note in
+    let first = offered_to-emitted rules H o port note at unended held in
+    along (offered_to rules H o ++ take first.0 offers) (all_items rules H ++ item_in port note) _ _ first.1 (all_items-accepted rules H port note at unended)
+    (some_of_some (offered_to rules H o ++ take first.0 offers) (offered_to rules H o ++ offers) (all_items rules H ++ item_in port note)
+    (both_of (offered_to rules H o) (offered_to rules H o) (take first.0 offers) offers (all_of (offered_to rules H o)) (take_of first.0 offers))
+    (kind_in_order rules H o port note rules.kind refl held unended of))
 accepted_in_order rules H o port note at false left unended of =
     along (offered_to rules H o ++ []) (all_items rules H ++ item_in port note) _ _
     (ap offered_of (signals-passed_by rules H port note at o left) ∙ sym (append-nil (offered_to rules H o)))
@@ -241,9 +407,10 @@ emitted_in_order rules H o port note at (Some end) ended of =
 joined_in_order : (rules : Rules) (H : History) (o port : ℕ) (policy : Choice) (first at : ℕ) (b : Bool) → ((joins rules H == o) && may_join rules H) ≡ b
     → IsSubsequence (offered_to rules H o) (all_items rules H) → IsSubsequence (offered_to rules (H ▹ (port, Join policy first at)) o) (all_items rules H)
 joined_in_order rules H o port policy first at true it of =
-    let z = max (stamp rules H) at in
-    along (opening_by rules.kind rules H z) (all_items rules H) _ _
-    (offered_to-joined rules H o port policy first at it) refl (opening_in_order rules.kind rules H z)
+    let opening = opening_by rules.kind rules H (max (stamp rules H) at) in
+    let some = offered_to-joined rules H o port policy first at it in
+    along (take some.0 opening) (all_items rules H) _ _ some.1 refl
+    (some_of_some (take some.0 opening) opening (all_items rules H) (take_of some.0 opening) (opening_in_order rules.kind rules H (max (stamp rules H) at)))
 joined_in_order rules H o port policy first at false not_it of =
     along (offered_to rules H o) (all_items rules H) _ _
     (ap offered_of (signals-not_joined rules H port policy first at o not_it)) refl of

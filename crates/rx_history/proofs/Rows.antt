@@ -2,7 +2,8 @@
 use Rattle.std.specs.Prelude.{◌≡◌, ℕ, List, [], ◌∷◌, map, None, Some, Result, Ok, Err, refl}
 use Rattle.rx_note.specs.Choices.{choice}
 use Rattle.rx_note.specs.declared.policy.Policy.{Policy}
-use Rattle.rx_note.specs.declared.strategy.Strategy.TheVariants.{Buffer, Drop, Latest}
+use Rattle.rx_note.specs.declared.strategy.Strategy.TheVariants.{Buffer, Drop, Latest, Bounded}
+use Rattle.rx_note.specs.declared.errors.Errors.{Errors}
 use Rattle.rx_note.specs.declared.errors.Errors.TheVariants.{Ahead, Delay}
 use Rattle.rx_note.specs.declared.given.Given.{Given}
 use Rattle.rx_note.specs.declared.note.Note.{Note}
@@ -18,6 +19,7 @@ use Rattle.rx_note.specs.declared.refusal.Refusal.{Refusal}
 use Rattle.rx_note.specs.declared.refusal.Refusal.TheVariants as refused
 use Rattle.rx_history.specs.Histories.{History, NoEvents, ◌▹◌, owed_to, answer, outs}
 use Rattle.rx_history.specs.Stored.{history_of}
+use Rattle.rx_note.specs.Signals.{overflow}
 
 -- the steps of a list of events after H, all from port 0
 abbrev told : Rules → History → List Event → List (Result Answer Refusal × List Given)
@@ -43,6 +45,10 @@ plain = choice Buffer Delay
 -- Buffer and Ahead
 abbrev ahead : Policy
 ahead = choice Buffer Ahead
+
+-- Bounded with this room and an error mode
+abbrev bounded : ℕ → Errors → Policy
+bounded room errors = choice (Bounded room) errors
 
 -- Drop, or Latest, with this room, and Delay
 abbrev dropping : ℕ → Policy
@@ -220,3 +226,21 @@ replay_by_both_bounds : told (of_kind (Replay (Some 2) (Some 10))) NoEvents
     ≡ ((Ok Admitted, []) ∷ (Ok Admitted, []) ∷ (Ok Admitted, []) ∷ (Ok Admitted, [])
     ∷ (Ok (Joined 0), to0 (next c) ∷ to0 (next d) ∷ []) ∷ (Ok (Joined 1), to1 (next d) ∷ []) ∷ [])
 replay_by_both_bounds = refl
+
+overflow_delayed : told default NoEvents
+    (Join (bounded 1 Delay) 1 0 ∷ emits a ∷ emits b ∷ emits c ∷ emits d ∷ Request 0 1 ∷ Emit Completed 0 ∷ [])
+    ≡ ((Ok (Joined 0), []) ∷ (Ok Admitted, to0 (next a) ∷ []) ∷ (Ok Admitted, []) ∷ (Ok Admitted, []) ∷ (Ok Admitted, [])
+    ∷ (Ok Asked, to0 (next b) ∷ to0 overflow ∷ []) ∷ (Ok Admitted, []) ∷ [])
+overflow_delayed = refl
+
+overflow_ahead : told default NoEvents (Join (bounded 1 Ahead) 1 0 ∷ emits a ∷ emits b ∷ emits c ∷ Request 0 1 ∷ [])
+    ≡ ((Ok (Joined 0), []) ∷ (Ok Admitted, to0 (next a) ∷ []) ∷ (Ok Admitted, []) ∷ (Ok Admitted, to0 overflow ∷ []) ∷ (Ok Asked, []) ∷ [])
+overflow_ahead = refl
+
+overflow_room_zero : told default NoEvents (Join (bounded 0 Delay) 0 0 ∷ Join plain 9 0 ∷ emits a ∷ [])
+    ≡ ((Ok (Joined 0), []) ∷ (Ok (Joined 1), []) ∷ (Ok Admitted, to0 overflow ∷ to1 (next a) ∷ []) ∷ [])
+overflow_room_zero = refl
+
+overflow_in_the_opening : told (of_kind (Replay None None)) NoEvents (emits a ∷ emits b ∷ Join (bounded 1 Delay) 0 0 ∷ Request 0 2 ∷ [])
+    ≡ ((Ok Admitted, []) ∷ (Ok Admitted, []) ∷ (Ok (Joined 0), []) ∷ (Ok Asked, to0 (next a) ∷ to0 overflow ∷ []) ∷ [])
+overflow_in_the_opening = refl

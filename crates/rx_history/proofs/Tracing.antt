@@ -1,15 +1,20 @@
 -- A trace keeps up with the signals: what each of them makes of it.
-use Rattle.std.proofs.Common.{◌≡◌, ℕ, zero, suc, ◌+◌, ◌-◌, ◌<◌, ◌≤◌, Bool, true, false, List, [], ◌∷◌, ◌++◌, length, cond, map, take, drop, Option, None, Some, option_to_list, refl, sym, ap, subst, ◌∙◌, arith}
-use Rattle.std.proofs.lemmas.List.{append-nil, map-append, length-take, length-append, take_all, drop_at}
+use Rattle.std.proofs.Common.{◌≡◌, ℕ, zero, suc, ◌+◌, ◌-◌, ◌<◌, ◌≤◌, Bool, true, false, List, [], ◌∷◌, ◌++◌, length, cond, map, take, drop, Option, None, Some, is_some, option_to_list, inl, inr, refl, sym, ap, subst, ◌∙◌, arith}
+use Rattle.std.proofs.lemmas.Bool.{cases_lt, lt-ltb, le-ltb}
+use Rattle.std.proofs.lemmas.List.{map-append, length-take, length-append, take_all, drop_at}
 use Rattle.rx_note.specs.declared.item.Item.{Item}
 use Rattle.rx_note.specs.declared.note.Note.{Note}
 use Rattle.rx_note.specs.declared.note.Note.TheVariants.{Next}
 use Rattle.rx_note.specs.Choices.{Choice}
+use Rattle.rx_note.specs.declared.strategy.Strategy.{Strategy}
+use Rattle.rx_note.specs.declared.strategy.Strategy.TheVariants.{Buffer, Drop, Latest, Bounded}
+use Rattle.rx_note.proofs.Sending.{sent-behind, sent-second, sent-end, sent-fits, sent-overflow, sent-owed, overflows-by, overflows-full, overflows-free}
 use Rattle.rx_history.specs.Histories.{followed_by, ended_by}
-use Rattle.rx_note.specs.Signals.{Signal, Start, Requested, Offered, Ended, Signals, ◌▸◌, policy_of, demand, beyond_room, terminal_of, goes_ahead, line_items, line, given, waiting_items, waiting}
+use Rattle.rx_note.specs.Signals.{Start, Requested, Offered, Ended, Signals, ◌▸◌, policy_of, demand, beyond_room, terminal_of, overflow, are_too_many, overflows, sent, goes_ahead, line_items, line, given, waiting_items, waiting, owed}
 use Rattle.rx_note.specs.Queues.{queued}
 use Rattle.rx_note.proofs.Lines.{line_items-owed, line_items-queued, line_items-ended, line_items-ahead, owed-rest, given-waiting}
-use Rattle.rx_history.proofs.Endings.{terminal_of-offers}
+use Rattle.rx_history.proofs.Cases.{absent}
+use Rattle.rx_history.proofs.Feeding.{followed_by-append}
 use Rattle.rx_history.proofs.Rooms.{waits_in_room}
 use Rattle.rx_history.specs.declared.trace.Trace.{Trace}
 use Rattle.rx_history.specs.Traces.{Traces}
@@ -132,37 +137,98 @@ opens new policy first is_strategy is_errors is_items is_given is_owed is_end = 
   has_end = is_end;
 }
 
--- signals that follow in two parts
-followed_by-append : (s : Signals) (front back : List Signal) → followed_by s (front ++ back) ≡ followed_by (followed_by s front) back
-followed_by-append s [] back = refl
-followed_by-append s (signal ∷ front) back = followed_by-append (s ▸ signal) front back
+-- SIGNALS THAT ARE SENT
 
--- items that are offered end nothing
-followed-open : (s : Signals) (items : List Item) → terminal_of s ≡ None → terminal_of (followed_by s (map Offered items)) ≡ None
-followed-open s items open_now =
-    ap (λ more. terminal_of (followed_by s more)) (sym (append-nil (map Offered items))) ∙ terminal_of-offers s items None refl ∙ open_now
+some_end : (end : Option Note) → is_some end ≡ true → (terminal : Note) × (end ≡ Some terminal)
+some_end None ended = cc
+some_end (Some terminal) ended = (terminal, refl)
+
+-- once the observer has an end nothing follows
+pub offer_behind : (trace : Trace) (item : Item) (s : Signals) → Traces trace s → is_some trace.end ≡ true → Traces trace (sent s (Offered item))
+offer_behind trace item s was ended =
+    let end = some_end trace.end ended in
+    subst (λ (t : Signals). Traces trace t) (sym (sent-behind s end.0 item (sym was.has_end ∙ end.1))) was
+
+pub end_behind : (trace : Trace) (terminal : Note) (s : Signals) → Traces trace s → is_some trace.end ≡ true → Traces trace (sent s (Ended terminal))
+end_behind trace terminal s was ended =
+    let end = some_end trace.end ended in
+    subst (λ (t : Signals). Traces trace t) (sym (sent-second s end.0 terminal (sym was.has_end ∙ end.1))) was
+
+-- before it has one, its signals have none
+pub unended : (trace : Trace) (s : Signals) → Traces trace s → is_some trace.end ≡ false → terminal_of s ≡ None
+unended trace s was open_now = sym was.has_end ∙ absent trace.end open_now
+
+pub end_sent : (new : Trace) (terminal : Note) (s : Signals) → terminal_of s ≡ None → Traces new (s ▸ Ended terminal) → Traces new (sent s (Ended terminal))
+end_sent new terminal s open_now ended = subst (λ (t : Signals). Traces new t) (sym (sent-end s terminal open_now)) ended
+
+-- an item that is owed is sent and given at once
+pub given_sent : (old new : Trace) (item : Item) (s : Signals) → Traces old s → is_some old.end ≡ false → 0 < old.owed
+    → new.strategy ≡ old.strategy → new.errors ≡ old.errors → new.items.items ≡ old.items.items ++ item ∷ [] → new.given ≡ length new.items.items → new.owed ≡ old.owed - 1 → new.end ≡ old.end
+    → Traces new (sent s (Offered item))
+given_sent old new item s was none owes is_strategy is_errors is_items is_given is_owed is_end =
+    let open_now = unended old s was none in
+    subst (λ (t : Signals). Traces new t) (sym (sent-owed s item open_now (omega (arith, was.has_owed, owes))))
+    (offer_given old new item s was open_now owes is_strategy is_errors is_items is_given is_owed is_end)
+
+-- an item that is not owed overflows where one more than wait is too many
+too_many : (g : Strategy) (s : Signals) → (policy_of s).strategy ≡ g → terminal_of s ≡ None → owed s ≡ 0 → overflows s ≡ are_too_many g (length (waiting_items s) + 1)
+too_many Buffer s e open_now owes = overflows-by Buffer s e
+too_many (Drop room) s e open_now owes = overflows-by (Drop room) s e
+too_many (Latest room) s e open_now owes = overflows-by (Latest room) s e
+too_many (Bounded room) s e open_now owes =
+    elim (cases_lt (length (waiting_items s)) room) [
+      | inl free ↦ overflows-free room s e open_now (inr free) ∙ sym (le-ltb room (length (waiting_items s) + 1) (omega (arith, free)))
+      | inr full ↦ overflows-full room s e open_now owes full ∙ sym (lt-ltb room (length (waiting_items s) + 1) (omega (arith, full)))
+    ]
+
+told_so : (trace : Trace) (s : Signals) → Traces trace s → terminal_of s ≡ None → trace.owed ≡ 0 → overflows s ≡ are_too_many trace.strategy (length (drop trace.given trace.items.items) + 1)
+told_so trace s was open_now owes =
+    let place : trace.given ≡ demand s = omega (arith, was.has_given, was.has_owed, owed-rest s, length-take (demand s) (line_items s)) in
+    let waits : drop trace.given trace.items.items ≡ waiting_items s = ap (λ n. drop n trace.items.items) place ∙ ap (drop (demand s)) was.has_items in
+    too_many (policy_of s).strategy s refl open_now (omega (arith, was.has_owed))
+    ∙ ap (λ g. are_too_many g (length (waiting_items s) + 1)) (sym was.has_strategy)
+    ∙ ap (λ (xs : List Item). are_too_many trace.strategy (length xs + 1)) (sym waits)
+
+pub waits_sent : (old new : Trace) (item : Item) (s : Signals) → Traces old s → is_some old.end ≡ false → old.owed ≡ 0 → are_too_many old.strategy (length (drop old.given old.items.items) + 1) ≡ false
+    → new.strategy ≡ old.strategy → new.errors ≡ old.errors
+    → (beyond_room old.strategy (length (drop old.given old.items.items)) ≡ 0
+    → new.items.items ≡ take old.given old.items.items ++ queued old.strategy (drop old.given old.items.items) item)
+    → new.given ≡ old.given → new.owed ≡ old.owed → new.end ≡ old.end
+    → Traces new (sent s (Offered item))
+waits_sent old new item s was none owes fits is_strategy is_errors queues is_given is_owed is_end =
+    let open_now = unended old s was none in
+    subst (λ (t : Signals). Traces new t) (sym (sent-fits s item open_now (told_so old s was open_now owes ∙ fits)))
+    (offer_waits old new item s was open_now owes is_strategy is_errors queues is_given is_owed is_end)
+
+pub overflow_sent : (old new : Trace) (item : Item) (terminal : Note) (s : Signals) → Traces old s → is_some old.end ≡ false → old.owed ≡ 0 → are_too_many old.strategy (length (drop old.given old.items.items) + 1) ≡ true
+    → terminal ≡ overflow → Traces new (sent s (Ended terminal)) → Traces new (sent s (Offered item))
+overflow_sent old new item terminal s was none owes over is ended =
+    let open_now = unended old s was none in
+    let same : sent s (Offered item) ≡ sent s (Ended terminal) =
+    sent-overflow s item open_now (told_so old s was open_now owes ∙ over) ∙ sym (sent-end s overflow open_now) ∙ ap (λ (t : Note). sent s (Ended t)) (sym is) in
+    subst (λ (t : Signals). Traces new t) (sym same) ended
 
 -- one item more is offered
-pub follows_item : (old new : Trace) (s : Signals) (items : List Item) (item : Item) → terminal_of s ≡ None
-    → Traces old (followed_by s (map Offered items)) → ((t : Signals) → terminal_of t ≡ None → Traces old t → Traces new (t ▸ Offered item))
+pub follows_item : (old new : Trace) (s : Signals) (items : List Item) (item : Item)
+    → Traces old (followed_by s (map Offered items)) → ((t : Signals) → Traces old t → Traces new (sent t (Offered item)))
     → Traces new (followed_by s (map Offered (items ++ item ∷ [])))
-follows_item old new s items item open_now was offers =
+follows_item old new s items item was offers =
     let P : Signals → Type 0 = λ t. Traces new t in
     subst P
     (sym (ap (followed_by s) (map-append Offered items (item ∷ [])) ∙ followed_by-append s (map Offered items) (Offered item ∷ [])))
-    (offers (followed_by s (map Offered items)) (followed-open s items open_now) was)
+    (offers (followed_by s (map Offered items)) was)
 
 -- the end follows the items
-pub follows_end : (old new : Trace) (s : Signals) (items all : List Item) (end : Option Note) (terminal : Note) → terminal_of s ≡ None → items ≡ all → end ≡ Some terminal
-    → Traces old (followed_by s (map Offered items)) → ((t : Signals) → terminal_of t ≡ None → Traces old t → Traces new (t ▸ Ended terminal))
+pub follows_end : (old new : Trace) (s : Signals) (items all : List Item) (end : Option Note) (terminal : Note) → items ≡ all → end ≡ Some terminal
+    → Traces old (followed_by s (map Offered items)) → ((t : Signals) → Traces old t → Traces new (sent t (Ended terminal)))
     → Traces new (followed_by s (map Offered all ++ ended_by end))
-follows_end old new s items all end terminal open_now same is was ends =
+follows_end old new s items all end terminal same is was ends =
     let P : Signals → Type 0 = λ t. Traces new t in
     subst P
     (sym (ap (λ e. followed_by s (map Offered all ++ ended_by e)) is
     ∙ ap (λ xs. followed_by s (map Offered xs ++ ended_by (Some terminal))) (sym same)
     ∙ followed_by-append s (map Offered items) (ended_by (Some terminal))))
-    (ends (followed_by s (map Offered items)) (followed-open s items open_now) was)
+    (ends (followed_by s (map Offered items)) was)
 
 -- the notes of the items and of the end are the line
 pub line_is : (trace : Trace) (s : Signals) → Traces trace s → map Next trace.items.items ++ option_to_list trace.end ≡ line s

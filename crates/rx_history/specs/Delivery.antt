@@ -1,8 +1,9 @@
 -- The laws of delivery: what every observer of every history can rely on.
 -- Order, and that nothing follows a terminal, are those of the Observable Contract
 -- (reactivex.io/documentation/contract.html); that a request bounds what is given is that of the Backpressure operators
--- (reactivex.io/documentation/operators/backpressure.html); that a room bounds what waits is this project's own.
-use Rattle.std.specs.Prelude.{◌≡◌, ℕ, ◌+◌, ◌<◌, ◌≤◌, ◌==◌, Bool, true, false, if◌then◌else◌, List, [], ◌∷◌, ◌++◌, length, map, Option, Some, is_some, option_to_list, ◌⊎◌}
+-- (reactivex.io/documentation/operators/backpressure.html); that a room bounds what waits, and that an overflow ends one
+-- observer alone, are this project's own.
+use Rattle.std.specs.Prelude.{◌≡◌, ℕ, ◌+◌, ◌<◌, ◌≤◌, ◌==◌, Bool, true, false, if◌then◌else◌, List, [], ◌∷◌, ◌++◌, length, map, Option, None, Some, is_some, option_to_list, ◌⊎◌}
 use Rattle.std.specs.List.{filter, items_where_true}
 use Rattle.std.specs.Option.{option_map, option_map_or}
 use Rattle.rx_note.specs.declared.given.Given.{Given}
@@ -14,12 +15,12 @@ use Rattle.rx_note.specs.declared.rules.Rules.{Rules}
 use Rattle.rx_note.specs.declared.kind.Kind.{Kind}
 use Rattle.rx_note.specs.declared.kind.Kind.TheVariants.{Publish, Behavior, Async, Replay}
 use Rattle.rx_note.specs.declared.strategy.Strategy.{Strategy}
-use Rattle.rx_note.specs.declared.strategy.Strategy.TheVariants.{Buffer, Drop, Latest}
+use Rattle.rx_note.specs.declared.strategy.Strategy.TheVariants.{Buffer, Drop, Latest, Bounded}
 use Rattle.rx_note.specs.declared.text.Text.{Text}
 use Rattle.rx_note.specs.declared.errors.Errors.{Errors}
 use Rattle.rx_note.specs.declared.errors.Errors.TheVariants.{Ahead, Delay}
-use Rattle.rx_note.specs.Choices.{Choice, choice}
-use Rattle.rx_note.specs.Signals.{Requested, Offered, Ended, Signals, Start, ◌▸◌, policy_of, demand}
+use Rattle.rx_note.specs.Choices.{Choice}
+use Rattle.rx_note.specs.Signals.{Requested, Offered, Ended, Signals, Start, ◌▸◌, policy_of, demand, terminal_of, may_overflow, overflow, overflows, goes_ahead}
 use Rattle.rx_history.specs.Histories.{Entry, History, ◌▹◌, terminal_in, end_of, is_ended, is_completion, joins, is_held, item_in, items, unstamped, last_item, seed_item, signals, given_to, line_of, waiting_for, owed_to, outs}
 
 -- THE WORDS
@@ -67,6 +68,33 @@ strategy_by rules H o = option_map (λ policy. policy.strategy) (policy_by rules
 abbrev pub errors_by : Rules → History → ℕ → Option Errors
 errors_by rules H o = option_map (λ policy. policy.errors) (policy_by rules H o)
 
+-- the end of observer o, once it has one: its subject's, or an overflow
+abbrev pub end_for : Rules → History → ℕ → Option Note
+end_for rules H o = option_map_or terminal_of (signals rules H o) None
+
+-- whether an item more would overflow for observer o
+abbrev pub overflows_now : Rules → History → ℕ → Bool
+overflows_now rules H o = option_map_or overflows (signals rules H o) false
+
+-- whether an overflow may end observer o
+abbrev pub is_bounded : Rules → History → ℕ → Bool
+is_bounded rules H o = option_map_or may_overflow (strategy_by rules H o) false
+
+-- whether each item that is offered is kept, by strategy
+abbrev pub loses_nothing : Strategy → Bool
+loses_nothing Buffer = true
+loses_nothing (Drop room) = false
+loses_nothing (Latest room) = false
+loses_nothing (Bounded room) = true
+
+-- whether signals have an end that goes ahead of the items that wait
+abbrev pub ends_ahead : Signals → Bool
+ends_ahead s = option_map_or (goes_ahead (policy_of s).errors) (terminal_of s) false
+
+-- whether observer o has such an end
+abbrev pub went_ahead : Rules → History → ℕ → Bool
+went_ahead rules H o = option_map_or ends_ahead (signals rules H o) false
+
 -- the items of the accepted Emits
 abbrev pub emitted : Rules → History → List Item
 emitted rules H = unstamped (items rules H)
@@ -112,17 +140,18 @@ abbrev pub EachPortIsInOrder : Type 0
 EachPortIsInOrder =
     (rules : Rules) (H : History) (o port : ℕ) → IsSubsequence (of_port port (items_among (line_of rules H o))) (of_port port (all_items rules H))
 
--- but for Async, an item that is accepted is offered to every observer that is held
+-- but for Async, an item that is accepted is offered to every observer that is held and has no end yet, unless it overflows
 abbrev pub EachItemIsOffered : Type 0
 EachItemIsOffered =
-    (rules : Rules) (H : History) (o port : ℕ) (note : Note) (at : ℕ) → offers_at_once rules.kind ≡ true → is_held rules H o ≡ true → is_ended H ≡ false
+    (rules : Rules) (H : History) (o port : ℕ) (note : Note) (at : ℕ) → offers_at_once rules.kind ≡ true → is_held rules H o ≡ true
+    → end_for rules H o ≡ None → overflows_now rules H o ≡ false
     → offered_to rules (H ▹ (port, Emit note at)) o ≡ offered_to rules H o ++ item_in port note
 
 -- of an Async subject an observer that is held is offered the last item alone, and only once the subject completed,
--- whether it joined before that or after
+-- whether it joined before that or after; but to one by Bounded the item may overflow
 abbrev pub AsyncOffersTheLast : Type 0
 AsyncOffersTheLast =
-    (rules : Rules) (H : History) (o : ℕ) → rules.kind ≡ Async → is_held rules H o ≡ true
+    (rules : Rules) (H : History) (o : ℕ) → rules.kind ≡ Async → is_held rules H o ≡ true → is_bounded rules H o ≡ false
     → offered_to rules H o ≡ (if is_completion (end_of H) then last_item rules H else [])
 
 -- GIVEN AND WAITING
@@ -149,11 +178,24 @@ TerminalIsLast =
     (rules : Rules) (H : History) (o : ℕ) (front : List Note) (note : Note) (back : List Note) → IsTerminal note
     → line_of rules H o ≡ front ++ note ∷ back → back ≡ []
 
--- the line of an observer that is held is its items, and then the end of the subject where there is one
+-- but by Bounded, the line of an observer that is held is its items, and then the end of the subject where there is one
 abbrev pub LineEndsAsTheSubject : Type 0
 LineEndsAsTheSubject =
-    (rules : Rules) (H : History) (o : ℕ) → is_held rules H o ≡ true
+    (rules : Rules) (H : History) (o : ℕ) → is_held rules H o ≡ true → is_bounded rules H o ≡ false
     → line_of rules H o ≡ map Next (items_among (line_of rules H o)) ++ option_to_list (end_of H)
+
+-- by any strategy it is its items, and then its own end: as the subject's, or an overflow
+abbrev pub EndsAsTheSubjectOrOverflows : Type 0
+EndsAsTheSubjectOrOverflows =
+    (rules : Rules) (H : History) (o : ℕ) → is_held rules H o ≡ true
+    → (line_of rules H o ≡ map Next (items_among (line_of rules H o)) ++ option_to_list (end_for rules H o))
+    × ((end_for rules H o ≡ end_of H) ⊎ (end_for rules H o ≡ Some overflow))
+
+-- whatever comes then, an observer that has an end keeps that end, and is offered nothing more
+abbrev pub EndStays : Type 0
+EndStays =
+    (rules : Rules) (H : History) (o : ℕ) (entry : Entry) (end : Note) → end_for rules H o ≡ Some end
+    → (end_for rules (H ▹ entry) o ≡ Some end) × (offered_to rules (H ▹ entry) o ≡ offered_to rules H o)
 
 -- once a terminal was given, nothing more is
 abbrev pub NothingFollowsATerminal : Type 0
@@ -167,13 +209,39 @@ NothingFollowsTheEnd =
     (rules : Rules) (H : History) (o : ℕ) (entry : Entry) → is_held rules H o ≡ true → is_ended H ≡ true
     → waiting_for rules H o ≡ [] → given_to rules (H ▹ entry) o ≡ given_to rules H o
 
--- an error that is emitted is given at once to an observer by Ahead that is held, whatever it requested, and nothing waits
--- for it any more
+-- an error that is emitted is given at once to an observer by Ahead that is held and has no end yet, whatever it requested,
+-- and nothing waits for it any more
 abbrev pub ErrorGoesAhead : Type 0
 ErrorGoesAhead =
-    (rules : Rules) (H : History) (o port : ℕ) (text : Text) (at : ℕ) → is_held rules H o ≡ true → errors_by rules H o ≡ Some Ahead → is_ended H ≡ false
+    (rules : Rules) (H : History) (o port : ℕ) (text : Text) (at : ℕ) → is_held rules H o ≡ true → errors_by rules H o ≡ Some Ahead
+    → end_for rules H o ≡ None
     → (given_to rules (H ▹ (port, Emit (Failed text) at)) o ≡ given_to rules H o ++ Failed text ∷ [])
     × (waiting_for rules (H ▹ (port, Emit (Failed text) at)) o ≡ [])
+
+-- AN OVERFLOW
+
+-- but for Async, an item that overflows ends the observer by that; it is not offered
+abbrev pub OverflowEndsIt : Type 0
+OverflowEndsIt =
+    (rules : Rules) (H : History) (o port : ℕ) (item : Item) (at : ℕ) → offers_at_once rules.kind ≡ true → is_held rules H o ≡ true
+    → end_for rules H o ≡ None → overflows_now rules H o ≡ true
+    → (end_for rules (H ▹ (port, Emit (Next item) at)) o ≡ Some overflow)
+    × (offered_to rules (H ▹ (port, Emit (Next item) at)) o ≡ offered_to rules H o)
+
+-- by Delay the overflow comes behind all that the observer was to be given
+abbrev pub OverflowStaysBehind : Type 0
+OverflowStaysBehind =
+    (rules : Rules) (H : History) (o port : ℕ) (item : Item) (at : ℕ) → offers_at_once rules.kind ≡ true → is_held rules H o ≡ true
+    → errors_by rules H o ≡ Some Delay → end_for rules H o ≡ None → overflows_now rules H o ≡ true
+    → line_of rules (H ▹ (port, Emit (Next item) at)) o ≡ line_of rules H o ++ overflow ∷ []
+
+-- by Ahead it is given at once, and nothing waits for the observer any more
+abbrev pub OverflowGoesAhead : Type 0
+OverflowGoesAhead =
+    (rules : Rules) (H : History) (o port : ℕ) (item : Item) (at : ℕ) → offers_at_once rules.kind ≡ true → is_held rules H o ≡ true
+    → errors_by rules H o ≡ Some Ahead → end_for rules H o ≡ None → overflows_now rules H o ≡ true
+    → (given_to rules (H ▹ (port, Emit (Next item) at)) o ≡ given_to rules H o ++ overflow ∷ [])
+    × (waiting_for rules (H ▹ (port, Emit (Next item) at)) o ≡ [])
 
 -- THE DISPOSED
 
@@ -206,14 +274,15 @@ GivenWithinRequests = (rules : Rules) (H : History) (o : ℕ) → length (items_
 abbrev pub NothingWaitsWhileOwed : Type 0
 NothingWaitsWhileOwed = (rules : Rules) (H : History) (o : ℕ) → 0 < owed_to rules H o → waiting_for rules H o ≡ []
 
--- under Drop and Latest no more items wait than there is room for
+-- under Drop, Latest and Bounded no more items wait than there is room for
 abbrev pub WaitsWithinRoom : Type 0
 WaitsWithinRoom =
-    (rules : Rules) (H : History) (o room : ℕ) → (strategy_by rules H o ≡ Some (Drop room)) ⊎ (strategy_by rules H o ≡ Some (Latest room))
+    (rules : Rules) (H : History) (o room : ℕ)
+    → (strategy_by rules H o ≡ Some (Drop room)) ⊎ (strategy_by rules H o ≡ Some (Latest room)) ⊎ (strategy_by rules H o ≡ Some (Bounded room))
     → length (items_among (waiting_for rules H o)) ≤ room
 
--- under Buffer and Delay every item offered is in the line
-abbrev pub BufferKeepsAll : Type 0
-BufferKeepsAll =
-    (rules : Rules) (H : History) (o : ℕ) → is_held rules H o ≡ true → policy_by rules H o ≡ Some (choice Buffer Delay)
-    → items_among (line_of rules H o) ≡ offered_to rules H o
+-- under Buffer and Bounded every item offered is in the line, as long as no end went ahead of those that waited
+abbrev pub KeepsAll : Type 0
+KeepsAll =
+    (rules : Rules) (H : History) (o : ℕ) → is_held rules H o ≡ true → option_map loses_nothing (strategy_by rules H o) ≡ Some true
+    → went_ahead rules H o ≡ false → items_among (line_of rules H o) ≡ offered_to rules H o

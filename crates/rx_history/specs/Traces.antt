@@ -21,10 +21,6 @@ MayTrace None (Some s) = ⊥
 MayTrace (Some trace) None = ⊥
 MayTrace (Some trace) (Some s) = Traces trace s
 
--- the signals, where there are any, have no end yet
-abbrev pub AreOpen : Option Signals → Type 0
-AreOpen signals = (s : Signals) → signals ≡ Some s → terminal_of s ≡ None
-
 -- there are signals of the observer, and the trace is theirs
 pub record TracesObserver (rules : Rules) (H : History) (o : ℕ) (trace : Trace) : Type 0 where
   pub these : Signals

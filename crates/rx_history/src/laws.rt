@@ -1,7 +1,7 @@
 //! The laws of delivery, for every history: each function does nothing, and its contract is one law of
 //! `specs/Delivery.antt`.
 
-ghost use Rattle.rx_history.specs.Delivery.{LineIsInOrder, OffersAreInOrder, EachPortIsInOrder, EachItemIsOffered, AsyncOffersTheLast, GivenThenWaiting, GivenOnlyGrows, OutsAreGiven, TerminalIsLast, LineEndsAsTheSubject, NothingFollowsATerminal, NothingFollowsTheEnd, ErrorGoesAhead, DisposeDiscards, NothingFollowsADispose, GivenAndOwed, GivenWithinRequests, NothingWaitsWhileOwed, WaitsWithinRoom, BufferKeepsAll};
+ghost use Rattle.rx_history.specs.Delivery.{LineIsInOrder, OffersAreInOrder, EachPortIsInOrder, EachItemIsOffered, AsyncOffersTheLast, GivenThenWaiting, GivenOnlyGrows, OutsAreGiven, TerminalIsLast, LineEndsAsTheSubject, EndsAsTheSubjectOrOverflows, EndStays, NothingFollowsATerminal, NothingFollowsTheEnd, ErrorGoesAhead, OverflowEndsIt, OverflowStaysBehind, OverflowGoesAhead, DisposeDiscards, NothingFollowsADispose, GivenAndOwed, GivenWithinRequests, NothingWaitsWhileOwed, WaitsWithinRoom, KeepsAll};
 
 /// The items of a line are items offered to the observer, in their order and none twice.
 pub fn line_is_in_order()
@@ -18,12 +18,13 @@ pub fn each_port_is_in_order()
     ensures { EachPortIsInOrder }
 {}
 
-/// But for Async, an item that is accepted is offered to every observer that is held.
+/// But for Async, an item that is accepted is offered to every observer that is held and has no end, unless it overflows.
 pub fn each_item_is_offered()
     ensures { EachItemIsOffered }
 {}
 
-/// Of an Async subject an observer that is held is offered the last item alone, and only once the subject completed.
+/// Of an Async subject an observer that is held, but by Bounded, is offered the last item alone, and only once the subject
+/// completed.
 pub fn async_offers_the_last()
     ensures { AsyncOffersTheLast }
 {}
@@ -48,9 +49,19 @@ pub fn terminal_is_last()
     ensures { TerminalIsLast }
 {}
 
-/// The line of an observer that is held ends by the terminal of its subject, once there is one.
+/// But by Bounded, the line of an observer that is held ends by the terminal of its subject, once there is one.
 pub fn line_ends_as_the_subject()
     ensures { LineEndsAsTheSubject }
+{}
+
+/// By any strategy it ends as the subject or by an overflow.
+pub fn ends_as_the_subject_or_overflows()
+    ensures { EndsAsTheSubjectOrOverflows }
+{}
+
+/// An observer that has an end keeps it, and is offered nothing more.
+pub fn end_stays()
+    ensures { EndStays }
 {}
 
 /// Once a terminal was given, nothing more is.
@@ -66,6 +77,21 @@ pub fn nothing_follows_the_end()
 /// An error that is emitted is given at once to an observer by Ahead, and nothing waits for it any more.
 pub fn error_goes_ahead()
     ensures { ErrorGoesAhead }
+{}
+
+/// An item that overflows ends the observer.
+pub fn overflow_ends_it()
+    ensures { OverflowEndsIt }
+{}
+
+/// By Delay an overflow comes behind all that the observer was to be given.
+pub fn overflow_stays_behind()
+    ensures { OverflowStaysBehind }
+{}
+
+/// By Ahead an overflow is given at once, and nothing waits any more.
+pub fn overflow_goes_ahead()
+    ensures { OverflowGoesAhead }
 {}
 
 /// An observer that leaves is given nothing by that, and what waited for it is discarded.
@@ -93,12 +119,12 @@ pub fn nothing_waits_while_owed()
     ensures { NothingWaitsWhileOwed }
 {}
 
-/// Under Drop and Latest no more items wait than there is room for.
+/// Under Drop, Latest and Bounded no more items wait than there is room for.
 pub fn waits_within_room()
     ensures { WaitsWithinRoom }
 {}
 
-/// Under Buffer and Delay every item offered is in the line.
-pub fn buffer_keeps_all()
-    ensures { BufferKeepsAll }
+/// Under Buffer and Bounded every item offered is in the line, as long as no end went ahead of those that waited.
+pub fn keeps_all()
+    ensures { KeepsAll }
 {}

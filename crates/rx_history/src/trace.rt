@@ -1,7 +1,7 @@
-ghost use Rattle.std.specs.Prelude.{◌≡◌, ◌≤◌, ◌++◌, if◌then◌else◌, length, map, take, drop, None, IfOk, OnOk, vec_len, option_to_list};
+ghost use Rattle.std.specs.Prelude.{◌≡◌, ◌+◌, ◌≤◌, ◌++◌, if◌then◌else◌, length, map, take, drop, IfOk, OnOk, vec_len, option_to_list};
 ghost use Rattle.rx_note.specs.declared.note.Note.TheVariants.{Next};
 ghost use Rattle.rx_note.specs.Queues.{queued};
-ghost use Rattle.rx_note.specs.Signals.{Signals, Start, ◌▸◌, Requested, Offered, Ended, beyond_room, terminal_of, goes_ahead, line, given, waiting};
+ghost use Rattle.rx_note.specs.Signals.{Signals, Start, ◌▸◌, Requested, Offered, Ended, are_too_many, sent, beyond_room, goes_ahead, line, given, waiting};
 ghost use Rattle.rx_history.specs.Histories.{may_request, followed_by, ended_by};
 
 use rx_heap::{Heap, Memory};
@@ -50,14 +50,13 @@ impl Trace {
         }
     }
 
-    /// Items are offered, and then the subject ends where there is an end.
+    /// Items are offered, and then the subject ends where there is an end. Once the observer has an end, nothing follows.
     pub(crate) fn follow(
         &mut self,
         offers: Vec<Item, Heap>,
         end: Option<Note>,
     ) -> Result<(), Memory>
-        ensures { OnOk result ((s : Signals) → terminal_of s ≡ None → Traces self.old s
-            → Traces self.new (followed_by s (map Offered offers.items ++ ended_by end))) }
+        ensures { OnOk result ((s : Signals) → Traces self.old s → Traces self.new (followed_by s (map Offered offers.items ++ ended_by end))) }
     {
         for item in offers {
             self.offer(item)?;
@@ -68,30 +67,50 @@ impl Trace {
         Ok(())
     }
 
-    // An item is offered: it is given at once where it is owed, and queued by the strategy where it is not.
+    // An item is offered: it is given at once where it is owed; where it is not, it is queued by the strategy, or it
+    // overflows.
     fn offer(&mut self, item: Item) -> Result<(), Memory>
-        ensures { OnOk result ((s : Signals) → terminal_of s ≡ None → Traces self.old s → Traces self.new (s ▸ Offered item)) }
+        ensures { OnOk result ((s : Signals) → Traces self.old s → Traces self.new (sent s (Offered item))) }
     {
+        if self.end.is_some() {
+            return Ok(());
+        }
         if self.owed > 0 {
             self.items.push(item)?;
             self.owed -= 1;
             self.given = self.items.len();
+        } else if self.overflows() {
+            let overflow = Note::overflow(self.items.allocator().clone()?)?;
+            self.end(overflow);
         } else {
             queue(self.strategy, &mut self.items, self.given, item)?;
         }
         Ok(())
     }
 
-    // The subject ends. An error that goes ahead leaves of the items those that were given.
-    fn end(&mut self, terminal: Note)
-        ensures { (s : Signals) → terminal_of s ≡ None → Traces self.old s → Traces self.new (s ▸ Ended terminal) }
+    // Whether an item more is too many, where none is owed.
+    fn overflows(&self) -> bool
+        ensures { result ≡ are_too_many self.now.strategy (length (drop self.now.given self.now.items.items) + 1) }
     {
+        match self.strategy {
+            Strategy::Bounded(room) => self.items.len() - self.given >= usize::from(room),
+            Strategy::Buffer | Strategy::Drop(_) | Strategy::Latest(_) => false,
+        }
+    }
+
+    // The end comes, unless the observer has one. An error that goes ahead leaves of the items those that were given.
+    fn end(&mut self, terminal: Note)
+        ensures { (s : Signals) → Traces self.old s → Traces self.new (sent s (Ended terminal)) }
+    {
+        if self.end.is_some() {
+            return;
+        }
         let kept = self.kept_at(&terminal);
         self.items.truncate(kept);
         self.end = Some(terminal);
     }
 
-    // How many items of the line are left where the subject ends.
+    // How many items of the line are left where the end comes.
     fn kept_at(&self, terminal: &Note) -> usize
         ensures { result ≡ (if goes_ahead self.now.errors terminal.now then self.now.given else length self.now.items.items) }
     {
@@ -171,7 +190,7 @@ impl Trace {
 }
 
 // Queues an item by a strategy. The first `given` items were given, and the others wait: at most as many as there is room
-// for, so that with Latest one item more makes at most one too many.
+// for, so that with Latest one item more makes at most one too many. With Bounded there is room for it.
 fn queue(
     strategy: Strategy,
     items: &mut Vec<Item, Heap>,
@@ -186,6 +205,7 @@ fn queue(
     let waiting = items.len() - given;
     match strategy {
         Strategy::Buffer => items.push(item)?,
+        Strategy::Bounded(_) => items.push(item)?,
         Strategy::Drop(room) => {
             if waiting < usize::from(room) {
                 items.push(item)?;

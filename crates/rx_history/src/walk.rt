@@ -4,7 +4,7 @@ ghost use Rattle.rx_note.specs.declared.event.Event.TheVariants.{Emit, Join, Req
 ghost use Rattle.rx_note.specs.Signals.{Signals, ◌▸◌, Requested, Offered};
 ghost use Rattle.rx_history.specs.Histories.{roster_of as roster_after, followed_by, ended_by, may_request, signals as signals_in};
 ghost use Rattle.rx_history.specs.Stored.{history_of};
-ghost use Rattle.rx_history.specs.Traces.{MayTrace, AreOpen};
+ghost use Rattle.rx_history.specs.Traces.{MayTrace};
 
 use crate::past::{Past, terminal_in};
 use crate::roster::Roster;
@@ -130,7 +130,7 @@ fn follow(
     offers: Vec<Item, Heap>,
     end: Option<Note>,
 ) -> Result<(), Memory>
-    ensures { OnOk result ((signals : Option Signals) → AreOpen signals → MayTrace trace.old signals
+    ensures { OnOk result ((signals : Option Signals) → MayTrace trace.old signals
         → MayTrace trace.new (option_map (λ s. followed_by s (map Offered offers.items ++ ended_by end)) signals)) }
 {
     match trace {

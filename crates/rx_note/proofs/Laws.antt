@@ -1,6 +1,7 @@
 -- What an observer can rely on, over its signals alone.
 use Rattle.std.proofs.Common.{◌≡◌, ℕ, ◌+◌, ◌<◌, ◌≤◌, Bool, true, false, cond, leb, List, [], ◌∷◌, ◌++◌, length, map, take, None, Some, inl, inr, refl, sym, ap, ◌∙◌, arith}
 use Rattle.std.specs.List.{count_by}
+use Rattle.std.specs.Option.{option_map_or}
 use Rattle.std.proofs.lemmas.Bool.{cases_Bool, cases_lt, cond-true, le-leb}
 use Rattle.std.proofs.lemmas.List.{append-nil, length-append, length-map, length-take, length-drop, drop_all}
 use Rattle.std.proofs.lemmas.List.Sums.{sum_by-append, sum_by-cons}
@@ -93,7 +94,7 @@ offered (s ▸ Requested n) = offered s
 offered (s ▸ Offered item) = offered s ++ item ∷ []
 offered (s ▸ Ended terminal) = offered s
 
-without-none : (s : Signals) → without [] s ≡ offered s
+pub without-none : (s : Signals) → without [] s ≡ offered s
 without-none (Start policy) = refl
 without-none (s ▸ Requested n) = without-none s
 without-none (s ▸ Offered item) = ap (λ items. items ++ item ∷ []) (without-none s)
@@ -106,6 +107,14 @@ line_items-kept (s ▸ Requested n) behind = line_items-kept s behind ∙ sym (k
 line_items-kept (s ▸ Offered item) behind = refl
 line_items-kept (s ▸ Ended terminal) behind =
     ap (λ b. cond b (take (demand s) (kept s)) (kept s)) (behind terminal) ∙ sym (kept-ended s terminal)
+
+-- the same, where the end that there is doesn't go ahead
+pub line_items-behind : (s : Signals) → option_map_or (goes_ahead (policy_of s).errors) (terminal_of s) false ≡ false → line_items s ≡ kept s
+line_items-behind (Start policy) behind = refl
+line_items-behind (s ▸ Requested n) behind = line_items-behind s behind ∙ sym (kept-requested s n)
+line_items-behind (s ▸ Offered item) behind = refl
+line_items-behind (s ▸ Ended terminal) behind =
+    ap (λ b. cond b (take (demand s) (kept s)) (kept s)) behind ∙ sym (kept-ended s terminal)
 
 shortened : (b : Bool) (n : ℕ) (items : List Item) → length (cond b (take n items) items) ≤ length items
 shortened true n items = omega (arith, length-take n items)

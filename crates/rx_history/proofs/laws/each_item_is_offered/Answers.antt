@@ -1,4 +1,4 @@
-use Rattle.rx_history.proofs.Delivered.{each_item_is_offered}
+use Rattle.rx_history.proofs.Offers.{each_item_is_offered}
 use Rattle.rx_history.proofs.laws.each_item_is_offered.Goals as goal
 
 pub returns : goal.returns

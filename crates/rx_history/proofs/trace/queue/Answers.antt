@@ -7,6 +7,10 @@ pub returns-in_ok-push-in-Buffer-clause-queued : goal.returns-in_ok-push-in-Buff
 returns-in_ok-push-in-Buffer-clause-queued c = rw c.in-Buffer.is
     (λ in_room. c.in_ok-push-in-Buffer.ensures.items ∙ buffered c.args.given c.args.items.now.items c.args.item)
 
+pub returns-in_ok-push-in-Bounded-clause-queued : goal.returns-in_ok-push-in-Bounded-clause-queued
+returns-in_ok-push-in-Bounded-clause-queued c = rw c.in-Bounded.is
+    (λ in_room. c.in_ok-push-in-Bounded.ensures.items ∙ buffered c.args.given c.args.items.now.items c.args.item)
+
 pub returns-in_ok-push-in-Drop-clause-queued : goal.returns-in_ok-push-in-Drop-clause-queued
 returns-in_ok-push-in-Drop-clause-queued c =
     let items = c.args.items.now in

@@ -20,4 +20,4 @@ returns-in_ok-follow-clause-passes c = λ port.
     passes_joined rules c.args.self.now _ c.follow.new.self port c.args.policy c.args.first c.args.at c.in_ok-opening.field-0.items c.in_ok-copy_of.field-0
     (sym c.admits.ensures.admitted ∙ c.if-not-admits.false) (ap (λ n. n == c.args.self.now.who) (sym c.joins-who.ensures) ∙ eq-eqb _ _ c.if-who-self.true) refl c.join.ensures refl
     (λ H. c.join-2.ensures rules H port c.args.policy c.args.first) (c.in_ok-opening.ensures rules) c.in_ok-copy_of.ensures
-    (c.in_ok-follow.ensures _ refl c.joined-trace.ensures)
+    (c.in_ok-follow.ensures _ c.joined-trace.ensures)
