@@ -5,7 +5,7 @@ use Rattle.std.proofs.lemmas.Bool.Decides.{nat_tests}
 use Rattle.std.specs.List.{list_any, AllByRecursion}
 use Rattle.rx_note.specs.Choices.{Choice, is_in_limits}
 use Rattle.rx_note.specs.declared.strategy.Strategy.{Strategy}
-use Rattle.rx_note.specs.declared.strategy.Strategy.TheVariants.{Buffer, Drop, Latest}
+use Rattle.rx_note.specs.declared.strategy.Strategy.TheVariants.{Buffer, Drop, Latest, Bounded}
 use Rattle.rx_note.specs.declared.errors.Errors.{Errors}
 use Rattle.rx_note.specs.declared.errors.Errors.TheVariants.{Ahead, Delay}
 use Rattle.rx_proto.specs.Grammar.{IsText, IsDigit, value_behind, SpellsNumber, SpellsRoom, SpellsStrategy, SpellsErrors, SpellsSub, SpellsJoin, SpellsRequest, SpellsDispose, Spells, HasLongText, IsLong}
@@ -85,6 +85,7 @@ strategy-no_space : (strategy : Strategy) (word : List ℕ) → SpellsStrategy s
 strategy-no_space Buffer word is = subst HasNoSpace (sym is) (search arith)
 strategy-no_space (Drop room) word is = room-no_space (codes "DROP:") room word (search arith) is.0
 strategy-no_space (Latest room) word is = room-no_space (codes "LATEST:") room word (search arith) is.0
+strategy-no_space (Bounded room) word is = room-no_space (codes "BOUNDED:") room word (search arith) is.0
 
 room_read-number : (room : ℕ) (digits : List ℕ) → SpellsNumber 32 room digits → room ≤ 1024 → room_read digits ≡ Ok room
 room_read-number room digits is few =
@@ -103,11 +104,15 @@ strategy_read-word (Drop room) word is =
 strategy_read-word (Latest room) word is =
     let P : List ℕ → Type 0 = λ w. strategy_read w ≡ Ok (Latest room) in
     subst P (sym is.0.parts) (rw (room_read-number room is.0.digits is.0.number_is is.2) refl)
+strategy_read-word (Bounded room) word is =
+    let P : List ℕ → Type 0 = λ w. strategy_read w ≡ Ok (Bounded room) in
+    subst P (sym is.0.parts) (rw (room_read-number room is.0.digits is.0.number_is is.1) refl)
 
 strategy-in_limits : (strategy : Strategy) (word : List ℕ) → SpellsStrategy strategy word → is_in_limits strategy ≡ true
 strategy-in_limits Buffer word is = refl
 strategy-in_limits (Drop room) word is = let few = is.1 in grind (arith, nat_tests)
 strategy-in_limits (Latest room) word is = let some = is.1 in let few = is.2 in grind (arith, nat_tests)
+strategy-in_limits (Bounded room) word is = let few = is.1 in grind (arith, nat_tests)
 
 errors_cut : (errors : Errors) (word rest : List ℕ) → SpellsErrors errors word → cut_read (word ++ (32 ∷ rest)) ≡ Ok (word, rest)
 errors_cut Ahead word rest is = let P : List ℕ → Type 0 = λ w. cut_read (w ++ (32 ∷ rest)) ≡ Ok (w, rest) in subst P (sym is) refl

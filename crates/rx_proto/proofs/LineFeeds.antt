@@ -2,7 +2,7 @@
 use Rattle.std.proofs.Common.{◌≡◌, ℕ, ◌≤◌, List, [], ◌∷◌, ◌++◌, length, codes, Ok, Err, ◌⊎◌, inl, inr, sym, subst, arith}
 use Rattle.std.specs.List.{AllByRecursion}
 use Rattle.rx_note.specs.declared.strategy.Strategy.{Strategy}
-use Rattle.rx_note.specs.declared.strategy.Strategy.TheVariants.{Buffer, Drop, Latest}
+use Rattle.rx_note.specs.declared.strategy.Strategy.TheVariants.{Buffer, Drop, Latest, Bounded}
 use Rattle.rx_note.specs.declared.errors.Errors.{Errors}
 use Rattle.rx_note.specs.declared.errors.Errors.TheVariants.{Ahead, Delay}
 use Rattle.rx_proto.specs.Grammar.{IsDigit, SpellsNumber, SpellsRoom, SpellsStrategy, SpellsErrors, Spells, IsLong}
@@ -60,6 +60,7 @@ strategy-no_lf : (strategy : Strategy) (word : List ℕ) → SpellsStrategy stra
 strategy-no_lf Buffer word is = subst HasNoLf (sym is) (search arith)
 strategy-no_lf (Drop room) word is = room-no_lf (codes "DROP:") room word (search arith) is.0
 strategy-no_lf (Latest room) word is = room-no_lf (codes "LATEST:") room word (search arith) is.0
+strategy-no_lf (Bounded room) word is = room-no_lf (codes "BOUNDED:") room word (search arith) is.0
 
 errors-no_lf : (errors : Errors) (word : List ℕ) → SpellsErrors errors word → HasNoLf word
 errors-no_lf Ahead word is = subst HasNoLf (sym is) (search arith)

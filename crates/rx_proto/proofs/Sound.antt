@@ -8,7 +8,7 @@ use Rattle.std.specs.Cmp.Lexicographic.{same_text}
 use Rattle.std.specs.List.{list_any, AllByRecursion}
 use Rattle.rx_note.specs.Choices.{Choice, choice, is_in_limits}
 use Rattle.rx_note.specs.declared.strategy.Strategy.{Strategy}
-use Rattle.rx_note.specs.declared.strategy.Strategy.TheVariants.{Buffer, Drop, Latest}
+use Rattle.rx_note.specs.declared.strategy.Strategy.TheVariants.{Buffer, Drop, Latest, Bounded}
 use Rattle.rx_note.specs.declared.errors.Errors.{Errors}
 use Rattle.rx_note.specs.declared.errors.Errors.TheVariants.{Delay}
 use Rattle.rx_proto.specs.Grammar.{IsText, IsDigit, value_behind, SpellsNumber, SpellsRoom, SpellsStrategy, SpellsErrors, Spells, HasLongText, IsLong}
@@ -162,6 +162,7 @@ abbrev NamesStrategy : Strategy → List ℕ → Type 0
 NamesStrategy Buffer word = word ≡ codes "BUFFER"
 NamesStrategy (Drop room) word = SpellsRoom (codes "DROP:") room word
 NamesStrategy (Latest room) word = SpellsRoom (codes "LATEST:") room word
+NamesStrategy (Bounded room) word = SpellsRoom (codes "BOUNDED:") room word
 
 strategy_says : (word : List ℕ) → Says (strategy_read word) (λ s. NamesStrategy s word) ⊥
 strategy_says word =
@@ -172,13 +173,16 @@ strategy_says word =
     (λ is. Says-then _ (λ room. Ok (Drop room)) (λ room. SpellsRoom (codes "DROP:") room word) ⊥ Goal ⊥ (named_room_says word (codes "DROP:") is) (λ room named. named) (λ never. never))
     (λ _. Says-test (begins_with word (codes "LATEST:")) _ _ Goal ⊥
     (λ is. Says-then _ (λ room. Ok (Latest room)) (λ room. SpellsRoom (codes "LATEST:") room word) ⊥ Goal ⊥ (named_room_says word (codes "LATEST:") is) (λ room named. named) (λ never. never))
-    (λ _. tt)))
+    (λ _. Says-test (begins_with word (codes "BOUNDED:")) _ _ Goal ⊥
+    (λ is. Says-then _ (λ room. Ok (Bounded room)) (λ room. SpellsRoom (codes "BOUNDED:") room word) ⊥ Goal ⊥ (named_room_says word (codes "BOUNDED:") is) (λ room named. named) (λ never. never))
+    (λ _. tt))))
 
 -- in its limits, it is spelled
 named_in_limits : (s : Strategy) (word : List ℕ) → NamesStrategy s word → is_in_limits s ≡ true → SpellsStrategy s word
 named_in_limits Buffer word is within = is
 named_in_limits (Drop room) word is within = (is, grind (arith, nat_tests))
 named_in_limits (Latest room) word is within = (is, grind (arith, nat_tests), grind (arith, nat_tests))
+named_in_limits (Bounded room) word is within = (is, grind (arith, nat_tests))
 
 errors_says : (word : List ℕ) → Says (errors_read word) (λ e. SpellsErrors e word) ⊥
 errors_says word =

@@ -3,7 +3,7 @@ use Rattle.std.specs.Prelude.{◌≡◌, ◌<◌, ◌≤◌, ◌+◌, ◌-◌, �
 use Rattle.std.specs.List.{AllByRecursion, join_with_byte}
 use Rattle.rx_note.specs.Choices.{Choice}
 use Rattle.rx_note.specs.declared.strategy.Strategy.{Strategy}
-use Rattle.rx_note.specs.declared.strategy.Strategy.TheVariants.{Buffer, Drop, Latest}
+use Rattle.rx_note.specs.declared.strategy.Strategy.TheVariants.{Buffer, Drop, Latest, Bounded}
 use Rattle.rx_note.specs.declared.errors.Errors.{Errors}
 use Rattle.rx_note.specs.declared.errors.Errors.TheVariants.{Ahead, Delay}
 use Rattle.rx_proto.specs.LineFeeds.{HasNoLf}
@@ -45,11 +45,12 @@ pub record SpellsRoom (name : List ℕ) (room : ℕ) (word : List ℕ) : Type 0 
   pub number_is : SpellsNumber 32 room digits
   pub parts : word ≡ name ++ digits
 
--- the word of a strategy: the room of Drop is at most 1,024 items, that of Latest is 1 to 1,024
+-- the word of a strategy: the room of Drop and of Bounded is at most 1,024 items, that of Latest is 1 to 1,024
 abbrev pub SpellsStrategy : Strategy → List ℕ → Type 0
 SpellsStrategy Buffer word = word ≡ codes "BUFFER"
 SpellsStrategy (Drop room) word = SpellsRoom (codes "DROP:") room word × (room ≤ 1024)
 SpellsStrategy (Latest room) word = SpellsRoom (codes "LATEST:") room word × (1 ≤ room) × (room ≤ 1024)
+SpellsStrategy (Bounded room) word = SpellsRoom (codes "BOUNDED:") room word × (room ≤ 1024)
 
 -- the word of an error mode
 abbrev pub SpellsErrors : Errors → List ℕ → Type 0

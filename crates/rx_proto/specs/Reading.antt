@@ -3,7 +3,7 @@ use Rattle.std.specs.Prelude.{◌≡◌, ◌==◌, ◌+◌, ◌-◌, ◌*◌, �
 use Rattle.std.specs.List.{list_all, list_any}
 use Rattle.rx_note.specs.Choices.{Choice, choice, is_in_limits}
 use Rattle.rx_note.specs.declared.strategy.Strategy.{Strategy}
-use Rattle.rx_note.specs.declared.strategy.Strategy.TheVariants.{Buffer, Drop, Latest}
+use Rattle.rx_note.specs.declared.strategy.Strategy.TheVariants.{Buffer, Drop, Latest, Bounded}
 use Rattle.rx_note.specs.declared.errors.Errors.{Errors}
 use Rattle.rx_note.specs.declared.errors.Errors.TheVariants.{Ahead, Delay}
 use Rattle.rx_proto.specs.declared.command.Command.{Command as SessionCommand}
@@ -88,6 +88,7 @@ strategy_read word =
     if same_word word (codes "BUFFER") then Ok Buffer
     else if begins_with word (codes "DROP:") then room_read (rest_behind word (codes "DROP:")) >>= (λ room. Ok (Drop room))
     else if begins_with word (codes "LATEST:") then room_read (rest_behind word (codes "LATEST:")) >>= (λ room. Ok (Latest room))
+    else if begins_with word (codes "BOUNDED:") then room_read (rest_behind word (codes "BOUNDED:")) >>= (λ room. Ok (Bounded room))
     else Err Syntax
 
 -- an error mode

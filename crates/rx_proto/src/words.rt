@@ -169,6 +169,9 @@ fn strategy_of(word: &[u8]) -> Result<Strategy, BadLine>
     if let Some(digits) = word.strip_prefix(b"LATEST:".as_slice()) {
         return Ok(Strategy::Latest(room_of(digits)?));
     }
+    if let Some(digits) = word.strip_prefix(b"BOUNDED:".as_slice()) {
+        return Ok(Strategy::Bounded(room_of(digits)?));
+    }
     Err(BadLine::Syntax)
 }
 

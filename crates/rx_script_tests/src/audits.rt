@@ -35,7 +35,7 @@ fn audit_of<R: Read>(alloc: Global, reader: &mut R, max_reads: u64) -> Result<Ra
 /// The name of an input, its script, what is written, and how it ends.
 type Row = (&'static str, &'static [u8], &'static [u8], SessionEnd);
 
-const ROWS: [Row; 6] = [
+const ROWS: [Row; 7] = [
     (
         "audit_of_a_waiting_end",
         WAITING_END,
@@ -52,6 +52,12 @@ const ROWS: [Row; 6] = [
         "audit_of_one_that_left",
         b"JOIN s BUFFER DELAY 1\nJOIN s LATEST:1 AHEAD 0\nPUB s a\nPUB s b\nDISPOSE s 0\nPUB s c\nFAIL s x\n",
         b"OBSERVER s 0\nGIVEN NEXT a\nOBSERVER s 1\nGIVEN FAILED x\n",
+        SessionEnd::EndOfInput,
+    ),
+    (
+        "audit_of_an_overflow",
+        b"JOIN s BOUNDED:1 DELAY 1\nJOIN s BOUNDED:1 AHEAD 1\nPUB s a\nPUB s b\nPUB s c\nPUB s d\n",
+        b"OBSERVER s 0\nGIVEN NEXT a\nWAITING NEXT b\nWAITING FAILED OVERFLOW\nOBSERVER s 1\nGIVEN NEXT a\nGIVEN FAILED OVERFLOW\n",
         SessionEnd::EndOfInput,
     ),
     ("no_line", b"", b"", SessionEnd::EndOfInput),

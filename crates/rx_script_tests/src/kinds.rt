@@ -108,7 +108,7 @@ pub(crate) struct Run {
     pub(crate) answers: &'static [u8],
 }
 
-pub(crate) const RUNS: [Run; 14] = [
+pub(crate) const RUNS: [Run; 16] = [
     Run {
         name: "publish_after_its_end",
         kind: Named::Publish,
@@ -206,6 +206,20 @@ pub(crate) const RUNS: [Run; 14] = [
         room: Room::Wide,
         script: b"JOIN s LATEST:2 DELAY 0\nPUB s a\nPUB s b\nREQUEST s 0 9\n",
         answers: b"OK 0\nOK\nOK\nOK\ns 0 NEXT a\ns 0 NEXT b\n",
+    },
+    Run {
+        name: "overflow_in_the_opening",
+        kind: Named::Replay(None, None),
+        room: Room::Wide,
+        script: b"PUB s a\nPUB s b\nJOIN s BOUNDED:1 DELAY 0\nREQUEST s 0 2\n",
+        answers: b"OK\nOK\nOK 0\nOK\ns 0 NEXT a\ns 0 FAILED OVERFLOW\n",
+    },
+    Run {
+        name: "held_after_an_overflow",
+        kind: Named::Publish,
+        room: Room::OneAtATime,
+        script: b"JOIN s BOUNDED:0 AHEAD 0\nPUB s a\nJOIN s BOUNDED:0 AHEAD 1\nREQUEST s 0 1\nDISPOSE s 0\nJOIN s BOUNDED:0 AHEAD 1\nPUB s b\n",
+        answers: b"OK 0\nOK\ns 0 FAILED OVERFLOW\nERR FULL\nOK\nOK\nOK 1\nOK\ns 1 NEXT b\n",
     },
 ];
 

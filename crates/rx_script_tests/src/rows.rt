@@ -36,7 +36,7 @@ fn run_of<R: Read>(alloc: Global, reader: &mut R, max_reads: u64) -> Result<Ran,
 /// A worked run: its name, its script, and what is written for it.
 pub(crate) type Row = (&'static str, &'static [u8], &'static [u8]);
 
-pub(crate) const ROWS: [Row; 11] = [
+pub(crate) const ROWS: [Row; 15] = [
     ("first_run", FIRST_RUN, FIRST_ANSWERS),
     ("empty_input", b"", b""),
     (
@@ -83,6 +83,26 @@ pub(crate) const ROWS: [Row; 11] = [
         "latest_one_then_done",
         b"JOIN s LATEST:1 DELAY 0\nPUB s a\nPUB s b\nEND s\nREQUEST s 0 1\n",
         b"OK 0\nOK\nOK\nOK\nOK\ns 0 NEXT b\ns 0 DONE\n",
+    ),
+    (
+        "overflow_delayed",
+        b"JOIN s BOUNDED:1 DELAY 1\nPUB s a\nPUB s b\nPUB s c\nPUB s d\nREQUEST s 0 1\nEND s\n",
+        b"OK 0\nOK\ns 0 NEXT a\nOK\nOK\nOK\nOK\ns 0 NEXT b\ns 0 FAILED OVERFLOW\nOK\n",
+    ),
+    (
+        "overflow_ahead",
+        b"JOIN s BOUNDED:1 AHEAD 1\nPUB s a\nPUB s b\nPUB s c\nREQUEST s 0 1\n",
+        b"OK 0\nOK\ns 0 NEXT a\nOK\nOK\ns 0 FAILED OVERFLOW\nOK\n",
+    ),
+    (
+        "overflow_room_zero",
+        b"JOIN s BOUNDED:1025 DELAY 0\nJOIN s BOUNDED:0 DELAY 0\nJOIN s BUFFER DELAY 9\nPUB s a\n",
+        b"ERR SYNTAX\nOK 0\nOK 1\nOK\ns 0 FAILED OVERFLOW\ns 1 NEXT a\n",
+    ),
+    (
+        "overflow_of_a_producer",
+        b"JOIN s BUFFER DELAY 0\nFAIL s OVERFLOW\nPUB s a\n",
+        b"OK 0\nOK\ns 0 FAILED OVERFLOW\nERR ENDED\n",
     ),
 ];
 

@@ -1,5 +1,6 @@
 //! The signs of which scripts and what is told of them are made: a letter is the item of port 0 with this text, a capital
-//! letter a seed whose text is the small one, `.` the completion, `!` the failure `x`, a digit a number.
+//! letter a seed whose text is the small one, `.` the completion, `!` the failure `x`, `%` the failure `OVERFLOW`, a digit a
+//! number.
 
 ghost use Rattle.std.specs.Prelude.{◌≤◌};
 
@@ -70,6 +71,7 @@ pub fn note_of(heap: &Heap, sign: u8) -> Result<Note, Memory> {
     match sign {
         b'.' => Ok(Note::Completed),
         b'!' => Ok(Note::Failed(text_of(heap, b"x")?)),
+        b'%' => Ok(Note::Failed(text_of(heap, b"OVERFLOW")?)),
         letter => Ok(Note::Next(item(heap, &[letter])?)),
     }
 }
@@ -116,8 +118,18 @@ pub fn sign_of(note: &Note) -> u8 {
     match note {
         Note::Next(item) => sign_of_item(item),
         Note::Completed => b'.',
-        Note::Failed(text) if text.as_bytes() == b"x".as_slice() => b'!',
-        Note::Failed(_) => b'?',
+        Note::Failed(text) => sign_of_failure(text),
+    }
+}
+
+// The sign of a failure; `?` where it has none.
+fn sign_of_failure(text: &Text) -> u8 {
+    if text.as_bytes() == b"x".as_slice() {
+        b'!'
+    } else if text.as_bytes() == b"OVERFLOW".as_slice() {
+        b'%'
+    } else {
+        b'?'
     }
 }
 

@@ -24,7 +24,7 @@ const KINDS: [Named; 8] = [
 ];
 
 // Of each join the strategy and the error mode; and whether the end is an error.
-const PLANS: [(Strategy, Errors, bool); 9] = [
+const PLANS: [(Strategy, Errors, bool); 12] = [
     (Strategy::Buffer, Errors::Delay, false),
     (Strategy::Buffer, Errors::Delay, true),
     (Strategy::Buffer, Errors::Ahead, true),
@@ -34,6 +34,9 @@ const PLANS: [(Strategy, Errors, bool); 9] = [
     (Strategy::Latest(2), Errors::Delay, false),
     (Strategy::Latest(2), Errors::Delay, true),
     (Strategy::Latest(2), Errors::Ahead, true),
+    (Strategy::Bounded(2), Errors::Delay, false),
+    (Strategy::Bounded(2), Errors::Delay, true),
+    (Strategy::Bounded(2), Errors::Ahead, true),
 ];
 
 impl Ran {

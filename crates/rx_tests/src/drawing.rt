@@ -42,10 +42,11 @@ impl Draw {
     // The next strategy, with a room of at most 3 items.
     fn strategy(&mut self) -> Strategy {
         let room = u16::try_from(self.below(4)).unwrap_or(0);
-        match self.below(3) {
+        match self.below(4) {
             0 => Strategy::Buffer,
             1 => Strategy::Drop(room),
-            _ => Strategy::Latest(room.max(1)),
+            2 => Strategy::Latest(room.max(1)),
+            _ => Strategy::Bounded(room),
         }
     }
 

@@ -7,7 +7,7 @@ use crate::hubs::{OBSERVERS, Ran, Reading, joined, reading_of, run_drawn};
 use rx_heap::Heap;
 use rx_hub::{NoObserver, Step};
 use rx_note::{Answer, Errors, Given, Note, Refusal, Strategy};
-use rx_signs::{Named, SEED_PORT};
+use rx_signs::{Named, SEED_PORT, sign_of};
 use std::process::Abort;
 use std::test::Fail;
 
@@ -91,6 +91,17 @@ fn seeds(outs: &[Given]) -> u32 {
     seeds
 }
 
+// How many observers were given an overflow.
+fn overflows(outs: &[Given]) -> u32 {
+    let mut overflows: u32 = 0;
+    for given in outs {
+        if sign_of(&given.note) == b'%' {
+            overflows = overflows.saturating_add(1);
+        }
+    }
+    overflows
+}
+
 impl Ran {
     fn shown(&self) -> Result<Shown, Fail> {
         let steps = self.run.steps.as_slice();
@@ -105,6 +116,7 @@ impl Ran {
             joined_after_end: joined_after_end(steps),
             opened_with_items: opened_with_items(steps, outs),
             seeds: seeds(outs),
+            overflows: overflows(outs),
             observers,
             past_them: self.hub.waiting_of(joined(steps).unwrap_or(0)),
             differs: self.differs()?,
@@ -112,8 +124,8 @@ impl Ran {
     }
 }
 
-/// What a drawn run shows: numbers of answers, of notes given and of observers, by the answers and by the hub, how many
-/// notes wait for the observer past them, and the first one for whom the run and the history differ.
+/// What a drawn run shows: numbers of answers, of notes given, of overflows among them and of observers, by the answers and by
+/// the hub, how many notes wait for the observer past them, and the first one for whom the run and the history differ.
 #[derive(Clone, Copy)]
 struct Shown {
     answers: usize,
@@ -124,6 +136,7 @@ struct Shown {
     joined_after_end: u32,
     opened_with_items: u32,
     seeds: u32,
+    overflows: u32,
     observers: u32,
     past_them: Result<usize, NoObserver>,
     differs: Option<u32>,
@@ -134,13 +147,21 @@ fn shown_of(heap: &Heap, named: Named, fails: bool) -> Result<Shown, Fail> {
     drawn.shown()
 }
 
-// What is wrong with the run of a kind that is to give so many notes at least, items to joiners or none, and seeds or none;
-// no text where nothing is.
-fn fault_of(shown: &Shown, fewest_outs: usize, opens: bool, seeds: bool) -> &'static str {
+// What is wrong with the run of a kind that is to give so many notes at least, overflows if it is to overflow, items to joiners
+// or none, and seeds or none; no text where nothing is.
+fn fault_of(
+    shown: &Shown,
+    fewest_outs: usize,
+    overflows: bool,
+    opens: bool,
+    seeds: bool,
+) -> &'static str {
     if shown.answers != 400 {
         "answers"
     } else if shown.outs < fewest_outs {
         "notes given"
+    } else if overflows && shown.overflows == 0 {
+        "overflows"
     } else if shown.joined != Some(shown.observers.saturating_add(shown.left)) {
         "observers"
     } else if shown.observers < 10 || shown.left < 3 {
@@ -160,19 +181,26 @@ fn fault_of(shown: &Shown, fewest_outs: usize, opens: bool, seeds: bool) -> &'st
     }
 }
 
-// The kinds of the drawn runs; of each whether its end is an error, how many notes it gives at least, whether it gives items
-// to joiners, and whether it gives seeds.
-const DRAWN_KINDS: [(Named, bool, usize, bool, bool); 10] = [
-    (Named::Publish, false, 100, false, false),
-    (Named::Behavior(Some(b'z')), false, 100, true, true),
-    (Named::Behavior(None), false, 100, true, false),
-    (Named::Async, false, 20, true, false),
-    (Named::Replay(None, None), false, 100, true, false),
-    (Named::Replay(Some(3), None), false, 100, true, false),
-    (Named::Replay(None, Some(20)), false, 100, true, false),
-    (Named::Replay(Some(3), Some(20)), false, 100, true, false),
-    (Named::Async, true, 5, false, false),
-    (Named::Replay(Some(3), None), true, 100, true, false),
+// The kinds of the drawn runs; of each whether its end is an error, how many notes it gives at least, whether it is to overflow
+// (of Async one item at most is offered), whether it gives items to joiners, and whether it gives seeds.
+const DRAWN_KINDS: [(Named, bool, usize, bool, bool, bool); 10] = [
+    (Named::Publish, false, 100, true, false, false),
+    (Named::Behavior(Some(b'z')), false, 100, true, true, true),
+    (Named::Behavior(None), false, 100, true, true, false),
+    (Named::Async, false, 20, false, true, false),
+    (Named::Replay(None, None), false, 100, true, true, false),
+    (Named::Replay(Some(3), None), false, 100, true, true, false),
+    (Named::Replay(None, Some(20)), false, 100, true, true, false),
+    (
+        Named::Replay(Some(3), Some(20)),
+        false,
+        100,
+        true,
+        true,
+        false,
+    ),
+    (Named::Async, true, 5, false, false, false),
+    (Named::Replay(Some(3), None), true, 100, true, true, false),
 ];
 
 // Nothing is wrong with the run of a kind, and it differs from the history for no observer.
@@ -183,9 +211,9 @@ fn expect_right(rt: &impl Abort, fault: &str, differs: Option<u32>, named: Named
 
 #[test]
 fn a_run_gives_what_the_history_says(rt: HostRuntime) -> Result<(), Fail> {
-    for (named, fails, fewest_outs, opens, seeds) in &DRAWN_KINDS {
+    for (named, fails, fewest_outs, overflows, opens, seeds) in &DRAWN_KINDS {
         let shown = shown_of(&unlimited(&rt), *named, *fails)?;
-        let fault = fault_of(&shown, *fewest_outs, *opens, *seeds);
+        let fault = fault_of(&shown, *fewest_outs, *overflows, *opens, *seeds);
         expect_right(&rt, fault, shown.differs, *named);
     }
     Ok(())

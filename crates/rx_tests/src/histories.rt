@@ -72,7 +72,7 @@ type Row = (
     &'static str,
 );
 
-const ROWS: [Row; 12] = [
+const ROWS: [Row; 18] = [
     (
         "line_of_a_waiting_end",
         Named::Publish,
@@ -180,6 +180,60 @@ const ROWS: [Row; 12] = [
         1,
         "+abc.-",
         "6 a a  N N N",
+    ),
+    (
+        "overflow_delayed",
+        Named::Publish,
+        Strategy::Bounded(1),
+        Errors::Delay,
+        1,
+        "+abcd",
+        "5 ab% a b% N N N",
+    ),
+    (
+        "overflow_delayed",
+        Named::Publish,
+        Strategy::Bounded(1),
+        Errors::Delay,
+        1,
+        "+abcd1.",
+        "7 ab% ab%  N N N",
+    ),
+    (
+        "overflow_ahead",
+        Named::Publish,
+        Strategy::Bounded(1),
+        Errors::Ahead,
+        1,
+        "+abc1",
+        "5 a% a%  N N N",
+    ),
+    (
+        "overflow_room_zero",
+        Named::Publish,
+        Strategy::Bounded(0),
+        Errors::Delay,
+        0,
+        "+ab+c",
+        "5 % %  % % ",
+    ),
+    (
+        "overflow_in_the_opening",
+        Named::Replay(None, None),
+        Strategy::Bounded(1),
+        Errors::Delay,
+        0,
+        "ab+2",
+        "4 a% a%  N N N",
+    ),
+    (
+        "no_overflow_where_the_end_comes_first",
+        Named::Publish,
+        Strategy::Bounded(2),
+        Errors::Ahead,
+        0,
+        "+ab.c+",
+        "6 ab.  ab. . . ",
     ),
 ];
 

@@ -92,13 +92,45 @@ pub(crate) fn new_run_of(
     run_of(heap, &mut hub, events)
 }
 
+// A run of a Publish subject: its name, the strategy and the first request of each join, the script, and what is told.
+type Row = (&'static str, Strategy, u32, &'static str, &'static str);
+
+const ROWS: [Row; 3] = [
+    (
+        "first_run",
+        Strategy::Buffer,
+        0,
+        "+ab1.5",
+        "J0:0 A:0 A:0 R:1 A:1 R:3 0a0b0.",
+    ),
+    (
+        "overflow_delayed",
+        Strategy::Bounded(1),
+        1,
+        "+abcd1.",
+        "J0:0 A:1 A:1 A:1 A:1 R:3 A:3 0a0b0%",
+    ),
+    (
+        "overflow_room_zero",
+        Strategy::Bounded(0),
+        0,
+        "+a+b9",
+        "J0:0 A:1 J1:1 A:2 R:2 0%1%",
+    ),
+];
+
+fn told_by(heap: &Heap, strategy: Strategy, first: u32, script: &[u8]) -> Result<Told, Fail> {
+    let events = events_of(heap, strategy, first, script)?;
+    let run = new_run_of(heap, rules_of(Kind::Publish), events)?;
+    Ok(told_of(&run))
+}
+
 #[test]
-fn run_of_the_first_rows_events(rt: HostRuntime) -> Result<(), Fail> {
-    let heap = unlimited(&rt);
-    let events = events_of(&heap, Strategy::Buffer, 0, b"+ab1.5")?;
-    let run = new_run_of(&heap, rules_of(Kind::Publish), events)?;
-    let wanted = "J0:0 A:0 A:0 R:1 A:1 R:3 0a0b0.";
-    expect_told(&rt, told_of(&run).as_bytes(), wanted, "the first row");
+fn runs_of_worked_events(rt: HostRuntime) -> Result<(), Fail> {
+    for (name, strategy, first, script, wanted) in &ROWS {
+        let told = told_by(&unlimited(&rt), *strategy, *first, script.as_bytes())?;
+        expect_told(&rt, told.as_bytes(), wanted, name);
+    }
     Ok(())
 }
 

@@ -1,5 +1,5 @@
-//! Lanes, call by call. In a script a letter offers its item, `.` ends the lane, `!` by the failure `x`, a digit requests so many items, and `*`
-//! requests 4,294,967,293; `?` asks for the state, and a space is told as it is.
+//! Lanes, call by call. In a script a letter offers its item, `.` ends the lane, `!` by the failure `x`, where it has not ended;
+//! a digit requests so many items, and `*` requests 4,294,967,293; `?` asks for the state, and a space is told as it is.
 //!
 //! Told is what comes back of an item or the end, and behind each request all that requests have given so far; before
 //! that, where the request was refused, `Z` for no items, `T` for too much, `M` for want of memory. The state is how many
@@ -20,9 +20,13 @@ fn lane_of(heap: &Heap, policy: Policy, first: Option<u32>) -> Result<Lane, Memo
     }
 }
 
+// Offers an item; nothing after the end.
 fn offer(lane: &mut Lane, item: Item) -> Result<Option<Note>, Memory> {
+    if lane.is_ended() {
+        return Ok(None);
+    }
     lane.reserve(1)?;
-    Ok(lane.offer(item).map(Note::Next))
+    Ok(lane.offer(item))
 }
 
 fn put_back(told: &mut Told, back: &Option<Note>) {
@@ -98,6 +102,9 @@ impl Tried {
     }
 
     fn end(&mut self, note: Note) {
+        if self.lane.is_ended() {
+            return;
+        }
         let back = self.lane.end(note);
         put_back(&mut self.told, &back);
     }
@@ -184,11 +191,36 @@ fn lane_call_by_call(rt: HostRuntime) -> Result<(), Fail> {
         (Strategy::Latest(1), delay, joined, "abc.9", "c."),
         (Strategy::Latest(2), delay, joined, "abc.9", "bc."),
         (Strategy::Latest(1024), delay, joined, "abc.9", "abc."),
+        (Strategy::Bounded(1024), delay, joined, "abc.9", "abc."),
         (Strategy::Buffer, ahead, joined, "ab!? 9", "!000! "),
         (Strategy::Drop(2), ahead, joined, "abc!? 9", "!000! "),
         (Strategy::Latest(2), ahead, joined, "abc!? 9", "!000! "),
         (Strategy::Latest(2), ahead, joined, "abc.? 9", "230- bc."),
         (Strategy::Buffer, delay, joined, "ab!? 9", "230- ab!"),
+        (Strategy::Bounded(0), delay, joined, "ab? 9", "%000! "),
+        (
+            Strategy::Bounded(1),
+            delay,
+            Some(1),
+            "abcd? 1?",
+            "a120- b%000!",
+        ),
+        (
+            Strategy::Bounded(1),
+            ahead,
+            Some(1),
+            "abcd? 1?",
+            "a%000! 001!",
+        ),
+        (
+            Strategy::Bounded(2),
+            delay,
+            None,
+            "01abcde.? 9",
+            "Za230- bc%",
+        ),
+        (Strategy::Bounded(2), delay, joined, "ab.c!? 9", "230- ab."),
+        (Strategy::Bounded(2), ahead, joined, "ab!c? 9", "!000! "),
     ] {
         let row = Row {
             strategy,

@@ -219,7 +219,7 @@ fn are_drawn(heap: &Heap, picture: &Picture) -> Result<bool, Fail> {
     Ok(all)
 }
 
-const PICTURES: [Picture; 10] = [
+const PICTURES: [Picture; 12] = [
     Picture {
         name: "publish",
         kind: Named::Publish,
@@ -323,6 +323,36 @@ const PICTURES: [Picture; 10] = [
             "0 given  ----a-----c-|-",
             "",
             "",
+        ],
+    },
+    Picture {
+        name: "overflow_delayed",
+        kind: Named::Publish,
+        strategy: Strategy::Bounded(1),
+        errors: Errors::Delay,
+        first: 1,
+        script: "+abc+d2.",
+        drawn: [
+            "subject  ----a-b-c----d------|-",
+            "0 asks   -^1------------2------",
+            "0 given  ----a----------(b#)---",
+            "1 asks   ----------^1----------",
+            "1 given  -------------d------|-",
+        ],
+    },
+    Picture {
+        name: "overflow_ahead",
+        kind: Named::Publish,
+        strategy: Strategy::Bounded(1),
+        errors: Errors::Ahead,
+        first: 1,
+        script: "+abc+d2.",
+        drawn: [
+            "subject  ----a-b-c----d---|-",
+            "0 asks   -^1------------2---",
+            "0 given  ----a---#----------",
+            "1 asks   ----------^1-------",
+            "1 given  -------------d---|-",
         ],
     },
     Picture {

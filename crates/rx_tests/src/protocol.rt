@@ -51,7 +51,7 @@ fn sign_in_script(heap: &Heap, line: &[u8]) -> u8 {
 }
 
 // Lines, with the sign of what is read in a session and in a script.
-const LINES: [(&str, u8, u8); 35] = [
+const LINES: [(&str, u8, u8); 39] = [
     ("PUB s a", b'P', b'P'),
     ("PUB s-1 a b ", b'P', b'P'),
     ("PUB s ", b'P', b'P'),
@@ -61,12 +61,16 @@ const LINES: [(&str, u8, u8); 35] = [
     ("SUB s BUFFER AHEAD", b'S', b'-'),
     ("SUB s DROP:0 DELAY", b'S', b'-'),
     ("SUB s LATEST:0001024 DELAY", b'S', b'-'),
+    ("SUB s BOUNDED:0 AHEAD", b'S', b'-'),
+    ("SUB s BOUNDED:1024 DELAY", b'S', b'-'),
+    ("SUB s BOUNDED:1025 DELAY", b'-', b'-'),
     ("SUB s LATEST:0 DELAY", b'-', b'-'),
     ("SUB s DROP:1025 DELAY", b'-', b'-'),
     ("SUB s BUFFER DELAY 1", b'-', b'-'),
     ("SUB s BUFFER", b'-', b'-'),
     ("JOIN s BUFFER AHEAD 0", b'-', b'J'),
     ("JOIN s DROP:2 DELAY 4294967295", b'-', b'J'),
+    ("JOIN s BOUNDED:1024 AHEAD 4294967295", b'-', b'J'),
     ("JOIN s BUFFER DELAY 4294967296", b'-', b'-'),
     ("JOIN s BUFFER LATE 0", b'-', b'-'),
     ("JOIN s BUFFER  DELAY 1", b'-', b'-'),
@@ -275,17 +279,24 @@ fn strategy_in(heap: &Heap, word: &[u8]) -> Result<Option<Strategy>, Fail> {
     }
 }
 
-const STRATEGIES: [(&str, Option<Strategy>); 18] = [
+const STRATEGIES: [(&str, Option<Strategy>); 25] = [
     ("BUFFER", Some(Strategy::Buffer)),
     ("DROP:0", Some(Strategy::Drop(0))),
     ("DROP:0001024", Some(Strategy::Drop(1024))),
     ("LATEST:1", Some(Strategy::Latest(1))),
     ("LATEST:1024", Some(Strategy::Latest(1024))),
+    ("BOUNDED:0", Some(Strategy::Bounded(0))),
+    ("BOUNDED:1", Some(Strategy::Bounded(1))),
+    ("BOUNDED:0001024", Some(Strategy::Bounded(1024))),
     ("DROP:1025", None),
+    ("BOUNDED:1025", None),
     ("LATEST:0", None),
     ("LATEST:1025", None),
     ("DROP:", None),
     ("DROP", None),
+    ("BOUNDED:", None),
+    ("BOUNDED", None),
+    ("BOUND:1", None),
     ("LATEST: 2", None),
     ("DROP:-1", None),
     ("DROP:65536", None),

@@ -23,7 +23,7 @@ struct Row {
     parts: &'static [(u64, &'static str)],
 }
 
-const ROWS: [Row; 11] = [
+const ROWS: [Row; 14] = [
     Row {
         name: "first_run",
         kind: Named::Publish,
@@ -37,6 +37,27 @@ const ROWS: [Row; 11] = [
         strategy: Strategy::Latest(2),
         first: 1,
         parts: &[(0, "+abcd5e")],
+    },
+    Row {
+        name: "overflow_delayed",
+        kind: Named::Publish,
+        strategy: Strategy::Bounded(1),
+        first: 1,
+        parts: &[(0, "+abcd1.")],
+    },
+    Row {
+        name: "overflow_room_zero",
+        kind: Named::Publish,
+        strategy: Strategy::Bounded(0),
+        first: 0,
+        parts: &[(0, "+ab+c.")],
+    },
+    Row {
+        name: "overflow_in_the_opening",
+        kind: Named::Replay(None, None),
+        strategy: Strategy::Bounded(1),
+        first: 0,
+        parts: &[(0, "ab+2c")],
     },
     Row {
         name: "behavior_before_and_after_end",

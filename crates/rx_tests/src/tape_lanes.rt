@@ -1,6 +1,6 @@
 //! Lanes on a tape, call by call, by the signs of the lanes with queues of their own: a letter is put on the tape and offered,
-//! `.` ends the lane, `!` by the failure `x`, a digit requests so many items; `?` asks for the state, and a space is told as it
-//! is. Before the lane joins, the letters of `before` stand on the tape, of which it is offered the last ones, behind a lead.
+//! `.` ends the lane, `!` by the failure `x`, where it has not ended; a digit requests so many items; `?` asks for the state, and
+//! a space is told as it is. Before the lane joins, the letters of `before` stand on the tape, of which it is offered the last ones, behind a lead.
 //!
 //! Told is what joining gives, what comes back of an item or the end, and behind each request all that was given so far; before
 //! that, where the request was refused, `Z` for no items, `T` for too much, `M` for want of memory. The state is how many items
@@ -9,8 +9,8 @@
 //! Each script is tried twice: with requests that give notes, and with those that give them addressed to an observer, where `#`
 //! is told before a note that is addressed to another.
 
-ghost use Rattle.std.specs.Prelude.{◌≡◌, true, IfOk};
-ghost use Rattle.rx_lane.specs.TapeLanes.{StandsBack, StandsWhereSome, IsShared};
+ghost use Rattle.std.specs.Prelude.{IfOk};
+ghost use Rattle.rx_lane.specs.TapeLanes.{StandsBack, IsShared};
 
 use crate::in_turn::{Script, expect_in_turn};
 use rx_heap::{Heap, Memory};
@@ -20,20 +20,17 @@ use rx_signs::{Tale, Told, item, note_of, policy_by, sign_of};
 use rx_tape::Tape;
 use std::test::Fail;
 
-/// A lane that is tried with its tape, whether it has not ended, the number of its observer where that is told to its requests,
-/// what they gave so far without it and with it, what is told, and how many calls were refused for want of memory and then
-/// made again.
+/// A lane that is tried with its tape, the number of its observer where that is told to its requests, what they gave so far
+/// without it and with it, what is told, and how many calls were refused for want of memory and then made again.
 struct Tried {
     tape: Tape,
     lane: TapeLane,
-    is_open: bool,
     who: Option<u32>,
     given: Vec<Note, Heap>,
     outs: Vec<Given, Heap>,
     told: Told,
     misses: u64,
-    ghost waits: { StandsWhereSome tape lane.cursor lane.back },
-    ghost stands: { is_open ≡ true → StandsBack tape lane.cursor lane.back },
+    ghost stands: { StandsBack tape lane.cursor lane.back },
 }
 
 // It stands here, and isn't derived, so that what lets go of it is one call that is proved once.
@@ -42,7 +39,6 @@ impl Drop for Tried {
         let Tried {
             tape: _,
             lane: _,
-            is_open: _,
             who: _,
             given: _,
             outs: _,
@@ -103,7 +99,7 @@ impl Tried {
 
     // Puts an item on the tape and offers it, with a copy where it is owed; nothing after the end.
     fn offered(&mut self, item: Item, copy: Option<Item>) -> Result<Option<Item>, Memory> {
-        if !self.is_open {
+        if self.lane.is_ended() {
             return Ok(None);
         }
         self.tape.push(item)?;
@@ -142,8 +138,10 @@ impl Tried {
     }
 
     fn end(&mut self, note: Note) {
-        self.is_open = false;
-        let back = self.lane.end(note);
+        if self.lane.is_ended() {
+            return;
+        }
+        let back = self.lane.end_on(note, &mut self.tape);
         self.put_back(&back);
     }
 
@@ -205,7 +203,7 @@ fn shared_policy(shared: Shared) -> Result<Policy, Fail>
     };
     let policy = policy_by(strategy, shared.errors)?;
     match policy.strategy() {
-        Strategy::Drop(_) => Err(Memory)?,
+        Strategy::Drop(_) | Strategy::Bounded(_) => Err(Memory)?,
         _ => Ok(policy),
     }
 }
@@ -283,7 +281,6 @@ impl Row {
         Ok(Tried {
             tape,
             lane,
-            is_open: true,
             who: self.who,
             given,
             outs,
@@ -324,6 +321,8 @@ fn tape_lane_call_by_call(rt: HostRuntime) -> Result<(), Fail> {
         ("", None, 0, Some(1), delay, 0, "abc.9", "c."),
         ("", None, 0, None, ahead, 0, "ab!? 9", "!000! "),
         ("", None, 0, Some(2), ahead, 0, "abc.? 9", "230- bc."),
+        ("", None, 0, Some(2), ahead, 0, "ab.c!? 9", "230- ab."),
+        ("", None, 0, None, ahead, 1, "abc!d.? 1?", "a!000! 001!"),
         ("abc", None, 2, Some(1), delay, 0, "? 9", "110- c"),
         ("abc", None, 2, None, delay, 1, "d? 9", "b220- cd"),
         ("abc", Some(b'z'), 0, Some(2), delay, 0, "ab9", "ab"),

@@ -4,8 +4,8 @@ use Rattle.rx_lane.specs.TapeLanes.{StandsBack}
 use Rattle.rx_lane.proofs.Shared.{pushed_on}
 use Rattle.rx_tests.proofs.tape_lanes.Tried.offered.Goals as goal
 
-pub offer-requires : goal.offer-requires
-offer-requires c =
+pub offer-requires-clause-stands : goal.offer-requires-clause-stands
+offer-requires-clause-stands c =
     let s = c.args.self.now in
     subst (λ (t : TapeState). StandsBack t s.lane.cursor (s.lane.back + 1)) (sym c.in_ok-push.ensures.ok)
-    (pushed_on s.tape c.args.item s.lane.cursor s.lane.back (s.stands c.if-not-self.false))
+    (pushed_on s.tape c.args.item s.lane.cursor s.lane.back s.stands)
