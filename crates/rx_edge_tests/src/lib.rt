@@ -1,33 +1,16 @@
-//! Tests of all that threads do, and of the edge: a budget and boxes between threads, pumps with their callers, drainers with
-//! their sinks, servers with their desks, and the program over files and a socket, with its peers.
+//! Tests of the edge: servers with their desks, and the program over files and a socket, with its peers.
 //!
 //! There is no code here but tests, and nothing stands on it. It stands above all that it tests, so that none of those
 //! crates is proved a second time for tests of its own.
 #![tactic(auto)]
 
 #[cfg(test)]
-mod boxes;
-#[cfg(test)]
-mod desks;
-#[cfg(test)]
-mod drainers;
-#[cfg(test)]
 mod expecting;
-#[cfg(test)]
-mod letters;
 #[cfg(test)]
 mod peers;
 #[cfg(test)]
 mod programs;
 #[cfg(test)]
-mod pumps;
-#[cfg(test)]
 mod servers;
 #[cfg(test)]
-mod shared_budget;
-#[cfg(test)]
 mod sockets;
-#[cfg(test)]
-mod texts;
-#[cfg(test)]
-mod two_threads;

@@ -3,16 +3,13 @@
 
 ghost use Rattle.std.specs.Prelude.{◌+◌, ◌<◌, length};
 
-use crate::boxes::{copy, unlimited};
-use crate::drainers::{Meeting, meeting_of};
 use crate::expecting::{expect_answer, expect_count, expect_that, expect_told};
-use crate::letters::put_result;
 use rx_drain::{MemorySink, Sink};
 use rx_heap::Heap;
 use rx_note::{Answer, Errors, Event, Item, Note, Policy, Refusal, Strategy, Text};
 use rx_pump::{CallDesk, EndedDesk};
 use rx_server::{Config, Report, Server, StartCause, SubjectReport, read_config, start};
-use rx_signs::Told;
+use rx_signs::{Meeting, Told};
 use std::alloc::Global;
 use std::process::Abort;
 use std::sync::atomic::AtomicU64;
@@ -26,6 +23,10 @@ trait Host: AllocGlobal + Clock + Threads + Wait + Abort + Clone + Drop + Send +
 
 impl<T: AllocGlobal + Clock + Threads + Wait + Abort + Clone + Drop + Send + Sync + 'static> Host
     for T {}
+
+fn copy(rt: &impl Abort, alloc: &Heap) -> Heap {
+    alloc.clone().expect(rt, "a handle")
+}
 
 // One subject, for two desks.
 const TWO_DESKS: &[u8] = b"[[subject]]\nname = \"s\"\nkind = \"publish\"\n[pool]\nworkers = 2\n";
@@ -246,14 +247,14 @@ fn expect_all_admitted(rt: &impl Abort, report: &Report<Vec<Note, Heap>>, bytes:
 #[test]
 fn two_desks_one_subject(rt: HostRuntime) {
     let bytes = all_bytes();
-    let report = report_of_two_desks(&rt, &unlimited(&rt), bytes.as_bytes());
+    let report = report_of_two_desks(&rt, &Heap::unlimited(rt.alloc()), bytes.as_bytes());
     expect_all_admitted(&rt, &report, bytes.as_bytes());
 }
 
 // Joins two observers whose sinks are to meet.
 fn join_both<R: Host>(rt: &R, caller: &mut Caller<Meeting<R>>, come: &Arc<AtomicU64, Global>) {
     for who in 0..2 {
-        let sink = meeting_of(rt, come);
+        let sink = Meeting::of(rt, come).expect(rt, "a meeting");
         expect_answer(rt, caller.join(rt, 1, sink), Ok(Answer::Joined(who)));
     }
 }
@@ -309,7 +310,10 @@ fn expect_met(rt: &impl Abort, report: &Report<bool>) {
 #[test]
 fn two_drainers_meet(rt: HostRuntime) -> Result<(), Fail> {
     let come = Arc::new(rt.alloc(), AtomicU64::new(0))?;
-    expect_met(&rt, &report_of_two_drainers(&rt, &unlimited(&rt), &come));
+    expect_met(
+        &rt,
+        &report_of_two_drainers(&rt, &Heap::unlimited(rt.alloc()), &come),
+    );
     Ok(())
 }
 
@@ -347,7 +351,7 @@ fn call_twice(rt: &impl Host, free: &Heap, tight: &Heap, caller: Caller<MemorySi
 fn told_of_run<R: Drop>(answers: &[Result<Answer, Refusal>], report: &Report<R>) -> Told {
     let mut told = Told::new();
     for answer in answers {
-        put_result(&mut told, *answer);
+        told.put_answer(*answer);
     }
     told.put(b'|');
     put_report(&mut told, report);
@@ -428,6 +432,6 @@ fn refused_in_turn(rt: &impl Host, free: &Heap) -> Option<u64> {
 
 #[test]
 fn server_with_each_growth_refused(rt: HostRuntime) {
-    let refused = refused_in_turn(&rt, &unlimited(&rt));
+    let refused = refused_in_turn(&rt, &Heap::unlimited(rt.alloc()));
     expect_that(&rt, refused >= Some(12), "growths that were refused");
 }

@@ -2,7 +2,7 @@
 //! nothing is let go where a test goes on.
 
 use crate::signs::{digit_of, sign_of};
-use rx_note::Note;
+use rx_note::{Answer, Note, Refusal};
 
 /// How many signs are told at most.
 const ROOM: usize = 256;
@@ -52,6 +52,23 @@ impl Told {
     pub fn put_notes(&mut self, notes: &[Note]) {
         for note in notes {
             self.put(sign_of(note));
+        }
+    }
+
+    /// Puts what was answered: `A`, `L`, `R` or `J` with the observer for what was accepted, `n` for no such observer, `m` for
+    /// want of memory or `!` for another refusal.
+    pub fn put_answer(&mut self, answered: Result<Answer, Refusal>) {
+        self.put(match answered {
+            Ok(Answer::Admitted) => b'A',
+            Ok(Answer::Joined(_)) => b'J',
+            Ok(Answer::Asked) => b'R',
+            Ok(Answer::Left) => b'L',
+            Err(Refusal::NoObserver) => b'n',
+            Err(Refusal::Memory) => b'm',
+            Err(_) => b'!',
+        });
+        if let Ok(Answer::Joined(who)) = answered {
+            self.put_digit(who as usize);
         }
     }
 

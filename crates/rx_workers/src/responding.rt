@@ -3,7 +3,7 @@ ghost use Rattle.std.specs.Prelude.{◌≡◌};
 ghost use Rattle.rx_workers.specs.Responses.{response_of, has_joined, sink_in};
 ghost use Rattle.rx_workers.specs.Responses as responses;
 
-use rx_note::Answer;
+use rx_note::{Answer, Refusal};
 use rx_proto::{Response, Word};
 use rx_pump::{CallError, Reply};
 use rx_session::response_to;
@@ -23,9 +23,15 @@ pub fn has_joined<S>(answered: &Result<Reply<S>, CallError<S>>) -> bool
     ensures { result ≡ responses.has_joined answered.now }
 {
     match answered {
-        Ok(reply) => matches!(reply.result, Ok(Answer::Joined(_))),
+        Ok(reply) => is_joined(reply.result),
         Err(_) => false,
     }
+}
+
+fn is_joined(answered: Result<Answer, Refusal>) -> bool
+    ensures { result ≡ responses.is_joined answered }
+{
+    matches!(answered, Ok(Answer::Joined(_)))
 }
 
 // The sink that came back, if one did.

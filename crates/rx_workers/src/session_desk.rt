@@ -1,4 +1,5 @@
 ghost use Rattle.std.specs.Prelude.{◌≡◌, ◌+◌, length, vec_len};
+ghost use Rattle.rx_proto.specs.Reading.{same_word};
 ghost use Rattle.rx_workers.specs.SessionDesks.{followed, place_of};
 
 use crate::moments::Moments;
@@ -107,9 +108,13 @@ impl<'a, R: Wait, M: Moments + Drop, W: Write + Drop> Desk<W> for SessionDesk<'a
 fn place_in(subjects: &Vec<SubjectConfig, Heap>, name: &Name) -> Option<usize>
     ensures { result ≡ place_of name.now subjects.now.items }
 {
-    subjects
-        .iter()
-        .position(|subject| subject.name.as_bytes() == name.as_bytes())
+    subjects.iter().position(|subject| is_named(subject, name))
+}
+
+fn is_named(subject: &SubjectConfig, name: &Name) -> bool
+    ensures { result ≡ same_word subject.now.name name.now }
+{
+    subject.name == *name
 }
 
 // What becomes of the writer, by the answer to the call of its sink.

@@ -1,0 +1,77 @@
+//! A sink that waits for another one, which shows that those who hand them their notes are at work at the same time.
+
+use rx_heap::Memory;
+use rx_note::Note;
+use rx_sink::{Sink, SinkFault};
+use std::alloc::Global;
+use std::sync::Arc;
+use std::sync::atomic::{AtomicU64, Ordering};
+use std::thread;
+use std::time::{Clock, Duration};
+
+/// A sink that tells that it was handed its note, and holds it until another one has told so too.
+#[derive(Drop)]
+pub struct Meeting<C: Clock + Drop> {
+    clock: C,
+    come: Arc<AtomicU64, Global>,
+    faults: u64,
+}
+
+// How many sinks meet, and how often one looks for the other, a millisecond apart.
+const SINKS: u64 = 2;
+
+const LOOKS: u64 = 10_000;
+
+impl<C: Clock + Clone + Drop> Meeting<C> {
+    /// One of those that count in `come` how many have come, by this clock.
+    pub fn of(clock: &C, come: &Arc<AtomicU64, Global>) -> Result<Meeting<C>, Memory> {
+        Ok(Meeting {
+            clock: clock.clone()?,
+            come: Arc::try_clone(come)?,
+            faults: 0,
+        })
+    }
+}
+
+impl<C: Clock + Drop> Meeting<C> {
+    fn meets(&self) -> bool {
+        self.come.fetch_add(1, Ordering::SeqCst);
+        for _ in 0..LOOKS {
+            if self.come.load(Ordering::SeqCst) >= SINKS {
+                return true;
+            }
+            thread::sleep(&self.clock, Duration::from_millis(1));
+        }
+        false
+    }
+}
+
+impl<C: Clock + Drop> Sink for Meeting<C> {
+    type Rest = bool;
+
+    ghost acts = { record {
+      started = λ s who t. Unit {0};
+      start_faulted = λ s who t. Unit {0};
+      took = λ s note t. Unit {0};
+      take_faulted = λ s note t. Unit {0};
+      finished = λ s rest. Unit {0};
+      faults = λ s. s.faults;
+    } };
+
+    fn start(&mut self, _who: u32) -> Result<(), SinkFault> {
+        Ok(())
+    }
+
+    fn take(&mut self, _note: Note) -> Result<(), SinkFault> {
+        if self.meets() {
+            return Ok(());
+        }
+        self.faults = self.faults.saturating_add(1);
+        Err(SinkFault)
+    }
+
+    // Whether it met.
+    fn finish(self) -> bool {
+        self.faults == 0
+    }
+}

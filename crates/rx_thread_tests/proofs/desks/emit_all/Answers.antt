@@ -1,0 +1,10 @@
+use Rattle.std.proofs.Common.{◌∙◌, ap, ℕ}
+use Rattle.rx_pump.specs.Desks.{DeskView}
+use Rattle.rx_thread_tests.specs.Wiring.{boxes_of}
+use Rattle.rx_thread_tests.proofs.Wired.{boxes-same, boxes-byes}
+use Rattle.rx_thread_tests.proofs.desks.emit_all.Goals as goal
+
+pub returns-clause-ports : goal.returns-clause-ports
+returns-clause-ports g c =
+    ap boxes_of c.finish_desk.ensures.ports ∙ boxes-byes c.loop.desk.ports ∙ boxes-same c.desk_of-desk.result.ports c.loop.desk.ports c.loop.invariant.ports
+    ∙ ap (λ (desk : DeskView ℕ). boxes_of desk.ports) c.desk_of-desk.ensures
