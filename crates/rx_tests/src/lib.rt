@@ -17,6 +17,8 @@ mod drawn_runs;
 #[cfg(test)]
 mod expecting;
 #[cfg(test)]
+mod giving_back;
+#[cfg(test)]
 mod heaps;
 #[cfg(test)]
 mod histories;
