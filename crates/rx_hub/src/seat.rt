@@ -211,7 +211,7 @@ fn own_lane(
 {
     let items = last_copies(notes.allocator().clone()?, lead, back, tape)?;
     notes.reserve(items.len())?;
-    let mut lane = Lane::joined(notes.allocator().clone()?, policy, first)?;
+    let mut lane = Lane::joined(tape.allocator().clone()?, policy, first)?;
     offer_all(&mut lane, items, notes);
     Ok(lane)
 }

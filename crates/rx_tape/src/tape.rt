@@ -56,6 +56,11 @@ impl Tape {
         }
     }
 
+    /// The memory that it grows by.
+    pub fn allocator(&self) -> &Heap {
+        self.items.allocator()
+    }
+
     /// How many items there are.
     pub fn len(&self) -> usize
         ensures len { result ≡ length self.now.items }

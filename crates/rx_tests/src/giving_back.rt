@@ -52,14 +52,13 @@ impl Charged {
         answered
     }
 
-    fn join(&mut self, rt: &impl Abort, strategy: Strategy) {
+    fn join(&mut self, rt: &impl Abort, strategy: Strategy) -> Result<Answer, Refusal> {
         let policy = policy_of(strategy).expect(rt, "a policy");
-        let joined = self.step(Event::Join {
+        self.step(Event::Join {
             policy,
             first: 0,
             at: 0,
-        });
-        expect_that(rt, joined.is_ok(), "an observer joins");
+        })
     }
 
     // An item of so many bytes is emitted at a moment.
@@ -95,8 +94,9 @@ fn held_after(
     items: u32,
 ) -> u64 {
     let mut charged = Charged::new(rt, kind_at(kind), heap, heap, free);
-    for _ in 0..observers {
-        charged.join(rt, Strategy::Buffer);
+    for who in 0..observers {
+        let answered = charged.join(rt, Strategy::Buffer);
+        expect_answer(rt, answered, Ok(Answer::Joined(who)));
     }
     for at in 0..items {
         let answered = charged.emit(rt, bytes, u64::from(at));
@@ -143,18 +143,45 @@ fn expect_let_go(rt: &impl Abort, charged: &mut Charged, bytes: usize, most: u32
     expect_that(rt, false, "an emission is refused");
 }
 
-// Observer 0 keeps copies of its own, and the tape of observer 1 is what finds no memory.
+// Observer 0 keeps copies of its own in a room of 1,024, and the tape of observer 1 is what finds no memory.
+fn refuse_one(
+    rt: &impl Abort,
+    free: &Heap,
+    (heap, texts): (&Heap, &Heap),
+    strategy: Strategy,
+    bytes: usize,
+) {
+    let mut charged = Charged::new(rt, Kind::Publish, heap, texts, free);
+    expect_answer(rt, charged.join(rt, strategy), Ok(Answer::Joined(0)));
+    expect_answer(
+        rt,
+        charged.join(rt, Strategy::Buffer),
+        Ok(Answer::Joined(1)),
+    );
+    expect_let_go(rt, &mut charged, bytes, 1_000);
+}
+
 #[test]
 fn a_refused_emission_leaves_nothing(rt: HostRuntime) -> Result<(), Fail> {
+    let heap = Heap::with_budget(rt.alloc(), 53_000)?;
+    let texts = Heap::with_budget(rt.alloc(), u64::MAX)?;
     for bytes in TEXTS {
         for strategy in [Strategy::Drop(1024), Strategy::Bounded(1024)] {
-            let heap = Heap::with_budget(rt.alloc(), 20_000)?;
-            let texts = Heap::with_budget(rt.alloc(), u64::MAX)?;
-            let mut charged = Charged::new(&rt, Kind::Publish, &heap, &texts, &unlimited(&rt));
-            charged.join(&rt, strategy);
-            charged.join(&rt, Strategy::Buffer);
-            expect_let_go(&rt, &mut charged, bytes, 1_000);
+            refuse_one(&rt, &unlimited(&rt), (&heap, &texts), strategy, bytes);
         }
+    }
+    Ok(())
+}
+
+// An item is four words, so a room of 1,024 takes 32,768 bytes.
+#[test]
+fn a_room_is_charged_to_its_hub(rt: HostRuntime) -> Result<(), Fail> {
+    let free = unlimited(&rt);
+    for strategy in [Strategy::Drop(1024), Strategy::Bounded(1024)] {
+        let heap = Heap::with_budget(rt.alloc(), 32_767)?;
+        let mut charged = Charged::new(&rt, Kind::Publish, &heap, &free, &free);
+        let answered = charged.join(&rt, strategy);
+        expect_answer(&rt, answered, Err(Refusal::Memory));
     }
     Ok(())
 }

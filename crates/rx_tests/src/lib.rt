@@ -46,3 +46,5 @@ mod tape_lanes;
 mod tape_subjects;
 #[cfg(test)]
 mod tapes;
+#[cfg(test)]
+mod texts;
