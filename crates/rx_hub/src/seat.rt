@@ -66,8 +66,10 @@ impl Seat {
     {
         match self {
             Seat::Shared(lane) => lane.owed(),
-            Seat::Own(lane) if lane.is_ended() => 0,
-            Seat::Own(lane) => lane.owed(),
+            Seat::Own(lane) => {
+                let owed = lane.owed();
+                if lane.is_ended() { 0 } else { owed }
+            }
         }
     }
 
