@@ -43,7 +43,7 @@ impl Caller {
             bail!("the subject is gone");
         };
         if let Err(refusal) = reply.result {
-            bail!("refused: {refusal:?}");
+            bail!("refused: {refusal}");
         }
         Ok(())
     }

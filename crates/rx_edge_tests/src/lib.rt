@@ -14,3 +14,5 @@ mod programs;
 mod servers;
 #[cfg(test)]
 mod sockets;
+#[cfg(test)]
+mod texts;

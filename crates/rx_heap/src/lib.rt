@@ -5,10 +5,12 @@
 #![tactic(auto)]
 
 mod budget;
+mod giving_back;
 mod limit;
 mod limited;
 mod refused;
 
+pub use giving_back::{ROOM_KEPT, give_back};
 pub use limited::Limited;
 pub use refused::Memory;
 

@@ -1,4 +1,6 @@
 use rx_heap::Memory;
+use std::error::Error;
+use std::fmt;
 
 /// Why the line of an observer was not read from a history.
 #[derive(Clone, Copy, Debug, PartialEq, Eq)]
@@ -8,6 +10,17 @@ pub enum LineError {
     /// There was no memory for it.
     Memory,
 }
+
+impl fmt::Display for LineError {
+    fn fmt<W: fmt::Write>(&self, f: &mut fmt::Formatter<W>) -> fmt::Result {
+        f.write_str(match self {
+            LineError::NoObserver => "no accepted join made an observer of that number",
+            LineError::Memory => "out of memory",
+        })
+    }
+}
+
+impl Error for LineError {}
 
 impl From<Memory> for LineError {
     ghost use Rattle.rx_history.specs.declared.line_error.LineError.TheVariants as refused;

@@ -8,6 +8,7 @@ ghost use Rattle.rx_hub.specs.Audiences.{places_of, observers_on, AllOn, Apart, 
 
 mod emitting;
 
+use crate::passes::forget_all;
 use crate::seat::Seat;
 use crate::subscription::{Subscription, end_by, give, give_all, keep_notes, no_notes};
 use rx_heap::{Heap, Memory};
@@ -186,6 +187,14 @@ impl Audience {
             ready: _,
         } = self.subscriptions.remove(place);
         seat.close(&mut self.tape);
+    }
+
+    /// Lets go of the copies that a refused emission left with the observers.
+    #[inline(never)]
+    pub(crate) fn forget(&mut self)
+        ensures { self.new ≡ self.old }
+    {
+        forget_all(&mut self.subscriptions);
     }
 
     /// Removes from the tape what no observer waits for, save the last `keep` items.

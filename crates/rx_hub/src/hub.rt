@@ -9,6 +9,8 @@ use crate::run::Run;
 use crate::step::Step;
 use rx_heap::{Heap, Memory};
 use rx_note::{Answer, Event, Given, Kind, Limits, Refusal};
+use std::error::Error;
+use std::fmt;
 use std::marker::Model;
 
 /// Why a hub was not made.
@@ -19,6 +21,17 @@ pub enum HubError {
     /// There was no memory for it.
     Memory,
 }
+
+impl fmt::Display for HubError {
+    fn fmt<W: fmt::Write>(&self, f: &mut fmt::Formatter<W>) -> fmt::Result {
+        f.write_str(match self {
+            HubError::BadLimits => "limits are 1 to 64 observers and 1 to 4294967295 joins",
+            HubError::Memory => "out of memory",
+        })
+    }
+}
+
+impl Error for HubError {}
 
 /// The core of one subject. Contracts see its state and the number of its Memory answers, and tell by the history that
 /// it stands for what it answers and gives. It stores no history.

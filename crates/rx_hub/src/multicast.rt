@@ -110,6 +110,7 @@ impl Multicast {
             return Err(Refusal::Ended);
         }
         let Ok(()) = self.audience.admit(&mut self.subject, port, note, at, outs) else {
+            self.audience.forget();
             return Err(Refusal::Memory);
         };
         self.audience.trim(self.subject.keep());

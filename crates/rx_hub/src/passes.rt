@@ -184,6 +184,16 @@ pub(crate) fn prepare_all(
     Ok(())
 }
 
+// Lets go of what was made ready for each observer.
+pub(crate) fn forget_all(subscriptions: &mut Vec<Subscription, Heap>)
+    ensures places { places_of subscriptions.new.items ≡ places_of subscriptions.old.items }
+    ensures len { vec_len subscriptions.new ≡ vec_len subscriptions.old }
+{
+    for i in 0..subscriptions.len() {
+        subscriptions[i].forget();
+    }
+}
+
 // Feeds each observer what an offer gives, by rising number. Its item is the last of the tape.
 pub(crate) fn feed_all(
     subscriptions: &mut Vec<Subscription, Heap>,

@@ -66,8 +66,10 @@ impl Seat {
     {
         match self {
             Seat::Shared(lane) => lane.owed(),
-            Seat::Own(lane) if lane.is_ended() => 0,
-            Seat::Own(lane) => lane.owed(),
+            Seat::Own(lane) => {
+                let owed = lane.owed();
+                if lane.is_ended() { 0 } else { owed }
+            }
         }
     }
 
@@ -211,7 +213,7 @@ fn own_lane(
 {
     let items = last_copies(notes.allocator().clone()?, lead, back, tape)?;
     notes.reserve(items.len())?;
-    let mut lane = Lane::joined(notes.allocator().clone()?, policy, first)?;
+    let mut lane = Lane::joined(tape.allocator().clone()?, policy, first)?;
     offer_all(&mut lane, items, notes);
     Ok(lane)
 }

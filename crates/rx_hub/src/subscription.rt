@@ -126,6 +126,14 @@ impl Subscription {
         Ok(())
     }
 
+    /// Lets go of what was made ready.
+    pub(crate) fn forget(&mut self)
+        ensures { place_of self.new ≡ place_of self.old }
+    {
+        self.ready.item = None;
+        self.ready.end = None;
+    }
+
     /// Puts at the end of `outs` what an offer gives to the observer at once. Its item is the last of the tape.
     #[inline(always)]
     pub(crate) fn feed(&mut self, offer: &Offer, tape: &mut Tape, outs: &mut Vec<Given, Heap>)

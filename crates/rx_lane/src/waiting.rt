@@ -212,7 +212,7 @@ fn copy_items(
 }
 
 /// Takes the first `count` items off a tape, which every cursor has passed, and puts them at the end of `outs`, which has
-/// room for them, for an observer. Where they are many, the tape gives back half-way the memory that it no longer needs.
+/// room for them, for an observer. The tape gives back the memory that it no longer needs, where they are many half-way too.
 pub(crate) fn move_passed(who: u32, count: usize, tape: &mut Tape, outs: &mut Vec<Given, Heap>)
     requires there { count ≤ length tape.old.items }
     requires passed { HavePassed tape.old count }
@@ -223,12 +223,13 @@ pub(crate) fn move_passed(who: u32, count: usize, tape: &mut Tape, outs: &mut Ve
 {
     let half = count / 2;
     move_first(who, half, tape, outs);
-    give_back(half, tape);
+    shrink(half, tape);
     move_first(who, count - half, tape, outs);
+    tape.give_back();
 }
 
 // Has a tape that lost so many items give back memory, where they were many beside those that are left.
-fn give_back(gone: usize, tape: &mut Tape)
+fn shrink(gone: usize, tape: &mut Tape)
     ensures { tape.new ≡ tape.old }
 {
     if gone >= MANY && gone >= tape.len() / 2 {

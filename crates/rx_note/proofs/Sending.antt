@@ -1,12 +1,12 @@
 -- What a signal that a subject sends adds to those of an observer.
 use Rattle.std.proofs.Common.{◌≡◌, ℕ, ◌+◌, ◌-◌, ◌<◌, ◌≤◌, Bool, true, false, cond, List, [], ◌++◌, length, Option, None, Some, is_some, ◌⊎◌, inl, inr, refl, sym, ap, ◌∙◌, arith}
-use Rattle.std.proofs.lemmas.Bool.{cases_Bool, lt-ltb, le-ltb}
+use Rattle.std.proofs.lemmas.Bool.{lt-ltb, le-ltb}
 use Rattle.std.proofs.lemmas.List.{append-nil, length-drop}
 use Rattle.rx_note.specs.declared.item.Item.{Item}
 use Rattle.rx_note.specs.declared.note.Note.{Note}
 use Rattle.rx_note.specs.declared.strategy.Strategy.{Strategy}
 use Rattle.rx_note.specs.declared.strategy.Strategy.TheVariants.{Buffer, Drop, Latest, Bounded}
-use Rattle.rx_note.specs.Signals.{Signal, Requested, Offered, Ended, Signals, ◌▸◌, policy_of, demand, offered_count, terminal_of, overflow, are_too_many, overflows, sent, kept, line_items, given, waiting_items, owed}
+use Rattle.rx_note.specs.Signals.{Signal, Requested, Offered, Ended, Signals, ◌▸◌, policy_of, demand, offered_count, terminal_of, overflow, are_too_many, overflows, sent, line_items, given, waiting_items, owed}
 use Rattle.rx_note.proofs.Kept.{counted, losses-none}
 use Rattle.rx_note.proofs.Laws.{given-grows}
 use Rattle.rx_note.proofs.Lines.{line_items-open, owed-rest}

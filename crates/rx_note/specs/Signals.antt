@@ -13,7 +13,6 @@ use Rattle.rx_note.specs.declared.strategy.Strategy.TheVariants.{Buffer, Drop, L
 use Rattle.rx_note.specs.declared.errors.Errors.{Errors}
 use Rattle.rx_note.specs.declared.errors.Errors.TheVariants.{Ahead, Delay}
 use Rattle.rx_note.specs.declared.policy.Policy.{Policy}
-use Rattle.rx_note.specs.declared.text.Text.{Text}
 
 -- one signal: n more items are requested, an item is offered, or the subject ended by this terminal
 pub data Signal : Type 0 where

@@ -1,4 +1,9 @@
-use crate::{Note, Policy};
+ghost use Rattle.std.specs.Prelude.{◌≡◌};
+ghost use Rattle.rx_note.specs.declared.event.Event.TheVariants.{Emit};
+ghost use Rattle.rx_note.specs.declared.note.Note.TheVariants.{Next};
+ghost use Rattle.rx_note.specs.declared.item.Item.{Item};
+
+use crate::{Item, Note, Policy, Text};
 
 /// One event of a subject, as it comes by a port.
 #[derive(Drop, Debug, PartialEq, Eq)]
@@ -11,4 +16,14 @@ pub enum Event {
     Request { who: u32, n: u32 },
     /// Observer `who` leaves: nothing more is given to it, and what waits for it is discarded.
     Dispose { who: u32 },
+}
+
+impl Event {
+    /// A producer emits this text at a moment, in milliseconds. The subject sets by which port it came.
+    pub fn item(text: Text, at: u64) -> Event
+        ensures { result ≡ Emit (Next (record { from = 0; text = text })) at }
+    {
+        let note = Note::Next(Item { from: 0, text });
+        Event::Emit { note, at }
+    }
 }

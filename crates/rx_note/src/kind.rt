@@ -1,6 +1,8 @@
 ghost use Rattle.std.specs.Prelude.{◌≡◌};
 
 use crate::Text;
+use std::error::Error;
+use std::fmt;
 
 /// The most items that `Replay` keeps by a count.
 pub const MAX_COUNT: u16 = 4096;
@@ -34,6 +36,17 @@ pub enum KindError {
     /// The age is not at least 1 millisecond.
     BadAge,
 }
+
+impl fmt::Display for KindError {
+    fn fmt<W: fmt::Write>(&self, f: &mut fmt::Formatter<W>) -> fmt::Result {
+        f.write_str(match self {
+            KindError::BadCount => "a count is 1 to 4096",
+            KindError::BadAge => "an age is at least 1 millisecond",
+        })
+    }
+}
+
+impl Error for KindError {}
 
 impl Kind {
     ghost use Rattle.rx_note.specs.Kinds.{kind_checked};

@@ -1,6 +1,8 @@
 ghost use Rattle.std.specs.Prelude.{◌≡◌, true};
 
 use crate::{Errors, Strategy};
+use std::error::Error;
+use std::fmt;
 use std::marker::Model;
 
 /// The most items that a room holds.
@@ -10,6 +12,14 @@ pub const MAX_ROOM: u16 = 1024;
 /// for `Latest`.
 #[derive(Clone, Copy, Debug, PartialEq, Eq)]
 pub struct BadRoom;
+
+impl fmt::Display for BadRoom {
+    fn fmt<W: fmt::Write>(&self, f: &mut fmt::Formatter<W>) -> fmt::Result {
+        f.write_str("a room has 0 to 1024 items, under Latest 1 to 1024")
+    }
+}
+
+impl Error for BadRoom {}
 
 /// How an observer wants to be served: its strategy and its error mode. Contracts see a policy as these two.
 #[derive(Clone, Copy, Debug, PartialEq, Eq)]

@@ -1,3 +1,6 @@
+use std::error::Error;
+use std::fmt;
+
 /// Why an event was refused. The limits behind these are this project's own.
 #[derive(Clone, Copy, Debug, PartialEq, Eq)]
 pub enum Refusal {
@@ -16,3 +19,19 @@ pub enum Refusal {
     /// There was no memory for it, and nothing has changed.
     Memory,
 }
+
+impl fmt::Display for Refusal {
+    fn fmt<W: fmt::Write>(&self, f: &mut fmt::Formatter<W>) -> fmt::Result {
+        f.write_str(match self {
+            Refusal::Ended => "the subject has ended",
+            Refusal::Full => "as many observers are held as may be",
+            Refusal::Spent => "as many joins were accepted as may be",
+            Refusal::ZeroRequest => "a request is for at least 1 item",
+            Refusal::NoObserver => "no observer of that number is held",
+            Refusal::TooMuch => "more than 4294967295 items would be owed",
+            Refusal::Memory => "out of memory",
+        })
+    }
+}
+
+impl Error for Refusal {}

@@ -6,6 +6,7 @@ ghost use Rattle.rx_note.specs.Texts.{HasLf};
 
 use crate::body::Body;
 use rx_heap::{Heap, Memory};
+use std::error::Error;
 use std::fmt;
 use std::marker::Model;
 
@@ -27,6 +28,18 @@ pub enum TextError {
     /// There was no memory for it.
     Memory,
 }
+
+impl fmt::Display for TextError {
+    fn fmt<W: fmt::Write>(&self, f: &mut fmt::Formatter<W>) -> fmt::Result {
+        f.write_str(match self {
+            TextError::TooLong => "a text has at most 1024 bytes",
+            TextError::HasLf => "a text has no line feed",
+            TextError::Memory => "out of memory",
+        })
+    }
+}
+
+impl Error for TextError {}
 
 /// What an item or an error says: 0 to 1,024 bytes of any kind but LF. Contracts see a text as the list of its bytes.
 ///

@@ -3,11 +3,21 @@ ghost use Rattle.rx_proto.specs.Printing.{reply_line, joined_line, note_line};
 
 use crate::{Response, joined_line, note_line, reply_line};
 use rx_note::Note;
+use std::error::Error;
+use std::fmt;
 use std::io::Write;
 
 /// A writer did not take what was written. It has a prefix of that.
 #[derive(Clone, Copy, Debug, PartialEq, Eq)]
 pub struct WriteFault;
+
+impl fmt::Display for WriteFault {
+    fn fmt<W: fmt::Write>(&self, f: &mut fmt::Formatter<W>) -> fmt::Result {
+        f.write_str("the writer did not take all")
+    }
+}
+
+impl Error for WriteFault {}
 
 /// Writes the line of a response.
 pub fn write_reply<W: Write>(writer: &mut W, response: Response) -> Result<(), WriteFault>

@@ -2,10 +2,20 @@ ghost use Rattle.std.specs.Prelude.{◌≡◌, OnOk, OnErr};
 ghost use Rattle.rx_sink.specs.Acts.{Acts, raised};
 
 use rx_note::Note;
+use std::error::Error;
+use std::fmt;
 
 /// A sink can't go on: it did not take what it was to take, and is to be finished.
 #[derive(Clone, Copy, Debug, PartialEq, Eq)]
 pub struct SinkFault;
+
+impl fmt::Display for SinkFault {
+    fn fmt<W: fmt::Write>(&self, f: &mut fmt::Formatter<W>) -> fmt::Result {
+        f.write_str("the sink takes no more notes")
+    }
+}
+
+impl Error for SinkFault {}
 
 /// Where the notes of one observer go. A drainer calls `start` once, then `take` for each note in its order until one is a
 /// fault or the last, and then `finish`.

@@ -305,10 +305,11 @@ impl TapeSubject {
             self.stamp = stamp;
             return Ok(());
         }
-        reserve_stamp(&mut self.stamps)?;
+        let count = count_kept(&self.kind);
+        reserve_stamp(&mut self.stamps, count)?;
         tape.push(item)?;
         self.stamp = stamp;
-        keep_stamp(&mut self.stamps, stamp, count_kept(&self.kind));
+        keep_stamp(&mut self.stamps, stamp, count);
         drop_old_stamps(&mut self.stamps, age_kept(&self.kind), stamp);
         Ok(())
     }

@@ -2,7 +2,7 @@ ghost use Rattle.std.specs.Prelude.{◌≡◌, ◌≤◌, ◌<◌, ◌^◌, ◌-
 ghost use Rattle.rx_tape.specs.Tapes.{end_of, place_of, ahead, tape_at_first, pushed, HavePassed, MovesOn, Spares, trimmed, without};
 
 use crate::places::Places;
-use rx_heap::{Heap, Memory};
+use rx_heap::{Heap, Memory, give_back};
 use rx_note::Item;
 use std::collections::VecDeque;
 use std::marker::Model;
@@ -54,6 +54,11 @@ impl Tape {
             places: Places::new(),
             slowest: 0,
         }
+    }
+
+    /// The memory that it grows by.
+    pub fn allocator(&self) -> &Heap {
+        self.items.allocator()
     }
 
     /// How many items there are.
@@ -148,7 +153,8 @@ impl Tape {
         self.places.set(cursor, None);
     }
 
-    /// Removes the items that every cursor has passed, save the last `keep` items.
+    /// Removes the items that every cursor has passed, save the last `keep` items. Where few are left, it gives back the memory
+    /// that they have no use for (`rx_heap::give_back`).
     pub fn trim(&mut self, keep: usize)
         ensures { self.new ≡ trimmed self.old keep }
     {
@@ -177,6 +183,13 @@ impl Tape {
         item
     }
 
+    /// Gives back memory that few items have no use for (`rx_heap::give_back`), as `trim` does where it removes some.
+    pub fn give_back(&mut self)
+        ensures { self.new ≡ self.old }
+    {
+        give_back(&mut self.items);
+    }
+
     /// Gives back the memory that its items do not need, in a step for each of them.
     pub fn shrink_to_fit(&mut self)
         ensures { self.new ≡ self.old }
@@ -199,11 +212,12 @@ fn stands_at(places: &Places, cursor: u32, place: u64) -> bool
     places.at(cursor) == Some(place)
 }
 
-// Drops items from the front.
+// Drops items from the front, and gives back the room that the others have no use for.
 fn drop_front(items: &mut VecDeque<Item, Heap>, count: usize)
     ensures { items.new.items ≡ drop count items.old.items }
 {
     for _ in 0..count {
         drop(items.pop_front());
     }
+    give_back(items);
 }

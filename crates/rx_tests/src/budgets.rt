@@ -4,10 +4,8 @@ use crate::expecting::{expect_answer, expect_count, expect_that};
 use crate::heaps::{copy, unlimited};
 use rx_heap::{Heap, Memory};
 use rx_hub::Hub;
-use rx_note::{
-    Answer, Event, Given, Kind, Limits, MAX_TEXT, Note, Refusal, Strategy, Text, TextError,
-};
-use rx_signs::{item, policy_of, text_of};
+use rx_note::{Answer, Event, Given, Kind, Limits, MAX_TEXT, Refusal, Strategy, Text, TextError};
+use rx_signs::{policy_of, text_of};
 use std::alloc::Global;
 use std::process::Abort;
 use std::test::Fail;
@@ -66,8 +64,8 @@ impl Waiting {
     }
 
     fn emit(&mut self, rt: &impl Abort) -> Result<Answer, Refusal> {
-        let note = Note::Next(item(&self.free, b"a").expect(rt, "an item"));
-        self.step(Event::Emit { note, at: 0 })
+        let text = text_of(&self.free, b"a").expect(rt, "a text");
+        self.step(Event::item(text, 0))
     }
 
     // Emits until want of memory, so many items at most: how many were admitted; none where no emission found that.

@@ -17,6 +17,8 @@ mod drawn_runs;
 #[cfg(test)]
 mod expecting;
 #[cfg(test)]
+mod giving_back;
+#[cfg(test)]
 mod heaps;
 #[cfg(test)]
 mod histories;
@@ -44,3 +46,5 @@ mod tape_lanes;
 mod tape_subjects;
 #[cfg(test)]
 mod tapes;
+#[cfg(test)]
+mod texts;

@@ -2,6 +2,7 @@
 use crate::expecting::expect_text;
 use rx_drain::{DrainFault, NoThread};
 use rx_pump::{CallError, PumpFault};
+use rx_sink::SinkFault;
 use std::alloc::Global;
 use std::process::Abort;
 use std::test::Fail;
@@ -41,7 +42,8 @@ fn expect_drainer_texts(rt: &impl Abort, alloc: Global) -> Result<(), Fail> {
     ] {
         expect_text(rt, alloc, fault, text)?;
     }
-    expect_text(rt, alloc, &NoThread, "there is no thread for a drainer")
+    expect_text(rt, alloc, &NoThread, "there is no thread for a drainer")?;
+    expect_text(rt, alloc, &SinkFault, "the sink takes no more notes")
 }
 
 #[test]

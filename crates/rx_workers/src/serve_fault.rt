@@ -1,3 +1,6 @@
+use std::error::Error;
+use std::fmt;
+
 /// Why the serving of connections stopped.
 #[derive(Clone, Copy, Debug, PartialEq, Eq)]
 pub enum ServeFault {
@@ -10,3 +13,16 @@ pub enum ServeFault {
     /// There was no memory for a worker.
     Memory,
 }
+
+impl fmt::Display for ServeFault {
+    fn fmt<W: fmt::Write>(&self, f: &mut fmt::Formatter<W>) -> fmt::Result {
+        match self {
+            ServeFault::NoDesk => f.write_str("there is no desk to serve by"),
+            ServeFault::Accept => f.write_str("no connection could be accepted"),
+            ServeFault::Thread(place) => write!(f, "worker {place} has no thread, or is gone"),
+            ServeFault::Memory => f.write_str("out of memory"),
+        }
+    }
+}
+
+impl Error for ServeFault {}

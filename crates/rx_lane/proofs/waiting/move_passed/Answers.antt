@@ -13,7 +13,7 @@ returns-clause-put c =
     let rest = c.args.count - half in
     let before = c.args.outs.now.items in
     let all : half + rest ≡ c.args.count = omega (arith) in
-    let left = ap (λ (tape : TapeState). tape.items) (c.give_back.ensures ∙ c.move_first.ensures.left) in
+    let left = ap (λ (tape : TapeState). tape.items) (c.shrink.ensures ∙ c.move_first.ensures.left) in
     put_both c.args.who items half rest before c.move_first.new.outs.items c.move_first-2.new.outs.items c.move_first.ensures.put
     (c.move_first-2.ensures.put ∙ ap (λ (xs : List Item). c.move_first.new.outs.items ++ addressed c.args.who (map Next (take rest xs))) left)
     ∙ ap (λ n. before ++ addressed c.args.who (map Next (take n items))) all

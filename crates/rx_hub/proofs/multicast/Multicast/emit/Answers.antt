@@ -67,7 +67,7 @@ admit-requires-clause-all_open c = all_open (state_of c.args.self.now) c.args.se
 pub invariant_of-self-in_default-clause-stands : goal.invariant_of-self-in_default-clause-stands
 invariant_of-self-in_default-clause-stands c =
     let old = c.args.self.now in
-    same_history old.limits old.joins c.in_default.ensures.err.0 c.in_default.ensures.err.1 old.stands
+    same_history old.limits old.joins c.in_default.ensures.err.0 (c.forget.ensures ∙ c.in_default.ensures.err.1) old.stands
 
 pub invariant_of-self-in_default-clause-tight : goal.invariant_of-self-in_default-clause-tight
-invariant_of-self-in_default-clause-tight c = rw (c.in_default.ensures.err.0, c.in_default.ensures.err.1) c.args.self.now.tight
+invariant_of-self-in_default-clause-tight c = rw (c.in_default.ensures.err.0, c.forget.ensures ∙ c.in_default.ensures.err.1) c.args.self.now.tight

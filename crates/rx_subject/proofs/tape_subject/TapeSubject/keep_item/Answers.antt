@@ -18,8 +18,8 @@ returns-clause-state c =
     let left = c.drop_old_stamps.new.stamps.items in
     let all_is =
     c.keep_stamp.ensures
-    ∙ ap (λ (ss : List ℕ). drop (beyond c.count_kept.result (length (ss ++ clock ∷ []))) (ss ++ clock ∷ [])) c.in_ok-reserve_stamp.ensures.items
-    ∙ ap (λ (n : Option ℕ). drop (beyond n (length (s.stamps.items ++ clock ∷ []))) (s.stamps.items ++ clock ∷ [])) c.count_kept.ensures in
+    ∙ ap (λ (ss : List ℕ). drop (beyond c.count_kept-count.result (length (ss ++ clock ∷ []))) (ss ++ clock ∷ [])) c.in_ok-reserve_stamp.ensures.items
+    ∙ ap (λ (n : Option ℕ). drop (beyond n (length (s.stamps.items ++ clock ∷ []))) (s.stamps.items ++ clock ∷ [])) c.count_kept-count.ensures in
     let left_is = c.drop_old_stamps.ensures ∙ ap (λ (a : Option ℕ). drop (old_count a clock all) all) c.age_kept.ensures in
     let other : s.kind ≢ Async = λ is. let e = c.if-is_async.ensures.1 is in cc in
     ap (λ (tape : TapeState). subject_on tape.items (record v { clock = clock; stamps = left })) c.in_ok-push.ensures.ok
