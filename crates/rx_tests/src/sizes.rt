@@ -5,15 +5,16 @@ use crate::heaps::unlimited;
 use crate::hubs::{hub_of, run_of};
 use rx_heap::Heap;
 use rx_hub::Run;
-use rx_note::{Event, Kind, Note, Strategy};
-use rx_signs::{item, note_of, policy_of, rules_of};
+use rx_note::{Event, Note, Strategy};
+use rx_signs::{Named, item, kind_of, note_of, policy_of, rules_of};
 use std::process::Abort;
 use std::test::Fail;
 
-/// A run: so many observers join with a first request, items of so many bytes are emitted, the end comes or not, so many
+/// A run of a subject of this kind: so many observers join with a first request, items of so many bytes are emitted, the end comes or not, so many
 /// more join, and observer 0 requests or not.
 #[derive(Clone, Copy)]
 struct Shape {
+    kind: Named,
     joins: u32,
     first: u32,
     bytes: usize,
@@ -78,7 +79,7 @@ fn events_of(heap: &Heap, shape: &Shape) -> Result<Vec<(u32, Event), Heap>, Fail
 
 // A run by a new hub, and how many of its events were refused for want of memory.
 fn missed_by(heap: &Heap, shape: &Shape) -> Result<(Run, u64), Fail> {
-    let mut hub = hub_of(heap, rules_of(Kind::Publish))?;
+    let mut hub = hub_of(heap, rules_of(kind_of(heap, shape.kind)?))?;
     let run = run_of(heap, &mut hub, events_of(heap, shape)?)?;
     Ok((run, hub.misses()))
 }
@@ -116,6 +117,7 @@ const ALL: u32 = 4_294_967_295;
 
 // A run in which nobody joins and nothing comes.
 const NOTHING: Shape = Shape {
+    kind: Named::Publish,
     joins: 0,
     first: 0,
     bytes: 1,
@@ -126,7 +128,7 @@ const NOTHING: Shape = Shape {
 };
 
 // Runs by their names, and of each how many events are refused, how many notes are given, and the bytes of their texts.
-const RUNS: [(&str, Shape, usize, usize, usize); 9] = [
+const RUNS: [(&str, Shape, usize, usize, usize); 12] = [
     (
         "the longest text",
         Shape {
@@ -234,6 +236,44 @@ const RUNS: [(&str, Shape, usize, usize, usize); 9] = [
         0,
         1101,
         1100,
+    ),
+    (
+        "70,000 items that wait",
+        Shape {
+            joins: 1,
+            items: 70_000,
+            request: 70_000,
+            ..NOTHING
+        },
+        0,
+        70_000,
+        70_000,
+    ),
+    (
+        "a join of a Replay by the greatest count",
+        Shape {
+            kind: Named::Replay(Some(4096), None),
+            first: ALL,
+            items: 5_000,
+            later: 1,
+            ..NOTHING
+        },
+        0,
+        4_096,
+        4_096,
+    ),
+    (
+        "a join of a Replay of 5,000 items",
+        Shape {
+            kind: Named::Replay(None, None),
+            first: ALL,
+            items: 5_000,
+            later: 1,
+            ..NOTHING
+        },
+        0,
+        5_000,
+        5_000,
     ),
 ];
 
