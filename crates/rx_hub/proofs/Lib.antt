@@ -1,3 +1,4 @@
+pub mod Admitting
 pub mod Alone
 pub mod Asking
 pub mod Being

@@ -12,8 +12,8 @@ use Rattle.rx_history.specs.Histories.{followed_by, addressed}
 use Rattle.rx_history.proofs.Feeding.{followed_by-append}
 use Rattle.rx_lane.proofs.Steps.{is_open, offer_lost}
 use Rattle.rx_lane.specs.Lanes.{loses_next, LaneState, StandsFor, Gives, GoesOn}
-use Rattle.rx_lane.specs.TapeLanes.{offered_all}
-use Rattle.rx_lane.specs.TapeLanes as tape_lanes
+use Rattle.rx_lane.specs.declared.joiner.Joiner.{Joiner}
+use Rattle.rx_lane.specs.TapeLanes.{offered_all, BeginsTo}
 use Rattle.rx_hub.specs.Subscriptions.{Serves, Begins, BeginsInto}
 
 -- one signal
@@ -76,10 +76,10 @@ offered_as s [] = refl
 offered_as s (item ∷ items) = offered_as (sent s (Offered item)) items
 
 -- a joiner's queue on the tape
-pub begins_so : (lane : LaneState) (policy : Choice) (first : ℕ) (items : List Item) (before after : List Note)
-    → tape_lanes.BeginsInto lane policy first items before after → BeginsInto lane policy first (map Offered items) before after
-begins_so lane policy first items before after begins =
-    let same = offered_as (Start policy ▸ Requested first) items in (
+pub begins_so : (lane : LaneState) (joiner : Joiner) (items : List Item) (before after : List Given)
+    → BeginsTo lane joiner items before after → BeginsInto lane joiner (map Offered items) before after
+begins_so lane joiner items before after begins =
+    let same = offered_as (Start joiner.policy ▸ Requested joiner.first) items in (
       begins.0,
       begins.1,
       record {

@@ -1,5 +1,6 @@
 pub mod Audiences
 pub mod Counts
+pub mod Emissions
 pub mod Hubs
 pub mod Multicasts
 pub mod Runs

@@ -6,6 +6,7 @@ use Rattle.rx_note.specs.declared.rules.Rules.{Rules}
 use Rattle.rx_note.specs.Signals.{Signal, Requested, Offered, Signals, Start, ◌▸◌, given}
 use Rattle.rx_note.specs.Choices.{Choice}
 use Rattle.rx_history.specs.Histories.{History, stamp, end_of, opening_by, ended_by, followed_by, addressed}
+use Rattle.rx_lane.specs.declared.joiner.Joiner.{Joiner}
 use Rattle.rx_lane.specs.Lanes.{LaneState, StandsFor}
 use Rattle.rx_subject.specs.Subjects.{SubjectState}
 use Rattle.rx_subject.specs.Subjects as subjects
@@ -65,10 +66,10 @@ pub record Begins (lane : LaneState) (policy : Choice) (first : ℕ) (signals : 
   pub gives : given (followed_by (Start policy ▸ Requested first) signals) ≡ notes
   pub stands : StandsFor lane (followed_by (Start policy ▸ Requested first) signals)
 
--- the same, where the notes were put at the end of a list
-abbrev pub BeginsInto : LaneState → Choice → ℕ → List Signal → List Note → List Note → Type 0
-BeginsInto lane policy first signals before after =
-    (notes : List Note) × (after ≡ before ++ notes) × Begins lane policy first signals notes
+-- the same of a joiner, where the notes were put at the end of a list, addressed to it
+abbrev pub BeginsInto : LaneState → Joiner → List Signal → List Given → List Given → Type 0
+BeginsInto lane joiner signals before after =
+    (notes : List Note) × (after ≡ before ++ addressed joiner.who notes) × Begins lane joiner.policy joiner.first signals notes
 
 -- the signals are those that a joiner begins with, for every history that the subject stands for
 abbrev pub OpensBy : SubjectState → ℕ → List Signal → Type 0
@@ -77,14 +78,12 @@ OpensBy subject at signals =
     → signals ≡ map Offered (opening_by rules.kind rules H (max (stamp rules H) at)) ++ ended_by (end_of H)
 
 -- an observer joined that begins so, and what it gives at once was put at the end of a list
-pub record JoinsInto (olds news : List Observer) (who : ℕ) (policy : Choice) (first : ℕ) (subject : SubjectState) (at : ℕ) (before after : List Given) : Type 0 where
+pub record JoinsInto (olds news : List Observer) (joiner : Joiner) (subject : SubjectState) (at : ℕ) (before after : List Given) : Type 0 where
   pub lane : LaneState
   pub signals : List Signal
-  pub notes : List Note
-  pub news_are : news ≡ olds ++ record { who = who; lane = lane } ∷ []
+  pub news_are : news ≡ olds ++ record { who = joiner.who; lane = lane } ∷ []
   pub opens : OpensBy subject at signals
-  pub begins : Begins lane policy first signals notes
-  pub given : after ≡ before ++ addressed who notes
+  pub begins : BeginsInto lane joiner signals before after
 
 -- each observer was fed these signals, and these are the notes given, by rising place
 abbrev pub AllFed : List Signal → List Observer → List Observer → List Given → Type 0

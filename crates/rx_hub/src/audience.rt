@@ -1,6 +1,7 @@
-ghost use Rattle.std.specs.Prelude.{◌≡◌, ◌+◌, ◌<◌, ◌≤◌, ◌^◌, ◌↔◌, ◌==◌, ◌++◌, ℕ, Err, max, length, take, drop, get_or, position, false, IfOk, OnOk, OnErr};
+ghost use Rattle.std.specs.Prelude.{◌≡◌, ◌+◌, ◌<◌, ◌≤◌, ◌==◌, ◌++◌, ℕ, max, length, take, drop, get_or, position, false, IfOk, OnOk, OnErr};
 ghost use Rattle.rx_note.specs.Signals.{Signals, waiting};
 ghost use Rattle.rx_tape.specs.Tapes.{last_items};
+ghost use Rattle.rx_lane.specs.Lanes.{RefusesRequest};
 ghost use Rattle.rx_lane.specs.Lanes as lanes;
 ghost use Rattle.rx_subject.specs.TapeSubjects.{subject_on};
 ghost use Rattle.rx_hub.specs.Subscriptions.{Observer, AsksAt, JoinsInto};
@@ -10,11 +11,11 @@ mod emitting;
 
 use crate::passes::forget_all;
 use crate::seat::Seat;
-use crate::subscription::{Subscription, end_by, give, give_all, keep_notes, no_notes};
+use crate::subscription::{Subscription, end_by, put};
 use rx_heap::{Heap, Memory};
-use rx_lane::AskError;
-use rx_note::{Given, Item, Note, Policy};
-use rx_subject::{Offer, TapeOpening, TapeSubject};
+use rx_lane::{AskError, Joiner};
+use rx_note::Given;
+use rx_subject::{TapeOpening, TapeSubject};
 use rx_tape::Tape;
 use std::marker::Model;
 
@@ -23,9 +24,6 @@ use std::marker::Model;
 pub(crate) struct Audience {
     tape: Tape,
     subscriptions: Vec<Subscription, Heap>,
-    // What an observer that joins, or one with a queue of its own by a request, is given, over the memory of the list that
-    // it goes to; none before the first. A room that isn't large is kept from step to step.
-    notes: Option<Vec<Note, Heap>>,
 }
 
 // It stands here, and isn't derived, so that what lets go of the observers is one call that is proved once.
@@ -34,7 +32,6 @@ impl Drop for Audience {
         let Audience {
             tape: _,
             subscriptions: _,
-            notes: _,
         } = self;
     }
 }
@@ -59,7 +56,6 @@ impl Audience {
         Ok(Audience {
             tape: Tape::new(alloc),
             subscriptions,
-            notes: None,
         })
     }
 
@@ -88,9 +84,7 @@ impl Audience {
     /// An observer joins, and what it is given at once is put at the end of `outs`. `Memory` leaves the observers and `outs`.
     pub(crate) fn open(
         &mut self,
-        who: u32,
-        policy: Policy,
-        first: u32,
+        joiner: Joiner,
         at: u64,
         subject: &TapeSubject,
         outs: &mut Vec<Given, Heap>,
@@ -98,7 +92,7 @@ impl Audience {
         requires { length subject.now.stamps ≤ length self.old.items }
         ensures err { OnErr result ((self.new ≡ self.old) × (outs.new.items ≡ outs.old.items)) }
         ensures items { self.new.items ≡ self.old.items }
-        ensures joins { OnOk result (JoinsInto self.old.observers self.new.observers who policy first (subject_on self.old.items subject.now) at outs.old.items outs.new.items) }
+        ensures joins { OnOk result (JoinsInto self.old.observers self.new.observers joiner (subject_on self.old.items subject.now) at outs.old.items outs.new.items) }
     {
         let TapeOpening { lead, back, end } = subject.opening(at, &self.tape)?;
         let Some(most) = back.checked_add(2) else {
@@ -106,14 +100,11 @@ impl Audience {
         };
         outs.reserve(most)?;
         self.subscriptions.reserve(1)?;
-        let mut notes = no_notes(&mut self.notes, outs)?;
-        let mut seat = Seat::open(policy, first, lead, back, &mut self.tape, &mut notes)?;
+        let mut seat = Seat::open(joiner, lead, back, &mut self.tape, outs)?;
         let last = end_by(&mut seat, end, &mut self.tape);
-        give_all(who, &mut notes, outs);
-        give(who, last, outs);
-        keep_notes(&mut self.notes, notes);
+        put(joiner.who, last, outs);
         self.subscriptions
-            .push_reserved(Subscription::new(who, seat));
+            .push_reserved(Subscription::new(joiner.who, seat));
         Ok(())
     }
 
@@ -127,8 +118,7 @@ impl Audience {
         outs: &mut Vec<Given, Heap>,
     ) -> Result<(), AskError>
         requires { place < length self.old.observers }
-        ensures zero { (result ≡ Err AskError.ZeroRequest) ↔ (n ≡ 0) }
-        ensures too_much { (default : Observer) → (result ≡ Err AskError.TooMuch) ↔ ((0 < n) × (2 ^ 32 ≤ (get_or self.old.observers place default).lane.owing + n)) }
+        ensures refuses { (default : Observer) → RefusesRequest (get_or self.old.observers place default).lane.owing n result }
         ensures err { OnErr result ((self.new ≡ self.old) × (outs.new.items ≡ outs.old.items)) }
         ensures kept { (count : ℕ) → count ≤ keep → count ≤ length self.old.items
             → (count ≤ length self.new.items) × (last_items self.new.items count ≡ last_items self.old.items count) }
@@ -150,12 +140,11 @@ impl Audience {
     ) -> Result<(), AskError>
         requires place { place < length self.old.observers }
         requires alone { length self.old.observers ≡ 1 }
-        ensures zero { (result ≡ Err AskError.ZeroRequest) ↔ (n ≡ 0) }
-        ensures too_much { (default : Observer) → (result ≡ Err AskError.TooMuch) ↔ ((0 < n) × (2 ^ 32 ≤ (get_or self.old.observers place default).lane.owing + n)) }
+        ensures refuses { (default : Observer) → RefusesRequest (get_or self.old.observers place default).lane.owing n result }
         ensures err { OnErr result ((self.new ≡ self.old) × (outs.new.items ≡ outs.old.items)) }
         ensures asked { OnOk result ((default : Observer) → AsksAt self.old.observers self.new.observers place default n outs.old.items outs.new.items) }
     {
-        self.subscriptions[place].ask_alone(n, &mut self.tape, &mut self.notes, outs)
+        self.subscriptions[place].ask_alone(n, &mut self.tape, outs)
     }
 
     // Adds a request of one of the observers, for which the tape keeps its items.
@@ -166,13 +155,12 @@ impl Audience {
         outs: &mut Vec<Given, Heap>,
     ) -> Result<(), AskError>
         requires { place < length self.old.observers }
-        ensures zero { (result ≡ Err AskError.ZeroRequest) ↔ (n ≡ 0) }
-        ensures too_much { (default : Observer) → (result ≡ Err AskError.TooMuch) ↔ ((0 < n) × (2 ^ 32 ≤ (get_or self.old.observers place default).lane.owing + n)) }
+        ensures refuses { (default : Observer) → RefusesRequest (get_or self.old.observers place default).lane.owing n result }
         ensures err { OnErr result ((self.new ≡ self.old) × (outs.new.items ≡ outs.old.items)) }
         ensures items { self.new.items ≡ self.old.items }
         ensures asked { OnOk result ((default : Observer) → AsksAt self.old.observers self.new.observers place default n outs.old.items outs.new.items) }
     {
-        self.subscriptions[place].ask(n, &mut self.tape, &mut self.notes, outs)
+        self.subscriptions[place].ask(n, &mut self.tape, outs)
     }
 
     /// The observer at a place leaves, with what waits for it.

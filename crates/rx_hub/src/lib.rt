@@ -6,6 +6,7 @@
 #![tactic(auto)]
 
 mod audience;
+mod emission;
 mod hub;
 mod multicast;
 mod no_observer;

@@ -8,9 +8,10 @@ ghost use Rattle.rx_hub.specs.Audiences.{most_waiting};
 ghost use Rattle.rx_hub.specs.States.{state_by, IsOfHistory};
 
 use crate::audience::Audience;
+use crate::emission::Emission;
 use crate::no_observer::NoObserver;
 use rx_heap::{Heap, Memory};
-use rx_lane::AskError;
+use rx_lane::{AskError, Joiner};
 use rx_note::{Answer, Event, Given, Kind, Limits, Note, Policy, Refusal};
 use rx_subject::TapeSubject;
 
@@ -109,7 +110,8 @@ impl Multicast {
         if self.subject.is_ended() {
             return Err(Refusal::Ended);
         }
-        let Ok(()) = self.audience.admit(&mut self.subject, port, note, at, outs) else {
+        let emission = Emission { port, note, at };
+        let Ok(()) = self.audience.admit(&mut self.subject, emission, outs) else {
             self.audience.forget();
             return Err(Refusal::Memory);
         };
@@ -135,8 +137,8 @@ impl Multicast {
             return Err(Refusal::Spent);
         }
         let who = self.joins;
-        let subject = &self.subject;
-        let Ok(()) = self.audience.open(who, policy, first, at, subject, outs) else {
+        let joiner = Joiner { who, policy, first };
+        let Ok(()) = self.audience.open(joiner, at, &self.subject, outs) else {
             return Err(Refusal::Memory);
         };
         self.joins = who + 1;

@@ -4,7 +4,7 @@ ghost use Rattle.std.specs.List.{All};
 ghost use Rattle.rx_note.specs.declared.item.Item.{Item};
 ghost use Rattle.rx_note.specs.Signals.{Offered};
 ghost use Rattle.rx_tape.specs.Tapes.{TapeState};
-ghost use Rattle.rx_subject.specs.Offers.{offer_signals};
+ghost use Rattle.rx_subject.specs.Offers.{offer_signals, most_given};
 ghost use Rattle.rx_hub.specs.Seats.{IsReady, HoldsCopy};
 ghost use Rattle.rx_hub.specs.Subscriptions.{AllFedInto};
 ghost use Rattle.rx_hub.specs.Audiences.{places_of, observers_on, gifts, AllOn, AllOwed, AllTakeMore, AllFit, Apart, Owned, cursors};
@@ -205,7 +205,7 @@ pub(crate) fn feed_all(
     requires on { AllOn tape.old (is_some offer.now.item) (places_of subscriptions.old.items) }
     requires open { AllTakeMore (places_of subscriptions.old.items) }
     requires apart { Apart (places_of subscriptions.old.items) }
-    requires outs_room { vec_len outs.old + 2 * vec_len subscriptions.old ≤ vec_capacity outs.old }
+    requires outs_room { vec_len outs.old + vec_len subscriptions.old * most_given offer.now ≤ vec_capacity outs.old }
     ensures fed { (items : List Item) → tape.old.items ≡ items ++ option_to_list offer.now.item
         → AllFedInto (offer_signals offer.now) (observers_on items (places_of subscriptions.old.items))
         (observers_on tape.new.items (places_of subscriptions.new.items)) outs.old.items outs.new.items }

@@ -3,6 +3,7 @@ ghost use Rattle.rx_note.specs.declared.item.Item.{Item};
 ghost use Rattle.rx_note.specs.declared.note.Note.{Note};
 ghost use Rattle.rx_note.specs.declared.note.Note.TheVariants.{Next};
 ghost use Rattle.rx_note.specs.Signals.{Signals, Offered, Ended, waiting};
+ghost use Rattle.rx_history.specs.Histories.{addressed};
 ghost use Rattle.rx_tape.specs.Tapes.{TapeState, place_of, waits};
 ghost use Rattle.rx_lane.specs.Lanes.{StandsFor, HasRoomFor};
 ghost use Rattle.rx_lane.specs.Queues.{HasRoom};
@@ -11,9 +12,10 @@ ghost use Rattle.rx_hub.specs.declared.seat.Seat.TheVariants.{Own};
 ghost use Rattle.rx_hub.specs.Seats.{HoldsCopy, given_now, overflows_at};
 ghost use Rattle.rx_hub.specs.Subscriptions.{Serves, BeginsInto};
 
+use crate::subscription::put;
 use rx_heap::{Heap, Memory};
-use rx_lane::{Lane, TapeLane};
-use rx_note::{Item, Note, Policy, Strategy};
+use rx_lane::{Joiner, Lane, TapeLane};
+use rx_note::{Given, Item, Note, Strategy};
 use rx_tape::Tape;
 
 /// Where what waits for an observer stands.
@@ -29,32 +31,32 @@ impl Seat {
     ghost use Rattle.rx_hub.specs.Seats.{lane_of, cursor_of, owing_of, Stands, Leaves, TakesMore, HoldsCopy, copy_needed, given_now, needed, overflows_at};
 
     /// The seat of an observer that joins with this policy and a request of `first` items, and is then offered `lead`, if
-    /// there is one, and the last `back` items of the tape. What it gives at once is put at the end of `notes`. `Memory`
-    /// leaves the tape.
+    /// there is one, and the last `back` items of the tape. What it gives at once is put at the end of `outs`. `Memory`
+    /// leaves the tape and `outs`.
     pub(crate) fn open(
-        policy: Policy,
-        first: u32,
+        joiner: Joiner,
         lead: Option<Item>,
         back: usize,
         tape: &mut Tape,
-        notes: &mut Vec<Note, Heap>,
+        outs: &mut Vec<Given, Heap>,
     ) -> Result<Seat, Memory>
         requires there { back ≤ length tape.old.items }
-        ensures err { OnErr result (HoldsSame tape.old tape.new) }
-        ensures begins { IfOk result (λ seat. BeginsInto (lane_of tape.new.items seat) policy first (map Offered (waits lead tape.old.items back)) notes.old.items notes.new.items) }
+        ensures err { OnErr result (HoldsSame tape.old tape.new × (outs.new.items ≡ outs.old.items)) }
+        ensures begins { IfOk result (λ seat. BeginsInto (lane_of tape.new.items seat) joiner (map Offered (waits lead tape.old.items back)) outs.old.items outs.new.items) }
         ensures stands { IfOk result (λ seat. Stands tape.new false seat) }
         ensures open { IfOk result (λ seat. TakesMore seat) }
         ensures fresh { IfOk result (λ seat. (cursor : ℕ) → cursor_of seat ≡ Some cursor → place_of tape.old.places cursor ≡ None) }
         ensures leaves { IfOk result (λ seat. Leaves tape.old tape.new (cursor_of seat)) }
-        ensures count { IfOk result (λ seat. length notes.new.items ≤ length notes.old.items + length (option_to_list lead) + back) }
+        ensures count { IfOk result (λ seat. length outs.new.items ≤ length outs.old.items + length (option_to_list lead) + back) }
+        ensures capacity { vec_capacity outs.old ≤ vec_capacity outs.new }
     {
-        match policy.strategy() {
+        match joiner.policy.strategy() {
             Strategy::Drop(_) | Strategy::Bounded(_) => {
-                let lane = own_lane(policy, first, lead, back, tape, notes)?;
+                let lane = own_lane(joiner, lead, back, tape, outs)?;
                 Ok(Seat::Own(lane))
             }
             Strategy::Buffer | Strategy::Latest(_) => {
-                let lane = TapeLane::new(policy, first, lead, back, tape, notes)?;
+                let lane = TapeLane::open_for(joiner, lead, back, tape, outs)?;
                 Ok(Seat::Shared(lane))
             }
         }
@@ -196,25 +198,26 @@ impl Seat {
 }
 
 // The queue of its own of an observer that joins and is then offered `lead`, if there is one, and the last `back` items of
-// the tape. What it gives at once is put at the end of `notes`.
+// the tape. What it gives at once is put at the end of `outs`. `Memory` leaves `outs`.
 fn own_lane(
-    policy: Policy,
-    first: u32,
+    joiner: Joiner,
     lead: Option<Item>,
     back: usize,
     tape: &Tape,
-    notes: &mut Vec<Note, Heap>,
+    outs: &mut Vec<Given, Heap>,
 ) -> Result<Lane, Memory>
     requires there { back ≤ length tape.now.items }
-    requires needs_no_room { (count spare : ℕ) → HasRoom policy.strategy count spare }
-    ensures begins { IfOk result (λ lane. BeginsInto lane.state policy first (map Offered (waits lead tape.now.items back)) notes.old.items notes.new.items) }
+    requires needs_no_room { (count spare : ℕ) → HasRoom joiner.policy.strategy count spare }
+    ensures err { OnErr result (outs.new.items ≡ outs.old.items) }
+    ensures begins { IfOk result (λ lane. BeginsInto lane.state joiner (map Offered (waits lead tape.now.items back)) outs.old.items outs.new.items) }
     ensures room { IfOk result (λ lane. (count : ℕ) → HasRoomFor lane count) }
-    ensures count { IfOk result (λ lane. length notes.new.items ≤ length notes.old.items + length (option_to_list lead) + back) }
+    ensures count { IfOk result (λ lane. length outs.new.items ≤ length outs.old.items + length (option_to_list lead) + back) }
+    ensures capacity { vec_capacity outs.old ≤ vec_capacity outs.new }
 {
-    let items = last_copies(notes.allocator().clone()?, lead, back, tape)?;
-    notes.reserve(items.len())?;
-    let mut lane = Lane::joined(tape.allocator().clone()?, policy, first)?;
-    offer_all(&mut lane, items, notes);
+    let items = last_copies(outs.allocator().clone()?, lead, back, tape)?;
+    outs.reserve(items.len())?;
+    let mut lane = Lane::joined(tape.allocator().clone()?, joiner.policy, joiner.first)?;
+    offer_all(joiner.who, &mut lane, items, outs);
     Ok(lane)
 }
 
@@ -304,28 +307,17 @@ fn listed(alloc: Heap, item: Option<Item>) -> Result<Vec<Item, Heap>, Memory>
     Ok(items)
 }
 
-// Offers several items, and puts at the end of `notes` what is given at once.
-fn offer_all(lane: &mut Lane, items: Vec<Item, Heap>, notes: &mut Vec<Note, Heap>)
+// Offers several items, and puts at the end of `outs` what is given at once.
+fn offer_all(who: u32, lane: &mut Lane, items: Vec<Item, Heap>, outs: &mut Vec<Given, Heap>)
     requires lane_room { (count : ℕ) → HasRoomFor lane.old count }
-    requires notes_room { vec_len notes.old + vec_len items ≤ vec_capacity notes.old }
-    ensures serves { (given : List Note) × (notes.new.items ≡ notes.old.items ++ given) × Serves lane.old.state lane.new.state (map Offered items.items) given }
+    requires outs_room { vec_len outs.old + vec_len items ≤ vec_capacity outs.old }
+    ensures serves { (notes : List Note) × (outs.new.items ≡ outs.old.items ++ addressed who notes) × Serves lane.old.state lane.new.state (map Offered items.items) notes }
     ensures room { (count : ℕ) → HasRoomFor lane.new count }
-    ensures len { vec_len notes.new ≤ vec_len notes.old + vec_len items }
+    ensures len { vec_len outs.new ≤ vec_len outs.old + vec_len items }
+    ensures capacity { vec_capacity outs.new ≡ vec_capacity outs.old }
 {
     for item in items {
         let came = offer_own(lane, item);
-        put(came, notes);
-    }
-}
-
-// Puts a note, if there is one, at the end of `notes`.
-fn put(note: Option<Note>, notes: &mut Vec<Note, Heap>)
-    requires { vec_len notes.old < vec_capacity notes.old }
-    ensures items { notes.new.items ≡ notes.old.items ++ option_to_list note }
-    ensures len { vec_len notes.new ≤ vec_len notes.old + 1 }
-    ensures capacity { vec_capacity notes.new ≡ vec_capacity notes.old }
-{
-    if let Some(note) = note {
-        notes.push_reserved(note);
+        put(who, came, outs);
     }
 }

@@ -1,10 +1,10 @@
-ghost use Rattle.std.specs.Prelude.{◌≡◌, ◌+◌, ◌<◌, ◌≤◌, ◌^◌, ◌↔◌, ◌++◌, ◌∷◌, [], ℕ, List, true, false, Err, is_some, map, option_to_list, IfOk, OnOk, OnErr, vec_len, vec_capacity};
+ghost use Rattle.std.specs.Prelude.{◌≡◌, ◌+◌, ◌<◌, ◌≤◌, ◌++◌, ◌∷◌, [], ℕ, List, true, false, is_some, length, map, option_to_list, IfOk, OnOk, OnErr, vec_len, vec_capacity};
 ghost use Rattle.rx_note.specs.declared.item.Item.{Item};
-ghost use Rattle.rx_note.specs.Signals.{Requested, Offered};
+ghost use Rattle.rx_note.specs.Signals.{Offered};
 ghost use Rattle.rx_tape.specs.Tapes.{TapeState};
 ghost use Rattle.rx_history.specs.Histories.{addressed, ended_by};
-ghost use Rattle.rx_lane.specs.Lanes.{HasRoomFor, GivesTo, GoesOn};
-ghost use Rattle.rx_subject.specs.Offers.{offer_signals};
+ghost use Rattle.rx_lane.specs.Lanes.{RefusesRequest};
+ghost use Rattle.rx_subject.specs.Offers.{offer_signals, most_given};
 ghost use Rattle.rx_hub.specs.declared.seat.Seat.TheVariants.{Own};
 ghost use Rattle.rx_hub.specs.Seats.{lane_of, cursor_of, Stands, Leaves, IsAlone, TakesMore, HoldsCopy, copy_needed, given_now, needed, owing_of, overflows_at, IsReady};
 ghost use Rattle.rx_hub.specs.Subscriptions.{Serves, Feeds, FeedsInto, AsksInto};
@@ -15,9 +15,6 @@ use rx_lane::{AskError, Lane};
 use rx_note::{Given, Item, Note, copy_of};
 use rx_subject::Offer;
 use rx_tape::Tape;
-
-// The room, in notes, of a list that is kept from step to step.
-const MOST_KEPT: usize = 256;
 
 /// An observer that is held: its number and its seat.
 #[derive(Drop)]
@@ -140,21 +137,21 @@ impl Subscription {
         requires stands { Stands tape.old (is_some offer.now.item) self.old.seat }
         requires open { TakesMore self.old.seat }
         requires ready { IsReady offer.now self.old.ready self.old.seat }
-        requires room { vec_len outs.old + 2 ≤ vec_capacity outs.old }
+        requires room { vec_len outs.old + most_given offer.now ≤ vec_capacity outs.old }
         ensures fed { (items : List Item) → tape.old.items ≡ items ++ option_to_list offer.now.item
             → FeedsInto (observer_on items (place_of self.old)) (observer_on tape.new.items (place_of self.new)) (offer_signals offer.now) outs.old.items outs.new.items }
         ensures stands { Stands tape.new false self.new.seat }
         ensures cursor { cursor_of self.new.seat ≡ cursor_of self.old.seat }
         ensures leaves { Leaves tape.old tape.new (cursor_of self.old.seat) }
-        ensures len { vec_len outs.new ≤ vec_len outs.old + 2 }
+        ensures len { vec_len outs.new ≤ vec_len outs.old + most_given offer.now }
         ensures capacity { vec_capacity outs.new ≡ vec_capacity outs.old }
     {
         let copy = self.ready.item.take();
         let end = self.ready.end.take();
         let note = offer_to(&mut self.seat, &offer.item, copy, tape);
-        give(self.who, note, outs);
+        put(self.who, note, outs);
         let note = end_by(&mut self.seat, end, tape);
-        give(self.who, note, outs);
+        put(self.who, note, outs);
     }
 
     /// Adds a request, and puts at the end of `outs` what is then given. Refused as the queue does, which leaves both.
@@ -162,12 +159,10 @@ impl Subscription {
         &mut self,
         n: u32,
         tape: &mut Tape,
-        notes: &mut Option<Vec<Note, Heap>>,
         outs: &mut Vec<Given, Heap>,
     ) -> Result<(), AskError>
         requires { Stands tape.old false self.old.seat }
-        ensures zero { (result ≡ Err AskError.ZeroRequest) ↔ (n ≡ 0) }
-        ensures too_much { (result ≡ Err AskError.TooMuch) ↔ ((0 < n) × (2 ^ 32 ≤ (lane_of tape.old.items self.old.seat).owing + n)) }
+        ensures refuses { RefusesRequest (lane_of tape.old.items self.old.seat).owing n result }
         ensures err { OnErr result ((observer_on tape.new.items (place_of self.new) ≡ observer_on tape.old.items (place_of self.old)) × (outs.new.items ≡ outs.old.items)) }
         ensures asked { OnOk result (AsksInto (observer_on tape.old.items (place_of self.old)) (observer_on tape.new.items (place_of self.new)) n outs.old.items outs.new.items) }
         ensures stands { Stands tape.new false self.new.seat }
@@ -176,7 +171,7 @@ impl Subscription {
     {
         match &mut self.seat {
             Seat::Shared(lane) => lane.ask_for(self.who, n, tape, outs),
-            Seat::Own(lane) => ask_own(self.who, n, lane, notes, outs),
+            Seat::Own(lane) => lane.ask_for(self.who, n, outs),
         }
     }
 
@@ -187,13 +182,11 @@ impl Subscription {
         &mut self,
         n: u32,
         tape: &mut Tape,
-        notes: &mut Option<Vec<Note, Heap>>,
         outs: &mut Vec<Given, Heap>,
     ) -> Result<(), AskError>
         requires stands { Stands tape.old false self.old.seat }
         requires alone { IsAlone tape.old (cursor_of self.old.seat) }
-        ensures zero { (result ≡ Err AskError.ZeroRequest) ↔ (n ≡ 0) }
-        ensures too_much { (result ≡ Err AskError.TooMuch) ↔ ((0 < n) × (2 ^ 32 ≤ (lane_of tape.old.items self.old.seat).owing + n)) }
+        ensures refuses { RefusesRequest (lane_of tape.old.items self.old.seat).owing n result }
         ensures err { OnErr result ((observer_on tape.new.items (place_of self.new) ≡ observer_on tape.old.items (place_of self.old)) × (tape.new.items ≡ tape.old.items) × (outs.new.items ≡ outs.old.items)) }
         ensures asked { OnOk result (AsksInto (observer_on tape.old.items (place_of self.old)) (observer_on tape.new.items (place_of self.new)) n outs.old.items outs.new.items) }
         ensures stands { Stands tape.new false self.new.seat }
@@ -202,44 +195,9 @@ impl Subscription {
     {
         match &mut self.seat {
             Seat::Shared(lane) => lane.ask_alone(self.who, n, tape, outs),
-            Seat::Own(lane) => ask_own(self.who, n, lane, notes, outs),
+            Seat::Own(lane) => lane.ask_for(self.who, n, outs),
         }
     }
-}
-
-// Adds a request of an observer with a queue of its own, which gives into a list of notes first.
-fn ask_own(
-    who: u32,
-    n: u32,
-    lane: &mut Lane,
-    notes: &mut Option<Vec<Note, Heap>>,
-    outs: &mut Vec<Given, Heap>,
-) -> Result<(), AskError>
-    requires { (count : ℕ) → HasRoomFor lane.old count }
-    ensures zero { (result ≡ Err AskError.ZeroRequest) ↔ (n ≡ 0) }
-    ensures too_much { (result ≡ Err AskError.TooMuch) ↔ ((0 < n) × (2 ^ 32 ≤ lane.old.state.owing + n)) }
-    ensures err { OnErr result ((lane.new.state ≡ lane.old.state) × (outs.new.items ≡ outs.old.items)) }
-    ensures gives { OnOk result (GivesTo who lane.old.state (Requested n) outs.old.items outs.new.items) }
-    ensures goes_on { OnOk result (GoesOn lane.old.state lane.new.state (Requested n)) }
-    ensures room { (count : ℕ) → HasRoomFor lane.new count }
-{
-    if n == 0 {
-        return Err(AskError::ZeroRequest);
-    }
-    let Some(owed) = lane.owed().checked_add(n) else {
-        return Err(AskError::TooMuch);
-    };
-    let most = lane.waiting_len().min(owed as usize);
-    let Ok(()) = outs.reserve(most + 1) else {
-        return Err(AskError::Memory);
-    };
-    let Ok(mut released) = no_notes(notes, outs) else {
-        return Err(AskError::Memory);
-    };
-    lane.ask(n, &mut released)?;
-    give_all(who, &mut released, outs);
-    keep_notes(notes, released);
-    Ok(())
 }
 
 // Whether an item that is offered now overflows a queue.
@@ -273,6 +231,7 @@ fn offer_to(
     requires open { TakesMore seat.old }
     ensures serves { (items : List Item) → tape.old.items ≡ items ++ option_to_list item.now → copy ≡ needed seat.old item.now
         → Serves (lane_of items seat.old) (lane_of tape.new.items seat.new) (map Offered (option_to_list item.now)) (option_to_list result) }
+    ensures count { length (option_to_list result) ≤ length (option_to_list item.now) }
     ensures stands { Stands tape.new false seat.new }
     ensures open { TakesMore seat.new }
     ensures cursor { cursor_of seat.new ≡ cursor_of seat.old }
@@ -290,6 +249,7 @@ pub(crate) fn end_by(seat: &mut Seat, end: Option<Note>, tape: &mut Tape) -> Opt
     requires stands { Stands tape.old false seat.old }
     requires open { TakesMore seat.old }
     ensures serves { Serves (lane_of tape.old.items seat.old) (lane_of tape.new.items seat.new) (ended_by end) (option_to_list result) }
+    ensures count { length (option_to_list result) ≤ length (option_to_list end) }
     ensures stands { Stands tape.new false seat.new }
     ensures cursor { cursor_of seat.new ≡ cursor_of seat.old }
     ensures leaves { Leaves tape.old tape.new (cursor_of seat.old) }
@@ -299,48 +259,13 @@ pub(crate) fn end_by(seat: &mut Seat, end: Option<Note>, tape: &mut Tape) -> Opt
 
 // Puts a note, if there is one, at the end of `outs`, for an observer.
 #[inline(always)]
-pub(crate) fn give(who: u32, note: Option<Note>, outs: &mut Vec<Given, Heap>)
-    requires { vec_len outs.old < vec_capacity outs.old }
+pub(crate) fn put(who: u32, note: Option<Note>, outs: &mut Vec<Given, Heap>)
+    requires { vec_len outs.old + length (option_to_list note) ≤ vec_capacity outs.old }
     ensures items { outs.new.items ≡ outs.old.items ++ addressed who (option_to_list note) }
-    ensures len { vec_len outs.new ≤ vec_len outs.old + 1 }
+    ensures len { vec_len outs.new ≡ vec_len outs.old + length (option_to_list note) }
     ensures capacity { vec_capacity outs.new ≡ vec_capacity outs.old }
 {
     if let Some(note) = note {
-        outs.push_reserved(Given { who, note });
-    }
-}
-
-// A list of no notes: the one that was kept, else a new one over the memory of `outs`.
-pub(crate) fn no_notes(
-    kept: &mut Option<Vec<Note, Heap>>,
-    outs: &Vec<Given, Heap>,
-) -> Result<Vec<Note, Heap>, Memory>
-    ensures { IfOk result (λ notes. notes.items ≡ []) }
-{
-    match kept.take() {
-        Some(mut notes) => {
-            notes.clear();
-            Ok(notes)
-        }
-        None => Ok(Vec::new(outs.allocator().clone()?)),
-    }
-}
-
-// Keeps a list for the next step, unless its room is large.
-pub(crate) fn keep_notes(kept: &mut Option<Vec<Note, Heap>>, notes: Vec<Note, Heap>) {
-    if notes.capacity() <= MOST_KEPT {
-        *kept = Some(notes);
-    }
-}
-
-// Moves several notes to the end of `outs`, for an observer.
-pub(crate) fn give_all(who: u32, notes: &mut Vec<Note, Heap>, outs: &mut Vec<Given, Heap>)
-    requires { vec_len outs.old + vec_len notes.old ≤ vec_capacity outs.old }
-    ensures items { outs.new.items ≡ outs.old.items ++ addressed who notes.old.items }
-    ensures len { vec_len outs.new ≡ vec_len outs.old + vec_len notes.old }
-    ensures capacity { vec_capacity outs.new ≡ vec_capacity outs.old }
-{
-    for note in notes.drain(..) {
         outs.push_reserved(Given { who, note });
     }
 }

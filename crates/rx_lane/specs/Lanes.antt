@@ -1,5 +1,5 @@
 -- The queue of one observer: what contracts see of it, and the signals that it stands for.
-use Rattle.std.specs.Prelude.{◌≡◌, ◌+◌, ◌&&◌, nat_le, ℕ, Bool, false, List, ◌++◌, Option, Some, is_some, length, map}
+use Rattle.std.specs.Prelude.{◌≡◌, ◌+◌, ◌<◌, ◌≤◌, ◌^◌, ◌↔◌, ◌&&◌, nat_le, ℕ, Bool, false, List, ◌++◌, Option, Some, Result, Err, is_some, length, map}
 use Rattle.rx_note.specs.declared.given.Given.{Given}
 use Rattle.rx_note.specs.declared.item.Item.{Item}
 use Rattle.rx_note.specs.declared.note.Note.{Note}
@@ -7,6 +7,8 @@ use Rattle.rx_note.specs.declared.strategy.Strategy.{Strategy}
 use Rattle.rx_note.specs.declared.strategy.Strategy.TheVariants.{Buffer, Drop, Latest, Bounded}
 use Rattle.rx_note.specs.Choices.{Choice}
 use Rattle.rx_note.specs.Signals.{Signal, Signals, policy_of, demand, terminal_of, may_overflow, overflow, sent, line_items, waiting_items, waiting_end, owed, given}
+use Rattle.rx_lane.specs.declared.ask_error.AskError.{AskError}
+use Rattle.rx_lane.specs.declared.ask_error.AskError.TheVariants.{ZeroRequest, TooMuch}
 use Rattle.rx_lane.specs.Queues.{HasRoom, is_full, overfills}
 
 -- what waits in a lane, and what it owes
@@ -56,6 +58,11 @@ KeepsOverflow Buffer kept = Unit {0}
 KeepsOverflow (Drop room) kept = Unit {0}
 KeepsOverflow (Latest room) kept = Unit {0}
 KeepsOverflow (Bounded room) kept = kept ≡ Some overflow
+
+-- a request is refused by its number alone: where it is for no items, and where more than 4,294,967,295 would be owed
+pub record RefusesRequest {A : Type 0} (owing n : ℕ) (result : Result A AskError) : Type 0 where
+  pub zero : (result ≡ Err ZeroRequest) ↔ (n ≡ 0)
+  pub too_much : (result ≡ Err TooMuch) ↔ ((0 < n) × (2 ^ 32 ≤ owing + n))
 
 -- by this signal exactly these notes are given
 abbrev pub Gives : LaneState → Signal → List Note → Type 0

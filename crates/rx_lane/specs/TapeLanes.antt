@@ -1,6 +1,7 @@
 -- The queue of an observer whose items stand on a tape that several observers share: what contracts see of it, and the
 -- queue that it is over the items of that tape.
 use Rattle.std.specs.Prelude.{◌≡◌, ◌≢◌, ℕ, ◌-◌, ◌<◌, ◌≤◌, ◌++◌, Bool, List, [], ◌∷◌, length, map, Option, None, Some, nat_lt, option_to_list, if◌then◌else◌}
+use Rattle.rx_note.specs.declared.given.Given.{Given}
 use Rattle.rx_note.specs.declared.item.Item.{Item}
 use Rattle.rx_note.specs.declared.note.Note.{Note}
 use Rattle.rx_note.specs.declared.note.Note.TheVariants.{Next}
@@ -9,7 +10,8 @@ use Rattle.rx_note.specs.declared.strategy.Strategy.TheVariants.{Buffer, Drop, L
 use Rattle.rx_note.specs.Choices.{Choice}
 use Rattle.rx_note.specs.Signals.{Requested, Offered, Signals, Start, ◌▸◌, sent, given}
 use Rattle.rx_tape.specs.Tapes.{TapeState, end_of, place_of, last_items, waits}
-use Rattle.rx_lane.specs.Lanes.{LaneState, StandsFor, Gives, GoesOn}
+use Rattle.rx_lane.specs.declared.joiner.Joiner.{Joiner}
+use Rattle.rx_lane.specs.Lanes.{LaneState, StandsFor, Gives, GoesOn, addressed}
 
 -- WHAT WAITS
 
@@ -88,6 +90,11 @@ pub record Begins (lane : LaneState) (policy : Choice) (first : ℕ) (items : Li
 abbrev pub BeginsInto : LaneState → Choice → ℕ → List Item → List Note → List Note → Type 0
 BeginsInto lane policy first items before after =
     (notes : List Note) × (after ≡ before ++ notes) × Begins lane policy first items notes
+
+-- the same of an observer, to which the notes at the end of the list are addressed
+abbrev pub BeginsTo : LaneState → Joiner → List Item → List Given → List Given → Type 0
+BeginsTo lane joiner items before after =
+    (notes : List Note) × (after ≡ before ++ addressed joiner.who notes) × Begins lane joiner.policy joiner.first items notes
 
 -- the last item of the tape was offered, and given where it was owed
 pub record Passes (tape tape_new : TapeState) (old new : TapeLaneState) : Type 0 where

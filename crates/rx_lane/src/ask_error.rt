@@ -1,3 +1,6 @@
+ghost use Rattle.std.specs.Prelude.{◌≡◌, ◌+◌, IfOk};
+ghost use Rattle.rx_lane.specs.Lanes.{RefusesRequest};
+
 use std::error::Error;
 use std::fmt;
 
@@ -23,3 +26,17 @@ impl fmt::Display for AskError {
 }
 
 impl Error for AskError {}
+
+// How many items may be given where so many were owed and `n` more are requested.
+pub(crate) fn owed_with(owed: u32, n: u32) -> Result<u32, AskError>
+    ensures refuses { RefusesRequest owed n result }
+    ensures owed { IfOk result (λ all. all ≡ owed + n) }
+{
+    if n == 0 {
+        return Err(AskError::ZeroRequest);
+    }
+    match owed.checked_add(n) {
+        Some(all) => Ok(all),
+        None => Err(AskError::TooMuch),
+    }
+}

@@ -3,14 +3,14 @@ ghost use Rattle.rx_note.specs.Signals.{Signals, Start, ◌▸◌, Requested, Of
 ghost use Rattle.rx_note.specs.declared.item.Item.{Item};
 ghost use Rattle.rx_note.specs.declared.note.Note.TheVariants.{Next};
 ghost use Rattle.rx_note.specs.declared.strategy.Strategy.TheVariants.{Buffer};
-ghost use Rattle.rx_lane.specs.Lanes.{StandsFor, loses_next, overflows_next, KeepsOverflow, HasRoomFor, KeepsRoom, Gives, GoesOn, GivesInto, is_over};
+ghost use Rattle.rx_lane.specs.Lanes.{StandsFor, loses_next, overflows_next, KeepsOverflow, HasRoomFor, KeepsRoom, Gives, GoesOn, GivesInto, GivesTo, RefusesRequest, addressed, is_over};
 ghost use Rattle.rx_lane.specs.Queues.{items_of, overfills, strategy_of, spare_of};
 
-use crate::ask_error::AskError;
-use crate::last::give_last;
+use crate::ask_error::{AskError, owed_with};
+use crate::last::{give_last, put_last};
 use crate::queue::Queue;
 use rx_heap::{Heap, Memory};
-use rx_note::{Errors, Item, Note, Policy, Strategy};
+use rx_note::{Errors, Given, Item, Note, Policy, Strategy};
 use std::marker::Model;
 
 /// The queue of one observer. Contracts see what waits in it and what it owes, and tell by the observer's signals what
@@ -175,9 +175,7 @@ impl Lane {
     /// terminal behind the last of them. After the end it still gives what waits. Refused in the order `ZeroRequest`,
     /// `TooMuch`, `Memory`; a refusal leaves the lane and `outs`.
     pub fn ask(&mut self, n: u32, outs: &mut Vec<Note, Heap>) -> Result<(), AskError>
-        ensures zero { (result ≡ Err AskError.ZeroRequest) ↔ (n ≡ 0) }
-        ensures too_much { (result ≡ Err AskError.TooMuch)
-            ↔ ((0 < n) × (2 ^ 32 ≤ self.old.state.owing + n)) }
+        ensures refuses { RefusesRequest self.old.state.owing n result }
         ensures err { OnErr result ((self.new.state ≡ self.old.state) × (outs.new.items ≡ outs.old.items)) }
         ensures gives { OnOk result (GivesInto self.old.state (Requested n) outs.old.items outs.new.items) }
         ensures stands { OnOk result (GoesOn self.old.state self.new.state (Requested n)) }
@@ -185,12 +183,7 @@ impl Lane {
         ensures count { length outs.new.items
             ≤ length outs.old.items + min (self.old.state.owing + n) (length self.old.state.items) + 1 }
     {
-        if n == 0 {
-            return Err(AskError::ZeroRequest);
-        }
-        let Some(owed) = self.owed.checked_add(n) else {
-            return Err(AskError::TooMuch);
-        };
+        let owed = owed_with(self.owed, n)?;
         let waiting = self.waiting_len();
         let given = waiting.min(owed as usize);
         let all = given == waiting;
@@ -202,6 +195,31 @@ impl Lane {
         self.owed = owed - given as u32;
         if all {
             give_last(&mut self.last, outs);
+        }
+        Ok(())
+    }
+
+    /// Adds a request of `n` items as `ask` does, and puts at the end of `outs` what is then given, addressed to the observer of
+    /// the number `who`. Refused in the order `ZeroRequest`, `TooMuch`, `Memory`; a refusal leaves the lane and `outs`.
+    pub fn ask_for(&mut self, who: u32, n: u32, outs: &mut Vec<Given, Heap>) -> Result<(), AskError>
+        ensures refuses { RefusesRequest self.old.state.owing n result }
+        ensures err { OnErr result ((self.new.state ≡ self.old.state) × (outs.new.items ≡ outs.old.items)) }
+        ensures gives { OnOk result (GivesTo who self.old.state (Requested n) outs.old.items outs.new.items) }
+        ensures stands { OnOk result (GoesOn self.old.state self.new.state (Requested n)) }
+        ensures room { KeepsRoom self.old self.new 0 }
+    {
+        let owed = owed_with(self.owed, n)?;
+        let waiting = self.waiting_len();
+        let given = waiting.min(owed as usize);
+        let all = given == waiting;
+        let notes = if all { self.waiting_notes() } else { given };
+        if outs.reserve(notes).is_err() {
+            return Err(AskError::Memory);
+        }
+        move_items_to(who, given, &mut self.queue, outs);
+        self.owed = owed - given as u32;
+        if all {
+            put_last(who, self.last.take(), outs);
         }
         Ok(())
     }
@@ -315,5 +333,25 @@ fn move_items(count: usize, queue: &mut Queue, outs: &mut Vec<Note, Heap>)
             unreachable!()
         };
         outs.push_reserved(Note::Next(item));
+    }
+}
+
+// Moves the front items into `outs`, addressed to an observer.
+fn move_items_to(who: u32, count: usize, queue: &mut Queue, outs: &mut Vec<Given, Heap>)
+    requires there { count ≤ length (items_of queue.old) }
+    requires room { vec_len outs.old + count ≤ vec_capacity outs.old }
+    ensures moved { outs.new.items ≡ outs.old.items ++ addressed who (map Next (take count (items_of queue.old))) }
+    ensures left { items_of queue.new ≡ drop count (items_of queue.old) }
+    ensures strategy { strategy_of queue.new ≡ strategy_of queue.old }
+    ensures spare { spare_of queue.old ≤ spare_of queue.new }
+    ensures len { vec_len outs.new ≡ vec_len outs.old + count }
+    ensures capacity { vec_capacity outs.new ≡ vec_capacity outs.old }
+{
+    for _ in 0..count {
+        let Some(item) = queue.pop() else {
+            unreachable!()
+        };
+        let note = Note::Next(item);
+        outs.push_reserved(Given { who, note });
     }
 }

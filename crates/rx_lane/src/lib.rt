@@ -7,6 +7,7 @@
 #![tactic(auto)]
 
 mod ask_error;
+mod joiner;
 mod lane;
 mod last;
 mod queue;
@@ -14,5 +15,6 @@ mod tape_lane;
 mod waiting;
 
 pub use ask_error::AskError;
+pub use joiner::Joiner;
 pub use lane::Lane;
 pub use tape_lane::TapeLane;

@@ -3,10 +3,12 @@ ghost use Rattle.rx_note.specs.declared.item.Item.{Item};
 ghost use Rattle.rx_note.specs.declared.note.Note.TheVariants.{Next};
 ghost use Rattle.rx_note.specs.Signals.{Signals, Requested, Offered, Ended, terminal_of, owed};
 ghost use Rattle.rx_tape.specs.Tapes.{waits, place_of, Spares, MovesOn};
-ghost use Rattle.rx_lane.specs.Lanes.{StandsFor, MayBeSent, Gives, GoesOn, GivesInto, GivesTo, addressed, is_over};
-ghost use Rattle.rx_lane.specs.TapeLanes.{lane_on, StandsBack, StandsWhereSome, IsAlone, IsShared, HoldsSame, BeginsInto, Offers, Passes};
+ghost use Rattle.rx_lane.specs.Lanes.{StandsFor, MayBeSent, Gives, GoesOn, GivesInto, GivesTo, RefusesRequest, addressed, is_over};
+ghost use Rattle.rx_lane.specs.TapeLanes.{lane_on, StandsBack, StandsWhereSome, IsAlone, IsShared, HoldsSame, Begins, BeginsInto, BeginsTo, Offers, Passes};
 
-use crate::ask_error::AskError;
+use crate::ask_error::{AskError, owed_with};
+use crate::joiner::Joiner;
+use crate::last::put_last;
 use crate::waiting::{Waiting, copy_lead, move_passed};
 use rx_heap::{Heap, Memory};
 use rx_note::{Given, Item, Note, Policy};
@@ -83,7 +85,7 @@ impl TapeLane {
     {
         let _within = tape.len();
         let cursor = tape.cursor(back)?;
-        let mut waiting = Waiting { cursor, lead, back };
+        let waiting = Waiting { cursor, lead, back };
         let given = waiting.len().min(first as usize);
         let before = outs.len();
         let Ok(()) = copy_into(&waiting, given, tape, outs) else {
@@ -91,15 +93,70 @@ impl TapeLane {
             tape.release(cursor);
             return Err(Memory);
         };
+        Ok(TapeLane::opened(policy, first, waiting, given, tape))
+    }
+
+    /// The lane of an observer that joins, as `new` makes it. What it gives at once is put at the end of `outs`, addressed to the
+    /// observer. `Memory` leaves the tape and `outs`.
+    pub fn open_for(
+        joiner: Joiner,
+        lead: Option<Item>,
+        back: usize,
+        tape: &mut Tape,
+        outs: &mut Vec<Given, Heap>,
+    ) -> Result<TapeLane, Memory>
+        requires shared { IsShared joiner.policy.strategy }
+        requires there { back ≤ length tape.old.items }
+        ensures err { OnErr result (HoldsSame tape.old tape.new × (outs.new.items ≡ outs.old.items)) }
+        ensures begins { IfOk result (λ lane. BeginsTo (lane_on tape.new.items lane) joiner (waits lead tape.old.items back) outs.old.items outs.new.items) }
+        ensures policy { IfOk result (λ lane. (lane.policy ≡ joiner.policy) × (lane.ended ≡ false)) }
+        ensures stands_back { IfOk result (λ lane. StandsBack tape.new lane.cursor lane.back) }
+        ensures fresh { IfOk result (λ lane. place_of tape.old.places lane.cursor ≡ None) }
+        ensures spares { IfOk result (λ lane. Spares tape.old tape.new lane.cursor) }
+        ensures count { length outs.new.items ≤ length outs.old.items + length (option_to_list lead) + back }
+        ensures capacity { vec_capacity outs.old ≤ vec_capacity outs.new }
+    {
+        let Joiner { who, policy, first } = joiner;
+        let _within = tape.len();
+        let cursor = tape.cursor(back)?;
+        let waiting = Waiting { cursor, lead, back };
+        let given = waiting.len().min(first as usize);
+        let before = outs.len();
+        let Ok(()) = copy_for(who, &waiting, given, tape, outs) else {
+            outs.truncate(before);
+            tape.release(cursor);
+            return Err(Memory);
+        };
+        Ok(TapeLane::opened(policy, first, waiting, given, tape))
+    }
+
+    // The lane of an observer that joined and was given so many of the items that it was offered.
+    fn opened(
+        policy: Policy,
+        first: u32,
+        mut waiting: Waiting,
+        given: usize,
+        tape: &mut Tape,
+    ) -> TapeLane
+        requires shared { IsShared policy.strategy }
+        requires stands { StandsBack tape.old waiting.cursor waiting.back }
+        requires given { given ≡ min (length (option_to_list waiting.lead) + waiting.back) first }
+        ensures begins { Begins (lane_on tape.new.items result) policy first (waits waiting.lead tape.old.items waiting.back)
+            (map Next (take given (waits waiting.lead tape.old.items waiting.back))) }
+        ensures policy { (result.policy ≡ policy) × (result.ended ≡ false) }
+        ensures stands_back { StandsBack tape.new result.cursor result.back }
+        ensures cursor { result.cursor ≡ waiting.cursor }
+        ensures spares { Spares tape.old tape.new waiting.cursor }
+    {
         waiting.skip(given, tape);
         waiting.make_room(policy.strategy(), tape);
-        Ok(TapeLane {
+        TapeLane {
             policy,
             waiting,
             last: None,
             ended: false,
             owed: first - given as u32,
-        })
+        }
     }
 
     /// How many more items may be given before the observer requests more.
@@ -153,8 +210,7 @@ impl TapeLane {
         outs: &mut Vec<Note, Heap>,
     ) -> Result<(), AskError>
         requires { StandsWhereSome tape.old self.old.cursor self.old.back }
-        ensures zero { (result ≡ Err AskError.ZeroRequest) ↔ (n ≡ 0) }
-        ensures too_much { (result ≡ Err AskError.TooMuch) ↔ ((0 < n) × (2 ^ 32 ≤ self.old.owing + n)) }
+        ensures refuses { RefusesRequest self.old.owing n result }
         ensures err { OnErr result ((self.new ≡ self.old) × (tape.new ≡ tape.old) × (outs.new.items ≡ outs.old.items)) }
         ensures gives { OnOk result (GivesInto (lane_on tape.old.items self.old) (Requested n) outs.old.items outs.new.items) }
         ensures stands { OnOk result (GoesOn (lane_on tape.old.items self.old) (lane_on tape.new.items self.new) (Requested n)) }
@@ -165,7 +221,7 @@ impl TapeLane {
         ensures cursor { self.new.cursor ≡ self.old.cursor }
         ensures spares { Spares tape.old tape.new self.old.cursor }
     {
-        let owed = self.owed_by(n)?;
+        let owed = owed_with(self.owed, n)?;
         let items = self.released(owed);
         let before = outs.len();
         let Ok(()) = outs.reserve(self.notes_released(items)) else {
@@ -192,8 +248,7 @@ impl TapeLane {
         outs: &mut Vec<Given, Heap>,
     ) -> Result<(), AskError>
         requires { StandsWhereSome tape.old self.old.cursor self.old.back }
-        ensures zero { (result ≡ Err AskError.ZeroRequest) ↔ (n ≡ 0) }
-        ensures too_much { (result ≡ Err AskError.TooMuch) ↔ ((0 < n) × (2 ^ 32 ≤ self.old.owing + n)) }
+        ensures refuses { RefusesRequest self.old.owing n result }
         ensures err { OnErr result ((self.new ≡ self.old) × (tape.new ≡ tape.old) × (outs.new.items ≡ outs.old.items)) }
         ensures gives { OnOk result (GivesTo who (lane_on tape.old.items self.old) (Requested n) outs.old.items outs.new.items) }
         ensures stands { OnOk result (GoesOn (lane_on tape.old.items self.old) (lane_on tape.new.items self.new) (Requested n)) }
@@ -204,7 +259,7 @@ impl TapeLane {
         ensures cursor { self.new.cursor ≡ self.old.cursor }
         ensures spares { Spares tape.old tape.new self.old.cursor }
     {
-        let owed = self.owed_by(n)?;
+        let owed = owed_with(self.owed, n)?;
         let items = self.released(owed);
         let before = outs.len();
         let Ok(()) = outs.reserve(self.notes_released(items)) else {
@@ -231,8 +286,7 @@ impl TapeLane {
     ) -> Result<(), AskError>
         requires stands_back { StandsBack tape.old self.old.cursor self.old.back }
         requires alone { IsAlone tape.old self.old.cursor }
-        ensures zero { (result ≡ Err AskError.ZeroRequest) ↔ (n ≡ 0) }
-        ensures too_much { (result ≡ Err AskError.TooMuch) ↔ ((0 < n) × (2 ^ 32 ≤ self.old.owing + n)) }
+        ensures refuses { RefusesRequest self.old.owing n result }
         ensures err { OnErr result ((self.new ≡ self.old) × (tape.new ≡ tape.old) × (outs.new.items ≡ outs.old.items)) }
         ensures gives { OnOk result (GivesTo who (lane_on tape.old.items self.old) (Requested n) outs.old.items outs.new.items) }
         ensures stands { OnOk result (GoesOn (lane_on tape.old.items self.old) (lane_on tape.new.items self.new) (Requested n)) }
@@ -243,7 +297,7 @@ impl TapeLane {
         if self.waiting.back < tape.len() {
             return self.ask_for(who, n, tape, outs);
         }
-        let owed = self.owed_by(n)?;
+        let owed = owed_with(self.owed, n)?;
         let items = self.released(owed);
         let Ok(()) = outs.reserve(self.notes_released(items)) else {
             return Err(AskError::Memory);
@@ -288,21 +342,6 @@ impl TapeLane {
         let last = self.release(items, owed, tape);
         move_passed(who, more, tape, outs);
         Ok(last)
-    }
-
-    // How many items may be given once `n` more are requested.
-    fn owed_by(&self, n: u32) -> Result<u32, AskError>
-        ensures zero { (result ≡ Err AskError.ZeroRequest) ↔ (n ≡ 0) }
-        ensures too_much { (result ≡ Err AskError.TooMuch) ↔ ((0 < n) × (2 ^ 32 ≤ self.now.owing + n)) }
-        ensures owed { IfOk result (λ owed. owed ≡ self.now.owing + n) }
-    {
-        if n == 0 {
-            return Err(AskError::ZeroRequest);
-        }
-        match self.owed.checked_add(n) {
-            Some(owed) => Ok(owed),
-            None => Err(AskError::TooMuch),
-        }
     }
 
     // How many of the items that wait are given where so many are owed.
@@ -475,13 +514,20 @@ fn copy_into(
     waiting.copy_out(count, tape, outs)
 }
 
-// Puts a terminal, if there is one, at the end of `outs`, which has room for it, for an observer.
-#[inline(always)]
-fn put_last(who: u32, last: Option<Note>, outs: &mut Vec<Given, Heap>)
-    requires { vec_len outs.old + length (option_to_list last) ≤ vec_capacity outs.old }
-    ensures { outs.new.items ≡ outs.old.items ++ addressed who (option_to_list last) }
+// The same, addressed to an observer.
+fn copy_for(
+    who: u32,
+    waiting: &Waiting,
+    count: usize,
+    tape: &Tape,
+    outs: &mut Vec<Given, Heap>,
+) -> Result<(), Memory>
+    requires there { count ≤ length (option_to_list waiting.now.lead) + waiting.now.back }
+    requires stands { StandsWhereSome tape.now waiting.now.cursor waiting.now.back }
+    ensures ok { OnOk result (outs.new.items ≡ outs.old.items ++ addressed who (map Next (take count (waits waiting.now.lead tape.now.items waiting.now.back)))) }
+    ensures front { take (vec_len outs.old) outs.new.items ≡ outs.old.items }
+    ensures capacity { vec_capacity outs.old ≤ vec_capacity outs.new }
 {
-    if let Some(note) = last {
-        outs.push_reserved(Given { who, note });
-    }
+    outs.reserve(count)?;
+    waiting.copy_to(who, count, tape, outs)
 }

@@ -1,4 +1,4 @@
-ghost use Rattle.std.specs.Prelude.{◌≡◌, ◌≢◌, ◌↔◌, ◌≤◌, ℕ, List, None, Some, max, length, is_some, true, false, Err, IfOk, OnOk, OnErr, option_to_list};
+ghost use Rattle.std.specs.Prelude.{◌≡◌, ◌≢◌, ◌↔◌, ◌≤◌, ℕ, List, [], None, Some, max, length, is_some, true, false, Err, IfOk, OnOk, OnErr, option_to_list};
 ghost use Rattle.rx_note.specs.declared.event.Event.TheVariants.{Emit, Join};
 ghost use Rattle.rx_note.specs.declared.kind.Kind.TheVariants.{Publish, Async};
 ghost use Rattle.rx_note.specs.declared.note.Note.TheVariants.{Next};
@@ -164,6 +164,20 @@ impl TapeSubject {
         Ok(())
     }
 
+    /// Takes an item that comes by the port that it names, at a moment, in milliseconds, where the kind is Async, which keeps it
+    /// back: nothing is offered, the tape needs no room for it, and it takes no memory. It is meant before the end.
+    pub fn keep_back(&mut self, item: Item, at: u64)
+        requires keeps_back { self.old.kind ≡ Async }
+        requires open { is_some self.old.terminal ≡ false }
+        ensures stands { (items : List Item) (from : ℕ) (rules : Rules) (H : History) → StandsFor (subject_on items self.old) rules H
+            → StandsFor (subject_on items self.new) rules (H ▹ (item.from, Emit (Next (record { from = from; text = item.text })) at)) }
+        ensures offers { (items : List Item) (from : ℕ) → signals_by (subject_on items self.old) item.from (Next (record { from = from; text = item.text })) ≡ [] }
+        ensures stamps { self.new.stamps ≡ self.old.stamps }
+        ensures kind { self.new.kind ≡ self.old.kind }
+    {
+        self.keep_own(item, at);
+    }
+
     /// Takes an item that comes at a moment, in milliseconds, where the kind is Publish, which keeps nothing of it: it need be
     /// neither at hand nor on the tape. It is meant before the end.
     pub fn pass_item(&mut self, at: u64)
@@ -299,12 +313,11 @@ impl TapeSubject {
         ensures tape { OnOk result (tape.new ≡ pushed_all tape.old (taped self.old.kind item.from (Next item))) }
         ensures within { length self.new.stamps ≤ length tape.new.items }
     {
-        let stamp = self.stamp.max(at);
         if is_async(&self.kind) {
-            self.own = Some(Kept { item, stamp });
-            self.stamp = stamp;
+            self.keep_own(item, at);
             return Ok(());
         }
+        let stamp = self.stamp.max(at);
         let count = count_kept(&self.kind);
         reserve_stamp(&mut self.stamps, count)?;
         tape.push(item)?;
@@ -312,6 +325,18 @@ impl TapeSubject {
         keep_stamp(&mut self.stamps, stamp, count);
         drop_old_stamps(&mut self.stamps, age_kept(&self.kind), stamp);
         Ok(())
+    }
+
+    // Keeps an item by itself, in the place of the last one. It takes no memory.
+    fn keep_own(&mut self, item: Item, at: u64)
+        requires { self.old.kind ≡ Async }
+        ensures state { (items : List Item) → subject_on items self.new ≡ after_item (subject_on items self.old) item at }
+        ensures stamps { self.new.stamps ≡ self.old.stamps }
+        ensures kind { self.new.kind ≡ self.old.kind }
+    {
+        let stamp = self.stamp.max(at);
+        self.own = Some(Kept { item, stamp });
+        self.stamp = stamp;
     }
 
     // Takes the end.

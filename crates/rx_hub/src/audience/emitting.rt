@@ -1,20 +1,13 @@
 // What an emission does to the observers of a subject.
-ghost use Rattle.std.specs.Prelude.{◌≡◌, ◌≢◌, ◌<◌, ◌≤◌, ◌∷◌, [], ℕ, Err, length, is_some, option_to_list, false, OnOk, OnErr};
-ghost use Rattle.rx_note.specs.declared.event.Event.TheVariants.{Emit};
-ghost use Rattle.rx_note.specs.declared.item.Item.{Item};
+ghost use Rattle.std.specs.Prelude.{◌≡◌, ◌≢◌, ℕ, option_to_list, OnOk, OnErr};
 ghost use Rattle.rx_note.specs.declared.kind.Kind.TheVariants.{Async};
-ghost use Rattle.rx_note.specs.declared.note.Note.TheVariants.{Next};
-ghost use Rattle.rx_note.specs.declared.rules.Rules.{Rules};
-ghost use Rattle.rx_note.specs.Signals.{Offered};
-ghost use Rattle.rx_history.specs.Histories.{History, ◌▹◌};
-ghost use Rattle.rx_subject.specs.Offers.{offer_signals};
 ghost use Rattle.rx_subject.specs.Subjects.{offered_by, signals_by};
-ghost use Rattle.rx_subject.specs.Subjects as subjects;
 ghost use Rattle.rx_subject.specs.TapeSubjects.{subject_on};
-ghost use Rattle.rx_hub.specs.Subscriptions.{AllFedInto};
-ghost use Rattle.rx_hub.specs.Audiences.{AllOpen};
+ghost use Rattle.rx_subject.specs.Offers.{offer_signals};
+ghost use Rattle.rx_hub.specs.Emissions.{IsOpen, StaysAs, Admits, delivery, of_item};
 
 use crate::audience::Audience;
+use crate::emission::Emission;
 use crate::passes::{
     are_owed, feed_all, give_item, give_owed, make_room, pass_all, pass_owed_all, prepare_all,
 };
@@ -23,42 +16,31 @@ use rx_note::{Given, Item, Note};
 use rx_subject::{Offer, TapeSubject};
 
 impl Audience {
-    /// Has the subject admit a note, and puts at the end of `outs` what it gives to each observer, by rising number. All
+    /// Has the subject admit an emission, and puts at the end of `outs` what it gives to each observer, by rising number. All
     /// that may be refused comes first: room, copies for those to whom something is owed, and the tape. `Memory` leaves the
     /// subject, the observers and `outs`.
     #[inline(always)]
     pub(crate) fn admit(
         &mut self,
         subject: &mut TapeSubject,
-        port: u32,
-        note: Note,
-        at: u64,
+        emission: Emission,
         outs: &mut Vec<Given, Heap>,
     ) -> Result<(), Memory>
-        requires stamps { length subject.old.stamps ≤ length self.old.items }
-        requires open { is_some subject.old.terminal ≡ false }
-        requires all_open { AllOpen self.old.observers }
-        ensures err { OnErr result ((subject.new ≡ subject.old) × (self.new ≡ self.old) × (outs.new.items ≡ outs.old.items)) }
-        ensures stands { OnOk result ((rules : Rules) (H : History) → subjects.StandsFor (subject_on self.old.items subject.old) rules H
-            → subjects.StandsFor (subject_on self.new.items subject.new) rules (H ▹ (port, Emit note at))) }
-        ensures fed { OnOk result (AllFedInto (signals_by (subject_on self.old.items subject.old) port note) self.old.observers self.new.observers outs.old.items outs.new.items) }
-        ensures within { length subject.new.stamps ≤ length self.new.items }
-        ensures kind { subject.new.kind ≡ subject.old.kind }
+        requires { IsOpen subject.old self.old }
+        ensures err { OnErr result (StaysAs (delivery subject.old self.old outs.old.items) (delivery subject.new self.new outs.new.items)) }
+        ensures admits { OnOk result (Admits (delivery subject.old self.old outs.old.items) (delivery subject.new self.new outs.new.items) emission) }
     {
-        if subject.keeps_back() {
-            return self.admit_offer(subject, port, note, at, outs);
-        }
+        let Emission { port, note, at } = emission;
         match note {
             Note::Next(Item { from: _, text }) => {
-                self.admit_item(subject, Item { from: port, text }, at, outs)?;
-                Ok(())
+                self.admit_item(subject, Item { from: port, text }, at, outs)
             }
-            end => self.admit_offer(subject, port, end, at, outs),
+            note => self.admit_offer(subject, Emission { port, note, at }, outs),
         }
     }
 
-    // Has the subject admit an item, which comes by the port that it names and is offered at once. One that all are owed, and
-    // nobody may need later, goes by no tape.
+    // Has the subject admit an item, which comes by the port that it names. One that all are owed, and nobody may need later,
+    // goes by no tape.
     #[inline(always)]
     fn admit_item(
         &mut self,
@@ -67,16 +49,9 @@ impl Audience {
         at: u64,
         outs: &mut Vec<Given, Heap>,
     ) -> Result<(), Memory>
-        requires stamps { length subject.old.stamps ≤ length self.old.items }
-        requires open { is_some subject.old.terminal ≡ false }
-        requires all_open { AllOpen self.old.observers }
-        requires offered { subject.old.kind ≢ Async }
-        ensures err { OnErr result ((subject.new ≡ subject.old) × (self.new ≡ self.old) × (outs.new.items ≡ outs.old.items)) }
-        ensures stands { OnOk result ((from : ℕ) (rules : Rules) (H : History) → subjects.StandsFor (subject_on self.old.items subject.old) rules H
-            → subjects.StandsFor (subject_on self.new.items subject.new) rules (H ▹ (item.from, Emit (Next (record { from = from; text = item.text })) at))) }
-        ensures fed { OnOk result (AllFedInto (Offered item ∷ []) self.old.observers self.new.observers outs.old.items outs.new.items) }
-        ensures within { length subject.new.stamps ≤ length self.new.items }
-        ensures kind { subject.new.kind ≡ subject.old.kind }
+        requires { IsOpen subject.old self.old }
+        ensures err { OnErr result (StaysAs (delivery subject.old self.old outs.old.items) (delivery subject.new self.new outs.new.items)) }
+        ensures admits { OnOk result ((wrote : ℕ) → Admits (delivery subject.old self.old outs.old.items) (delivery subject.new self.new outs.new.items) (of_item wrote item at)) }
     {
         if subject.keeps_nothing() && are_owed(&self.subscriptions) {
             let before = outs.len();
@@ -89,13 +64,32 @@ impl Audience {
             pass_owed_all(&mut self.subscriptions);
             return Ok(());
         }
+        self.admit_later(subject, item, at, outs)
+    }
+
+    // The same of an item that somebody may need later, or that the subject keeps back: then it is offered to nobody. It is kept
+    // out of line, as all is that is rarer than an item that goes by no tape.
+    #[inline(never)]
+    fn admit_later(
+        &mut self,
+        subject: &mut TapeSubject,
+        item: Item,
+        at: u64,
+        outs: &mut Vec<Given, Heap>,
+    ) -> Result<(), Memory>
+        requires { IsOpen subject.old self.old }
+        ensures err { OnErr result (StaysAs (delivery subject.old self.old outs.old.items) (delivery subject.new self.new outs.new.items)) }
+        ensures admits { OnOk result ((wrote : ℕ) → Admits (delivery subject.old self.old outs.old.items) (delivery subject.new self.new outs.new.items) (of_item wrote item at)) }
+    {
+        if subject.keeps_back() {
+            subject.keep_back(item, at);
+            return Ok(());
+        }
         self.put_item(subject, item, at, outs)
     }
 
-    // The same by the tape. What is given is put where it goes in the first pass, unless the item overflows at an observer, whose
-    // error stands among what the others are given. It is kept out of line, as all is that is rarer than an item that goes by
-    // no tape.
-    #[inline(never)]
+    // The same of an item that is offered at once, by the tape. What is given is put where it goes in the first pass, unless the
+    // item overflows at an observer, whose error stands among what the others are given.
     fn put_item(
         &mut self,
         subject: &mut TapeSubject,
@@ -103,16 +97,10 @@ impl Audience {
         at: u64,
         outs: &mut Vec<Given, Heap>,
     ) -> Result<(), Memory>
-        requires stamps { length subject.old.stamps ≤ length self.old.items }
-        requires open { is_some subject.old.terminal ≡ false }
-        requires all_open { AllOpen self.old.observers }
+        requires open { IsOpen subject.old self.old }
         requires offered { subject.old.kind ≢ Async }
-        ensures err { OnErr result ((subject.new ≡ subject.old) × (self.new ≡ self.old) × (outs.new.items ≡ outs.old.items)) }
-        ensures stands { OnOk result ((from : ℕ) (rules : Rules) (H : History) → subjects.StandsFor (subject_on self.old.items subject.old) rules H
-            → subjects.StandsFor (subject_on self.new.items subject.new) rules (H ▹ (item.from, Emit (Next (record { from = from; text = item.text })) at))) }
-        ensures fed { OnOk result (AllFedInto (Offered item ∷ []) self.old.observers self.new.observers outs.old.items outs.new.items) }
-        ensures within { length subject.new.stamps ≤ length self.new.items }
-        ensures kind { subject.new.kind ≡ subject.old.kind }
+        ensures err { OnErr result (StaysAs (delivery subject.old self.old outs.old.items) (delivery subject.new self.new outs.new.items)) }
+        ensures admits { OnOk result ((wrote : ℕ) → Admits (delivery subject.old self.old outs.old.items) (delivery subject.new self.new outs.new.items) (of_item wrote item at)) }
     {
         let before = outs.len();
         make_room(outs, self.subscriptions.len())?;
@@ -122,7 +110,9 @@ impl Audience {
         };
         if !fits {
             outs.truncate(before);
-            return self.admit_offer(subject, item.from, Note::Next(item), at, outs);
+            let port = item.from;
+            let note = Note::Next(item);
+            return self.admit_offer(subject, Emission { port, note, at }, outs);
         }
         let Ok(()) = subject.admit_on(item, at, &mut self.tape) else {
             outs.truncate(before);
@@ -132,56 +122,44 @@ impl Audience {
         Ok(())
     }
 
-    // Has the subject admit a note that ends it or an observer, or an item that it keeps back.
+    // Has the subject admit a note that ends it, or an observer.
     #[inline(never)]
     fn admit_offer(
         &mut self,
         subject: &mut TapeSubject,
-        port: u32,
-        note: Note,
-        at: u64,
+        emission: Emission,
         outs: &mut Vec<Given, Heap>,
     ) -> Result<(), Memory>
-        requires stamps { length subject.old.stamps ≤ length self.old.items }
-        requires all_open { AllOpen self.old.observers }
-        ensures err { OnErr result ((subject.new ≡ subject.old) × (self.new ≡ self.old) × (outs.new.items ≡ outs.old.items)) }
-        ensures stands { OnOk result ((rules : Rules) (H : History) → subjects.StandsFor (subject_on self.old.items subject.old) rules H
-            → subjects.StandsFor (subject_on self.new.items subject.new) rules (H ▹ (port, Emit note at))) }
-        ensures fed { OnOk result (AllFedInto (signals_by (subject_on self.old.items subject.old) port note) self.old.observers self.new.observers outs.old.items outs.new.items) }
-        ensures within { length subject.new.stamps ≤ length self.new.items }
-        ensures kind { subject.new.kind ≡ subject.old.kind }
+        requires { IsOpen subject.old self.old }
+        ensures err { OnErr result (StaysAs (delivery subject.old self.old outs.old.items) (delivery subject.new self.new outs.new.items)) }
+        ensures admits { OnOk result (Admits (delivery subject.old self.old outs.old.items) (delivery subject.new self.new outs.new.items) emission) }
     {
-        let Ok(offer) = subject.preview(port, &note) else {
+        let Ok(offer) = subject.preview(emission.port, &emission.note) else {
             return Err(Memory);
         };
-        self.admit_end(subject, &offer, port, note, at, outs)
+        self.admit_as(subject, &offer, emission, outs)
     }
 
     // The same, where it is known what the note offers.
-    fn admit_end(
+    fn admit_as(
         &mut self,
         subject: &mut TapeSubject,
         offer: &Offer,
-        port: u32,
-        note: Note,
-        at: u64,
+        emission: Emission,
         outs: &mut Vec<Given, Heap>,
     ) -> Result<(), Memory>
-        requires stamps { length subject.old.stamps ≤ length self.old.items }
-        requires item { offered_by (subject_on self.old.items subject.old) port note ≡ option_to_list offer.now.item }
-        requires all_open { AllOpen self.old.observers }
-        ensures err { OnErr result ((subject.new ≡ subject.old) × (self.new ≡ self.old) × (outs.new.items ≡ outs.old.items)) }
-        ensures stands { OnOk result ((rules : Rules) (H : History) → subjects.StandsFor (subject_on self.old.items subject.old) rules H
-            → subjects.StandsFor (subject_on self.new.items subject.new) rules (H ▹ (port, Emit note at))) }
-        ensures fed { OnOk result (AllFedInto (offer_signals offer.now) self.old.observers self.new.observers outs.old.items outs.new.items) }
-        ensures within { length subject.new.stamps ≤ length self.new.items }
-        ensures kind { subject.new.kind ≡ subject.old.kind }
+        requires open { IsOpen subject.old self.old }
+        requires item { offered_by (subject_on self.old.items subject.old) emission.port emission.note ≡ option_to_list offer.now.item }
+        requires offers { signals_by (subject_on self.old.items subject.old) emission.port emission.note ≡ offer_signals offer.now }
+        ensures err { OnErr result (StaysAs (delivery subject.old self.old outs.old.items) (delivery subject.new self.new outs.new.items)) }
+        ensures admits { OnOk result (Admits (delivery subject.old self.old outs.old.items) (delivery subject.new self.new outs.new.items) emission) }
     {
-        let Some(most) = self.subscriptions.len().checked_mul(2) else {
+        let Some(most) = self.subscriptions.len().checked_mul(offer.len()) else {
             return Err(Memory);
         };
         outs.reserve(most)?;
         prepare_all(&mut self.subscriptions, offer)?;
+        let Emission { port, note, at } = emission;
         let Ok(()) = subject.admit_offered(port, note, at, &mut self.tape) else {
             return Err(Memory);
         };

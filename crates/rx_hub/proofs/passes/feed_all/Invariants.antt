@@ -1,6 +1,6 @@
 use Rattle.std.proofs.Common.{◌≡◌, ◌+◌, ◌-◌, ◌*◌, ◌≤◌, ◌++◌, List, take, drop, is_some, option_to_list, vec_len, vec_capacity}
 use Rattle.rx_note.specs.declared.item.Item.{Item}
-use Rattle.rx_subject.specs.Offers.{offer_signals}
+use Rattle.rx_subject.specs.Offers.{offer_signals, most_given}
 use Rattle.rx_hub.specs.Subscriptions.{AllFedInto}
 use Rattle.rx_hub.specs.Audiences.{places_of, observers_on}
 use Rattle.rx_hub.specs.Audiences as audiences
@@ -18,5 +18,5 @@ invariant-loop-i l = record {
   owned : audiences.Owned l.initial.tape (places_of l.initial.subscriptions.items) → audiences.Owned l.tape (places_of l.initial.subscriptions.items);
   items : l.tape.items ≡ l.initial.tape.items;
   len : vec_len l.subscriptions ≡ vec_len l.initial.subscriptions;
-  room : vec_len l.outs + 2 * (vec_len l.initial.subscriptions - l.i) ≤ vec_capacity l.outs;
+  room : vec_len l.outs + (vec_len l.initial.subscriptions - l.i) * most_given l.fn.offer ≤ vec_capacity l.outs;
 }

@@ -1,6 +1,7 @@
 use Rattle.std.proofs.Common.{◌≡◌, ◌<◌, false, List, length, get_or, set, sym, ap, subst, ◌∙◌, arith}
 use Rattle.std.proofs.lemmas.List.{length-map, map-set}
 use Rattle.rx_note.specs.declared.item.Item.{Item}
+use Rattle.rx_lane.specs.Lanes.{RefusesRequest}
 use Rattle.rx_hub.specs.Seats.{Stands}
 use Rattle.rx_hub.specs.Subscriptions.{Observer, AsksInto}
 use Rattle.rx_hub.specs.Audiences.{AudienceState, Place, AllOn, Apart, cursors, place_of, places_of, observer_on, observers_on}
@@ -38,15 +39,15 @@ invariant_of-self c =
           (owned_moved a.tape c.ask.new.tape (places_of subs) k (place_of old) (omega (arith, lt, length-map subs place_of)) at c.ask.ensures.leaves c.self.invariant.2),
     )
 
-pub returns-clause-too_much : goal.returns-clause-too_much
-returns-clause-too_much c = λ default.
+pub returns-clause-refuses : goal.returns-clause-refuses
+returns-clause-refuses c = λ default.
     let a = c.self.inside in
     let subs = a.subscriptions.items in
     let k = c.args.place in
     let one = c.index_mut.result.now in
     let lt : k < length subs = omega (arith, c.requires, ap (λ (v : AudienceState). length v.observers) c.self.view_is, observers-length a.tape.items subs) in
     let seen = ap (λ (v : AudienceState). get_or v.observers k default) (sym c.self.view_is) ∙ observer-at a.tape.items subs k one default lt c.index_mut.ensures.value in
-    rw seen c.ask.ensures.too_much
+    subst (λ (o : Observer). RefusesRequest o.lane.owing c.args.n c.ask.result) (sym seen) c.ask.ensures.refuses
 
 pub returns-clause-err : goal.returns-clause-err
 returns-clause-err c =

@@ -39,7 +39,7 @@ returns-clause-joins c =
     let a = c.self.inside in
     let subs = a.subscriptions.items in
     let items = a.tape.items in
-    let who = c.args.who in
+    let who = c.args.joiner.who in
     let before = c.args.outs.now.items in
     let made = c.in_ok-seat.ensures in
     let later = c.end_by-last.new.tape in
@@ -49,14 +49,13 @@ returns-clause-joins c =
     let waiting = waits opening.lead items opening.back in
     let ends = ended_by opening.end in
     let given = made.begins.0 in
-    let begun : Begins (lane_of c.open.new.tape.items c.in_ok-seat.seat) c.args.policy c.args.first (map Offered waiting) given = made.begins.2 in
+    let begun : Begins (lane_of c.open.new.tape.items c.in_ok-seat.seat) c.args.joiner.policy c.args.joiner.first (map Offered waiting) given = made.begins.2 in
     let ended : Serves (lane_of c.open.new.tape.items c.in_ok-seat.seat) (lane_of later.items seat) ends (option_to_list c.end_by-last.result) = c.end_by-last.ensures.serves in
     let last = option_to_list c.end_by-last.result in
     let leaves = leaves_then a.tape c.open.new.tape later (cursor_of c.in_ok-seat.seat) made.leaves c.end_by-last.ensures.leaves in
     record {
       lane = lane_of later.items seat;
       signals = map Offered waiting ++ ends;
-      notes = given ++ last;
       news_are =
           ap (λ xs. observers_on later.items (places_of xs)) (c.push_reserved.ensures.items ∙ ap (λ xs. xs ++ c.new.result ∷ []) c.in_ok-reserve-2.ensures.items)
           ∙ ap (observers_on later.items) (map-append place_of subs (c.new.result ∷ []))
@@ -68,13 +67,14 @@ returns-clause-joins c =
           let opens = c.in_ok-lead.ensures.opens rules H (subst (λ (v : AudienceState). subjects.StandsFor (subject_on v.items c.args.subject.now) rules H) (sym c.self.view_is) stands) in
           ap (λ xs. map Offered xs ++ ends) opens.items_are
           ∙ ap (λ end. map Offered (opening_by rules.kind rules H (max (stamp rules H) c.args.at)) ++ ended_by end) opens.end_is;
-      begins = begins_then (lane_of c.open.new.tape.items c.in_ok-seat.seat) (lane_of later.items seat) c.args.policy c.args.first (map Offered waiting) ends given last
-          begun ended;
-      given = given-then before c.give_all.new.outs.items c.give.new.outs.items who given last
-          (c.give_all.ensures.items
-          ∙ ap (λ os. os ++ addressed who c.open.new.notes.items) c.in_ok-reserve.ensures.items
-          ∙ ap (λ ns. before ++ addressed who ns) (made.begins.1 ∙ ap (λ ns. ns ++ given) c.in_ok-notes.ensures))
-          c.give.ensures.items;
+      begins = (
+        given ++ last,
+        given-then before c.open.new.outs.items c.put.new.outs.items who given last
+            (made.begins.1 ∙ ap (λ os. os ++ addressed who given) c.in_ok-reserve.ensures.items)
+            c.put.ensures.items,
+        begins_then (lane_of c.open.new.tape.items c.in_ok-seat.seat) (lane_of later.items seat) c.args.joiner.policy c.args.joiner.first (map Offered waiting) ends given last
+            begun ended,
+      );
     }
 
 pub opening-requires : goal.opening-requires
@@ -100,41 +100,27 @@ returns-in_err-reserve-2-clause-err c =
       c.in_ok-reserve.ensures.items,
     )
 
-pub invariant_of-self-in_err-notes : goal.invariant_of-self-in_err-notes
-invariant_of-self-in_err-notes c =
-    let a = c.self.inside in
-    stays a.tape a.tape (places_of a.subscriptions.items) (places_of c.reserve-2.new.self.items) refl (ap places_of c.in_ok-reserve-2.ensures.items) c.self.invariant
-
-pub returns-in_err-notes-clause-err : goal.returns-in_err-notes-clause-err
-returns-in_err-notes-clause-err c =
-    let a = c.self.inside in
-    on_err_known c.from_residual-in_err-notes.result (
-      shown a.tape.items a.tape.items (places_of a.subscriptions.items) (places_of c.reserve-2.new.self.items) refl (ap places_of c.in_ok-reserve-2.ensures.items)
-          ∙ c.self.view_is,
-      c.in_ok-reserve.ensures.items,
-    )
-
 pub open-requires : goal.open-requires
 open-requires c = record { there = c.in_ok-lead.ensures.within }
 
 pub invariant_of-self-in_err-seat : goal.invariant_of-self-in_err-seat
 invariant_of-self-in_err-seat c =
     let a = c.self.inside in
-    stays_held a.tape c.open.new.tape (places_of a.subscriptions.items) (places_of c.reserve-2.new.self.items) c.in_err-seat.ensures.err
+    stays_held a.tape c.open.new.tape (places_of a.subscriptions.items) (places_of c.reserve-2.new.self.items) c.in_err-seat.ensures.err.0
     (ap places_of c.in_ok-reserve-2.ensures.items) c.self.invariant
 
 pub returns-in_err-seat-clause-err : goal.returns-in_err-seat-clause-err
 returns-in_err-seat-clause-err c =
     let a = c.self.inside in
     on_err_known c.from_residual-in_err-seat.result (
-      shown a.tape.items c.open.new.tape.items (places_of a.subscriptions.items) (places_of c.reserve-2.new.self.items) c.in_err-seat.ensures.err.items
+      shown a.tape.items c.open.new.tape.items (places_of a.subscriptions.items) (places_of c.reserve-2.new.self.items) c.in_err-seat.ensures.err.0.items
           (ap places_of c.in_ok-reserve-2.ensures.items)
           ∙ c.self.view_is,
-      c.in_ok-reserve.ensures.items,
+      c.in_err-seat.ensures.err.1 ∙ c.in_ok-reserve.ensures.items,
     )
 
 pub returns-in_err-seat-clause-items : goal.returns-in_err-seat-clause-items
-returns-in_err-seat-clause-items c = c.in_err-seat.ensures.err.items ∙ ap (λ (v : AudienceState). v.items) c.self.view_is
+returns-in_err-seat-clause-items c = c.in_err-seat.ensures.err.0.items ∙ ap (λ (v : AudienceState). v.items) c.self.view_is
 
 pub returns-clause-items : goal.returns-clause-items
 returns-clause-items c =

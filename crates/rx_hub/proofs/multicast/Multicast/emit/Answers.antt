@@ -35,22 +35,22 @@ taken c =
     let before = c.args.outs.now.items in
     let after = c.admit.new.outs.items in
     let now = subject_on c.trim.new.self.items subject in
-    let kept = c.trim.ensures.kept (length subject.stamps) (omega (arith, c.keep.ensures)) c.in-Ok.ensures.within in
+    let kept = c.trim.ensures.kept (length subject.stamps) (omega (arith, c.keep.ensures)) c.in-Ok.ensures.admits.within in
     let same : now ≡ subject_on c.admit.new.self.items subject = subject_kept subject c.admit.new.self.items c.trim.new.self.items kept.1 in
     let ruled : Kind → Rules = λ kind. record { kind = kind; limits = old.limits } in
     let signals = signals_by (subject_on old.audience.items old.subject) c.args.port c.args.note in
     emit_done (state_of old) now (ruled subject.kind) old.audience.observers c.trim.new.self.observers before before after c.args.port c.args.note c.args.at
-    (sym c.is_ended.ensures ∙ c.if-is_ended.false) (ap ruled c.in-Ok.ensures.kind)
-    (λ rules H stands. subst (λ (s : SubjectState). subjects.StandsFor s rules (H ▹ (c.args.port, Emit c.args.note c.args.at))) (sym same) (c.in-Ok.ensures.stands rules H stands))
+    (sym c.is_ended.ensures ∙ c.if-is_ended.false) (ap ruled c.in-Ok.ensures.admits.kind)
+    (λ rules H stands. subst (λ (s : SubjectState). subjects.StandsFor s rules (H ▹ (c.args.port, Emit c.args.note c.args.at))) (sym same) (c.in-Ok.ensures.admits.stands rules H stands))
     refl refl
-    (subst (λ (os : List Observer). AllFedInto signals old.audience.observers os before after) (sym c.trim.ensures.observers) c.in-Ok.ensures.fed)
+    (subst (λ (os : List Observer). AllFedInto signals old.audience.observers os before after) (sym c.trim.ensures.observers) c.in-Ok.ensures.admits.fed)
 
 pub invariant_of-self-2 : goal.invariant_of-self-2
 invariant_of-self-2 c =
     let old = c.args.self.now in
-    let fed = c.in-Ok.ensures.fed in
+    let fed = c.in-Ok.ensures.admits.fed in
     let same = ap length c.trim.ensures.observers ∙ AllFed-length _ _ _ _ fed.2 in
-    let kept = c.trim.ensures.kept (length c.admit.new.subject.stamps) (omega (arith, c.keep.ensures)) c.in-Ok.ensures.within in
+    let kept = c.trim.ensures.kept (length c.admit.new.subject.stamps) (omega (arith, c.keep.ensures)) c.in-Ok.ensures.admits.within in
     record {
       fits = (omega (arith, same, old.fits.0), old.fits.1);
       within = kept.0;
@@ -61,13 +61,19 @@ invariant_of-self-2 c =
 pub returns : goal.returns
 returns c = taken c.before
 
-pub admit-requires-clause-all_open : goal.admit-requires-clause-all_open
-admit-requires-clause-all_open c = all_open (state_of c.args.self.now) c.args.self.now.stands (sym c.is_ended.ensures ∙ c.if-is_ended.false)
+pub admit-requires : goal.admit-requires
+admit-requires c =
+    let unended = sym c.is_ended.ensures ∙ c.if-is_ended.false in
+    record {
+      open_now = unended;
+      all_open = all_open (state_of c.args.self.now) c.args.self.now.stands unended;
+      stamps = c.args.self.now.within;
+    }
 
 pub invariant_of-self-in_default-clause-stands : goal.invariant_of-self-in_default-clause-stands
 invariant_of-self-in_default-clause-stands c =
     let old = c.args.self.now in
-    same_history old.limits old.joins c.in_default.ensures.err.0 (c.forget.ensures ∙ c.in_default.ensures.err.1) old.stands
+    same_history old.limits old.joins c.in_default.ensures.err.subject (c.forget.ensures ∙ c.in_default.ensures.err.audience) old.stands
 
 pub invariant_of-self-in_default-clause-tight : goal.invariant_of-self-in_default-clause-tight
-invariant_of-self-in_default-clause-tight c = rw (c.in_default.ensures.err.0, c.forget.ensures ∙ c.in_default.ensures.err.1) c.args.self.now.tight
+invariant_of-self-in_default-clause-tight c = rw (c.in_default.ensures.err.subject, c.forget.ensures ∙ c.in_default.ensures.err.audience) c.args.self.now.tight

@@ -53,12 +53,12 @@ taken c port =
     let same : now ≡ subject_on old.audience.items subject =
     subject_kept subject c.open.new.self.items c.trim.new.self.items kept.1 ∙ ap (λ (xs : List Item). subject_on xs subject) c.in-Ok.ensures.items in
     let ruled : Kind → Rules = λ kind. record { kind = kind; limits = old.limits } in
-    join_done (state_of old) now (ruled subject.kind) c.trim.new.self.observers joins.lane joins.signals joins.notes c.args.outs.now.items c.args.outs.now.items c.open.new.outs.items
+    join_done (state_of old) now (ruled subject.kind) c.trim.new.self.observers joins.lane joins.signals joins.begins.0 c.args.outs.now.items c.args.outs.now.items c.open.new.outs.items
     port c.args.policy c.args.first c.args.at free left (ap ruled c.joined.ensures.kind)
     (λ rules H may stands.
     subst (λ (s : SubjectState). subjects.StandsFor s rules (H ▹ (port, Join c.args.policy c.args.first c.args.at))) (sym same)
     (c.joined.ensures.stands old.audience.items rules H port c.args.policy c.args.first old.within may stands))
-    joins.opens joins.begins (c.trim.ensures.observers ∙ joins.news_are) refl joins.given
+    joins.opens joins.begins.2 (c.trim.ensures.observers ∙ joins.news_are) refl joins.begins.1
 
 pub invariant_of-self-2 : goal.invariant_of-self-2
 invariant_of-self-2 c =

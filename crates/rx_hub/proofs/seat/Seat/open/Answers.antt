@@ -12,10 +12,11 @@ returns-in_ok-lane-in-Buffer c =
     let tape = c.args.tape.now in
     record {
       err = tt;
-      begins = begins_so (lane_on c.new.new.tape.items lane) c.args.policy c.args.first (waits c.args.lead tape.items c.args.back) c.args.notes.now.items c.new.new.outs.items made.begins;
+      begins = begins_so (lane_on c.open_for.new.tape.items lane) c.args.joiner (waits c.args.lead tape.items c.args.back) c.args.outs.now.items c.open_for.new.outs.items made.begins;
       stands = made.stands_back;
       «open» = λ other. made.policy.1;
       fresh = λ cursor is. let same : lane.cursor ≡ cursor = cc in ap (place_of tape.places) (sym same) ∙ made.fresh;
-      leaves = leaves_others tape c.new.new.tape lane.cursor made.spares;
+      leaves = leaves_others tape c.open_for.new.tape lane.cursor made.spares;
       count = made.count;
+      capacity = c.open_for.ensures.capacity;
     }

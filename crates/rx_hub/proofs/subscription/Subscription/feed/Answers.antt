@@ -15,7 +15,7 @@ returns-clause-fed c = λ items tape_is.
     let ended = subst (λ (end : Option Note). Serves (lane_of c.offer_to-note.new.tape.items c.offer_to-note.new.seat) (lane_of c.end_by-note.new.tape.items c.end_by-note.new.seat) (ended_by end) then)
     (c.take-end.ensures.value ∙ ready.end) c.end_by-note.ensures.serves in (
       first ++ then,
-      given-then c.args.outs.now.items c.give.new.outs.items c.give-2.new.outs.items c.args.self.now.who first then c.give.ensures.items c.give-2.ensures.items,
+      given-then c.args.outs.now.items c.put.new.outs.items c.put-2.new.outs.items c.args.self.now.who first then c.put.ensures.items c.put-2.ensures.items,
       record {
         number = refl;
         serves = Serves-then _ _ _ _ _ _ _ (c.offer_to-note.ensures.serves items tape_is copied) ended;

@@ -1,4 +1,4 @@
-use Rattle.std.proofs.Common.{List, ◌++◌, ◌∷◌, [], map, take, ap, ◌∙◌, append_assoc}
+use Rattle.std.proofs.Common.{◌+◌, List, ◌++◌, ◌∷◌, [], map, take, ap, ◌∙◌, append_assoc}
 use Rattle.rx_note.specs.declared.note.Note.{Note}
 use Rattle.rx_note.specs.declared.note.Note.TheVariants.{Next}
 use Rattle.rx_tape.specs.Tapes.{waits}
@@ -16,11 +16,11 @@ returns-in-Some-clause-gives c =
           ∙ ap (λ (lane : TapeLaneState). (c.reserve.new.self.items ++ released lane) ++ last) c.self.view_is
           ∙ ap (λ put. (put ++ notes) ++ last) c.reserve.ensures.items
           ∙ append_assoc c.args.outs.now.items notes last,
-      c.in-Some.ensures.gives c.args.n c.in_ok-owed.ensures.owed,
+      c.in-Some.ensures.gives c.args.n (c.in_ok-owed.ensures.owed ∙ ap (λ (lane : TapeLaneState). lane.owing + c.args.n) c.self.view_is),
     )
 
 pub returns-in-Some-clause-stands : goal.returns-in-Some-clause-stands
-returns-in-Some-clause-stands c = c.in-Some.ensures.goes_on c.args.n c.in_ok-owed.ensures.owed
+returns-in-Some-clause-stands c = c.in-Some.ensures.goes_on c.args.n (c.in_ok-owed.ensures.owed ∙ ap (λ (lane : TapeLaneState). lane.owing + c.args.n) c.self.view_is)
 
 pub returns-in_default-release-clause-stands : goal.returns-in_default-release-clause-stands
-returns-in_default-release-clause-stands c = c.in_default-release.ensures.goes_on c.args.n c.in_ok-owed.ensures.owed
+returns-in_default-release-clause-stands c = c.in_default-release.ensures.goes_on c.args.n (c.in_ok-owed.ensures.owed ∙ ap (λ (lane : TapeLaneState). lane.owing + c.args.n) c.self.view_is)

@@ -1,4 +1,4 @@
-use Rattle.std.proofs.Common.{List, ◌++◌, map, take, option_to_list, ap, ◌∙◌}
+use Rattle.std.proofs.Common.{◌+◌, List, ◌++◌, map, take, option_to_list, ap, ◌∙◌}
 use Rattle.rx_note.specs.declared.note.Note.{Note}
 use Rattle.rx_note.specs.declared.note.Note.TheVariants.{Next}
 use Rattle.rx_tape.specs.Tapes.{waits}
@@ -19,8 +19,8 @@ returns-clause-gives c =
           c.reserve.ensures.items
           (c.in-Ok-copy_to.ensures.ok ∙ ap (λ (lane : TapeLaneState). room ++ addressed who (released lane)) c.self.view_is)
           c.put_last.ensures,
-      c.release-last.ensures.gives c.args.n c.in_ok-owed.ensures.owed,
+      c.release-last.ensures.gives c.args.n (c.in_ok-owed.ensures.owed ∙ ap (λ (lane : TapeLaneState). lane.owing + c.args.n) c.self.view_is),
     )
 
 pub returns-clause-stands : goal.returns-clause-stands
-returns-clause-stands c = c.release-last.ensures.goes_on c.args.n c.in_ok-owed.ensures.owed
+returns-clause-stands c = c.release-last.ensures.goes_on c.args.n (c.in_ok-owed.ensures.owed ∙ ap (λ (lane : TapeLaneState). lane.owing + c.args.n) c.self.view_is)

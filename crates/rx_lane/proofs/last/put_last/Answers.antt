@@ -2,7 +2,7 @@
 use Rattle.std.proofs.Common.{Option, ◌++◌, option_to_list, sym, ap, ◌∙◌}
 use Rattle.rx_note.specs.declared.note.Note.{Note}
 use Rattle.rx_lane.specs.Lanes.{addressed}
-use Rattle.rx_lane.proofs.tape_lane.put_last.Goals as goal
+use Rattle.rx_lane.proofs.last.put_last.Goals as goal
 
 pub returns-in-Some : goal.returns-in-Some
 returns-in-Some c =

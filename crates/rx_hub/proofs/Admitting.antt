@@ -1,0 +1,73 @@
+-- An emission that was admitted, by what is known of its parts.
+use Rattle.std.proofs.Common.{◌≡◌, ◌≢◌, ◌≤◌, ℕ, List, [], ◌∷◌, ◌++◌, length, map, take, refl, sym, ap, subst, ◌∙◌, append-nil}
+use Rattle.rx_note.specs.declared.event.Event.TheVariants.{Emit}
+use Rattle.rx_note.specs.declared.given.Given.{Given}
+use Rattle.rx_note.specs.declared.item.Item.{Item}
+use Rattle.rx_note.specs.declared.kind.Kind.{Kind}
+use Rattle.rx_note.specs.declared.kind.Kind.TheVariants.{Publish, Behavior, Async, Replay}
+use Rattle.rx_note.specs.declared.note.Note.TheVariants.{Next}
+use Rattle.rx_note.specs.declared.rules.Rules.{Rules}
+use Rattle.rx_note.specs.Signals.{Signal, Offered, given}
+use Rattle.rx_history.specs.Histories.{History, ◌▹◌, unstamped, offers_by}
+use Rattle.rx_subject.specs.Subjects.{signals_by}
+use Rattle.rx_subject.specs.Subjects as subjects
+use Rattle.rx_subject.specs.TapeSubjects.{subject_on}
+use Rattle.rx_subject.proofs.Standing.{signals-by_port}
+use Rattle.rx_hub.specs.Subscriptions.{Observer, Feeds, AllFed, AllFedInto}
+use Rattle.rx_hub.specs.Emissions.{Delivery, Admits, of_item}
+
+-- NOTHING OFFERED
+
+unfed : (o : Observer) → Feeds o o [] []
+unfed o = record { number = refl; serves = record { gives = λ s stands. sym (append-nil (given s)); goes_on = λ s stands. stands } }
+
+none_fed : (os : List Observer) → AllFed [] os os []
+none_fed [] = refl
+none_fed (o ∷ os) = ([], [], refl, unfed o, none_fed os)
+
+-- by no signal nothing is given, and every queue stays
+pub none_fed_into : (signals : List Signal) (os : List Observer) (before : List Given) → signals ≡ [] → AllFedInto signals os os before before
+none_fed_into signals os before none =
+    subst (λ (xs : List Signal). AllFedInto xs os os before before) (sym none) ([], sym (append-nil before), none_fed os)
+
+-- AN ITEM
+
+-- but for Async an item is offered at once
+offers_now : (kind : Kind) (last : List Item) (wrote : ℕ) (item : Item) → kind ≢ Async
+    → map Offered (offers_by kind last item.from (Next (record { from = wrote; text = item.text }))) ++ [] ≡ Offered item ∷ []
+offers_now Publish last wrote item other = refl
+offers_now (Behavior seed) last wrote item other = refl
+offers_now Async last wrote item other = absurd (other refl)
+offers_now (Replay count age) last wrote item other = refl
+
+-- what the subject does with an item by the port that it names
+abbrev pub TakesItem : Delivery → Delivery → Item → ℕ → Type 0
+TakesItem old new item at =
+    (wrote : ℕ) (rules : Rules) (H : History) → subjects.StandsFor (subject_on old.audience.items old.subject) rules H
+    → subjects.StandsFor (subject_on new.audience.items new.subject) rules (H ▹ (item.from, Emit (Next (record { from = wrote; text = item.text })) at))
+
+-- an item that each observer was fed
+pub item_admitted : (old new : Delivery) (item : Item) (at : ℕ) → old.subject.kind ≢ Async → TakesItem old new item at
+    → AllFedInto (Offered item ∷ []) old.audience.observers new.audience.observers old.given new.given
+    → length new.subject.stamps ≤ length new.audience.items → new.subject.kind ≡ old.subject.kind
+    → (wrote : ℕ) → Admits old new (of_item wrote item at)
+item_admitted old new item at other takes fed within kind wrote =
+    let last = unstamped (take 1 (subject_on old.audience.items old.subject).window) in
+    let By : List Signal → Type 0 = λ signals. AllFedInto signals old.audience.observers new.audience.observers old.given new.given in
+    record {
+      stands = takes wrote;
+      fed = subst By (sym (offers_now old.subject.kind last wrote item other)) fed;
+      within = within;
+      kind = kind;
+    }
+
+-- whatever port its producer wrote in the item
+pub wrote_another : (old new : Delivery) (item : Item) (at : ℕ) → Admits old new (of_item item.from item at) → (wrote : ℕ) → Admits old new (of_item wrote item at)
+wrote_another old new item at admits wrote =
+    let By : List Signal → Type 0 = λ signals. AllFedInto signals old.audience.observers new.audience.observers old.given new.given in
+    record {
+      stands = λ rules H stands. admits.stands rules H stands;
+      fed = subst By (signals-by_port (subject_on old.audience.items old.subject) item.from (record { from = wrote; text = item.text })) admits.fed;
+      within = admits.within;
+      kind = admits.kind;
+    }

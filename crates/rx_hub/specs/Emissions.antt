@@ -1,0 +1,49 @@
+-- An emission, and what it does to a subject on a tape and to its observers.
+use Rattle.std.specs.Prelude.{◌≡◌, ◌≤◌, ℕ, false, List, is_some, length}
+use Rattle.rx_note.specs.declared.event.Event.TheVariants.{Emit}
+use Rattle.rx_note.specs.declared.given.Given.{Given}
+use Rattle.rx_note.specs.declared.item.Item.{Item}
+use Rattle.rx_note.specs.declared.note.Note.TheVariants.{Next}
+use Rattle.rx_note.specs.declared.rules.Rules.{Rules}
+use Rattle.rx_history.specs.Histories.{History, ◌▹◌}
+use Rattle.rx_subject.specs.Subjects.{signals_by}
+use Rattle.rx_subject.specs.Subjects as subjects
+use Rattle.rx_subject.specs.TapeSubjects.{TapeSubjectState, subject_on}
+use Rattle.rx_hub.specs.declared.emission.Emission.{Emission}
+use Rattle.rx_hub.specs.Subscriptions.{AllFedInto}
+use Rattle.rx_hub.specs.Audiences.{AudienceState, AllOpen}
+
+-- a subject, its observers, and what was given so far
+pub record Delivery : Type 0 where
+  pub subject : TapeSubjectState
+  pub audience : AudienceState
+  pub given : List Given
+
+-- these three together
+abbrev pub delivery : TapeSubjectState → AudienceState → List Given → Delivery
+delivery subject audience given = record { subject = subject; audience = audience; given = given }
+
+-- an emission may come: the subject has not ended, it may send more to each observer, and what it keeps is on the tape
+pub record IsOpen (subject : TapeSubjectState) (audience : AudienceState) : Type 0 where
+  pub open_now : is_some subject.terminal ≡ false
+  pub all_open : AllOpen audience.observers
+  pub stamps : length subject.stamps ≤ length audience.items
+
+-- all is as it was
+pub record StaysAs (old new : Delivery) : Type 0 where
+  pub subject : new.subject ≡ old.subject
+  pub audience : new.audience ≡ old.audience
+  pub given : new.given ≡ old.given
+
+-- the emission was admitted: the subject stands for the history with it, and each observer was fed what it offers
+pub record Admits (old new : Delivery) (emission : Emission) : Type 0 where
+  pub stands : (rules : Rules) (H : History) → subjects.StandsFor (subject_on old.audience.items old.subject) rules H
+      → subjects.StandsFor (subject_on new.audience.items new.subject) rules (H ▹ (emission.port, Emit emission.note emission.at))
+  pub fed : AllFedInto (signals_by (subject_on old.audience.items old.subject) emission.port emission.note)
+      old.audience.observers new.audience.observers old.given new.given
+  pub within : length new.subject.stamps ≤ length new.audience.items
+  pub kind : new.subject.kind ≡ old.subject.kind
+
+-- the emission of an item at a moment; the port that its producer wrote in it is passed over for the one that it comes by
+abbrev pub of_item : ℕ → Item → ℕ → Emission
+of_item wrote item at = record { port = item.from; note = Next (record { from = wrote; text = item.text }); at = at }
