@@ -1,5 +1,5 @@
 -- An emission that was admitted, by what is known of its parts.
-use Rattle.std.proofs.Common.{◌≡◌, ◌≢◌, ◌≤◌, ℕ, List, [], ◌∷◌, ◌++◌, length, map, take, refl, sym, ap, subst, ◌∙◌, append-nil}
+use Rattle.std.proofs.Common.{◌≡◌, ◌≢◌, ◌≤◌, ℕ, false, is_some, List, [], ◌∷◌, ◌++◌, length, map, take, refl, sym, subst, ◌∙◌, append-nil}
 use Rattle.rx_note.specs.declared.event.Event.TheVariants.{Emit}
 use Rattle.rx_note.specs.declared.given.Given.{Given}
 use Rattle.rx_note.specs.declared.item.Item.{Item}
@@ -12,7 +12,7 @@ use Rattle.rx_history.specs.Histories.{History, ◌▹◌, unstamped, offers_by}
 use Rattle.rx_subject.specs.Subjects.{signals_by}
 use Rattle.rx_subject.specs.Subjects as subjects
 use Rattle.rx_subject.specs.TapeSubjects.{subject_on}
-use Rattle.rx_subject.proofs.Standing.{signals-by_port}
+use Rattle.rx_subject.proofs.Standing.{signals-by_port, not_ended, stands_item}
 use Rattle.rx_hub.specs.Subscriptions.{Observer, Feeds, AllFed, AllFedInto}
 use Rattle.rx_hub.specs.Emissions.{Delivery, Admits, of_item}
 
@@ -62,12 +62,20 @@ item_admitted old new item at other takes fed within kind wrote =
     }
 
 -- whatever port its producer wrote in the item
-pub wrote_another : (old new : Delivery) (item : Item) (at : ℕ) → Admits old new (of_item item.from item at) → (wrote : ℕ) → Admits old new (of_item wrote item at)
-wrote_another old new item at admits wrote =
+pub wrote_another : (old new : Delivery) (item : Item) (at : ℕ) → is_some old.subject.terminal ≡ false → Admits old new (of_item item.from item at)
+    → (wrote : ℕ) → Admits old new (of_item wrote item at)
+wrote_another old new item at unended admits wrote =
+    let s = subject_on old.audience.items old.subject in
+    let other : Item = record { from = wrote; text = item.text } in
     let By : List Signal → Type 0 = λ signals. AllFedInto signals old.audience.observers new.audience.observers old.given new.given in
     record {
-      stands = λ rules H stands. admits.stands rules H stands;
-      fed = subst By (signals-by_port (subject_on old.audience.items old.subject) item.from (record { from = wrote; text = item.text })) admits.fed;
+      stands = λ rules H stands.
+          let now = admits.stands rules H stands in
+          let none = not_ended s rules H unended stands in
+          let this = stands_item s rules H item.from item at none stands in
+          let that = stands_item s rules H item.from other at none stands in
+          record { kind_is = now.kind_is; end_is = now.end_is; stamp_is = now.stamp_is; window_is = now.window_is ∙ sym this.window_is ∙ that.window_is };
+      fed = subst By (signals-by_port s item.from other) admits.fed;
       within = admits.within;
       kind = admits.kind;
     }

@@ -94,6 +94,7 @@ impl Audience {
         ensures items { self.new.items ≡ self.old.items }
         ensures joins { OnOk result (JoinsInto self.old.observers self.new.observers joiner (subject_on self.old.items subject.now) at outs.old.items outs.new.items) }
     {
+        let who = joiner.who;
         let TapeOpening { lead, back, end } = subject.opening(at, &self.tape)?;
         let Some(most) = back.checked_add(2) else {
             return Err(Memory);
@@ -102,9 +103,9 @@ impl Audience {
         self.subscriptions.reserve(1)?;
         let mut seat = Seat::open(joiner, lead, back, &mut self.tape, outs)?;
         let last = end_by(&mut seat, end, &mut self.tape);
-        put(joiner.who, last, outs);
+        put(who, last, outs);
         self.subscriptions
-            .push_reserved(Subscription::new(joiner.who, seat));
+            .push_reserved(Subscription::new(who, seat));
         Ok(())
     }
 

@@ -1,7 +1,8 @@
-use Rattle.std.proofs.Common.{◌≡◌, ◌<◌, ◌+◌, List, [], length, take, get_or, set, is_some, refl, sym, ap, subst, ◌∙◌, append-nil, arith}
+use Rattle.std.proofs.Common.{◌≡◌, ℕ, suc, ◌<◌, ◌+◌, ◌-◌, ◌*◌, List, [], length, take, get_or, set, is_some, refl, sym, ap, subst, ◌∙◌, append-nil, vec_len, arith}
+use Rattle.std.proofs.Math.Nat.{suc-mul}
 use Rattle.std.proofs.lemmas.List.{take_all, length-map, map-set}
 use Rattle.rx_note.specs.declared.item.Item.{Item}
-use Rattle.rx_subject.specs.Offers.{offer_signals}
+use Rattle.rx_subject.specs.Offers.{offer_signals, most_given}
 use Rattle.rx_hub.specs.declared.subscription.Subscription.{Subscription}
 use Rattle.rx_hub.specs.Seats.{Stands, TakesMore, IsReady}
 use Rattle.rx_hub.specs.Subscriptions.{Observer, FeedsInto, AllFedInto}
@@ -11,6 +12,10 @@ use Rattle.rx_hub.proofs.Feeding.{still-at, rest-more, fed-more}
 use Rattle.rx_hub.proofs.Places.{Turning, Turning-more, place-at, set_cursors, apart_same}
 use Rattle.rx_hub.proofs.Tight.{owned_moved, owned_same}
 use Rattle.rx_hub.proofs.passes.feed_all.Goals as goal
+
+-- the room for those that are left is that for one and for the others
+one_less : (left less most : ℕ) → left ≡ suc less → left * most ≡ less * most + most
+one_less left less most is = ap (λ n. n * most) is ∙ suc-mul less most
 
 pub loop-i-init : goal.loop-i-init
 loop-i-init c = record {
@@ -24,7 +29,10 @@ loop-i-init c = record {
   owned = λ owned. owned;
   items = refl;
   len = refl;
-  room = omega (arith, c.requires.outs_room);
+  room =
+      let all : vec_len c.args.subscriptions.now - 0 ≡ vec_len c.args.subscriptions.now = omega arith in
+      let same = ap (λ n. n * most_given c.args.offer.now) all in
+      omega (arith, c.requires.outs_room, same);
 }
 
 pub feed-requires-clause-stands : goal.feed-requires-clause-stands
@@ -55,7 +63,10 @@ feed-requires-clause-ready c =
     (c.requires.ready c.loop-i.i one lt)
 
 pub feed-requires-clause-room : goal.feed-requires-clause-room
-feed-requires-clause-room c = omega (arith, c.loop-i.invariant.room, c.loop-i.invariant.len)
+feed-requires-clause-room c =
+    let all = vec_len c.args.subscriptions.now in
+    let left = one_less (all - c.loop-i.i) (all - (c.loop-i.i + 1)) (most_given c.args.offer.now) (omega (arith, c.loop-i.invariant.len)) in
+    omega (arith, c.loop-i.invariant.room, left)
 
 pub loop-i-preserved : goal.loop-i-preserved
 loop-i-preserved c =
@@ -88,7 +99,10 @@ loop-i-preserved c =
           (owned_moved c.loop-i.tape c.feed.new.tape (places_of news) i (place_of old) within at c.feed.ensures.leaves now);
       items = items_are;
       len = was.len;
-      room = omega (arith, c.feed.ensures.len, c.feed.ensures.capacity, was.room, was.len);
+      room =
+          let all = vec_len c.args.subscriptions.now in
+          let left = one_less (all - i) (all - (i + 1)) (most_given offer) (omega (arith, was.len)) in
+          omega (arith, c.feed.ensures.len, c.feed.ensures.capacity, was.room, left);
     }
 
 pub returns-clause-fed : goal.returns-clause-fed

@@ -1,4 +1,4 @@
-use Rattle.std.proofs.Common.{◌++◌, ◌∷◌, ◌≤◌, [], List, length, Option, None, Some, option_to_list, sym, subst, arith}
+use Rattle.std.proofs.Common.{◌++◌, ◌∷◌, ◌≤◌, [], List, length, Option, None, Some, option_to_list, sym, subst, ◌∙◌, arith}
 use Rattle.rx_note.specs.declared.note.Note.{Note}
 use Rattle.std.proofs.lemmas.List.{length-append, map-append}
 use Rattle.rx_note.specs.Signals.{Signal, Offered}

@@ -31,12 +31,11 @@ returns-then-are_owed-clause-admits c =
     let new = delivery c.pass_item.new.self (record { items = items; observers = news }) c.give_owed.new.outs.items in
     let fed = c.pass_owed_all.ensures.fed items item in
     let olds = ap (λ (v : AudienceState). v.observers) c.self.view_is in
-    let publishes = c.if-keeps_nothing.true in
+    let publishes = c.keeps_nothing.ensures.0 c.if-keeps_nothing.true in
     item_admitted old new item c.args.at
     (λ is. cc)
     (λ wrote rules H stands. c.pass_item.ensures.stands items item.from (record { from = wrote; text = item.text }) rules H
-    (subst (λ (v : AudienceState). subjects.StandsFor (subject_on v.items c.args.subject.now) rules H) (sym c.self.view_is) stands))
-    (
+    (subst (λ (v : AudienceState). subjects.StandsFor (subject_on v.items c.args.subject.now) rules H) (sym c.self.view_is) stands)) (
       fed.0,
       c.in-Ok.ensures.given
           ∙ ap (λ os. os ++ gifts item (places_of a.subscriptions.items)) c.in_ok-make_room.ensures.items

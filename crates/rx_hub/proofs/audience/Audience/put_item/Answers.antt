@@ -109,8 +109,7 @@ returns-clause-admits c =
     (λ wrote rules H stands.
     let note = Next (record { from = wrote; text = item.text }) in
     subst (λ (xs : List Item). subjects.StandsFor (subject_on xs c.admit_on.new.self) rules (H ▹ (item.from, Emit note c.args.at))) (sym c.pass_all.ensures.items)
-    (c.in-Ok-admit_on.ensures.stands wrote rules H (subst (λ (v : AudienceState). subjects.StandsFor (subject_on v.items c.args.subject.now) rules H) (sym c.self.view_is) stands)))
-    (
+    (c.in-Ok-admit_on.ensures.stands wrote rules H (subst (λ (v : AudienceState). subjects.StandsFor (subject_on v.items c.args.subject.now) rules H) (sym c.self.view_is) stands))) (
       fed.0,
       c.in-Ok.ensures.given c.if-not-fits.false
           ∙ ap (λ os. os ++ gifts item olds) c.in_ok-make_room.ensures.items
@@ -157,7 +156,7 @@ returns-then-not-fits-clause-admits c =
     let By : AudienceState → List Given → Type 0 = λ audience before. Admits (delivery c.args.subject.now audience before) new (of_item item.from item c.args.at) in
     on_ok c.admit_offer.result
     (λ admits.
-    wrote_another (delivery c.args.subject.now c.args.self.now c.args.outs.now.items) new item c.args.at
+    wrote_another (delivery c.args.subject.now c.args.self.now c.args.outs.now.items) new item c.args.at c.requires.open.open_now
     (subst (λ (v : AudienceState). By v c.args.outs.now.items) same
     (subst (λ (before : List Given). By (record { items = a.tape.items; observers = observers_on a.tape.items (places_of c.give_item.new.subscriptions.items) }) before) outs admits)))
     c.admit_offer.ensures.admits

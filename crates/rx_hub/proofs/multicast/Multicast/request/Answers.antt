@@ -45,7 +45,7 @@ taken c port =
     let kept = c.trim.ensures.kept (length subject.stamps) (omega (arith, c.keep-keep.ensures)) stay.0 in
     request_done (state_of old) (subject_on c.trim.new.self.items subject) c.ask.new.self.observers c.trim.new.self.observers c.args.outs.now.items c.ask.new.outs.items
     port c.args.who c.args.n place nobody is.0 is.1 more
-    (few c.args.n _ (λ much. let no = (c.in-Ok.ensures.too_much nobody).1 much in cc) more)
+    (few c.args.n _ (λ much. let no = (c.in-Ok.ensures.refuses nobody).too_much.1 much in cc) more)
     asked c.trim.ensures.observers
     (subject_kept subject c.ask.new.self.items c.trim.new.self.items kept.1 ∙ subject_kept subject old.audience.items c.ask.new.self.items stay.1)
 
@@ -66,12 +66,18 @@ invariant_of-self c =
 pub returns-in-Ok : goal.returns-in-Ok
 returns-in-Ok c port = taken c.before port
 
+-- none were asked for before the audience is
+pub returns-in-Err-ZeroRequest : goal.returns-in-Err-ZeroRequest
+returns-in-Err-ZeroRequest c port =
+    let none = (c.in-Err-ZeroRequest.ensures.refuses nobody).zero.0 (ap Err c.in-Err-ZeroRequest.field-0-is) in
+    absurd (omega (arith, none))
+
 pub returns-in-Err-TooMuch : goal.returns-in-Err-TooMuch
 returns-in-Err-TooMuch c port =
     let old = c.args.self.now in
     let place = c.in-Some.place in
     let is = named old.audience.observers c.args.who place nobody c.in-Some.ensures in
-    let much = (c.in-Err-TooMuch.ensures.too_much nobody).0 (ap Err c.in-Err-TooMuch.field-0-is) in
+    let much = (c.in-Err-TooMuch.ensures.refuses nobody).too_much.0 (ap Err c.in-Err-TooMuch.field-0-is) in
     let same : AudienceState → HubState = λ audience. record (state_of old) { subject = subject_on audience.items old.subject; observers = audience.observers } in
     request_more (state_of old) (same c.ask.new.self) c.args.outs.now.items c.ask.new.outs.items port c.args.who c.args.n place nobody is.0 is.1 much.0 much.1
     (ap same c.in-Err-TooMuch.ensures.err.0) c.in-Err-TooMuch.ensures.err.1
@@ -86,7 +92,7 @@ returns-in-Err-Memory c port =
     record {
       rules = refl;
       took = request_missed (state_of old) (same c.ask.new.self) c.args.outs.now.items c.ask.new.outs.items port c.args.who c.args.n place nobody is.0 is.1 more
-          (few c.args.n _ (λ much. let no = (c.in-Err-Memory.ensures.too_much nobody).1 much in let is_memory = c.in-Err-Memory.field-0-is in cc) more)
+          (few c.args.n _ (λ much. let no = (c.in-Err-Memory.ensures.refuses nobody).too_much.1 much in let is_memory = c.in-Err-Memory.field-0-is in cc) more)
           (ap same c.in-Err-Memory.ensures.err.0) c.in-Err-Memory.ensures.err.1;
     }
 

@@ -1,5 +1,4 @@
-use Rattle.std.proofs.Common.{◌≡◌, ◌++◌, [], List, map, take, ap}
-use Rattle.rx_note.specs.declared.item.Item.{Item}
+use Rattle.std.proofs.Common.{◌++◌, [], map, take, ap}
 use Rattle.rx_note.specs.declared.kind.Kind.{Kind}
 use Rattle.rx_note.specs.declared.note.Note.TheVariants.{Next}
 use Rattle.rx_note.specs.Signals.{Offered}
