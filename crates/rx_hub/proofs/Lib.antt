@@ -4,6 +4,7 @@ pub mod Asking
 pub mod Being
 pub mod Emitting
 pub mod Feeding
+pub mod Idle
 pub mod Joining
 pub mod Leaving
 pub mod Outcomes

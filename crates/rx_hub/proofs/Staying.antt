@@ -20,24 +20,28 @@ pub shown : (items later : List Item) (olds news : List Place) → later ≡ ite
     → ◌≡◌ {A = AudienceState} (record { items = later; observers = observers_on later news }) (record { items = items; observers = observers_on items olds })
 shown items later olds news same same_places = cc
 
--- so is the tape
-pub stays : (tape later : TapeState) (olds news : List Place) → later ≡ tape → news ≡ olds
-    → AllOn tape false olds × Apart olds × Owned tape olds → AllOn later false news × Apart news × Owned later news
-stays tape later olds news same same_places stands =
+-- so is the tape, and of what was made ready something else is known
+pub stays : {I J : Type 0} (tape later : TapeState) (olds news : List Place) → later ≡ tape → news ≡ olds → J
+    → AllOn tape false olds × Apart olds × Owned tape olds × I → AllOn later false news × Apart news × Owned later news × J
+stays tape later olds news same same_places idle stands =
+    let kept =
     subst (λ (t : TapeState). AllOn t false news × Apart news × Owned t news) (sym same)
-    (subst (λ (ps : List Place). AllOn tape false ps × Apart ps × Owned tape ps) (sym same_places) stands)
+    (subst (λ (ps : List Place). AllOn tape false ps × Apart ps × Owned tape ps) (sym same_places) (stands.0, stands.1, stands.2)) in
+    (kept.0, kept.1, kept.2, idle)
 
 -- the tape holds what it held
-pub stays_held : (old new : TapeState) (olds news : List Place) → HoldsSame old new → news ≡ olds
-    → AllOn old false olds × Apart olds × Owned old olds → AllOn new false news × Apart news × Owned new news
-stays_held old new olds news held same_places stands =
+pub stays_held : {I J : Type 0} (old new : TapeState) (olds news : List Place) → HoldsSame old new → news ≡ olds → J
+    → AllOn old false olds × Apart olds × Owned old olds × I → AllOn new false news × Apart news × Owned new news × J
+stays_held old new olds news held same_places idle stands =
     let none : Option ℕ = None in
     let leaves : Leaves old new none = record { front = held.front; items = held.items; others = λ other differ. held.places other } in
+    let kept =
     subst (λ (ps : List Place). AllOn new false ps × Apart ps × Owned new ps) (sym same_places) (
       λ k d lt. unmoved old new false none (get_or olds k d).seat leaves (λ cursor is e. absurd cc) (stands.0 k d lt),
       stands.1,
       λ cursor at is. stands.2 cursor at (sym (held.places cursor) ∙ is),
-    )
+    ) in
+    (kept.0, kept.1, kept.2, idle)
 
 -- an item more on the tape
 pub on_pushed : (tape later : TapeState) (item : Option Item) (olds news : List Place) → later ≡ pushed_all tape (option_to_list item) → news ≡ olds

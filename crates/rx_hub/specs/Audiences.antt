@@ -9,7 +9,7 @@ use Rattle.rx_tape.specs.Tapes as tapes
 use Rattle.rx_lane.specs.Lanes.{MayBeSent}
 use Rattle.rx_hub.specs.declared.seat.Seat.{Seat}
 use Rattle.rx_hub.specs.declared.subscription.Subscription.{Subscription}
-use Rattle.rx_hub.specs.Seats.{lane_of, cursor_of, owing_of, TakesMore, overflows_at, Stands, given_now}
+use Rattle.rx_hub.specs.Seats.{lane_of, cursor_of, owing_of, TakesMore, overflows_at, Stands, given_now, IsIdle, HoldsAside}
 use Rattle.rx_hub.specs.Subscriptions.{Observer}
 
 -- an observer's number and its seat
@@ -32,6 +32,14 @@ observer_on items place = record { who = place.who; lane = lane_of items place.s
 -- the observers at several
 abbrev pub observers_on : List Item → List Place → List Observer
 observers_on items places = map (observer_on items) places
+
+-- nothing is made ready for any of several: so it is between two steps
+abbrev pub AllIdle : List Subscription → Type 0
+AllIdle subscriptions = All (λ subscription. IsIdle subscription.ready) subscriptions
+
+-- at most copies for queues of their own are
+abbrev pub AllAside : List Subscription → Type 0
+AllAside subscriptions = All (λ subscription. HoldsAside subscription.seat subscription.ready) subscriptions
 
 -- each seat stands on the tape
 abbrev pub AllOn : TapeState → Bool → List Place → Type 0

@@ -79,3 +79,18 @@ needed seat (Some item) = copy_needed seat item
 pub record IsReady (offer ready : Offer) (seat : Seat) : Type 0 where
   pub item : ready.item ≡ needed seat offer.item
   pub end : ready.end ≡ offer.end
+
+-- nothing is made ready
+pub record IsIdle (ready : Offer) : Type 0 where
+  pub item : ready.item ≡ None
+  pub end : ready.end ≡ None
+
+-- between the two passes of an item at most a copy for a queue of its own is
+abbrev pub HoldsAside : Seat → Offer → Type 0
+HoldsAside (Shared lane) ready = IsIdle ready
+HoldsAside (Own lane) ready = ready.end ≡ None
+
+-- what a seat leaves of the copy that was made ready for it: a queue of its own takes it
+abbrev pub copy_left : Seat → Option Item → Option Item
+copy_left (Shared lane) copy = copy
+copy_left (Own lane) copy = None

@@ -9,7 +9,6 @@ ghost use Rattle.rx_hub.specs.Audiences.{places_of, observers_on, AllOn, Apart, 
 
 mod emitting;
 
-use crate::passes::forget_all;
 use crate::seat::Seat;
 use crate::subscription::{Subscription, end_by, put};
 use rx_heap::{Heap, Memory};
@@ -38,13 +37,13 @@ impl Drop for Audience {
 
 impl Model for Audience {
     ghost use Rattle.std.specs.Prelude.{false};
-    ghost use Rattle.rx_hub.specs.Audiences.{AudienceState, places_of, observers_on, AllOn, Apart, Owned};
+    ghost use Rattle.rx_hub.specs.Audiences.{AudienceState, places_of, observers_on, AllOn, Apart, Owned, AllIdle};
 
     ghost Value = { AudienceState };
 
     ghost view = { λ a. record { items = a.tape.items; observers = observers_on a.tape.items (places_of a.subscriptions.items) } };
 
-    ghost invariant = { λ a. AllOn a.tape false (places_of a.subscriptions.items) × Apart (places_of a.subscriptions.items) × Owned a.tape (places_of a.subscriptions.items) };
+    ghost invariant = { λ a. AllOn a.tape false (places_of a.subscriptions.items) × Apart (places_of a.subscriptions.items) × Owned a.tape (places_of a.subscriptions.items) × AllIdle a.subscriptions.items };
 }
 
 impl Audience {
@@ -176,14 +175,6 @@ impl Audience {
             ready: _,
         } = self.subscriptions.remove(place);
         seat.close(&mut self.tape);
-    }
-
-    /// Lets go of the copies that a refused emission left with the observers.
-    #[inline(never)]
-    pub(crate) fn forget(&mut self)
-        ensures { self.new ≡ self.old }
-    {
-        forget_all(&mut self.subscriptions);
     }
 
     /// Removes from the tape what no observer waits for, save the last `keep` items.

@@ -112,7 +112,6 @@ impl Multicast {
         }
         let emission = Emission { port, note, at };
         let Ok(()) = self.audience.admit(&mut self.subject, emission, outs) else {
-            self.audience.forget();
             return Err(Refusal::Memory);
         };
         self.audience.trim(self.subject.keep());

@@ -7,7 +7,7 @@ ghost use Rattle.rx_tape.specs.Tapes.{TapeState};
 ghost use Rattle.rx_subject.specs.Offers.{offer_signals, most_given};
 ghost use Rattle.rx_hub.specs.Seats.{IsReady, HoldsCopy};
 ghost use Rattle.rx_hub.specs.Subscriptions.{AllFedInto};
-ghost use Rattle.rx_hub.specs.Audiences.{places_of, observers_on, gifts, AllOn, AllOwed, AllTakeMore, AllFit, Apart, Owned, cursors};
+ghost use Rattle.rx_hub.specs.Audiences.{places_of, observers_on, gifts, AllOn, AllOwed, AllTakeMore, AllFit, AllIdle, AllAside, Apart, Owned, cursors};
 
 use crate::subscription::Subscription;
 use rx_heap::{Heap, Memory};
@@ -124,6 +124,7 @@ pub(crate) fn give_item(
     ensures fits { IfOk result (λ fits. fits ≡ true → AllFit (places_of subscriptions.old.items)) }
     ensures given { IfOk result (λ fits. fits ≡ true → outs.new.items ≡ outs.old.items ++ gifts item.now (places_of subscriptions.old.items)) }
     ensures holds { IfOk result (λ fits. fits ≡ true → All (λ s. HoldsCopy item.now s.ready.item s.seat) subscriptions.new.items) }
+    ensures aside { IfOk result (λ fits. fits ≡ true → AllAside subscriptions.old.items → AllAside subscriptions.new.items) }
     ensures front { take (vec_len outs.old) outs.new.items ≡ outs.old.items }
 {
     for i in 0..subscriptions.len() {
@@ -142,6 +143,7 @@ pub(crate) fn pass_owed_all(subscriptions: &mut Vec<Subscription, Heap>)
     requires open { AllTakeMore (places_of subscriptions.old.items) }
     ensures fed { (items : List Item) (item : Item) → AllFedInto (Offered item ∷ []) (observers_on items (places_of subscriptions.old.items))
         (observers_on items (places_of subscriptions.new.items)) [] (gifts item (places_of subscriptions.old.items)) }
+    ensures idle { AllIdle subscriptions.old.items → AllIdle subscriptions.new.items }
     ensures on { (tape : TapeState) → AllOn tape false (places_of subscriptions.old.items) → AllOn tape false (places_of subscriptions.new.items) }
     ensures cursors { cursors (places_of subscriptions.new.items) ≡ cursors (places_of subscriptions.old.items) }
 {
@@ -159,6 +161,7 @@ pub(crate) fn pass_all(subscriptions: &mut Vec<Subscription, Heap>, tape: &mut T
     ensures fed { (items : List Item) (item : Item) → tape.old.items ≡ items ++ item ∷ [] → All (λ s. HoldsCopy item s.ready.item s.seat) subscriptions.old.items
         → AllFedInto (Offered item ∷ []) (observers_on items (places_of subscriptions.old.items))
         (observers_on tape.new.items (places_of subscriptions.new.items)) [] (gifts item (places_of subscriptions.old.items)) }
+    ensures idle { AllAside subscriptions.old.items → AllIdle subscriptions.new.items }
     ensures on { AllOn tape.new false (places_of subscriptions.new.items) }
     ensures cursors { cursors (places_of subscriptions.new.items) ≡ cursors (places_of subscriptions.old.items) }
     ensures owned { Owned tape.old (places_of subscriptions.old.items) → Owned tape.new (places_of subscriptions.new.items) }
@@ -184,10 +187,24 @@ pub(crate) fn prepare_all(
     Ok(())
 }
 
+// Takes back what the first pass of a refused item put behind the first `before` notes, and what it made ready.
+pub(crate) fn take_back(
+    subscriptions: &mut Vec<Subscription, Heap>,
+    before: usize,
+    outs: &mut Vec<Given, Heap>,
+)
+    ensures places { places_of subscriptions.new.items ≡ places_of subscriptions.old.items }
+    ensures idle { AllIdle subscriptions.new.items }
+    ensures items { outs.new.items ≡ take before outs.old.items }
+{
+    outs.truncate(before);
+    forget_all(subscriptions);
+}
+
 // Lets go of what was made ready for each observer.
 pub(crate) fn forget_all(subscriptions: &mut Vec<Subscription, Heap>)
     ensures places { places_of subscriptions.new.items ≡ places_of subscriptions.old.items }
-    ensures len { vec_len subscriptions.new ≡ vec_len subscriptions.old }
+    ensures idle { AllIdle subscriptions.new.items }
 {
     for i in 0..subscriptions.len() {
         subscriptions[i].forget();
@@ -209,6 +226,7 @@ pub(crate) fn feed_all(
     ensures fed { (items : List Item) → tape.old.items ≡ items ++ option_to_list offer.now.item
         → AllFedInto (offer_signals offer.now) (observers_on items (places_of subscriptions.old.items))
         (observers_on tape.new.items (places_of subscriptions.new.items)) outs.old.items outs.new.items }
+    ensures idle { AllIdle subscriptions.new.items }
     ensures on { AllOn tape.new false (places_of subscriptions.new.items) }
     ensures cursors { cursors (places_of subscriptions.new.items) ≡ cursors (places_of subscriptions.old.items) }
     ensures owned { Owned tape.old (places_of subscriptions.old.items) → Owned tape.new (places_of subscriptions.new.items) }

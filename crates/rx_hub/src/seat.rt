@@ -28,7 +28,7 @@ pub(crate) enum Seat {
 }
 
 impl Seat {
-    ghost use Rattle.rx_hub.specs.Seats.{lane_of, cursor_of, owing_of, Stands, Leaves, TakesMore, HoldsCopy, copy_needed, given_now, needed, overflows_at};
+    ghost use Rattle.rx_hub.specs.Seats.{lane_of, cursor_of, owing_of, Stands, Leaves, TakesMore, HoldsCopy, copy_needed, given_now, needed, overflows_at, copy_left};
 
     /// The seat of an observer that joins with this policy and a request of `first` items, and is then offered `lead`, if
     /// there is one, and the last `back` items of the tape. What it gives at once is put at the end of `outs`. `Memory`
@@ -145,6 +145,7 @@ impl Seat {
         requires fits { overflows_at self.old ≡ false }
         ensures serves { (items : List Item) (item : Item) → tape.old.items ≡ items ++ item ∷ [] → HoldsCopy item copy.old self.old
             → Serves (lane_of items self.old) (lane_of tape.new.items self.new) (Offered item ∷ []) (given_now self.old item) }
+        ensures left { copy.new ≡ copy_left self.old copy.old }
         ensures stands { Stands tape.new false self.new }
         ensures cursor { cursor_of self.new ≡ cursor_of self.old }
         ensures leaves { Leaves tape.old tape.new (cursor_of self.old) }

@@ -6,7 +6,7 @@ ghost use Rattle.rx_history.specs.Histories.{addressed, ended_by};
 ghost use Rattle.rx_lane.specs.Lanes.{RefusesRequest};
 ghost use Rattle.rx_subject.specs.Offers.{offer_signals, most_given};
 ghost use Rattle.rx_hub.specs.declared.seat.Seat.TheVariants.{Own};
-ghost use Rattle.rx_hub.specs.Seats.{lane_of, cursor_of, Stands, Leaves, IsAlone, TakesMore, HoldsCopy, copy_needed, given_now, needed, owing_of, overflows_at, IsReady};
+ghost use Rattle.rx_hub.specs.Seats.{lane_of, cursor_of, Stands, Leaves, IsAlone, TakesMore, HoldsCopy, copy_needed, given_now, needed, owing_of, overflows_at, IsReady, IsIdle, HoldsAside};
 ghost use Rattle.rx_hub.specs.Subscriptions.{Serves, Feeds, FeedsInto, AsksInto};
 
 use crate::seat::Seat;
@@ -30,7 +30,8 @@ impl Subscription {
 
     /// An observer in a seat.
     pub(crate) fn new(who: u32, seat: Seat) -> Subscription
-        ensures { place_of result ≡ record { who = who; seat = seat } }
+        ensures place { place_of result ≡ record { who = who; seat = seat } }
+        ensures idle { IsIdle result.ready }
     {
         Subscription {
             who,
@@ -71,6 +72,7 @@ impl Subscription {
         ensures given { IfOk result (λ fits. fits ≡ true → outs.new.items ≡ outs.old.items ++ addressed self.old.who (given_now self.old.seat item.now)) }
         ensures holds { IfOk result (λ fits. fits ≡ true → HoldsCopy item.now self.new.ready.item self.new.seat) }
         ensures none { IfOk result (λ fits. fits ≡ false → outs.new.items ≡ outs.old.items) }
+        ensures aside { HoldsAside self.old.seat self.old.ready → HoldsAside self.new.seat self.new.ready }
         ensures err { OnErr result (outs.new.items ≡ outs.old.items) }
         ensures len { vec_len outs.new ≤ vec_len outs.old + 1 }
         ensures capacity { vec_capacity outs.new ≡ vec_capacity outs.old }
@@ -94,6 +96,7 @@ impl Subscription {
         requires fits { overflows_at self.old.seat ≡ false }
         ensures fed { (items : List Item) (item : Item) → tape.old.items ≡ items ++ item ∷ [] → HoldsCopy item self.old.ready.item self.old.seat
             → Feeds (observer_on items (place_of self.old)) (observer_on tape.new.items (place_of self.new)) (Offered item ∷ []) (given_now self.old.seat item) }
+        ensures idle { HoldsAside self.old.seat self.old.ready → IsIdle self.new.ready }
         ensures stands { Stands tape.new false self.new.seat }
         ensures cursor { cursor_of self.new.seat ≡ cursor_of self.old.seat }
         ensures leaves { Leaves tape.old tape.new (cursor_of self.old.seat) }
@@ -107,6 +110,7 @@ impl Subscription {
         requires owed { 0 < owing_of self.old.seat }
         requires open { TakesMore self.old.seat }
         ensures fed { (items : List Item) (item : Item) → Feeds (observer_on items (place_of self.old)) (observer_on items (place_of self.new)) (Offered item ∷ []) (given_now self.old.seat item) }
+        ensures ready { self.new.ready ≡ self.old.ready }
         ensures stands { (tape : TapeState) → Stands tape false self.old.seat → Stands tape false self.new.seat }
         ensures cursor { cursor_of self.new.seat ≡ cursor_of self.old.seat }
     {
@@ -125,7 +129,8 @@ impl Subscription {
 
     /// Lets go of what was made ready.
     pub(crate) fn forget(&mut self)
-        ensures { place_of self.new ≡ place_of self.old }
+        ensures place { place_of self.new ≡ place_of self.old }
+        ensures idle { IsIdle self.new.ready }
     {
         self.ready.item = None;
         self.ready.end = None;
@@ -140,6 +145,7 @@ impl Subscription {
         requires room { vec_len outs.old + most_given offer.now ≤ vec_capacity outs.old }
         ensures fed { (items : List Item) → tape.old.items ≡ items ++ option_to_list offer.now.item
             → FeedsInto (observer_on items (place_of self.old)) (observer_on tape.new.items (place_of self.new)) (offer_signals offer.now) outs.old.items outs.new.items }
+        ensures idle { IsIdle self.new.ready }
         ensures stands { Stands tape.new false self.new.seat }
         ensures cursor { cursor_of self.new.seat ≡ cursor_of self.old.seat }
         ensures leaves { Leaves tape.old tape.new (cursor_of self.old.seat) }
@@ -164,6 +170,7 @@ impl Subscription {
         requires { Stands tape.old false self.old.seat }
         ensures refuses { RefusesRequest (lane_of tape.old.items self.old.seat).owing n result }
         ensures err { OnErr result ((observer_on tape.new.items (place_of self.new) ≡ observer_on tape.old.items (place_of self.old)) × (outs.new.items ≡ outs.old.items)) }
+        ensures ready { self.new.ready ≡ self.old.ready }
         ensures asked { OnOk result (AsksInto (observer_on tape.old.items (place_of self.old)) (observer_on tape.new.items (place_of self.new)) n outs.old.items outs.new.items) }
         ensures stands { Stands tape.new false self.new.seat }
         ensures cursor { cursor_of self.new.seat ≡ cursor_of self.old.seat }
@@ -188,6 +195,7 @@ impl Subscription {
         requires alone { IsAlone tape.old (cursor_of self.old.seat) }
         ensures refuses { RefusesRequest (lane_of tape.old.items self.old.seat).owing n result }
         ensures err { OnErr result ((observer_on tape.new.items (place_of self.new) ≡ observer_on tape.old.items (place_of self.old)) × (tape.new.items ≡ tape.old.items) × (outs.new.items ≡ outs.old.items)) }
+        ensures ready { self.new.ready ≡ self.old.ready }
         ensures asked { OnOk result (AsksInto (observer_on tape.old.items (place_of self.old)) (observer_on tape.new.items (place_of self.new)) n outs.old.items outs.new.items) }
         ensures stands { Stands tape.new false self.new.seat }
         ensures cursor { cursor_of self.new.seat ≡ cursor_of self.old.seat }

@@ -9,7 +9,8 @@ ghost use Rattle.rx_hub.specs.Emissions.{IsOpen, StaysAs, Admits, delivery, of_i
 use crate::audience::Audience;
 use crate::emission::Emission;
 use crate::passes::{
-    are_owed, feed_all, give_item, give_owed, make_room, pass_all, pass_owed_all, prepare_all,
+    are_owed, feed_all, forget_all, give_item, give_owed, make_room, pass_all, pass_owed_all,
+    prepare_all, take_back,
 };
 use rx_heap::{Heap, Memory};
 use rx_note::{Given, Item, Note};
@@ -105,17 +106,17 @@ impl Audience {
         let before = outs.len();
         make_room(outs, self.subscriptions.len())?;
         let Ok(fits) = give_item(&mut self.subscriptions, &item, outs) else {
-            outs.truncate(before);
+            take_back(&mut self.subscriptions, before, outs);
             return Err(Memory);
         };
         if !fits {
-            outs.truncate(before);
+            take_back(&mut self.subscriptions, before, outs);
             let port = item.from;
             let note = Note::Next(item);
             return self.admit_offer(subject, Emission { port, note, at }, outs);
         }
         let Ok(()) = subject.admit_on(item, at, &mut self.tape) else {
-            outs.truncate(before);
+            take_back(&mut self.subscriptions, before, outs);
             return Err(Memory);
         };
         pass_all(&mut self.subscriptions, &mut self.tape);
@@ -158,9 +159,13 @@ impl Audience {
             return Err(Memory);
         };
         outs.reserve(most)?;
-        prepare_all(&mut self.subscriptions, offer)?;
+        let Ok(()) = prepare_all(&mut self.subscriptions, offer) else {
+            forget_all(&mut self.subscriptions);
+            return Err(Memory);
+        };
         let Emission { port, note, at } = emission;
         let Ok(()) = subject.admit_offered(port, note, at, &mut self.tape) else {
+            forget_all(&mut self.subscriptions);
             return Err(Memory);
         };
         feed_all(&mut self.subscriptions, offer, &mut self.tape, outs);

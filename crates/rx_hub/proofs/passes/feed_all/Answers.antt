@@ -1,10 +1,11 @@
 use Rattle.std.proofs.Common.{◌≡◌, ℕ, suc, ◌<◌, ◌+◌, ◌-◌, ◌*◌, List, [], length, take, get_or, set, is_some, refl, sym, ap, subst, ◌∙◌, append-nil, vec_len, arith}
 use Rattle.std.proofs.Math.Nat.{suc-mul}
 use Rattle.std.proofs.lemmas.List.{take_all, length-map, map-set}
+use Rattle.std.proofs.lemmas.List.Elements.{AllWithin-more_set}
 use Rattle.rx_note.specs.declared.item.Item.{Item}
 use Rattle.rx_subject.specs.Offers.{offer_signals, most_given}
 use Rattle.rx_hub.specs.declared.subscription.Subscription.{Subscription}
-use Rattle.rx_hub.specs.Seats.{Stands, TakesMore, IsReady}
+use Rattle.rx_hub.specs.Seats.{Stands, TakesMore, IsReady, IsIdle}
 use Rattle.rx_hub.specs.Subscriptions.{Observer, FeedsInto, AllFedInto}
 use Rattle.rx_hub.specs.Audiences.{Place, place_of, places_of, observer_on, observers_on}
 use Rattle.rx_hub.specs.Audiences as audiences
@@ -21,6 +22,7 @@ pub loop-i-init : goal.loop-i-init
 loop-i-init c = record {
   rest = refl;
   fed = λ items tape_is. ([], sym (append-nil c.args.outs.now.items), refl);
+  idle = λ k d low high. absurd (omega (arith, high));
   turning = record {
     done = λ k d low high. absurd (omega (arith, low, high));
     left = λ k d low high. c.requires.on k d high;
@@ -89,6 +91,7 @@ loop-i-preserved c =
           fed-more (offer_signals offer) items c.args.tape.now.items olds news i c.args.outs.now.items c.loop-i.outs.items c.feed.new.outs.items old new was.rest
           (omega (arith, was.len)) (omega (arith, was.len)) c.index_mut.ensures.value (was.fed items tape_is)
           (subst Gives items_are (c.feed.ensures.fed items (was.items ∙ tape_is)));
+      idle = AllWithin-more_set news i new lt (λ (s : Subscription). IsIdle s.ready) was.idle c.feed.ensures.idle;
       turning = subst (λ (ps : List Place). Turning c.feed.new.tape (is_some offer.item) ps (i + 1)) (sym sets)
           (Turning-more c.loop-i.tape c.feed.new.tape (is_some offer.item) (places_of news) i (place_of old) (place_of new) was.turning
           (apart_same (places_of olds) (places_of news) was.cursors c.requires.apart) within at c.feed.ensures.leaves c.feed.ensures.stands);
@@ -118,6 +121,9 @@ returns-clause-fed c = λ items tape_is.
     subst (λ (ns : List Observer). Fed (observers_on items (places_of olds)) ns)
     (ap (λ ss. observers_on c.args.tape.now.items (places_of ss)) all_news ∙ ap (λ (xs : List Item). observers_on xs (places_of news)) (sym was.items))
     (subst (λ (os : List Observer). Fed os (observers_on c.args.tape.now.items (places_of (take i news)))) (ap (λ ss. observers_on items (places_of ss)) all_olds) (was.fed items tape_is))
+
+pub returns-clause-idle : goal.returns-clause-idle
+returns-clause-idle c = λ k d lt. c.loop-i.invariant.idle k d (omega arith) (omega (arith, lt))
 
 pub returns-clause-on : goal.returns-clause-on
 returns-clause-on c = λ k d lt.

@@ -4,10 +4,10 @@ use Rattle.std.proofs.lemmas.Bool.{cases_lt}
 use Rattle.std.proofs.lemmas.List.{get_or_default}
 use Rattle.std.proofs.Math.Seq.{map-set_same, take-length}
 use Rattle.std.proofs.lemmas.List.{length-map}
-use Rattle.std.proofs.lemmas.List.Elements.{AllWithin-more_set}
+use Rattle.std.proofs.lemmas.List.Elements.{All-set, AllWithin-more_set}
 use Rattle.rx_history.specs.Histories.{addressed}
 use Rattle.rx_hub.specs.declared.subscription.Subscription.{Subscription}
-use Rattle.rx_hub.specs.Seats.{HoldsCopy, overflows_at, given_now}
+use Rattle.rx_hub.specs.Seats.{HoldsCopy, HoldsAside, overflows_at, given_now}
 use Rattle.rx_hub.specs.Audiences.{Place, place_of, places_of, gifts}
 use Rattle.rx_hub.proofs.Feeding.{gifts-more, front_of}
 use Rattle.rx_hub.proofs.Places.{place-at}
@@ -57,6 +57,10 @@ loop-i-preserved c =
           ∙ append_assoc before (gifts item (take i places)) gift
           ∙ ap (λ gs. before ++ gs) (sym (gifts-more item places i (place_of one) within at));
       holds = AllWithin-more_set subs i c.give_now.new.self lt (λ (s : Subscription). HoldsCopy item s.ready.item s.seat) was.holds (c.in_ok-fits.ensures.holds fits);
+      aside = λ all.
+          let Aside : Subscription → Type 0 = λ s. HoldsAside s.seat s.ready in
+          let here = subst Aside (sym c.index_mut.ensures.value) (was.aside all i one lt) in
+          All-set Aside subs i c.give_now.new.self (c.give_now.ensures.aside here) (was.aside all);
       room = omega (arith, c.give_now.ensures.len, c.give_now.ensures.capacity, was.room, was.len);
     }
 
@@ -68,6 +72,7 @@ loop-i-init c =
       fits = λ k d low high. absurd (omega (arith, high));
       given = sym (append-nil c.args.outs.now.items);
       holds = λ k d low high. absurd (omega (arith, high));
+      aside = λ all. all;
       room = omega (arith, c.requires);
     }
 
@@ -90,6 +95,9 @@ returns-clause-given c = λ fits.
     let places = places_of subs.items in
     let all : c.loop-i.i ≡ length places = omega (arith, subs.ok.0, length-map subs.items place_of) in
     c.loop-i.invariant.given ∙ ap (λ ps. c.args.outs.now.items ++ gifts c.args.item.now ps) (all_of c.loop-i.i places all)
+
+pub returns-clause-aside : goal.returns-clause-aside
+returns-clause-aside c = λ fits all. c.loop-i.invariant.aside all
 
 pub returns-clause-holds : goal.returns-clause-holds
 returns-clause-holds c =

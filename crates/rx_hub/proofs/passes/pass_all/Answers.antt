@@ -1,10 +1,11 @@
 use Rattle.std.proofs.Common.{◌≡◌, ◌<◌, ◌+◌, ◌∷◌, [], List, length, take, get_or, set, true, false, refl, sym, ap, subst, ◌∙◌, arith}
 use Rattle.std.proofs.lemmas.List.{take_all, length-map, map-set}
+use Rattle.std.proofs.lemmas.List.Elements.{AllWithin-more_set}
 use Rattle.rx_note.specs.declared.given.Given.{Given}
 use Rattle.rx_note.specs.declared.item.Item.{Item}
 use Rattle.rx_note.specs.Signals.{Offered}
 use Rattle.rx_hub.specs.declared.subscription.Subscription.{Subscription}
-use Rattle.rx_hub.specs.Seats.{Stands, TakesMore, overflows_at, HoldsCopy, given_now}
+use Rattle.rx_hub.specs.Seats.{Stands, TakesMore, overflows_at, HoldsCopy, HoldsAside, IsIdle, given_now}
 use Rattle.rx_hub.specs.Subscriptions.{Observer, Feeds, FeedsInto, AllFedInto}
 use Rattle.rx_hub.specs.Audiences.{Place, place_of, places_of, observer_on, observers_on, gifts}
 use Rattle.rx_hub.specs.Audiences as audiences
@@ -17,6 +18,7 @@ pub loop-i-init : goal.loop-i-init
 loop-i-init c = record {
   rest = refl;
   fed = λ items item tape_is holds. ([], refl, refl);
+  idle = λ aside k d low high. absurd (omega (arith, high));
   turning = record {
     done = λ k d low high. absurd (omega (arith, low, high));
     left = λ k d low high. c.requires.on k d high;
@@ -84,6 +86,9 @@ loop-i-preserved c =
           ) in
           fed-more (Offered item ∷ []) items c.args.tape.now.items olds news i [] (gifts item (take i (places_of olds))) (gifts item (take (i + 1) (places_of olds))) old new was.rest
           lt_old (omega (arith, was.len)) c.index_mut.ensures.value (was.fed items item tape_is holds) gives;
+      idle = λ aside.
+          let here = subst (λ (s : Subscription). HoldsAside s.seat s.ready) (sym is_old) (aside i old lt_old) in
+          AllWithin-more_set news i new lt (λ (s : Subscription). IsIdle s.ready) (was.idle aside) (c.pass.ensures.idle here);
       turning = subst (λ (ps : List Place). Turning c.pass.new.tape true ps (i + 1)) (sym sets)
           (Turning-more c.loop-i.tape c.pass.new.tape true (places_of news) i (place_of old) (place_of new) was.turning
           (apart_same (places_of olds) (places_of news) was.cursors c.requires.apart) within at c.pass.ensures.leaves c.pass.ensures.stands);
@@ -110,6 +115,9 @@ returns-clause-fed c = λ items item tape_is holds.
     (subst (λ (ns : List Observer). Fed (observers_on items (places_of olds)) ns (gifts item (take i (places_of olds))))
     (ap (λ ss. observers_on c.args.tape.now.items (places_of ss)) all_news ∙ ap (λ (xs : List Item). observers_on xs (places_of news)) (sym was.items))
     (subst (λ (os : List Observer). Fed os (observers_on c.args.tape.now.items (places_of (take i news))) (gifts item (take i (places_of olds)))) (ap (λ ss. observers_on items (places_of ss)) all_olds) (was.fed items item tape_is holds)))
+
+pub returns-clause-idle : goal.returns-clause-idle
+returns-clause-idle c = λ aside k d lt. c.loop-i.invariant.idle aside k d (omega arith) (omega (arith, lt))
 
 pub returns-clause-on : goal.returns-clause-on
 returns-clause-on c = λ k d lt.

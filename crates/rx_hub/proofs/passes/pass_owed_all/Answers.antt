@@ -8,6 +8,7 @@ use Rattle.rx_hub.specs.Subscriptions.{Observer, FeedsInto, AllFedInto}
 use Rattle.rx_hub.specs.Audiences.{Place, place_of, places_of, observer_on, observers_on, gifts}
 use Rattle.rx_hub.specs.Audiences as audiences
 use Rattle.rx_hub.proofs.Feeding.{still-at, rest-more, fed-more, gifts-more}
+use Rattle.rx_hub.proofs.Idle.{idle_set}
 use Rattle.rx_hub.proofs.Places.{place-at, set_cursors}
 use Rattle.rx_hub.proofs.passes.pass_owed_all.Goals as goal
 
@@ -15,6 +16,7 @@ pub loop-i-init : goal.loop-i-init
 loop-i-init c = record {
   rest = refl;
   fed = λ items item. ([], refl, refl);
+  idle = λ idle. idle;
   on = λ tape on. on;
   cursors = refl;
   len = refl;
@@ -66,6 +68,7 @@ loop-i-preserved c =
           ) in
           fed-more (Offered item ∷ []) items items olds news i [] (gifts item (take i (places_of olds))) (gifts item (take (i + 1) (places_of olds))) old new was.rest
           lt_old (omega (arith, was.len)) c.index_mut.ensures.value (was.fed items item) gives;
+      idle = λ idle. idle_set news i old new lt c.index_mut.ensures.value c.pass_owed.ensures.ready (was.idle idle);
       on = λ tape on.
           let all = was.on tape on in
           let here = subst (λ (p : Place). Stands tape false p.seat) (sym at) (all i (place_of old) within) in

@@ -18,7 +18,7 @@ invariant_of-self c =
     let olds = places_of a.subscriptions.items in
     let news = places_of c.pass_owed_all.new.subscriptions.items in
     let same : audiences.cursors news ≡ audiences.cursors olds = c.pass_owed_all.ensures.cursors in
-    (c.pass_owed_all.ensures.on a.tape c.self.invariant.0, apart_same olds news same c.self.invariant.1, owned_same a.tape olds news same c.self.invariant.2)
+    (c.pass_owed_all.ensures.on a.tape c.self.invariant.0, apart_same olds news same c.self.invariant.1, owned_same a.tape olds news same c.self.invariant.2, c.pass_owed_all.ensures.idle c.self.invariant.3)
 
 pub returns-then-are_owed-clause-admits : goal.returns-then-are_owed-clause-admits
 returns-then-are_owed-clause-admits c =

@@ -6,6 +6,7 @@ use Rattle.rx_hub.specs.Seats.{Stands}
 use Rattle.rx_hub.specs.Subscriptions.{Observer, AsksInto, AsksAt}
 use Rattle.rx_hub.specs.Audiences.{AudienceState, Place, AllOn, Apart, Owned, place_of, places_of, observer_on, observers_on}
 use Rattle.rx_hub.proofs.Alone.{alone, owned_alone, alone_on, alone_observers}
+use Rattle.rx_hub.proofs.Idle.{idle_set}
 use Rattle.rx_hub.proofs.Outcomes.{on_ok, on_err}
 use Rattle.rx_hub.proofs.Places.{observers-length, place-at, observer-at, set_cursors, set_unchanged, apart_same}
 use Rattle.rx_hub.proofs.audience.Audience.ask_alone.Goals as goal
@@ -53,6 +54,7 @@ invariant_of-self c =
       subst (λ (ps : List Place). Apart ps) (sym sets)
           (apart_same (places_of subs) (set (places_of subs) k (place_of new)) (set_cursors (places_of subs) k (place_of old) (place_of new) at c.ask_alone.ensures.cursor) c.self.invariant.1),
       subst (λ (ps : List Place). Owned tape ps) (sym sets) (owned_alone tape (places_of subs) k (place_of new) single inside c.ask_alone.ensures.alone),
+      idle_set subs k old new lt c.index_mut.ensures.value c.ask_alone.ensures.ready c.self.invariant.3,
     )
 
 pub returns-clause-refuses : goal.returns-clause-refuses

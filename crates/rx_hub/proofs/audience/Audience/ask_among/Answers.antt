@@ -6,6 +6,7 @@ use Rattle.rx_hub.specs.Seats.{Stands}
 use Rattle.rx_hub.specs.Subscriptions.{Observer, AsksInto}
 use Rattle.rx_hub.specs.Audiences.{AudienceState, Place, AllOn, Apart, cursors, place_of, places_of, observer_on, observers_on}
 use Rattle.rx_hub.specs.Subscriptions.{AsksInto, AsksAt}
+use Rattle.rx_hub.proofs.Idle.{idle_set}
 use Rattle.rx_hub.proofs.Outcomes.{on_ok, on_err}
 use Rattle.rx_hub.proofs.Places.{observers-length, place-at, observer-at, set_on, set_cursors, set_observers, set_unchanged, apart_same}
 use Rattle.rx_hub.proofs.Tight.{owned_moved, owned_same}
@@ -37,6 +38,7 @@ invariant_of-self c =
           (apart_same (places_of subs) (set (places_of subs) k (place_of new)) (set_cursors (places_of subs) k (place_of old) (place_of new) at c.ask.ensures.cursor) c.self.invariant.1),
       owned_same c.ask.new.tape (places_of subs) (places_of (set subs k new)) (ap cursors sets ∙ set_cursors (places_of subs) k (place_of old) (place_of new) at c.ask.ensures.cursor)
           (owned_moved a.tape c.ask.new.tape (places_of subs) k (place_of old) (omega (arith, lt, length-map subs place_of)) at c.ask.ensures.leaves c.self.invariant.2),
+      idle_set subs k old new lt c.index_mut.ensures.value c.ask.ensures.ready c.self.invariant.3,
     )
 
 pub returns-clause-refuses : goal.returns-clause-refuses

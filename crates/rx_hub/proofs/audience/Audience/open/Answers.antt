@@ -8,7 +8,8 @@ use Rattle.rx_subject.specs.TapeSubjects.{subject_on}
 use Rattle.rx_tape.specs.Tapes.{waits}
 use Rattle.rx_hub.specs.Seats.{lane_of, cursor_of, Stands, Leaves}
 use Rattle.rx_hub.specs.Subscriptions.{Begins, Serves}
-use Rattle.rx_hub.specs.Audiences.{AudienceState, Place, AllOn, Apart, Owned, place_of, places_of, observer_on, observers_on}
+use Rattle.rx_hub.specs.Audiences.{AudienceState, Place, AllOn, AllIdle, Apart, Owned, place_of, places_of, observer_on, observers_on}
+use Rattle.rx_hub.proofs.Idle.{idle_more}
 use Rattle.rx_hub.proofs.Seats.{leaves_then}
 use Rattle.rx_hub.proofs.Serving.{begins_then, given-then}
 use Rattle.rx_hub.proofs.Places.{joined_on, joined_apart}
@@ -23,15 +24,17 @@ invariant_of-self-2 c =
     let made = c.in_ok-seat.ensures in
     let later = c.end_by-last.new.tape in
     let one = place_of c.new.result in
-    let same = ap (λ (p : Place). cursor_of p.seat) c.new.ensures ∙ c.end_by-last.ensures.cursor in
+    let same = ap (λ (p : Place). cursor_of p.seat) c.new.ensures.place ∙ c.end_by-last.ensures.cursor in
     let fresh = λ (cursor : ℕ) (is : cursor_of one.seat ≡ Some cursor). made.fresh cursor (sym same ∙ is) in
     let leaves = subst (λ moved. Leaves a.tape later moved) (sym same) (leaves_then a.tape c.open.new.tape later (cursor_of c.in_ok-seat.seat) made.leaves c.end_by-last.ensures.leaves) in
-    let stands = subst (λ (p : Place). Stands later false p.seat) (sym c.new.ensures) c.end_by-last.ensures.stands in
+    let stands = subst (λ (p : Place). Stands later false p.seat) (sym c.new.ensures.place) c.end_by-last.ensures.stands in
     let more : places_of c.push_reserved.new.self.items ≡ places_of subs ++ one ∷ [] =
     ap places_of (c.push_reserved.ensures.items ∙ ap (λ xs. xs ++ c.new.result ∷ []) c.in_ok-reserve-2.ensures.items) ∙ map-append place_of subs (c.new.result ∷ []) in (
       subst (λ (ps : List Place). AllOn later false ps) (sym more) (joined_on a.tape later (places_of subs) one fresh leaves stands c.self.invariant.0),
       subst (λ (ps : List Place). Apart ps) (sym more) (joined_apart a.tape (places_of subs) one fresh c.self.invariant.0 c.self.invariant.1),
       subst (λ (ps : List Place). Owned later ps) (sym more) (owned_joined a.tape later (places_of subs) one leaves c.self.invariant.2),
+      subst AllIdle (sym (c.push_reserved.ensures.items ∙ ap (λ xs. xs ++ c.new.result ∷ []) c.in_ok-reserve-2.ensures.items))
+          (idle_more subs c.new.result c.new.ensures.idle c.self.invariant.3),
     )
 
 pub returns-clause-joins : goal.returns-clause-joins
@@ -60,7 +63,7 @@ returns-clause-joins c =
           ap (λ xs. observers_on later.items (places_of xs)) (c.push_reserved.ensures.items ∙ ap (λ xs. xs ++ c.new.result ∷ []) c.in_ok-reserve-2.ensures.items)
           ∙ ap (observers_on later.items) (map-append place_of subs (c.new.result ∷ []))
           ∙ map-append (observer_on later.items) (places_of subs) (place_of c.new.result ∷ [])
-          ∙ ap (λ (p : Place). observers_on later.items (places_of subs) ++ observer_on later.items p ∷ []) c.new.ensures
+          ∙ ap (λ (p : Place). observers_on later.items (places_of subs) ++ observer_on later.items p ∷ []) c.new.ensures.place
           ∙ ap (λ (xs : List Item). observers_on xs (places_of subs) ++ observer_on later.items one ∷ []) leaves.items
           ∙ ap (λ (v : AudienceState). v.observers ++ observer_on later.items one ∷ []) c.self.view_is;
       opens = λ rules H stands.
@@ -89,7 +92,8 @@ returns-in_err-reserve-clause-err c = on_err_known c.from_residual-in_err-reserv
 pub invariant_of-self : goal.invariant_of-self
 invariant_of-self c =
     let a = c.self.inside in
-    stays a.tape a.tape (places_of a.subscriptions.items) (places_of c.reserve-2.new.self.items) refl (ap places_of c.in_err-reserve-2.ensures.items) c.self.invariant
+    stays a.tape a.tape (places_of a.subscriptions.items) (places_of c.reserve-2.new.self.items) refl (ap places_of c.in_err-reserve-2.ensures.items)
+    (subst AllIdle (sym c.in_err-reserve-2.ensures.items) c.self.invariant.3) c.self.invariant
 
 pub returns-in_err-reserve-2-clause-err : goal.returns-in_err-reserve-2-clause-err
 returns-in_err-reserve-2-clause-err c =
@@ -107,7 +111,7 @@ pub invariant_of-self-in_err-seat : goal.invariant_of-self-in_err-seat
 invariant_of-self-in_err-seat c =
     let a = c.self.inside in
     stays_held a.tape c.open.new.tape (places_of a.subscriptions.items) (places_of c.reserve-2.new.self.items) c.in_err-seat.ensures.err.0
-    (ap places_of c.in_ok-reserve-2.ensures.items) c.self.invariant
+    (ap places_of c.in_ok-reserve-2.ensures.items) (subst AllIdle (sym c.in_ok-reserve-2.ensures.items) c.self.invariant.3) c.self.invariant
 
 pub returns-in_err-seat-clause-err : goal.returns-in_err-seat-clause-err
 returns-in_err-seat-clause-err c =

@@ -14,6 +14,7 @@ use Rattle.rx_hub.specs.Audiences as audiences
 use Rattle.rx_hub.specs.Emissions.{delivery, IsOpen, Admits, of_item}
 use Rattle.rx_hub.proofs.Admitting.{item_admitted, wrote_another}
 use Rattle.rx_hub.proofs.Being.{seats_take_more}
+use Rattle.rx_hub.proofs.Idle.{all_aside}
 use Rattle.rx_hub.proofs.Outcomes.{on_ok, on_err}
 use Rattle.rx_hub.proofs.Places.{apart_same}
 use Rattle.rx_hub.proofs.Staying.{on_err_known, shown, stays, on_pushed}
@@ -31,6 +32,7 @@ invariant_of-self-2 c =
       c.pass_all.ensures.on,
       apart_same olds news (c.pass_all.ensures.cursors ∙ same_made) c.self.invariant.1,
       c.pass_all.ensures.owned (subst (λ (tape : TapeState). Owned tape made) (sym c.in-Ok-admit_on.ensures.tape) owned),
+      c.pass_all.ensures.idle (c.in-Ok.ensures.aside c.if-not-fits.false (all_aside a.subscriptions.items c.self.invariant.3)),
     )
 
 pub returns-in_err-make_room-clause-err : goal.returns-in_err-make_room-clause-err
@@ -39,16 +41,19 @@ returns-in_err-make_room-clause-err c = on_err_known c.from_residual.result (rec
 pub invariant_of-self : goal.invariant_of-self
 invariant_of-self c =
     let a = c.self.inside in
-    stays a.tape a.tape (places_of a.subscriptions.items) (places_of c.give_item.new.subscriptions.items) refl c.in_default.ensures.places c.self.invariant
+    stays a.tape a.tape (places_of a.subscriptions.items) (places_of c.take_back.new.subscriptions.items) refl (c.take_back.ensures.places ∙ c.in_default.ensures.places)
+    c.take_back.ensures.idle c.self.invariant
 
 pub returns-in_default-clause-err : goal.returns-in_default-clause-err
 returns-in_default-clause-err c =
     let a = c.self.inside in
     record {
       subject = refl;
-      audience = shown a.tape.items a.tape.items (places_of a.subscriptions.items) (places_of c.give_item.new.subscriptions.items) refl c.in_default.ensures.places ∙ c.self.view_is;
+      audience =
+          shown a.tape.items a.tape.items (places_of a.subscriptions.items) (places_of c.take_back.new.subscriptions.items) refl (c.take_back.ensures.places ∙ c.in_default.ensures.places)
+          ∙ c.self.view_is;
       given =
-          c.truncate.ensures.items
+          c.take_back.ensures.items
           ∙ ap (λ (n : ℕ). take n c.give_item.new.outs.items) (c.len-before.ensures ∙ sym c.in_ok-make_room.ensures.len)
           ∙ c.in_default.ensures.front
           ∙ c.in_ok-make_room.ensures.items;
@@ -61,8 +66,8 @@ admit_on-requires-clause-stamps c =
 pub invariant_of-self-in_default-admit_on : goal.invariant_of-self-in_default-admit_on
 invariant_of-self-in_default-admit_on c =
     let a = c.self.inside in
-    stays a.tape c.admit_on.new.tape (places_of a.subscriptions.items) (places_of c.give_item.new.subscriptions.items)
-    c.in_default-admit_on.ensures.err.1 c.in-Ok.ensures.places c.self.invariant
+    stays a.tape c.admit_on.new.tape (places_of a.subscriptions.items) (places_of c.take_back-in_default-admit_on.new.subscriptions.items)
+    c.in_default-admit_on.ensures.err.1 (c.take_back-in_default-admit_on.ensures.places ∙ c.in-Ok.ensures.places) c.take_back-in_default-admit_on.ensures.idle c.self.invariant
 
 pub returns-in_default-admit_on-clause-err : goal.returns-in_default-admit_on-clause-err
 returns-in_default-admit_on-clause-err c =
@@ -71,11 +76,11 @@ returns-in_default-admit_on-clause-err c =
     record {
       subject = err.0;
       audience =
-          shown a.tape.items c.admit_on.new.tape.items (places_of a.subscriptions.items) (places_of c.give_item.new.subscriptions.items)
-          (ap (λ (t : TapeState). t.items) err.1) c.in-Ok.ensures.places
+          shown a.tape.items c.admit_on.new.tape.items (places_of a.subscriptions.items) (places_of c.take_back-in_default-admit_on.new.subscriptions.items)
+          (ap (λ (t : TapeState). t.items) err.1) (c.take_back-in_default-admit_on.ensures.places ∙ c.in-Ok.ensures.places)
           ∙ c.self.view_is;
       given =
-          c.truncate-in_default-admit_on.ensures.items
+          c.take_back-in_default-admit_on.ensures.items
           ∙ ap (λ (n : ℕ). take n c.give_item.new.outs.items) (c.len-before.ensures ∙ sym c.in_ok-make_room.ensures.len)
           ∙ c.in-Ok.ensures.front
           ∙ c.in_ok-make_room.ensures.items;
@@ -128,15 +133,15 @@ pass_all-requires-clause-open c =
 pub admit_offer-requires : goal.admit_offer-requires
 admit_offer-requires c =
     let a = c.self.inside in
-    let same = shown a.tape.items a.tape.items (places_of a.subscriptions.items) (places_of c.give_item.new.subscriptions.items) refl c.in-Ok.ensures.places ∙ c.self.view_is in
+    let same = shown a.tape.items a.tape.items (places_of a.subscriptions.items) (places_of c.take_back-then-not-fits.new.subscriptions.items) refl (c.take_back-then-not-fits.ensures.places ∙ c.in-Ok.ensures.places) ∙ c.self.view_is in
     subst (λ (v : AudienceState). IsOpen c.args.subject.now v) (sym same) c.requires.open
 
 pub returns-then-not-fits-clause-err : goal.returns-then-not-fits-clause-err
 returns-then-not-fits-clause-err c =
     let a = c.self.inside in
-    let same = shown a.tape.items a.tape.items (places_of a.subscriptions.items) (places_of c.give_item.new.subscriptions.items) refl c.in-Ok.ensures.places ∙ c.self.view_is in
+    let same = shown a.tape.items a.tape.items (places_of a.subscriptions.items) (places_of c.take_back-then-not-fits.new.subscriptions.items) refl (c.take_back-then-not-fits.ensures.places ∙ c.in-Ok.ensures.places) ∙ c.self.view_is in
     let outs =
-    c.truncate-then-not-fits.ensures.items
+    c.take_back-then-not-fits.ensures.items
     ∙ ap (λ (n : ℕ). take n c.give_item.new.outs.items) (c.len-before.ensures ∙ sym c.in_ok-make_room.ensures.len)
     ∙ c.in-Ok.ensures.front
     ∙ c.in_ok-make_room.ensures.items in
@@ -146,9 +151,9 @@ pub returns-then-not-fits-clause-admits : goal.returns-then-not-fits-clause-admi
 returns-then-not-fits-clause-admits c =
     let a = c.self.inside in
     let item = c.args.item in
-    let same = shown a.tape.items a.tape.items (places_of a.subscriptions.items) (places_of c.give_item.new.subscriptions.items) refl c.in-Ok.ensures.places ∙ c.self.view_is in
+    let same = shown a.tape.items a.tape.items (places_of a.subscriptions.items) (places_of c.take_back-then-not-fits.new.subscriptions.items) refl (c.take_back-then-not-fits.ensures.places ∙ c.in-Ok.ensures.places) ∙ c.self.view_is in
     let outs =
-    c.truncate-then-not-fits.ensures.items
+    c.take_back-then-not-fits.ensures.items
     ∙ ap (λ (n : ℕ). take n c.give_item.new.outs.items) (c.len-before.ensures ∙ sym c.in_ok-make_room.ensures.len)
     ∙ c.in-Ok.ensures.front
     ∙ c.in_ok-make_room.ensures.items in
@@ -158,5 +163,5 @@ returns-then-not-fits-clause-admits c =
     (λ admits.
     wrote_another (delivery c.args.subject.now c.args.self.now c.args.outs.now.items) new item c.args.at c.requires.open.open_now
     (subst (λ (v : AudienceState). By v c.args.outs.now.items) same
-    (subst (λ (before : List Given). By (record { items = a.tape.items; observers = observers_on a.tape.items (places_of c.give_item.new.subscriptions.items) }) before) outs admits)))
+    (subst (λ (before : List Given). By (record { items = a.tape.items; observers = observers_on a.tape.items (places_of c.take_back-then-not-fits.new.subscriptions.items) }) before) outs admits)))
     c.admit_offer.ensures.admits

@@ -1,10 +1,16 @@
-use Rattle.std.proofs.Common.{◌≡◌, ◌<◌, ◌++◌, suc, false, List, length, take, drop, sym, ap, subst, ◌∙◌, add-one, arith}
+use Rattle.std.proofs.Common.{◌≡◌, ◌+◌, ◌<◌, ◌++◌, suc, false, List, length, take, drop, sym, ap, subst, ◌∙◌, add-one, arith}
 use Rattle.std.proofs.lemmas.List.{length-map}
+use Rattle.std.proofs.lemmas.List.Elements.{All-append, All-take, All-drop}
 use Rattle.rx_note.specs.declared.item.Item.{Item}
-use Rattle.rx_hub.specs.Audiences.{AudienceState, Place, AllOn, Apart, cursors, place_of, places_of, observers_on}
+use Rattle.rx_hub.specs.declared.subscription.Subscription.{Subscription}
+use Rattle.rx_hub.specs.Seats.{IsIdle}
+use Rattle.rx_hub.specs.Audiences.{AudienceState, Place, AllOn, AllIdle, Apart, cursors, place_of, places_of, observers_on}
 use Rattle.rx_hub.proofs.Places.{observers-length, place-at, left_on, left_apart, left_cursors, left_places, left_observers}
 use Rattle.rx_hub.proofs.Tight.{owned_left}
 use Rattle.rx_hub.proofs.audience.Audience.remove.Goals as goal
+
+abbrev Idle : Subscription → Type 0
+Idle s = IsIdle s.ready
 
 pub invariant_of-self : goal.invariant_of-self
 invariant_of-self c =
@@ -23,6 +29,8 @@ invariant_of-self c =
       owned_left a.tape c.close.new.tape (places_of subs) (places_of c.remove-seat.new.self.items) k (place_of gone) within
           (sym (place-at subs k gone (place_of gone) lt c.remove-seat.ensures.value)) c.close.ensures.leaves c.close.ensures.released
           (ap cursors left ∙ left_cursors (places_of subs) k) c.self.invariant.2,
+      subst AllIdle (sym c.remove-seat.ensures.by_index.2)
+          (All-append Idle (take k subs) (drop (k + 1) subs) (All-take Idle k subs c.self.invariant.3) (All-drop Idle (k + 1) subs c.self.invariant.3)),
     )
 
 pub returns-clause-observers : goal.returns-clause-observers

@@ -13,6 +13,7 @@ invariant_of-self c =
       subst (λ (tape : TapeState). AllOn tape false places) (sym c.trim.ensures) (trimmed_all a.tape c.args.keep places c.self.invariant.0),
       c.self.invariant.1,
       subst (λ (tape : TapeState). Owned tape places) (sym c.trim.ensures) c.self.invariant.2,
+      c.self.invariant.3,
     )
 
 pub returns-clause-observers : goal.returns-clause-observers

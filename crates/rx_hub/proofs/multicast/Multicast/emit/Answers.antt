@@ -73,7 +73,7 @@ admit-requires c =
 pub invariant_of-self-in_default-clause-stands : goal.invariant_of-self-in_default-clause-stands
 invariant_of-self-in_default-clause-stands c =
     let old = c.args.self.now in
-    same_history old.limits old.joins c.in_default.ensures.err.subject (c.forget.ensures ∙ c.in_default.ensures.err.audience) old.stands
+    same_history old.limits old.joins c.in_default.ensures.err.subject c.in_default.ensures.err.audience old.stands
 
 pub invariant_of-self-in_default-clause-tight : goal.invariant_of-self-in_default-clause-tight
-invariant_of-self-in_default-clause-tight c = rw (c.in_default.ensures.err.subject, c.forget.ensures ∙ c.in_default.ensures.err.audience) c.args.self.now.tight
+invariant_of-self-in_default-clause-tight c = rw (c.in_default.ensures.err.subject, c.in_default.ensures.err.audience) c.args.self.now.tight
