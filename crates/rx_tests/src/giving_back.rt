@@ -1,11 +1,11 @@
-//! What a hub gives back of a budget: what a burst needed once that has drained, the text of an emission that was refused,
-//! and all of it when the hub goes.
+//! What a hub takes of a budget and gives back: what a burst needed once that has drained, the text of an emission that was
+//! refused, and all of it when the hub goes; and that an item which is kept back takes no room.
 
 use crate::expecting::{expect_answer, expect_count, expect_that};
 use crate::heaps::{copy, unlimited};
 use rx_heap::Heap;
 use rx_hub::Hub;
-use rx_note::{Answer, Event, Given, Kind, Limits, Refusal, Strategy};
+use rx_note::{Answer, Event, Given, Kind, Limits, Note, Refusal, Strategy};
 use rx_signs::{policy_of, text_of};
 use std::process::Abort;
 use std::test::Fail;
@@ -183,5 +183,28 @@ fn a_room_is_charged_to_its_hub(rt: HostRuntime) -> Result<(), Fail> {
         let answered = charged.join(&rt, strategy);
         expect_answer(&rt, answered, Err(Refusal::Memory));
     }
+    Ok(())
+}
+
+// An item of Async is offered to nobody before the completion, which does need room for what it gives.
+#[test]
+fn an_item_kept_back_takes_no_room(rt: HostRuntime) -> Result<(), Fail> {
+    let free = unlimited(&rt);
+    let none = Heap::with_budget(rt.alloc(), 0)?;
+    let mut charged = Charged::new(&rt, Kind::Async, &free, &free, &free);
+    for who in 0..2 {
+        let answered = charged.join(&rt, Strategy::Buffer);
+        expect_answer(&rt, answered, Ok(Answer::Joined(who)));
+    }
+    charged.outs = Vec::new(copy(&rt, &none));
+    for at in 0..3 {
+        let answered = charged.emit(&rt, 1, at);
+        expect_answer(&rt, answered, Ok(Answer::Admitted));
+    }
+    let end = Event::Emit {
+        note: Note::Completed,
+        at: 3,
+    };
+    expect_answer(&rt, charged.step(end), Err(Refusal::Memory));
     Ok(())
 }

@@ -6,9 +6,10 @@
 //! items wait, how many notes wait, how many items are owed, and `!` where the lane is over, else `-`.
 
 use crate::in_turn::{Script, expect_in_turn};
+use crate::tape_lanes::put_outs;
 use rx_heap::{Heap, Memory};
 use rx_lane::{AskError, Lane};
-use rx_note::{Errors, Item, Note, Policy, Strategy};
+use rx_note::{Errors, Given, Item, Note, Policy, Strategy};
 use rx_signs::{Tale, Told, item, note_of, policy_by, sign_of};
 use std::test::Fail;
 
@@ -35,11 +36,13 @@ fn put_back(told: &mut Told, back: &Option<Note>) {
     }
 }
 
-/// A lane that is tried, what all requests have given so far, what is told, and how many calls were refused for want of
-/// memory and then made again.
+/// A lane that is tried, the number of its observer where that is told to its requests, what they gave so far without it and
+/// with it, what is told, and how many calls were refused for want of memory and then made again.
 struct Tried {
     lane: Lane,
+    who: Option<u32>,
     given: Vec<Note, Heap>,
+    outs: Vec<Given, Heap>,
     told: Told,
     misses: u64,
 }
@@ -49,7 +52,9 @@ impl Drop for Tried {
     fn drop(self) {
         let Tried {
             lane: _,
+            who: _,
             given: _,
+            outs: _,
             told: _,
             misses: _,
         } = self;
@@ -57,11 +62,18 @@ impl Drop for Tried {
 }
 
 impl Tried {
+    fn asked_once(&mut self, n: u32) -> Result<(), AskError> {
+        match self.who {
+            None => self.lane.ask(n, &mut self.given),
+            Some(who) => self.lane.ask_for(who, n, &mut self.outs),
+        }
+    }
+
     fn asked(&mut self, n: u32) -> Result<(), AskError> {
-        match self.lane.ask(n, &mut self.given) {
+        match self.asked_once(n) {
             Err(AskError::Memory) => {
                 self.misses = self.misses.saturating_add(1);
-                self.lane.ask(n, &mut self.given)
+                self.asked_once(n)
             }
             answered => answered,
         }
@@ -74,7 +86,10 @@ impl Tried {
             Err(AskError::TooMuch) => self.told.put(b'T'),
             Err(AskError::Memory) => self.told.put(b'M'),
         }
-        self.told.put_notes(self.given.as_slice());
+        match self.who {
+            None => self.told.put_notes(self.given.as_slice()),
+            Some(who) => put_outs(&mut self.told, who, self.outs.as_slice()),
+        }
     }
 
     fn put_state(&mut self) {
@@ -137,20 +152,30 @@ fn made(tight: &Heap, policy: Policy, first: Option<u32>) -> Result<(Lane, u64),
     }
 }
 
-fn start(tight: &Heap, policy: Policy, first: Option<u32>) -> Result<Tried, Memory> {
+fn start(
+    tight: &Heap,
+    policy: Policy,
+    first: Option<u32>,
+    who: Option<u32>,
+) -> Result<Tried, Memory> {
     let given = Vec::new(tight.clone()?);
+    let outs = Vec::new(tight.clone()?);
     let (lane, misses) = made(tight, policy, first)?;
     Ok(Tried {
         lane,
+        who,
         given,
+        outs,
         told: Told::new(),
         misses,
     })
 }
 
-/// A script for a lane of a strategy, joined with a first request or new.
+/// A script for a lane of a strategy, joined with a first request or new, and the number of its observer where that is told to
+/// its requests.
 #[derive(Clone, Copy)]
 struct Row {
+    who: Option<u32>,
     strategy: Strategy,
     errors: Errors,
     first: Option<u32>,
@@ -161,7 +186,7 @@ impl Script for Row {
     // Tries a lane that grows by `tight`, as the list of what it gives does.
     fn tell(&self, free: &Heap, tight: &Heap) -> Result<Tale, Fail> {
         let policy = policy_by(self.strategy, self.errors)?;
-        let mut tried = start(tight, policy, self.first)?;
+        let mut tried = start(tight, policy, self.first, self.who)?;
         tried.run(free, self.script.as_bytes())?;
         Ok(Tale {
             told: tried.told,
@@ -222,13 +247,16 @@ fn lane_call_by_call(rt: HostRuntime) -> Result<(), Fail> {
         (Strategy::Bounded(2), delay, joined, "ab.c!? 9", "230- ab."),
         (Strategy::Bounded(2), ahead, joined, "ab!c? 9", "!000! "),
     ] {
-        let row = Row {
-            strategy,
-            errors,
-            first,
-            script,
-        };
-        expect_in_turn(&rt, rt.alloc(), &row, wanted, script)?;
+        for who in [None, Some(7)] {
+            let row = Row {
+                who,
+                strategy,
+                errors,
+                first,
+                script,
+            };
+            expect_in_turn(&rt, rt.alloc(), &row, wanted, script)?;
+        }
     }
     Ok(())
 }

@@ -165,7 +165,7 @@ impl Tried {
 }
 
 // Puts the signs of notes that are addressed to an observer.
-fn put_outs(told: &mut Told, who: u32, outs: &[Given]) {
+pub(crate) fn put_outs(told: &mut Told, who: u32, outs: &[Given]) {
     for given in outs {
         if given.who != who {
             told.put(b'#');
