@@ -1,5 +1,5 @@
 -- The observers that a hub holds, and the signals that their queues stand for.
-use Rattle.std.specs.Prelude.{◌≡◌, ℕ, max, List, [], ◌∷◌, ◌++◌, map, get_or, set, Option, Some}
+use Rattle.std.specs.Prelude.{◌≡◌, ◌<◌, ℕ, max, List, [], ◌∷◌, ◌++◌, map, length, get_or, set, Option, Some}
 use Rattle.rx_note.specs.declared.given.Given.{Given}
 use Rattle.rx_note.specs.declared.note.Note.{Note}
 use Rattle.rx_note.specs.declared.rules.Rules.{Rules}
@@ -19,6 +19,11 @@ pub record Observer : Type 0 where
 -- the numbers of several observers
 abbrev pub numbers : List Observer → List ℕ
 numbers observers = map (λ observer. observer.who) observers
+
+-- the observer of this number is at this place
+pub record IsAt (observers : List Observer) (place who : ℕ) : Type 0 where
+  pub within : place < length observers
+  pub number : (default : Observer) → (get_or observers place default).who ≡ who
 
 -- the queue stands for the signals that there are
 pub record StandsAt (lane : LaneState) (signals : Option Signals) : Type 0 where

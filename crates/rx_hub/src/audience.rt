@@ -1,10 +1,11 @@
-ghost use Rattle.std.specs.Prelude.{◌≡◌, ◌+◌, ◌<◌, ◌≤◌, ◌==◌, ◌++◌, ℕ, max, length, take, drop, get_or, position, false, IfOk, OnOk, OnErr};
+ghost use Rattle.std.specs.Prelude.{◌≡◌, ◌+◌, ◌<◌, ◌≤◌, ◌==◌, ◌++◌, ℕ, max, length, take, drop, get_or, position, false, true, None, IfOk, IfSome, OnOk, OnErr};
 ghost use Rattle.rx_note.specs.Signals.{Signals, waiting};
 ghost use Rattle.rx_tape.specs.Tapes.{last_items};
 ghost use Rattle.rx_lane.specs.Lanes.{RefusesRequest};
 ghost use Rattle.rx_lane.specs.Lanes as lanes;
 ghost use Rattle.rx_subject.specs.TapeSubjects.{subject_on};
-ghost use Rattle.rx_hub.specs.Subscriptions.{Observer, AsksAt, JoinsInto};
+ghost use Rattle.rx_hub.specs.declared.subscription.Subscription.{Subscription};
+ghost use Rattle.rx_hub.specs.Subscriptions.{Observer, IsAt, AsksAt, JoinsInto};
 ghost use Rattle.rx_hub.specs.Audiences.{places_of, observers_on, AllOn, Apart, Owned, most_waiting, audience_at_first};
 
 mod emitting;
@@ -65,10 +66,17 @@ impl Audience {
         self.subscriptions.len()
     }
 
-    /// The place of the observer of this number.
+    /// The place of the observer of this number. They stand by rising number, so unless some left it is that place: there it is
+    /// looked for first.
     pub(crate) fn place_of(&self, who: u32) -> Option<usize>
-        ensures { result ≡ position (λ o. o.who == who) self.now.observers }
+        ensures found { IfSome result (λ place. IsAt self.now.observers place who) }
+        ensures none { result ≡ None → position (λ o. o.who == who) self.now.observers ≡ None }
     {
+        let last = self.subscriptions.len().saturating_sub(1);
+        let guess = last.min(who as usize);
+        if is_at(&self.subscriptions, guess, who) {
+            return Some(guess);
+        }
         place_in(&self.subscriptions, who)
     }
 
@@ -185,6 +193,16 @@ impl Audience {
             → (count ≤ length self.new.items) × (last_items self.new.items count ≡ last_items self.old.items count) }
     {
         self.tape.trim(keep);
+    }
+}
+
+// Whether the observer at a place has this number.
+fn is_at(subscriptions: &Vec<Subscription, Heap>, place: usize, who: u32) -> bool
+    ensures { result ≡ true → (place < length subscriptions.now.items) × ((default : Subscription) → (get_or subscriptions.now.items place default).who ≡ who) }
+{
+    match subscriptions.get(place) {
+        Some(one) => one.who == who,
+        None => false,
     }
 }
 

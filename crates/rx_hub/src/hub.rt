@@ -87,7 +87,7 @@ impl Hub {
     /// to each observer in its order. Refused in the order of its kind: Emit Ended, Memory; Join Full, Spent, Memory;
     /// Request ZeroRequest, NoObserver, TooMuch, Memory; Dispose NoObserver, for it takes no memory. A refusal leaves the hub
     /// and `outs`, but a Memory answer is counted in `misses`.
-    #[inline(always)]
+    #[inline(always)] // so that an event is moved once
     pub fn step(
         &mut self,
         port: u32,
@@ -163,7 +163,7 @@ impl Hub {
 }
 
 // The number of Memory answers with this answer.
-#[inline(always)]
+#[inline(always)] // on the path of every event
 fn counted(misses: u64, answered: &Result<Answer, Refusal>) -> u64
     ensures { result ≡ (if is_miss answered.now then min (misses + 1) (2 ^ 64 - 1) else misses) }
 {

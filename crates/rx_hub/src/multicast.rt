@@ -62,7 +62,7 @@ impl Multicast {
 
     /// Takes one event from a port. An emission, by far the commonest, is taken in line, so that its text is moved once; all else
     /// is out of line, and an emission has no room to make for what that needs.
-    #[inline(always)]
+    #[inline(always)] // so that an event is moved once
     pub(crate) fn take(
         &mut self,
         port: u32,
@@ -97,7 +97,7 @@ impl Multicast {
     }
 
     // A note is emitted from a port.
-    #[inline(always)]
+    #[inline(always)] // so that a text is moved once
     fn emit(
         &mut self,
         port: u32,
@@ -119,7 +119,7 @@ impl Multicast {
     }
 
     // An observer joins.
-    #[inline(never)]
+    #[inline(never)] // rare, and an emission makes no room for what it needs
     fn join(
         &mut self,
         policy: Policy,
@@ -147,7 +147,7 @@ impl Multicast {
     }
 
     // An observer requests items.
-    #[inline(never)]
+    #[inline(never)] // an emission makes no room for what it needs
     fn request(&mut self, who: u32, n: u32, outs: &mut Vec<Given, Heap>) -> Result<Answer, Refusal>
         ensures { (port : ℕ) → Takes (state_of self.old) (state_of self.new) outs.old.items outs.new.items result (port, Request who n) }
     {
@@ -170,7 +170,7 @@ impl Multicast {
     }
 
     // An observer leaves, with what waits for it.
-    #[inline(never)]
+    #[inline(never)] // rare, and an emission makes no room for what it needs
     fn dispose(&mut self, who: u32) -> Result<Answer, Refusal>
         ensures { (port : ℕ) (outs : List Given) → Takes (state_of self.old) (state_of self.new) outs outs result (port, Dispose who) }
     {

@@ -16,7 +16,7 @@ use rx_subject::Offer;
 use rx_tape::Tape;
 
 // Has room for so many more notes in `outs`, which is asked for only where it is not there.
-#[inline(always)]
+#[inline(always)] // on the path of every emission
 pub(crate) fn make_room(outs: &mut Vec<Given, Heap>, more: usize) -> Result<(), Memory>
     ensures room { OnOk result (vec_len outs.new + more ≤ vec_capacity outs.new) }
     ensures items { outs.new.items ≡ outs.old.items }
@@ -32,7 +32,7 @@ pub(crate) fn make_room(outs: &mut Vec<Given, Heap>, more: usize) -> Result<(), 
 }
 
 // Whether each observer is owed an item.
-#[inline(always)]
+#[inline(always)] // on the path of every emission
 pub(crate) fn are_owed(subscriptions: &Vec<Subscription, Heap>) -> bool
     ensures { IsTrue result ↔ AllOwed (places_of subscriptions.now.items) }
 {
@@ -46,7 +46,7 @@ pub(crate) fn are_owed(subscriptions: &Vec<Subscription, Heap>) -> bool
 
 // Puts an item at the end of `outs` for each observer, all of which are owed it: copies, and to the last the item itself. On
 // `Memory` some may have been put.
-#[inline(always)]
+#[inline(always)] // on the path of every emission
 pub(crate) fn give_owed(
     subscriptions: &Vec<Subscription, Heap>,
     item: Item,
@@ -67,7 +67,7 @@ pub(crate) fn give_owed(
 
 // Puts a copy of an item at the end of `outs` for each of the first observers, so many, all of which are owed it. On `Memory`
 // some may have been put.
-#[inline(always)]
+#[inline(always)] // on the path of every emission
 fn give_copies(
     subscriptions: &Vec<Subscription, Heap>,
     count: usize,
@@ -89,7 +89,7 @@ fn give_copies(
 }
 
 // The same, out of line, so that what goes to one observer alone stays short.
-#[inline(never)]
+#[inline(never)] // what goes to one observer alone stays short
 fn put_copies(
     subscriptions: &Vec<Subscription, Heap>,
     count: usize,
@@ -137,7 +137,7 @@ pub(crate) fn give_item(
 }
 
 // Passes an item that each observer is owed and was given, and that is not on the tape.
-#[inline(always)]
+#[inline(always)] // on the path of every emission
 pub(crate) fn pass_owed_all(subscriptions: &mut Vec<Subscription, Heap>)
     requires owed { AllOwed (places_of subscriptions.old.items) }
     requires open { AllTakeMore (places_of subscriptions.old.items) }

@@ -117,7 +117,7 @@ impl Seat {
 
     /// Offers the last item of the tape, with the copy that is needed. What it gives at once comes back: the item, or the error
     /// of an overflow.
-    #[inline(always)]
+    #[inline(always)] // once for each observer of an emission
     pub(crate) fn offer(&mut self, copy: Option<Item>, tape: &mut Tape) -> Option<Note>
         requires stands { Stands tape.old true self.old }
         requires open { TakesMore self.old }
@@ -138,7 +138,7 @@ impl Seat {
     }
 
     /// Offers the last item of the tape, which was given already if it is owed; a queue of its own that keeps it takes the copy.
-    #[inline(always)]
+    #[inline(always)] // once for each observer of an emission
     pub(crate) fn pass(&mut self, copy: &mut Option<Item>, tape: &mut Tape)
         requires stands { Stands tape.old true self.old }
         requires open { TakesMore self.old }
@@ -157,7 +157,7 @@ impl Seat {
     }
 
     /// Passes an item that is owed and was given, and that is not on the tape.
-    #[inline(always)]
+    #[inline(always)] // once for each observer of an emission
     pub(crate) fn pass_owed(&mut self)
         requires owed { 0 < owing_of self.old }
         requires open { TakesMore self.old }
@@ -247,7 +247,7 @@ fn end_own(lane: &mut Lane, note: Note) -> Option<Note>
 }
 
 // An item as a note.
-#[inline(always)]
+#[inline(always)] // once for each observer of an emission
 fn note_of(item: Option<Item>) -> Option<Note>
     ensures { option_to_list result ≡ map Next (option_to_list item) }
 {

@@ -44,7 +44,7 @@ impl Subscription {
     }
 
     /// Puts an item that is owed at the end of `outs`.
-    #[inline(always)]
+    #[inline(always)] // once for each observer of an emission
     pub(crate) fn give(&self, item: Item, outs: &mut Vec<Given, Heap>)
         requires owed { 0 < owing_of self.now.seat }
         requires room { vec_len outs.old < vec_capacity outs.old }
@@ -60,7 +60,7 @@ impl Subscription {
 
     /// Puts a copy of an item at the end of `outs` if it is owed; of one that is not, makes ready the copy that a queue of its
     /// own keeps. Whether the item fits; where it overflows, nothing is put.
-    #[inline(always)]
+    #[inline(always)] // once for each observer of an emission
     pub(crate) fn give_now(
         &mut self,
         item: &Item,
@@ -89,7 +89,7 @@ impl Subscription {
     }
 
     /// Offers the last item of the tape, which was given already if it is owed.
-    #[inline(always)]
+    #[inline(always)] // once for each observer of an emission
     pub(crate) fn pass(&mut self, tape: &mut Tape)
         requires stands { Stands tape.old true self.old.seat }
         requires open { TakesMore self.old.seat }
@@ -105,7 +105,7 @@ impl Subscription {
     }
 
     /// Passes an item that is owed and was given, and that is not on the tape.
-    #[inline(always)]
+    #[inline(always)] // once for each observer of an emission
     pub(crate) fn pass_owed(&mut self)
         requires owed { 0 < owing_of self.old.seat }
         requires open { TakesMore self.old.seat }
@@ -137,7 +137,7 @@ impl Subscription {
     }
 
     /// Puts at the end of `outs` what an offer gives to the observer at once. Its item is the last of the tape.
-    #[inline(always)]
+    #[inline(always)] // once for each observer of an emission
     pub(crate) fn feed(&mut self, offer: &Offer, tape: &mut Tape, outs: &mut Vec<Given, Heap>)
         requires stands { Stands tape.old (is_some offer.now.item) self.old.seat }
         requires open { TakesMore self.old.seat }
@@ -184,7 +184,7 @@ impl Subscription {
 
     /// Adds a request as `ask` does, where the tape has no other cursor and nobody needs later what is given now: it may be
     /// taken off the tape.
-    #[inline(never)]
+    #[inline(never)] // a request among several stays short
     pub(crate) fn ask_alone(
         &mut self,
         n: u32,
@@ -228,7 +228,7 @@ fn copy_kept(lane: &Lane, item: &Item) -> Result<Option<Item>, Memory>
 
 // Offers the last item of the tape, where there is an item, and answers the note that it gives at once. It stands on the
 // path of every emission, once for each observer.
-#[inline(always)]
+#[inline(always)] // once for each observer of an emission
 fn offer_to(
     seat: &mut Seat,
     item: &Option<Item>,
@@ -252,7 +252,7 @@ fn offer_to(
 }
 
 // Ends a queue by a terminal, if there is one, and answers it where it is given at once.
-#[inline(always)]
+#[inline(always)] // once for each observer of an emission
 pub(crate) fn end_by(seat: &mut Seat, end: Option<Note>, tape: &mut Tape) -> Option<Note>
     requires stands { Stands tape.old false seat.old }
     requires open { TakesMore seat.old }
@@ -266,7 +266,7 @@ pub(crate) fn end_by(seat: &mut Seat, end: Option<Note>, tape: &mut Tape) -> Opt
 }
 
 // Puts a note, if there is one, at the end of `outs`, for an observer.
-#[inline(always)]
+#[inline(always)] // once for each observer of an emission
 pub(crate) fn put(who: u32, note: Option<Note>, outs: &mut Vec<Given, Heap>)
     requires { vec_len outs.old + length (option_to_list note) ≤ vec_capacity outs.old }
     ensures items { outs.new.items ≡ outs.old.items ++ addressed who (option_to_list note) }

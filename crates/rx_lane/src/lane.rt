@@ -227,7 +227,7 @@ impl Lane {
     /// Offers an item, which comes back as a note where it is given at once; else it waits, or it or the oldest that waits is
     /// lost, by the strategy. Where it overflows, the lane ends by the error `OVERFLOW`, which comes back where it is given at
     /// once, and the item is let go. It takes no memory: room for it was reserved.
-    #[inline(always)]
+    #[inline(always)] // once for each observer of an emission
     pub fn offer(&mut self, item: Item) -> Option<Note>
         requires room { HasRoomFor self.old 1 }
         requires open { self.old.state.ended ≡ false }
@@ -263,7 +263,7 @@ impl Lane {
     }
 
     /// Passes an item that is owed and that the caller gives: no item need be at hand.
-    #[inline(always)]
+    #[inline(always)] // once for each observer of an emission
     pub fn pass(&mut self)
         requires owed { 0 < self.old.state.owing }
         requires open { self.old.state.ended ≡ false }

@@ -16,7 +16,7 @@ pub(crate) fn give_last(last: &mut Option<Note>, outs: &mut Vec<Note, Heap>)
 }
 
 // Puts a terminal, if there is one, at the end of `outs`, which has room for it, for an observer.
-#[inline(always)]
+#[inline(always)] // on the path of every request
 pub(crate) fn put_last(who: u32, last: Option<Note>, outs: &mut Vec<Given, Heap>)
     requires { vec_len outs.old + length (option_to_list last) ≤ vec_capacity outs.old }
     ensures { outs.new.items ≡ outs.old.items ++ addressed who (option_to_list last) }

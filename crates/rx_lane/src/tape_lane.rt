@@ -239,7 +239,7 @@ impl TapeLane {
 
     /// Adds a request of `n` items as `ask` does, and puts at the end of `outs` what is then given, addressed to the observer of
     /// the number `who`. Refused in the order `ZeroRequest`, `TooMuch`, `Memory`; a refusal leaves the lane, the tape and `outs`.
-    #[inline(always)]
+    #[inline(always)] // on the path of every request
     pub fn ask_for(
         &mut self,
         who: u32,
@@ -364,7 +364,7 @@ impl TapeLane {
     }
 
     // Passes the items that are given where so many are owed. The terminal comes back where it goes behind the last of them.
-    #[inline(always)]
+    #[inline(always)] // on the path of every request
     fn release(&mut self, items: usize, owed: u32, tape: &mut Tape) -> Option<Note>
         requires stands { StandsWhereSome tape.old self.old.cursor self.old.back }
         requires items { items ≡ min (length (option_to_list self.old.lead) + self.old.back) owed }
@@ -388,7 +388,7 @@ impl TapeLane {
 
     /// Offers the last item of the tape; where it is owed `copy` is that item and comes back, else `copy` is None, the item
     /// waits, and by `Latest` the oldest that waits is lost where the room is full. It takes no memory.
-    #[inline(always)]
+    #[inline(always)] // once for each observer of an emission
     pub fn offer(&mut self, copy: Option<Item>, tape: &mut Tape) -> Option<Item>
         requires open { MayBeSent self.old.policy self.old.ended }
         requires stands { StandsBack tape.old self.old.cursor (self.old.back + 1) }
@@ -403,7 +403,7 @@ impl TapeLane {
     }
 
     /// Offers the last item of the tape as `offer` does, where the caller has given it already if it is owed.
-    #[inline(always)]
+    #[inline(always)] // once for each observer of an emission
     pub fn pass(&mut self, tape: &mut Tape)
         requires open { MayBeSent self.old.policy self.old.ended }
         requires stands { StandsBack tape.old self.old.cursor (self.old.back + 1) }
@@ -424,7 +424,7 @@ impl TapeLane {
     }
 
     /// Passes an item that is owed and that the caller gives: it need be neither at hand nor on the tape.
-    #[inline(always)]
+    #[inline(always)] // once for each observer of an emission
     pub fn pass_owed(&mut self)
         requires open { MayBeSent self.old.policy self.old.ended }
         requires owed { 0 < self.old.owing }

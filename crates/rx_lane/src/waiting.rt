@@ -71,7 +71,7 @@ impl Waiting {
 
     /// Puts copies of the first `count` items, addressed to an observer, at the end of `outs`, which has room for them. On
     /// `Memory` some of them may have been put.
-    #[inline(always)]
+    #[inline(always)] // on the path of every request
     pub(crate) fn copy_to(
         &self,
         who: u32,
@@ -91,7 +91,7 @@ impl Waiting {
     }
 
     /// Passes the first `count` items.
-    #[inline(always)]
+    #[inline(always)] // once for each observer of an emission
     pub(crate) fn skip(&mut self, count: usize, tape: &mut Tape)
         requires there { count ≤ length (option_to_list self.old.lead) + self.old.back }
         requires stands { StandsWhereSome tape.old self.old.cursor self.old.back }
@@ -107,7 +107,7 @@ impl Waiting {
     }
 
     // Passes the item in front, if there is one, and says how many others are then to be passed.
-    #[inline(always)]
+    #[inline(always)] // once for each observer of an emission
     fn skip_lead(&mut self, count: usize) -> usize
         ensures more { result ≡ count - length (option_to_list self.old.lead) }
         ensures lead { option_to_list self.new.lead ≡ drop count (option_to_list self.old.lead) }
@@ -160,7 +160,7 @@ impl Waiting {
 
 /// Puts a copy of the item in front, if there is one, at the end of `outs`, for an observer, and says how many others are
 /// then to be given.
-#[inline(always)]
+#[inline(always)] // on the path of every request
 pub(crate) fn copy_lead(
     who: u32,
     count: usize,
@@ -185,7 +185,7 @@ pub(crate) fn copy_lead(
 
 // Puts copies of the first `count` of the last `back` items of a tape at the end of `outs`, for an observer. On `Memory`
 // some of them may have been put.
-#[inline(always)]
+#[inline(always)] // on the path of every request
 fn copy_items(
     who: u32,
     count: usize,

@@ -131,7 +131,8 @@ fn free_in(slots: &Vec<Option<u64>, Heap>) -> usize
     slots.len()
 }
 
-// The lowest of several places and a bound, and the number of a cursor that stands there.
+// The lowest of several places and a bound, and the number of a cursor that stands there: the last of them, so that cursors
+// which move one after another, by rising number, are looked through once for all of them.
 fn lowest_in(slots: &Vec<Option<u64>, Heap>, bound: u64) -> (u64, u32)
     requires { vec_len slots.now < 2 ^ 32 }
     ensures { result.0 ≡ lowest slots.now.items bound }
@@ -139,11 +140,10 @@ fn lowest_in(slots: &Vec<Option<u64>, Heap>, bound: u64) -> (u64, u32)
     let mut low = bound;
     let mut who = 0;
     for number in 0..slots.len() {
-        let place = lower(slots[number], low);
-        if place < low {
+        low = lower(slots[number], low);
+        if slots[number] == Some(low) {
             who = number as u32;
         }
-        low = place;
     }
     (low, who)
 }

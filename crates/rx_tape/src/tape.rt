@@ -169,7 +169,7 @@ impl Tape {
     }
 
     /// Takes the first item off, which every cursor has passed.
-    #[inline]
+    #[inline] // once for each item that leaves the tape
     pub fn take_first(&mut self) -> Item
         requires some { 0 < length self.old.items }
         requires passed { HavePassed self.old 1 }

@@ -20,7 +20,7 @@ impl Audience {
     /// Has the subject admit an emission, and puts at the end of `outs` what it gives to each observer, by rising number. All
     /// that may be refused comes first: room, copies for those to whom something is owed, and the tape. `Memory` leaves the
     /// subject, the observers and `outs`.
-    #[inline(always)]
+    #[inline(always)] // so that a text is moved once
     pub(crate) fn admit(
         &mut self,
         subject: &mut TapeSubject,
@@ -42,7 +42,7 @@ impl Audience {
 
     // Has the subject admit an item, which comes by the port that it names. One that all are owed, and nobody may need later,
     // goes by no tape.
-    #[inline(always)]
+    #[inline(always)] // so that a text is moved once
     fn admit_item(
         &mut self,
         subject: &mut TapeSubject,
@@ -70,7 +70,7 @@ impl Audience {
 
     // The same of an item that somebody may need later, or that the subject keeps back: then it is offered to nobody. It is kept
     // out of line, as all is that is rarer than an item that goes by no tape.
-    #[inline(never)]
+    #[inline(never)] // rarer than an item that goes by no tape
     fn admit_later(
         &mut self,
         subject: &mut TapeSubject,
@@ -124,7 +124,7 @@ impl Audience {
     }
 
     // Has the subject admit a note that ends it, or an observer.
-    #[inline(never)]
+    #[inline(never)] // rare
     fn admit_offer(
         &mut self,
         subject: &mut TapeSubject,

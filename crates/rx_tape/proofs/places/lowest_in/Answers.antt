@@ -9,7 +9,7 @@ loop-number-preserved c =
     let places = c.args.slots.now.items in
     let i = c.loop-number.number in
     let next = c.index.result.now in
-    c.lower-place.ensures
+    c.lower-low.ensures
     ∙ ap (λ low. lower_of next low) c.loop-number.invariant
     ∙ sym (lowest-more (take i places) next c.args.bound)
     ∙ ap (λ front. lowest front c.args.bound)

@@ -1,4 +1,4 @@
-use Rattle.std.proofs.Common.{rules, ◌≡◌, ℕ, Ok, ◌+◌, ◌<◌, ◌≤◌, length, inl, inr, sym, ◌∙◌, refl, ap, arith, Err}
+use Rattle.std.proofs.Common.{rules, ◌≡◌, ℕ, Ok, ◌+◌, ◌<◌, ◌≤◌, length, inl, inr, ◌∙◌, refl, ap, arith, Err}
 use Rattle.std.proofs.lemmas.Bool.{cases_lt}
 use Rattle.std.proofs.lemmas.List.{length-set}
 use Rattle.rx_subject.specs.TapeSubjects.{subject_on}
@@ -9,7 +9,7 @@ use Rattle.rx_note.specs.declared.event.Event.TheVariants.{Request}
 use Rattle.rx_hub.specs.Hubs.{HubState, Takes}
 use Rattle.rx_hub.specs.Multicasts.{state_of}
 use Rattle.rx_hub.specs.States.{state_by}
-use Rattle.rx_hub.proofs.Asking.{nobody, named, request_zero, request_unheld, request_more, request_done, request_missed}
+use Rattle.rx_hub.proofs.Asking.{nobody, request_zero, request_unheld, request_more, request_done, request_missed}
 use Rattle.rx_hub.proofs.Being.{of_history, same_history}
 use Rattle.rx_hub.proofs.multicast.Multicast.request.Goals.{After-trim}
 use Rattle.rx_hub.proofs.multicast.Multicast.request.Goals as goal
@@ -24,7 +24,7 @@ pub returns-in_default : goal.returns-in_default
 returns-in_default c port = record {
   rules = refl;
   took = λ H stands.
-      request_unheld (state_of c.args.self.now) c.args.outs.now.items H port c.args.who c.args.n (omega arith) (sym c.in_default.ensures) stands;
+      request_unheld (state_of c.args.self.now) c.args.outs.now.items H port c.args.who c.args.n (omega arith) (c.in_default.ensures.none refl) stands;
 }
 
 -- a request that is not too much
@@ -38,13 +38,13 @@ taken c port =
     let old = c.args.self.now in
     let subject = old.subject in
     let place = c.in-Some.place in
-    let is = named old.audience.observers c.args.who place nobody c.in-Some.ensures in
+    let is = c.in-Some.ensures.found in
     let more : 0 < c.args.n = omega arith in
     let asked = c.in-Ok.ensures.asked nobody in
     let stay = c.in-Ok.ensures.kept (length subject.stamps) (omega (arith, c.keep-keep.ensures)) old.within in
     let kept = c.trim.ensures.kept (length subject.stamps) (omega (arith, c.keep-keep.ensures)) stay.0 in
     request_done (state_of old) (subject_on c.trim.new.self.items subject) c.ask.new.self.observers c.trim.new.self.observers c.args.outs.now.items c.ask.new.outs.items
-    port c.args.who c.args.n place nobody is.0 is.1 more
+    port c.args.who c.args.n place nobody is.within (is.number nobody) more
     (few c.args.n _ (λ much. let no = (c.in-Ok.ensures.refuses nobody).too_much.1 much in cc) more)
     asked c.trim.ensures.observers
     (subject_kept subject c.ask.new.self.items c.trim.new.self.items kept.1 ∙ subject_kept subject old.audience.items c.ask.new.self.items stay.1)
@@ -76,22 +76,22 @@ pub returns-in-Err-TooMuch : goal.returns-in-Err-TooMuch
 returns-in-Err-TooMuch c port =
     let old = c.args.self.now in
     let place = c.in-Some.place in
-    let is = named old.audience.observers c.args.who place nobody c.in-Some.ensures in
+    let is = c.in-Some.ensures.found in
     let much = (c.in-Err-TooMuch.ensures.refuses nobody).too_much.0 (ap Err c.in-Err-TooMuch.field-0-is) in
     let same : AudienceState → HubState = λ audience. record (state_of old) { subject = subject_on audience.items old.subject; observers = audience.observers } in
-    request_more (state_of old) (same c.ask.new.self) c.args.outs.now.items c.ask.new.outs.items port c.args.who c.args.n place nobody is.0 is.1 much.0 much.1
+    request_more (state_of old) (same c.ask.new.self) c.args.outs.now.items c.ask.new.outs.items port c.args.who c.args.n place nobody is.within (is.number nobody) much.0 much.1
     (ap same c.in-Err-TooMuch.ensures.err.0) c.in-Err-TooMuch.ensures.err.1
 
 pub returns-in-Err-Memory : goal.returns-in-Err-Memory
 returns-in-Err-Memory c port =
     let old = c.args.self.now in
     let place = c.in-Some.place in
-    let is = named old.audience.observers c.args.who place nobody c.in-Some.ensures in
+    let is = c.in-Some.ensures.found in
     let more : 0 < c.args.n = omega arith in
     let same : AudienceState → HubState = λ audience. record (state_of old) { subject = subject_on audience.items old.subject; observers = audience.observers } in
     record {
       rules = refl;
-      took = request_missed (state_of old) (same c.ask.new.self) c.args.outs.now.items c.ask.new.outs.items port c.args.who c.args.n place nobody is.0 is.1 more
+      took = request_missed (state_of old) (same c.ask.new.self) c.args.outs.now.items c.ask.new.outs.items port c.args.who c.args.n place nobody is.within (is.number nobody) more
           (few c.args.n _ (λ much. let no = (c.in-Err-Memory.ensures.refuses nobody).too_much.1 much in let is_memory = c.in-Err-Memory.field-0-is in cc) more)
           (ap same c.in-Err-Memory.ensures.err.0) c.in-Err-Memory.ensures.err.1;
     }
