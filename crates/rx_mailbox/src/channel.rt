@@ -8,7 +8,7 @@ ghost use Rattle.rx_mailbox.specs.Passes.{own_of, IsPort, IsReader, TakesOne};
 
 use crate::letter::{Letter, Post};
 use crate::rule::{MailboxRule, Put, Take, View};
-use crossbeam_channel::{Pass, RecvError, RuledReceiver, RuledSender};
+use crossbeam_channel::{Pass, RecvError, RuledReceiver, RuledSender, TryRecvError};
 use rx_heap::Heap;
 use std::sync::Wait;
 
@@ -53,4 +53,18 @@ pub fn take<B: Drop, R: Wait>(
     ensures taken { MatchResult result (λ letter. TakesOne (view pass.old) letter (view pass.new)) (λ _. view pass.new ≡ view pass.old) }
 {
     receiver.recv_as::<Take, R>(rt, pass)
+}
+
+// Takes the letter at the front, if there is one. `Err` says whether none will come any more.
+pub fn try_take<B: Drop, R: Wait>(
+    rt: &R,
+    receiver: &BoxReceiver<B>,
+    pass: &mut BoxPass<B>,
+) -> Result<Letter<B>, TryRecvError>
+    requires pass { IsSeatAt (receives_on receiver.now) pass.old }
+    requires reader { IsReader (view pass.old) }
+    ensures pass { IsSeatAt (receives_on receiver.now) pass.new }
+    ensures taken { MatchResult result (λ letter. TakesOne (view pass.old) letter (view pass.new)) (λ _. view pass.new ≡ view pass.old) }
+{
+    receiver.try_recv_as::<Take, R>(rt, pass)
 }

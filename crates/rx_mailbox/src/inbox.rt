@@ -5,8 +5,10 @@ ghost use Rattle.crossbeam_channel.specs.Claims.{view};
 ghost use Rattle.rx_mailbox.specs.Passes.{inbox_of, taken_of, IsReader};
 ghost use Rattle.rx_mailbox.specs.Settling.{counted};
 
-use crate::channel::{BoxPass, BoxReceiver, take};
+use crate::channel::{BoxPass, BoxReceiver, take, try_take};
 use crate::letter::{Letter, Post};
+use crate::try_recv_fault::TryRecvFault;
+use crossbeam_channel::TryRecvError;
 use rx_heap::Heap;
 use std::error::Error;
 use std::fmt;
@@ -72,6 +74,25 @@ impl<B: Drop> Inbox<B> {
     {
         let Ok(letter) = take(rt, &self.receiver, &mut self.pass) else {
             return Err(Gone);
+        };
+        mark(&mut self.byes, &letter);
+        self.letters = self.letters.saturating_add(1);
+        Ok(letter)
+    }
+
+    /// Takes the letter at the front of the box, and waits for none. `Err` where there is none, and nothing changed: it
+    /// says whether one may still come.
+    pub fn try_recv<R: Wait>(&mut self, rt: &R) -> Result<Letter<B>, TryRecvFault>
+        ensures received { MatchResult result (λ letter. self.new ≡ with_letter self.old letter) (λ _. self.new ≡ self.old) }
+
+        // It is from a port of the box whose Bye had not come.
+        ensures port { IfOk result (λ letter. letter.from < self.old.ports) }
+        ensures before_bye { IfOk result (λ letter. ¬ HasBye self.old letter.from) }
+    {
+        let letter = match try_take(rt, &self.receiver, &mut self.pass) {
+            Ok(letter) => letter,
+            Err(TryRecvError::Empty) => return Err(TryRecvFault::Empty),
+            Err(TryRecvError::Disconnected) => return Err(TryRecvFault::Gone),
         };
         mark(&mut self.byes, &letter);
         self.letters = self.letters.saturating_add(1);

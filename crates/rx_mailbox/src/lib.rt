@@ -20,6 +20,7 @@ mod rule;
 mod settle_cause;
 mod settled;
 mod settling;
+mod try_recv_fault;
 mod unsettled;
 
 pub use ended_port::EndedPort;
@@ -30,4 +31,5 @@ pub use port::Port;
 pub use settle_cause::SettleCause;
 pub use settled::Settled;
 pub use settling::settle;
+pub use try_recv_fault::TryRecvFault;
 pub use unsettled::Unsettled;
