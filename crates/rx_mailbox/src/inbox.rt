@@ -5,7 +5,8 @@ ghost use Rattle.crossbeam_channel.specs.Claims.{view};
 ghost use Rattle.rx_mailbox.specs.Passes.{inbox_of, taken_of, IsReader};
 ghost use Rattle.rx_mailbox.specs.Settling.{counted};
 
-use crate::channel::{BoxPass, BoxReceiver, take, try_take};
+use crate::bells::SharedBells;
+use crate::channel::{BoxPass, BoxReceiver, take};
 use crate::letter::{Letter, Post};
 use crate::try_recv_fault::TryRecvFault;
 use crossbeam_channel::TryRecvError;
@@ -30,6 +31,7 @@ impl Error for Gone {}
 /// The receiver of a box. Contracts see how many ports the box has, and the letters that were received, in their order.
 pub struct Inbox<B: Drop> {
     pub(crate) receiver: BoxReceiver<B>,
+    pub(crate) bells: SharedBells,
     pub(crate) pass: BoxPass<B>,
     // Of each port, whether its Bye was received.
     pub(crate) byes: Vec<bool, Heap>,
@@ -41,11 +43,15 @@ pub struct Inbox<B: Drop> {
 impl<B: Drop> Drop for Inbox<B> {
     fn drop(self) {
         let Inbox {
-            receiver: _,
+            receiver,
+            bells,
             pass: _,
             byes: _,
             letters: _,
         } = self;
+        // A port that waits for room is told once the inbox is gone.
+        drop(receiver);
+        bells.room.ring();
     }
 }
 
@@ -72,12 +78,19 @@ impl<B: Drop> Inbox<B> {
         ensures port { IfOk result (λ letter. letter.from < self.old.ports) }
         ensures before_bye { IfOk result (λ letter. ¬ HasBye self.old letter.from) }
     {
-        let Ok(letter) = take(rt, &self.receiver, &mut self.pass) else {
-            return Err(Gone);
-        };
-        mark(&mut self.byes, &letter);
-        self.letters = self.letters.saturating_add(1);
-        Ok(letter)
+        let mut looks = 0;
+        for _ in rt.forever() {
+            match self.try_recv(rt) {
+                Ok(letter) => {
+                    self.bells.letter.rise(looks);
+                    return Ok(letter);
+                }
+                Err(TryRecvFault::Gone) => return Err(Gone),
+                Err(TryRecvFault::Empty) => {}
+            }
+            looks = self.bells.letter.wait(rt, looks);
+        }
+        unreachable!()
     }
 
     /// Takes the letter at the front of the box, and waits for none. `Err` where there is none, and nothing changed: it
@@ -89,11 +102,12 @@ impl<B: Drop> Inbox<B> {
         ensures port { IfOk result (λ letter. letter.from < self.old.ports) }
         ensures before_bye { IfOk result (λ letter. ¬ HasBye self.old letter.from) }
     {
-        let letter = match try_take(rt, &self.receiver, &mut self.pass) {
+        let letter = match take(rt, &self.receiver, &mut self.pass) {
             Ok(letter) => letter,
             Err(TryRecvError::Empty) => return Err(TryRecvFault::Empty),
             Err(TryRecvError::Disconnected) => return Err(TryRecvFault::Gone),
         };
+        self.bells.room.ring();
         mark(&mut self.byes, &letter);
         self.letters = self.letters.saturating_add(1);
         Ok(letter)
@@ -108,6 +122,7 @@ impl<B: Drop> Inbox<B> {
     {
         let Inbox {
             receiver: _,
+            bells: _,
             pass,
             byes: _,
             letters,

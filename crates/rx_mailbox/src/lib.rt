@@ -9,6 +9,8 @@
 //! contracts; `Rule.antt` has the rule that the channel of a box keeps at every moment.
 #![tactic(auto)]
 
+mod bell;
+mod bells;
 mod channel;
 mod ended_port;
 mod inbox;
