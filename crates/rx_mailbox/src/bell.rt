@@ -2,6 +2,7 @@
 // other side, only if it sleeps. Nothing is promised of a wait: it may end for no reason, so who waits looks again.
 use std::sync::Wait;
 use std::sync::atomic::{AtomicU64, Ordering};
+use std::time::Duration;
 use std::{hint, thread};
 
 // How often who waits looks again at once, and then after letting other threads go first, before it sleeps. A sleep and
@@ -11,6 +12,9 @@ const PAUSES: u32 = 200;
 const YIELDS: u32 = 30;
 
 const LOOKS: u32 = PAUSES + YIELDS;
+
+/// How often who waits for a bounded time looks before it slept, and no more often.
+pub(crate) const LOOKS_WITHIN: u32 = LOOKS + 2;
 
 const AWAKE: u64 = 0;
 
@@ -54,6 +58,15 @@ impl Bell {
             return LOOKS;
         }
         looks + 1
+    }
+
+    /// Waits as `wait` does, but sleeps no longer than about so long.
+    pub(crate) fn wait_within<R: Wait>(&self, rt: &R, looks: u32, most: Duration) -> u32 {
+        if looks <= LOOKS {
+            return self.wait(rt, looks);
+        }
+        self.state.park_timeout(rt, ASLEEP as u32, most);
+        LOOKS_WITHIN
     }
 
     /// Ends a wait of so many looks, of the only one who waits here.

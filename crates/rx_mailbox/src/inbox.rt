@@ -5,6 +5,7 @@ ghost use Rattle.crossbeam_channel.specs.Claims.{view};
 ghost use Rattle.rx_mailbox.specs.Passes.{inbox_of, taken_of, IsReader};
 ghost use Rattle.rx_mailbox.specs.Settling.{counted};
 
+use crate::bell::LOOKS_WITHIN;
 use crate::bells::SharedBells;
 use crate::channel::{BoxPass, BoxReceiver, take};
 use crate::letter::{Letter, Post};
@@ -15,6 +16,7 @@ use std::error::Error;
 use std::fmt;
 use std::marker::Model;
 use std::sync::Wait;
+use std::time::Duration;
 
 /// Every port of the box was dropped, ended or not, and the box is empty: no letter will come any more.
 #[derive(Clone, Copy, Debug, PartialEq, Eq)]
@@ -91,6 +93,35 @@ impl<B: Drop> Inbox<B> {
             looks = self.bells.letter.wait(rt, looks);
         }
         unreachable!()
+    }
+
+    /// Takes the letter at the front of the box, and waits while there is none, but no longer than about so long. `Err` as by
+    /// `try_recv`.
+    pub fn recv_within<R: Wait>(
+        &mut self,
+        rt: &R,
+        most: Duration,
+    ) -> Result<Letter<B>, TryRecvFault>
+        ensures received { MatchResult result (λ letter. self.new ≡ with_letter self.old letter) (λ _. self.new ≡ self.old) }
+
+        // It is from a port of the box whose Bye had not come.
+        ensures port { IfOk result (λ letter. letter.from < self.old.ports) }
+        ensures before_bye { IfOk result (λ letter. ¬ HasBye self.old letter.from) }
+    {
+        let mut looks = 0;
+        for _ in 0..LOOKS_WITHIN {
+            match self.try_recv(rt) {
+                Ok(letter) => {
+                    self.bells.letter.rise(looks);
+                    return Ok(letter);
+                }
+                Err(TryRecvFault::Gone) => return Err(TryRecvFault::Gone),
+                Err(TryRecvFault::Empty) => {}
+            }
+            looks = self.bells.letter.wait_within(rt, looks, most);
+        }
+        self.bells.letter.rise(looks);
+        self.try_recv(rt)
     }
 
     /// Takes the letter at the front of the box, and waits for none. `Err` where there is none, and nothing changed: it
