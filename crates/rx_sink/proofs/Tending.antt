@@ -15,7 +15,7 @@ use Rattle.rx_sink.specs.declared.kept.Kept.{Kept}
 use Rattle.rx_sink.specs.declared.put_away.PutAway.{PutAway}
 use Rattle.rx_sink.specs.declared.sink.SinkFault.{SinkFault}
 use Rattle.rx_sink.specs.Acts.{Acts, Step, Takes, Flushes, notes_by, last_by, Makes, Took, raised}
-use Rattle.rx_sink.specs.Attachments.{Attachment, Why, TookLast, Detached, Closed, FailedAtStart, FailedAt, FailedAtFlush, Mark, Fine, Fault, NoMemory, Sent, Change, is_clear, is_held_back, is_last, is_unflushed, kept_for, given, settled, answered, served, served_yet, flushed, written, attached, detached, let_go, unchanged, with_note, with_flush, paid, request, requests, dispose, parting, without, replaced, closed}
+use Rattle.rx_sink.specs.Attachments.{Attachment, Why, TookLast, Detached, Closed, FailedAtStart, FailedAt, FailedAtFlush, Mark, Fine, Fault, NoMemory, Sent, Change, is_clear, is_held_back, is_last, may_wait, kept_for, given, settled, answered, served, served_yet, flushed, written, attached, detached, let_go, unchanged, with_note, with_flush, paid, request, requests, dispose, parting, without, replaced, closed}
 use Rattle.rx_sink.specs.Stands.{IsKept, Last, IsPutAway, Stand, Did, Pushes, Parts, MayPart, EndsAct, Settles, TakesNote, Flushed, addressed, counted, events_of}
 use Rattle.rx_sink.proofs.Finding.{AllZip-more, Found, remove-set, set-same, slice_get-set}
 
@@ -180,7 +180,7 @@ module _ {S Rest : Type 0} (acts : Acts S Rest) where
       pub same_subject : now.subject ≡ b.subject
       pub same_who : now.who ≡ b.who
       pub same_over : now.over ≡ b.over
-      pub same_unflushed : now.unflushed ≡ is_unflushed b.last
+      pub same_may_wait : now.may_wait ≡ may_wait b.last
       pub took : Took acts b.sink b.who b.taken b.last now.sink
       pub settles : Settles flow b.due now asks
 
@@ -210,7 +210,7 @@ module _ {S Rest : Type 0} (acts : Acts S Rest) where
           who = is.same_who;
           due = is.settles.due ∙ ap (λ (h : Bool). if h then b.due else 0) held_is;
           over = is.same_over;
-          unflushed = is.same_unflushed;
+          waits = is.same_may_wait;
           took = is.took;
         }) (ap (λ (e : Asks). map (λ event. (subject, event)) (events_of e)) asks_is)))
     settled_did flow b now asks false false took kept_after away_after is leaves_is held_is may =
@@ -222,7 +222,7 @@ module _ {S Rest : Type 0} (acts : Acts S Rest) where
           who = is.same_who;
           due = is.settles.due ∙ ap (λ (h : Bool). if h then b.due else 0) held_is;
           over = is.same_over;
-          unflushed = is.same_unflushed;
+          waits = is.same_may_wait;
           took = is.took;
         }) (ap (λ (e : Asks). map (λ event. (subject, event)) (events_of e)) asks_is ∙ sends_due subject who b is.of_subject is.of_who)))
 
@@ -241,25 +241,25 @@ module _ {S Rest : Type 0} (acts : Acts S Rest) where
     due_more flow m n now asks is settles = subst (λ (k : ℕ). Settles flow k now asks) is settles
 
     noted : (l : Bool) (note : Note) (flow : Flow) (now : Kept S) (asks : Asks) → f.one.over ≡ false → acts.took f.one.sink note flow now.sink
-        → now.subject ≡ f.one.subject → now.who ≡ f.one.who → now.over ≡ l → now.unflushed ≡ true → Settles flow (if l then f.one.due else f.one.due + 1) now asks
+        → now.subject ≡ f.one.subject → now.who ≡ f.one.who → now.over ≡ l → now.may_wait ≡ true → Settles flow (if l then f.one.due else f.one.due + 1) now asks
         → Answers flow (with_note l note flow f.a) now asks
-    noted true note flow now asks open_yet took same_subject same_who over unflushed settles = record {
+    noted true note flow now asks open_yet took same_subject same_who over waits settles = record {
       of_subject = f.key.0;
       of_who = f.key.1;
       same_subject = same_subject ∙ f.tie.subject;
       same_who = same_who ∙ f.tie.who;
       same_over = over;
-      same_unflushed = unflushed;
+      same_may_wait = waits;
       took = Took-more f.a.sink f.a.who f.a.taken f.a.last f.one.sink now.sink note flow f.tie.took took;
       settles = due_more flow f.one.due f.a.due now asks f.tie.due settles;
     }
-    noted false note flow now asks open_yet took same_subject same_who over unflushed settles = record {
+    noted false note flow now asks open_yet took same_subject same_who over waits settles = record {
       of_subject = f.key.0;
       of_who = f.key.1;
       same_subject = same_subject ∙ f.tie.subject;
       same_who = same_who ∙ f.tie.who;
       same_over = over ∙ sym open_yet ∙ f.tie.over;
-      same_unflushed = unflushed;
+      same_may_wait = waits;
       took = Took-more f.a.sink f.a.who f.a.taken f.a.last f.one.sink now.sink note flow f.tie.took took;
       settles = due_more flow (f.one.due + 1) (f.a.due + 1) now asks (ap (λ (n : ℕ). n + 1) f.tie.due) settles;
     }
@@ -275,7 +275,7 @@ module _ {S Rest : Type 0} (acts : Acts S Rest) where
         → (mark : Mark) × Did acts (given mark subject who note (kept_for subject who held) held) gone kept_after away_after (map (λ event. (subject, event)) (events_of asks))
         × ((if is_ok r then raised n else n) ≡ counted n (given mark subject who note (kept_for subject who held) held).took)
     given_one (Ok said) n note now asks kept_after away_after open_yet did same_subject same_who ends =
-        let is = noted (is_last note) note did.flow now said open_yet did.took same_subject same_who did.over did.unflushed did.settles in
+        let is = noted (is_last note) note did.flow now said open_yet did.took same_subject same_who did.over did.may_wait did.settles in
         let same = to_given (Fine did.flow) note open_yet in
         let b = with_note (is_last note) note did.flow f.a in (
           Fine did.flow,
@@ -321,7 +321,7 @@ module _ {S Rest : Type 0} (acts : Acts S Rest) where
             same_subject = same_subject ∙ f.tie.subject;
             same_who = same_who ∙ f.tie.who;
             same_over = did.over ∙ f.tie.over;
-            same_unflushed = did.unflushed;
+            same_may_wait = did.may_wait;
             took = Took-flush f.a.sink f.a.who f.a.taken f.a.last f.one.sink now.sink did.flow f.tie.took did.did;
             settles = due_more did.flow f.one.due f.a.due now said f.tie.due did.settles;
           }) ends),
@@ -394,7 +394,7 @@ module _ {S Rest : Type 0} (acts : Acts S Rest) where
 
   pub attached_fine : (place subject who : ℕ) (sink now : S) (held : List (Attachment S)) (gone : List (Attachment S × Why)) (kept kept_after : List (Kept S)) (away away_after : List (PutAway Rest))
       → Stand acts held gone kept away → kept_for subject who held ≡ None → acts.started sink who now
-      → kept_after ≡ kept ++ record { subject = subject; who = who; sink = now; due = 0; over = false; unflushed = true } ∷ [] → away_after ≡ away
+      → kept_after ≡ kept ++ record { subject = subject; who = who; sink = now; due = 0; over = false; may_wait = true } ∷ [] → away_after ≡ away
       → Did acts (attached (Fine Clear) (brought place subject who sink) (kept_for subject who held) held) gone kept_after away_after []
   attached_fine place subject who sink now held gone kept kept_after away away_after stand none started kept_is away_is =
       let P : Change S → Type 0 = λ change. Did acts change gone kept_after away_after [] in
@@ -402,7 +402,7 @@ module _ {S Rest : Type 0} (acts : Acts S Rest) where
       subst P (sym (ap (λ o. attached (Fine Clear) a o held) none)) (record {
         stand = record {
           kept_are = subst (AllZip (IsKept acts) (held ++ a ∷ [])) (sym kept_is)
-              (AllZip-more (IsKept acts) held kept a _ stand.kept_are (record { subject = refl; who = refl; due = refl; over = refl; unflushed = refl; took = record { begun = now; start = started; steps = []; notes_are = refl; last_is = refl; made = refl } }));
+              (AllZip-more (IsKept acts) held kept a _ stand.kept_are (record { subject = refl; who = refl; due = refl; over = refl; waits = refl; took = record { begun = now; start = started; steps = []; notes_are = refl; last_is = refl; made = refl } }));
           away_are = subst (λ (l : List (PutAway Rest)). AllZip (IsPutAway acts) (gone ++ []) l) (sym away_is)
               (subst (λ (l : List (Attachment S × Why)). AllZip (IsPutAway acts) l away) (sym (append-nil gone)) stand.away_are);
         };

@@ -2,7 +2,7 @@
 -- (this project's own rule). A sink stays attached until it took a terminal and nothing waits in it any more, had a fault,
 -- its observer left, or the drainer was told to leave. Its subject is asked for an item more for each that it took: at once,
 -- but while the sink is stuck; then once it goes on, and at its end at the latest.
-use Rattle.std.specs.Prelude.{◌==◌, ◌&&◌, if◌then◌else◌, nat_lt, ℕ, ◌+◌, ◌^◌, Bool, true, false, List, [], ◌∷◌, ◌++◌, map, replicate, Option, Some, None}
+use Rattle.std.specs.Prelude.{◌==◌, ◌&&◌, if◌then◌else◌, nat_lt, ℕ, ◌+◌, ◌^◌, Bool, true, false, not, List, [], ◌∷◌, ◌++◌, map, replicate, Option, Some, None}
 use Rattle.rx_note.specs.declared.event.Event.{Event}
 use Rattle.rx_note.specs.declared.event.Event.TheVariants.{Request, Dispose}
 use Rattle.rx_note.specs.declared.note.Note.{Note}
@@ -75,11 +75,11 @@ is_held_back Clear due = false
 is_held_back Ready due = false
 is_held_back Stuck due = nat_lt due (2 ^ 32)
 
--- what was last done with the sink was no flush
-abbrev pub is_unflushed : Option Step → Bool
-is_unflushed None = true
-is_unflushed (Some (Takes note flow)) = true
-is_unflushed (Some (Flushes flow)) = false
+-- something may wait in a sink of which this was the last step: it was not flushed since, or a flush left something
+abbrev pub may_wait : Option Step → Bool
+may_wait None = true
+may_wait (Some (Takes note flow)) = true
+may_wait (Some (Flushes flow)) = not (is_clear flow)
 
 module _ {S : Type 0} where
   -- AN OBSERVER'S ATTACHMENT

@@ -1,5 +1,5 @@
 -- What the sinks that are kept and those that were put away stand for: lists of attachments (this project's own rule).
-use Rattle.std.specs.Prelude.{◌≡◌, ◌+◌, ◌&&◌, if◌then◌else◌, ℕ, zero, suc, Bool, true, false, List, [], ◌∷◌, ◌++◌, map, replicate, Some, None, slice_get, Result, Ok, Err}
+use Rattle.std.specs.Prelude.{◌≡◌, ◌+◌, ◌&&◌, if◌then◌else◌, ℕ, zero, suc, Bool, true, false, not, List, [], ◌∷◌, ◌++◌, map, replicate, Some, None, slice_get, Result, Ok, Err}
 use Rattle.std.specs.List.{AllZip, remove}
 use Rattle.rx_note.specs.declared.event.Event.{Event}
 use Rattle.rx_note.specs.declared.event.Event.TheVariants.{Request, Dispose}
@@ -10,7 +10,7 @@ use Rattle.rx_sink.specs.declared.kept.Kept.{Kept}
 use Rattle.rx_sink.specs.declared.put_away.PutAway.{PutAway}
 use Rattle.rx_sink.specs.declared.sink.SinkFault.{SinkFault}
 use Rattle.rx_sink.specs.Acts.{Acts, Took, raised}
-use Rattle.rx_sink.specs.Attachments.{Attachment, Why, TookLast, Detached, Closed, FailedAtStart, FailedAt, FailedAtFlush, Mark, Sent, Change, is_clear, is_held_back, is_last, is_unflushed, kept_for, attached, given, flushed, detached}
+use Rattle.rx_sink.specs.Attachments.{Attachment, Why, TookLast, Detached, Closed, FailedAtStart, FailedAt, FailedAtFlush, Mark, Sent, Change, is_clear, is_held_back, is_last, may_wait, kept_for, attached, given, flushed, detached}
 
 -- the events that were sent, each with its subject
 abbrev pub addressed : List Sent → List (ℕ × Event)
@@ -38,7 +38,7 @@ module _ {S Rest : Type 0} (acts : Acts S Rest) where
     pub who : one.who ≡ a.who
     pub due : one.due ≡ a.due
     pub over : one.over ≡ a.over
-    pub unflushed : one.unflushed ≡ is_unflushed a.last
+    pub waits : one.may_wait ≡ may_wait a.last
     pub took : Took acts a.sink a.who a.taken a.last one.sink
 
   -- the state in which the sink of an attachment was put away, by the reason
@@ -103,7 +103,7 @@ module _ {S Rest : Type 0} (acts : Acts S Rest) where
     pub flow : Flow
     pub took : acts.took before.sink note flow after.sink
     pub over : after.over ≡ is_last note
-    pub unflushed : after.unflushed ≡ true
+    pub may_wait : after.may_wait ≡ true
     pub settles : Settles flow (if is_last note then before.due else before.due + 1) after asks
 
   -- a kept sink was flushed
@@ -111,7 +111,7 @@ module _ {S Rest : Type 0} (acts : Acts S Rest) where
     pub flow : Flow
     pub did : acts.flushed before.sink flow after.sink
     pub over : after.over ≡ before.over
-    pub unflushed : after.unflushed ≡ false
+    pub may_wait : after.may_wait ≡ not (is_clear flow)
     pub settles : Settles flow before.due after asks
 
   -- a kept sink was finished, and what it left is the last that was put away

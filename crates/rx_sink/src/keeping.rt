@@ -41,7 +41,7 @@ pub fn attach<S: Sink>(
                 sink: one,
                 due: 0,
                 over: false,
-                unflushed: true,
+                may_wait: true,
             });
             Asks::nothing(who)
         }
@@ -191,7 +191,7 @@ fn push_away<S: Sink>(away: &mut Vec<PutAway<S::Rest>, Heap>, one: Kept<S>)
         sink,
         due: _,
         over: _,
-        unflushed: _,
+        may_wait: _,
     } = one;
     let rest = sink.finish();
     away.push_reserved(PutAway { subject, who, rest });

@@ -17,8 +17,8 @@ pub struct Kept<S> {
     pub due: u32,
     /// It took a terminal.
     pub over: bool,
-    /// It was not flushed since it was started or took a note.
-    pub unflushed: bool,
+    /// Something may wait in it: it was not flushed since it was started or took a note, or something waited then.
+    pub may_wait: bool,
 }
 
 impl<S: Sink> Kept<S> {
@@ -34,7 +34,7 @@ impl<S: Sink> Kept<S> {
         let last = is_last(&note);
         let flow = self.sink.take(note)?;
         self.over = last;
-        self.unflushed = true;
+        self.may_wait = true;
         let due = due_after(self.due, last);
         Ok(self.settle(flow, due))
     }
@@ -48,7 +48,7 @@ impl<S: Sink> Kept<S> {
         ensures who { self.new.who ≡ self.old.who }
     {
         let flow = self.sink.flush()?;
-        self.unflushed = false;
+        self.may_wait = !is_clear(flow);
         let due = u64::from(self.due);
         Ok(self.settle(flow, due))
     }
@@ -61,7 +61,7 @@ impl<S: Sink> Kept<S> {
         ensures who { self.new.who ≡ self.old.who }
         ensures sink { self.new.sink ≡ self.old.sink }
         ensures over { self.new.over ≡ self.old.over }
-        ensures unflushed { self.new.unflushed ≡ self.old.unflushed }
+        ensures may_wait { self.new.may_wait ≡ self.old.may_wait }
     {
         let leaves = self.over && is_clear(flow);
         if is_held_back(flow, due) {

@@ -46,7 +46,7 @@ returns-in-Ok-start-clause-attaches g c = λ place held gone stand.
         said_so g.S.Sink.acts _ gone _ _ c.args.subject _ _ c.nothing-in-Ok-start.ensures
             (attached_fine g.S.Sink.acts place c.args.subject c.args.who c.args.sink c.start.new.self held gone c.args.kept.now.items c.push_reserved.new.self.items c.args.away.now.items c.grow.new.away.items
             stand nobody c.in-Ok-start.ensures.ok
-            (c.push_reserved.ensures.items ∙ ap (λ (l : List (Kept _)). l ++ record { subject = c.args.subject; who = c.args.who; sink = c.start.new.self; due = 0; over = false; unflushed = true } ∷ []) c.in-Ok.ensures.kept)
+            (c.push_reserved.ensures.items ∙ ap (λ (l : List (Kept _)). l ++ record { subject = c.args.subject; who = c.args.who; sink = c.start.new.self; due = 0; over = false; may_wait = true } ∷ []) c.in-Ok.ensures.kept)
             c.in-Ok.ensures.away),
         c.in-Ok.ensures.same ∙ sym (ap (λ o. counted c.args.places.now.misses (attached (Fine Clear) a o held).missed) nobody),
       ),
