@@ -91,6 +91,7 @@ pub fn flush_one<S: Sink>(
 ) -> Asks
     requires room { vec_len away.old + vec_len kept.old ≤ vec_capacity away.old }
     ensures room { vec_len away.new + vec_len kept.new ≤ vec_capacity away.new }
+    ensures len { vec_len kept.old ≤ vec_len kept.new + 1 }
     ensures flushes { FlushesOne S.acts subject who kept.old.items kept.new.items away.old.items away.new.items (events_of result) }
 {
     let Some(place) = find(kept.as_slice(), subject, who) else {
@@ -144,6 +145,7 @@ fn end_act<S: Sink>(
     requires within { place < vec_len kept.old }
     requires room { vec_len away.old + vec_len kept.old ≤ vec_capacity away.old }
     ensures room { vec_len away.new + vec_len kept.new ≤ vec_capacity away.new }
+    ensures len { vec_len kept.old ≤ vec_len kept.new + 1 }
     ensures ends { EndsAct S.acts place act kept.old.items kept.new.items away.old.items away.new.items result }
 {
     let Ok(asks) = act else {
@@ -166,6 +168,7 @@ fn part<S: Sink>(
     requires within { place < vec_len kept.old }
     requires room { vec_len away.old + vec_len kept.old ≤ vec_capacity away.old }
     ensures room { vec_len away.new + vec_len kept.new ≤ vec_capacity away.new }
+    ensures len { vec_len kept.old ≤ vec_len kept.new + 1 }
     ensures parts { Parts S.acts place leaves kept.old.items kept.new.items away.old.items away.new.items result }
 {
     let one = kept.remove(place);
