@@ -1,12 +1,13 @@
 ghost use Rattle.std.specs.Prelude.{◌≡◌};
 
-use crate::{LineRest, Sink, SinkFault};
+use crate::{Flow, LineRest, Sink, SinkFault};
 use rx_note::Note;
 use rx_proto::{write_joined, write_note};
 use std::io::Write;
 
 /// A sink that writes a line when it is started, `JOINED` and the number of the observer, and then the line of each note.
-/// A write that fails or takes no byte is a fault; the writer then has a front of the line.
+/// A write that fails or takes no byte is a fault; the writer then has a front of the line. So is a flush that fails. A line
+/// that the writer took is gone for this sink, in which nothing ever waits.
 ///
 /// Each line is put together on the stack and written whole, by one `write` where the writer takes it at once. A sink holds
 /// no line, since it travels in letters.
@@ -52,13 +53,21 @@ impl<W: Write + Drop> Sink for LineSink<W> {
         Ok(())
     }
 
-    fn take(&mut self, note: Note) -> Result<(), SinkFault> {
+    fn take(&mut self, note: Note) -> Result<Flow, SinkFault> {
         let Ok(()) = write_note(&mut self.writer, &note) else {
             self.faults = self.faults.saturating_add(1);
             return Err(SinkFault);
         };
         self.notes = self.notes.saturating_add(1);
-        Ok(())
+        Ok(Flow::Clear)
+    }
+
+    fn flush(&mut self) -> Result<Flow, SinkFault> {
+        let Ok(()) = self.writer.flush() else {
+            self.faults = self.faults.saturating_add(1);
+            return Err(SinkFault);
+        };
+        Ok(Flow::Clear)
     }
 
     fn finish(self) -> LineRest {

@@ -1,21 +1,24 @@
-use Rattle.std.proofs.Common.{◌≡◌, Some, OnOk, Result, Ok, Err, refl, ap, subst, ◌∙◌}
-use Rattle.rx_mailbox.specs.declared.letter.Letter.{Letter}
-use Rattle.rx_mailbox.specs.Boxes.{Incoming, with_letter}
-use Rattle.rx_pump.specs.declared.out.Out.{Out}
+use Rattle.std.proofs.Common.{Some, OnOk, Result, Ok, Err, sym, refl, ap, subst, ◌∙◌}
+use Rattle.rx_mailbox.specs.Boxes.{Incoming}
 use Rattle.rx_pump.specs.Pumps.{AreSame}
 use Rattle.rx_drain.specs.declared.drain_fault.DrainFault.TheVariants.{InboxGone}
-use Rattle.rx_drain.specs.Drainers.{DrainerView, IsDrained, KeepsPlaces, view_of}
-use Rattle.rx_drain.proofs.Ending.{drained_gone, drained_letter}
+use Rattle.rx_drain.specs.Drainers.{DrainerView, IsDrained, KeepsPlaces, TakesSome, view_of}
+use Rattle.rx_drain.proofs.Ending.{drained_gone, drained_turn, goes_further, goes_letter, takes_some}
 use Rattle.rx_drain.proofs.drainer.Drainer.turn.Given as given
 use Rattle.rx_drain.proofs.drainer.Drainer.turn.Goals as goal
 
--- the letter of this turn was handled
+-- the letters of this turn were handled, and the sinks flushed
 drained : (g : given.Over) (c : goal.After-outcome g)
-    → IsDrained g.S.Sink.acts (view_of c.handle-handled.new.hands c.handle-handled.result.left c.handle-handled.result.fault)
+    → IsDrained g.S.Sink.acts (view_of c.handle_rest-rest.new.hands c.handle_rest-rest.result.left c.handle_rest-rest.result.fault)
 drained g c =
-    drained_letter g.S.Sink.acts (view_of c.self.inside.hands c.self.inside.left c.self.inside.fault) _
-    (view_of c.handle-handled.new.hands c.handle-handled.result.left c.handle-handled.result.fault) c.in-Ok.letter
-    c.in_default.is refl c.in-Ok.ensures.received c.handle-handled.ensures.inbox c.handle-handled.ensures.ports c.handle-handled.ensures.handles c.self.invariant.0
+    let first = view_of c.self.inside.hands c.self.inside.left c.self.inside.fault in
+    let one = view_of c.handle-handled.new.hands c.handle-handled.result.left c.handle-handled.result.fault in
+    let more = view_of c.handle_more-more.new.hands c.handle_more-more.result.left c.handle_more-more.result.fault in
+    let rest = view_of c.handle_rest-rest.new.hands c.handle_rest-rest.result.left c.handle_rest-rest.result.fault in
+    drained_turn g.S.Sink.acts first more rest
+    (goes_further g.S.Sink.acts first one more
+    (goes_letter g.S.Sink.acts first _ one c.in-Ok.letter c.in_default.is refl c.in-Ok.ensures.received c.handle-handled.ensures.inbox c.handle-handled.ensures.ports c.handle-handled.ensures.handles)
+    c.handle_more-more.ensures.goes) c.handle_rest-rest.ensures.pays c.self.invariant.0
 
 pub returns-clause-drained : goal.returns-clause-drained
 returns-clause-drained g c = drained g c
@@ -76,8 +79,9 @@ handle-handled-requires g c =
 pub invariant_of-self-2 : goal.invariant_of-self-2
 invariant_of-self-2 g c = (
   drained g c,
-  c.handle-handled.ensures.fits,
-  ap (λ (i : Incoming _). i.ports) (c.handle-handled.ensures.inbox ∙ c.in-Ok.ensures.received) ∙ c.self.invariant.2,
+  c.handle_rest-rest.ensures.fits,
+  ap (λ (i : Incoming _). i.ports) (c.handle_rest-rest.ensures.inbox ∙ c.handle_more-more.ensures.inbox.1)
+      ∙ ap (λ (i : Incoming _). i.ports) (c.handle-handled.ensures.inbox ∙ c.in-Ok.ensures.received) ∙ c.self.invariant.2,
 )
 
 pub returns-clause-fault : goal.returns-clause-fault
@@ -85,21 +89,28 @@ returns-clause-fault g c = c.outcome.ensures
 
 pub returns-clause-took : goal.returns-clause-took
 returns-clause-took g c =
+    let after = c.handle_rest-rest.new.hands.parts.inbox in
+    let some = takes_some g.S.Sink.acts c.self.inside.hands.parts.inbox c.recv.new.self c.handle-handled.new.hands.parts.inbox c.handle_more-more.new.hands.parts.inbox c.in-Ok.letter
+    c.in-Ok.ensures.received c.handle-handled.ensures.inbox c.handle_more-more.ensures.inbox in
     on_ok_known c.outcome.result
-    (c.in-Ok.letter, c.handle-handled.ensures.inbox ∙ c.in-Ok.ensures.received ∙ ap (λ (v : DrainerView _ _). with_letter v.inbox c.in-Ok.letter) c.self.view_is)
+    (subst (λ (v : DrainerView _ _). TakesSome v.inbox after) c.self.view_is
+    (subst (λ (i : Incoming _). TakesSome c.self.inside.hands.parts.inbox i) (sym c.handle_rest-rest.ensures.inbox) some))
 
--- one letter more in the inbox keeps the places
-keeps : {S Rest : Type 0} (before after : DrainerView S Rest) (mid : Incoming (Out S)) (x : Letter (Out S)) → after.inbox ≡ mid → mid ≡ with_letter before.inbox x
-    → AreSame before.ports after.ports → KeepsPlaces before after
-keeps before after mid x kept received same = record {
-  box = ap (λ (i : Incoming _). i.box) (kept ∙ received);
-  count = ap (λ (i : Incoming _). i.ports) (kept ∙ received);
+-- more letters in the inbox keep the places
+keeps : {S Rest : Type 0} (before after : DrainerView S Rest) → TakesSome before.inbox after.inbox → AreSame before.ports after.ports → KeepsPlaces before after
+keeps before after some same = record {
+  box = ap (λ (i : Incoming _). i.box) some.2;
+  count = ap (λ (i : Incoming _). i.ports) some.2;
   ports = same;
 }
 
 pub returns-clause-kept : goal.returns-clause-kept
 returns-clause-kept g c =
     let inside = c.self.inside in
-    let after = view_of c.handle-handled.new.hands c.handle-handled.result.left c.handle-handled.result.fault in
+    let before = view_of inside.hands inside.left inside.fault in
+    let after = view_of c.handle_rest-rest.new.hands c.handle_rest-rest.result.left c.handle_rest-rest.result.fault in
+    let some = takes_some g.S.Sink.acts inside.hands.parts.inbox c.recv.new.self c.handle-handled.new.hands.parts.inbox c.handle_more-more.new.hands.parts.inbox c.in-Ok.letter
+    c.in-Ok.ensures.received c.handle-handled.ensures.inbox c.handle_more-more.ensures.inbox in
     subst (λ (v : DrainerView _ _). KeepsPlaces v after) c.self.view_is
-    (keeps (view_of inside.hands inside.left inside.fault) after c.recv.new.self c.in-Ok.letter c.handle-handled.ensures.inbox c.in-Ok.ensures.received c.handle-handled.ensures.ports)
+    (keeps before after (subst (λ (i : Incoming _). TakesSome inside.hands.parts.inbox i) (sym c.handle_rest-rest.ensures.inbox) some)
+    (c.handle_rest-rest.ensures.ports ∙ c.handle_more-more.ensures.ports ∙ c.handle-handled.ensures.ports))
