@@ -24,7 +24,7 @@ use Rattle.rx_drain.specs.declared.drain_fault.DrainFault.TheVariants.{InboxGone
 use Rattle.rx_drain.specs.declared.drain_stop.DrainStop.{DrainStop}
 use Rattle.rx_drain.specs.Logs.{Log, NoLetters, Next, Flush, letters, has_left, letter_change, post_change, kept_in, owed}
 use Rattle.rx_drain.specs.Credit.{IsPaid, AreAllPaid}
-use Rattle.rx_drain.specs.Drainers.{DrainerView, is_cut, NamesSubject, HaveSent, Stands, Drains, IsDrained, Handles, FlushesAll, Goes, Pays, KeepsPlaces, TakesMore, TakesSome, with_letters, view_of}
+use Rattle.rx_drain.specs.Drainers.{DrainerView, is_cut, NamesSubject, HaveSent, Stands, Drains, IsDrained, Handles, FlushesAll, Goes, Pays, KeepsPlaces, TakesMore, with_letters, view_of}
 use Rattle.rx_drain.specs.Serving.{HasServed, HasStopped}
 use Rattle.rx_drain.proofs.Standing.{names_of}
 
@@ -177,11 +177,10 @@ module _ {S Rest : Type 0} (acts : Acts S Rest) where
     kept ∙ received ∙ ap (λ (i : Incoming (Out S)). with_letter i x) more ∙ ap (λ (l : List (Letter (Out S))). incoming a.box a.ports l) (append_assoc a.received xs (x ∷ [])),
   )
 
-  pub takes_some : (a mid b c : Incoming (Out S)) (x : Letter (Out S)) → mid ≡ with_letter a x → b ≡ mid → TakesMore b c → TakesSome a c
-  takes_some a mid b c x received kept (xs, more) = (
-    x,
-    xs,
-    more ∙ ap (λ (i : Incoming (Out S)). with_letters i xs) (kept ∙ received) ∙ ap (λ (l : List (Letter (Out S))). incoming a.box a.ports l) (append_assoc a.received (x ∷ []) xs),
+  pub takes_both : (a b c : Incoming (Out S)) → TakesMore a b → TakesMore b c → TakesMore a c
+  takes_both a b c (xs, first) (ys, then) = (
+    xs ++ ys,
+    then ∙ ap (λ (i : Incoming (Out S)). with_letters i ys) first ∙ ap (λ (l : List (Letter (Out S))). incoming a.box a.ports l) (append_assoc a.received xs ys),
   )
 
   -- a turn

@@ -85,10 +85,6 @@ module _ {S : Type 0} where
   abbrev pub TakesMore : Incoming (Out S) → Incoming (Out S) → Type 0
   TakesMore before after = (xs : List (Letter (Out S))) × (after ≡ with_letters before xs)
 
-  -- one letter more was received, or several
-  abbrev pub TakesSome : Incoming (Out S) → Incoming (Out S) → Type 0
-  TakesSome before after = (x : Letter (Out S)) × (xs : List (Letter (Out S))) × (after ≡ with_letters before (x ∷ xs))
-
 module _ {S Rest : Type 0} (acts : Acts S Rest) where
   -- the sinks and the ports of a drainer are what marked letters mean, where this is the number of the leave port
   pub record Stands (leave : ℕ) (log : Log S) (view : DrainerView S Rest) : Type 0 where

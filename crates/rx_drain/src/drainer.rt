@@ -7,7 +7,7 @@ use crate::drain_fault::DrainFault;
 use crate::drain_stop::DrainStop;
 use crate::drainer_left::DrainerLeft;
 use crate::drainer_parts::DrainerParts;
-use crate::handling::{handle, handle_more, handle_rest};
+use crate::handling::{handle_first, handle_more, handle_rest};
 use rx_heap::Heap;
 use rx_mailbox::{Inbox, Port};
 use rx_pump::{Call, Out, room};
@@ -52,7 +52,7 @@ impl<S: Sink> Model for Drainer<S> {
 
 impl<S: Sink> Drainer<S> {
     ghost use Rattle.rx_mailbox.specs.Boxes.{HasEachBye};
-    ghost use Rattle.rx_drain.specs.Drainers.{IsDrained, KeepsPlaces, TakesSome, fresh_drainer, view_of};
+    ghost use Rattle.rx_drain.specs.Drainers.{IsDrained, KeepsPlaces, TakesMore, fresh_drainer, view_of};
     ghost use Rattle.rx_drain.specs.Serving.{HasServed, HasStopped};
 
     /// A drainer of new parts: one port to each subject, and an inbox with a port for each and one more, the leave port.
@@ -94,7 +94,8 @@ impl<S: Sink> Drainer<S> {
     }
 
     /// Takes the letters that are there, some thousand at most, and waits while there is none. Then it flushes each sink in
-    /// which something may wait.
+    /// which something may wait. While something waits in a sink it waits for a letter some milliseconds at most, and then
+    /// flushes again, so a turn may have taken none.
     ///
     /// A sink that a subject attaches is started and kept. A note goes to the sink that is kept for its observer, which took
     /// no terminal yet. The subject is asked for one item more for each that the sink took: at once, but while the sink is
@@ -113,19 +114,18 @@ impl<S: Sink> Drainer<S> {
     pub fn turn<R: Wait>(&mut self, rt: &R) -> Result<(), DrainFault>
         ensures drained { IsDrained S.acts self.new }
         ensures fault { MatchResult result (λ _. self.new.fault ≡ None) (λ fault. self.new.fault ≡ Some fault) }
-        ensures took { OnOk result (TakesSome self.old.inbox self.new.inbox) }
+        ensures took { OnOk result (TakesMore self.old.inbox self.new.inbox) }
         ensures kept { KeepsPlaces self.old self.new }
         ensures over { IfSome self.old.fault (λ fault. (result ≡ Err fault) × (self.new ≡ self.old)) }
     {
         if let Some(fault) = self.fault {
             return Err(fault);
         }
-        let Ok(letter) = self.hands.parts.inbox.recv(rt) else {
+        let Ok(first) = handle_first(rt, &mut self.hands, self.leave, self.left) else {
             self.fault = Some(DrainFault::InboxGone);
             return Err(DrainFault::InboxGone);
         };
-        let handled = handle(rt, &mut self.hands, self.leave, self.left, letter);
-        let more = handle_more(rt, &mut self.hands, self.leave, handled);
+        let more = handle_more(rt, &mut self.hands, self.leave, first);
         let rest = handle_rest(rt, &mut self.hands, self.leave, more);
         self.left = rest.left;
         self.fault = rest.fault;

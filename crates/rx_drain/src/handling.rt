@@ -1,5 +1,5 @@
 // One letter: the sinks take it, and the ports send what it owes.
-ghost use Rattle.std.specs.Prelude.{◌≡◌, true, false, None};
+ghost use Rattle.std.specs.Prelude.{◌≡◌, true, false, None, IfOk, OnOk, OnErr};
 ghost use Rattle.rx_mailbox.specs.declared.letter.Post.TheVariants.{Bye};
 ghost use Rattle.rx_mailbox.specs.Letters as letters;
 ghost use Rattle.rx_pump.specs.Pumps.{AreSame};
@@ -9,14 +9,18 @@ use crate::flushing::flush_all;
 use crate::sending::{part_all, send_asks};
 use crate::serving_out::{pass_over, serve_out};
 use crate::{DrainFault, DrainerLeft};
-use rx_mailbox::{Letter, Post};
+use rx_mailbox::{Gone, Letter, Post, TryRecvFault};
 use rx_pump::{Out, finish_all};
-use rx_sink::{Sink, put_all_away};
+use rx_sink::{Kept, Sink, put_all_away};
 use std::sync::Wait;
+use std::time::Duration;
 
 // So many letters are taken at most before what waits in the sinks goes out. Credit bounds how many come, but for a first
 // request without a bound.
 const MOST_LETTERS: u32 = 4096;
+
+// How long a letter is waited for while something waits in a sink, in milliseconds.
+const MOST_WAIT: u64 = 4;
 
 // What became of a letter.
 #[derive(Clone, Copy)]
@@ -59,6 +63,41 @@ pub fn handle<S: Sink, R: Wait>(
     );
     let fault = send_asks(rt, &mut hands.parts.subjects, from, asks);
     Handled { left, fault }
+}
+
+// Does what the letter asks that comes next, and waits while there is none; but where something waits in a sink no longer than
+// some milliseconds, so that it is looked after again. `Err` where no letter comes any more.
+pub fn handle_first<S: Sink, R: Wait>(
+    rt: &R,
+    hands: &mut DrainerLeft<S>,
+    leave: usize,
+    left: bool,
+) -> Result<Handled, Gone>
+    requires { Fits leave left None hands.old }
+    ensures gone { OnErr result (hands.new ≡ hands.old) }
+    ensures fits { IfOk result (λ now. Fits leave now.left now.fault hands.new) }
+    ensures inbox { OnOk result (TakesMore hands.old.parts.inbox hands.new.parts.inbox) }
+    ensures ports { IfOk result (λ now. AreSame (view_of hands.old left None).ports (view_of hands.new now.left now.fault).ports) }
+    ensures goes { IfOk result (λ now. Goes S.acts (view_of hands.old left None) (view_of hands.new now.left now.fault)) }
+{
+    if left || !may_wait(&hands.kept) {
+        let letter = hands.parts.inbox.recv(rt)?;
+        return Ok(handle(rt, hands, leave, left, letter));
+    }
+    match hands
+        .parts
+        .inbox
+        .recv_within(rt, Duration::from_millis(MOST_WAIT))
+    {
+        Ok(letter) => Ok(handle(rt, hands, leave, left, letter)),
+        Err(TryRecvFault::Empty) => Ok(Handled { left, fault: None }),
+        Err(TryRecvFault::Gone) => Err(Gone),
+    }
+}
+
+// Whether something may wait in one of the sinks.
+fn may_wait<S: Sink>(kept: &[Kept<S>]) -> bool {
+    kept.iter().any(|one| one.may_wait)
 }
 
 // Does what the letters ask that are there, as long as there is no fault, and waits for none.
