@@ -1,6 +1,6 @@
 use rx_heap::Heap;
 use rx_note::Note;
-use rx_sink::{LineSink, MemorySink, Sink, SinkFault};
+use rx_sink::{Flow, LineSink, MemorySink, Sink, SinkFault};
 use std::io::Stdout;
 
 /// Where the notes of an observer go. A server has one type of sinks, so the two that this program wants are made one.
@@ -20,8 +20,10 @@ impl Sink for Shelf {
     ghost acts = { record {
       started = λ _ _ _. Unit {0};
       start_faulted = λ _ _ _. Unit {0};
-      took = λ _ _ _. Unit {0};
+      took = λ _ _ _ _. Unit {0};
       take_faulted = λ _ _ _. Unit {0};
+      flushed = λ _ _ _. Unit {0};
+      flush_faulted = λ _ _. Unit {0};
       finished = λ _ _. Unit {0};
       faults = faults_of;
     } };
@@ -33,10 +35,17 @@ impl Sink for Shelf {
         }
     }
 
-    fn take(&mut self, note: Note) -> Result<(), SinkFault> {
+    fn take(&mut self, note: Note) -> Result<Flow, SinkFault> {
         match self {
             Shelf::Kept(sink) => sink.take(note),
             Shelf::Written(sink) => sink.take(note),
+        }
+    }
+
+    fn flush(&mut self) -> Result<Flow, SinkFault> {
+        match self {
+            Shelf::Kept(sink) => sink.flush(),
+            Shelf::Written(sink) => sink.flush(),
         }
     }
 

@@ -1,5 +1,5 @@
 -- Each sink of a log that found its place is kept or was put away, once.
-use Rattle.std.proofs.Common.{◌≡◌, ◌≢◌, ◌∙◌, sym, refl, ap, subst, ℕ, ◌+◌, ◌≤◌, ◌==◌, ◌⊎◌, inl, inr, if◌then◌else◌, Bool, true, false, List, [], ◌∷◌, ◌++◌, length, length-append, map, Option, Some, None, arith}
+use Rattle.std.proofs.Common.{◌≡◌, ◌≢◌, ◌∙◌, sym, refl, ap, subst, ℕ, ◌+◌, ◌≤◌, ◌==◌, ◌&&◌, ◌⊎◌, inl, inr, if◌then◌else◌, Bool, true, false, List, [], ◌∷◌, ◌++◌, length, length-append, map, Option, Some, None, arith}
 use Rattle.std.proofs.lemmas.Bool.Decides.{eqb_tells}
 use Rattle.std.proofs.lemmas.List.{map-append}
 use Rattle.rx_mailbox.specs.declared.letter.Letter.{Letter}
@@ -8,8 +8,9 @@ use Rattle.rx_mailbox.specs.declared.letter.Post.TheVariants.{Body, Bye}
 use Rattle.rx_note.specs.declared.note.Note.{Note}
 use Rattle.rx_pump.specs.declared.out.Out.{Out}
 use Rattle.rx_pump.specs.declared.out.Out.TheVariants.{Attach, Give, Detach}
-use Rattle.rx_sink.specs.Attachments.{Attachment, Why, Mark, Fine, Fault, NoMemory, Change, is_last, is_of, kept_for, without, replaced, with_note, attached, given, served, detached, closed}
-use Rattle.rx_drain.specs.Logs.{Log, NoLetters, Next, letters, has_left, brought, post_change, letter_change, kept_in, change, gone_in}
+use Rattle.rx_sink.specs.declared.flow.Flow.{Flow}
+use Rattle.rx_sink.specs.Attachments.{Attachment, Why, Mark, Fine, Fault, NoMemory, Change, is_clear, is_held_back, is_last, is_of, kept_for, without, replaced, with_note, with_flush, paid, attached, given, settled, served, served_yet, flushed, written, detached, let_go, closed}
+use Rattle.rx_drain.specs.Logs.{Log, NoLetters, Next, Flush, letters, has_left, brought, post_change, letter_change, kept_in, change, flush_change, gone_in}
 use Rattle.rx_drain.specs.Once.{times, place_found, post_found, letter_found, found_in, EachOnce}
 use Rattle.rx_drain.proofs.Taking.{some_split}
 
@@ -52,7 +53,7 @@ module _ {S : Type 0} where
 
   found_cases : (mark : Mark) (place : ℕ) (o : Option (Attachment S)) → (place_found mark place o ≡ []) ⊎ (place_found mark place o ≡ place ∷ [])
   found_cases mark place (Some other) = inl refl
-  found_cases Fine place None = inr refl
+  found_cases (Fine flow) place None = inr refl
   found_cases Fault place None = inr refl
   found_cases NoMemory place None = inl refl
 
@@ -72,6 +73,7 @@ module _ {S : Type 0} where
   -- the places found so far are below the length
   pub below : (leave : ℕ) (log : Log S) (n : ℕ) → length (letters log) ≤ n → times n (found_in leave log) ≡ 0
   below leave NoLetters n past = refl
+  below leave (Flush log s w mark) n past = below leave log n past
   below leave (Next log x mark) n past =
       let found = letter_found (has_left leave log) leave (length (letters log)) x mark (kept_in leave log) in
       let count = length-append (letters log) (x ∷ []) in
@@ -83,6 +85,7 @@ module _ {S : Type 0} where
 
   pub once : (leave : ℕ) (log : Log S) (n : ℕ) → times n (found_in leave log) ≤ 1
   once leave NoLetters n = omega arith
+  once leave (Flush log s w mark) n = once leave log n
   once leave (Next log x mark) n =
       let place = length (letters log) in
       let found = letter_found (has_left leave log) leave place x mark (kept_in leave log) in
@@ -146,27 +149,58 @@ module _ {S : Type 0} where
   moves_attach : (n place : ℕ) (mark : Mark) (a : Attachment S) (o : Option (Attachment S)) (kept : List (Attachment S)) → a.place ≡ place
       → Moves n kept (place_found mark place o) (attached mark a o kept)
   moves_attach n place mark a (Some other) kept is = refl
-  moves_attach n place Fine a None kept is =
+  moves_attach n place (Fine flow) a None kept is =
       let added = ap (times n) (map-append (λ (b : Attachment S). b.place) kept (a ∷ [])) ∙ times-append n (kept_places kept) (a.place ∷ []) in
       let one : times n (a.place ∷ []) ≡ times n (place ∷ []) = ap (λ (m : ℕ). times n (m ∷ [])) is in
       omega (arith, added, one)
   moves_attach n place Fault a None kept is = ap (λ (m : ℕ). times n (kept_places kept) + times n (m ∷ [])) is
   moves_attach n place NoMemory a None kept is = refl
 
-  moves_serve : (n s w : ℕ) (note : Note) (mark : Mark) (l : Bool) (a : Attachment S) (kept : List (Attachment S)) → kept_for s w kept ≡ Some a
-      → Moves n kept [] (served mark l s w note a kept)
-  moves_serve n s w note Fine false a kept is = ap (λ (m : ℕ). m + 0) (replaced_places n s w a (with_note a note) kept refl is)
-  moves_serve n s w note Fine true a kept is = (let e = without_places n s w a kept is in omega (arith, e))
-  moves_serve n s w note Fault l a kept is = (let e = without_places n s w a kept is in omega (arith, e))
-  moves_serve n s w note NoMemory l a kept is = (let e = without_places n s w a kept is in omega (arith, e))
+  -- an attachment with a note more is of the same place
+  note_place : (l : Bool) (note : Note) (flow : Flow) (a : Attachment S) → (with_note l note flow a).place ≡ a.place
+  note_place true note flow a = refl
+  note_place false note flow a = refl
+
+  moves_settle : (n s w : ℕ) (leaves held_back : Bool) (a b : Attachment S) (took : ℕ) (kept : List (Attachment S)) → b.place ≡ a.place → kept_for s w kept ≡ Some a
+      → Moves n kept [] (settled leaves held_back s w b took kept)
+  moves_settle n s w true held_back a b took kept place is =
+      (let e = without_places n s w a kept is in let p : times n (b.place ∷ []) ≡ times n (a.place ∷ []) = ap (λ (m : ℕ). times n (m ∷ [])) place in omega (arith, e, p))
+  moves_settle n s w false true a b took kept place is = ap (λ (m : ℕ). m + 0) (replaced_places n s w a b kept place is)
+  moves_settle n s w false false a b took kept place is = ap (λ (m : ℕ). m + 0) (replaced_places n s w a (paid b) kept place is)
+
+  moves_serve : (n s w : ℕ) (note : Note) (mark : Mark) (a : Attachment S) (kept : List (Attachment S)) → kept_for s w kept ≡ Some a
+      → Moves n kept [] (served mark s w note a kept)
+  moves_serve n s w note (Fine flow) a kept is =
+      (let b = with_note (is_last note) note flow a in
+      moves_settle n s w (b.over && is_clear flow) (is_held_back flow b.due) a b 1 kept (note_place (is_last note) note flow a) is)
+  moves_serve n s w note Fault a kept is = (let e = without_places n s w a kept is in omega (arith, e))
+  moves_serve n s w note NoMemory a kept is = (let e = without_places n s w a kept is in omega (arith, e))
+
+  moves_serve_yet : (n s w : ℕ) (note : Note) (mark : Mark) (o : Bool) (a : Attachment S) (kept : List (Attachment S)) → kept_for s w kept ≡ Some a
+      → Moves n kept [] (served_yet o mark s w note a kept)
+  moves_serve_yet n s w note mark true a kept is = refl
+  moves_serve_yet n s w note mark false a kept is = moves_serve n s w note mark a kept is
 
   moves_give : (n s w : ℕ) (note : Note) (mark : Mark) (o : Option (Attachment S)) (kept : List (Attachment S)) → kept_for s w kept ≡ o → Moves n kept [] (given mark s w note o kept)
   moves_give n s w note mark None kept is = refl
-  moves_give n s w note mark (Some a) kept is = moves_serve n s w note mark (is_last note) a kept is
+  moves_give n s w note mark (Some a) kept is = moves_serve_yet n s w note mark a.over a kept is
+
+  moves_write : (n s w : ℕ) (mark : Mark) (a : Attachment S) (kept : List (Attachment S)) → kept_for s w kept ≡ Some a → Moves n kept [] (written mark s w a kept)
+  moves_write n s w (Fine flow) a kept is = moves_settle n s w (a.over && is_clear flow) (is_held_back flow a.due) a (with_flush flow a) 0 kept refl is
+  moves_write n s w Fault a kept is = (let e = without_places n s w a kept is in omega (arith, e))
+  moves_write n s w NoMemory a kept is = (let e = without_places n s w a kept is in omega (arith, e))
+
+  moves_flush : (n s w : ℕ) (mark : Mark) (o : Option (Attachment S)) (kept : List (Attachment S)) → kept_for s w kept ≡ o → Moves n kept [] (flushed mark s w o kept)
+  moves_flush n s w mark None kept is = refl
+  moves_flush n s w mark (Some a) kept is = moves_write n s w mark a kept is
+
+  moves_let_go : (n s w : ℕ) (o : Bool) (a : Attachment S) (kept : List (Attachment S)) → kept_for s w kept ≡ Some a → Moves n kept [] (let_go o s w a kept)
+  moves_let_go n s w false a kept is = (let e = without_places n s w a kept is in omega (arith, e))
+  moves_let_go n s w true a kept is = (let e = without_places n s w a kept is in omega (arith, e))
 
   moves_detach : (n s w : ℕ) (o : Option (Attachment S)) (kept : List (Attachment S)) → kept_for s w kept ≡ o → Moves n kept [] (detached s w o kept)
   moves_detach n s w None kept is = refl
-  moves_detach n s w (Some a) kept is = (let e = without_places n s w a kept is in omega (arith, e))
+  moves_detach n s w (Some a) kept is = moves_let_go n s w a.over a kept is
 
   moves_post : (n : ℕ) (b : Bool) (place from : ℕ) (post : Post (Out S)) (mark : Mark) (kept : List (Attachment S))
       → Moves n kept (post_found b place from post mark kept) (post_change b place from post mark kept)
@@ -191,6 +225,12 @@ module _ {S : Type 0} where
       let gone = ap (times n) (map-append (λ (end : Attachment S × Why). end.0.place) (gone_in leave log) c.gone) ∙ times-append n (gone_places (gone_in leave log)) (gone_places c.gone) in
       let found = times-append n (found_in leave log) (letter_found (has_left leave log) leave (length (letters log)) x mark (kept_in leave log)) in
       omega (arith, before, step, gone, found)
+  same leave (Flush log s w mark) n =
+      let c = flush_change leave log s w mark in
+      let before = same leave log n in
+      let step = moves_flush n s w mark (kept_for s w (kept_in leave log)) (kept_in leave log) refl in
+      let gone = ap (times n) (map-append (λ (end : Attachment S × Why). end.0.place) (gone_in leave log) c.gone) ∙ times-append n (gone_places (gone_in leave log)) (gone_places c.gone) in
+      omega (arith, before, step, gone)
 
   pub each_sink_once : (leave : ℕ) (log : Log S) → EachOnce leave log
   each_sink_once leave log = record {

@@ -1,14 +1,14 @@
 -- What a drainer is before its first turn, after each, and what it leaves.
-use Rattle.std.proofs.Common.{◌≡◌, ◌∙◌, sym, refl, ap, subst, ℕ, ◌+◌, ◌==◌, ◌||◌, ◌&&◌, ◌⊎◌, inl, inr, cond, Bool, true, false, List, [], ◌∷◌, ◌++◌, append-nil, length, map, Option, Some, None, arith}
+use Rattle.std.proofs.Common.{◌≡◌, ◌∙◌, sym, refl, ap, subst, ℕ, ◌+◌, ◌==◌, ◌||◌, ◌&&◌, ◌⊎◌, inl, inr, cond, Bool, true, false, List, [], ◌∷◌, ◌++◌, append_assoc, append-nil, length, map, Option, Some, None, is_some, arith}
 use Rattle.std.proofs.Math.Bool.{or-false}
 use Rattle.std.proofs.lemmas.List.Elements.{filter-append}
 use Rattle.std.proofs.lemmas.List.Folds.{list_any-append}
-use Rattle.std.specs.List.{All, AllZip}
+use Rattle.std.specs.List.{All, AllByRecursion, AllZip}
 use Rattle.rx_mailbox.specs.declared.letter.Letter.{Letter}
 use Rattle.rx_mailbox.specs.declared.letter.Post.{Post}
 use Rattle.rx_mailbox.specs.declared.letter.Post.TheVariants.{Body, Bye}
 use Rattle.rx_mailbox.specs.Letters.{share, ends, has_bye}
-use Rattle.rx_mailbox.specs.Boxes.{Outgoing, Incoming, HasEachBye, with_letter}
+use Rattle.rx_mailbox.specs.Boxes.{Outgoing, Incoming, HasEachBye, incoming, with_letter}
 use Rattle.rx_pump.specs.declared.call.Call.{Call}
 use Rattle.rx_pump.specs.declared.out.Out.{Out}
 use Rattle.rx_pump.specs.Pumps.{AreSame, IsFresh, place_of}
@@ -16,15 +16,17 @@ use Rattle.rx_pump.proofs.Pumping.{HavePut-fresh, AreSame-length}
 use Rattle.rx_sink.specs.declared.kept.Kept.{Kept}
 use Rattle.rx_sink.specs.declared.put_away.PutAway.{PutAway}
 use Rattle.rx_sink.specs.Acts.{Acts}
-use Rattle.rx_sink.specs.Attachments.{Attachment, Mark}
+use Rattle.rx_sink.specs.Attachments.{Attachment, Mark, flushed, kept_for}
 use Rattle.rx_sink.specs.Stands.{IsKept, IsPutAway}
 use Rattle.rx_drain.specs.declared.drain_end.DrainEnd.{DrainEnd}
 use Rattle.rx_drain.specs.declared.drain_fault.DrainFault.{DrainFault}
 use Rattle.rx_drain.specs.declared.drain_fault.DrainFault.TheVariants.{InboxGone}
 use Rattle.rx_drain.specs.declared.drain_stop.DrainStop.{DrainStop}
-use Rattle.rx_drain.specs.Logs.{Log, NoLetters, Next, letters, has_left, letter_change, post_change, kept_in, owed}
-use Rattle.rx_drain.specs.Drainers.{DrainerView, is_cut, NamesSubject, HaveSent, Stands, Drains, IsDrained, Handles, KeepsPlaces, view_of}
+use Rattle.rx_drain.specs.Logs.{Log, NoLetters, Next, Flush, letters, has_left, letter_change, post_change, kept_in, owed}
+use Rattle.rx_drain.specs.Credit.{IsPaid, AreAllPaid}
+use Rattle.rx_drain.specs.Drainers.{DrainerView, is_cut, NamesSubject, HaveSent, Stands, Drains, IsDrained, Handles, FlushesAll, Goes, Pays, KeepsPlaces, TakesMore, with_letters, view_of}
 use Rattle.rx_drain.specs.Serving.{HasServed, HasStopped}
+use Rattle.rx_drain.proofs.Standing.{names_of}
 
 pub bool_cases : (b : Bool) → (b ≡ true) ⊎ (b ≡ false)
 bool_cases true = inl refl
@@ -38,6 +40,7 @@ module _ {S : Type 0} where
 
   pub left_by_bye : (leave : ℕ) (log : Log S) → has_left leave log ≡ has_bye (share leave (letters log))
   left_by_bye leave NoLetters = refl
+  left_by_bye leave (Flush log s w mark) = left_by_bye leave log
   left_by_bye leave (Next log x mark) =
       ap (λ b. b || (x.from == leave && ends x.post)) (left_by_bye leave log)
       ∙ ap (λ b. has_bye (share leave (letters log)) || b) (sym (left_step (x.from == leave) x))
@@ -59,6 +62,7 @@ module _ {S : Type 0} where
 
   pub kept_none : (leave : ℕ) (log : Log S) → has_left leave log ≡ true → kept_in leave log ≡ []
   kept_none leave NoLetters is = refl
+  kept_none leave (Flush log s w mark) is = ap (λ (k : List (Attachment S)). (flushed mark s w (kept_for s w k) k).kept) (kept_none leave log is)
   kept_none leave (Next log x mark) is = kept_step leave log x mark (has_left leave log) refl is (kept_none leave log)
 
 module _ {S Rest : Type 0} (acts : Acts S Rest) where
@@ -79,6 +83,7 @@ module _ {S Rest : Type 0} (acts : Acts S Rest) where
       };
       fault = subst (λ (f : Option DrainFault). NamesSubject f (length view.ports)) (sym whole) tt;
     },
+    λ none. tt,
   )
 
   -- A TURN
@@ -90,7 +95,7 @@ module _ {S Rest : Type 0} (acts : Acts S Rest) where
 
   -- no letter came
   pub drained_gone : (before after : DrainerView S Rest) → before.fault ≡ None → after ≡ record before { fault = Some InboxGone } → IsDrained acts before → IsDrained acts after
-  drained_gone before after whole is (log, d) =
+  drained_gone before after whole is (log, d, paid) =
       subst (λ (v : DrainerView S Rest). IsDrained acts v) (sym is) (
         log,
         record {
@@ -104,13 +109,14 @@ module _ {S Rest : Type 0} (acts : Acts S Rest) where
           };
           fault = tt;
         },
+        λ none. cc,
       )
 
   -- a letter came
-  pub drained_letter : (before mid after : DrainerView S Rest) (x : Letter (Out S)) → before.fault ≡ None
+  pub goes_letter : (before mid after : DrainerView S Rest) (x : Letter (Out S)) → before.fault ≡ None
       → mid ≡ record before { inbox = mid.inbox; fault = None } → mid.inbox ≡ with_letter before.inbox x → after.inbox ≡ mid.inbox
-      → AreSame mid.ports after.ports → Handles acts x mid after → IsDrained acts before → IsDrained acts after
-  drained_letter before mid after x whole mid_is received kept same handles (log, d) =
+      → AreSame mid.ports after.ports → Handles acts x mid after → Goes acts before after
+  goes_letter before mid after x whole mid_is received kept same handles log d =
       let P : DrainerView S Rest → Type 0 = λ v. Stands acts (length v.ports) log v in
       let base : P (record before { inbox = mid.inbox; fault = None }) = record {
         left = d.stands.left;
@@ -121,13 +127,67 @@ module _ {S Rest : Type 0} (acts : Acts S Rest) where
       } in
       let next = handles.1 log (subst P (sym mid_is) base) in
       let count : length mid.ports ≡ length after.ports = sym (AreSame-length mid.ports after.ports same) in (
-        Next log x next.0,
+        Next next.0 x next.2,
         record {
-          received = ap (λ (i : Incoming (Out S)). i.received) (kept ∙ received) ∙ ap (λ (l : List (Letter (Out S))). l ++ x ∷ []) d.received;
-          stands = subst (λ (n : ℕ). Stands acts n (Next log x next.0) after) count next.1;
+          received = ap (λ (i : Incoming (Out S)). i.received) (kept ∙ received) ∙ ap (λ (l : List (Letter (Out S))). l ++ x ∷ []) (d.received ∙ sym next.1);
+          stands = subst (λ (n : ℕ). Stands acts n (Next next.0 x next.2) after) count next.3;
           fault = subst (λ (n : ℕ). NamesSubject after.fault n) count handles.0;
         },
       )
+
+  -- nothing came
+  pub goes_nowhere : (view : DrainerView S Rest) → Goes acts view view
+  goes_nowhere view log d = (log, d)
+
+  -- more came
+  pub goes_further : (first second third : DrainerView S Rest) → Goes acts first second → Goes acts second third → Goes acts first third
+  goes_further first second third a b log d = (let one = a log d in b one.0 one.1)
+
+  -- sinks were flushed
+  pub pays_flushed : (before after : DrainerView S Rest) → after.inbox ≡ before.inbox → AreSame before.ports after.ports → FlushesAll acts before after → Pays acts before after
+  pays_flushed before after kept same flushes log d =
+      let f = flushes.stands log d.stands in
+      let count : length before.ports ≡ length after.ports = sym (AreSame-length before.ports after.ports same) in (
+        f.0,
+        record {
+          received = ap (λ (i : Incoming (Out S)). i.received) kept ∙ d.received ∙ sym f.1;
+          stands = subst (λ (n : ℕ). Stands acts n f.0 after) count f.2;
+          fault = subst (λ (n : ℕ). NamesSubject after.fault n) count (names_of after.fault (length before.ports) flushes.fault);
+        },
+        λ none. subst (λ (n : ℕ). AreAllPaid n f.0) count (f.3 none),
+      )
+
+  -- no sink is kept any more
+  pub pays_left : (view : DrainerView S Rest) → view.left ≡ true → Pays acts view view
+  pays_left view left log d =
+      (log, d, λ none. subst (AllByRecursion IsPaid) (sym (kept_none (length view.ports) log (sym d.stands.left ∙ left))) tt)
+
+  -- there is a fault
+  pub pays_fault : (view : DrainerView S Rest) → is_some view.fault ≡ true → Pays acts view view
+  pays_fault view some log d = (log, d, λ none. (let no : is_some view.fault ≡ false = ap is_some none in cc))
+
+  -- LETTERS RECEIVED
+
+  pub takes_none : (a : Incoming (Out S)) → TakesMore a a
+  takes_none a = ([], ap (λ (l : List (Letter (Out S))). incoming a.box a.ports l) (sym (append-nil a.received)))
+
+  pub takes_then : (a b mid c : Incoming (Out S)) (x : Letter (Out S)) → TakesMore a b → mid ≡ with_letter b x → c ≡ mid → TakesMore a c
+  takes_then a b mid c x (xs, more) received kept = (
+    xs ++ x ∷ [],
+    kept ∙ received ∙ ap (λ (i : Incoming (Out S)). with_letter i x) more ∙ ap (λ (l : List (Letter (Out S))). incoming a.box a.ports l) (append_assoc a.received xs (x ∷ [])),
+  )
+
+  pub takes_both : (a b c : Incoming (Out S)) → TakesMore a b → TakesMore b c → TakesMore a c
+  takes_both a b c (xs, first) (ys, then) = (
+    xs ++ ys,
+    then ∙ ap (λ (i : Incoming (Out S)). with_letters i ys) first ∙ ap (λ (l : List (Letter (Out S))). incoming a.box a.ports l) (append_assoc a.received xs ys),
+  )
+
+  -- a turn
+  pub drained_turn : (first second third : DrainerView S Rest) → Goes acts first second → Pays acts second third → IsDrained acts first → IsDrained acts third
+  drained_turn first second third a b (log, d, paid) =
+      let one = a log d in
+      let two = b one.0 one.1 in (two.0, two.1, two.2)
 
   -- AT THE END
 
@@ -138,13 +198,13 @@ module _ {S Rest : Type 0} (acts : Acts S Rest) where
 
   -- the drainer was told to leave
   pub told_to_leave : (view : DrainerView S Rest) → view.inbox.ports ≡ length view.ports + 1 → HasEachBye view.inbox → IsDrained acts view → view.left ≡ true
-  told_to_leave view senders each (log, d) =
+  told_to_leave view senders each (log, d, paid) =
       d.stands.left ∙ left_by_bye (length view.ports) log ∙ ap (λ (l : List (Letter (Out S))). has_bye (share (length view.ports) l)) (sym d.received)
       ∙ each (length view.ports) (omega (arith, senders))
 
   -- and keeps no sink
   pub keeps_none : (view : DrainerView S Rest) → view.left ≡ true → IsDrained acts view → view.kept ≡ []
-  keeps_none view left_is (log, d) =
+  keeps_none view left_is (log, d, paid) =
       empty_zip (kept_in (length view.ports) log) view.kept (kept_none (length view.ports) log (sym d.stands.left ∙ left_is)) d.stands.sinks.kept_are
 
   drains_end : (log : Log S) (inbox : Incoming (Out S)) (ports : List (Outgoing (Call S))) (away : List (PutAway Rest)) (misses taken : ℕ)
@@ -161,9 +221,9 @@ module _ {S Rest : Type 0} (acts : Acts S Rest) where
   pub served_end : (view : DrainerView S Rest) (rest : List (Outgoing (Call S))) (end : DrainEnd S Rest)
       → end.inbox ≡ view.inbox → view.ports ≡ end.ports.items ++ rest → rest ≡ [] → end.put_away.items ≡ view.away → end.places.misses ≡ view.misses → end.taken ≡ view.taken
       → view.left ≡ true → view.fault ≡ None → HasEachBye view.inbox → IsDrained acts view → HasServed acts view end
-  served_end view rest end inbox ports none away misses taken left_is whole each (log, d) =
+  served_end view rest end inbox ports none away misses taken left_is whole each (log, d, paid) =
       let all : view.ports ≡ end.ports.items = ports ∙ ap (λ l. end.ports.items ++ l) none ∙ append-nil end.ports.items in
-      let drains = drains_end log view.inbox end.ports.items view.away view.misses view.taken view.ports view.kept view.left view.fault all (keeps_none view left_is (log, d)) left_is whole d in
+      let drains = drains_end log view.inbox end.ports.items view.away view.misses view.taken view.ports view.kept view.left view.fault all (keeps_none view left_is (log, d, paid)) left_is whole d in
       let P : Incoming (Out S) → List (PutAway Rest) → ℕ → ℕ → Type 0 =
       λ i w m t. Drains acts (record { inbox = i; ports = end.ports.items; kept = []; away = w; misses = m; taken = t; left = true; fault = None }) log in (
         log,

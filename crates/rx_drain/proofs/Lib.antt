@@ -5,3 +5,5 @@ pub mod Taking
 pub mod Counting
 mod Owing
 mod Tallying
+pub mod Crediting
+pub mod Clearing

@@ -1,7 +1,7 @@
 -- What is sent for each attachment of a log.
-use Rattle.std.proofs.Common.{◌≡◌, ◌≢◌, ◌∙◌, sym, refl, ap, subst, ℕ, ◌+◌, ◌≤◌, ◌==◌, ◌⊎◌, inl, inr, if◌then◌else◌, Bool, true, false, List, [], ◌∷◌, ◌++◌, append_assoc, append-nil, length, map, Option, Some, None, slice_get, eq-eqb, arith}
+use Rattle.std.proofs.Common.{◌≡◌, ◌≢◌, ◌∙◌, sym, refl, ap, subst, ℕ, zero, suc, ◌+◌, ◌≤◌, ◌==◌, ◌&&◌, ◌⊎◌, inl, inr, if◌then◌else◌, Bool, true, false, List, [], ◌∷◌, ◌++◌, append_assoc, append-nil, length, replicate, Option, Some, None, slice_get, eq-eqb, arith}
 use Rattle.std.proofs.lemmas.Bool.Decides.{eqb_tells}
-use Rattle.std.proofs.lemmas.List.{map-append}
+use Rattle.std.proofs.lemmas.List.{map-append, replicate_more}
 use Rattle.std.specs.List.{AllByRecursion}
 use Rattle.rx_mailbox.specs.declared.letter.Letter.{Letter}
 use Rattle.rx_mailbox.specs.declared.letter.Post.{Post}
@@ -13,11 +13,12 @@ use Rattle.rx_note.specs.declared.note.Note.{Note}
 use Rattle.rx_pump.specs.declared.out.Out.{Out}
 use Rattle.rx_pump.specs.declared.out.Out.TheVariants.{Attach, Give, Detach}
 use Rattle.rx_pump.proofs.Placing.{slice_get-append_left, slice_get-append_right}
-use Rattle.rx_sink.specs.Attachments.{Attachment, Why, TookLast, Detached, FailedAtStart, FailedAt, Mark, Fine, Fault, NoMemory, Sent, Change, is_last, is_of, kept_for, without, replaced, with_note, request, dispose, attached, given, served, detached, closed}
-use Rattle.rx_drain.specs.Logs.{Log, NoLetters, Next, letters, has_left, brought, post_change, letter_change, kept_in, change, gone_in, sent_in}
+use Rattle.rx_sink.specs.declared.flow.Flow.{Flow}
+use Rattle.rx_sink.specs.Attachments.{Attachment, Why, TookLast, Detached, FailedAtStart, FailedAt, FailedAtFlush, Mark, Fine, Fault, NoMemory, Sent, Change, is_clear, is_held_back, is_last, is_of, kept_for, without, replaced, with_note, with_flush, paid, request, requests, dispose, parting, partings, attached, given, settled, served, served_yet, flushed, written, detached, let_go, closed}
+use Rattle.rx_drain.specs.Logs.{Log, NoLetters, Next, Flush, letters, has_left, brought, post_change, letter_change, kept_in, change, flush_change, gone_in, sent_in}
 use Rattle.rx_drain.specs.Once.{times, letter_found, found_in}
 use Rattle.rx_drain.specs.Served.{StandsAt}
-use Rattle.rx_drain.specs.Sent.{asks, sent_for, to_subject, asked, asked_in_all, IsSentForEach}
+use Rattle.rx_drain.specs.Sent.{asks, at_end, sent_for, to_subject, asked, dues, asked_in_all, IsSentForEach}
 use Rattle.rx_drain.proofs.Counting.{times-append, kept_places, gone_places, below, without_places, same, once}
 use Rattle.rx_drain.proofs.Taking.{all_append, some_split}
 
@@ -43,6 +44,10 @@ sent_here s = ap (λ t. (if t then (s.subject, s.event) ∷ [] else []) ++ []) (
 keep : (n : ℕ) (xs ys : List Sent) (all : List (ℕ × Event)) → sent_for n ys ≡ [] → sent_for n xs ≡ all → sent_for n (xs ++ ys) ≡ all
 keep n xs ys all none is = sent_append n xs ys ∙ ap (λ l. sent_for n xs ++ l) none ∙ append-nil (sent_for n xs) ∙ is
 
+-- the same, with what is due
+keep_due : (n : ℕ) (xs ys : List Sent) (due all : List (ℕ × Event)) → sent_for n ys ≡ [] → sent_for n xs ++ due ≡ all → sent_for n (xs ++ ys) ++ due ≡ all
+keep_due n xs ys due all none is = ap (λ l. l ++ due) (sent_append n xs ys ∙ ap (λ l. sent_for n xs ++ l) none ∙ append-nil (sent_for n xs)) ∙ is
+
 -- all events are of this place
 abbrev Only : ℕ → List Sent → Type 0
 Only m ys = (n : ℕ) → n ≢ m → sent_for n ys ≡ []
@@ -54,6 +59,13 @@ all_keep place expected xs ys m [] only apart all = tt
 all_keep place expected xs ys m (z ∷ zs) only apart all =
     (keep (place z) xs ys (expected z) (only (place z) apart.0) all.0, all_keep place expected xs ys m zs only apart.1 all.1)
 
+all_keep_due : {X : Type 0} (place : X → ℕ) (due expected : X → List (ℕ × Event)) (xs ys : List Sent) (m : ℕ) (zs : List X) → Only m ys
+    → AllByRecursion (λ z. place z ≢ m) zs → AllByRecursion (λ z. sent_for (place z) xs ++ due z ≡ expected z) zs
+    → AllByRecursion (λ z. sent_for (place z) (xs ++ ys) ++ due z ≡ expected z) zs
+all_keep_due place due expected xs ys m [] only apart all = tt
+all_keep_due place due expected xs ys m (z ∷ zs) only apart all =
+    (keep_due (place z) xs ys (due z) (expected z) (only (place z) apart.0) all.0, all_keep_due place due expected xs ys m zs only apart.1 all.1)
+
 asks_more : (who : ℕ) (notes : List Note) (note : Note) → asks who (notes ++ note ∷ []) ≡ asks who notes ++ (if is_last note then [] else Request who 1 ∷ [])
 asks_more who [] note = append-nil (if is_last note then [] else Request who 1 ∷ [])
 asks_more who (first ∷ notes) note =
@@ -63,9 +75,35 @@ asks_more who (first ∷ notes) note =
 times_self : (n : ℕ) → times n (n ∷ []) ≡ 1
 times_self n = ap (λ t. (if t then 1 else 0) + 0) (eq-eqb n n refl)
 
+-- REQUESTS THAT ARE DUE
+
+module _ {S : Type 0} where
+  many_here : (m : ℕ) (a : Attachment S) → sent_for a.place (replicate m (request a)) ≡ to_subject a (replicate m (Request a.who 1))
+  many_here zero a = refl
+  many_here (suc m) a =
+      ap (λ t. (if t then (a.subject, Request a.who 1) ∷ [] else []) ++ sent_for a.place (replicate m (request a))) (eq-eqb a.place a.place refl)
+      ∙ ap (λ (l : List (ℕ × Event)). (a.subject, Request a.who 1) ∷ l) (many_here m a)
+
+  many_other : (m n : ℕ) (a : Attachment S) → n ≢ a.place → sent_for n (replicate m (request a)) ≡ []
+  many_other zero n a other = refl
+  many_other (suc m) n a other =
+      sent_append n (request a ∷ []) (replicate m (request a)) ∙ ap (λ l. l ++ sent_for n (replicate m (request a))) (sent_other n (request a) other) ∙ many_other m n a other
+
+  parting_here : (a : Attachment S) → sent_for a.place (parting a) ≡ dues a ++ (a.subject, Dispose a.who) ∷ []
+  parting_here a =
+      sent_append a.place (requests a) (dispose a ∷ []) ∙ ap (λ l. l ++ sent_for a.place (dispose a ∷ [])) (many_here a.due a) ∙ ap (λ l. dues a ++ l) (sent_here (dispose a))
+
+  parting_other : (n : ℕ) (a : Attachment S) → n ≢ a.place → sent_for n (parting a) ≡ []
+  parting_other n a other =
+      sent_append n (requests a) (dispose a ∷ []) ∙ ap (λ l. l ++ sent_for n (dispose a ∷ [])) (many_other a.due n a other) ∙ sent_other n (dispose a) other
+
+  partings_append : (xs ys : List (Attachment S)) → partings (xs ++ ys) ≡ partings xs ++ partings ys
+  partings_append [] ys = refl
+  partings_append (a ∷ xs) ys = ap (λ l. parting a ++ l) (partings_append xs ys) ∙ sym (append_assoc (parting a) (partings xs) (partings ys))
+
 module _ {S : Type 0} where
   abbrev Asked : List Sent → List (Attachment S) → Type 0
-  Asked xs kept = AllByRecursion (λ a. sent_for a.place xs ≡ asked a) kept
+  Asked xs kept = AllByRecursion (λ a. sent_for a.place xs ++ dues a ≡ asked a) kept
 
   abbrev AskedAll : List Sent → List (Attachment S × Why) → Type 0
   AskedAll xs gone = AllByRecursion (λ end. sent_for end.0.place xs ≡ asked_in_all end) gone
@@ -131,11 +169,11 @@ module _ {S : Type 0} where
   asked_without s w a kept xs ys is few only all =
       let count = without_places a.place s w a kept is in
       let none : times a.place (kept_places (without s w kept)) ≡ 0 = omega (arith, count, times_self a.place, few) in
-      all_keep (λ (d : Attachment S). d.place) asked xs ys a.place (without s w kept) only (none_kept a.place (without s w kept) none)
-      (all_without (λ d. sent_for d.place xs ≡ asked d) s w kept all)
+      all_keep_due (λ (d : Attachment S). d.place) dues asked xs ys a.place (without s w kept) only (none_kept a.place (without s w kept) none)
+      (all_without (λ d. sent_for d.place xs ++ dues d ≡ asked d) s w kept all)
 
   replaced_step : (s w : ℕ) (c a b : Attachment S) (kept : List (Attachment S)) (xs ys : List Sent) → kept_for s w (c ∷ kept) ≡ Some a
-      → times a.place (kept_places (c ∷ kept)) ≤ 1 → Only a.place ys → Asked xs (c ∷ kept) → sent_for b.place (xs ++ ys) ≡ asked b
+      → times a.place (kept_places (c ∷ kept)) ≤ 1 → Only a.place ys → Asked xs (c ∷ kept) → sent_for b.place (xs ++ ys) ++ dues b ≡ asked b
       → (kept_for s w kept ≡ Some a → times a.place (kept_places kept) ≤ 1 → Asked (xs ++ ys) (replaced s w b kept))
       → Asked (xs ++ ys) (replaced s w b (c ∷ kept))
   replaced_step s w c a b kept xs ys is few only all now later =
@@ -145,7 +183,7 @@ module _ {S : Type 0} where
             let e : times a.place (kept_places (c ∷ kept)) ≡ 1 + times a.place (kept_places kept) = ap (λ t. (if t then 1 else 0) + times a.place (kept_places kept)) head in
             let none : times a.place (kept_places kept) ≡ 0 = omega (arith, e, few) in
             subst (λ (t : Bool). Asked (xs ++ ys) (if t then b ∷ kept else c ∷ replaced s w b kept)) (sym test)
-            (now, all_keep (λ (d : Attachment S). d.place) asked xs ys a.place kept only (none_kept a.place kept none) all.1))
+            (now, all_keep_due (λ (d : Attachment S). d.place) dues asked xs ys a.place kept only (none_kept a.place kept none) all.1))
         | inr (test, next) ↦
             (let count = without_places a.place s w a kept next in
             let tail : 1 ≤ times a.place (kept_places kept) = omega (arith, count, times_self a.place) in
@@ -154,12 +192,12 @@ module _ {S : Type 0} where
             ap (λ t. (if t then 1 else 0) + times a.place (kept_places kept)) (eq-eqb c.place a.place same) in omega (arith, e, few, tail)) in
             let fewer : times a.place (kept_places kept) ≤ 1 = omega (arith, few) in
             subst (λ (t : Bool). Asked (xs ++ ys) (if t then b ∷ kept else c ∷ replaced s w b kept)) (sym test)
-            (keep c.place xs ys (asked c) (only c.place apart) all.0, later next fewer))
+            (keep_due c.place xs ys (dues c) (asked c) (only c.place apart) all.0, later next fewer))
       ]
 
   -- another stands in its place, and events of its place are sent
   asked_replaced : (s w : ℕ) (a b : Attachment S) (kept : List (Attachment S)) (xs ys : List Sent) → kept_for s w kept ≡ Some a
-      → times a.place (kept_places kept) ≤ 1 → Only a.place ys → Asked xs kept → sent_for b.place (xs ++ ys) ≡ asked b → Asked (xs ++ ys) (replaced s w b kept)
+      → times a.place (kept_places kept) ≤ 1 → Only a.place ys → Asked xs kept → sent_for b.place (xs ++ ys) ++ dues b ≡ asked b → Asked (xs ++ ys) (replaced s w b kept)
   asked_replaced s w a b [] xs ys is few only all now = cc
   asked_replaced s w a b (c ∷ kept) xs ys is few only all now =
       replaced_step s w c a b kept xs ys is few only all now (λ next fewer. asked_replaced s w a b kept xs ys next fewer only all.1 now)
@@ -186,24 +224,24 @@ module _ {S : Type 0} where
 
   -- DISPOSALS AT THE END
 
-  none_sent : (n : ℕ) (kept : List (Attachment S)) → AllByRecursion (λ a. a.place ≢ n) kept → sent_for n (map dispose kept) ≡ []
+  none_sent : (n : ℕ) (kept : List (Attachment S)) → AllByRecursion (λ a. a.place ≢ n) kept → sent_for n (partings kept) ≡ []
   none_sent n [] apart = refl
   none_sent n (a ∷ kept) apart =
-      sent_append n (dispose a ∷ []) (map dispose kept) ∙ ap (λ l. l ++ sent_for n (map dispose kept)) (sent_other n (dispose a) (λ same. apart.0 (sym same)))
+      sent_append n (parting a) (partings kept) ∙ ap (λ l. l ++ sent_for n (partings kept)) (parting_other n a (λ same. apart.0 (sym same)))
       ∙ none_sent n kept apart.1
 
-  gone_left : (xs : List Sent) (kept : List (Attachment S)) (gone : List (Attachment S × Why)) → Few kept gone → AskedAll xs gone → AskedAll (xs ++ map dispose kept) gone
+  gone_left : (xs : List Sent) (kept : List (Attachment S)) (gone : List (Attachment S × Why)) → Few kept gone → AskedAll xs gone → AskedAll (xs ++ partings kept) gone
   gone_left xs kept [] few all = tt
   gone_left xs kept (end ∷ gone) few all =
       let n = end.0.place in
       let one : times n (gone_places (end ∷ gone)) ≡ 1 + times n (gone_places gone) = ap (λ t. (if t then 1 else 0) + times n (gone_places gone)) (eq-eqb n n refl) in
       let none : times n (kept_places kept) ≡ 0 = omega (arith, one, few n) in (
-        keep n xs (map dispose kept) (asked_in_all end) (none_sent n kept (none_kept n kept none)) all.0,
+        keep n xs (partings kept) (asked_in_all end) (none_sent n kept (none_kept n kept none)) all.0,
         gone_left xs kept gone (λ m. omega (arith, few m)) all.1,
       )
 
   closing_one : (pre rest : List (Attachment S)) (a : Attachment S) → ((n : ℕ) → times n (kept_places (pre ++ a ∷ rest)) ≤ 1)
-      → sent_for a.place (map dispose (pre ++ a ∷ rest)) ≡ (a.subject, Dispose a.who) ∷ []
+      → sent_for a.place (partings (pre ++ a ∷ rest)) ≡ dues a ++ (a.subject, Dispose a.who) ∷ []
   closing_one pre rest a few =
       let n = a.place in
       let parts : times n (kept_places (pre ++ a ∷ rest)) ≡ times n (kept_places pre) + times n (kept_places (a ∷ rest)) =
@@ -211,19 +249,25 @@ module _ {S : Type 0} where
       let one : times n (kept_places (a ∷ rest)) ≡ 1 + times n (kept_places rest) = ap (λ t. (if t then 1 else 0) + times n (kept_places rest)) (eq-eqb n n refl) in
       let before = none_sent n pre (none_kept n pre (omega (arith, parts, one, few n))) in
       let after = none_sent n rest (none_kept n rest (omega (arith, parts, one, few n))) in
-      ap (sent_for n) (map-append dispose pre (a ∷ rest)) ∙ sent_append n (map dispose pre) (dispose a ∷ map dispose rest)
-      ∙ ap (λ l. l ++ sent_for n (dispose a ∷ map dispose rest)) before ∙ sent_append n (dispose a ∷ []) (map dispose rest)
-      ∙ ap (λ l. l ++ sent_for n (map dispose rest)) (sent_here (dispose a)) ∙ ap (λ l. (a.subject, Dispose a.who) ∷ l) after
+      ap (sent_for n) (partings_append pre (a ∷ rest)) ∙ sent_append n (partings pre) (partings (a ∷ rest))
+      ∙ ap (λ l. l ++ sent_for n (partings (a ∷ rest))) before ∙ sent_append n (parting a) (partings rest)
+      ∙ ap (λ l. l ++ sent_for n (partings rest)) (parting_here a) ∙ ap (λ l. (dues a ++ (a.subject, Dispose a.who) ∷ []) ++ l) after
+      ∙ append-nil (dues a ++ (a.subject, Dispose a.who) ∷ [])
+
+  -- what was sent, what is due, and more
+  in_all : (xs ys : List Sent) (a : Attachment S) (more : List Event) → sent_for a.place xs ++ dues a ≡ asked a → sent_for a.place ys ≡ dues a ++ to_subject a more
+      → sent_for a.place (xs ++ ys) ≡ to_subject a (asks a.who a.taken ++ more)
+  in_all xs ys a more so_far now =
+      sent_append a.place xs ys ∙ ap (λ l. sent_for a.place xs ++ l) now ∙ sym (append_assoc (sent_for a.place xs) (dues a) (to_subject a more))
+      ∙ ap (λ l. l ++ to_subject a more) so_far ∙ sym (map-append (λ (event : Event). (a.subject, event)) (asks a.who a.taken) more)
 
   closing : (xs : List Sent) (pre post : List (Attachment S)) → ((n : ℕ) → times n (kept_places (pre ++ post)) ≤ 1) → Asked xs post
-      → AskedAll (xs ++ map dispose (pre ++ post)) (closed post)
+      → AskedAll (xs ++ partings (pre ++ post)) (closed post)
   closing xs pre [] few all = tt
   closing xs pre (a ∷ post) few all =
-      let same : (pre ++ a ∷ []) ++ post ≡ pre ++ a ∷ post = append_assoc pre (a ∷ []) post in
-      let now = sent_append a.place xs (map dispose (pre ++ a ∷ post)) ∙ ap (λ l. l ++ sent_for a.place (map dispose (pre ++ a ∷ post))) all.0
-      ∙ ap (λ l. asked a ++ l) (closing_one pre post a few) ∙ sym (map-append (λ event. (a.subject, event)) (asks a.who a.taken) (Dispose a.who ∷ [])) in (
-        now,
-        subst (λ (l : List (Attachment S)). AskedAll (xs ++ map dispose l) (closed post)) same
+      let same : (pre ++ a ∷ []) ++ post ≡ pre ++ a ∷ post = append_assoc pre (a ∷ []) post in (
+        in_all xs (partings (pre ++ a ∷ post)) a (Dispose a.who ∷ []) all.0 (closing_one pre post a few),
+        subst (λ (l : List (Attachment S)). AskedAll (xs ++ partings l) (closed post)) same
             (closing xs (pre ++ a ∷ []) post (λ n. subst (λ (l : List (Attachment S)). times n (kept_places l) ≤ 1) (sym same) (few n)) all.1),
       )
 
@@ -244,17 +288,17 @@ module _ {S : Type 0} where
     told_attach : (place from w : ℕ) (sink : S) (mark : Mark) (o : Option (Attachment S)) → sent_for place xs ≡ [] → times place (kept_places kept) ≡ 0 → times place (gone_places gone) ≡ 0
         → Told xs gone (attached mark (brought place from w sink) o kept)
     told_attach place from w sink mark (Some other) fresh unkept unended = told_idle
-    told_attach place from w sink Fine None fresh unkept unended =
+    told_attach place from w sink (Fine flow) None fresh unkept unended =
         let a = brought place from w sink in
         record {
-          still = all_append (λ (b : Attachment S). sent_for b.place (xs ++ []) ≡ asked b) kept (a ∷ []) (idle_kept xs kept kept_all) (keep place xs [] [] refl fresh, tt);
+          still = all_append (λ (b : Attachment S). sent_for b.place (xs ++ []) ++ dues b ≡ asked b) kept (a ∷ []) (idle_kept xs kept kept_all) (keep_due place xs [] [] [] refl (append-nil (sent_for place xs) ∙ fresh), tt);
           ended = idle_gone xs gone gone_all;
         }
     told_attach place from w sink Fault None fresh unkept unended =
         let a = brought place from w sink in
         let ys = dispose a ∷ [] in
         record {
-          still = all_keep (λ (d : Attachment S). d.place) asked xs ys place kept (λ n other. sent_other n (dispose a) other) (none_kept place kept unkept) kept_all;
+          still = all_keep_due (λ (d : Attachment S). d.place) dues asked xs ys place kept (λ n other. sent_other n (dispose a) other) (none_kept place kept unkept) kept_all;
           ended = gone_more ys (a, FailedAtStart) (gone_stays ys place (λ n other. sent_other n (dispose a) other) unended)
               (sent_append place xs ys ∙ ap (λ l. l ++ sent_for place ys) fresh ∙ sent_here (dispose a));
         }
@@ -262,7 +306,7 @@ module _ {S : Type 0} where
         let a = brought place from w sink in
         let ys = dispose a ∷ [] in
         record {
-          still = all_keep (λ (d : Attachment S). d.place) asked xs ys place kept (λ n other. sent_other n (dispose a) other) (none_kept place kept unkept) kept_all;
+          still = all_keep_due (λ (d : Attachment S). d.place) dues asked xs ys place kept (λ n other. sent_other n (dispose a) other) (none_kept place kept unkept) kept_all;
           ended = gone_only ys (gone_stays ys place (λ n other. sent_other n (dispose a) other) unended);
         }
 
@@ -273,67 +317,106 @@ module _ {S : Type 0} where
       none_there : times a.place (gone_places gone) ≡ 0
       none_there = (let count = without_places a.place s w a kept is in omega (arith, count, times_self a.place, few a.place))
 
-      so_far : sent_for a.place xs ≡ asked a
-      so_far = found_has (λ (d : Attachment S). sent_for d.place xs ≡ asked d) s w a kept is kept_all
+      so_far : sent_for a.place xs ++ dues a ≡ asked a
+      so_far = found_has (λ (d : Attachment S). sent_for d.place xs ++ dues d ≡ asked d) s w a kept is kept_all
 
-      one_more : (e : Event) (ys : List Sent) → sent_for a.place ys ≡ (a.subject, e) ∷ [] → sent_for a.place (xs ++ ys) ≡ to_subject a (asks a.who a.taken ++ e ∷ [])
-      one_more e ys one =
-          sent_append a.place xs ys ∙ ap (λ l. l ++ sent_for a.place ys) so_far ∙ ap (λ l. asked a ++ l) one
-          ∙ sym (map-append (λ event. (a.subject, event)) (asks a.who a.taken) (e ∷ []))
+      -- one item more, for which one more is due, or a terminal, for which nothing is due
+      note_due : (l : Bool) (note : Note) (flow : Flow) → is_last note ≡ l → sent_for a.place xs ++ dues (with_note l note flow a) ≡ asked (with_note l note flow a)
+      note_due false note flow last =
+          ap (λ l. sent_for a.place xs ++ to_subject a l) (sym (replicate_more a.due (Request a.who 1)))
+          ∙ ap (λ l. sent_for a.place xs ++ l) (map-append (λ (event : Event). (a.subject, event)) (replicate a.due (Request a.who 1)) (Request a.who 1 ∷ []))
+          ∙ sym (append_assoc (sent_for a.place xs) (dues a) (to_subject a (Request a.who 1 ∷ []))) ∙ ap (λ l. l ++ to_subject a (Request a.who 1 ∷ [])) so_far
+          ∙ sym (map-append (λ (event : Event). (a.subject, event)) (asks a.who a.taken) (Request a.who 1 ∷ []))
+          ∙ ap (to_subject a) (sym (asks_more a.who a.taken note ∙ ap (λ t. asks a.who a.taken ++ (if t then [] else Request a.who 1 ∷ [])) last))
+      note_due true note flow last =
+          so_far ∙ ap (to_subject a) (sym (asks_more a.who a.taken note ∙ ap (λ t. asks a.who a.taken ++ (if t then [] else Request a.who 1 ∷ [])) last ∙ append-nil (asks a.who a.taken)))
 
-      told_ended : (b : Attachment S) (why : Why) → b.place ≡ a.place → sent_for b.place (xs ++ dispose b ∷ []) ≡ asked_in_all (b, why)
-          → Told xs gone (record { kept = without s w kept; gone = (b, why) ∷ []; sends = dispose b ∷ []; missed = 0; took = 0 })
-      told_ended b why place now =
-          let ys = dispose b ∷ [] in
-          let only : Only a.place ys = λ n other. sent_other n (dispose b) (λ same. other (same ∙ place)) in
+      note_place : (l : Bool) (note : Note) (flow : Flow) → (with_note l note flow a).place ≡ a.place
+      note_place true note flow = refl
+      note_place false note flow = refl
+
+      -- it goes on, and is asked for all that is due
+      told_cleared : (b : Attachment S) (took : ℕ) → b.place ≡ a.place → sent_for b.place xs ++ dues b ≡ asked b
+          → Told xs gone (record { kept = replaced s w (paid b) kept; gone = []; sends = requests b; missed = 0; took = took })
+      told_cleared b took place now =
+          let only : Only a.place (requests b) = λ n other. many_other b.due n b (λ same. other (same ∙ place)) in
           record {
-            still = asked_without s w a kept xs ys is few_here only kept_all;
-            ended = gone_more ys (b, why) (gone_stays ys a.place only none_there) now;
+            still = asked_replaced s w a (paid b) kept xs (requests b) is few_here only kept_all
+                (append-nil (sent_for b.place (xs ++ requests b)) ∙ sent_append b.place xs (requests b) ∙ ap (λ l. sent_for b.place xs ++ l) (many_here b.due b) ∙ now);
+            ended = gone_only (requests b) (gone_stays (requests b) a.place only none_there);
           }
 
-      told_serve : (mark : Mark) (l : Bool) (note : Note) → is_last note ≡ l → Told xs gone (served mark l s w note a kept)
-      told_serve Fine false note last =
-          let ys = request a ∷ [] in
-          let only : Only a.place ys = λ n other. sent_other n (request a) other in
-          let grown : asks a.who (a.taken ++ note ∷ []) ≡ asks a.who a.taken ++ Request a.who 1 ∷ [] =
-          asks_more a.who a.taken note ∙ ap (λ t. asks a.who a.taken ++ (if t then [] else Request a.who 1 ∷ [])) last in
-          record {
-            still = asked_replaced s w a (with_note a note) kept xs ys is few_here only kept_all
-                (one_more (Request a.who 1) ys (sent_here (request a)) ∙ ap (to_subject a) (sym grown));
-            ended = gone_only ys (gone_stays ys a.place only none_there);
-          }
-      told_serve Fine true note last =
-          let grown : asks a.who (a.taken ++ note ∷ []) ≡ asks a.who a.taken =
-          asks_more a.who a.taken note ∙ ap (λ t. asks a.who a.taken ++ (if t then [] else Request a.who 1 ∷ [])) last ∙ append-nil (asks a.who a.taken) in
-          let t = told_ended (with_note a note) TookLast refl
-          (one_more (Dispose a.who) (dispose a ∷ []) (sent_here (dispose a)) ∙ ap (λ l. to_subject a (l ++ Dispose a.who ∷ [])) (sym grown)) in
-          record { still = t.still; ended = t.ended }
-      told_serve Fault l note last =
-          let t = told_ended a (FailedAt note) refl (one_more (Dispose a.who) (dispose a ∷ []) (sent_here (dispose a))) in record { still = t.still; ended = t.ended }
-      told_serve NoMemory l note last =
-          let t = told_ended a (FailedAt note) refl (one_more (Dispose a.who) (dispose a ∷ []) (sent_here (dispose a))) in record { still = t.still; ended = t.ended }
-
-      told_leaves : Told xs gone (detached s w (Some a) kept)
-      told_leaves = record {
-        still = asked_without s w a kept xs [] is few_here (λ n other. refl) kept_all;
-        ended = gone_more [] (a, Detached) (gone_stays [] a.place (λ n other. refl) none_there)
-            (keep a.place xs [] (asked_in_all (a, Detached)) refl (so_far ∙ ap (to_subject a) (sym (append-nil (asks a.who a.taken)))));
+      -- it goes on, and nothing is asked for
+      told_waits : (b : Attachment S) (took : ℕ) → sent_for b.place xs ++ dues b ≡ asked b
+          → Told xs gone (record { kept = replaced s w b kept; gone = []; sends = []; missed = 0; took = took })
+      told_waits b took now = record {
+        still = asked_replaced s w a b kept xs [] is few_here (λ n other. refl) kept_all (keep_due b.place xs [] (dues b) (asked b) refl now);
+        ended = gone_only [] (gone_stays [] a.place (λ n other. refl) none_there);
       }
+
+      -- it has ended
+      told_ended : (b : Attachment S) (why : Why) (took : ℕ) → b.place ≡ a.place → at_end b.who why ≡ Dispose b.who ∷ [] → sent_for b.place xs ++ dues b ≡ asked b
+          → Told xs gone (record { kept = without s w kept; gone = (paid b, why) ∷ []; sends = parting b; missed = 0; took = took })
+      told_ended b why took place end now =
+          let only : Only a.place (parting b) = λ n other. parting_other n b (λ same. other (same ∙ place)) in
+          record {
+            still = asked_without s w a kept xs (parting b) is few_here only kept_all;
+            ended = gone_more (parting b) (paid b, why) (gone_stays (parting b) a.place only none_there)
+                (in_all xs (parting b) b (Dispose b.who ∷ []) now (parting_here b) ∙ ap (λ l. to_subject b (asks b.who b.taken ++ l)) (sym end));
+          }
+
+      told_settle : (leaves held_back : Bool) (b : Attachment S) (took : ℕ) → b.place ≡ a.place → sent_for b.place xs ++ dues b ≡ asked b
+          → Told xs gone (settled leaves held_back s w b took kept)
+      told_settle true held_back b took place now = (let t = told_ended b TookLast took place refl now in record { still = t.still; ended = t.ended })
+      told_settle false true b took place now = (let t = told_waits b took now in record { still = t.still; ended = t.ended })
+      told_settle false false b took place now = (let t = told_cleared b took place now in record { still = t.still; ended = t.ended })
+
+      told_serve : (mark : Mark) (note : Note) → Told xs gone (served mark s w note a kept)
+      told_serve (Fine flow) note =
+          (let b = with_note (is_last note) note flow a in
+          let place = note_place (is_last note) note flow in
+          told_settle (b.over && is_clear flow) (is_held_back flow b.due) b 1 place
+          (ap (λ (n : ℕ). sent_for n xs ++ dues b) place ∙ note_due (is_last note) note flow refl))
+      told_serve Fault note = (let t = told_ended a (FailedAt note) 0 refl refl so_far in record { still = t.still; ended = t.ended })
+      told_serve NoMemory note = (let t = told_ended a (FailedAt note) 0 refl refl so_far in record { still = t.still; ended = t.ended })
+
+      told_serve_yet : (mark : Mark) (o : Bool) (note : Note) → Told xs gone (served_yet o mark s w note a kept)
+      told_serve_yet mark true note = told_idle
+      told_serve_yet mark false note = told_serve mark note
+
+      told_write : (mark : Mark) → Told xs gone (written mark s w a kept)
+      told_write (Fine flow) = told_settle (a.over && is_clear flow) (is_held_back flow a.due) (with_flush flow a) 0 refl so_far
+      told_write Fault = (let t = told_ended a FailedAtFlush 0 refl refl so_far in record { still = t.still; ended = t.ended })
+      told_write NoMemory = (let t = told_ended a FailedAtFlush 0 refl refl so_far in record { still = t.still; ended = t.ended })
+
+      told_lets_go : (o : Bool) → Told xs gone (let_go o s w a kept)
+      told_lets_go false =
+          let only : Only a.place (requests a) = λ n other. many_other a.due n a other in
+          record {
+            still = asked_without s w a kept xs (requests a) is few_here only kept_all;
+            ended = gone_more (requests a) (paid a, Detached) (gone_stays (requests a) a.place only none_there)
+                (in_all xs (requests a) a [] so_far (many_here a.due a ∙ sym (append-nil (dues a))));
+          }
+      told_lets_go true = (let t = told_ended a TookLast 0 refl refl so_far in record { still = t.still; ended = t.ended })
 
     told_give : (s w : ℕ) (note : Note) (mark : Mark) (o : Option (Attachment S)) → kept_for s w kept ≡ o → Told xs gone (given mark s w note o kept)
     told_give s w note mark None is = told_idle
-    told_give s w note mark (Some a) is = told_serve s w a is mark (is_last note) note refl
+    told_give s w note mark (Some a) is = told_serve_yet s w a is mark a.over note
+
+    told_flush : (s w : ℕ) (mark : Mark) (o : Option (Attachment S)) → kept_for s w kept ≡ o → Told xs gone (flushed mark s w o kept)
+    told_flush s w mark None is = told_idle
+    told_flush s w mark (Some a) is = told_write s w a is mark
 
     told_detach : (s w : ℕ) (o : Option (Attachment S)) → kept_for s w kept ≡ o → Told xs gone (detached s w o kept)
     told_detach s w None is = told_idle
-    told_detach s w (Some a) is = told_leaves s w a is
+    told_detach s w (Some a) is = told_lets_go s w a is a.over
 
     told_post : (b : Bool) (place from : ℕ) (post : Post (Out S)) (mark : Mark) → sent_for place xs ≡ [] → times place (kept_places kept) ≡ 0 → times place (gone_places gone) ≡ 0
         → Told xs gone (post_change b place from post mark kept)
     told_post true place from (Body out) mark fresh unkept unended = told_idle
     told_post true place from Bye mark fresh unkept unended = record {
       still = tt;
-      ended = all_append (λ (e : Attachment S × Why). sent_for e.0.place (xs ++ map dispose kept) ≡ asked_in_all e) gone (closed kept)
+      ended = all_append (λ (e : Attachment S × Why). sent_for e.0.place (xs ++ partings kept) ≡ asked_in_all e) gone (closed kept)
           (gone_left xs kept gone few gone_all) (closing xs [] kept (λ n. omega (arith, few n)) kept_all);
     }
     told_post false place from Bye mark fresh unkept unended = told_idle
@@ -359,7 +442,7 @@ module _ {S : Type 0} where
         → times n (gone_places (attached mark (brought place from w sink) o kept).gone) ≡ 0
         → Quiet n place (letter from (Body (Attach w sink))) (attached mark (brought place from w sink) o kept)
     quiet_attach place from w sink mark (Some other) none = inl refl
-    quiet_attach place from w sink Fine None none = inl refl
+    quiet_attach place from w sink (Fine flow) None none = inl refl
     quiet_attach place from w sink Fault None none =
         inl (sent_other n (dispose (brought place from w sink)) (λ same. (let a = none_gone n ((brought place from w sink, FailedAtStart) ∷ []) none in a.0 (sym same))))
     quiet_attach place from w sink NoMemory None none =
@@ -368,19 +451,46 @@ module _ {S : Type 0} where
           | inr (test, other) ↦ inl (sent_other n (dispose (brought place from w sink)) (λ same. other (sym same)))
         ]
 
-    quiet_serve : (s w : ℕ) (note : Note) (mark : Mark) (l : Bool) (a : Attachment S) → a.place ≢ n → sent_for n (served mark l s w note a kept).sends ≡ []
-    quiet_serve s w note Fine false a other = sent_other n (request a) (λ same. other (sym same))
-    quiet_serve s w note Fine true a other = sent_other n (dispose a) (λ same. other (sym same))
-    quiet_serve s w note Fault l a other = sent_other n (dispose a) (λ same. other (sym same))
-    quiet_serve s w note NoMemory l a other = sent_other n (dispose a) (λ same. other (sym same))
+    quiet_settle : (s w : ℕ) (leaves held_back : Bool) (b : Attachment S) (took : ℕ) → b.place ≢ n → sent_for n (settled leaves held_back s w b took kept).sends ≡ []
+    quiet_settle s w true held_back b took other = parting_other n b (λ same. other (sym same))
+    quiet_settle s w false true b took other = refl
+    quiet_settle s w false false b took other = many_other b.due n b (λ same. other (sym same))
+
+    note_elsewhere : (l : Bool) (note : Note) (flow : Flow) (a : Attachment S) → a.place ≢ n → (with_note l note flow a).place ≢ n
+    note_elsewhere true note flow a other = other
+    note_elsewhere false note flow a other = other
+
+    quiet_serve : (s w : ℕ) (note : Note) (mark : Mark) (a : Attachment S) → a.place ≢ n → sent_for n (served mark s w note a kept).sends ≡ []
+    quiet_serve s w note (Fine flow) a other =
+        (let b = with_note (is_last note) note flow a in
+        quiet_settle s w (b.over && is_clear flow) (is_held_back flow b.due) b 1 (note_elsewhere (is_last note) note flow a other))
+    quiet_serve s w note Fault a other = parting_other n a (λ same. other (sym same))
+    quiet_serve s w note NoMemory a other = parting_other n a (λ same. other (sym same))
+
+    quiet_serve_yet : (s w : ℕ) (note : Note) (mark : Mark) (o : Bool) (a : Attachment S) → a.place ≢ n → sent_for n (served_yet o mark s w note a kept).sends ≡ []
+    quiet_serve_yet s w note mark true a other = refl
+    quiet_serve_yet s w note mark false a other = quiet_serve s w note mark a other
 
     quiet_give : (s w : ℕ) (note : Note) (mark : Mark) (o : Option (Attachment S)) → kept_for s w kept ≡ o → sent_for n (given mark s w note o kept).sends ≡ []
     quiet_give s w note mark None is = refl
-    quiet_give s w note mark (Some a) is = quiet_serve s w note mark (is_last note) a (found_has (λ (d : Attachment S). d.place ≢ n) s w a kept is apart)
+    quiet_give s w note mark (Some a) is = quiet_serve_yet s w note mark a.over a (found_has (λ (d : Attachment S). d.place ≢ n) s w a kept is apart)
 
-    quiet_detach : (s w : ℕ) (o : Option (Attachment S)) → sent_for n (detached s w o kept).sends ≡ []
-    quiet_detach s w None = refl
-    quiet_detach s w (Some a) = refl
+    quiet_write : (s w : ℕ) (mark : Mark) (a : Attachment S) → a.place ≢ n → sent_for n (written mark s w a kept).sends ≡ []
+    quiet_write s w (Fine flow) a other = quiet_settle s w (a.over && is_clear flow) (is_held_back flow a.due) (with_flush flow a) 0 other
+    quiet_write s w Fault a other = parting_other n a (λ same. other (sym same))
+    quiet_write s w NoMemory a other = parting_other n a (λ same. other (sym same))
+
+    quiet_flush : (s w : ℕ) (mark : Mark) (o : Option (Attachment S)) → kept_for s w kept ≡ o → sent_for n (flushed mark s w o kept).sends ≡ []
+    quiet_flush s w mark None is = refl
+    quiet_flush s w mark (Some a) is = quiet_write s w mark a (found_has (λ (d : Attachment S). d.place ≢ n) s w a kept is apart)
+
+    quiet_let_go : (s w : ℕ) (o : Bool) (a : Attachment S) → a.place ≢ n → sent_for n (let_go o s w a kept).sends ≡ []
+    quiet_let_go s w false a other = many_other a.due n a (λ same. other (sym same))
+    quiet_let_go s w true a other = parting_other n a (λ same. other (sym same))
+
+    quiet_detach : (s w : ℕ) (o : Option (Attachment S)) → kept_for s w kept ≡ o → sent_for n (detached s w o kept).sends ≡ []
+    quiet_detach s w None is = refl
+    quiet_detach s w (Some a) is = quiet_let_go s w a.over a (found_has (λ (d : Attachment S). d.place ≢ n) s w a kept is apart)
 
     quiet_post : (b : Bool) (place from : ℕ) (post : Post (Out S)) (mark : Mark) → times n (gone_places (post_change b place from post mark kept).gone) ≡ 0
         → Quiet n place (letter from post) (post_change b place from post mark kept)
@@ -389,7 +499,7 @@ module _ {S : Type 0} where
     quiet_post false place from Bye mark none = inl refl
     quiet_post false place from (Body (Attach w sink)) mark none = quiet_attach place from w sink mark (kept_for from w kept) none
     quiet_post false place from (Body (Give w note)) mark none = inl (quiet_give from w note mark (kept_for from w kept) refl)
-    quiet_post false place from (Body (Detach w)) mark none = inl (quiet_detach from w (kept_for from w kept))
+    quiet_post false place from (Body (Detach w)) mark none = inl (quiet_detach from w (kept_for from w kept) refl)
 
     quiet_letter : (b : Bool) (leave place : ℕ) (x : Letter (Out S)) (mark : Mark) → times n (gone_places (letter_change b leave place x mark kept).gone) ≡ 0
         → Quiet n place x (letter_change b leave place x mark kept)
@@ -406,6 +516,10 @@ module _ {S : Type 0} where
   other_stays xs ys received x n none (inl is) = inl (keep n xs ys [] none is)
   other_stays xs ys received x n none (inr (a, place, stands, is)) =
       inr (a, place, slice_get-append_left received (x ∷ []) a.place _ stands, keep n xs ys (to_subject a (Dispose a.who ∷ [])) none is)
+
+  other_keeps : (xs ys : List Sent) (received : List (Letter (Out S))) (n : ℕ) → sent_for n ys ≡ [] → Other xs received n → Other (xs ++ ys) received n
+  other_keeps xs ys received n none (inl is) = inl (keep n xs ys [] none is)
+  other_keeps xs ys received n none (inr (a, place, stands, is)) = inr (a, place, stands, keep n xs ys (to_subject a (Dispose a.who ∷ [])) none is)
 
   other_next : (xs : List Sent) (received : List (Letter (Out S))) (x : Letter (Out S)) (n : ℕ) (c : Change S) → Quiet n (length received) x c
       → Other xs received n → Other xs received (length received) → Other (xs ++ c.sends) (received ++ x ∷ []) n
@@ -448,6 +562,18 @@ module _ {S : Type 0} (leave : ℕ) where
       let quiet = quiet_letter n (kept_in leave log) (none_kept n (kept_in leave log) (omega (arith, was))) (has_left leave log) leave (length (letters log)) x mark (omega (arith, none, gone)) in
       other_next (sent_in leave log) (letters log) x n c quiet (h.others n was) (h.others (length (letters log)) (none_yet log))
 
+  -- a flush sends for the attachments that are kept alone
+  other_flush : (log : Log S) (s w : ℕ) (mark : Mark) → Holds log → (n : ℕ)
+      → times n (kept_places (kept_in leave (Flush log s w mark))) + times n (gone_places (gone_in leave (Flush log s w mark))) ≡ 0
+      → Other (sent_in leave (Flush log s w mark)) (letters log) n
+  other_flush log s w mark h n none =
+      let c = flush_change leave log s w mark in
+      let after = same leave (Flush log s w mark) n in
+      let before = same leave log n in
+      let was : times n (kept_places (kept_in leave log)) + times n (gone_places (gone_in leave log)) ≡ 0 = omega (arith, none, after, before) in
+      let quiet = quiet_flush n (kept_in leave log) (none_kept n (kept_in leave log) (omega (arith, was))) s w mark (kept_for s w (kept_in leave log)) refl in
+      other_keeps (sent_in leave log) c.sends (letters log) n quiet (h.others n was)
+
   holds : (log : Log S) → Holds log
   holds NoLetters = record { kept = tt; gone = tt; others = λ n none. inl refl }
   holds (Next log x mark) =
@@ -457,6 +583,10 @@ module _ {S : Type 0} (leave : ℕ) where
       let t = told_letter (sent_in leave log) (kept_in leave log) (gone_in leave log) (few_in log) h.kept h.gone (has_left leave log) leave (length (letters log)) x mark fresh
       (omega (arith, none)) (omega (arith, none)) in
       record { kept = t.still; gone = t.ended; others = holds_others log x mark h }
+  holds (Flush log s w mark) =
+      let h = holds log in
+      let t = told_flush (sent_in leave log) (kept_in leave log) (gone_in leave log) (few_in log) h.kept h.gone s w mark (kept_for s w (kept_in leave log)) refl in
+      record { kept = t.still; gone = t.ended; others = other_flush log s w mark h }
 
 pub each_is_sent_for : {S : Type 0} (leave : ℕ) (log : Log S) → IsSentForEach leave log
 each_is_sent_for leave log =

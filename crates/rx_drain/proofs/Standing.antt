@@ -1,5 +1,5 @@
 -- What a drainer stands for after one letter more.
-use Rattle.std.proofs.Common.{◌≡◌, ◌∙◌, sym, refl, ap, subst, ℕ, zero, suc, zero-add, ◌+◌, ◌-◌, ◌^◌, ◌<◌, ◌==◌, ◌||◌, ◌&&◌, ◌⊎◌, inl, inr, min, Bool, true, false, List, [], ◌∷◌, ◌++◌, append_assoc, append-nil, length, length-append, map, Option, Some, None, is_some, slice_get, eq-eqb, arith}
+use Rattle.std.proofs.Common.{◌≡◌, ◌∙◌, sym, refl, ap, subst, ℕ, zero, suc, zero-add, ◌+◌, ◌-◌, ◌^◌, ◌<◌, ◌==◌, ◌||◌, ◌&&◌, ◌⊎◌, inl, inr, min, Bool, true, false, List, [], ◌∷◌, ◌++◌, append_assoc, append-nil, length, length-append, map, replicate, Option, Some, None, is_some, slice_get, eq-eqb, arith}
 use Rattle.std.proofs.lemmas.List.{map-append, length-map}
 use Rattle.std.specs.List.{AllZip}
 use Rattle.rx_mailbox.specs.declared.letter.Letter.{Letter}
@@ -8,7 +8,7 @@ use Rattle.rx_mailbox.specs.declared.letter.Post.TheVariants.{Body, Bye}
 use Rattle.rx_mailbox.specs.Letters.{letter, ends}
 use Rattle.rx_mailbox.specs.Boxes.{Outgoing}
 use Rattle.rx_note.specs.declared.event.Event.{Event}
-use Rattle.rx_note.specs.declared.event.Event.TheVariants.{Dispose}
+use Rattle.rx_note.specs.declared.event.Event.TheVariants.{Request, Dispose}
 use Rattle.rx_note.specs.declared.note.Note.{Note}
 use Rattle.rx_pump.specs.declared.call.Call.{Call}
 use Rattle.rx_pump.specs.declared.out.Out.{Out}
@@ -17,43 +17,67 @@ use Rattle.rx_pump.specs.Pumps.{IsPut, AreSame, place_of}
 use Rattle.rx_pump.specs.Sends.{with_bye, EndsSome}
 use Rattle.rx_pump.proofs.Pumping.{HavePut-puts, HavePut-cut, HavePut-same, AreSame-puts}
 use Rattle.rx_pump.proofs.Leaving.{AreSame-byes, HaveEnded-byes, HaveStopped-some, EndsSome-first}
+use Rattle.rx_sink.specs.declared.flow.Flow.TheVariants.{Clear}
 use Rattle.rx_sink.specs.declared.kept.Kept.{Kept}
 use Rattle.rx_sink.specs.declared.put_away.PutAway.{PutAway}
 use Rattle.rx_sink.specs.Acts.{Acts, raised}
-use Rattle.rx_sink.specs.Attachments.{Attachment, Why, Mark, Fine, Fault, NoMemory, Change, kept_for, attached, given, served, detached, unchanged, left, closed, dispose, is_last}
-use Rattle.rx_sink.specs.Stands.{Stand, Did, IsKept, IsPutAway, addressed, counted}
+use Rattle.rx_sink.specs.Attachments.{Attachment, Why, Mark, Fine, Fault, NoMemory, Change, is_clear, is_held_back, kept_for, with_note, with_flush, attached, given, settled, served, served_yet, flushed, written, detached, let_go, unchanged, left, closed, dispose, requests, parting, partings, request, is_last}
+use Rattle.rx_sink.specs.Stands.{Stand, Did, FlushesOne, IsKept, IsPutAway, addressed, counted}
 use Rattle.rx_drain.specs.declared.drain_fault.DrainFault.{DrainFault}
 use Rattle.rx_drain.specs.declared.drain_fault.DrainFault.TheVariants.{InboxGone, SubjectGone}
-use Rattle.rx_drain.specs.Calls.{calls_to, disposal, SendsAll}
-use Rattle.rx_drain.specs.Logs.{Log, Next, letters, has_left, brought, out_change, post_change, letter_change, kept_in, change, gone_in, sent_in, missed_in, taken_in, owed, put_by}
-use Rattle.rx_drain.specs.Drainers.{DrainerView, is_cut, NamesSubject, HaveSent, Stands, ServesOut, Handles}
+use Rattle.rx_drain.specs.Calls.{calls_to, parting_of, partings_of, SendsAll}
+use Rattle.rx_drain.specs.Logs.{Log, Next, Flush, letters, has_left, brought, out_change, post_change, letter_change, kept_in, change, flush_change, gone_in, sent_in, missed_in, taken_in, owed, put_by}
+use Rattle.rx_drain.specs.Drainers.{DrainerView, is_cut, NamesSubject, IsOfSubject, HaveSent, Stands, ServesOut, Handles}
 use Rattle.rx_drain.proofs.Events.{calls_to-append}
 
 -- MISSES
 
 module _ {S : Type 0} where
-  missed_served : (mark : Mark) (last : Bool) (subject who : ℕ) (note : Note) (a : Attachment S) (kept : List (Attachment S))
-      → (served mark last subject who note a kept).missed ≡ 0
-  missed_served Fine false subject who note a kept = refl
-  missed_served Fine true subject who note a kept = refl
-  missed_served Fault last subject who note a kept = refl
-  missed_served NoMemory last subject who note a kept = refl
+  missed_settled : (leaves held_back : Bool) (subject who took : ℕ) (a : Attachment S) (kept : List (Attachment S)) → (settled leaves held_back subject who a took kept).missed ≡ 0
+  missed_settled true held_back subject who took a kept = refl
+  missed_settled false true subject who took a kept = refl
+  missed_settled false false subject who took a kept = refl
+
+  missed_served : (mark : Mark) (subject who : ℕ) (note : Note) (a : Attachment S) (kept : List (Attachment S)) → (served mark subject who note a kept).missed ≡ 0
+  missed_served (Fine flow) subject who note a kept =
+      (let b = with_note (is_last note) note flow a in missed_settled (b.over && is_clear flow) (is_held_back flow b.due) subject who 1 b kept)
+  missed_served Fault subject who note a kept = refl
+  missed_served NoMemory subject who note a kept = refl
+
+  missed_served_yet : (mark : Mark) (o : Bool) (subject who : ℕ) (note : Note) (a : Attachment S) (kept : List (Attachment S))
+      → (served_yet o mark subject who note a kept).missed ≡ 0
+  missed_served_yet mark true subject who note a kept = refl
+  missed_served_yet mark false subject who note a kept = missed_served mark subject who note a kept
 
   -- a note misses nothing
   pub missed_given : (mark : Mark) (subject who : ℕ) (note : Note) (o : Option (Attachment S)) (kept : List (Attachment S))
       → (given mark subject who note o kept).missed ≡ 0
   missed_given mark subject who note None kept = refl
-  missed_given mark subject who note (Some a) kept = missed_served mark (is_last note) subject who note a kept
+  missed_given mark subject who note (Some a) kept = missed_served_yet mark a.over subject who note a kept
+
+  missed_written : (mark : Mark) (subject who : ℕ) (a : Attachment S) (kept : List (Attachment S)) → (written mark subject who a kept).missed ≡ 0
+  missed_written (Fine flow) subject who a kept = missed_settled (a.over && is_clear flow) (is_held_back flow a.due) subject who 0 (with_flush flow a) kept
+  missed_written Fault subject who a kept = refl
+  missed_written NoMemory subject who a kept = refl
+
+  -- nor does a flush
+  pub missed_flushed : (mark : Mark) (subject who : ℕ) (o : Option (Attachment S)) (kept : List (Attachment S)) → (flushed mark subject who o kept).missed ≡ 0
+  missed_flushed mark subject who None kept = refl
+  missed_flushed mark subject who (Some a) kept = missed_written mark subject who a kept
+
+  missed_let_go : (o : Bool) (subject who : ℕ) (a : Attachment S) (kept : List (Attachment S)) → (let_go o subject who a kept).missed ≡ 0
+  missed_let_go false subject who a kept = refl
+  missed_let_go true subject who a kept = refl
 
   -- nor does one who leaves
   pub missed_detached : (subject who : ℕ) (o : Option (Attachment S)) (kept : List (Attachment S)) → (detached subject who o kept).missed ≡ 0
   missed_detached subject who None kept = refl
-  missed_detached subject who (Some a) kept = refl
+  missed_detached subject who (Some a) kept = missed_let_go a.over subject who a kept
 
   missed_attached : (mark : Mark) (a : Attachment S) (o : Option (Attachment S)) (kept : List (Attachment S))
       → ((attached mark a o kept).missed ≡ 0) ⊎ ((attached mark a o kept).missed ≡ 1)
   missed_attached mark a (Some other) kept = inl refl
-  missed_attached Fine a None kept = inl refl
+  missed_attached (Fine flow) a None kept = inl refl
   missed_attached Fault a None kept = inl refl
   missed_attached NoMemory a None kept = inr refl
 
@@ -70,26 +94,50 @@ module _ {S : Type 0} where
   -- a sink that comes takes nothing yet
   pub took_attached : (mark : Mark) (a : Attachment S) (o : Option (Attachment S)) (kept : List (Attachment S)) → (attached mark a o kept).took ≡ 0
   took_attached mark a (Some other) kept = refl
-  took_attached Fine a None kept = refl
+  took_attached (Fine flow) a None kept = refl
   took_attached Fault a None kept = refl
   took_attached NoMemory a None kept = refl
+
+  took_let_go : (o : Bool) (subject who : ℕ) (a : Attachment S) (kept : List (Attachment S)) → (let_go o subject who a kept).took ≡ 0
+  took_let_go false subject who a kept = refl
+  took_let_go true subject who a kept = refl
+
+  took_settled : (leaves held_back : Bool) (subject who took : ℕ) (a : Attachment S) (kept : List (Attachment S)) → (settled leaves held_back subject who a took kept).took ≡ took
+  took_settled true held_back subject who took a kept = refl
+  took_settled false true subject who took a kept = refl
+  took_settled false false subject who took a kept = refl
+
+  took_written : (mark : Mark) (subject who : ℕ) (a : Attachment S) (kept : List (Attachment S)) → (written mark subject who a kept).took ≡ 0
+  took_written (Fine flow) subject who a kept = took_settled (a.over && is_clear flow) (is_held_back flow a.due) subject who 0 (with_flush flow a) kept
+  took_written Fault subject who a kept = refl
+  took_written NoMemory subject who a kept = refl
+
+  -- a flush takes nothing
+  pub took_flushed : (mark : Mark) (subject who : ℕ) (o : Option (Attachment S)) (kept : List (Attachment S)) → (flushed mark subject who o kept).took ≡ 0
+  took_flushed mark subject who None kept = refl
+  took_flushed mark subject who (Some a) kept = took_written mark subject who a kept
 
   -- one who leaves takes nothing
   pub took_detached : (subject who : ℕ) (o : Option (Attachment S)) (kept : List (Attachment S)) → (detached subject who o kept).took ≡ 0
   took_detached subject who None kept = refl
-  took_detached subject who (Some a) kept = refl
+  took_detached subject who (Some a) kept = took_let_go a.over subject who a kept
 
-  took_served : (mark : Mark) (last : Bool) (subject who : ℕ) (note : Note) (a : Attachment S) (kept : List (Attachment S))
-      → ((served mark last subject who note a kept).took ≡ 0) ⊎ ((served mark last subject who note a kept).took ≡ 1)
-  took_served Fine false subject who note a kept = inr refl
-  took_served Fine true subject who note a kept = inr refl
-  took_served Fault last subject who note a kept = inl refl
-  took_served NoMemory last subject who note a kept = inl refl
+  took_served : (mark : Mark) (subject who : ℕ) (note : Note) (a : Attachment S) (kept : List (Attachment S))
+      → ((served mark subject who note a kept).took ≡ 0) ⊎ ((served mark subject who note a kept).took ≡ 1)
+  took_served (Fine flow) subject who note a kept =
+      (let b = with_note (is_last note) note flow a in inr (took_settled (b.over && is_clear flow) (is_held_back flow b.due) subject who 1 b kept))
+  took_served Fault subject who note a kept = inl refl
+  took_served NoMemory subject who note a kept = inl refl
+
+  took_served_yet : (mark : Mark) (o : Bool) (subject who : ℕ) (note : Note) (a : Attachment S) (kept : List (Attachment S))
+      → ((served_yet o mark subject who note a kept).took ≡ 0) ⊎ ((served_yet o mark subject who note a kept).took ≡ 1)
+  took_served_yet mark true subject who note a kept = inl refl
+  took_served_yet mark false subject who note a kept = took_served mark subject who note a kept
 
   took_given : (mark : Mark) (subject who : ℕ) (note : Note) (o : Option (Attachment S)) (kept : List (Attachment S))
       → ((given mark subject who note o kept).took ≡ 0) ⊎ ((given mark subject who note o kept).took ≡ 1)
   took_given mark subject who note None kept = inl refl
-  took_given mark subject who note (Some a) kept = took_served mark (is_last note) subject who note a kept
+  took_given mark subject who note (Some a) kept = took_served_yet mark a.over subject who note a kept
 
   -- by a letter one note is taken at most
   took_out : (place subject : ℕ) (out : Out S) (mark : Mark) (kept : List (Attachment S))
@@ -114,6 +162,12 @@ module _ {S Rest : Type 0} (acts : Acts S Rest) where
       subst (λ (u : Out S). (m : Mark) × Did acts (out_change place subject u m held) gone kept away events × (misses_after ≡ counted misses (out_change place subject u m held).missed)
       × (taken_after ≡ counted taken (out_change place subject u m held).took))
       (sym is) (mark, did, missed, took)
+
+-- a fault of a subject names it
+pub names_of : (fault : Option DrainFault) (subjects : ℕ) → IsOfSubject fault subjects → NamesSubject fault subjects
+names_of None subjects is = tt
+names_of (Some InboxGone) subjects is = tt
+names_of (Some (SubjectGone place)) subjects is = is
 
 -- WHAT THE PORTS HAVE PUT
 
@@ -179,6 +233,12 @@ module _ {S : Type 0} where
   named_sent None events ended a b p = tt
   named_sent (Some InboxGone) events ended a b p = tt
   named_sent (Some (SubjectGone place)) events ended a b p = omega (arith, length-append ended a, p.named)
+
+  -- it is that of one of them
+  pub of_sent : (fault : Option DrainFault) (events : List (ℕ × Event)) (ended a b : List (Outgoing (Call S))) → SendsAll fault events a b → IsOfSubject fault (length (ended ++ a))
+  of_sent None events ended a b p = tt
+  of_sent (Some InboxGone) events ended a b p = absurd p
+  of_sent (Some (SubjectGone place)) events ended a b p = omega (arith, length-append ended a, p.named)
 
   -- ENDING
 
@@ -289,30 +349,30 @@ module _ {S Rest : Type 0} (acts : Acts S Rest) where
   }
 
   -- a letter after the Bye of the leave port
-  pub stands_idle_left : (leave : ℕ) (log : Log S) (x : Letter (Out S)) (view : DrainerView S Rest) → view.left ≡ true → Stands acts leave log view → Stands acts leave (Next log x Fine) view
+  pub stands_idle_left : (leave : ℕ) (log : Log S) (x : Letter (Out S)) (view : DrainerView S Rest) → view.left ≡ true → Stands acts leave log view → Stands acts leave (Next log x (Fine Clear)) view
   stands_idle_left leave log x view left_is s =
       let was : has_left leave log ≡ true = sym s.left ∙ left_is in
-      stands_next leave log x Fine view _ (ap (λ b. letter_change b leave (length (letters log)) x Fine (kept_in leave log)) was)
+      stands_next leave log x (Fine Clear) view _ (ap (λ b. letter_change b leave (length (letters log)) x (Fine Clear) (kept_in leave log)) was)
       (left_is ∙ sym (ap (λ b. b || (x.from == leave && ends x.post)) was)) (idle leave log view s)
 
   -- a body of the leave port before that
   pub stands_idle_leave : (leave : ℕ) (log : Log S) (from : ℕ) (out : Out S) (view : DrainerView S Rest)
-      → view.left ≡ false → (from == leave) ≡ true → Stands acts leave log view → Stands acts leave (Next log (letter from (Body out)) Fine) view
+      → view.left ≡ false → (from == leave) ≡ true → Stands acts leave log view → Stands acts leave (Next log (letter from (Body out)) (Fine Clear)) view
   stands_idle_leave leave log from out view left_is test s =
       let was : has_left leave log ≡ false = sym s.left ∙ left_is in
-      stands_next leave log (letter from (Body out)) Fine view _
-      (ap (λ b. letter_change b leave (length (letters log)) (letter from (Body out)) Fine (kept_in leave log)) was
-      ∙ ap (λ b. post_change b (length (letters log)) from (Body out) Fine (kept_in leave log)) test)
+      stands_next leave log (letter from (Body out)) (Fine Clear) view _
+      (ap (λ b. letter_change b leave (length (letters log)) (letter from (Body out)) (Fine Clear) (kept_in leave log)) was
+      ∙ ap (λ b. post_change b (length (letters log)) from (Body out) (Fine Clear) (kept_in leave log)) test)
       (left_is ∙ sym (ap (λ b. b || (from == leave && false)) was ∙ ap (λ b. b && false) test)) (idle leave log view s)
 
   -- a Bye of a subject before that
   pub stands_idle_bye : (leave : ℕ) (log : Log S) (from : ℕ) (view : DrainerView S Rest)
-      → view.left ≡ false → (from == leave) ≡ false → Stands acts leave log view → Stands acts leave (Next log (letter from Bye) Fine) view
+      → view.left ≡ false → (from == leave) ≡ false → Stands acts leave log view → Stands acts leave (Next log (letter from Bye) (Fine Clear)) view
   stands_idle_bye leave log from view left_is test s =
       let was : has_left leave log ≡ false = sym s.left ∙ left_is in
-      stands_next leave log (letter from Bye) Fine view _
-      (ap (λ b. letter_change b leave (length (letters log)) (letter from Bye) Fine (kept_in leave log)) was
-      ∙ ap (λ b. post_change b (length (letters log)) from Bye Fine (kept_in leave log)) test)
+      stands_next leave log (letter from Bye) (Fine Clear) view _
+      (ap (λ b. letter_change b leave (length (letters log)) (letter from Bye) (Fine Clear) (kept_in leave log)) was
+      ∙ ap (λ b. post_change b (length (letters log)) from Bye (Fine Clear) (kept_in leave log)) test)
       (left_is ∙ sym (ap (λ b. b || (from == leave && true)) was ∙ ap (λ b. b && true) test)) (idle leave log view s)
 
   -- a letter of a subject before that
@@ -347,30 +407,79 @@ module _ {S Rest : Type 0} (acts : Acts S Rest) where
             }),
       )
 
-  -- the observers of kept sinks are those of the attachments
-  disposals_are : (held : List (Attachment S)) (kept : List (Kept S)) → AllZip (IsKept acts) held kept → map disposal kept ≡ addressed (map dispose held)
-  disposals_are [] [] zip = refl
-  disposals_are [] (one ∷ kept) zip = absurd zip
-  disposals_are (a ∷ held) [] zip = absurd zip
-  disposals_are (a ∷ held) (one ∷ kept) zip =
-      ap (λ (n : ℕ). (n, Dispose one.who) ∷ map disposal kept) zip.0.subject ∙ ap (λ (n : ℕ). (a.subject, Dispose n) ∷ map disposal kept) zip.0.who
-      ∙ ap (λ (l : List (ℕ × Event)). (a.subject, Dispose a.who) ∷ l) (disposals_are held kept zip.1)
+  -- the sink of an observer was flushed, before the Bye of the leave port
+  pub stands_flushed : (leave : ℕ) (log : Log S) (subject who : ℕ) (before after : DrainerView S Rest) (ended a b : List (Outgoing (Call S))) (events : List Event)
+      → ended ≡ [] → before.ports ≡ ended ++ a → after.ports ≡ ended ++ b → before.left ≡ false → after.left ≡ false → before.fault ≡ None
+      → after.misses ≡ before.misses → after.taken ≡ before.taken
+      → FlushesOne acts subject who before.kept after.kept before.away after.away events
+      → SendsAll after.fault (map (λ event. (subject, event)) events) a b
+      → Stands acts leave log before → (mark : Mark) × Stands acts leave (Flush log subject who mark) after
+  stands_flushed leave log subject who before after ended a b events none before_ports after_ports left_is left_after whole same_misses same_taken flushes sends s =
+      let did = flushes (kept_in leave log) (gone_in leave log) s.sinks in
+      let mark = did.0 in
+      let c = flush_change leave log subject who mark in
+      let no_miss : c.missed ≡ 0 = missed_flushed mark subject who (kept_for subject who (kept_in leave log)) (kept_in leave log) in
+      let none_taken : c.took ≡ 0 = took_flushed mark subject who (kept_for subject who (kept_in leave log)) (kept_in leave log) in
+      let cut : is_cut before.fault ≡ false = ap is_cut whole in
+      let have : HaveSent false false (owed leave log) a =
+      subst (λ (k : Bool). HaveSent k false (owed leave log) a) cut
+      (subst (λ (l : Bool). HaveSent (is_cut before.fault) l (owed leave log) a) left_is
+      (subst (HaveSent (is_cut before.fault) before.left (owed leave log)) (before_ports ∙ all_open ended a none) s.sent)) in
+      let have_now : HaveSent (is_cut after.fault) false (λ d. owed leave log d ++ calls_to d (addressed c.sends)) b =
+      have_same (is_cut after.fault) false _ _ b (λ d. ap (λ (l : List (ℕ × Event)). owed leave log d ++ calls_to d l) did.1.sends) (have_more after.fault (owed leave log) _ a b have sends) in
+      let owed_now : (d : ℕ) → owed leave log d ++ calls_to d (addressed c.sends) ≡ owed leave (Flush log subject who mark) d =
+      λ d. sym (ap (calls_to d) (map-append _ (sent_in leave log) c.sends) ∙ calls_to-append d (addressed (sent_in leave log)) (addressed c.sends)) in (
+        mark,
+        record {
+          left = left_after ∙ sym left_is ∙ s.left;
+          sent = have_same (is_cut after.fault) after.left _ _ after.ports owed_now
+              (subst (λ (l : Bool). HaveSent (is_cut after.fault) l (λ d. owed leave log d ++ calls_to d (addressed c.sends)) after.ports) (sym left_after)
+              (subst (HaveSent (is_cut after.fault) false (λ d. owed leave log d ++ calls_to d (addressed c.sends))) (sym (after_ports ∙ all_open ended b none)) have_now));
+          sinks = did.1.stand;
+          missed = omega (arith, same_misses, s.missed, no_miss);
+          took = omega (arith, same_taken, s.took, none_taken);
+        },
+      )
+
+  -- what is due of kept sinks is what is due of the attachments, and so are their observers
+  many_are : (n subject who : ℕ) (a : Attachment S) → subject ≡ a.subject → who ≡ a.who
+      → map (λ event. (subject, event)) (replicate n (Request who 1)) ≡ addressed (replicate n (request a))
+  many_are zero subject who a subject_is who_is = refl
+  many_are (suc n) subject who a subject_is who_is =
+      ap (λ (l : List (ℕ × Event)). (subject, Request who 1) ∷ l) (many_are n subject who a subject_is who_is)
+      ∙ ap (λ (m : ℕ). (m, Request who 1) ∷ addressed (replicate n (request a))) subject_is ∙ ap (λ (m : ℕ). (a.subject, Request m 1) ∷ addressed (replicate n (request a))) who_is
+
+  parting_is : (a : Attachment S) (one : Kept S) → IsKept acts a one → parting_of one ≡ addressed (parting a)
+  parting_is a one tie =
+      map-append (λ (event : Event). (one.subject, event)) (replicate one.due (Request one.who 1)) (Dispose one.who ∷ [])
+      ∙ ap (λ l. l ++ (one.subject, Dispose one.who) ∷ []) (many_are one.due one.subject one.who a tie.subject tie.who)
+      ∙ ap (λ (n : ℕ). addressed (replicate n (request a)) ++ (one.subject, Dispose one.who) ∷ []) tie.due
+      ∙ ap (λ (n : ℕ). addressed (requests a) ++ (n, Dispose one.who) ∷ []) tie.subject ∙ ap (λ (n : ℕ). addressed (requests a) ++ (a.subject, Dispose n) ∷ []) tie.who
+      ∙ sym (map-append _ (requests a) (dispose a ∷ []))
+
+  partings_are : (held : List (Attachment S)) (kept : List (Kept S)) → AllZip (IsKept acts) held kept → partings_of kept ≡ addressed (partings held)
+  partings_are [] [] zip = refl
+  partings_are [] (one ∷ kept) zip = absurd zip
+  partings_are (a ∷ held) [] zip = absurd zip
+  partings_are (a ∷ held) (one ∷ kept) zip =
+      ap (λ l. l ++ partings_of kept) (parting_is a one zip.0) ∙ ap (λ l. addressed (parting a) ++ l) (partings_are held kept zip.1)
+      ∙ sym (map-append _ (parting a) (partings held))
 
   -- the Bye of the leave port
   pub stands_left : (leave : ℕ) (log : Log S) (from : ℕ) (before after : DrainerView S Rest)
       → from ≡ leave → before.left ≡ false → after.left ≡ true → after.kept ≡ [] → after.misses ≡ before.misses → after.taken ≡ before.taken
       → ((held : List (Attachment S)) (gone : List (Attachment S × Why)) → Stand acts held gone before.kept before.away → Stand acts [] (gone ++ closed held) after.kept after.away)
       → (HaveSent (is_cut before.fault) before.left (owed leave log) before.ports
-      → HaveSent (is_cut after.fault) true (λ d. owed leave log d ++ calls_to d (map disposal before.kept)) after.ports)
+      → HaveSent (is_cut after.fault) true (λ d. owed leave log d ++ calls_to d (partings_of before.kept)) after.ports)
       → Stands acts leave log before → (mark : Mark) × Stands acts leave (Next log (letter from Bye) mark) after
   stands_left leave log from before after from_is left_is left_after empty same_misses same_taken closes sends s =
       let was : has_left leave log ≡ false = sym s.left ∙ left_is in
       let test : (from == leave) ≡ true = eq-eqb from leave from_is in
       let c = left (kept_in leave log) in
-      let events : map disposal before.kept ≡ addressed c.sends = disposals_are (kept_in leave log) before.kept s.sinks.kept_are in (
-        Fine,
-        stands_next leave log (letter from Bye) Fine after c
-            (ap (λ k. letter_change k leave (length (letters log)) (letter from Bye) Fine (kept_in leave log)) was ∙ ap (λ k. post_change k (length (letters log)) from Bye Fine (kept_in leave log)) test)
+      let events : partings_of before.kept ≡ addressed c.sends = partings_are (kept_in leave log) before.kept s.sinks.kept_are in (
+        Fine Clear,
+        stands_next leave log (letter from Bye) (Fine Clear) after c
+            (ap (λ k. letter_change k leave (length (letters log)) (letter from Bye) (Fine Clear) (kept_in leave log)) was ∙ ap (λ k. post_change k (length (letters log)) from Bye (Fine Clear) (kept_in leave log)) test)
             (left_after ∙ sym (ap (λ k. k || (from == leave && true)) was ∙ ap (λ k. k && true) test))
             (record {
               sent = subst (λ (l : Bool). HaveSent (is_cut after.fault) l (λ d. owed leave log d ++ calls_to d (addressed c.sends)) after.ports) (sym left_after)
@@ -382,6 +491,13 @@ module _ {S Rest : Type 0} (acts : Acts S Rest) where
       )
 
   -- HANDLED
+
+  -- no sink was flushed before it
+  pub handles_next : (x : Letter (Out S)) (before after : DrainerView S Rest)
+      → NamesSubject after.fault (length before.ports)
+      × ((log : Log S) → Stands acts (length before.ports) log before → (mark : Mark) × Stands acts (length before.ports) (Next log x mark) after)
+      → Handles acts x before after
+  handles_next x before after h = (h.0, λ log s. (let next = h.1 log s in (log, refl, next.0, next.1)))
 
   -- the letter is this body
   pub handles_body : (x : Letter (Out S)) (out : Out S) (before after : DrainerView S Rest) → x.post ≡ Body out → Handles acts (letter x.from (Body out)) before after → Handles acts x before after

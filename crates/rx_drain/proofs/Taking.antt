@@ -1,5 +1,5 @@
 -- The sinks of a log took the notes that they were to be served.
-use Rattle.std.proofs.Common.{◌≡◌, ◌∙◌, sym, refl, ap, subst, ℕ, ◌+◌, ◌<◌, ◌==◌, ◌&&◌, ◌⊎◌, inl, inr, if◌then◌else◌, Bool, true, false, List, [], ◌∷◌, ◌++◌, append_assoc, append-nil, length, length-append, map, drop, Option, Some, None, slice_get, eq-eqb, arith}
+use Rattle.std.proofs.Common.{◌≡◌, ◌∙◌, sym, refl, ap, subst, ℕ, ◌+◌, ◌<◌, ◌==◌, ◌&&◌, ◌⊎◌, inl, inr, if◌then◌else◌, Bool, true, false, not, List, [], ◌∷◌, ◌++◌, append_assoc, append-nil, length, length-append, map, drop, Option, Some, None, slice_get, eq-eqb, arith}
 use Rattle.std.proofs.lemmas.Bool.{eqb-true, ne_eqb}
 use Rattle.std.proofs.lemmas.List.{map-append, drop_all, drop-append-le}
 use Rattle.std.specs.List.{AllByRecursion}
@@ -11,8 +11,9 @@ use Rattle.rx_note.specs.declared.note.Note.{Note}
 use Rattle.rx_pump.specs.declared.out.Out.{Out}
 use Rattle.rx_pump.specs.declared.out.Out.TheVariants.{Attach, Give, Detach}
 use Rattle.rx_pump.proofs.Placing.{slice_get-append_left, slice_get-append_right}
-use Rattle.rx_sink.specs.Attachments.{Attachment, Why, TookLast, Detached, Closed, FailedAtStart, FailedAt, Mark, Fine, Fault, NoMemory, Change, is_last, is_of, kept_for, without, replaced, with_note, attached, given, served as serve_note, detached, closed}
-use Rattle.rx_drain.specs.Logs.{Log, NoLetters, Next, letters, has_left, brought, post_change, letter_change, kept_in, change, gone_in}
+use Rattle.rx_sink.specs.declared.flow.Flow.{Flow}
+use Rattle.rx_sink.specs.Attachments.{Attachment, Why, TookLast, Detached, Closed, FailedAtStart, FailedAt, FailedAtFlush, Mark, Fine, Fault, NoMemory, Change, is_clear, is_held_back, is_last, is_of, kept_for, without, replaced, with_note, with_flush, paid, attached, given, settled, served as serve_note, served_yet, flushed, written, detached, let_go, closed}
+use Rattle.rx_drain.specs.Logs.{Log, NoLetters, Next, Flush, letters, has_left, brought, post_change, letter_change, kept_in, change, flush_change, gone_in}
 use Rattle.rx_drain.specs.Served.{Bearing, Bears, Stops, Passes, post_bearing, bearing, notes_in, TookOf, bearings, served, StandsAt, SinksTook}
 use Rattle.rx_drain.proofs.Ending.{bool_cases, kept_none}
 
@@ -58,6 +59,7 @@ IsShut Detached open_yet = open_yet ≡ false
 IsShut Closed open_yet = open_yet ≡ false
 IsShut FailedAtStart open_yet = Unit {0}
 IsShut (FailedAt note) open_yet = Unit {0}
+IsShut FailedAtFlush open_yet = Unit {0}
 
 -- one that has ended stays so
 took_stays : (why : Why) (taken all more : List Note) (open_yet : Bool) → IsShut why open_yet → TookOf why taken all → TookOf why taken (all ++ (if open_yet then more else []))
@@ -69,6 +71,10 @@ took_stays (FailedAt note) taken all more open_yet shut took = (
   took.0 ++ (if open_yet then more else []),
   sym (append_assoc taken (note ∷ took.0) (if open_yet then more else [])) ∙ ap (λ (l : List Note). l ++ (if open_yet then more else [])) took.1,
 )
+took_stays FailedAtFlush taken all more open_yet shut took = (
+  took.0 ++ (if open_yet then more else []),
+  sym (append_assoc taken took.0 (if open_yet then more else [])) ∙ ap (λ (l : List Note). l ++ (if open_yet then more else [])) took.1,
+)
 
 shut_more : (why : Why) (open_yet one : Bool) → IsShut why open_yet → IsShut why (if open_yet then one else false)
 shut_more TookLast open_yet one shut = ap (λ (t : Bool). if t then one else false) shut
@@ -76,6 +82,19 @@ shut_more Detached open_yet one shut = ap (λ (t : Bool). if t then one else fal
 shut_more Closed open_yet one shut = ap (λ (t : Bool). if t then one else false) shut
 shut_more FailedAtStart open_yet one shut = tt
 shut_more (FailedAt note) open_yet one shut = tt
+shut_more FailedAtFlush open_yet one shut = tt
+
+none_either : (b : Bool) → ◌≡◌ {A = List Note} (if b then [] else []) []
+none_either true = refl
+none_either false = refl
+
+no_either : (b : Bool) → (if b then false else false) ≡ false
+no_either true = refl
+no_either false = refl
+
+so_either : (b : Bool) → (if b then true else false) ≡ b
+so_either true = refl
+so_either false = refl
 
 module _ {S : Type 0} (leave : ℕ) where
   -- an attachment whose sink is kept
@@ -83,7 +102,7 @@ module _ {S : Type 0} (leave : ℕ) where
     pub at : StandsAt xs a
     pub within : a.place < length xs
     pub taken : a.taken ≡ served leave a xs
-    pub still : is_open (bearings leave a xs) ≡ true
+    pub still : is_open (bearings leave a xs) ≡ not a.over
 
   -- one that has ended
   record Shut (xs : List (Letter (Out S))) (end : Attachment S × Why) : Type 0 where
@@ -109,69 +128,101 @@ module _ {S : Type 0} (leave : ℕ) where
   longer xs x n within = omega (arith, length-append xs (x ∷ []))
 
   -- what an open attachment is served by a letter that is this to it
-  served_by : (xs : List (Letter (Out S))) (x : Letter (Out S)) (a : Attachment S) (b : Bearing) → Open xs a → bearing leave a x ≡ b
+  served_by : (xs : List (Letter (Out S))) (x : Letter (Out S)) (a : Attachment S) (b : Bearing) → Open xs a → a.over ≡ false → bearing leave a x ≡ b
       → served leave a (xs ++ x ∷ []) ≡ served leave a xs ++ notes_in (b ∷ [])
-  served_by xs x a b o is =
-      served_next xs x a o.within ∙ ap (λ t. served leave a xs ++ (if t then notes_in (bearing leave a x ∷ []) else [])) o.still
+  served_by xs x a b o yet is =
+      served_next xs x a o.within ∙ ap (λ t. served leave a xs ++ (if t then notes_in (bearing leave a x ∷ []) else [])) (o.still ∙ ap not yet)
       ∙ ap (λ t. served leave a xs ++ notes_in (t ∷ [])) is
 
-  open_by : (xs : List (Letter (Out S))) (x : Letter (Out S)) (a : Attachment S) (b : Bearing) → Open xs a → bearing leave a x ≡ b
+  open_by : (xs : List (Letter (Out S))) (x : Letter (Out S)) (a : Attachment S) (b : Bearing) → Open xs a → a.over ≡ false → bearing leave a x ≡ b
       → is_open (bearings leave a (xs ++ x ∷ [])) ≡ is_open (b ∷ [])
-  open_by xs x a b o is =
-      open_next xs x a o.within ∙ ap (λ t. if t then is_open (bearing leave a x ∷ []) else false) o.still ∙ ap (λ t. is_open (t ∷ [])) is
+  open_by xs x a b o yet is =
+      open_next xs x a o.within ∙ ap (λ t. if t then is_open (bearing leave a x ∷ []) else false) (o.still ∙ ap not yet) ∙ ap (λ t. is_open (t ∷ [])) is
+
+  -- one that took a terminal is served nothing, whatever comes
+  served_over : (xs : List (Letter (Out S))) (x : Letter (Out S)) (a : Attachment S) → Open xs a → a.over ≡ true → served leave a (xs ++ x ∷ []) ≡ served leave a xs
+  served_over xs x a o over =
+      served_next xs x a o.within ∙ ap (λ t. served leave a xs ++ (if t then notes_in (bearing leave a x ∷ []) else [])) (o.still ∙ ap not over) ∙ append-nil (served leave a xs)
+
+  shut_over : (xs : List (Letter (Out S))) (x : Letter (Out S)) (a : Attachment S) → Open xs a → a.over ≡ true → is_open (bearings leave a (xs ++ x ∷ [])) ≡ false
+  shut_over xs x a o over = open_next xs x a o.within ∙ ap (λ t. if t then is_open (bearing leave a x ∷ []) else false) (o.still ∙ ap not over)
+
+  open_over : (xs : List (Letter (Out S))) (x : Letter (Out S)) (a : Attachment S) → Open xs a → a.over ≡ true → Open (xs ++ x ∷ []) a
+  open_over xs x a o over = record {
+    at = slice_get-append_left xs (x ∷ []) a.place _ o.at;
+    within = longer xs x a.place o.within;
+    taken = o.taken ∙ sym (served_over xs x a o over);
+    still = shut_over xs x a o over ∙ sym (ap not over);
+  }
 
   open_pass : (xs : List (Letter (Out S))) (x : Letter (Out S)) (a : Attachment S) → Open xs a → bearing leave a x ≡ Passes → Open (xs ++ x ∷ []) a
   open_pass xs x a o is = record {
     at = slice_get-append_left xs (x ∷ []) a.place _ o.at;
     within = longer xs x a.place o.within;
-    taken = o.taken ∙ sym (served_by xs x a Passes o is ∙ append-nil (served leave a xs));
-    still = open_by xs x a Passes o is;
+    taken = o.taken ∙ sym (served_next xs x a o.within ∙ ap (λ t. served leave a xs ++ (if is_open (bearings leave a xs) then notes_in (t ∷ []) else [])) is
+        ∙ ap (λ (l : List Note). served leave a xs ++ l) (none_either (is_open (bearings leave a xs))) ∙ append-nil (served leave a xs));
+    still = open_next xs x a o.within ∙ ap (λ t. if is_open (bearings leave a xs) then is_open (t ∷ []) else false) is ∙ so_either (is_open (bearings leave a xs)) ∙ o.still;
   }
 
-  open_item : (xs : List (Letter (Out S))) (x : Letter (Out S)) (a : Attachment S) (note : Note) → Open xs a → bearing leave a x ≡ Bears note → is_last note ≡ false
-      → Open (xs ++ x ∷ []) (with_note a note)
-  open_item xs x a note o is last = record {
+  -- nothing is due of it any more
+  open_paid : (xs : List (Letter (Out S))) (a : Attachment S) → Open xs a → Open xs (paid a)
+  open_paid xs a o = record { at = o.at; within = o.within; taken = o.taken; still = o.still }
+
+  -- it took a note more
+  open_note : (xs : List (Letter (Out S))) (x : Letter (Out S)) (a : Attachment S) (l : Bool) (note : Note) (flow : Flow) → Open xs a → a.over ≡ false → bearing leave a x ≡ Bears note
+      → is_last note ≡ l → Open (xs ++ x ∷ []) (with_note l note flow a)
+  open_note xs x a false note flow o yet is last = record {
     at = slice_get-append_left xs (x ∷ []) a.place _ o.at;
     within = longer xs x a.place o.within;
-    taken = ap (λ (l : List Note). l ++ note ∷ []) o.taken ∙ sym (served_by xs x a (Bears note) o is ∙ ap (λ t. served leave a xs ++ note ∷ (if t then [] else [])) last);
-    still = open_by xs x a (Bears note) o is ∙ ap (λ t. if t then false else true) last;
+    taken = ap (λ (l : List Note). l ++ note ∷ []) o.taken ∙ sym (served_by xs x a (Bears note) o yet is ∙ ap (λ t. served leave a xs ++ note ∷ (if t then [] else [])) last);
+    still = open_by xs x a (Bears note) o yet is ∙ ap (λ t. if t then false else true) last ∙ sym (ap not yet);
   }
-
-  shut_last : (xs : List (Letter (Out S))) (x : Letter (Out S)) (a : Attachment S) (note : Note) → Open xs a → bearing leave a x ≡ Bears note → is_last note ≡ true
-      → Shut (xs ++ x ∷ []) (with_note a note, TookLast)
-  shut_last xs x a note o is last = record {
+  open_note xs x a true note flow o yet is last = record {
     at = slice_get-append_left xs (x ∷ []) a.place _ o.at;
     within = longer xs x a.place o.within;
-    took = ap (λ (l : List Note). l ++ note ∷ []) o.taken ∙ sym (served_by xs x a (Bears note) o is ∙ ap (λ t. served leave a xs ++ note ∷ (if t then [] else [])) last);
-    shut = open_by xs x a (Bears note) o is ∙ ap (λ t. if t then false else true) last;
+    taken = ap (λ (l : List Note). l ++ note ∷ []) o.taken ∙ sym (served_by xs x a (Bears note) o yet is ∙ ap (λ t. served leave a xs ++ note ∷ (if t then [] else [])) last);
+    still = open_by xs x a (Bears note) o yet is ∙ ap (λ t. if t then false else true) last;
   }
 
-  shut_fault : (xs : List (Letter (Out S))) (x : Letter (Out S)) (a : Attachment S) (note : Note) → Open xs a → bearing leave a x ≡ Bears note → Shut (xs ++ x ∷ []) (a, FailedAt note)
-  shut_fault xs x a note o is = record {
+  -- it was flushed
+  open_flush : (xs : List (Letter (Out S))) (a : Attachment S) (flow : Flow) → Open xs a → Open xs (with_flush flow a)
+  open_flush xs a flow o = record { at = o.at; within = o.within; taken = o.taken; still = o.still }
+
+  shut_fault : (xs : List (Letter (Out S))) (x : Letter (Out S)) (a : Attachment S) (note : Note) → Open xs a → a.over ≡ false → bearing leave a x ≡ Bears note → Shut (xs ++ x ∷ []) (paid a, FailedAt note)
+  shut_fault xs x a note o yet is = record {
     at = slice_get-append_left xs (x ∷ []) a.place _ o.at;
     within = longer xs x a.place o.within;
     took = (
       if is_last note then [] else [],
-      ap (λ (l : List Note). l ++ note ∷ (if is_last note then [] else [])) o.taken ∙ sym (served_by xs x a (Bears note) o is),
+      ap (λ (l : List Note). l ++ note ∷ (if is_last note then [] else [])) o.taken ∙ sym (served_by xs x a (Bears note) o yet is),
     );
     shut = tt;
   }
 
-  shut_detached : (xs : List (Letter (Out S))) (x : Letter (Out S)) (a : Attachment S) → Open xs a → bearing leave a x ≡ Stops → Shut (xs ++ x ∷ []) (a, Detached)
-  shut_detached xs x a o is = record {
+  shut_detached : (xs : List (Letter (Out S))) (x : Letter (Out S)) (a : Attachment S) → Open xs a → a.over ≡ false → bearing leave a x ≡ Stops → Shut (xs ++ x ∷ []) (paid a, Detached)
+  shut_detached xs x a o yet is = record {
     at = slice_get-append_left xs (x ∷ []) a.place _ o.at;
     within = longer xs x a.place o.within;
-    took = o.taken ∙ sym (served_by xs x a Stops o is ∙ append-nil (served leave a xs));
-    shut = open_by xs x a Stops o is;
+    took = o.taken ∙ sym (served_by xs x a Stops o yet is ∙ append-nil (served leave a xs));
+    shut = open_by xs x a Stops o yet is;
   }
 
-  shut_closed : (xs : List (Letter (Out S))) (x : Letter (Out S)) (a : Attachment S) → Open xs a → bearing leave a x ≡ Stops → Shut (xs ++ x ∷ []) (a, Closed)
+  shut_closed : (xs : List (Letter (Out S))) (x : Letter (Out S)) (a : Attachment S) → Open xs a → bearing leave a x ≡ Stops → Shut (xs ++ x ∷ []) (paid a, Closed)
   shut_closed xs x a o is = record {
     at = slice_get-append_left xs (x ∷ []) a.place _ o.at;
     within = longer xs x a.place o.within;
-    took = o.taken ∙ sym (served_by xs x a Stops o is ∙ append-nil (served leave a xs));
-    shut = open_by xs x a Stops o is;
+    took = o.taken ∙ sym (served_next xs x a o.within ∙ ap (λ t. served leave a xs ++ (if is_open (bearings leave a xs) then notes_in (t ∷ []) else [])) is
+        ∙ ap (λ (l : List Note). served leave a xs ++ l) (none_either (is_open (bearings leave a xs))) ∙ append-nil (served leave a xs));
+    shut = open_next xs x a o.within ∙ ap (λ t. if is_open (bearings leave a xs) then is_open (t ∷ []) else false) is ∙ no_either (is_open (bearings leave a xs));
   }
+
+  -- one that took a terminal is put away with no letter
+  shut_last : (xs : List (Letter (Out S))) (a : Attachment S) → Open xs a → a.over ≡ true → Shut xs (paid a, TookLast)
+  shut_last xs a o over = record { at = o.at; within = o.within; took = o.taken; shut = o.still ∙ ap not over }
+
+  -- a fault of a flush
+  shut_flush : (xs : List (Letter (Out S))) (a : Attachment S) → Open xs a → Shut xs (paid a, FailedAtFlush)
+  shut_flush xs a o = record { at = o.at; within = o.within; took = ([], append-nil a.taken ∙ o.taken); shut = tt }
 
   shut_stays : (xs : List (Letter (Out S))) (x : Letter (Out S)) (end : Attachment S × Why) → Shut xs end → Shut (xs ++ x ∷ []) end
   shut_stays xs x end s = record {
@@ -258,11 +309,11 @@ eqb_turned m n =
     ]
 
 module _ {S : Type 0} where
-  key_is : (s w : ℕ) (a : Attachment S) → is_of s w a ≡ true → (a.subject ≡ s) × (a.who ≡ w)
+  pub key_is : (s w : ℕ) (a : Attachment S) → is_of s w a ≡ true → (a.subject ≡ s) × (a.who ≡ w)
   key_is s w a test = let tests = both_true (a.subject == s) (a.who == w) test in (eqb-true a.subject s tests.0, eqb-true a.who w tests.1)
 
   -- no two attachments are of one observer
-  abbrev Apart : List (Attachment S) → Type 0
+  abbrev pub Apart : List (Attachment S) → Type 0
   Apart [] = Unit {0}
   Apart (a ∷ kept) = (kept_for a.subject a.who kept ≡ None) × Apart kept
 
@@ -323,6 +374,7 @@ module _ {S : Type 0} (leave s w : ℕ) (xs : List (Letter (Out S))) (x : Letter
     pub is_open_yet : Open leave xs a
     pub key : is_of s w a ≡ true
     pub rest : AllOpen leave (xs ++ x ∷ []) (without s w kept)
+    pub with_same : Open leave (xs ++ x ∷ []) a → AllOpen leave (xs ++ x ∷ []) kept
     pub with_other : (b : Attachment S) → Open leave (xs ++ x ∷ []) b → AllOpen leave (xs ++ x ∷ []) (replaced s w b kept)
     pub apart_rest : Apart (without s w kept)
     pub apart_other : (b : Attachment S) → b.subject ≡ s → b.who ≡ w → Apart (replaced s w b kept)
@@ -336,6 +388,7 @@ module _ {S : Type 0} (leave s w : ℕ) (xs : List (Letter (Out S))) (x : Letter
         is_open_yet = subst (λ (d : Attachment S). Open leave xs d) same all.0;
         key = subst (λ (d : Attachment S). is_of s w d ≡ true) same test;
         rest = subst (λ (t : Bool). AllOpen leave (xs ++ x ∷ []) (if t then kept else c ∷ without s w kept)) (sym test) passed;
+        with_same = λ o. (subst (λ (d : Attachment S). Open leave (xs ++ x ∷ []) d) (sym same) o, passed);
         with_other = λ b o. subst (λ (t : Bool). AllOpen leave (xs ++ x ∷ []) (if t then b ∷ kept else c ∷ replaced s w b kept)) (sym test) (o, passed);
         apart_rest = subst (λ (t : Bool). Apart (if t then kept else c ∷ without s w kept)) (sym test) apart.1;
         apart_other = λ b subject who. subst (λ (t : Bool). Apart (if t then b ∷ kept else c ∷ replaced s w b kept)) (sym test) (
@@ -351,6 +404,7 @@ module _ {S : Type 0} (leave s w : ℕ) (xs : List (Letter (Out S))) (x : Letter
         is_open_yet = f.is_open_yet;
         key = f.key;
         rest = subst (λ (t : Bool). AllOpen leave (xs ++ x ∷ []) (if t then kept else c ∷ without s w kept)) (sym test) (passed, f.rest);
+        with_same = λ o. (passed, f.with_same o);
         with_other = λ b o. subst (λ (t : Bool). AllOpen leave (xs ++ x ∷ []) (if t then b ∷ kept else c ∷ replaced s w b kept)) (sym test) (passed, f.with_other b o);
         apart_rest = subst (λ (t : Bool). Apart (if t then kept else c ∷ without s w kept)) (sym test) (none_without c.subject c.who s w kept apart.0, f.apart_rest);
         apart_other = λ b subject who. subst (λ (t : Bool). Apart (if t then b ∷ kept else c ∷ replaced s w b kept)) (sym test) (
@@ -420,7 +474,7 @@ module _ {S : Type 0} (leave : ℕ) (xs : List (Letter (Out S))) where
       apart = apart;
       shut_ones = tt;
     }
-    goes_attach from w sink Fine None test is = record {
+    goes_attach from w sink (Fine flow) None test is = record {
       open_ones = all_append (Open leave (xs ++ letter from (Body (Attach w sink)) ∷ [])) kept (brought (length xs) from w sink ∷ [])
           (all_pass leave xs _ kept (λ a. passes_attach S (from == leave) (a.subject == from) a.who w sink test) all) (open_new leave xs from w sink, tt);
       apart = apart_push kept (brought (length xs) from w sink) is apart;
@@ -437,31 +491,39 @@ module _ {S : Type 0} (leave : ℕ) (xs : List (Letter (Out S))) where
       shut_ones = tt;
     }
 
-    goes_serve : (from w : ℕ) (note : Note) (mark : Mark) (l : Bool) (a : Attachment S) → (from == leave) ≡ false → is_last note ≡ l
-        → FoundIn leave from w xs (letter from (Body (Give w note))) kept a → Goes (letter from (Body (Give w note))) (serve_note mark l from w note a kept)
-    goes_serve from w note Fine false a test last f =
+    goes_settle : (from w : ℕ) (x : Letter (Out S)) (leaves held_back : Bool) (flow : Flow) (a b : Attachment S) (took : ℕ) → b.subject ≡ from → b.who ≡ w → Open leave (xs ++ x ∷ []) b
+        → (b.over && is_clear flow) ≡ leaves → FoundIn leave from w xs x kept a → Goes x (settled leaves held_back from w b took kept)
+    goes_settle from w x true held_back flow a b took subject who o leaves_is f =
+        record { open_ones = f.rest; apart = f.apart_rest; shut_ones = (shut_last leave _ b o (both_true b.over (is_clear flow) leaves_is).0, tt) }
+    goes_settle from w x false true flow a b took subject who o leaves_is f = record { open_ones = f.with_other b o; apart = f.apart_other b subject who; shut_ones = tt }
+    goes_settle from w x false false flow a b took subject who o leaves_is f =
+        record { open_ones = f.with_other (paid b) (open_paid leave _ b o); apart = f.apart_other (paid b) subject who; shut_ones = tt }
+
+    note_subject : (l : Bool) (note : Note) (flow : Flow) (a : Attachment S) → (with_note l note flow a).subject ≡ a.subject
+    note_subject true note flow a = refl
+    note_subject false note flow a = refl
+
+    note_who : (l : Bool) (note : Note) (flow : Flow) (a : Attachment S) → (with_note l note flow a).who ≡ a.who
+    note_who true note flow a = refl
+    note_who false note flow a = refl
+
+    goes_serve : (from w : ℕ) (note : Note) (mark : Mark) (a : Attachment S) → (from == leave) ≡ false → a.over ≡ false
+        → FoundIn leave from w xs (letter from (Body (Give w note))) kept a → Goes (letter from (Body (Give w note))) (serve_note mark from w note a kept)
+    goes_serve from w note (Fine flow) a test yet f =
         let key = key_is from w a f.key in
-        record {
-          open_ones = f.with_other (with_note a note)
-              (open_item leave xs _ a note f.is_open_yet (bears_give S (from == leave) (a.subject == from) a.who w note test f.key) last);
-          apart = f.apart_other (with_note a note) key.0 key.1;
-          shut_ones = tt;
-        }
-    goes_serve from w note Fine true a test last f = record {
-      open_ones = f.rest;
-      apart = f.apart_rest;
-      shut_ones = (shut_last leave xs _ a note f.is_open_yet (bears_give S (from == leave) (a.subject == from) a.who w note test f.key) last, tt);
-    }
-    goes_serve from w note Fault l a test last f = record {
-      open_ones = f.rest;
-      apart = f.apart_rest;
-      shut_ones = (shut_fault leave xs _ a note f.is_open_yet (bears_give S (from == leave) (a.subject == from) a.who w note test f.key), tt);
-    }
-    goes_serve from w note NoMemory l a test last f = record {
-      open_ones = f.rest;
-      apart = f.apart_rest;
-      shut_ones = (shut_fault leave xs _ a note f.is_open_yet (bears_give S (from == leave) (a.subject == from) a.who w note test f.key), tt);
-    }
+        let b = with_note (is_last note) note flow a in
+        goes_settle from w _ (b.over && is_clear flow) (is_held_back flow b.due) flow a b 1 (note_subject (is_last note) note flow a ∙ key.0) (note_who (is_last note) note flow a ∙ key.1)
+        (open_note leave xs _ a (is_last note) note flow f.is_open_yet yet (bears_give S (from == leave) (a.subject == from) a.who w note test f.key) refl) refl f
+    goes_serve from w note Fault a test yet f =
+        record { open_ones = f.rest; apart = f.apart_rest; shut_ones = (shut_fault leave xs _ a note f.is_open_yet yet (bears_give S (from == leave) (a.subject == from) a.who w note test f.key), tt) }
+    goes_serve from w note NoMemory a test yet f =
+        record { open_ones = f.rest; apart = f.apart_rest; shut_ones = (shut_fault leave xs _ a note f.is_open_yet yet (bears_give S (from == leave) (a.subject == from) a.who w note test f.key), tt) }
+
+    goes_serve_yet : (from w : ℕ) (note : Note) (mark : Mark) (o : Bool) (a : Attachment S) → (from == leave) ≡ false → a.over ≡ o
+        → FoundIn leave from w xs (letter from (Body (Give w note))) kept a → Goes (letter from (Body (Give w note))) (served_yet o mark from w note a kept)
+    goes_serve_yet from w note mark true a test over f = record { open_ones = f.with_same (open_over leave xs _ a f.is_open_yet over); apart = apart; shut_ones = tt }
+    goes_serve_yet from w note mark false a test over f =
+        let g = goes_serve from w note mark a test over f in record { open_ones = g.open_ones; apart = g.apart; shut_ones = g.shut_ones }
 
     goes_give : (from w : ℕ) (note : Note) (mark : Mark) (o : Option (Attachment S)) → (from == leave) ≡ false → kept_for from w kept ≡ o
         → Goes (letter from (Body (Give w note))) (given mark from w note o kept)
@@ -471,8 +533,13 @@ module _ {S : Type 0} (leave : ℕ) (xs : List (Letter (Out S))) where
       shut_ones = tt;
     }
     goes_give from w note mark (Some a) test is =
-        goes_serve from w note mark (is_last note) a test refl
+        goes_serve_yet from w note mark a.over a test refl
         (found_in leave from w xs _ kept a (λ b other. passes_give S (from == leave) (b.subject == from) b.who w note test other) is apart all)
+
+    goes_let_go : (from w : ℕ) (o : Bool) (a : Attachment S) → (from == leave) ≡ false → a.over ≡ o
+        → FoundIn leave from w xs (letter from (Body (Detach w))) kept a → Goes (letter from (Body (Detach w))) (let_go o from w a kept)
+    goes_let_go from w false a test over f = record { open_ones = f.rest; apart = f.apart_rest; shut_ones = (shut_detached leave xs _ a f.is_open_yet over (stops_detach S (from == leave) (a.subject == from) a.who w test f.key), tt) }
+    goes_let_go from w true a test over f = record { open_ones = f.rest; apart = f.apart_rest; shut_ones = (shut_last leave _ a (open_over leave xs _ a f.is_open_yet over) over, tt) }
 
     goes_detach : (from w : ℕ) (o : Option (Attachment S)) → (from == leave) ≡ false → kept_for from w kept ≡ o
         → Goes (letter from (Body (Detach w))) (detached from w o kept)
@@ -482,12 +549,8 @@ module _ {S : Type 0} (leave : ℕ) (xs : List (Letter (Out S))) where
       shut_ones = tt;
     }
     goes_detach from w (Some a) test is =
-        let f = found_in leave from w xs (letter from (Body (Detach w))) kept a (λ b other. passes_detach S (from == leave) (b.subject == from) b.who w test other) is apart all in
-        record {
-          open_ones = f.rest;
-          apart = f.apart_rest;
-          shut_ones = (shut_detached leave xs _ a f.is_open_yet (stops_detach S (from == leave) (a.subject == from) a.who w test f.key), tt);
-        }
+        goes_let_go from w a.over a test refl
+        (found_in leave from w xs (letter from (Body (Detach w))) kept a (λ b other. passes_detach S (from == leave) (b.subject == from) b.who w test other) is apart all)
 
     goes_post : (b : Bool) (from : ℕ) (post : Post (Out S)) (mark : Mark) → (from == leave) ≡ b → Goes (letter from post) (post_change b (length xs) from post mark kept)
     goes_post true from (Body out) mark test = record {
@@ -517,6 +580,85 @@ module _ {S : Type 0} (leave : ℕ) (xs : List (Letter (Out S))) where
     }
     goes_letter false x mark none = goes_post (x.from == leave) x.from x.post mark refl
 
+-- A FLUSH
+
+module _ {S : Type 0} where
+  has_found : (P : Attachment S → Type 0) (s w : ℕ) (a : Attachment S) (kept : List (Attachment S)) → kept_for s w kept ≡ Some a → AllByRecursion P kept → P a × (is_of s w a ≡ true)
+  has_found P s w a [] is all = cc
+  has_found P s w a (c ∷ kept) is all =
+      elim (some_split (is_of s w c) c a (kept_for s w kept) is) [
+        | inl (test, same) ↦ (subst P same all.0, subst (λ (d : Attachment S). is_of s w d ≡ true) same test)
+        | inr (test, next) ↦ has_found P s w a kept next all.1
+      ]
+
+  pub all_but : (P : Attachment S → Type 0) (s w : ℕ) (kept : List (Attachment S)) → AllByRecursion P kept → AllByRecursion P (without s w kept)
+  all_but P s w [] all = tt
+  all_but P s w (c ∷ kept) all =
+      elim (bool_cases (is_of s w c)) [
+        | inl test ↦ subst (λ (t : Bool). AllByRecursion P (if t then kept else c ∷ without s w kept)) (sym test) all.1
+        | inr test ↦ subst (λ (t : Bool). AllByRecursion P (if t then kept else c ∷ without s w kept)) (sym test) (all.0, all_but P s w kept all.1)
+      ]
+
+  pub all_with : (P : Attachment S → Type 0) (s w : ℕ) (b : Attachment S) (kept : List (Attachment S)) → P b → AllByRecursion P kept → AllByRecursion P (replaced s w b kept)
+  all_with P s w b [] here all = tt
+  all_with P s w b (c ∷ kept) here all =
+      elim (bool_cases (is_of s w c)) [
+        | inl test ↦ subst (λ (t : Bool). AllByRecursion P (if t then b ∷ kept else c ∷ replaced s w b kept)) (sym test) (here, all.1)
+        | inr test ↦ subst (λ (t : Bool). AllByRecursion P (if t then b ∷ kept else c ∷ replaced s w b kept)) (sym test) (all.0, all_with P s w b kept here all.1)
+      ]
+
+  apart_but : (s w : ℕ) (kept : List (Attachment S)) → Apart kept → Apart (without s w kept)
+  apart_but s w [] apart = tt
+  apart_but s w (c ∷ kept) apart =
+      elim (bool_cases (is_of s w c)) [
+        | inl test ↦ subst (λ (t : Bool). Apart (if t then kept else c ∷ without s w kept)) (sym test) apart.1
+        | inr test ↦ subst (λ (t : Bool). Apart (if t then kept else c ∷ without s w kept)) (sym test) (none_without c.subject c.who s w kept apart.0, apart_but s w kept apart.1)
+      ]
+
+  apart_with : (s w : ℕ) (b : Attachment S) (kept : List (Attachment S)) → b.subject ≡ s → b.who ≡ w → Apart kept → Apart (replaced s w b kept)
+  apart_with s w b [] subject who apart = tt
+  apart_with s w b (c ∷ kept) subject who apart =
+      elim (bool_cases (is_of s w c)) [
+        | inl test ↦
+            (let key = key_is s w c test in
+            let none : kept_for b.subject b.who kept ≡ None =
+            subst (λ (n : ℕ). kept_for n b.who kept ≡ None) (key.0 ∙ sym subject) (subst (λ (n : ℕ). kept_for c.subject n kept ≡ None) (key.1 ∙ sym who) apart.0) in
+            subst (λ (t : Bool). Apart (if t then b ∷ kept else c ∷ replaced s w b kept)) (sym test) (none, apart.1))
+        | inr test ↦ subst (λ (t : Bool). Apart (if t then b ∷ kept else c ∷ replaced s w b kept)) (sym test) (none_replaced c.subject c.who s w b kept subject who apart.0, apart_with s w b kept subject who apart.1)
+      ]
+
+module _ {S : Type 0} (leave : ℕ) (xs : List (Letter (Out S))) (kept : List (Attachment S)) (all : AllOpen leave xs kept) (apart : Apart kept) where
+  -- after a flush
+  record Flows (c : Change S) : Type 0 where
+    pub open_ones : AllOpen leave xs c.kept
+    pub apart_still : Apart c.kept
+    pub shut_ones : AllShut leave xs c.gone
+
+  flows_settle : (s w : ℕ) (leaves held_back : Bool) (flow : Flow) (a b : Attachment S) (took : ℕ) → b.subject ≡ s → b.who ≡ w → Open leave xs b → (b.over && is_clear flow) ≡ leaves
+      → kept_for s w kept ≡ Some a → Flows (settled leaves held_back s w b took kept)
+  flows_settle s w true held_back flow a b took subject who o leaves_is is =
+      record { open_ones = all_but (Open leave xs) s w kept all; apart_still = apart_but s w kept apart; shut_ones = (shut_last leave xs b o (both_true b.over (is_clear flow) leaves_is).0, tt) }
+  flows_settle s w false true flow a b took subject who o leaves_is is =
+      record { open_ones = all_with (Open leave xs) s w b kept o all; apart_still = apart_with s w b kept subject who apart; shut_ones = tt }
+  flows_settle s w false false flow a b took subject who o leaves_is is =
+      record { open_ones = all_with (Open leave xs) s w (paid b) kept (open_paid leave xs b o) all; apart_still = apart_with s w (paid b) kept subject who apart; shut_ones = tt }
+
+  flows_write : (s w : ℕ) (mark : Mark) (a : Attachment S) → kept_for s w kept ≡ Some a → Flows (written mark s w a kept)
+  flows_write s w (Fine flow) a is =
+      let f = has_found (Open leave xs) s w a kept is all in
+      let key = key_is s w a f.1 in
+      flows_settle s w (a.over && is_clear flow) (is_held_back flow a.due) flow a (with_flush flow a) 0 key.0 key.1 (open_flush leave xs a flow f.0) refl is
+  flows_write s w Fault a is =
+      let f = has_found (Open leave xs) s w a kept is all in
+      record { open_ones = all_but (Open leave xs) s w kept all; apart_still = apart_but s w kept apart; shut_ones = (shut_flush leave xs a f.0, tt) }
+  flows_write s w NoMemory a is =
+      let f = has_found (Open leave xs) s w a kept is all in
+      record { open_ones = all_but (Open leave xs) s w kept all; apart_still = apart_but s w kept apart; shut_ones = (shut_flush leave xs a f.0, tt) }
+
+  flows : (s w : ℕ) (mark : Mark) (o : Option (Attachment S)) → kept_for s w kept ≡ o → Flows (flushed mark s w o kept)
+  flows s w mark None is = record { open_ones = all; apart_still = apart; shut_ones = tt }
+  flows s w mark (Some a) is = flows_write s w mark a is
+
 -- ALL LETTERS
 
 module _ {S : Type 0} (leave : ℕ) where
@@ -535,6 +677,18 @@ module _ {S : Type 0} (leave : ℕ) where
         apart = g.apart;
         shut_ones = all_append (Shut leave (letters log ++ x ∷ [])) (gone_in leave log) (change leave log x mark).gone (all_stay leave (letters log) x (gone_in leave log) h.shut_ones) g.shut_ones;
       }
+  holds (Flush log s w mark) =
+      let h = holds log in
+      let g = flows leave (letters log) (kept_in leave log) h.open_ones h.apart s w mark (kept_for s w (kept_in leave log)) refl in
+      record {
+        open_ones = g.open_ones;
+        apart = g.apart_still;
+        shut_ones = all_append (Shut leave (letters log)) (gone_in leave log) (flush_change leave log s w mark).gone h.shut_ones g.shut_ones;
+      }
+
+-- no two that are kept are of one observer
+pub apart_in : {S : Type 0} (leave : ℕ) (log : Log S) → Apart (kept_in leave log)
+apart_in leave log = (holds leave log).apart
 
 all_weaker : {X : Type 0} (P Q : X → Type 0) (xs : List X) → ((x : X) → P x → Q x) → AllByRecursion P xs → AllByRecursion Q xs
 all_weaker P Q [] weaker all = tt

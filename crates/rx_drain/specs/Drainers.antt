@@ -1,7 +1,7 @@
 -- A drainer, and what it has done with the letters that it received (this project's own rule).
-use Rattle.std.specs.Prelude.{◌≡◌, ◌+◌, ◌-◌, ◌^◌, ◌<◌, ◌≤◌, min, ℕ, Bool, true, false, List, [], ◌++◌, length, map, Option, Some, None, slice_get, vec_len, vec_capacity}
+use Rattle.std.specs.Prelude.{◌≡◌, ◌+◌, ◌-◌, ◌^◌, ◌<◌, ◌≤◌, min, ℕ, Bool, true, false, List, [], ◌∷◌, ◌++◌, length, map, Option, Some, None, slice_get, vec_len, vec_capacity}
 use Rattle.rx_mailbox.specs.declared.letter.Letter.{Letter}
-use Rattle.rx_mailbox.specs.Boxes.{Outgoing, Incoming, with_letter}
+use Rattle.rx_mailbox.specs.Boxes.{Outgoing, Incoming, incoming}
 use Rattle.rx_note.specs.declared.event.Event.{Event}
 use Rattle.rx_pump.specs.declared.call.Call.{Call}
 use Rattle.rx_pump.specs.declared.out.Out.{Out}
@@ -14,7 +14,8 @@ use Rattle.rx_sink.specs.Stands.{Stand, Did, counted}
 use Rattle.rx_drain.specs.declared.drain_fault.DrainFault.{DrainFault}
 use Rattle.rx_drain.specs.declared.drain_fault.DrainFault.TheVariants.{InboxGone, SubjectGone}
 use Rattle.rx_drain.specs.declared.drainer_left.DrainerLeft.{DrainerLeft}
-use Rattle.rx_drain.specs.Logs.{Log, Next, letters, has_left, out_change, kept_in, gone_in, missed_in, taken_in, owed, put_by}
+use Rattle.rx_drain.specs.Credit.{AreAllPaid}
+use Rattle.rx_drain.specs.Logs.{Log, Next, Flush, letters, has_left, out_change, kept_in, gone_in, missed_in, taken_in, owed, put_by}
 
 -- a drainer: its inbox, its ports to subjects in their order, ended or not, the sinks that it keeps, what those left that it
 -- put away, how many sinks found no memory, how many notes they took, whether it was told to leave, and the fault that it
@@ -34,6 +35,12 @@ abbrev pub is_cut : Option DrainFault → Bool
 is_cut None = false
 is_cut (Some InboxGone) = false
 is_cut (Some (SubjectGone place)) = true
+
+-- a fault is that of one of the ports
+abbrev pub IsOfSubject : Option DrainFault → ℕ → Type 0
+IsOfSubject None subjects = Unit {0}
+IsOfSubject (Some InboxGone) subjects = ⊥
+IsOfSubject (Some (SubjectGone place)) subjects = place < subjects
 
 -- a fault names one of the ports
 abbrev pub NamesSubject : Option DrainFault → ℕ → Type 0
@@ -70,9 +77,13 @@ module _ {S : Type 0} where
   HaveSent cut left calls ports =
       (d : ℕ) (port : Outgoing (Call S)) → slice_get ports d ≡ Some port → IsPut cut port.own (put_by left port.number (calls d))
 
-  -- one letter more was received
-  abbrev pub TakesOne : Incoming (Out S) → Incoming (Out S) → Type 0
-  TakesOne before after = (x : Letter (Out S)) × (after ≡ with_letter before x)
+  -- these letters more were received
+  abbrev pub with_letters : Incoming (Out S) → List (Letter (Out S)) → Incoming (Out S)
+  with_letters before xs = incoming before.box before.ports (before.received ++ xs)
+
+  -- some letters more were received, or none
+  abbrev pub TakesMore : Incoming (Out S) → Incoming (Out S) → Type 0
+  TakesMore before after = (xs : List (Letter (Out S))) × (after ≡ with_letters before xs)
 
 module _ {S Rest : Type 0} (acts : Acts S Rest) where
   -- the sinks and the ports of a drainer are what marked letters mean, where this is the number of the leave port
@@ -89,9 +100,9 @@ module _ {S Rest : Type 0} (acts : Acts S Rest) where
     pub stands : Stands (length view.ports) log view
     pub fault : NamesSubject view.fault (length view.ports)
 
-  -- there are such marks
+  -- there are such marks, and without a fault only stuck sinks are left unpaid
   abbrev pub IsDrained : DrainerView S Rest → Type 0
-  IsDrained view = (log : Log S) × Drains view log
+  IsDrained view = (log : Log S) × Drains view log × (view.fault ≡ None → AreAllPaid (length view.ports) log)
 
   -- ONE LETTER
 
@@ -103,11 +114,34 @@ module _ {S Rest : Type 0} (acts : Acts S Rest) where
       × (misses_after ≡ counted misses (out_change place subject out mark held).missed)
       × (taken_after ≡ counted taken (out_change place subject out mark held).took)
 
-  -- a letter was handled: with a mark it is the next of all for which the drainer stood
+  -- a letter was handled: with a mark it is the next, after some flushes, of all for which the drainer stood
   abbrev pub Handles : Letter (Out S) → DrainerView S Rest → DrainerView S Rest → Type 0
   Handles x before after =
       NamesSubject after.fault (length before.ports)
-      × ((log : Log S) → Stands (length before.ports) log before → (mark : Mark) × Stands (length before.ports) (Next log x mark) after)
+      × ((log : Log S) → Stands (length before.ports) log before
+      → (more : Log S) × (letters more ≡ letters log) × (mark : Mark) × Stands (length before.ports) (Next more x mark) after)
+
+  -- the drainer went on: from each list of marked letters whose meaning it did it came to another
+  abbrev pub Goes : DrainerView S Rest → DrainerView S Rest → Type 0
+  Goes before after = (log : Log S) → Drains before log → (more : Log S) × Drains after more
+
+  -- and without a fault only stuck sinks are left unpaid
+  abbrev pub Pays : DrainerView S Rest → DrainerView S Rest → Type 0
+  Pays before after = (log : Log S) → Drains before log → (more : Log S) × Drains after more × (after.fault ≡ None → AreAllPaid (length after.ports) more)
+
+  -- the sink at this place of those that are kept was flushed: with a mark that comes next of all for which the drainer stood
+  pub record FlushesAt (place : ℕ) (before after : DrainerView S Rest) : Type 0 where
+    pub one : Kept S
+    pub stood : slice_get before.kept place ≡ Some one
+    pub fault : IsOfSubject after.fault (length before.ports)
+    pub stands : (log : Log S) → Stands (length before.ports) log before → (mark : Mark) × Stands (length before.ports) (Flush log one.subject one.who mark) after
+
+  -- sinks were flushed: with some flushes more it stands for the same letters, and unless a subject is gone only stuck sinks
+  -- are left unpaid
+  pub record FlushesAll (before after : DrainerView S Rest) : Type 0 where
+    pub fault : IsOfSubject after.fault (length before.ports)
+    pub stands : (log : Log S) → Stands (length before.ports) log before
+        → (more : Log S) × (letters more ≡ letters log) × Stands (length before.ports) more after × (after.fault ≡ None → AreAllPaid (length before.ports) more)
 
 -- A NEW DRAINER
 

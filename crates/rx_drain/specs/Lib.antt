@@ -1,5 +1,6 @@
 pub mod Calls
 pub mod Logs
+pub mod Credit
 pub mod Drainers
 pub mod Serving
 pub mod Served

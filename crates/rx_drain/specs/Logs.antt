@@ -1,6 +1,7 @@
 -- What the letters that a drainer received mean: which sinks are attached, what each took, why it was put away, and what is
--- owed to each subject. Each letter is marked, how it went with it (this project's own rule).
-use Rattle.std.specs.Prelude.{◌==◌, ◌+◌, ◌||◌, ◌&&◌, ℕ, Bool, true, false, List, [], ◌∷◌, ◌++◌, length}
+-- owed to each subject. Between letters the drainer flushes sinks. Each letter and each flush is marked, how it went with it
+-- (this project's own rule).
+use Rattle.std.specs.Prelude.{◌==◌, ◌+◌, ◌||◌, ◌&&◌, ℕ, Bool, true, false, List, [], ◌∷◌, ◌++◌, length, None}
 use Rattle.rx_mailbox.specs.declared.letter.Letter.{Letter}
 use Rattle.rx_mailbox.specs.declared.letter.Post.{Post}
 use Rattle.rx_mailbox.specs.declared.letter.Post.TheVariants.{Body, Bye}
@@ -9,31 +10,34 @@ use Rattle.rx_pump.specs.declared.call.Call.{Call}
 use Rattle.rx_pump.specs.declared.out.Out.{Out}
 use Rattle.rx_pump.specs.declared.out.Out.TheVariants.{Attach, Give, Detach}
 use Rattle.rx_pump.specs.Sends.{posts}
-use Rattle.rx_sink.specs.Attachments.{Attachment, Why, Mark, Sent, Change, kept_for, attached, given, detached, left, unchanged}
+use Rattle.rx_sink.specs.Attachments.{Attachment, Why, Mark, Sent, Change, kept_for, attached, given, flushed, detached, left, unchanged}
 use Rattle.rx_sink.specs.Stands.{addressed}
 use Rattle.rx_drain.specs.Calls.{calls_to}
 
--- letters with their marks, the latest outermost
+-- letters, and flushes of the sink of an observer of a subject, with their marks, the latest outermost
 pub data Log (S : Type 0) : Type 0 where
   NoLetters : Log S
   Next : Log S → Letter (Out S) → Mark → Log S
+  Flush : Log S → ℕ → ℕ → Mark → Log S
 
 module _ {S : Type 0} where
   -- the letters without their marks
   abbrev pub letters : Log S → List (Letter (Out S))
   letters NoLetters = []
   letters (Next log x mark) = letters log ++ x ∷ []
+  letters (Flush log subject who mark) = letters log
 
   -- the Bye of the leave port came
   abbrev pub has_left : ℕ → Log S → Bool
   has_left leave NoLetters = false
   has_left leave (Next log x mark) = has_left leave log || (x.from == leave && ends x.post)
+  has_left leave (Flush log subject who mark) = has_left leave log
 
   -- ONE LETTER
 
   -- the attachment that an Attach at this place makes
   abbrev pub brought : ℕ → ℕ → ℕ → S → Attachment S
-  brought place subject who sink = record { place = place; subject = subject; who = who; sink = sink; taken = [] }
+  brought place subject who sink = record { place = place; subject = subject; who = who; sink = sink; taken = []; due = 0; over = false; last = None }
 
   -- what a subject sends, at this place
   abbrev pub out_change : ℕ → ℕ → Out S → Mark → List (Attachment S) → Change S
@@ -59,30 +63,39 @@ module _ {S : Type 0} where
   abbrev pub kept_in : ℕ → Log S → List (Attachment S)
   kept_in leave NoLetters = []
   kept_in leave (Next log x mark) = (letter_change (has_left leave log) leave (length (letters log)) x mark (kept_in leave log)).kept
+  kept_in leave (Flush log subject who mark) = (flushed mark subject who (kept_for subject who (kept_in leave log)) (kept_in leave log)).kept
 
   -- what a letter that comes next changes
   abbrev pub change : ℕ → Log S → Letter (Out S) → Mark → Change S
   change leave log x mark = letter_change (has_left leave log) leave (length (letters log)) x mark (kept_in leave log)
 
+  -- what a flush that comes next changes
+  abbrev pub flush_change : ℕ → Log S → ℕ → ℕ → Mark → Change S
+  flush_change leave log subject who mark = flushed mark subject who (kept_for subject who (kept_in leave log)) (kept_in leave log)
+
   -- the attachments that have ended and why, in the order in which they did
   abbrev pub gone_in : ℕ → Log S → List (Attachment S × Why)
   gone_in leave NoLetters = []
   gone_in leave (Next log x mark) = gone_in leave log ++ (change leave log x mark).gone
+  gone_in leave (Flush log subject who mark) = gone_in leave log ++ (flush_change leave log subject who mark).gone
 
   -- the events that are sent
   abbrev pub sent_in : ℕ → Log S → List Sent
   sent_in leave NoLetters = []
   sent_in leave (Next log x mark) = sent_in leave log ++ (change leave log x mark).sends
+  sent_in leave (Flush log subject who mark) = sent_in leave log ++ (flush_change leave log subject who mark).sends
 
   -- how many sinks found no memory
   abbrev pub missed_in : ℕ → Log S → ℕ
   missed_in leave NoLetters = 0
   missed_in leave (Next log x mark) = missed_in leave log + (change leave log x mark).missed
+  missed_in leave (Flush log subject who mark) = missed_in leave log + (flush_change leave log subject who mark).missed
 
   -- how many notes the sinks took
   abbrev pub taken_in : ℕ → Log S → ℕ
   taken_in leave NoLetters = 0
   taken_in leave (Next log x mark) = taken_in leave log + (change leave log x mark).took
+  taken_in leave (Flush log subject who mark) = taken_in leave log + (flush_change leave log subject who mark).took
 
   -- the calls that are owed to subject d
   abbrev pub owed : ℕ → Log S → ℕ → List (Call S)

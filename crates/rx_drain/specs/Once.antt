@@ -6,7 +6,7 @@ use Rattle.rx_mailbox.specs.declared.letter.Post.TheVariants.{Body, Bye}
 use Rattle.rx_pump.specs.declared.out.Out.{Out}
 use Rattle.rx_pump.specs.declared.out.Out.TheVariants.{Attach, Give, Detach}
 use Rattle.rx_sink.specs.Attachments.{Attachment, Why, Mark, Fine, Fault, NoMemory, kept_for}
-use Rattle.rx_drain.specs.Logs.{Log, NoLetters, Next, letters, has_left, kept_in, gone_in}
+use Rattle.rx_drain.specs.Logs.{Log, NoLetters, Next, Flush, letters, has_left, kept_in, gone_in}
 
 -- how often a number stands in a list
 abbrev pub times : ℕ → List ℕ → ℕ
@@ -17,7 +17,7 @@ module _ {S : Type 0} where
   -- the place of a sink that comes, if it finds one: none is kept for its observer, and there is memory
   abbrev pub place_found : Mark → ℕ → Option (Attachment S) → List ℕ
   place_found mark place (Some other) = []
-  place_found Fine place None = place ∷ []
+  place_found (Fine flow) place None = place ∷ []
   place_found Fault place None = place ∷ []
   place_found NoMemory place None = []
 
@@ -42,6 +42,7 @@ module _ {S : Type 0} where
   abbrev pub found_in : ℕ → Log S → List ℕ
   found_in leave NoLetters = []
   found_in leave (Next log x mark) = found_in leave log ++ letter_found (has_left leave log) leave (length (letters log)) x mark (kept_in leave log)
+  found_in leave (Flush log subject who mark) = found_in leave log
 
   -- the places of the attachments that are kept and of those that have ended
   abbrev pub places_of : List (Attachment S) → List (Attachment S × Why) → List ℕ

@@ -7,7 +7,7 @@ use crate::drain_fault::DrainFault;
 use crate::drain_stop::DrainStop;
 use crate::drainer_left::DrainerLeft;
 use crate::drainer_parts::DrainerParts;
-use crate::handling::handle;
+use crate::handling::{handle_first, handle_more, handle_rest};
 use rx_heap::Heap;
 use rx_mailbox::{Inbox, Port};
 use rx_pump::{Call, Out, room};
@@ -52,7 +52,7 @@ impl<S: Sink> Model for Drainer<S> {
 
 impl<S: Sink> Drainer<S> {
     ghost use Rattle.rx_mailbox.specs.Boxes.{HasEachBye};
-    ghost use Rattle.rx_drain.specs.Drainers.{IsDrained, KeepsPlaces, TakesOne, fresh_drainer, view_of};
+    ghost use Rattle.rx_drain.specs.Drainers.{IsDrained, KeepsPlaces, TakesMore, fresh_drainer, view_of};
     ghost use Rattle.rx_drain.specs.Serving.{HasServed, HasStopped};
 
     /// A drainer of new parts: one port to each subject, and an inbox with a port for each and one more, the leave port.
@@ -93,35 +93,43 @@ impl<S: Sink> Drainer<S> {
         })
     }
 
-    /// Takes one letter, and waits while there is none.
+    /// Takes the letters that are there, some thousand at most, and waits while there is none. Then it flushes each sink in
+    /// which something may wait. While something waits in a sink it waits for a letter some milliseconds at most, and then
+    /// flushes again, so a turn may have taken none.
     ///
-    /// A sink that a subject attaches is started and kept. A note goes to the sink that is kept for its observer; then the
-    /// subject is asked for one item more after an item, and after a terminal to let the observer go, whose sink is put away.
-    /// So it does after a fault of the sink, and where there was no memory for one that came. The sink of an observer that
-    /// left is put away. At the Bye of the leave port each observer is disposed of whose sink is kept, in the order in which
-    /// they came, all are put away, and the ports to subjects end. Unserved is a sink that comes later, from the leave port, or
-    /// while one is kept for its observer; what comes for an observer without a sink, and what else the leave port sends, is
-    /// discarded.
+    /// A sink that a subject attaches is started and kept. A note goes to the sink that is kept for its observer, which took
+    /// no terminal yet. The subject is asked for one item more for each that the sink took: at once, but while the sink is
+    /// stuck. At the end of a turn something is due of those sinks alone that were flushed last, and found stuck. After a
+    /// terminal the subject is asked to let the observer go once nothing waits in its sink, which is put away. So it is after
+    /// a fault of the sink, and where there was no memory for one that came. The sink of an observer that left is put away.
+    /// What is due is asked for before that.
+    ///
+    /// Before the Bye of the leave port is heard each sink is flushed once more in which something may wait. Then each
+    /// observer is disposed of whose sink is kept, in the order in which they came, all are put away, and the ports to
+    /// subjects end. Unserved is a sink that comes later, from the leave port, or while one is kept for its observer; what
+    /// comes for an observer without a sink, and what else the leave port sends, is discarded: so a body from it can have a
+    /// drainer that waits look after its sinks.
     ///
     /// At a fault what was sent is the first of that, and from then on each turn answers this fault and does nothing.
     pub fn turn<R: Wait>(&mut self, rt: &R) -> Result<(), DrainFault>
         ensures drained { IsDrained S.acts self.new }
         ensures fault { MatchResult result (λ _. self.new.fault ≡ None) (λ fault. self.new.fault ≡ Some fault) }
-        ensures took { OnOk result (TakesOne self.old.inbox self.new.inbox) }
+        ensures took { OnOk result (TakesMore self.old.inbox self.new.inbox) }
         ensures kept { KeepsPlaces self.old self.new }
         ensures over { IfSome self.old.fault (λ fault. (result ≡ Err fault) × (self.new ≡ self.old)) }
     {
         if let Some(fault) = self.fault {
             return Err(fault);
         }
-        let Ok(letter) = self.hands.parts.inbox.recv(rt) else {
+        let Ok(first) = handle_first(rt, &mut self.hands, self.leave, self.left) else {
             self.fault = Some(DrainFault::InboxGone);
             return Err(DrainFault::InboxGone);
         };
-        let handled = handle(rt, &mut self.hands, self.leave, self.left, letter);
-        self.left = handled.left;
-        self.fault = handled.fault;
-        outcome(handled.fault)
+        let more = handle_more(rt, &mut self.hands, self.leave, first);
+        let rest = handle_rest(rt, &mut self.hands, self.leave, more);
+        self.left = rest.left;
+        self.fault = rest.fault;
+        outcome(rest.fault)
     }
 
     /// Takes letters until the Bye of each port came, that of the leave port too, and waits while there is none. `Err` at a

@@ -1,17 +1,26 @@
 // One letter: the sinks take it, and the ports send what it owes.
-ghost use Rattle.std.specs.Prelude.{◌≡◌, true, false, None};
+ghost use Rattle.std.specs.Prelude.{◌≡◌, true, false, None, IfOk, OnOk, OnErr};
 ghost use Rattle.rx_mailbox.specs.declared.letter.Post.TheVariants.{Bye};
 ghost use Rattle.rx_mailbox.specs.Letters as letters;
 ghost use Rattle.rx_pump.specs.Pumps.{AreSame};
-ghost use Rattle.rx_drain.specs.Drainers.{Fits, Handles, view_of};
+ghost use Rattle.rx_drain.specs.Drainers.{Fits, Goes, Handles, Pays, TakesMore, view_of};
 
-use crate::sending::{dispose_all, send_any};
+use crate::flushing::flush_all;
+use crate::sending::{part_all, send_asks};
 use crate::serving_out::{pass_over, serve_out};
 use crate::{DrainFault, DrainerLeft};
-use rx_mailbox::{Letter, Post};
+use rx_mailbox::{Gone, Letter, Post, TryRecvFault};
 use rx_pump::{Out, finish_all};
-use rx_sink::{Sink, put_all_away};
+use rx_sink::{Kept, Sink, put_all_away};
 use std::sync::Wait;
+use std::time::Duration;
+
+// So many letters are taken at most before what waits in the sinks goes out. Credit bounds how many come, but for a first
+// request without a bound.
+const MOST_LETTERS: u32 = 4096;
+
+// How long a letter is waited for while something waits in a sink, in milliseconds.
+const MOST_WAIT: u64 = 4;
 
 // What became of a letter.
 #[derive(Clone, Copy)]
@@ -44,7 +53,7 @@ pub fn handle<S: Sink, R: Wait>(
         pass_over(out);
         return Handled { left, fault: None };
     }
-    let event = serve_out(
+    let asks = serve_out(
         &mut hands.kept,
         &mut hands.put_away,
         &mut hands.places,
@@ -52,11 +61,93 @@ pub fn handle<S: Sink, R: Wait>(
         from,
         out,
     );
-    let fault = send_any(rt, &mut hands.parts.subjects, from, event);
+    let fault = send_asks(rt, &mut hands.parts.subjects, from, asks);
     Handled { left, fault }
 }
 
-// Does what a Bye asks: the first of the leave port has the drainer leave.
+// Does what the letter asks that comes next, and waits while there is none; but where something waits in a sink no longer than
+// some milliseconds, so that it is looked after again. `Err` where no letter comes any more.
+pub fn handle_first<S: Sink, R: Wait>(
+    rt: &R,
+    hands: &mut DrainerLeft<S>,
+    leave: usize,
+    left: bool,
+) -> Result<Handled, Gone>
+    requires { Fits leave left None hands.old }
+    ensures gone { OnErr result (hands.new ≡ hands.old) }
+    ensures fits { IfOk result (λ now. Fits leave now.left now.fault hands.new) }
+    ensures inbox { OnOk result (TakesMore hands.old.parts.inbox hands.new.parts.inbox) }
+    ensures ports { IfOk result (λ now. AreSame (view_of hands.old left None).ports (view_of hands.new now.left now.fault).ports) }
+    ensures goes { IfOk result (λ now. Goes S.acts (view_of hands.old left None) (view_of hands.new now.left now.fault)) }
+{
+    if left || !may_wait(&hands.kept) {
+        let letter = hands.parts.inbox.recv(rt)?;
+        return Ok(handle(rt, hands, leave, left, letter));
+    }
+    match hands
+        .parts
+        .inbox
+        .recv_within(rt, Duration::from_millis(MOST_WAIT))
+    {
+        Ok(letter) => Ok(handle(rt, hands, leave, left, letter)),
+        Err(TryRecvFault::Empty) => Ok(Handled { left, fault: None }),
+        Err(TryRecvFault::Gone) => Err(Gone),
+    }
+}
+
+// Whether something may wait in one of the sinks.
+fn may_wait<S: Sink>(kept: &[Kept<S>]) -> bool {
+    kept.iter().any(|one| one.may_wait)
+}
+
+// Does what the letters ask that are there, as long as there is no fault, and waits for none.
+pub fn handle_more<S: Sink, R: Wait>(
+    rt: &R,
+    hands: &mut DrainerLeft<S>,
+    leave: usize,
+    handled: Handled,
+) -> Handled
+    requires { Fits leave handled.left handled.fault hands.old }
+    ensures fits { Fits leave result.left result.fault hands.new }
+    ensures inbox { TakesMore hands.old.parts.inbox hands.new.parts.inbox }
+    ensures ports { AreSame (view_of hands.old handled.left handled.fault).ports (view_of hands.new result.left result.fault).ports }
+    ensures goes { Goes S.acts (view_of hands.old handled.left handled.fault) (view_of hands.new result.left result.fault) }
+{
+    let mut now = handled;
+    for _ in 0..MOST_LETTERS {
+        if now.fault.is_some() {
+            return now;
+        }
+        let Ok(letter) = hands.parts.inbox.try_recv(rt) else {
+            return now;
+        };
+        now = handle(rt, hands, leave, now.left, letter);
+    }
+    now
+}
+
+// Has go out what waits in the sinks, unless there is a fault. Once the drainer has left there are none.
+pub fn handle_rest<S: Sink, R: Wait>(
+    rt: &R,
+    hands: &mut DrainerLeft<S>,
+    leave: usize,
+    handled: Handled,
+) -> Handled
+    requires { Fits leave handled.left handled.fault hands.old }
+    ensures fits { Fits leave result.left result.fault hands.new }
+    ensures inbox { hands.new.parts.inbox ≡ hands.old.parts.inbox }
+    ensures ports { AreSame (view_of hands.old handled.left handled.fault).ports (view_of hands.new result.left result.fault).ports }
+    ensures pays { Pays S.acts (view_of hands.old handled.left handled.fault) (view_of hands.new result.left result.fault) }
+{
+    if handled.left || handled.fault.is_some() {
+        return handled;
+    }
+    let fault = flush_all(rt, hands, leave);
+    Handled { left: false, fault }
+}
+
+// Does what a Bye asks: the first of the leave port has the drainer leave. What waits in the sinks goes out before that, as
+// far as it can.
 fn hear_bye<S: Sink, R: Wait>(
     rt: &R,
     hands: &mut DrainerLeft<S>,
@@ -73,11 +164,16 @@ fn hear_bye<S: Sink, R: Wait>(
     if left || from as usize != leave {
         return Handled { left, fault: None };
     }
+    let fault = flush_all(rt, hands, leave);
+    if fault.is_some() {
+        put_all_away(&mut hands.kept, &mut hands.put_away);
+        return Handled { left: true, fault };
+    }
     let fault = leave_all(rt, hands, from);
     Handled { left: true, fault }
 }
 
-// Has each observer disposed of whose sink is kept, puts all sinks away, and ends the ports.
+// Asks for what is due of each sink that is kept, has its observer disposed of, puts all sinks away, and ends the ports.
 fn leave_all<S: Sink, R: Wait>(rt: &R, hands: &mut DrainerLeft<S>, leave: u32) -> Option<DrainFault>
     requires { Fits leave false None hands.old }
     ensures fits { Fits leave true result hands.new }
@@ -85,7 +181,7 @@ fn leave_all<S: Sink, R: Wait>(rt: &R, hands: &mut DrainerLeft<S>, leave: u32) -
     ensures ports { AreSame (view_of hands.old false None).ports (view_of hands.new true result).ports }
     ensures handles { Handles S.acts (letters.letter leave Bye) (view_of hands.old false None) (view_of hands.new true result) }
 {
-    let fault = dispose_all(rt, &mut hands.parts.subjects, hands.kept.as_slice());
+    let fault = part_all(rt, &mut hands.parts.subjects, hands.kept.as_slice());
     put_all_away(&mut hands.kept, &mut hands.put_away);
     if fault.is_some() {
         return fault;

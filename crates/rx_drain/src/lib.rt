@@ -20,6 +20,7 @@ mod drain_stop;
 mod drainer;
 mod drainer_left;
 mod drainer_parts;
+mod flushing;
 mod handling;
 pub mod laws;
 mod running_drainer;
@@ -33,4 +34,6 @@ pub use drainer::Drainer;
 pub use drainer_left::DrainerLeft;
 pub use drainer_parts::DrainerParts;
 pub use running_drainer::{NoThread, RunningDrainer, start_drainer};
-pub use rx_sink::{Kept, LineRest, LineSink, MemorySink, Places, PutAway, Sink, SinkFault};
+pub use rx_sink::{
+    Asks, Flow, Kept, LineRest, LineSink, MemorySink, Places, PutAway, Sink, SinkFault,
+};

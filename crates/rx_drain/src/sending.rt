@@ -1,41 +1,53 @@
 // What a drainer sends its subjects.
-ghost use Rattle.std.specs.Prelude.{[], ◌∷◌, map, option_to_list};
-ghost use Rattle.rx_drain.specs.Calls.{SendsAll, disposal};
+ghost use Rattle.std.specs.Prelude.{[], ◌∷◌, map};
+ghost use Rattle.rx_sink.specs.Stands.{events_of};
+ghost use Rattle.rx_drain.specs.Calls.{SendsAll, partings_of};
 
 use crate::DrainFault;
 use rx_heap::Heap;
 use rx_mailbox::Port;
 use rx_note::Event;
 use rx_pump::Call;
-use rx_sink::{Kept, Sink};
+use rx_sink::{Asks, Kept, Sink};
 use std::sync::Wait;
 
-// Sends the event to the subject, if there is one. It answers the fault, if there is one.
-pub fn send_any<S: Drop, R: Wait>(
+// Asks the subject for what it is to be asked, one item after another. It answers the fault, if there is one.
+pub fn send_asks<S: Drop, R: Wait>(
     rt: &R,
     subjects: &mut Vec<Port<Call<S>>, Heap>,
     subject: u32,
-    event: Option<Event>,
+    asks: Asks,
 ) -> Option<DrainFault>
-    ensures { SendsAll result (map (λ event. (subject, event)) (option_to_list event)) subjects.old.items subjects.new.items }
+    ensures { SendsAll result (map (λ event. (subject, event)) (events_of asks)) subjects.old.items subjects.new.items }
 {
-    match event {
-        Some(event) => send(rt, subjects, subject, event),
-        None => None,
+    let who = asks.who;
+    for _ in 0..asks.items {
+        let fault = send(rt, subjects, subject, Event::Request { who, n: 1 });
+        if fault.is_some() {
+            return fault;
+        }
     }
+    if asks.leaves {
+        return send(rt, subjects, subject, Event::Dispose { who });
+    }
+    None
 }
 
-// Has the observer of each sink disposed of, in their order. It answers the fault, if there is one.
-pub fn dispose_all<S: Sink, R: Wait>(
+// Asks for what is due of each sink, and has its observer disposed of, in their order. It answers the fault, if there is one.
+pub fn part_all<S: Sink, R: Wait>(
     rt: &R,
     subjects: &mut Vec<Port<Call<S>>, Heap>,
     kept: &[Kept<S>],
 ) -> Option<DrainFault>
-    ensures { SendsAll result (map disposal kept.now) subjects.old.items subjects.new.items }
+    ensures { SendsAll result (partings_of kept.now) subjects.old.items subjects.new.items }
 {
     for one in kept {
-        let who = one.who;
-        let fault = send(rt, subjects, one.subject, Event::Dispose { who });
+        let asks = Asks {
+            who: one.who,
+            items: u64::from(one.due),
+            leaves: true,
+        };
+        let fault = send_asks(rt, subjects, one.subject, asks);
         if fault.is_some() {
             return fault;
         }

@@ -1,11 +1,11 @@
 // What a letter of a subject does to the sinks.
-ghost use Rattle.std.specs.Prelude.{◌+◌, ◌≤◌, vec_len, vec_capacity, option_to_list};
+ghost use Rattle.std.specs.Prelude.{◌+◌, ◌≤◌, vec_len, vec_capacity};
+ghost use Rattle.rx_sink.specs.Stands.{events_of};
 ghost use Rattle.rx_drain.specs.Drainers.{ServesOut};
 
 use rx_heap::Heap;
-use rx_note::Event;
 use rx_pump::Out;
-use rx_sink::{Kept, Places, PutAway, Sink, attach, detach, give};
+use rx_sink::{Asks, Kept, Places, PutAway, Sink, attach, detach, give};
 
 // A sink, a note or the leaving of an observer comes from a subject. It answers what the subject is to be asked.
 pub fn serve_out<S: Sink>(
@@ -15,18 +15,15 @@ pub fn serve_out<S: Sink>(
     taken: &mut u64,
     subject: u32,
     out: Out<S>,
-) -> Option<Event>
+) -> Asks
     requires room { vec_len away.old + vec_len kept.old ≤ vec_capacity away.old }
     ensures room { vec_len away.new + vec_len kept.new ≤ vec_capacity away.new }
-    ensures serves { ServesOut S.acts subject out kept.old.items kept.new.items away.old.items away.new.items places.old.misses places.new.misses taken.old taken.new (option_to_list result) }
+    ensures serves { ServesOut S.acts subject out kept.old.items kept.new.items away.old.items away.new.items places.old.misses places.new.misses taken.old taken.new (events_of result) }
 {
     match out {
         Out::Attach { who, sink } => attach(kept, away, places, subject, who, sink),
         Out::Give { who, note } => give(kept, away, taken, subject, who, note),
-        Out::Detach { who } => {
-            detach(kept, away, subject, who);
-            None
-        }
+        Out::Detach { who } => detach(kept, away, subject, who),
     }
 }
 

@@ -6,9 +6,10 @@ ghost use Rattle.rx_mailbox.specs.declared.rule.View.TheVariants.{Sends};
 ghost use Rattle.rx_mailbox.specs.Letters.{letter};
 ghost use Rattle.rx_mailbox.specs.Passes.{own_of, IsPort, IsReader, TakesOne};
 
+use crate::bells::Bells;
 use crate::letter::{Letter, Post};
 use crate::rule::{MailboxRule, Put, Take, View};
-use crossbeam_channel::{Pass, RecvError, RuledReceiver, RuledSender};
+use crossbeam_channel::{Pass, RuledReceiver, RuledSender, TryRecvError, TrySendError};
 use rx_heap::Heap;
 use std::sync::Wait;
 
@@ -18,10 +19,12 @@ pub type BoxReceiver<B> = RuledReceiver<Letter<B>, View<B>, MailboxRule, Heap>;
 
 pub type BoxPass<B> = Pass<Letter<B>, View<B>>;
 
-// Puts a letter of the port at the back, or hands the post back.
+// Puts a letter of the port at the back, and waits while there is no room, or hands the post back. It rings no inbox that
+// sleeps, but where it waits for room.
 pub fn put<B: Drop, R: Wait>(
     rt: &R,
     sender: &BoxSender<B>,
+    bells: &Bells,
     pass: &mut BoxPass<B>,
     number: u32,
     post: Post<B>,
@@ -33,24 +36,34 @@ pub fn put<B: Drop, R: Wait>(
         (λ _. view pass.new ≡ Sends number (own_of (view pass.old) ++ letter number post ∷ []))
         (λ back. (back ≡ post) × (view pass.new ≡ view pass.old)) }
 {
-    let letter = Letter { from: number, post };
-    let Err(error) = sender.send_as::<Put, R>(rt, pass, letter) else {
-        return Ok(());
-    };
-    let Letter { from: _, post } = error.into_inner();
-    Err(post)
+    let mut letter = Letter { from: number, post };
+    let mut looks = 0;
+    for _ in rt.forever() {
+        match sender.try_send_as::<Put, R>(rt, pass, letter) {
+            Ok(()) => return Ok(()),
+            Err(TrySendError::Full(back)) => letter = back,
+            Err(error) => {
+                let Letter { from: _, post } = error.into_inner();
+                return Err(post);
+            }
+        }
+        // The inbox may sleep beside a box that was filled without a ring.
+        bells.letter.ring();
+        looks = bells.room.wait(rt, looks);
+    }
+    unreachable!()
 }
 
-// Takes the letter at the front. `Err` where none will come any more.
+// Takes the letter at the front, if there is one. `Err` says whether none will come any more.
 pub fn take<B: Drop, R: Wait>(
     rt: &R,
     receiver: &BoxReceiver<B>,
     pass: &mut BoxPass<B>,
-) -> Result<Letter<B>, RecvError>
+) -> Result<Letter<B>, TryRecvError>
     requires pass { IsSeatAt (receives_on receiver.now) pass.old }
     requires reader { IsReader (view pass.old) }
     ensures pass { IsSeatAt (receives_on receiver.now) pass.new }
     ensures taken { MatchResult result (λ letter. TakesOne (view pass.old) letter (view pass.new)) (λ _. view pass.new ≡ view pass.old) }
 {
-    receiver.recv_as::<Take, R>(rt, pass)
+    receiver.try_recv_as::<Take, R>(rt, pass)
 }

@@ -4,6 +4,7 @@ ghost use Rattle.rx_mailbox.specs.Boxes.{HasBye};
 ghost use Rattle.rx_mailbox.specs.Passes.{inbox_of, notes_of, IsReader};
 ghost use Rattle.rx_mailbox.specs.Settling.{GotAll};
 
+use crate::bells::SharedBells;
 use crate::channel::{BoxPass, BoxSender};
 use crate::rule::{JoinPort, Show};
 use std::marker::Model;
@@ -13,6 +14,7 @@ pub struct EndedPort<B: Drop> {
     pub(crate) number: u32,
     // The inbox's pass is joined with this one through it, when the box settles.
     pub(crate) sender: BoxSender<B>,
+    pub(crate) bells: SharedBells,
     pub(crate) pass: BoxPass<B>,
 }
 
@@ -21,9 +23,13 @@ impl<B: Drop> Drop for EndedPort<B> {
     fn drop(self) {
         let EndedPort {
             number: _,
-            sender: _,
+            sender,
+            bells,
             pass: _,
         } = self;
+        // The inbox is told once the last port is gone.
+        drop(sender);
+        bells.letter.ring();
     }
 }
 
@@ -63,6 +69,7 @@ impl<B: Drop> EndedPort<B> {
         let EndedPort {
             number: _,
             sender,
+            bells: _,
             pass: own,
         } = self;
         sender.absorb::<JoinPort>(pass, own);

@@ -5,13 +5,18 @@ ghost use Rattle.crossbeam_channel.specs.Claims.{view};
 ghost use Rattle.rx_mailbox.specs.Passes.{inbox_of, taken_of, IsReader};
 ghost use Rattle.rx_mailbox.specs.Settling.{counted};
 
+use crate::bell::LOOKS_WITHIN;
+use crate::bells::SharedBells;
 use crate::channel::{BoxPass, BoxReceiver, take};
 use crate::letter::{Letter, Post};
+use crate::try_recv_fault::TryRecvFault;
+use crossbeam_channel::TryRecvError;
 use rx_heap::Heap;
 use std::error::Error;
 use std::fmt;
 use std::marker::Model;
 use std::sync::Wait;
+use std::time::Duration;
 
 /// Every port of the box was dropped, ended or not, and the box is empty: no letter will come any more.
 #[derive(Clone, Copy, Debug, PartialEq, Eq)]
@@ -28,6 +33,7 @@ impl Error for Gone {}
 /// The receiver of a box. Contracts see how many ports the box has, and the letters that were received, in their order.
 pub struct Inbox<B: Drop> {
     pub(crate) receiver: BoxReceiver<B>,
+    pub(crate) bells: SharedBells,
     pub(crate) pass: BoxPass<B>,
     // Of each port, whether its Bye was received.
     pub(crate) byes: Vec<bool, Heap>,
@@ -39,11 +45,15 @@ pub struct Inbox<B: Drop> {
 impl<B: Drop> Drop for Inbox<B> {
     fn drop(self) {
         let Inbox {
-            receiver: _,
+            receiver,
+            bells,
             pass: _,
             byes: _,
             letters: _,
         } = self;
+        // A port that waits for room is told once the inbox is gone.
+        drop(receiver);
+        bells.room.ring();
     }
 }
 
@@ -70,9 +80,65 @@ impl<B: Drop> Inbox<B> {
         ensures port { IfOk result (λ letter. letter.from < self.old.ports) }
         ensures before_bye { IfOk result (λ letter. ¬ HasBye self.old letter.from) }
     {
-        let Ok(letter) = take(rt, &self.receiver, &mut self.pass) else {
-            return Err(Gone);
+        let mut looks = 0;
+        for _ in rt.forever() {
+            match self.try_recv(rt) {
+                Ok(letter) => {
+                    self.bells.letter.rise(looks);
+                    return Ok(letter);
+                }
+                Err(TryRecvFault::Gone) => return Err(Gone),
+                Err(TryRecvFault::Empty) => {}
+            }
+            looks = self.bells.letter.wait(rt, looks);
+        }
+        unreachable!()
+    }
+
+    /// Takes the letter at the front of the box, and waits while there is none, but no longer than about so long. `Err` as by
+    /// `try_recv`.
+    pub fn recv_within<R: Wait>(
+        &mut self,
+        rt: &R,
+        most: Duration,
+    ) -> Result<Letter<B>, TryRecvFault>
+        ensures received { MatchResult result (λ letter. self.new ≡ with_letter self.old letter) (λ _. self.new ≡ self.old) }
+
+        // It is from a port of the box whose Bye had not come.
+        ensures port { IfOk result (λ letter. letter.from < self.old.ports) }
+        ensures before_bye { IfOk result (λ letter. ¬ HasBye self.old letter.from) }
+    {
+        let mut looks = 0;
+        for _ in 0..LOOKS_WITHIN {
+            match self.try_recv(rt) {
+                Ok(letter) => {
+                    self.bells.letter.rise(looks);
+                    return Ok(letter);
+                }
+                Err(TryRecvFault::Gone) => return Err(TryRecvFault::Gone),
+                Err(TryRecvFault::Empty) => {}
+            }
+            looks = self.bells.letter.wait_within(rt, looks, most);
+        }
+        self.bells.letter.rise(looks);
+        self.try_recv(rt)
+    }
+
+    /// Takes the letter at the front of the box, and waits for none. `Err` where there is none, and nothing changed: it
+    /// says whether one may still come.
+    pub fn try_recv<R: Wait>(&mut self, rt: &R) -> Result<Letter<B>, TryRecvFault>
+        ensures received { MatchResult result (λ letter. self.new ≡ with_letter self.old letter) (λ _. self.new ≡ self.old) }
+
+        // It is from a port of the box whose Bye had not come.
+        ensures port { IfOk result (λ letter. letter.from < self.old.ports) }
+        ensures before_bye { IfOk result (λ letter. ¬ HasBye self.old letter.from) }
+    {
+        let letter = match take(rt, &self.receiver, &mut self.pass) {
+            Ok(letter) => letter,
+            Err(TryRecvError::Empty) => return Err(TryRecvFault::Empty),
+            Err(TryRecvError::Disconnected) => return Err(TryRecvFault::Gone),
         };
+        self.bells.room.ring();
         mark(&mut self.byes, &letter);
         self.letters = self.letters.saturating_add(1);
         Ok(letter)
@@ -87,6 +153,7 @@ impl<B: Drop> Inbox<B> {
     {
         let Inbox {
             receiver: _,
+            bells: _,
             pass,
             byes: _,
             letters,

@@ -9,6 +9,8 @@
 //! contracts; `Rule.antt` has the rule that the channel of a box keeps at every moment.
 #![tactic(auto)]
 
+mod bell;
+mod bells;
 mod channel;
 mod ended_port;
 mod inbox;
@@ -20,6 +22,7 @@ mod rule;
 mod settle_cause;
 mod settled;
 mod settling;
+mod try_recv_fault;
 mod unsettled;
 
 pub use ended_port::EndedPort;
@@ -30,4 +33,5 @@ pub use port::Port;
 pub use settle_cause::SettleCause;
 pub use settled::Settled;
 pub use settling::settle;
+pub use try_recv_fault::TryRecvFault;
 pub use unsettled::Unsettled;

@@ -6,6 +6,7 @@ ghost use Rattle.rx_mailbox.specs.Boxes.{capacity_of, outgoing};
 ghost use Rattle.rx_mailbox.specs.Passes.{box_of, inbox_of, IsReader, IsTally};
 ghost use Rattle.rx_mailbox.specs.Sizes.{IsSize};
 
+use crate::bells::{Bells, SharedBells};
 use crate::channel::{BoxPass, BoxReceiver, BoxSender};
 use crate::inbox::Inbox;
 use crate::letter::Letter;
@@ -13,11 +14,13 @@ use crate::port::Port;
 use crate::rule::{MailboxRule, SplitPort, View};
 use crossbeam_channel::bounded_with;
 use rx_heap::{Heap, Memory};
+use std::sync::Arc;
 
 /// A box whose ports are being made: both ends of its channel, and the pass that those of the ports are split from.
 pub(crate) struct NewBox<B: Drop> {
     sender: BoxSender<B>,
     receiver: BoxReceiver<B>,
+    bells: SharedBells,
     pass: BoxPass<B>,
     byes: Vec<bool, Heap>,
     ghost sends: { IsSeatAt (sends_on sender) pass },
@@ -30,6 +33,7 @@ impl<B: Drop> Drop for NewBox<B> {
         let NewBox {
             sender: _,
             receiver: _,
+            bells: _,
             pass: _,
             byes: _,
         } = self;
@@ -45,12 +49,14 @@ impl<B: Drop> NewBox<B> {
         ensures capacity { IfOk result (λ new. capacity_of (box_of new.pass) ≡ capacity) }
     {
         let byes = vec![in alloc.clone()?; false; senders as usize]?;
+        let bells = Bells::shared(alloc.clone()?)?;
         let (sender, receiver, pass) = bounded_with::<Letter<B>, View<B>, MailboxRule, Heap>(
             alloc, capacity,
         )?;
         Ok(NewBox {
             sender,
             receiver,
+            bells,
             pass,
             byes,
         })
@@ -65,10 +71,12 @@ impl<B: Drop> NewBox<B> {
         ensures port { IfOk result (λ port. port ≡ outgoing (box_of self.old.pass) number []) }
     {
         let sender = self.sender.try_clone()?;
+        let bells = Arc::try_clone(&self.bells)?;
         let own = sender.another::<SplitPort>(&mut self.pass);
         Ok(Port {
             number,
             sender,
+            bells,
             pass: own,
         })
     }
@@ -82,11 +90,13 @@ impl<B: Drop> NewBox<B> {
         let NewBox {
             sender: _,
             receiver,
+            bells,
             pass,
             byes,
         } = self;
         Inbox {
             receiver,
+            bells,
             pass,
             byes,
             letters: 0,

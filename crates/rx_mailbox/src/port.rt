@@ -2,6 +2,7 @@ ghost use Rattle.std.specs.Prelude.{◌≡◌, MatchResult};
 ghost use Rattle.rx_mailbox.specs.declared.letter.Post.TheVariants.{Body, Bye};
 ghost use Rattle.rx_mailbox.specs.Boxes.{with_post};
 
+use crate::bells::SharedBells;
 use crate::channel::{BoxPass, BoxSender, put};
 use crate::ended_port::EndedPort;
 use crate::letter::Post;
@@ -12,6 +13,7 @@ use std::sync::Wait;
 pub struct Port<B: Drop> {
     pub(crate) number: u32,
     pub(crate) sender: BoxSender<B>,
+    pub(crate) bells: SharedBells,
     pub(crate) pass: BoxPass<B>,
 }
 
@@ -20,9 +22,13 @@ impl<B: Drop> Drop for Port<B> {
     fn drop(self) {
         let Port {
             number: _,
-            sender: _,
+            sender,
+            bells,
             pass: _,
         } = self;
+        // The inbox is told once the last port is gone.
+        drop(sender);
+        bells.letter.ring();
     }
 }
 
@@ -55,9 +61,22 @@ impl<B: Drop> Port<B> {
             (λ _. self.new ≡ with_post self.old (Post.Body body))
             (λ back. (back ≡ body) × (self.new ≡ self.old)) }
     {
+        let outcome = self.send_quietly(rt, body);
+        self.ring();
+        outcome
+    }
+
+    /// As `send`, but wakes no inbox that sleeps: where a letter or more were put so, `ring` is to follow. A wait for room
+    /// wakes it, as do a letter of another port and the end of this one.
+    pub fn send_quietly<R: Wait>(&mut self, rt: &R, body: B) -> Result<(), B>
+        ensures { MatchResult result
+            (λ _. self.new ≡ with_post self.old (Post.Body body))
+            (λ back. (back ≡ body) × (self.new ≡ self.old)) }
+    {
         let outcome = put(
             rt,
             &self.sender,
+            &self.bells,
             &mut self.pass,
             self.number,
             Post::Body(body),
@@ -69,6 +88,11 @@ impl<B: Drop> Port<B> {
         }
     }
 
+    /// Wakes the inbox, if it sleeps.
+    pub fn ring(&self) {
+        self.bells.letter.ring();
+    }
+
     /// Puts Bye at the back of the box, after which this port sends nothing, and waits while the box is full. `Err`
     /// hands the port back where the inbox is gone, and nothing changed.
     pub fn finish<R: Wait>(self, rt: &R) -> Result<EndedPort<B>, Port<B>>
@@ -77,17 +101,23 @@ impl<B: Drop> Port<B> {
         let Port {
             number,
             sender,
+            bells,
             mut pass,
         } = self;
-        match put(rt, &sender, &mut pass, number, Post::Bye) {
-            Ok(()) => Ok(EndedPort {
-                number,
-                sender,
-                pass,
-            }),
+        match put(rt, &sender, &bells, &mut pass, number, Post::Bye) {
+            Ok(()) => {
+                bells.letter.ring();
+                Ok(EndedPort {
+                    number,
+                    sender,
+                    bells,
+                    pass,
+                })
+            }
             Err(_) => Err(Port {
                 number,
                 sender,
+                bells,
                 pass,
             }),
         }

@@ -7,7 +7,9 @@
 mod clocked;
 mod config_file;
 mod host;
+mod incoming;
 mod names;
+mod outgoing;
 mod program;
 mod program_fault;
 mod serving;
@@ -19,6 +21,8 @@ mod words;
 
 pub use clocked::Clocked;
 pub use host::Host;
+pub use incoming::Incoming;
+pub use outgoing::{MAX_STALL, MOST_WAITING, Outgoing};
 pub use program::run_words;
 pub use program_fault::ProgramFault;
 pub use serving::serve_on;

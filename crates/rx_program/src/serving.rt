@@ -4,6 +4,7 @@ ghost use Rattle.rx_program.specs.Programs.{MayServe};
 
 use crate::host::Host;
 use crate::names::Names;
+use crate::outgoing::Outgoing;
 use crate::program_fault::ProgramFault;
 use crate::site::Site;
 use crate::telling::tell;
@@ -13,7 +14,6 @@ use rx_proto::Name;
 use rx_server::{CloseFault, Report, ServeFault, SubjectReport, start};
 use rx_sink::{LineRest, LineSink};
 use std::io::Write;
-use std::os::unix::net::UnixStream;
 
 /// Serves a configuration on a new Unix socket of this path, until as many connections have ended as it says. Once it listens
 /// it tells so on `faults`; at the end it writes the report, one line a subject, also after a fault of serving.
@@ -39,7 +39,7 @@ pub fn serve_on<F: Host, W: Write, E: Write>(
         return Err(ProgramFault::Memory);
     };
     let site = Site::at(rt, heap, path)?;
-    match start::<LineSink<UnixStream>, F>(rt, own, config) {
+    match start::<LineSink<Outgoing<F>>, F>(rt, own, config) {
         Ok(server) => {
             let _ = writeln!(faults, "rxline: listening on {path}");
             let (served, closed) = site.serve(rt, server);

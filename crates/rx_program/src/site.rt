@@ -3,16 +3,17 @@ ghost use Rattle.rx_program.specs.Programs.{MayServe};
 
 use crate::clocked::Clocked;
 use crate::host::Host;
+use crate::outgoing::Outgoing;
 use crate::program_fault::ProgramFault;
 use crate::socket::Socket;
 use rx_heap::Heap;
 use rx_server::{CloseFault, Report, ServeFault, Server};
 use rx_sink::{LineRest, LineSink};
-use std::os::unix::net::{UnixListener, UnixStream};
+use std::os::unix::net::UnixListener;
 
 /// What a server is served by: the socket that it listens on, the clock of its moments, and the memory for what its desks leave.
 pub struct Site<F: Host> {
-    listener: UnixListener,
+    socket: Socket<F>,
     clock: F,
     heap: Heap,
 }
@@ -21,7 +22,7 @@ pub struct Site<F: Host> {
 impl<F: Host> Drop for Site<F> {
     fn drop(self) {
         let Site {
-            listener: _,
+            socket: _,
             clock: _,
             heap: _,
         } = self;
@@ -36,12 +37,18 @@ impl<F: Host> Site<F> {
         let Ok(clock) = rt.clone() else {
             return Err(ProgramFault::Memory);
         };
+        let Ok(own_clock) = rt.clone() else {
+            return Err(ProgramFault::Memory);
+        };
+        let Ok(own_heap) = heap.clone() else {
+            return Err(ProgramFault::Memory);
+        };
         let Ok(heap) = heap.clone() else {
             return Err(ProgramFault::Memory);
         };
         match UnixListener::bind(rt, path) {
             Ok(listener) => Ok(Site {
-                listener,
+                socket: Socket::new(listener, own_clock, own_heap),
                 clock,
                 heap,
             }),
@@ -53,15 +60,14 @@ impl<F: Host> Site<F> {
     pub fn serve(
         self,
         rt: &F,
-        server: Server<LineSink<UnixStream>>,
+        server: Server<LineSink<Outgoing<F>>>,
     ) -> (Result<(), ServeFault>, Result<Report<LineRest>, CloseFault>) {
         let Site {
-            listener,
+            mut socket,
             clock,
             heap,
         } = self;
         let mut server = server;
-        let mut socket = Socket::new(listener);
         let served = server.serve(rt, &mut socket, Clocked::new(clock));
         (served, server.close(rt, Vec::new(heap)))
     }

@@ -47,8 +47,8 @@ pub fn detach<S: Drop>(leaver: Option<u32>, answered: Result<Answer, Refusal>) -
     }
 }
 
-// Sends what a call sends: the sink of the observer that it made, the notes that it gave, and that an observer left.
-// `Err` has the place of the drainer that is gone.
+// Sends what a call sends: the sink of the observer that it made, the notes that it gave, and that an observer left. It
+// wakes no drainer. `Err` has the place of the drainer that is gone.
 pub fn send_all<S: Drop, R: Wait>(
     rt: &R,
     drainers: &mut Drainers<S>,
@@ -97,13 +97,20 @@ fn give_all<S: Drop, R: Wait>(
     Ok(())
 }
 
+// Wakes the drainers that sleep.
+pub fn wake_all<S: Drop>(drainers: &Drainers<S>) {
+    for drainer in drainers.iter() {
+        drainer.ring();
+    }
+}
+
 // Sends an out to the drainer of its observer.
 fn send<S: Drop, R: Wait>(rt: &R, drainers: &mut Drainers<S>, out: Out<S>) -> Result<(), usize>
     requires { 0 < vec_len drainers.old }
     ensures { SendsAll (out ∷ []) result drainers.old.items drainers.new.items }
 {
     let place = out.who() as usize % drainers.len();
-    let Ok(()) = drainers[place].send(rt, out) else {
+    let Ok(()) = drainers[place].send_quietly(rt, out) else {
         return Err(place);
     };
     Ok(())

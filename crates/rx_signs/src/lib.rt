@@ -1,5 +1,5 @@
 //! What the crates of tests share: the signs of which their scripts are made, what is told of a run, runs with each of their
-//! growths refused in turn, and sinks that meet.
+//! growths refused in turn, sinks that meet, and sinks in which notes wait.
 //!
 //! Nothing of the product stands on it. A test that fails is told where the test stands: here nothing ends the process.
 #![tactic(auto)]
@@ -8,6 +8,7 @@ mod in_turn;
 mod meeting;
 mod signs;
 mod told;
+mod valve;
 
 pub use in_turn::{Refusable, Refusals, Seen, Tale, refuse_in_turn};
 pub use meeting::Meeting;
@@ -16,3 +17,4 @@ pub use signs::{
     rules_of, sign_of, sign_of_item, text_of,
 };
 pub use told::Told;
+pub use valve::{BROKEN, Valve};

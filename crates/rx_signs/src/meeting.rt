@@ -2,7 +2,7 @@
 
 use rx_heap::Memory;
 use rx_note::Note;
-use rx_sink::{Sink, SinkFault};
+use rx_sink::{Flow, Sink, SinkFault};
 use std::alloc::Global;
 use std::sync::Arc;
 use std::sync::atomic::{AtomicU64, Ordering};
@@ -49,11 +49,16 @@ impl<C: Clock + Drop> Meeting<C> {
 impl<C: Clock + Drop> Sink for Meeting<C> {
     type Rest = bool;
 
+    ghost use Rattle.std.specs.Prelude.{◌≡◌};
+    ghost use Rattle.rx_sink.specs.declared.flow.Flow.TheVariants.{Clear};
+
     ghost acts = { record {
       started = λ s who t. Unit {0};
       start_faulted = λ s who t. Unit {0};
-      took = λ s note t. Unit {0};
+      took = λ s note flow t. flow ≡ Clear;
       take_faulted = λ s note t. Unit {0};
+      flushed = λ s flow t. flow ≡ Clear;
+      flush_faulted = λ s t. ⊥;
       finished = λ s rest. Unit {0};
       faults = λ s. s.faults;
     } };
@@ -62,12 +67,16 @@ impl<C: Clock + Drop> Sink for Meeting<C> {
         Ok(())
     }
 
-    fn take(&mut self, _note: Note) -> Result<(), SinkFault> {
+    fn take(&mut self, _note: Note) -> Result<Flow, SinkFault> {
         if self.meets() {
-            return Ok(());
+            return Ok(Flow::Clear);
         }
         self.faults = self.faults.saturating_add(1);
         Err(SinkFault)
+    }
+
+    fn flush(&mut self) -> Result<Flow, SinkFault> {
+        Ok(Flow::Clear)
     }
 
     // Whether it met.

@@ -39,6 +39,12 @@ module _ {X : Type 0} where
   slice_get-set (z ∷ zs) zero x y is = refl
   slice_get-set (z ∷ zs) (suc i) x y is = slice_get-set zs i x y is
 
+  -- what stands there, written again
+  pub set-same : (xs : List X) (i : ℕ) (x : X) → slice_get xs i ≡ Some x → set xs i x ≡ xs
+  set-same [] i x is = refl
+  set-same (y ∷ ys) zero x is = (let e : y ≡ x = cc in ap (λ (z : X). z ∷ ys) (sym e))
+  set-same (y ∷ ys) (suc i) x is = ap (λ l. y ∷ l) (set-same ys i x is)
+
 module _ {S Rest : Type 0} (acts : Acts S Rest) (subject who : ℕ) where
   -- at this place stands the first sink that is kept for the observer, and it is that of the first attachment of it
   pub record Found (held : List (Attachment S)) (kept : List (Kept S)) (place : ℕ) : Type 0 where

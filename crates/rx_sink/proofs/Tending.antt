@@ -1,29 +1,62 @@
 -- What the calls do to the sinks that are kept and put away.
-use Rattle.std.proofs.Common.{◌≡◌, ◌∙◌, sym, refl, ap, subst, if◌then◌else◌, ℕ, Bool, true, false, List, [], ◌∷◌, ◌++◌, append-nil, append_assoc, get_or, reverse, Some, None, slice_get, Result, Ok, Err, is_ok, MatchResult}
+use Rattle.std.proofs.Common.{◌≡◌, ◌∙◌, sym, refl, ap, subst, if◌then◌else◌, ◌+◌, ◌&&◌, ℕ, zero, suc, Bool, true, false, List, [], ◌∷◌, ◌++◌, append-nil, append_assoc, get_or, reverse, map, replicate, Some, None, slice_get, Result, Ok, Err, is_ok, MatchResult, Option}
 use Rattle.std.proofs.Math.ListN.{set}
 use Rattle.std.proofs.lemmas.Fn.{FoldsTo-push}
-use Rattle.std.proofs.lemmas.List.{reverse-append, reverse-reverse}
+use Rattle.std.proofs.lemmas.List.{map-append, reverse-append, reverse-reverse}
 use Rattle.std.proofs.lemmas.Option.{get_or_from_slice_get}
 use Rattle.std.specs.List.{AllZip, FoldsTo}
+use Rattle.rx_note.specs.declared.event.Event.{Event}
 use Rattle.rx_note.specs.declared.event.Event.TheVariants.{Request, Dispose}
 use Rattle.rx_note.specs.declared.note.Note.{Note}
+use Rattle.rx_sink.specs.declared.asks.Asks.{Asks}
+use Rattle.rx_sink.specs.declared.flow.Flow.{Flow}
+use Rattle.rx_sink.specs.declared.flow.Flow.TheVariants.{Clear, Ready, Stuck}
 use Rattle.rx_sink.specs.declared.kept.Kept.{Kept}
 use Rattle.rx_sink.specs.declared.put_away.PutAway.{PutAway}
-use Rattle.rx_sink.specs.Acts.{Acts, Took, raised}
-use Rattle.rx_sink.specs.Attachments.{Attachment, Why, TookLast, Detached, Closed, FailedAtStart, FailedAt, Mark, Fine, Fault, NoMemory, Change, is_last, kept_for, given, served, attached, detached, unchanged, with_note, without, closed}
-use Rattle.rx_sink.specs.Stands.{IsKept, Last, IsPutAway, Stand, Did, Pushes, MovesOne, counted}
-use Rattle.rx_sink.proofs.Finding.{AllZip-more, Found, remove-set, slice_get-set}
+use Rattle.rx_sink.specs.declared.sink.SinkFault.{SinkFault}
+use Rattle.rx_sink.specs.Acts.{Acts, Step, Takes, Flushes, notes_by, last_by, Makes, Took, raised}
+use Rattle.rx_sink.specs.Attachments.{Attachment, Why, TookLast, Detached, Closed, FailedAtStart, FailedAt, FailedAtFlush, Mark, Fine, Fault, NoMemory, Sent, Change, is_clear, is_held_back, is_last, may_wait, kept_for, given, settled, answered, served, served_yet, flushed, written, attached, detached, let_go, unchanged, with_note, with_flush, paid, request, requests, dispose, parting, without, replaced, closed}
+use Rattle.rx_sink.specs.Stands.{IsKept, Last, IsPutAway, Stand, Did, Pushes, Parts, MayPart, EndsAct, Settles, TakesNote, Flushed, addressed, counted, events_of}
+use Rattle.rx_sink.proofs.Finding.{AllZip-more, Found, remove-set, set-same, slice_get-set}
 
 module _ {S : Type 0} where
   -- the attachment of a sink that comes
   abbrev pub brought : ℕ → ℕ → ℕ → S → Attachment S
-  brought place subject who sink = record { place = place; subject = subject; who = who; sink = sink; taken = [] }
+  brought place subject who sink = record { place = place; subject = subject; who = who; sink = sink; taken = []; due = 0; over = false; last = None }
 
 module _ {S Rest : Type 0} (acts : Acts S Rest) where
+  notes_more : (steps : List Step) (step : Step) → notes_by (steps ++ step ∷ []) ≡ notes_by steps ++ notes_by (step ∷ [])
+  notes_more [] step = refl
+  notes_more (Takes note flow ∷ steps) step = ap (λ (l : List Note). note ∷ l) (notes_more steps step)
+  notes_more (Flushes flow ∷ steps) step = notes_more steps step
+
+  last_more : (before : Option Step) (steps : List Step) (step : Step) → last_by before (steps ++ step ∷ []) ≡ Some step
+  last_more before [] step = refl
+  last_more before (other ∷ steps) step = last_more (Some other) steps step
+
   -- a sink took one note more
-  pub Took-more : (sink : S) (who : ℕ) (notes : List Note) (before now : S) (note : Note)
-      → Took acts sink who notes before → acts.took before note now → Took acts sink who (notes ++ note ∷ []) now
-  Took-more sink who notes before now note took more = (took.0, took.1, FoldsTo-push acts.took took.0 notes before note now took.2 more)
+  pub Took-more : (sink : S) (who : ℕ) (notes : List Note) (last : Option Step) (before now : S) (note : Note) (flow : Flow)
+      → Took acts sink who notes last before → acts.took before note flow now → Took acts sink who (notes ++ note ∷ []) (Some (Takes note flow)) now
+  Took-more sink who notes last before now note flow took more = record {
+    begun = took.begun;
+    start = took.start;
+    steps = took.steps ++ Takes note flow ∷ [];
+    notes_are = notes_more took.steps (Takes note flow) ∙ ap (λ (l : List Note). l ++ note ∷ []) took.notes_are;
+    last_is = last_more None took.steps (Takes note flow);
+    made = FoldsTo-push (Makes acts) took.begun took.steps before (Takes note flow) now took.made more;
+  }
+
+  -- it was flushed
+  pub Took-flush : (sink : S) (who : ℕ) (notes : List Note) (last : Option Step) (before now : S) (flow : Flow)
+      → Took acts sink who notes last before → acts.flushed before flow now → Took acts sink who notes (Some (Flushes flow)) now
+  Took-flush sink who notes last before now flow took more = record {
+    begun = took.begun;
+    start = took.start;
+    steps = took.steps ++ Flushes flow ∷ [];
+    notes_are = notes_more took.steps (Flushes flow) ∙ append-nil (notes_by took.steps) ∙ took.notes_are;
+    last_is = last_more None took.steps (Flushes flow);
+    made = FoldsTo-push (Makes acts) took.begun took.steps before (Flushes flow) now took.made more;
+  }
 
   -- one more was put away
   pub away_more : (gone : List (Attachment S × Why)) (away away_after : List (PutAway Rest)) (a : Attachment S) (why : Why) (one : Kept S)
@@ -41,105 +74,314 @@ module _ {S Rest : Type 0} (acts : Acts S Rest) where
     sends = refl;
   }
 
-  -- A NOTE
+  -- WHAT IS ASKED
 
-  -- the sink at the place took it, or that was a fault
-  pub given_item : (subject who place : ℕ) (held : List (Attachment S)) (gone : List (Attachment S × Why)) (kept : List (Kept S)) (away : List (PutAway Rest)) (note : Note) (now : Kept S)
-      → Stand acts held gone kept away → (f : Found acts subject who held kept place) → is_last note ≡ false
-      → acts.took f.one.sink note now.sink → now.subject ≡ f.one.subject → now.who ≡ f.one.who
-      → Did acts (given Fine subject who note (kept_for subject who held) held) gone (set kept place now) away ((subject, Request who 1) ∷ [])
-  given_item subject who place held gone kept away note now stand f last took same_subject same_who =
-      let P : Change S → Type 0 = λ change. Did acts change gone (set kept place now) away ((subject, Request who 1) ∷ []) in
-      let change : served Fine false subject who note f.a held ≡ given Fine subject who note (kept_for subject who held) held =
-      sym (ap (λ o. given Fine subject who note o held) f.found ∙ ap (λ b. served Fine b subject who note f.a held) last) in
-      subst P change (record {
-        stand = record {
-          kept_are = f.with_other (with_note f.a note) now (record {
-            subject = same_subject ∙ f.tie.subject;
-            who = same_who ∙ f.tie.who;
-            took = Took-more f.a.sink f.a.who f.a.taken f.one.sink now.sink note f.tie.took took;
-          });
-          away_are = subst (λ (l : List (Attachment S × Why)). AllZip (IsPutAway acts) l away) (sym (append-nil gone)) stand.away_are;
-        };
-        sends = ap (λ n. (n, Request who 1) ∷ []) (sym f.key.0) ∙ ap (λ n. (f.a.subject, Request n 1) ∷ []) (sym f.key.1);
-      })
+  asked_are : (n subject who : ℕ) (s : Sent) → s.subject ≡ subject → s.event ≡ Request who 1
+      → map (λ event. (subject, event)) (replicate n (Request who 1)) ≡ addressed (replicate n s)
+  asked_are zero subject who s subject_is event_is = refl
+  asked_are (suc n) subject who s subject_is event_is =
+      ap (λ (l : List (ℕ × Event)). (subject, Request who 1) ∷ l) (asked_are n subject who s subject_is event_is)
+      ∙ ap (λ (m : ℕ). (m, Request who 1) ∷ addressed (replicate n s)) (sym subject_is)
+      ∙ ap (λ (e : Event). (s.subject, e) ∷ addressed (replicate n s)) (sym event_is)
 
-  -- the sink at the place, which has come to another state, was put away
-  moved_away : (subject who place : ℕ) (held : List (Attachment S)) (gone : List (Attachment S × Why)) (kept kept_after : List (Kept S)) (away away_after : List (PutAway Rest)) (now : Kept S) (b : Attachment S) (why : Why)
-      → Stand acts held gone kept away → (f : Found acts subject who held kept place)
-      → now.subject ≡ b.subject → now.who ≡ b.who → Last acts b why now.sink
-      → MovesOne acts place (set kept place now) kept_after away away_after
-      → AllZip (IsKept acts) (without subject who held) kept_after × AllZip (IsPutAway acts) (gone ++ (b, why) ∷ []) away_after
-  moved_away subject who place held gone kept kept_after away away_after now b why stand f same_subject same_who was moves =
-      let written : slice_get (set kept place now) place ≡ Some now = slice_get-set kept place f.one now f.at in
-      let one_is : moves.0 ≡ now = let both : Some moves.0 ≡ Some now = sym moves.1 ∙ written in cc in (
-        subst (AllZip (IsKept acts) (without subject who held)) (sym (moves.2 ∙ remove-set kept place now)) f.rest,
-        away_more gone away away_after b why moves.0 stand.away_are (ap (λ (k : Kept S). k.subject) one_is ∙ same_subject) (ap (λ (k : Kept S). k.who) one_is ∙ same_who)
-            (subst (λ (k : Kept S). Last acts b why k.sink) (sym one_is) was) moves.3,
-      )
+  -- all that is due
+  sends_due : (subject who : ℕ) (a : Attachment S) → a.subject ≡ subject → a.who ≡ who
+      → map (λ event. (subject, event)) (events_of (record { who = who; items = a.due; leaves = false })) ≡ addressed (requests a)
+  sends_due subject who a subject_is who_is =
+      ap (map (λ event. (subject, event))) (append-nil (replicate a.due (Request who 1)))
+      ∙ asked_are a.due subject who (request a) subject_is (ap (λ (n : ℕ). Request n 1) who_is)
 
-  pub given_last : (subject who place : ℕ) (held : List (Attachment S)) (gone : List (Attachment S × Why)) (kept kept_after : List (Kept S)) (away away_after : List (PutAway Rest)) (note : Note) (now : Kept S)
-      → Stand acts held gone kept away → (f : Found acts subject who held kept place) → is_last note ≡ true
-      → acts.took f.one.sink note now.sink → now.subject ≡ f.one.subject → now.who ≡ f.one.who
-      → MovesOne acts place (set kept place now) kept_after away away_after
-      → Did acts (given Fine subject who note (kept_for subject who held) held) gone kept_after away_after ((subject, Dispose who) ∷ [])
-  given_last subject who place held gone kept kept_after away away_after note now stand f last took same_subject same_who moves =
-      let P : Change S → Type 0 = λ change. Did acts change gone kept_after away_after ((subject, Dispose who) ∷ []) in
-      let change : served Fine true subject who note f.a held ≡ given Fine subject who note (kept_for subject who held) held =
-      sym (ap (λ o. given Fine subject who note o held) f.found ∙ ap (λ b. served Fine b subject who note f.a held) last) in
-      let moved = moved_away subject who place held gone kept kept_after away away_after now (with_note f.a note) TookLast stand f
-      (same_subject ∙ f.tie.subject) (same_who ∙ f.tie.who) (Took-more f.a.sink f.a.who f.a.taken f.one.sink now.sink note f.tie.took took) moves in
-      subst P change (record {
-        stand = record { kept_are = moved.0; away_are = moved.1 };
-        sends = ap (λ n. (n, Dispose who) ∷ []) (sym f.key.0) ∙ ap (λ n. (f.a.subject, Dispose n) ∷ []) (sym f.key.1);
-      })
+  -- and that the observer be let go
+  sends_parting : (subject who : ℕ) (a : Attachment S) → a.subject ≡ subject → a.who ≡ who
+      → map (λ event. (subject, event)) (events_of (record { who = who; items = a.due; leaves = true })) ≡ addressed (parting a)
+  sends_parting subject who a subject_is who_is =
+      map-append (λ (event : Event). (subject, event)) (replicate a.due (Request who 1)) (Dispose who ∷ [])
+      ∙ ap (λ (l : List (ℕ × Event)). l ++ (subject, Dispose who) ∷ []) (asked_are a.due subject who (request a) subject_is (ap (λ (n : ℕ). Request n 1) who_is))
+      ∙ ap (λ (n : ℕ). addressed (requests a) ++ (n, Dispose who) ∷ []) (sym subject_is)
+      ∙ ap (λ (n : ℕ). addressed (requests a) ++ (a.subject, Dispose n) ∷ []) (sym who_is)
+      ∙ sym (map-append (λ (s : Sent). (s.subject, s.event)) (requests a) (dispose a ∷ []))
 
-  pub given_fault : (subject who place : ℕ) (held : List (Attachment S)) (gone : List (Attachment S × Why)) (kept kept_after : List (Kept S)) (away away_after : List (PutAway Rest)) (note : Note) (now : Kept S)
-      → Stand acts held gone kept away → (f : Found acts subject who held kept place)
-      → acts.take_faulted f.one.sink note now.sink → now.subject ≡ f.one.subject → now.who ≡ f.one.who
-      → MovesOne acts place (set kept place now) kept_after away away_after
-      → Did acts (given Fault subject who note (kept_for subject who held) held) gone kept_after away_after ((subject, Dispose who) ∷ [])
-  given_fault subject who place held gone kept kept_after away away_after note now stand f faulted same_subject same_who moves =
-      let P : Change S → Type 0 = λ change. Did acts change gone kept_after away_after ((subject, Dispose who) ∷ []) in
-      let change : served Fault (is_last note) subject who note f.a held ≡ given Fault subject who note (kept_for subject who held) held =
-      sym (ap (λ o. given Fault subject who note o held) f.found) in
-      let moved = moved_away subject who place held gone kept kept_after away away_after now f.a (FailedAt note) stand f
-      (same_subject ∙ f.tie.subject) (same_who ∙ f.tie.who) (f.one.sink, f.tie.took, faulted) moves in
-      subst P change (record {
-        stand = record { kept_are = moved.0; away_are = moved.1 };
-        sends = ap (λ n. (n, Dispose who) ∷ []) (sym f.key.0) ∙ ap (λ n. (f.a.subject, Dispose n) ∷ []) (sym f.key.1);
-      })
+  -- where nothing waits nothing is held back
+  clear_pays : (flow : Flow) (over : Bool) (due : ℕ) → (over && is_clear flow) ≡ true → is_held_back flow due ≡ false
+  clear_pays Clear over due is = refl
+  clear_pays Ready over due is = refl
+  clear_pays Stuck true due is = cc
+  clear_pays Stuck false due is = cc
 
-  pub given_nobody : (mark : Mark) (subject who : ℕ) (held : List (Attachment S)) (gone : List (Attachment S × Why)) (kept : List (Kept S)) (away : List (PutAway Rest)) (note : Note)
-      → Stand acts held gone kept away → kept_for subject who held ≡ None
-      → Did acts (given mark subject who note (kept_for subject who held) held) gone kept away []
-  given_nobody mark subject who held gone kept away note stand none =
-      let P : Change S → Type 0 = λ change. Did acts change gone kept away [] in
-      subst P (sym (ap (λ o. given mark subject who note o held) none)) (unchanged_stands held gone kept away stand)
+  settled_counts : (leaves held_back : Bool) (n subject who : ℕ) (a : Attachment S) (kept : List (Attachment S))
+      → raised n ≡ counted n (settled leaves held_back subject who a 1 kept).took
+  settled_counts true held_back n subject who a kept = refl
+  settled_counts false true n subject who a kept = refl
+  settled_counts false false n subject who a kept = refl
 
-  -- AN OBSERVER LEFT
+  -- ONE ATTACHMENT CHANGED
 
-  pub detached_one : (subject who place : ℕ) (held : List (Attachment S)) (gone : List (Attachment S × Why)) (kept kept_after : List (Kept S)) (away away_after : List (PutAway Rest))
-      → Stand acts held gone kept away → (f : Found acts subject who held kept place) → MovesOne acts place kept kept_after away away_after
-      → Did acts (detached subject who (kept_for subject who held) held) gone kept_after away_after []
-  detached_one subject who place held gone kept kept_after away away_after stand f moves =
-      let P : Change S → Type 0 = λ change. Did acts change gone kept_after away_after [] in
-      let one_is : moves.0 ≡ f.one = let both : Some moves.0 ≡ Some f.one = sym moves.1 ∙ f.at in cc in
-      subst P (sym (ap (λ o. detached subject who o held) f.found)) (record {
-        stand = record {
-          kept_are = subst (AllZip (IsKept acts) (without subject who held)) (sym moves.2) f.rest;
-          away_are = away_more gone away away_after f.a Detached moves.0 stand.away_are (ap (λ (k : Kept S). k.subject) one_is ∙ f.tie.subject) (ap (λ (k : Kept S). k.who) one_is ∙ f.tie.who)
-              (subst (λ (k : Kept S). Took acts f.a.sink f.a.who f.a.taken k.sink) (sym one_is) f.tie.took) moves.3;
-        };
-        sends = refl;
-      })
+  module _ (subject who place : ℕ) (held : List (Attachment S)) (gone : List (Attachment S × Why)) (kept : List (Kept S)) (away : List (PutAway Rest))
+      (stand : Stand acts held gone kept away) (f : Found acts subject who held kept place) where
+    -- it goes on as another, with this sink
+    kept_on : (b : Attachment S) (now : Kept S) (sends : List Sent) (took : ℕ) (events : List (ℕ × Event)) → IsKept acts b now → events ≡ addressed sends
+        → Did acts (record { kept = replaced subject who b held; gone = []; sends = sends; missed = 0; took = took }) gone (set kept place now) away events
+    kept_on b now sends took events tie sent = record {
+      stand = record {
+        kept_are = f.with_other b now tie;
+        away_are = subst (λ (l : List (Attachment S × Why)). AllZip (IsPutAway acts) l away) (sym (append-nil gone)) stand.away_are;
+      };
+      sends = sent;
+    }
 
-  pub detached_nobody : (subject who : ℕ) (held : List (Attachment S)) (gone : List (Attachment S × Why)) (kept : List (Kept S)) (away : List (PutAway Rest))
-      → Stand acts held gone kept away → kept_for subject who held ≡ None
-      → Did acts (detached subject who (kept_for subject who held) held) gone kept away []
-  detached_nobody subject who held gone kept away stand none =
-      let P : Change S → Type 0 = λ change. Did acts change gone kept away [] in
-      subst P (sym (ap (λ o. detached subject who o held) none)) (unchanged_stands held gone kept away stand)
+    -- what was put away is the sink that was written at the place
+    parted_one : (kept_after : List (Kept S)) (away_after : List (PutAway Rest)) (now : Kept S) (leaves : Bool) (asks : Asks)
+        → (parts : Parts acts place leaves (set kept place now) kept_after away away_after asks) → parts.one ≡ now
+    parted_one kept_after away_after now leaves asks parts =
+        let there : slice_get (set kept place now) place ≡ Some now = slice_get-set kept place f.one now f.at in
+        let both : Some parts.one ≡ Some now = sym parts.stood ∙ there in cc
+
+    -- the sink, which has come to another state, was put away
+    put_off : (kept_after : List (Kept S)) (away_after : List (PutAway Rest)) (now : Kept S) (b : Attachment S) (why : Why) (leaves : Bool) (asks : Asks) (sends : List Sent) (took : ℕ) (events : List (ℕ × Event))
+        → now.subject ≡ b.subject → now.who ≡ b.who → Last acts b why now.sink
+        → Parts acts place leaves (set kept place now) kept_after away away_after asks → events ≡ addressed sends
+        → Did acts (record { kept = without subject who held; gone = (b, why) ∷ []; sends = sends; missed = 0; took = took }) gone kept_after away_after events
+    put_off kept_after away_after now b why leaves asks sends took events same_subject same_who was parts sent =
+        let one_is = parted_one kept_after away_after now leaves asks parts in
+        record {
+          stand = record {
+            kept_are = subst (AllZip (IsKept acts) (without subject who held)) (sym (parts.removed ∙ remove-set kept place now)) f.rest;
+            away_are = away_more gone away away_after b why parts.one stand.away_are (ap (λ (k : Kept S). k.subject) one_is ∙ same_subject) (ap (λ (k : Kept S). k.who) one_is ∙ same_who)
+                (subst (λ (k : Kept S). Last acts b why k.sink) (sym one_is) was) parts.pushed;
+          };
+          sends = sent;
+        }
+
+    -- what is asked at that
+    parted_asks : (kept_after : List (Kept S)) (away_after : List (PutAway Rest)) (now : Kept S) (leaves : Bool) (asks : Asks) → now.who ≡ f.one.who → now.due ≡ f.one.due
+        → Parts acts place leaves (set kept place now) kept_after away away_after asks → asks ≡ record { who = who; items = f.a.due; leaves = leaves }
+    parted_asks kept_after away_after now leaves asks same_who same_due parts =
+        let one_is = parted_one kept_after away_after now leaves asks parts in
+        parts.asked
+        ∙ ap (λ (n : ℕ). record { who = n; items = parts.one.due; leaves = leaves }) (ap (λ (k : Kept S). k.who) one_is ∙ same_who ∙ f.tie.who ∙ f.key.1)
+        ∙ ap (λ (n : ℕ). record { who = who; items = n; leaves = leaves }) (ap (λ (k : Kept S). k.due) one_is ∙ same_due ∙ f.tie.due)
+
+    -- it was put away, and all is asked for that is due, and that its observer be let go
+    pub parted : (kept_after : List (Kept S)) (away_after : List (PutAway Rest)) (now : Kept S) (why : Why) (asks : Asks)
+        → now.subject ≡ f.one.subject → now.who ≡ f.one.who → now.due ≡ f.one.due → Last acts (paid f.a) why now.sink
+        → Parts acts place true (set kept place now) kept_after away away_after asks
+        → Did acts (record { kept = without subject who held; gone = (paid f.a, why) ∷ []; sends = parting f.a; missed = 0; took = 0 }) gone kept_after away_after (map (λ event. (subject, event)) (events_of asks))
+    parted kept_after away_after now why asks same_subject same_who same_due was parts =
+        put_off kept_after away_after now (paid f.a) why true asks (parting f.a) 0 _ (same_subject ∙ f.tie.subject) (same_who ∙ f.tie.who) was parts
+        (ap (λ (e : Asks). map (λ event. (subject, event)) (events_of e)) (parted_asks kept_after away_after now true asks same_who same_due parts)
+        ∙ sends_parting subject who f.a f.key.0 f.key.1)
+
+    -- WHAT A SINK ANSWERED
+
+    -- the sink came to this state, which is that of the attachment but for what is due, and answered so
+    record Answers (flow : Flow) (b : Attachment S) (now : Kept S) (asks : Asks) : Type 0 where
+      pub of_subject : b.subject ≡ subject
+      pub of_who : b.who ≡ who
+      pub same_subject : now.subject ≡ b.subject
+      pub same_who : now.who ≡ b.who
+      pub same_over : now.over ≡ b.over
+      pub same_may_wait : now.may_wait ≡ may_wait b.last
+      pub took : Took acts b.sink b.who b.taken b.last now.sink
+      pub settles : Settles flow b.due now asks
+
+    answered_asks : (flow : Flow) (b : Attachment S) (now : Kept S) (asks : Asks) (leaves held_back : Bool)
+        → Answers flow b now asks → (b.over && is_clear flow) ≡ leaves → is_held_back flow b.due ≡ held_back
+        → asks ≡ record { who = who; items = if held_back then 0 else b.due; leaves = leaves }
+    answered_asks flow b now asks leaves held_back is leaves_is held_is =
+        is.settles.asked
+        ∙ ap (λ (n : ℕ). record { who = n; items = if is_held_back flow b.due then 0 else b.due; leaves = now.over && is_clear flow }) (is.same_who ∙ is.of_who)
+        ∙ ap (λ (h : Bool). record { who = who; items = if h then 0 else b.due; leaves = now.over && is_clear flow }) held_is
+        ∙ ap (λ (l : Bool). record { who = who; items = if held_back then 0 else b.due; leaves = l }) (ap (λ (o : Bool). o && is_clear flow) is.same_over ∙ leaves_is)
+
+    settled_did : (flow : Flow) (b : Attachment S) (now : Kept S) (asks : Asks) (leaves held_back : Bool) (took : ℕ) (kept_after : List (Kept S)) (away_after : List (PutAway Rest))
+        → Answers flow b now asks → (b.over && is_clear flow) ≡ leaves → is_held_back flow b.due ≡ held_back
+        → MayPart acts leaves place (set kept place now) kept_after away away_after
+        → Did acts (settled leaves held_back subject who b took held) gone kept_after away_after (map (λ event. (subject, event)) (events_of asks))
+    settled_did flow b now asks true held_back took kept_after away_after is leaves_is held_is may =
+        let asks_is = answered_asks flow b now asks true false is leaves_is (clear_pays flow b.over b.due leaves_is) in
+        put_off kept_after away_after now (paid b) TookLast true may.0 (parting b) took _ is.same_subject is.same_who is.took may.1
+        (ap (λ (e : Asks). map (λ event. (subject, event)) (events_of e)) asks_is ∙ sends_parting subject who b is.of_subject is.of_who)
+    settled_did flow b now asks false true took kept_after away_after is leaves_is held_is may =
+        let asks_is = answered_asks flow b now asks false true is leaves_is held_is in
+        let P : List (Kept S) → List (PutAway Rest) → Type 0 = λ l m. Did acts (settled false true subject who b took held) gone l m (map (λ event. (subject, event)) (events_of asks)) in
+        subst (λ (l : List (Kept S)). P l away_after) (sym may.0) (subst (λ (m : List (PutAway Rest)). P (set kept place now) m) (sym may.1)
+        (kept_on b now [] took _ (record {
+          subject = is.same_subject;
+          who = is.same_who;
+          due = is.settles.due ∙ ap (λ (h : Bool). if h then b.due else 0) held_is;
+          over = is.same_over;
+          waits = is.same_may_wait;
+          took = is.took;
+        }) (ap (λ (e : Asks). map (λ event. (subject, event)) (events_of e)) asks_is)))
+    settled_did flow b now asks false false took kept_after away_after is leaves_is held_is may =
+        let asks_is = answered_asks flow b now asks false false is leaves_is held_is in
+        let P : List (Kept S) → List (PutAway Rest) → Type 0 = λ l m. Did acts (settled false false subject who b took held) gone l m (map (λ event. (subject, event)) (events_of asks)) in
+        subst (λ (l : List (Kept S)). P l away_after) (sym may.0) (subst (λ (m : List (PutAway Rest)). P (set kept place now) m) (sym may.1)
+        (kept_on (paid b) now (requests b) took _ (record {
+          subject = is.same_subject;
+          who = is.same_who;
+          due = is.settles.due ∙ ap (λ (h : Bool). if h then b.due else 0) held_is;
+          over = is.same_over;
+          waits = is.same_may_wait;
+          took = is.took;
+        }) (ap (λ (e : Asks). map (λ event. (subject, event)) (events_of e)) asks_is ∙ sends_due subject who b is.of_subject is.of_who)))
+
+    answered_did : (flow : Flow) (b : Attachment S) (now : Kept S) (said asks : Asks) (took : ℕ) (kept_after : List (Kept S)) (away_after : List (PutAway Rest))
+        → Answers flow b now said → (asks ≡ said) × MayPart acts said.leaves place (set kept place now) kept_after away away_after
+        → Did acts (answered flow subject who b took held) gone kept_after away_after (map (λ event. (subject, event)) (events_of asks))
+    answered_did flow b now said asks took kept_after away_after is may =
+        let leaves_is : said.leaves ≡ (b.over && is_clear flow) = ap (λ (e : Asks). e.leaves) (answered_asks flow b now said (b.over && is_clear flow) (is_held_back flow b.due) is refl refl) in
+        subst (λ (e : Asks). Did acts (answered flow subject who b took held) gone kept_after away_after (map (λ event. (subject, event)) (events_of e))) (sym may.0)
+        (settled_did flow b now said (b.over && is_clear flow) (is_held_back flow b.due) took kept_after away_after is refl refl
+        (subst (λ (l : Bool). MayPart acts l place (set kept place now) kept_after away away_after) leaves_is may.1))
+
+    -- A NOTE
+
+    due_more : (flow : Flow) (m n : ℕ) (now : Kept S) (asks : Asks) → m ≡ n → Settles flow m now asks → Settles flow n now asks
+    due_more flow m n now asks is settles = subst (λ (k : ℕ). Settles flow k now asks) is settles
+
+    noted : (l : Bool) (note : Note) (flow : Flow) (now : Kept S) (asks : Asks) → f.one.over ≡ false → acts.took f.one.sink note flow now.sink
+        → now.subject ≡ f.one.subject → now.who ≡ f.one.who → now.over ≡ l → now.may_wait ≡ true → Settles flow (if l then f.one.due else f.one.due + 1) now asks
+        → Answers flow (with_note l note flow f.a) now asks
+    noted true note flow now asks open_yet took same_subject same_who over waits settles = record {
+      of_subject = f.key.0;
+      of_who = f.key.1;
+      same_subject = same_subject ∙ f.tie.subject;
+      same_who = same_who ∙ f.tie.who;
+      same_over = over;
+      same_may_wait = waits;
+      took = Took-more f.a.sink f.a.who f.a.taken f.a.last f.one.sink now.sink note flow f.tie.took took;
+      settles = due_more flow f.one.due f.a.due now asks f.tie.due settles;
+    }
+    noted false note flow now asks open_yet took same_subject same_who over waits settles = record {
+      of_subject = f.key.0;
+      of_who = f.key.1;
+      same_subject = same_subject ∙ f.tie.subject;
+      same_who = same_who ∙ f.tie.who;
+      same_over = over ∙ sym open_yet ∙ f.tie.over;
+      same_may_wait = waits;
+      took = Took-more f.a.sink f.a.who f.a.taken f.a.last f.one.sink now.sink note flow f.tie.took took;
+      settles = due_more flow (f.one.due + 1) (f.a.due + 1) now asks (ap (λ (n : ℕ). n + 1) f.tie.due) settles;
+    }
+
+    to_given : (mark : Mark) (note : Note) → f.one.over ≡ false → served mark subject who note f.a held ≡ given mark subject who note (kept_for subject who held) held
+    to_given mark note open_yet =
+        sym (ap (λ o. given mark subject who note o held) f.found ∙ ap (λ b. served_yet b mark subject who note f.a held) (sym f.tie.over ∙ open_yet))
+
+    -- the sink took it, or that was a fault
+    pub given_one : (r : Result Asks SinkFault) (n : ℕ) (note : Note) (now : Kept S) (asks : Asks) (kept_after : List (Kept S)) (away_after : List (PutAway Rest)) → f.one.over ≡ false
+        → MatchResult r (λ said. TakesNote acts note f.one now said) (λ _. acts.take_faulted f.one.sink note now.sink × (now.due ≡ f.one.due))
+        → now.subject ≡ f.one.subject → now.who ≡ f.one.who → EndsAct acts place r (set kept place now) kept_after away away_after asks
+        → (mark : Mark) × Did acts (given mark subject who note (kept_for subject who held) held) gone kept_after away_after (map (λ event. (subject, event)) (events_of asks))
+        × ((if is_ok r then raised n else n) ≡ counted n (given mark subject who note (kept_for subject who held) held).took)
+    given_one (Ok said) n note now asks kept_after away_after open_yet did same_subject same_who ends =
+        let is = noted (is_last note) note did.flow now said open_yet did.took same_subject same_who did.over did.may_wait did.settles in
+        let same = to_given (Fine did.flow) note open_yet in
+        let b = with_note (is_last note) note did.flow f.a in (
+          Fine did.flow,
+          subst (λ (c : Change S). Did acts c gone kept_after away_after (map (λ event. (subject, event)) (events_of asks))) same
+              (answered_did did.flow b now said asks 1 kept_after away_after is ends),
+          subst (λ (c : Change S). raised n ≡ counted n c.took) same (settled_counts (b.over && is_clear did.flow) (is_held_back did.flow b.due) n subject who b held),
+        )
+    given_one (Err fault) n note now asks kept_after away_after open_yet did same_subject same_who ends =
+        let same = to_given Fault note open_yet in (
+          Fault,
+          subst (λ (c : Change S). Did acts c gone kept_after away_after (map (λ event. (subject, event)) (events_of asks))) same
+              (parted kept_after away_after now (FailedAt note) asks same_subject same_who did.1 (f.one.sink, f.tie.took, did.0) ends),
+          subst (λ (c : Change S). n ≡ counted n c.took) same refl,
+        )
+
+    -- it took a terminal before
+    pub given_over : (n : ℕ) (note : Note) (asks : Asks) → f.one.over ≡ true → asks ≡ record { who = who; items = 0; leaves = false }
+        → Did acts (given Fault subject who note (kept_for subject who held) held) gone kept away (map (λ event. (subject, event)) (events_of asks))
+        × (n ≡ counted n (given Fault subject who note (kept_for subject who held) held).took)
+    given_over n note asks over none =
+        let same : unchanged held ≡ given Fault subject who note (kept_for subject who held) held =
+        sym (ap (λ o. given Fault subject who note o held) f.found ∙ ap (λ b. served_yet b Fault subject who note f.a held) (sym f.tie.over ∙ over)) in (
+          subst (λ (e : Asks). Did acts (given Fault subject who note (kept_for subject who held) held) gone kept away (map (λ event. (subject, event)) (events_of e))) (sym none)
+              (subst (λ (c : Change S). Did acts c gone kept away []) same (unchanged_stands held gone kept away stand)),
+          subst (λ (c : Change S). n ≡ counted n c.took) same refl,
+        )
+
+    -- A FLUSH
+
+    to_flushed : (mark : Mark) → written mark subject who f.a held ≡ flushed mark subject who (kept_for subject who held) held
+    to_flushed mark = sym (ap (λ o. flushed mark subject who o held) f.found)
+
+    pub flushed_one : (r : Result Asks SinkFault) (now : Kept S) (asks : Asks) (kept_after : List (Kept S)) (away_after : List (PutAway Rest))
+        → MatchResult r (λ said. Flushed acts f.one now said) (λ _. acts.flush_faulted f.one.sink now.sink × (now.due ≡ f.one.due))
+        → now.subject ≡ f.one.subject → now.who ≡ f.one.who → EndsAct acts place r (set kept place now) kept_after away away_after asks
+        → (mark : Mark) × Did acts (flushed mark subject who (kept_for subject who held) held) gone kept_after away_after (map (λ event. (subject, event)) (events_of asks))
+    flushed_one (Ok said) now asks kept_after away_after did same_subject same_who ends = (
+      Fine did.flow,
+      subst (λ (c : Change S). Did acts c gone kept_after away_after (map (λ event. (subject, event)) (events_of asks))) (to_flushed (Fine did.flow))
+          (answered_did did.flow (with_flush did.flow f.a) now said asks 0 kept_after away_after (record {
+            of_subject = f.key.0;
+            of_who = f.key.1;
+            same_subject = same_subject ∙ f.tie.subject;
+            same_who = same_who ∙ f.tie.who;
+            same_over = did.over ∙ f.tie.over;
+            same_may_wait = did.may_wait;
+            took = Took-flush f.a.sink f.a.who f.a.taken f.a.last f.one.sink now.sink did.flow f.tie.took did.did;
+            settles = due_more did.flow f.one.due f.a.due now said f.tie.due did.settles;
+          }) ends),
+    )
+    flushed_one (Err fault) now asks kept_after away_after did same_subject same_who ends = (
+      Fault,
+      subst (λ (c : Change S). Did acts c gone kept_after away_after (map (λ event. (subject, event)) (events_of asks))) (to_flushed Fault)
+          (parted kept_after away_after now FailedAtFlush asks same_subject same_who did.1 (f.one.sink, f.tie.took, did.0) ends),
+    )
+
+    -- AN OBSERVER LEFT
+
+    let_go_one : (l : Bool) (kept_after : List (Kept S)) (away_after : List (PutAway Rest)) (asks : Asks) → Parts acts place l (set kept place f.one) kept_after away away_after asks
+        → Did acts (let_go l subject who f.a held) gone kept_after away_after (map (λ event. (subject, event)) (events_of asks))
+    let_go_one false kept_after away_after asks parts =
+        put_off kept_after away_after f.one (paid f.a) Detached false asks (requests f.a) 0 _ f.tie.subject f.tie.who f.tie.took parts
+        (ap (λ (e : Asks). map (λ event. (subject, event)) (events_of e)) (parted_asks kept_after away_after f.one false asks refl refl parts) ∙ sends_due subject who f.a f.key.0 f.key.1)
+    let_go_one true kept_after away_after asks parts = parted kept_after away_after f.one TookLast asks refl refl refl f.tie.took parts
+
+    pub detached_one : (kept_after : List (Kept S)) (away_after : List (PutAway Rest)) (asks : Asks) → Parts acts place f.one.over kept kept_after away away_after asks
+        → Did acts (detached subject who (kept_for subject who held) held) gone kept_after away_after (map (λ event. (subject, event)) (events_of asks))
+    detached_one kept_after away_after asks parts =
+        subst (λ (c : Change S). Did acts c gone kept_after away_after (map (λ event. (subject, event)) (events_of asks)))
+        (ap (λ b. let_go b subject who f.a held) f.tie.over ∙ sym (ap (λ o. detached subject who o held) f.found))
+        (let_go_one f.one.over kept_after away_after asks
+        (subst (λ (l : List (Kept S)). Parts acts place f.one.over l kept_after away away_after asks) (sym (set-same kept place f.one f.at)) parts))
+
+  -- NOBODY IS KEPT FOR THE OBSERVER
+
+  nothing_there : (held : List (Attachment S)) (gone : List (Attachment S × Why)) (kept : List (Kept S)) (away : List (PutAway Rest)) (subject who : ℕ) (asks : Asks) (c : Change S)
+      → Stand acts held gone kept away → asks ≡ record { who = who; items = 0; leaves = false } → c ≡ unchanged held → Did acts c gone kept away (map (λ event. (subject, event)) (events_of asks))
+  nothing_there held gone kept away subject who asks c stand none is =
+      subst (λ (e : Asks). Did acts c gone kept away (map (λ event. (subject, event)) (events_of e))) (sym none)
+      (subst (λ (d : Change S). Did acts d gone kept away []) (sym is) (unchanged_stands held gone kept away stand))
+
+  pub given_nobody : (n subject who : ℕ) (held : List (Attachment S)) (gone : List (Attachment S × Why)) (kept : List (Kept S)) (away : List (PutAway Rest)) (note : Note) (asks : Asks)
+      → Stand acts held gone kept away → kept_for subject who held ≡ None → asks ≡ record { who = who; items = 0; leaves = false }
+      → Did acts (given Fault subject who note (kept_for subject who held) held) gone kept away (map (λ event. (subject, event)) (events_of asks))
+      × (n ≡ counted n (given Fault subject who note (kept_for subject who held) held).took)
+  given_nobody n subject who held gone kept away note asks stand none empty = (
+    nothing_there held gone kept away subject who asks _ stand empty (ap (λ o. given Fault subject who note o held) none),
+    sym (ap (λ o. counted n (given Fault subject who note o held).took) none),
+  )
+
+  pub flushed_nobody : (subject who : ℕ) (held : List (Attachment S)) (gone : List (Attachment S × Why)) (kept : List (Kept S)) (away : List (PutAway Rest)) (asks : Asks)
+      → Stand acts held gone kept away → kept_for subject who held ≡ None → asks ≡ record { who = who; items = 0; leaves = false }
+      → (mark : Mark) × Did acts (flushed mark subject who (kept_for subject who held) held) gone kept away (map (λ event. (subject, event)) (events_of asks))
+  flushed_nobody subject who held gone kept away asks stand none empty =
+      (Fault, nothing_there held gone kept away subject who asks _ stand empty (ap (λ o. flushed Fault subject who o held) none))
+
+  pub detached_nobody : (subject who : ℕ) (held : List (Attachment S)) (gone : List (Attachment S × Why)) (kept : List (Kept S)) (away : List (PutAway Rest)) (asks : Asks)
+      → Stand acts held gone kept away → kept_for subject who held ≡ None → asks ≡ record { who = who; items = 0; leaves = false }
+      → Did acts (detached subject who (kept_for subject who held) held) gone kept away (map (λ event. (subject, event)) (events_of asks))
+  detached_nobody subject who held gone kept away asks stand none empty =
+      nothing_there held gone kept away subject who asks _ stand empty (ap (λ o. detached subject who o held) none)
+
+  -- what was asked, said otherwise
+  pub said_so : (c : Change S) (gone : List (Attachment S × Why)) (kept : List (Kept S)) (away : List (PutAway Rest)) (subject : ℕ) (asks same : Asks) → asks ≡ same
+      → Did acts c gone kept away (map (λ event. (subject, event)) (events_of same)) → Did acts c gone kept away (map (λ event. (subject, event)) (events_of asks))
+  said_so c gone kept away subject asks same is did = subst (λ (e : Asks). Did acts c gone kept away (map (λ event. (subject, event)) (events_of e))) (sym is) did
 
   -- A SINK CAME
 
@@ -152,15 +394,15 @@ module _ {S Rest : Type 0} (acts : Acts S Rest) where
 
   pub attached_fine : (place subject who : ℕ) (sink now : S) (held : List (Attachment S)) (gone : List (Attachment S × Why)) (kept kept_after : List (Kept S)) (away away_after : List (PutAway Rest))
       → Stand acts held gone kept away → kept_for subject who held ≡ None → acts.started sink who now
-      → kept_after ≡ kept ++ record { subject = subject; who = who; sink = now } ∷ [] → away_after ≡ away
-      → Did acts (attached Fine (brought place subject who sink) (kept_for subject who held) held) gone kept_after away_after []
+      → kept_after ≡ kept ++ record { subject = subject; who = who; sink = now; due = 0; over = false; may_wait = true } ∷ [] → away_after ≡ away
+      → Did acts (attached (Fine Clear) (brought place subject who sink) (kept_for subject who held) held) gone kept_after away_after []
   attached_fine place subject who sink now held gone kept kept_after away away_after stand none started kept_is away_is =
       let P : Change S → Type 0 = λ change. Did acts change gone kept_after away_after [] in
       let a = brought place subject who sink in
-      subst P (sym (ap (λ o. attached Fine a o held) none)) (record {
+      subst P (sym (ap (λ o. attached (Fine Clear) a o held) none)) (record {
         stand = record {
           kept_are = subst (AllZip (IsKept acts) (held ++ a ∷ [])) (sym kept_is)
-              (AllZip-more (IsKept acts) held kept a _ stand.kept_are (record { subject = refl; who = refl; took = (now, started, refl) }));
+              (AllZip-more (IsKept acts) held kept a _ stand.kept_are (record { subject = refl; who = refl; due = refl; over = refl; waits = refl; took = record { begun = now; start = started; steps = []; notes_are = refl; last_is = refl; made = refl } }));
           away_are = subst (λ (l : List (PutAway Rest)). AllZip (IsPutAway acts) (gone ++ []) l) (sym away_is)
               (subst (λ (l : List (Attachment S × Why)). AllZip (IsPutAway acts) l away) (sym (append-nil gone)) stand.away_are);
         };
@@ -196,41 +438,6 @@ module _ {S Rest : Type 0} (acts : Acts S Rest) where
         };
         sends = refl;
       })
-
--- THE NUMBER OF NOTES TAKEN
-
-module _ {S : Type 0} where
-  -- nobody took the note
-  pub took_nobody : (n : ℕ) (mark : Mark) (subject who : ℕ) (note : Note) (held : List (Attachment S)) → kept_for subject who held ≡ None
-      → n ≡ counted n (given mark subject who note (kept_for subject who held) held).took
-  took_nobody n mark subject who note held none = sym (ap (λ o. counted n (given mark subject who note o held).took) none)
-
-  served_fine : (n : ℕ) (last : Bool) (subject who : ℕ) (note : Note) (a : Attachment S) (held : List (Attachment S)) → raised n ≡ counted n (served Fine last subject who note a held).took
-  served_fine n false subject who note a held = refl
-  served_fine n true subject who note a held = refl
-
-  -- the sink took it
-  pub took_fine : (n : ℕ) (fine : Bool) (subject who : ℕ) (note : Note) (a : Attachment S) (held : List (Attachment S)) → fine ≡ true → kept_for subject who held ≡ Some a
-      → (if fine then raised n else n) ≡ counted n (given Fine subject who note (kept_for subject who held) held).took
-  took_fine n fine subject who note a held is found =
-      ap (λ b. if b then raised n else n) is ∙ served_fine n (is_last note) subject who note a held
-      ∙ sym (ap (λ o. counted n (given Fine subject who note o held).took) found)
-
-  -- that was a fault
-  pub took_fault : (n : ℕ) (fine : Bool) (subject who : ℕ) (note : Note) (a : Attachment S) (held : List (Attachment S)) → fine ≡ false → kept_for subject who held ≡ Some a
-      → (if fine then raised n else n) ≡ counted n (given Fault subject who note (kept_for subject who held) held).took
-  took_fault n fine subject who note a held is found =
-      ap (λ b. if b then raised n else n) is ∙ sym (ap (λ o. counted n (given Fault subject who note o held).took) found)
-
--- a call that was Ok did what an Ok call does
-pub by_ok : {T E : Type 0} (r : Result T E) (P Q : Type 0) → MatchResult r (λ _. P) (λ _. Q) → is_ok r ≡ true → P
-by_ok (Ok x) P Q did ok = did
-by_ok (Err e) P Q did ok = cc
-
--- and one that was no Ok what an Err does
-pub by_err : {T E : Type 0} (r : Result T E) (P Q : Type 0) → MatchResult r (λ _. P) (λ _. Q) → is_ok r ≡ false → Q
-by_err (Ok x) P Q did err = cc
-by_err (Err e) P Q did err = did
 
 -- what is read at a place is what stands there
 pub same_one : {X : Type 0} (xs : List X) (i : ℕ) (x y : X) → slice_get xs i ≡ Some x → y ≡ get_or xs i y → x ≡ y
@@ -271,9 +478,9 @@ module _ {S Rest : Type 0} (acts : Acts S Rest) where
   all_closed [] gone (one ∷ kept) away away_after zip gone_zip pushed = absurd zip
   all_closed (a ∷ held) gone [] away away_after zip gone_zip pushed = absurd zip
   all_closed (a ∷ held) gone (one ∷ kept) away away_after zip gone_zip pushed =
-      subst (λ (l : List (Attachment S × Why)). AllZip (IsPutAway acts) l away_after) (append_assoc gone ((a, Closed) ∷ []) (closed held))
-      (all_closed held (gone ++ (a, Closed) ∷ []) kept pushed.0 away_after zip.1
-      (away_more acts gone away pushed.0 a Closed one gone_zip zip.0.subject zip.0.who zip.0.took pushed.1) pushed.2)
+      subst (λ (l : List (Attachment S × Why)). AllZip (IsPutAway acts) l away_after) (append_assoc gone ((paid a, Closed) ∷ []) (closed held))
+      (all_closed held (gone ++ (paid a, Closed) ∷ []) kept pushed.0 away_after zip.1
+      (away_more acts gone away pushed.0 (paid a) Closed one gone_zip zip.0.subject zip.0.who zip.0.took pushed.1) pushed.2)
 
   -- all were put away
   pub left_stands : (kept start left : List (Kept S)) (away away_after : List (PutAway Rest)) (held : List (Attachment S)) (gone : List (Attachment S × Why))

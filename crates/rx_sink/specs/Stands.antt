@@ -1,36 +1,54 @@
 -- What the sinks that are kept and those that were put away stand for: lists of attachments (this project's own rule).
-use Rattle.std.specs.Prelude.{◌≡◌, ℕ, zero, suc, List, [], ◌∷◌, ◌++◌, map, Some, slice_get}
+use Rattle.std.specs.Prelude.{◌≡◌, ◌+◌, ◌&&◌, if◌then◌else◌, ℕ, zero, suc, Bool, true, false, not, List, [], ◌∷◌, ◌++◌, map, replicate, Some, None, slice_get, Result, Ok, Err}
 use Rattle.std.specs.List.{AllZip, remove}
 use Rattle.rx_note.specs.declared.event.Event.{Event}
+use Rattle.rx_note.specs.declared.event.Event.TheVariants.{Request, Dispose}
 use Rattle.rx_note.specs.declared.note.Note.{Note}
+use Rattle.rx_sink.specs.declared.asks.Asks.{Asks}
+use Rattle.rx_sink.specs.declared.flow.Flow.{Flow}
 use Rattle.rx_sink.specs.declared.kept.Kept.{Kept}
 use Rattle.rx_sink.specs.declared.put_away.PutAway.{PutAway}
+use Rattle.rx_sink.specs.declared.sink.SinkFault.{SinkFault}
 use Rattle.rx_sink.specs.Acts.{Acts, Took, raised}
-use Rattle.rx_sink.specs.Attachments.{Attachment, Why, TookLast, Detached, Closed, FailedAtStart, FailedAt, Mark, Sent, Change, kept_for, attached, given, detached}
+use Rattle.rx_sink.specs.Attachments.{Attachment, Why, TookLast, Detached, Closed, FailedAtStart, FailedAt, FailedAtFlush, Mark, Sent, Change, is_clear, is_held_back, is_last, may_wait, kept_for, attached, given, flushed, detached}
 
 -- the events that were sent, each with its subject
 abbrev pub addressed : List Sent → List (ℕ × Event)
 addressed sends = map (λ s. (s.subject, s.event)) sends
 
--- a count of misses, or of notes taken, with those of one letter more
+-- a count of misses, or of notes taken, with those of one letter or flush more
 abbrev pub counted : ℕ → ℕ → ℕ
 counted n zero = n
 counted n (suc _) = raised n
 
+-- what is asked for an observer: so many items, one by one, and then that it be let go
+abbrev pub events_of : Asks → List Event
+events_of asks = replicate asks.items (Request asks.who 1) ++ (if asks.leaves then Dispose asks.who ∷ [] else [])
+
+module _ {S : Type 0} where
+  -- a kept sink that answered so, when so many items were due, asks for them or holds them back
+  pub record Settles (flow : Flow) (items : ℕ) (after : Kept S) (asks : Asks) : Type 0 where
+    pub due : after.due ≡ (if is_held_back flow items then items else 0)
+    pub asked : asks ≡ record { who = after.who; items = if is_held_back flow items then 0 else items; leaves = after.over && is_clear flow }
+
 module _ {S Rest : Type 0} (acts : Acts S Rest) where
-  -- a kept sink is that of the attachment, and took its notes
+  -- a kept sink is that of the attachment, and took its notes; as much is due
   pub record IsKept (a : Attachment S) (one : Kept S) : Type 0 where
     pub subject : one.subject ≡ a.subject
     pub who : one.who ≡ a.who
-    pub took : Took acts a.sink a.who a.taken one.sink
+    pub due : one.due ≡ a.due
+    pub over : one.over ≡ a.over
+    pub waits : one.may_wait ≡ may_wait a.last
+    pub took : Took acts a.sink a.who a.taken a.last one.sink
 
   -- the state in which the sink of an attachment was put away, by the reason
   abbrev pub Last : Attachment S → Why → S → Type 0
-  Last a TookLast now = Took acts a.sink a.who a.taken now
-  Last a Detached now = Took acts a.sink a.who a.taken now
-  Last a Closed now = Took acts a.sink a.who a.taken now
+  Last a TookLast now = Took acts a.sink a.who a.taken a.last now
+  Last a Detached now = Took acts a.sink a.who a.taken a.last now
+  Last a Closed now = Took acts a.sink a.who a.taken a.last now
   Last a FailedAtStart now = (a.taken ≡ []) × acts.start_faulted a.sink a.who now
-  Last a (FailedAt note) now = (before : S) × Took acts a.sink a.who a.taken before × acts.take_faulted before note now
+  Last a (FailedAt note) now = (before : S) × Took acts a.sink a.who a.taken a.last before × acts.take_faulted before note now
+  Last a FailedAtFlush now = (before : S) × Took acts a.sink a.who a.taken a.last before × acts.flush_faulted before now
 
   -- what was put away is what the sink of the attachment left
   pub record IsPutAway (end : Attachment S × Why) (away : PutAway Rest) : Type 0 where
@@ -56,7 +74,7 @@ module _ {S Rest : Type 0} (acts : Acts S Rest) where
   abbrev pub Attaches : ℕ → ℕ → S → List (Kept S) → List (Kept S) → List (PutAway Rest) → List (PutAway Rest) → ℕ → ℕ → List Event → Type 0
   Attaches subject who sink kept kept_after away away_after misses misses_after events =
       (place : ℕ) (held : List (Attachment S)) (gone : List (Attachment S × Why)) → Stand held gone kept away
-      → (mark : Mark) × (let change = attached mark (record { place = place; subject = subject; who = who; sink = sink; taken = [] }) (kept_for subject who held) held in
+      → (mark : Mark) × (let change = attached mark (record { place = place; subject = subject; who = who; sink = sink; taken = []; due = 0; over = false; last = None }) (kept_for subject who held) held in
       Did change gone kept_after away_after (map (λ event. (subject, event)) events) × (misses_after ≡ counted misses change.missed))
 
   -- a note came
@@ -66,20 +84,55 @@ module _ {S Rest : Type 0} (acts : Acts S Rest) where
       → (mark : Mark) × (let change = given mark subject who note (kept_for subject who held) held in
       Did change gone kept_after away_after (map (λ event. (subject, event)) events) × (taken_after ≡ counted taken change.took))
 
-  -- an observer left
-  abbrev pub Detaches : ℕ → ℕ → List (Kept S) → List (Kept S) → List (PutAway Rest) → List (PutAway Rest) → Type 0
-  Detaches subject who kept kept_after away away_after =
+  -- the sink of an observer was flushed
+  abbrev pub FlushesOne : ℕ → ℕ → List (Kept S) → List (Kept S) → List (PutAway Rest) → List (PutAway Rest) → List Event → Type 0
+  FlushesOne subject who kept kept_after away away_after events =
       (held : List (Attachment S)) (gone : List (Attachment S × Why)) → Stand held gone kept away
-      → Did (detached subject who (kept_for subject who held) held) gone kept_after away_after []
+      → (mark : Mark) × Did (flushed mark subject who (kept_for subject who held) held) gone kept_after away_after (map (λ event. (subject, event)) events)
+
+  -- an observer left
+  abbrev pub Detaches : ℕ → ℕ → List (Kept S) → List (Kept S) → List (PutAway Rest) → List (PutAway Rest) → List Event → Type 0
+  Detaches subject who kept kept_after away away_after events =
+      (held : List (Attachment S)) (gone : List (Attachment S × Why)) → Stand held gone kept away
+      → Did (detached subject who (kept_for subject who held) held) gone kept_after away_after (map (λ event. (subject, event)) events)
 
   -- ONE SINK
+
+  -- a kept sink took a note
+  pub record TakesNote (note : Note) (before after : Kept S) (asks : Asks) : Type 0 where
+    pub flow : Flow
+    pub took : acts.took before.sink note flow after.sink
+    pub over : after.over ≡ is_last note
+    pub may_wait : after.may_wait ≡ true
+    pub settles : Settles flow (if is_last note then before.due else before.due + 1) after asks
+
+  -- a kept sink was flushed
+  pub record Flushed (before after : Kept S) (asks : Asks) : Type 0 where
+    pub flow : Flow
+    pub did : acts.flushed before.sink flow after.sink
+    pub over : after.over ≡ before.over
+    pub may_wait : after.may_wait ≡ not (is_clear flow)
+    pub settles : Settles flow before.due after asks
 
   -- a kept sink was finished, and what it left is the last that was put away
   abbrev pub Pushes : Kept S → List (PutAway Rest) → List (PutAway Rest) → Type 0
   Pushes one away away_after =
       (rest : Rest) × acts.finished one.sink rest × (away_after ≡ away ++ record { subject = one.subject; who = one.who; rest = rest } ∷ [])
 
-  -- the sink at this place was so put away
-  abbrev pub MovesOne : ℕ → List (Kept S) → List (Kept S) → List (PutAway Rest) → List (PutAway Rest) → Type 0
-  MovesOne place kept kept_after away away_after =
-      (one : Kept S) × (slice_get kept place ≡ Some one) × (kept_after ≡ remove kept place) × Pushes one away away_after
+  -- the sink at this place was so put away, and all is asked for that is due
+  pub record Parts (place : ℕ) (leaves : Bool) (kept kept_after : List (Kept S)) (away away_after : List (PutAway Rest)) (asks : Asks) : Type 0 where
+    pub one : Kept S
+    pub stood : slice_get kept place ≡ Some one
+    pub removed : kept_after ≡ remove kept place
+    pub pushed : Pushes one away away_after
+    pub asked : asks ≡ record { who = one.who; items = one.due; leaves = leaves }
+
+  -- the sink at this place was put away where it is done, and else all stays
+  abbrev pub MayPart : Bool → ℕ → List (Kept S) → List (Kept S) → List (PutAway Rest) → List (PutAway Rest) → Type 0
+  MayPart true place kept kept_after away away_after = (asks : Asks) × Parts place true kept kept_after away away_after asks
+  MayPart false place kept kept_after away away_after = (kept_after ≡ kept) × (away_after ≡ away)
+
+  -- what was done last with the sink at this place came to its end: where that was a fault, or the sink is done, it was put away
+  abbrev pub EndsAct : ℕ → Result Asks SinkFault → List (Kept S) → List (Kept S) → List (PutAway Rest) → List (PutAway Rest) → Asks → Type 0
+  EndsAct place (Ok said) kept kept_after away away_after asks = (asks ≡ said) × MayPart said.leaves place kept kept_after away away_after
+  EndsAct place (Err fault) kept kept_after away away_after asks = Parts place true kept kept_after away away_after asks

@@ -1,13 +1,13 @@
-// What a letter does to the sinks that are kept and to those that were put away.
-ghost use Rattle.std.specs.Prelude.{◌≡◌, if◌then◌else◌, ◌+◌, ◌<◌, ◌≤◌, [], ◌++◌, List, Some, vec_len, vec_capacity, option_to_list};
-ghost use Rattle.std.specs.List.{position, remove};
+// What a letter or a flush does to the sinks that are kept and to those that were put away.
+ghost use Rattle.std.specs.Prelude.{◌≡◌, if◌then◌else◌, ◌+◌, ◌<◌, ◌≤◌, [], ◌++◌, List, vec_len, vec_capacity};
+ghost use Rattle.std.specs.List.{position};
 ghost use Rattle.rx_sink.specs.Acts.{raised};
-ghost use Rattle.rx_sink.specs.Attachments.{Attachment, Why, closed, is_for, is_last};
-ghost use Rattle.rx_sink.specs.Stands.{Attaches, Gives, Detaches, MovesOne, Pushes, Stand};
+ghost use Rattle.rx_sink.specs.Attachments.{Attachment, Why, closed, is_for};
+ghost use Rattle.rx_sink.specs.Stands.{Attaches, Gives, FlushesOne, Detaches, EndsAct, Parts, Pushes, Stand, events_of};
 
-use crate::{Kept, Places, PutAway, Sink};
+use crate::{Asks, Kept, Places, PutAway, Sink, SinkFault};
 use rx_heap::Heap;
-use rx_note::{Event, Note};
+use rx_note::Note;
 
 /// The sink of an observer comes. Where one is kept for that observer it is finished unserved. Else a place is made for it,
 /// and it is started. It answers what its subject is to be asked: the observer is disposed of where there was no memory for
@@ -19,18 +19,18 @@ pub fn attach<S: Sink>(
     subject: u32,
     who: u32,
     sink: S,
-) -> Option<Event>
+) -> Asks
     requires room { vec_len away.old + vec_len kept.old ≤ vec_capacity away.old }
     ensures room { vec_len away.new + vec_len kept.new ≤ vec_capacity away.new }
-    ensures attaches { Attaches S.acts subject who sink kept.old.items kept.new.items away.old.items away.new.items places.old.misses places.new.misses (option_to_list result) }
+    ensures attaches { Attaches S.acts subject who sink kept.old.items kept.new.items away.old.items away.new.items places.old.misses places.new.misses (events_of result) }
 {
     if let Some(_place) = find(kept.as_slice(), subject, who) {
         let _rest = sink.finish();
-        return None;
+        return Asks::nothing(who);
     }
     let Ok(()) = places.grow(kept, away) else {
         let _rest = sink.finish();
-        return Some(Event::Dispose { who });
+        return Asks::leave(who);
     };
     let mut one = sink;
     match one.start(who) {
@@ -39,20 +39,24 @@ pub fn attach<S: Sink>(
                 subject,
                 who,
                 sink: one,
+                due: 0,
+                over: false,
+                may_wait: true,
             });
-            None
+            Asks::nothing(who)
         }
         Err(_) => {
             let rest = one.finish();
             away.push_reserved(PutAway { subject, who, rest });
-            Some(Event::Dispose { who })
+            Asks::leave(who)
         }
     }
 }
 
-/// A note comes for an observer, whose sink takes it, if one is kept. It answers what the subject is to be asked: one item
-/// more after an item; the observer is disposed of after a terminal and after a fault, and its sink put away. In `taken` it
-/// counts a note that was taken; the count stays at the greatest `u64`.
+/// A note comes for an observer, whose sink takes it, if one is kept that took no terminal. It answers what the subject is to
+/// be asked: one item more for each that is due, unless the sink is stuck. The observer is disposed of, and its sink put away,
+/// after a terminal where nothing waits in the sink, and after a fault. In `taken` it counts a note that was taken; the count
+/// stays at the greatest `u64`.
 pub fn give<S: Sink>(
     kept: &mut Vec<Kept<S>, Heap>,
     away: &mut Vec<PutAway<S::Rest>, Heap>,
@@ -60,39 +64,60 @@ pub fn give<S: Sink>(
     subject: u32,
     who: u32,
     note: Note,
-) -> Option<Event>
+) -> Asks
     requires room { vec_len away.old + vec_len kept.old ≤ vec_capacity away.old }
     ensures room { vec_len away.new + vec_len kept.new ≤ vec_capacity away.new }
-    ensures gives { Gives S.acts subject who note kept.old.items kept.new.items away.old.items away.new.items taken.old taken.new (option_to_list result) }
+    ensures gives { Gives S.acts subject who note kept.old.items kept.new.items away.old.items away.new.items taken.old taken.new (events_of result) }
 {
     let Some(place) = find(kept.as_slice(), subject, who) else {
-        return None;
+        return Asks::nothing(who);
     };
-    let last = is_last(&note);
-    let took = kept[place].take(note);
-    let fine = took.is_ok();
-    *taken = tallied(*taken, fine);
-    if fine && !last {
-        return Some(Event::Request { who, n: 1 });
+    if kept[place].over {
+        return Asks::nothing(who);
     }
-    move_away(kept, away, place);
-    Some(Event::Dispose { who })
+    let took = kept[place].take(note);
+    *taken = tallied(*taken, took.is_ok());
+    end_act(kept, away, place, took)
 }
 
-/// An observer left: its sink is put away, if one is kept.
+/// The sink of an observer is flushed, if one is kept. It answers what the subject is to be asked: one item more for each that
+/// is due, unless the sink is stuck. The observer is disposed of, and its sink put away, where nothing waits any more in one
+/// that took a terminal, and after a fault.
+pub fn flush_one<S: Sink>(
+    kept: &mut Vec<Kept<S>, Heap>,
+    away: &mut Vec<PutAway<S::Rest>, Heap>,
+    subject: u32,
+    who: u32,
+) -> Asks
+    requires room { vec_len away.old + vec_len kept.old ≤ vec_capacity away.old }
+    ensures room { vec_len away.new + vec_len kept.new ≤ vec_capacity away.new }
+    ensures len { vec_len kept.old ≤ vec_len kept.new + 1 }
+    ensures flushes { FlushesOne S.acts subject who kept.old.items kept.new.items away.old.items away.new.items (events_of result) }
+{
+    let Some(place) = find(kept.as_slice(), subject, who) else {
+        return Asks::nothing(who);
+    };
+    let flushed = kept[place].flush();
+    end_act(kept, away, place, flushed)
+}
+
+/// An observer left: its sink is put away, if one is kept. It answers what the subject is to be asked: one item more for each
+/// that is due, and where the sink took a terminal that the observer be disposed of.
 pub fn detach<S: Sink>(
     kept: &mut Vec<Kept<S>, Heap>,
     away: &mut Vec<PutAway<S::Rest>, Heap>,
     subject: u32,
     who: u32,
-)
+) -> Asks
     requires room { vec_len away.old + vec_len kept.old ≤ vec_capacity away.old }
     ensures room { vec_len away.new + vec_len kept.new ≤ vec_capacity away.new }
-    ensures detaches { Detaches S.acts subject who kept.old.items kept.new.items away.old.items away.new.items }
+    ensures detaches { Detaches S.acts subject who kept.old.items kept.new.items away.old.items away.new.items (events_of result) }
 {
-    if let Some(place) = find(kept.as_slice(), subject, who) {
-        move_away(kept, away, place);
-    }
+    let Some(place) = find(kept.as_slice(), subject, who) else {
+        return Asks::nothing(who);
+    };
+    let leaves = kept[place].over;
+    part(kept, away, place, leaves)
 }
 
 /// All sinks that are kept are put away, in their order.
@@ -110,19 +135,50 @@ pub fn put_all_away<S: Sink>(kept: &mut Vec<Kept<S>, Heap>, away: &mut Vec<PutAw
     }
 }
 
-// Moves the sink at this place to those that were put away.
-fn move_away<S: Sink>(
+// Puts the sink at this place away where it is done, or had a fault at what was done last. It answers what is to be asked.
+fn end_act<S: Sink>(
     kept: &mut Vec<Kept<S>, Heap>,
     away: &mut Vec<PutAway<S::Rest>, Heap>,
     place: usize,
-)
+    act: Result<Asks, SinkFault>,
+) -> Asks
     requires within { place < vec_len kept.old }
     requires room { vec_len away.old + vec_len kept.old ≤ vec_capacity away.old }
     ensures room { vec_len away.new + vec_len kept.new ≤ vec_capacity away.new }
-    ensures moves { MovesOne S.acts place kept.old.items kept.new.items away.old.items away.new.items }
+    ensures len { vec_len kept.old ≤ vec_len kept.new + 1 }
+    ensures ends { EndsAct S.acts place act kept.old.items kept.new.items away.old.items away.new.items result }
+{
+    let Ok(asks) = act else {
+        return part(kept, away, place, true);
+    };
+    if asks.leaves {
+        let _parting = part(kept, away, place, true);
+    }
+    asks
+}
+
+// Moves the sink at this place to those that were put away. It answers that all is to be asked for that is due, and whether
+// the observer is to be let go.
+fn part<S: Sink>(
+    kept: &mut Vec<Kept<S>, Heap>,
+    away: &mut Vec<PutAway<S::Rest>, Heap>,
+    place: usize,
+    leaves: bool,
+) -> Asks
+    requires within { place < vec_len kept.old }
+    requires room { vec_len away.old + vec_len kept.old ≤ vec_capacity away.old }
+    ensures room { vec_len away.new + vec_len kept.new ≤ vec_capacity away.new }
+    ensures len { vec_len kept.old ≤ vec_len kept.new + 1 }
+    ensures parts { Parts S.acts place leaves kept.old.items kept.new.items away.old.items away.new.items result }
 {
     let one = kept.remove(place);
+    let asks = Asks {
+        who: one.who,
+        items: u64::from(one.due),
+        leaves,
+    };
     push_away(away, one);
+    asks
 }
 
 // Finishes a sink, and puts it behind those that were put away.
@@ -132,7 +188,14 @@ fn push_away<S: Sink>(away: &mut Vec<PutAway<S::Rest>, Heap>, one: Kept<S>)
     ensures len { vec_len away.new ≡ vec_len away.old + 1 }
     ensures pushes { Pushes S.acts one away.old.items away.new.items }
 {
-    let Kept { subject, who, sink } = one;
+    let Kept {
+        subject,
+        who,
+        sink,
+        due: _,
+        over: _,
+        may_wait: _,
+    } = one;
     let rest = sink.finish();
     away.push_reserved(PutAway { subject, who, rest });
 }
@@ -150,11 +213,4 @@ fn tallied(taken: u64, fine: bool) -> u64
     ensures { result ≡ (if fine then raised taken else taken) }
 {
     if fine { taken.saturating_add(1) } else { taken }
-}
-
-// Whether nothing follows a note.
-fn is_last(note: &Note) -> bool
-    ensures { result ≡ is_last note.now }
-{
-    !matches!(note, Note::Next(_))
 }

@@ -1,15 +1,19 @@
 //! Sinks, where the notes of an observer go, and the list of those that a drainer keeps.
 //!
-//! A sink is started for its observer, takes notes one by one until it has a fault or took the last, and is then finished.
+//! A sink is started for its observer, takes notes one by one until it has a fault or took the last, is flushed between them,
+//! and is then finished. It waits for nobody: a take or a flush answers whether something waits in it ([`Flow`]).
 //! [`MemorySink`] keeps what it takes; [`LineSink`] writes it as lines. Nothing here receives a letter or sends one: what a
-//! letter does to the sinks that are kept and to those that were put away is done by functions on two lists.
+//! letter or a flush does to the sinks that are kept and to those that were put away is done by functions on two lists, which
+//! answer what the subject is to be asked ([`Asks`]).
 //!
-//! The crate above rests on those functions ([`attach`], [`give`], [`detach`], [`put_all_away`]): each does to the lists what
-//! the rules of one attachment say (`specs/Attachments.antt`), whatever kind of sink it is. `specs/Acts.antt` has the words in
+//! The crate above rests on those functions ([`attach`], [`give`], [`flush_one`], [`detach`], [`put_all_away`]): each does to
+//! the lists what the rules of one attachment say (`specs/Attachments.antt`), whatever kind of sink it is. `specs/Acts.antt` has the words in
 //! which a kind of sink tells what its calls do, `specs/Stands.antt` what the lists stand for. [`laws`] says what the sinks of
 //! this crate have taken.
 #![tactic(auto)]
 
+mod asks;
+mod flow;
 mod keeping;
 mod kept;
 pub mod laws;
@@ -20,7 +24,9 @@ mod places;
 mod put_away;
 mod sink;
 
-pub use keeping::{attach, detach, give, put_all_away};
+pub use asks::Asks;
+pub use flow::Flow;
+pub use keeping::{attach, detach, flush_one, give, put_all_away};
 pub use kept::Kept;
 pub use line_rest::LineRest;
 pub use line_sink::LineSink;

@@ -1,12 +1,19 @@
-ghost use Rattle.std.specs.Prelude.{◌≡◌};
+ghost use Rattle.std.specs.Prelude.{◌≡◌, true, false};
+ghost use Rattle.rx_sink.specs.Kinds.{WaitsBy};
 
-use crate::{LineRest, Sink, SinkFault};
+use crate::{Flow, LineRest, Sink, SinkFault};
 use rx_note::Note;
 use rx_proto::{write_joined, write_note};
-use std::io::Write;
+use std::io::{ErrorKind, Write};
+
+// How many lines a writer that gathers may hold and the sink still asks for more at once. What is outside its subject is this
+// and a window at most.
+const MOST_AHEAD: u32 = 48;
 
 /// A sink that writes a line when it is started, `JOINED` and the number of the observer, and then the line of each note.
-/// A write that fails or takes no byte is a fault; the writer then has a front of the line.
+/// A write that fails or takes no byte is a fault; the writer then has a front of the line. So is a flush that fails. A line
+/// that the writer took is gone for this sink, in which nothing ever waits; but over a writer that gathers what it is given
+/// (`gathering`) it tells by the writer's flush whether something waits there.
 ///
 /// Each line is put together on the stack and written whole, by one `write` where the writer takes it at once. A sink holds
 /// no line, since it travels in letters.
@@ -15,17 +22,57 @@ pub struct LineSink<W: Write + Drop> {
     writer: W,
     notes: u64,
     faults: u64,
+    // The writer gathers what it is given, and sends it when it is flushed.
+    gathers: bool,
+    // How many lines were written since nothing waited.
+    ahead: u32,
+    // A flush found that something waits which can't go out.
+    stuck: bool,
 }
 
 impl<W: Write + Drop> LineSink<W> {
     /// A sink that wrote nothing yet.
     pub fn new(writer: W) -> LineSink<W>
-        ensures { result ≡ record { writer = writer; notes = 0; faults = 0 } }
+        ensures { result ≡ record { writer = writer; notes = 0; faults = 0; gathers = false; ahead = 0; stuck = false } }
     {
         LineSink {
             writer,
             notes: 0,
             faults: 0,
+            gathers: false,
+            ahead: 0,
+            stuck: false,
+        }
+    }
+
+    /// A sink over a writer that may gather what it is given, and waits for nobody: what can't go out yet waits in it, and its
+    /// flush is then `WouldBlock`, or Ok where nothing waits. The sink wrote nothing yet.
+    pub fn gathering(writer: W) -> LineSink<W>
+        ensures { result ≡ record { writer = writer; notes = 0; faults = 0; gathers = true; ahead = 0; stuck = false } }
+    {
+        LineSink {
+            writer,
+            notes: 0,
+            faults: 0,
+            gathers: true,
+            ahead: 0,
+            stuck: false,
+        }
+    }
+
+    // How it stands once one line more was written.
+    fn flow(&mut self) -> Flow
+        ensures flow { WaitsBy self.old.gathers result }
+        ensures rest { (self.new.writer ≡ self.old.writer) × (self.new.notes ≡ self.old.notes) × (self.new.faults ≡ self.old.faults) × (self.new.gathers ≡ self.old.gathers) }
+    {
+        if !self.gathers {
+            return Flow::Clear;
+        }
+        self.ahead = self.ahead.saturating_add(1);
+        if self.stuck || self.ahead > MOST_AHEAD {
+            Flow::Stuck
+        } else {
+            Flow::Ready
         }
     }
 
@@ -52,13 +99,31 @@ impl<W: Write + Drop> Sink for LineSink<W> {
         Ok(())
     }
 
-    fn take(&mut self, note: Note) -> Result<(), SinkFault> {
+    fn take(&mut self, note: Note) -> Result<Flow, SinkFault> {
         let Ok(()) = write_note(&mut self.writer, &note) else {
             self.faults = self.faults.saturating_add(1);
             return Err(SinkFault);
         };
         self.notes = self.notes.saturating_add(1);
-        Ok(())
+        Ok(self.flow())
+    }
+
+    fn flush(&mut self) -> Result<Flow, SinkFault> {
+        match self.writer.flush() {
+            Ok(()) => {
+                self.ahead = 0;
+                self.stuck = false;
+                Ok(Flow::Clear)
+            }
+            Err(fault) if self.gathers && fault.kind() == ErrorKind::WouldBlock => {
+                self.stuck = true;
+                Ok(Flow::Stuck)
+            }
+            Err(_) => {
+                self.faults = self.faults.saturating_add(1);
+                Err(SinkFault)
+            }
+        }
     }
 
     fn finish(self) -> LineRest {

@@ -1,11 +1,11 @@
 ghost use Rattle.std.specs.Prelude.{◌≡◌, ◌≤◌, [], ◌∷◌, ◌++◌, ◌⊎◌, true, false, vec_len, vec_capacity, MatchResult};
 ghost use Rattle.rx_sink.specs.Kinds.{fails};
 
-use crate::{Sink, SinkFault};
+use crate::{Flow, Sink, SinkFault};
 use rx_heap::Heap;
 use rx_note::Note;
 
-/// A sink that keeps the notes that it takes. Its rest is their list.
+/// A sink that keeps the notes that it takes; nothing ever waits in it. Its rest is their list.
 #[derive(Drop)]
 pub struct MemorySink {
     notes: Vec<Note, Heap>,
@@ -41,12 +41,16 @@ impl Sink for MemorySink {
         Ok(())
     }
 
-    fn take(&mut self, note: Note) -> Result<(), SinkFault> {
-        let taken = put(&mut self.notes, self.fail_at, note);
-        if taken.is_err() {
+    fn take(&mut self, note: Note) -> Result<Flow, SinkFault> {
+        let Ok(()) = put(&mut self.notes, self.fail_at, note) else {
             self.faults = self.faults.saturating_add(1);
-        }
-        taken
+            return Err(SinkFault);
+        };
+        Ok(Flow::Clear)
+    }
+
+    fn flush(&mut self) -> Result<Flow, SinkFault> {
+        Ok(Flow::Clear)
     }
 
     fn finish(self) -> Vec<Note, Heap> {

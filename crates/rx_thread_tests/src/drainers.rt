@@ -44,8 +44,8 @@ impl Write for Page {
     }
 }
 
-// The note of a sign.
-fn note(rt: &impl Abort, heap: &Heap, sign: u8) -> Note {
+/// The note of a sign.
+pub(crate) fn note(rt: &impl Abort, heap: &Heap, sign: u8) -> Note {
     note_of(heap, sign).expect(rt, "a note")
 }
 
@@ -87,8 +87,8 @@ fn line_sink(rt: HostRuntime) {
     }
 }
 
-// A drainer of one subject; none where there was no memory for it.
-fn drainer_of<S: Sink>(
+/// A drainer of one subject; none where there was no memory for it.
+pub(crate) fn drainer_of<S: Sink>(
     rt: &impl Abort,
     alloc: Heap,
     inbox: Inbox<Out<S>>,
@@ -171,7 +171,8 @@ fn put_event(told: &mut Told, event: &Event) {
     told.put_digit(who as usize);
 }
 
-fn put_call<S: Sink>(told: &mut Told, post: &Post<Call<S>>) {
+/// Puts what one letter to a subject says.
+pub(crate) fn put_call<S: Sink>(told: &mut Told, post: &Post<Call<S>>) {
     match post {
         Post::Body(call) => put_event(told, &call.event),
         Post::Bye => told.put(b'.'),

@@ -8,6 +8,8 @@
 #[cfg(test)]
 mod boxes;
 #[cfg(test)]
+mod credits;
+#[cfg(test)]
 mod desks;
 #[cfg(test)]
 mod drainers;

@@ -1,6 +1,6 @@
 -- What a session's desk does: it makes one call to the subject of a name, and answers by what came of it (this project's
 -- own rule).
-use Rattle.std.specs.Prelude.{◌≡◌, ℕ, List, Option, None, Some, MatchOption, Result, Err, position, if◌then◌else◌}
+use Rattle.std.specs.Prelude.{◌≡◌, ℕ, true, false, List, Option, None, Some, MatchOption, Result, Err, position, if◌then◌else◌}
 use Rattle.rx_note.specs.Choices.{Choice}
 use Rattle.rx_note.specs.declared.event.Event.{Event}
 use Rattle.rx_note.specs.declared.event.Event.TheVariants.{Emit, Join}
@@ -40,7 +40,7 @@ pub record KeepsSession {M S : Type 0} (before after : SessionView M S) : Type 0
 module _ {W : Type 0} where
   -- the sink over a writer, of which nothing was written yet
   abbrev pub line_sink : W → LineSink W
-  line_sink writer = record { writer = writer; notes = 0; faults = 0 }
+  line_sink writer = record { writer = writer; notes = 0; faults = 0; gathers = true; ahead = 0; stuck = false }
 
   -- the writer of the sink that came back, with a response; without one it is taken
   abbrev pub back_with : Response → Option (LineSink W) → Follow W

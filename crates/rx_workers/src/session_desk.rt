@@ -98,7 +98,7 @@ impl<'a, R: Wait, M: Moments + Drop, W: Write + Drop> Desk<W> for SessionDesk<'a
         let at = self.moments.now();
         let first = u32::from(self.config.window);
         let event = Event::Join { policy, first, at };
-        let sink = LineSink::new(writer);
+        let sink = LineSink::gathering(writer);
         let answered = self.calls.call(self.rt, place, event, Some(sink));
         followed(answered)
     }

@@ -4,10 +4,10 @@ use Rattle.rx_mailbox.specs.Boxes.{Outgoing}
 use Rattle.rx_pump.specs.Sends.{with_bye, EndsSome}
 use Rattle.rx_pump.proofs.Pumping.{AreSame-length}
 use Rattle.rx_sink.specs.declared.kept.Kept.{Kept}
-use Rattle.rx_drain.specs.Calls.{SendsAll, disposal}
+use Rattle.rx_drain.specs.Calls.{SendsAll, partings_of}
 use Rattle.rx_drain.specs.Logs.{owed}
 use Rattle.rx_drain.proofs.Events.{sent_none}
-use Rattle.rx_drain.proofs.Standing.{same_sent, named_sent, same_ended, same_half, named_half, sent_in_part, sent_ended, sent_half, stands_left}
+use Rattle.rx_drain.proofs.Standing.{same_sent, named_sent, same_ended, same_half, named_half, sent_in_part, sent_ended, sent_half, stands_left, handles_next}
 use Rattle.rx_drain.proofs.handling.leave_all.Goals as goal
 
 -- as many ports, in other lists
@@ -35,12 +35,12 @@ pub returns-then-is_some-clause-fits : goal.returns-then-is_some-clause-fits
 returns-then-is_some-clause-fits g c =
     let ended = c.args.hands.now.ended in
     let olds = c.args.hands.now.parts.subjects in
-    let news = c.dispose_all-fault.new.subjects in
+    let news = c.part_all-fault.new.subjects in
     let kept = c.put_all_away.new.kept in
     let same = AreSame-length olds.items news.items
-    (same_sent c.dispose_all-fault.result (map disposal c.as_slice.result.now) [] olds.items news.items c.dispose_all-fault.ensures) in
+    (same_sent c.part_all-fault.result (partings_of c.as_slice.result.now) [] olds.items news.items c.part_all-fault.ensures) in
     let long : vec_len ended + vec_len news ≡ vec_len ended + vec_len olds = ap (λ (n : ℕ). vec_len ended + n) (news.ok.0 ∙ same ∙ sym olds.ok.0) in
-    let some : is_some c.dispose_all-fault.result ≡ true = sym c.is_some.ensures ∙ c.if-is_some.true in
+    let some : is_some c.part_all-fault.result ≡ true = sym c.is_some.ensures ∙ c.if-is_some.true in
     record {
       leave_is = c.requires.leave_is ∙ sym long;
       away_room = no_more (vec_len c.put_all_away.new.away) (vec_capacity c.put_all_away.new.away) (kept.ok.0 ∙ ap length c.put_all_away.ensures.kept) c.put_all_away.ensures.room;
@@ -53,12 +53,12 @@ pub returns-in-Ok-clause-fits : goal.returns-in-Ok-clause-fits
 returns-in-Ok-clause-fits g c =
     let ended = c.args.hands.now.ended in
     let olds = c.args.hands.now.parts.subjects in
-    let news = c.dispose_all-fault.new.subjects in
+    let news = c.part_all-fault.new.subjects in
     let kept = c.put_all_away.new.kept in
     let after = c.finish_all.new.ended in
     let left = c.finish_all.new.ports in
     let same = AreSame-length olds.items news.items
-    (same_sent c.dispose_all-fault.result (map disposal c.as_slice.result.now) [] olds.items news.items c.dispose_all-fault.ensures) in
+    (same_sent c.part_all-fault.result (partings_of c.as_slice.result.now) [] olds.items news.items c.part_all-fault.ensures) in
     let none = ap length c.in-Ok.ensures.ended.1 in
     let many = all_ended news.items ended.items after.items c.in-Ok.ensures.ended.0 in
     let long = ended_counts ended.ok.0 olds.ok.0 after.ok.0 left.ok.0 same (counted_none many none) in
@@ -74,12 +74,12 @@ pub returns-in-Err-clause-fits : goal.returns-in-Err-clause-fits
 returns-in-Err-clause-fits g c =
     let ended = c.args.hands.now.ended in
     let olds = c.args.hands.now.parts.subjects in
-    let news = c.dispose_all-fault.new.subjects in
+    let news = c.part_all-fault.new.subjects in
     let kept = c.put_all_away.new.kept in
     let after = c.finish_all.new.ended in
     let left = c.finish_all.new.ports in
     let same = AreSame-length olds.items news.items
-    (same_sent c.dispose_all-fault.result (map disposal c.as_slice.result.now) [] olds.items news.items c.dispose_all-fault.ensures) in
+    (same_sent c.part_all-fault.result (partings_of c.as_slice.result.now) [] olds.items news.items c.part_all-fault.ensures) in
     let many = some_ended news.items left.items ended.items after.items c.in-Err.ensures.ended.0 in
     let long = ended_counts ended.ok.0 olds.ok.0 after.ok.0 left.ok.0 same many in
     record {
@@ -92,24 +92,25 @@ returns-in-Err-clause-fits g c =
 
 pub returns-then-is_some-clause-ports : goal.returns-then-is_some-clause-ports
 returns-then-is_some-clause-ports g c =
-    same_sent c.dispose_all-fault.result (map disposal c.as_slice.result.now) c.args.hands.now.ended.items c.args.hands.now.parts.subjects.items c.dispose_all-fault.new.subjects.items c.dispose_all-fault.ensures
+    same_sent c.part_all-fault.result (partings_of c.as_slice.result.now) c.args.hands.now.ended.items c.args.hands.now.parts.subjects.items c.part_all-fault.new.subjects.items c.part_all-fault.ensures
 
 pub returns-then-is_some-clause-handles : goal.returns-then-is_some-clause-handles
 returns-then-is_some-clause-handles g c =
     let ended = c.args.hands.now.ended.items in
     let a = c.args.hands.now.parts.subjects.items in
     let leave_is : c.args.leave ≡ length (ended ++ a) = omega (arith, c.requires.leave_is, length-append ended a) in
-    let sends = subst (λ (kept : List (Kept _)). SendsAll c.dispose_all-fault.result (map disposal kept) a c.dispose_all-fault.new.subjects.items) c.as_slice.ensures.value c.dispose_all-fault.ensures in (
-      named_sent c.dispose_all-fault.result (map disposal c.args.hands.now.kept.items) ended a c.dispose_all-fault.new.subjects.items sends,
+    let sends = subst (λ (kept : List (Kept _)). SendsAll c.part_all-fault.result (partings_of kept) a c.part_all-fault.new.subjects.items) c.as_slice.ensures.value c.part_all-fault.ensures in
+    handles_next g.S.Sink.acts _ _ _ (
+      named_sent c.part_all-fault.result (partings_of c.args.hands.now.kept.items) ended a c.part_all-fault.new.subjects.items sends,
       λ log s. stands_left g.S.Sink.acts (length (ended ++ a)) log c.args.leave _ _ leave_is refl refl c.put_all_away.ensures.kept refl refl c.put_all_away.ensures.closes
-          (λ have. sent_in_part c.dispose_all-fault.result (owed (length (ended ++ a)) log) (map disposal c.args.hands.now.kept.items) ended a c.dispose_all-fault.new.subjects.items
+          (λ have. sent_in_part c.part_all-fault.result (owed (length (ended ++ a)) log) (partings_of c.args.hands.now.kept.items) ended a c.part_all-fault.new.subjects.items
           (sym c.is_some.ensures ∙ c.if-is_some.true) (c.requires.open_ports refl) have sends) s,
     )
 
 pub returns-in-Ok-clause-ports : goal.returns-in-Ok-clause-ports
 returns-in-Ok-clause-ports g c =
-    let fine = sent_none c.dispose_all-fault.result (map disposal c.as_slice.result.now) c.args.hands.now.parts.subjects.items c.dispose_all-fault.new.subjects.items (sym c.is_some.ensures ∙ c.if-is_some.false) c.dispose_all-fault.ensures in
-    same_ended (map disposal c.as_slice.result.now) c.args.hands.now.ended.items c.args.hands.now.parts.subjects.items c.dispose_all-fault.new.subjects.items c.finish_all.new.ended.items c.finish_all.new.ports.items
+    let fine = sent_none c.part_all-fault.result (partings_of c.as_slice.result.now) c.args.hands.now.parts.subjects.items c.part_all-fault.new.subjects.items (sym c.is_some.ensures ∙ c.if-is_some.false) c.part_all-fault.ensures in
+    same_ended (partings_of c.as_slice.result.now) c.args.hands.now.ended.items c.args.hands.now.parts.subjects.items c.part_all-fault.new.subjects.items c.finish_all.new.ended.items c.finish_all.new.ports.items
     (c.requires.open_ports refl) fine c.in-Ok.ensures.ended.0 c.in-Ok.ensures.ended.1
 
 pub returns-in-Ok-clause-handles : goal.returns-in-Ok-clause-handles
@@ -117,18 +118,19 @@ returns-in-Ok-clause-handles g c =
     let ended = c.args.hands.now.ended.items in
     let a = c.args.hands.now.parts.subjects.items in
     let leave_is : c.args.leave ≡ length (ended ++ a) = omega (arith, c.requires.leave_is, length-append ended a) in
-    let sends = subst (λ (kept : List (Kept _)). SendsAll c.dispose_all-fault.result (map disposal kept) a c.dispose_all-fault.new.subjects.items) c.as_slice.ensures.value c.dispose_all-fault.ensures in
-    let fine = sent_none c.dispose_all-fault.result (map disposal c.args.hands.now.kept.items) a c.dispose_all-fault.new.subjects.items (sym c.is_some.ensures ∙ c.if-is_some.false) sends in (
+    let sends = subst (λ (kept : List (Kept _)). SendsAll c.part_all-fault.result (partings_of kept) a c.part_all-fault.new.subjects.items) c.as_slice.ensures.value c.part_all-fault.ensures in
+    let fine = sent_none c.part_all-fault.result (partings_of c.args.hands.now.kept.items) a c.part_all-fault.new.subjects.items (sym c.is_some.ensures ∙ c.if-is_some.false) sends in
+    handles_next g.S.Sink.acts _ _ _ (
       tt,
       λ log s. stands_left g.S.Sink.acts (length (ended ++ a)) log c.args.leave _ _ leave_is refl refl c.put_all_away.ensures.kept refl refl c.put_all_away.ensures.closes
-          (λ have. sent_ended (owed (length (ended ++ a)) log) (map disposal c.args.hands.now.kept.items) ended a c.dispose_all-fault.new.subjects.items c.finish_all.new.ended.items c.finish_all.new.ports.items
+          (λ have. sent_ended (owed (length (ended ++ a)) log) (partings_of c.args.hands.now.kept.items) ended a c.part_all-fault.new.subjects.items c.finish_all.new.ended.items c.finish_all.new.ports.items
           (c.requires.open_ports refl) have fine c.in-Ok.ensures.ended.0 c.in-Ok.ensures.ended.1) s,
     )
 
 pub returns-in-Err-clause-ports : goal.returns-in-Err-clause-ports
 returns-in-Err-clause-ports g c =
-    let fine = sent_none c.dispose_all-fault.result (map disposal c.as_slice.result.now) c.args.hands.now.parts.subjects.items c.dispose_all-fault.new.subjects.items (sym c.is_some.ensures ∙ c.if-is_some.false) c.dispose_all-fault.ensures in
-    same_half (map disposal c.as_slice.result.now) c.args.hands.now.ended.items c.args.hands.now.parts.subjects.items c.dispose_all-fault.new.subjects.items c.finish_all.new.ended.items c.finish_all.new.ports.items
+    let fine = sent_none c.part_all-fault.result (partings_of c.as_slice.result.now) c.args.hands.now.parts.subjects.items c.part_all-fault.new.subjects.items (sym c.is_some.ensures ∙ c.if-is_some.false) c.part_all-fault.ensures in
+    same_half (partings_of c.as_slice.result.now) c.args.hands.now.ended.items c.args.hands.now.parts.subjects.items c.part_all-fault.new.subjects.items c.finish_all.new.ended.items c.finish_all.new.ports.items
     (c.requires.open_ports refl) fine c.in-Err.ensures.ended.0
 
 pub returns-in-Err-clause-handles : goal.returns-in-Err-clause-handles
@@ -136,12 +138,13 @@ returns-in-Err-clause-handles g c =
     let ended = c.args.hands.now.ended.items in
     let a = c.args.hands.now.parts.subjects.items in
     let leave_is : c.args.leave ≡ length (ended ++ a) = omega (arith, c.requires.leave_is, length-append ended a) in
-    let sends = subst (λ (kept : List (Kept _)). SendsAll c.dispose_all-fault.result (map disposal kept) a c.dispose_all-fault.new.subjects.items) c.as_slice.ensures.value c.dispose_all-fault.ensures in
-    let fine = sent_none c.dispose_all-fault.result (map disposal c.args.hands.now.kept.items) a c.dispose_all-fault.new.subjects.items (sym c.is_some.ensures ∙ c.if-is_some.false) sends in
-    let place_is : c.in-Err.place ≡ length c.finish_all.new.ended.items = omega (arith, c.in-Err.ensures.ended.1) in (
-      named_half c.in-Err.place (map disposal c.args.hands.now.kept.items) ended a c.dispose_all-fault.new.subjects.items c.finish_all.new.ended.items c.finish_all.new.ports.items
+    let sends = subst (λ (kept : List (Kept _)). SendsAll c.part_all-fault.result (partings_of kept) a c.part_all-fault.new.subjects.items) c.as_slice.ensures.value c.part_all-fault.ensures in
+    let fine = sent_none c.part_all-fault.result (partings_of c.args.hands.now.kept.items) a c.part_all-fault.new.subjects.items (sym c.is_some.ensures ∙ c.if-is_some.false) sends in
+    let place_is : c.in-Err.place ≡ length c.finish_all.new.ended.items = omega (arith, c.in-Err.ensures.ended.1) in
+    handles_next g.S.Sink.acts _ _ _ (
+      named_half c.in-Err.place (partings_of c.args.hands.now.kept.items) ended a c.part_all-fault.new.subjects.items c.finish_all.new.ended.items c.finish_all.new.ports.items
           (c.requires.open_ports refl) fine c.in-Err.ensures.ended.0 place_is,
       λ log s. stands_left g.S.Sink.acts (length (ended ++ a)) log c.args.leave _ _ leave_is refl refl c.put_all_away.ensures.kept refl refl c.put_all_away.ensures.closes
-          (λ have. sent_half (owed (length (ended ++ a)) log) (map disposal c.args.hands.now.kept.items) ended a c.dispose_all-fault.new.subjects.items c.finish_all.new.ended.items c.finish_all.new.ports.items
+          (λ have. sent_half (owed (length (ended ++ a)) log) (partings_of c.args.hands.now.kept.items) ended a c.part_all-fault.new.subjects.items c.finish_all.new.ended.items c.finish_all.new.ports.items
           (c.requires.open_ports refl) have fine c.in-Err.ensures.ended.0) s,
     )

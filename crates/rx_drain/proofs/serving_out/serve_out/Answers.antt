@@ -1,6 +1,6 @@
-use Rattle.std.proofs.Common.{sym, ap, []}
+use Rattle.std.proofs.Common.{sym, ap}
 use Rattle.rx_pump.specs.declared.out.Out.TheVariants.{Attach, Detach}
-use Rattle.rx_sink.specs.Attachments.{Fine, kept_for}
+use Rattle.rx_sink.specs.Attachments.{Fault, kept_for}
 use Rattle.rx_sink.specs.Stands.{counted}
 use Rattle.rx_drain.specs.Logs.{brought}
 use Rattle.rx_drain.proofs.Standing.{missed_detached, took_attached, took_detached, serves_so}
@@ -16,6 +16,6 @@ returns-in-Attach-clause-serves g c = λ place held gone stand.
 pub returns-in-Detach-clause-serves : goal.returns-in-Detach-clause-serves
 returns-in-Detach-clause-serves g c = λ place held gone stand.
     serves_so g.S.Sink.acts place c.args.subject (Detach c.in-Detach.who) c.args.out held gone c.detach.new.kept.items c.detach.new.away.items
-    c.args.places.now.misses c.args.places.now.misses c.args.taken.now c.args.taken.now [] c.in-Detach.is Fine (c.detach.ensures.detaches held gone stand)
+    c.args.places.now.misses c.args.places.now.misses c.args.taken.now c.args.taken.now _ c.in-Detach.is Fault (c.detach.ensures.detaches held gone stand)
     (sym (ap (counted c.args.places.now.misses) (missed_detached c.args.subject c.in-Detach.who (kept_for c.args.subject c.in-Detach.who held) held)))
     (sym (ap (counted c.args.taken.now) (took_detached c.args.subject c.in-Detach.who (kept_for c.args.subject c.in-Detach.who held) held)))

@@ -1,5 +1,5 @@
 use Rattle.rx_mailbox.proofs.Steps.{may_take}
 use Rattle.rx_mailbox.proofs.channel.take.Goals as goal
 
-pub recv_as-requires-clause-rule : goal.recv_as-requires-clause-rule
-recv_as-requires-clause-rule g c = (may_take _ _ c.requires.reader, λ items views _ _. tt)
+pub try_recv_as-requires-clause-rule : goal.try_recv_as-requires-clause-rule
+try_recv_as-requires-clause-rule g c = (may_take _ _ c.requires.reader, λ items views _ _. tt)

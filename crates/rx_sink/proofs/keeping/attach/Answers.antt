@@ -1,11 +1,12 @@
-use Rattle.std.proofs.Common.{◌∙◌, sym, ap, List, [], ◌∷◌, ◌++◌}
+use Rattle.std.proofs.Common.{◌∙◌, sym, ap, List, [], ◌∷◌, ◌++◌, true, false}
 use Rattle.std.specs.List.{position}
+use Rattle.rx_sink.specs.declared.flow.Flow.TheVariants.{Clear}
 use Rattle.rx_sink.specs.declared.kept.Kept.{Kept}
 use Rattle.rx_sink.specs.declared.put_away.PutAway.{PutAway}
 use Rattle.rx_sink.specs.Attachments.{Fine, Fault, NoMemory, is_for, attached}
 use Rattle.rx_sink.specs.Stands.{counted}
 use Rattle.rx_sink.proofs.Finding.{located, missing}
-use Rattle.rx_sink.proofs.Tending.{brought, attached_beside, attached_fine, attached_fault, attached_nowhere}
+use Rattle.rx_sink.proofs.Tending.{brought, attached_beside, attached_fine, attached_fault, attached_nowhere, said_so}
 use Rattle.rx_sink.proofs.keeping.attach.Goals as goal
 
 pub returns-in-Some-clause-attaches : goal.returns-in-Some-clause-attaches
@@ -13,10 +14,11 @@ returns-in-Some-clause-attaches g c = λ place held gone stand.
     let place_is = ap (position (is_for c.args.subject c.args.who)) (sym c.as_slice.ensures.value) ∙ sym c.in-Some.ensures in
     let f = located g.S.Sink.acts c.args.subject c.args.who held c.args.kept.now.items c.in-Some._place stand.kept_are place_is in
     let a = brought place c.args.subject c.args.who c.args.sink in (
-      Fine,
+      Fine Clear,
       (
-        attached_beside g.S.Sink.acts place c.args.subject c.args.who c.args.sink held gone c.args.kept.now.items c.args.away.now.items c.in-Some._place stand f Fine,
-        sym (ap (λ o. counted c.args.places.now.misses (attached Fine a o held).missed) f.found),
+        said_so g.S.Sink.acts _ gone _ _ c.args.subject _ _ c.nothing.ensures
+            (attached_beside g.S.Sink.acts place c.args.subject c.args.who c.args.sink held gone c.args.kept.now.items c.args.away.now.items c.in-Some._place stand f (Fine Clear)),
+        sym (ap (λ o. counted c.args.places.now.misses (attached (Fine Clear) a o held).missed) f.found),
       ),
     )
 
@@ -27,8 +29,9 @@ returns-in_default-grow-clause-attaches g c = λ place held gone stand.
     let a = brought place c.args.subject c.args.who c.args.sink in (
       NoMemory,
       (
-        attached_nowhere g.S.Sink.acts place c.args.subject c.args.who c.args.sink held gone c.args.kept.now.items c.grow.new.kept.items c.args.away.now.items c.grow.new.away.items
-            stand nobody c.in_default-grow.ensures.kept c.in_default-grow.ensures.away,
+        said_so g.S.Sink.acts _ gone _ _ c.args.subject _ _ c.leave.ensures
+            (attached_nowhere g.S.Sink.acts place c.args.subject c.args.who c.args.sink held gone c.args.kept.now.items c.grow.new.kept.items c.args.away.now.items c.grow.new.away.items
+            stand nobody c.in_default-grow.ensures.kept c.in_default-grow.ensures.away),
         c.in_default-grow.ensures.missed ∙ sym (ap (λ o. counted c.args.places.now.misses (attached NoMemory a o held).missed) nobody),
       ),
     )
@@ -38,13 +41,14 @@ returns-in-Ok-start-clause-attaches g c = λ place held gone stand.
     let none = ap (position (is_for c.args.subject c.args.who)) (sym c.as_slice.ensures.value) ∙ sym c.find.ensures ∙ c.in_default.is in
     let nobody = missing g.S.Sink.acts c.args.subject c.args.who held c.args.kept.now.items stand.kept_are none in
     let a = brought place c.args.subject c.args.who c.args.sink in (
-      Fine,
+      Fine Clear,
       (
-        attached_fine g.S.Sink.acts place c.args.subject c.args.who c.args.sink c.start.new.self held gone c.args.kept.now.items c.push_reserved.new.self.items c.args.away.now.items c.grow.new.away.items
+        said_so g.S.Sink.acts _ gone _ _ c.args.subject _ _ c.nothing-in-Ok-start.ensures
+            (attached_fine g.S.Sink.acts place c.args.subject c.args.who c.args.sink c.start.new.self held gone c.args.kept.now.items c.push_reserved.new.self.items c.args.away.now.items c.grow.new.away.items
             stand nobody c.in-Ok-start.ensures.ok
-            (c.push_reserved.ensures.items ∙ ap (λ (l : List (Kept _)). l ++ record { subject = c.args.subject; who = c.args.who; sink = c.start.new.self } ∷ []) c.in-Ok.ensures.kept)
-            c.in-Ok.ensures.away,
-        c.in-Ok.ensures.same ∙ sym (ap (λ o. counted c.args.places.now.misses (attached Fine a o held).missed) nobody),
+            (c.push_reserved.ensures.items ∙ ap (λ (l : List (Kept _)). l ++ record { subject = c.args.subject; who = c.args.who; sink = c.start.new.self; due = 0; over = false; may_wait = true } ∷ []) c.in-Ok.ensures.kept)
+            c.in-Ok.ensures.away),
+        c.in-Ok.ensures.same ∙ sym (ap (λ o. counted c.args.places.now.misses (attached (Fine Clear) a o held).missed) nobody),
       ),
     )
 
@@ -55,9 +59,10 @@ returns-in-Err-clause-attaches g c = λ place held gone stand.
     let a = brought place c.args.subject c.args.who c.args.sink in (
       Fault,
       (
-        attached_fault g.S.Sink.acts place c.args.subject c.args.who c.args.sink c.start.new.self held gone c.args.kept.now.items c.grow.new.kept.items c.args.away.now.items c.push_reserved-in-Err.new.self.items c.finish-rest-in-Err.result
+        said_so g.S.Sink.acts _ gone _ _ c.args.subject _ _ c.leave-in-Err.ensures
+            (attached_fault g.S.Sink.acts place c.args.subject c.args.who c.args.sink c.start.new.self held gone c.args.kept.now.items c.grow.new.kept.items c.args.away.now.items c.push_reserved-in-Err.new.self.items c.finish-rest-in-Err.result
             stand nobody c.in-Err.ensures.fault c.finish-rest-in-Err.ensures c.in-Ok.ensures.kept
-            (c.push_reserved-in-Err.ensures.items ∙ ap (λ (l : List (PutAway _)). l ++ record { subject = c.args.subject; who = c.args.who; rest = c.finish-rest-in-Err.result } ∷ []) c.in-Ok.ensures.away),
+            (c.push_reserved-in-Err.ensures.items ∙ ap (λ (l : List (PutAway _)). l ++ record { subject = c.args.subject; who = c.args.who; rest = c.finish-rest-in-Err.result } ∷ []) c.in-Ok.ensures.away)),
         c.in-Ok.ensures.same ∙ sym (ap (λ o. counted c.args.places.now.misses (attached Fault a o held).missed) nobody),
       ),
     )

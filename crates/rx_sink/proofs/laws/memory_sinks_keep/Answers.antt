@@ -9,7 +9,9 @@ returns c =
     keeps_notes memory_acts (λ s. s.notes.items) (λ rest. rest.items) (record {
       started = λ s who t is. ap (λ (u : MemorySink). u.notes.items) is;
       start_faulted = λ s who t is. absurd is;
-      took = λ s note t is. is.0;
+      took = λ s note flow t is. is.1;
       take_faulted = λ s note t is. is.0;
+      flushed = λ s flow t is. ap (λ (u : MemorySink). u.notes.items) is.1;
+      flush_faulted = λ s t is. absurd is;
       finished = λ s rest is. is;
     })

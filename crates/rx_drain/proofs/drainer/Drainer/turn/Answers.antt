@@ -1,21 +1,26 @@
-use Rattle.std.proofs.Common.{◌≡◌, Some, OnOk, Result, Ok, Err, refl, ap, subst, ◌∙◌}
-use Rattle.rx_mailbox.specs.declared.letter.Letter.{Letter}
-use Rattle.rx_mailbox.specs.Boxes.{Incoming, with_letter}
-use Rattle.rx_pump.specs.declared.out.Out.{Out}
+use Rattle.std.proofs.Common.{Some, None, Option, OnOk, Result, Ok, Err, sym, refl, ap, subst, ◌∙◌}
+use Rattle.rx_mailbox.specs.Boxes.{Incoming}
 use Rattle.rx_pump.specs.Pumps.{AreSame}
+use Rattle.rx_drain.specs.declared.drain_fault.DrainFault.{DrainFault}
 use Rattle.rx_drain.specs.declared.drain_fault.DrainFault.TheVariants.{InboxGone}
-use Rattle.rx_drain.specs.Drainers.{DrainerView, IsDrained, KeepsPlaces, view_of}
-use Rattle.rx_drain.proofs.Ending.{drained_gone, drained_letter}
+use Rattle.rx_drain.specs.declared.drainer_left.DrainerLeft.{DrainerLeft}
+use Rattle.rx_drain.specs.Drainers.{DrainerView, Fits, Goes, IsDrained, KeepsPlaces, TakesMore, view_of}
+use Rattle.rx_drain.proofs.Ending.{drained_gone, drained_turn, goes_further, takes_both}
 use Rattle.rx_drain.proofs.drainer.Drainer.turn.Given as given
 use Rattle.rx_drain.proofs.drainer.Drainer.turn.Goals as goal
 
--- the letter of this turn was handled
+-- the letters of this turn were handled, and the sinks flushed
 drained : (g : given.Over) (c : goal.After-outcome g)
-    → IsDrained g.S.Sink.acts (view_of c.handle-handled.new.hands c.handle-handled.result.left c.handle-handled.result.fault)
+    → IsDrained g.S.Sink.acts (view_of c.handle_rest-rest.new.hands c.handle_rest-rest.result.left c.handle_rest-rest.result.fault)
 drained g c =
-    drained_letter g.S.Sink.acts (view_of c.self.inside.hands c.self.inside.left c.self.inside.fault) _
-    (view_of c.handle-handled.new.hands c.handle-handled.result.left c.handle-handled.result.fault) c.in-Ok.letter
-    c.in_default.is refl c.in-Ok.ensures.received c.handle-handled.ensures.inbox c.handle-handled.ensures.ports c.handle-handled.ensures.handles c.self.invariant.0
+    let inside = c.self.inside in
+    let before = view_of inside.hands inside.left inside.fault in
+    let one = view_of c.handle_first.new.hands c.in-Ok.first.left c.in-Ok.first.fault in
+    let more = view_of c.handle_more-more.new.hands c.handle_more-more.result.left c.handle_more-more.result.fault in
+    let rest = view_of c.handle_rest-rest.new.hands c.handle_rest-rest.result.left c.handle_rest-rest.result.fault in
+    let goes = subst (λ (fault : Option DrainFault). Goes g.S.Sink.acts (view_of inside.hands inside.left fault) one) (sym c.in_default.is) c.in-Ok.ensures.goes in
+    drained_turn g.S.Sink.acts before more rest
+    (goes_further g.S.Sink.acts before one more goes c.handle_more-more.ensures.goes) c.handle_rest-rest.ensures.pays c.self.invariant.0
 
 pub returns-clause-drained : goal.returns-clause-drained
 returns-clause-drained g c = drained g c
@@ -34,36 +39,36 @@ pub invariant_of-self : goal.invariant_of-self
 invariant_of-self g c =
     let inside = c.self.inside in
     let before = view_of inside.hands inside.left inside.fault in
+    let same = c.in_default-handle_first.ensures.gone in
     let fits = c.self.invariant.1 in (
-      drained_gone g.S.Sink.acts before _ c.in_default.is
-          (ap (λ (i : Incoming _). record before { inbox = i; fault = Some InboxGone }) c.in_default-recv.ensures.received) c.self.invariant.0,
-      record {
+      drained_gone g.S.Sink.acts before _ c.in_default.is (ap (λ (hands : DrainerLeft _ _). view_of hands inside.left (Some InboxGone)) same) c.self.invariant.0,
+      subst (λ (hands : DrainerLeft _ _). Fits inside.leave inside.left (Some InboxGone) hands) (sym same) (record {
         leave_is = fits.leave_is;
         away_room = fits.away_room;
         ended_room = fits.ended_room;
         open_ports = fits.open_ports;
         ended_ports = λ left fine. cc;
-      },
-      ap (λ (i : Incoming _). i.ports) c.in_default-recv.ensures.received ∙ c.self.invariant.2,
+      }),
+      ap (λ (hands : DrainerLeft _ _). hands.parts.inbox.ports) same ∙ c.self.invariant.2,
     )
 
-pub returns-in_default-recv-clause-drained : goal.returns-in_default-recv-clause-drained
-returns-in_default-recv-clause-drained g c =
+pub returns-in_default-handle_first-clause-drained : goal.returns-in_default-handle_first-clause-drained
+returns-in_default-handle_first-clause-drained g c =
     let inside = c.self.inside in
     let before = view_of inside.hands inside.left inside.fault in
     drained_gone g.S.Sink.acts before _ c.in_default.is
-    (ap (λ (i : Incoming _). record before { inbox = i; fault = Some InboxGone }) c.in_default-recv.ensures.received) c.self.invariant.0
+    (ap (λ (hands : DrainerLeft _ _). view_of hands inside.left (Some InboxGone)) c.in_default-handle_first.ensures.gone) c.self.invariant.0
 
-pub returns-in_default-recv-clause-kept : goal.returns-in_default-recv-clause-kept
-returns-in_default-recv-clause-kept g c =
+pub returns-in_default-handle_first-clause-kept : goal.returns-in_default-handle_first-clause-kept
+returns-in_default-handle_first-clause-kept g c =
     let inside = c.self.inside in
     let before = view_of inside.hands inside.left inside.fault in
-    let same = c.in_default-recv.ensures.received in
-    subst (λ (v : DrainerView _ _). KeepsPlaces v (record before { inbox = c.recv.new.self; fault = Some InboxGone })) c.self.view_is
-    (record { box = ap (λ (i : Incoming _). i.box) same; count = ap (λ (i : Incoming _). i.ports) same; ports = refl })
+    let same = c.in_default-handle_first.ensures.gone in
+    subst (λ (v : DrainerView _ _). KeepsPlaces v (view_of c.handle_first.new.hands inside.left (Some InboxGone))) c.self.view_is
+    (subst (λ (hands : DrainerLeft _ _). KeepsPlaces before (view_of hands inside.left (Some InboxGone))) (sym same) (record { box = refl; count = refl; ports = refl }))
 
-pub handle-handled-requires : goal.handle-handled-requires
-handle-handled-requires g c =
+pub handle_first-requires : goal.handle_first-requires
+handle_first-requires g c =
     let fits = c.self.invariant.1 in
     record {
       leave_is = fits.leave_is;
@@ -73,11 +78,18 @@ handle-handled-requires g c =
       ended_ports = λ left fine. fits.ended_ports left c.in_default.is;
     }
 
+-- the letters that this turn took
+took : (g : given.Over) (c : goal.After-outcome g) → TakesMore c.self.inside.hands.parts.inbox c.handle_rest-rest.new.hands.parts.inbox
+took g c =
+    let before = c.self.inside.hands.parts.inbox in
+    subst (λ (i : Incoming _). TakesMore before i) (sym c.handle_rest-rest.ensures.inbox)
+    (takes_both g.S.Sink.acts before c.handle_first.new.hands.parts.inbox c.handle_more-more.new.hands.parts.inbox c.in-Ok.ensures.inbox c.handle_more-more.ensures.inbox)
+
 pub invariant_of-self-2 : goal.invariant_of-self-2
 invariant_of-self-2 g c = (
   drained g c,
-  c.handle-handled.ensures.fits,
-  ap (λ (i : Incoming _). i.ports) (c.handle-handled.ensures.inbox ∙ c.in-Ok.ensures.received) ∙ c.self.invariant.2,
+  c.handle_rest-rest.ensures.fits,
+  ap (λ (i : Incoming _). i.ports) (took g c).1 ∙ c.self.invariant.2,
 )
 
 pub returns-clause-fault : goal.returns-clause-fault
@@ -85,21 +97,21 @@ returns-clause-fault g c = c.outcome.ensures
 
 pub returns-clause-took : goal.returns-clause-took
 returns-clause-took g c =
-    on_ok_known c.outcome.result
-    (c.in-Ok.letter, c.handle-handled.ensures.inbox ∙ c.in-Ok.ensures.received ∙ ap (λ (v : DrainerView _ _). with_letter v.inbox c.in-Ok.letter) c.self.view_is)
+    let after = c.handle_rest-rest.new.hands.parts.inbox in
+    on_ok_known c.outcome.result (subst (λ (v : DrainerView _ _). TakesMore v.inbox after) c.self.view_is (took g c))
 
--- one letter more in the inbox keeps the places
-keeps : {S Rest : Type 0} (before after : DrainerView S Rest) (mid : Incoming (Out S)) (x : Letter (Out S)) → after.inbox ≡ mid → mid ≡ with_letter before.inbox x
-    → AreSame before.ports after.ports → KeepsPlaces before after
-keeps before after mid x kept received same = record {
-  box = ap (λ (i : Incoming _). i.box) (kept ∙ received);
-  count = ap (λ (i : Incoming _). i.ports) (kept ∙ received);
+-- more letters in the inbox keep the places
+keeps : {S Rest : Type 0} (before after : DrainerView S Rest) → TakesMore before.inbox after.inbox → AreSame before.ports after.ports → KeepsPlaces before after
+keeps before after more same = record {
+  box = ap (λ (i : Incoming _). i.box) more.1;
+  count = ap (λ (i : Incoming _). i.ports) more.1;
   ports = same;
 }
 
 pub returns-clause-kept : goal.returns-clause-kept
 returns-clause-kept g c =
     let inside = c.self.inside in
-    let after = view_of c.handle-handled.new.hands c.handle-handled.result.left c.handle-handled.result.fault in
+    let before = view_of inside.hands inside.left inside.fault in
+    let after = view_of c.handle_rest-rest.new.hands c.handle_rest-rest.result.left c.handle_rest-rest.result.fault in
     subst (λ (v : DrainerView _ _). KeepsPlaces v after) c.self.view_is
-    (keeps (view_of inside.hands inside.left inside.fault) after c.recv.new.self c.in-Ok.letter c.handle-handled.ensures.inbox c.in-Ok.ensures.received c.handle-handled.ensures.ports)
+    (keeps before after (took g c) (c.handle_rest-rest.ensures.ports ∙ c.handle_more-more.ensures.ports ∙ c.in-Ok.ensures.ports))

@@ -1,6 +1,6 @@
 use Rattle.std.proofs.Common.{rules}
 use Rattle.rx_mailbox.proofs.Tally.{tally_more}
-use Rattle.rx_mailbox.proofs.inbox.Inbox.recv.Goals as goal
+use Rattle.rx_mailbox.proofs.inbox.Inbox.try_recv.Goals as goal
 
 pub invariant_of-self-2 : goal.invariant_of-self-2
 invariant_of-self-2 g c =

@@ -1,0 +1,59 @@
+// What waits in the sinks goes out, as far as it can now.
+ghost use Rattle.std.specs.Prelude.{◌≡◌, ◌+◌, ◌<◌, ◌≤◌, false, None, vec_len};
+ghost use Rattle.rx_pump.specs.Pumps.{AreSame};
+ghost use Rattle.rx_drain.specs.Drainers.{Fits, FlushesAll, FlushesAt, view_of};
+
+use crate::sending::send_asks;
+use crate::{DrainFault, DrainerLeft};
+use rx_sink::{Sink, flush_one};
+use std::sync::Wait;
+
+// Flushes each sink in which something may wait, and asks the subjects for what is due of those that are not stuck. It
+// answers the fault, if there is one.
+pub fn flush_all<S: Sink, R: Wait>(
+    rt: &R,
+    hands: &mut DrainerLeft<S>,
+    leave: usize,
+) -> Option<DrainFault>
+    requires { Fits leave false None hands.old }
+    ensures fits { Fits leave false result hands.new }
+    ensures inbox { hands.new.parts.inbox ≡ hands.old.parts.inbox }
+    ensures ports { AreSame (view_of hands.old false None).ports (view_of hands.new false result).ports }
+    ensures flushes { FlushesAll S.acts (view_of hands.old false None) (view_of hands.new false result) }
+{
+    // From the last one on, so that a sink that is put away leaves the places of those to come as they are.
+    let mut place = hands.kept.len();
+    while place > 0 {
+        place -= 1;
+        if hands.kept[place].may_wait {
+            let fault = flush_at(rt, hands, leave, place);
+            if fault.is_some() {
+                return fault;
+            }
+        }
+    }
+    None
+}
+
+// Flushes the sink at this place, and asks its subject for what is due, unless the sink is stuck. It answers the fault, if
+// there is one.
+fn flush_at<S: Sink, R: Wait>(
+    rt: &R,
+    hands: &mut DrainerLeft<S>,
+    leave: usize,
+    place: usize,
+) -> Option<DrainFault>
+    requires within { place < vec_len hands.old.kept }
+    requires fits { Fits leave false None hands.old }
+    ensures fits { Fits leave false result hands.new }
+    ensures inbox { hands.new.parts.inbox ≡ hands.old.parts.inbox }
+    ensures ports { AreSame (view_of hands.old false None).ports (view_of hands.new false result).ports }
+    ensures len { vec_len hands.old.kept ≤ vec_len hands.new.kept + 1 }
+    ensures flushes { FlushesAt S.acts place (view_of hands.old false None) (view_of hands.new false result) }
+{
+    let one = &hands.kept[place];
+    let subject = one.subject;
+    let who = one.who;
+    let asks = flush_one(&mut hands.kept, &mut hands.put_away, subject, who);
+    send_asks(rt, &mut hands.parts.subjects, subject, asks)
+}

@@ -1,0 +1,78 @@
+// How the two sides of a box wait for each other: who waits looks again for a while, then sleeps, and is woken once, by the
+// other side, only if it sleeps. Nothing is promised of a wait: it may end for no reason, so who waits looks again.
+use std::sync::Wait;
+use std::sync::atomic::{AtomicU64, Ordering};
+use std::time::Duration;
+use std::{hint, thread};
+
+// How often who waits looks again at once, and then after letting other threads go first, before it sleeps. A sleep and
+// a wake cost more than all these looks, and what is waited for mostly comes meanwhile.
+const PAUSES: u32 = 200;
+
+const YIELDS: u32 = 30;
+
+const LOOKS: u32 = PAUSES + YIELDS;
+
+/// How often who waits for a bounded time looks before it slept, and no more often.
+pub(crate) const LOOKS_WITHIN: u32 = LOOKS + 2;
+
+const AWAKE: u64 = 0;
+
+const ASLEEP: u64 = 1;
+
+/// What one side of a box sleeps on until the other side rings it.
+#[derive(Drop)]
+pub(crate) struct Bell {
+    // Whether somebody sleeps, or is about to and looks once more.
+    state: AtomicU64,
+}
+
+impl Bell {
+    pub(crate) fn new() -> Bell {
+        Bell {
+            state: AtomicU64::new(AWAKE),
+        }
+    }
+
+    /// Wakes all who sleep, after a step that they may wait for. Who is about to sleep either is seen here or, in its
+    /// last look, sees that step.
+    pub(crate) fn ring(&self) {
+        if self.state.load(Ordering::SeqCst) == ASLEEP
+            && self.state.swap(AWAKE, Ordering::SeqCst) == ASLEEP
+        {
+            self.state.wake_all();
+        }
+    }
+
+    /// Waits after so many looks in vain, and answers how many they are from then on.
+    pub(crate) fn wait<R: Wait>(&self, rt: &R, looks: u32) -> u32 {
+        if looks < PAUSES {
+            hint::spin_loop();
+        } else if looks < LOOKS {
+            thread::yield_now();
+        } else if looks == LOOKS {
+            // It sleeps only if the next look is in vain as well.
+            self.state.store(ASLEEP, Ordering::SeqCst);
+        } else {
+            self.state.park(rt, ASLEEP as u32);
+            return LOOKS;
+        }
+        looks + 1
+    }
+
+    /// Waits as `wait` does, but sleeps no longer than about so long.
+    pub(crate) fn wait_within<R: Wait>(&self, rt: &R, looks: u32, most: Duration) -> u32 {
+        if looks <= LOOKS {
+            return self.wait(rt, looks);
+        }
+        self.state.park_timeout(rt, ASLEEP as u32, most);
+        LOOKS_WITHIN
+    }
+
+    /// Ends a wait of so many looks, of the only one who waits here.
+    pub(crate) fn rise(&self, looks: u32) {
+        if looks > LOOKS {
+            self.state.store(AWAKE, Ordering::SeqCst);
+        }
+    }
+}

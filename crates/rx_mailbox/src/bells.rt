@@ -1,0 +1,24 @@
+use crate::bell::Bell;
+use rx_heap::{Heap, Memory};
+use std::sync::Arc;
+
+/// The bells of a box, which its ports and its inbox share.
+#[derive(Drop)]
+pub(crate) struct Bells {
+    /// Its inbox waits here for a letter.
+    pub(crate) letter: Bell,
+    /// Its ports wait here for room.
+    pub(crate) room: Bell,
+}
+
+pub(crate) type SharedBells = Arc<Bells, Heap>;
+
+impl Bells {
+    pub(crate) fn shared(alloc: Heap) -> Result<SharedBells, Memory> {
+        let bells = Bells {
+            letter: Bell::new(),
+            room: Bell::new(),
+        };
+        Ok(Arc::new(alloc, bells)?)
+    }
+}

@@ -1,0 +1,128 @@
+use rx_heap::Heap;
+use std::io;
+use std::io::{ErrorKind, Write};
+use std::os::unix::net::UnixStream;
+use std::time::{Clock, Duration};
+
+/// How many bytes wait for a peer at most: 64 notes of the greatest length, a terminal, and the first line.
+pub const MOST_WAITING: usize = 66_970;
+
+/// From so many bytes on, what is written goes out at once where nothing waits before it.
+const BLOCK: usize = 4_096;
+
+/// How long a peer may take no byte while some wait for it, in seconds: past it a flush has failed.
+pub const MAX_STALL: u64 = 60;
+
+// How long the last bytes wait for a peer once nobody writes any more, in milliseconds.
+const LAST_WAIT: u64 = 20;
+
+// How often a flush writes at most.
+const MOST_WRITES: u32 = 1_000;
+
+/// The half of a connection that is written. What is written waits until it is flushed, so that many lines go out by one
+/// write; a flush sends as much of it as the socket takes. Where that is not all it is `WouldBlock`, and the rest waits: a
+/// further flush goes on with it. Once the peer took no byte for a minute a flush is `TimedOut`.
+pub struct Outgoing<C: Clock + Drop> {
+    stream: UnixStream,
+    clock: C,
+    waiting: Vec<u8, Heap>,
+    // Since when the socket has taken no byte, by the clock.
+    stuck_since: Option<Duration>,
+}
+
+// What still waits is tried once more: by now it is known that nothing comes after it.
+impl<C: Clock + Drop> Drop for Outgoing<C> {
+    fn drop(self) {
+        let Outgoing {
+            mut stream,
+            clock: _,
+            waiting,
+            stuck_since: _,
+        } = self;
+        if waiting.is_empty() {
+            return;
+        }
+        let last = Some(Duration::from_millis(LAST_WAIT));
+        if stream.set_write_timeout(last).is_ok() && stream.set_nonblocking(false).is_ok() {
+            let _ = stream.write_all(waiting.as_slice());
+        }
+    }
+}
+
+impl<C: Clock + Drop> Outgoing<C> {
+    /// The writing half of a connection. What waits takes this memory.
+    pub fn new(stream: UnixStream, clock: C, alloc: Heap) -> Outgoing<C> {
+        Outgoing {
+            stream,
+            clock,
+            waiting: Vec::new(alloc),
+            stuck_since: None,
+        }
+    }
+
+    // Sends what waits, as far as the socket takes it, and says how many bytes that were and what stopped it.
+    fn send(&mut self) -> (usize, io::Result<()>) {
+        let mut sent = 0;
+        for _ in 0..MOST_WRITES {
+            let Some(rest) = self.waiting.as_slice().get(sent..) else {
+                return (sent, Ok(()));
+            };
+            if rest.is_empty() {
+                return (sent, Ok(()));
+            }
+            match self.stream.write(rest) {
+                Ok(0) => return (sent, Err(io::Error::from(ErrorKind::WriteZero))),
+                Ok(more) => sent = sent.saturating_add(more),
+                Err(fault) if fault.kind() == ErrorKind::Interrupted => {}
+                Err(fault) => return (sent, Err(fault)),
+            }
+        }
+        (sent, Err(io::Error::from(ErrorKind::WouldBlock)))
+    }
+
+    // The fault of a socket that takes no more bytes now: they wait, but not for ever where it takes none at all.
+    fn stuck(&mut self, sent: usize) -> io::Error {
+        let Ok(now) = self.clock.monotonic() else {
+            return io::Error::from(ErrorKind::WouldBlock);
+        };
+        let since = match self.stuck_since {
+            Some(since) if sent == 0 => since,
+            _ => now,
+        };
+        self.stuck_since = Some(since);
+        if now.saturating_sub(since) >= Duration::from_secs(MAX_STALL) {
+            io::Error::from(ErrorKind::TimedOut)
+        } else {
+            io::Error::from(ErrorKind::WouldBlock)
+        }
+    }
+}
+
+impl<C: Clock + Drop> Write for Outgoing<C> {
+    fn write(&mut self, bytes: &[u8]) -> io::Result<usize> {
+        if self.waiting.is_empty() && bytes.len() >= BLOCK {
+            return self.stream.write(bytes);
+        }
+        if self.waiting.len().saturating_add(bytes.len()) > MOST_WAITING {
+            self.flush()?;
+            return self.stream.write(bytes);
+        }
+        match self.waiting.extend_from_slice(bytes) {
+            Ok(()) => Ok(bytes.len()),
+            Err(_) => Err(io::Error::from(ErrorKind::OutOfMemory)),
+        }
+    }
+
+    fn flush(&mut self) -> io::Result<()> {
+        let (sent, ended) = self.send();
+        self.waiting.drain(..sent.min(self.waiting.len()));
+        match ended {
+            Err(fault) if fault.kind() == ErrorKind::WouldBlock => Err(self.stuck(sent)),
+            Err(fault) => Err(fault),
+            Ok(()) => {
+                self.stuck_since = None;
+                Ok(())
+            }
+        }
+    }
+}

@@ -1,0 +1,13 @@
+-- The sink is finished and put away, and its subject is to be asked for what was due.
+use Rattle.std.proofs.Common.{◌∙◌, sym, ap, ℕ, Some, arith}
+use Rattle.std.proofs.lemmas.Option.{slice_get-get_or}
+use Rattle.rx_sink.proofs.keeping.part.Goals as goal
+
+pub returns-clause-parts : goal.returns-clause-parts
+returns-clause-parts g c = record {
+  one = c.remove-one.result;
+  stood = slice_get-get_or c.args.kept.now.items c.args.place c.remove-one.result (omega (arith, c.requires.within)) ∙ ap Some (sym c.remove-one.ensures.value);
+  removed = c.remove-one.ensures.items;
+  pushed = c.push_away.ensures.pushes;
+  asked = ap (λ (n : ℕ). record { who = c.remove-one.result.who; items = n; leaves = c.args.leaves }) c.from.ensures;
+}
