@@ -1,13 +1,8 @@
 //! Peers of a server that send rubbish, cut a line, close early or reset: what they may have is answered, the rest is let go,
 //! and the others are served as if they had not come.
 
-use crate::sockets::{
-    Paths, connect, emit_all, expect_served, is_at_end, reads, serve, subscribe, write_config,
-};
+use crate::sockets::{Paths, Peer, emit_all, expect_served, serve, write_config};
 use rx_program::Host;
-use std::io::{self, Write};
-use std::net::Shutdown;
-use std::os::unix::net::UnixStream;
 use std::test::Fail;
 use std::thread::join;
 
@@ -27,11 +22,11 @@ const RESET: Paths = Paths {
 };
 
 // Whether a peer that sends these bytes and no more is answered so, and then let go.
-fn is_answered(rt: &impl Host, paths: &Paths, lines: &[u8], answers: &[u8]) -> io::Result<bool> {
-    let mut peer = connect(rt, paths)?;
-    peer.write_all(lines)?;
-    peer.shutdown(Shutdown::Write)?;
-    ends_with(&mut peer, answers)
+fn is_answered(rt: &impl Host, paths: &Paths, lines: &[u8], answers: &[u8]) -> bool {
+    let mut peer = Peer::connected(rt, paths);
+    peer.sends_last(lines);
+    peer.hears_last(answers);
+    peer.is_right()
 }
 
 // Lines that no session takes, and what each is answered. A script takes two of them.
@@ -48,27 +43,25 @@ const REFUSED: [(&[u8], &[u8]); 9] = [
 ];
 
 // Whether one peer is so refused each of its lines.
-fn is_refused_each(rt: &impl Host, paths: &Paths) -> io::Result<bool> {
-    let mut peer = connect(rt, paths)?;
+fn is_refused_each(rt: &impl Host, paths: &Paths) -> bool {
+    let mut peer = Peer::connected(rt, paths);
     for (line, answer) in &REFUSED {
-        peer.write_all(line)?;
-        peer.write_all(b"\n")?;
-        if !reads(&mut peer, answer)? {
-            return Ok(false);
-        }
+        peer.sends(line);
+        peer.sends(b"\n");
+        peer.hears(answer);
     }
-    Ok(true)
+    peer.is_right()
 }
 
 // One peer sends rubbish, one cuts its only line, and one emits for a subscriber.
-fn talk_beside_rubbish(rt: &impl Host, paths: &Paths) -> io::Result<bool> {
-    let mut reader = subscribe(rt, paths)?;
-    let mut right = reads(&mut reader, b"JOINED 0\n")?;
-    right &= is_refused_each(rt, paths)?;
-    right &= is_answered(rt, paths, b"PUB s a", b"")?;
-    right &= is_answered(rt, paths, b"PUB s b\nEND s\nQUIT\n", b"OK\nOK\nOK\n")?;
-    right &= reads(&mut reader, b"NEXT b\nDONE\n")? && is_at_end(&mut reader)?;
-    Ok(right)
+fn talk_beside_rubbish(rt: &impl Host, paths: &Paths) -> bool {
+    let mut reader = Peer::subscribed(rt, paths);
+    reader.hears(b"JOINED 0\n");
+    let right = is_refused_each(rt, paths)
+        && is_answered(rt, paths, b"PUB s a", b"")
+        && is_answered(rt, paths, b"PUB s b\nEND s\nQUIT\n", b"OK\nOK\nOK\n");
+    reader.hears_last(b"NEXT b\nDONE\n");
+    right && reader.is_right()
 }
 
 #[test]
@@ -77,7 +70,7 @@ fn rubbish_and_a_cut_line(rt: HostRuntime) -> Result<(), Fail> {
     let (told, right) = join(
         &rt,
         || -> Vec<u8> { serve(&rt, &RUBBISH) },
-        || -> io::Result<bool> { talk_beside_rubbish(&rt, &RUBBISH) },
+        || -> bool { talk_beside_rubbish(&rt, &RUBBISH) },
     );
     let wanted = "0 s joins 1 refused 0\n|rxline: listening on rxline-rubbish.sock\n";
     expect_served(&rt, &RUBBISH, told.as_slice(), right, wanted)
@@ -87,57 +80,43 @@ fn rubbish_and_a_cut_line(rt: HostRuntime) -> Result<(), Fail> {
 const ITEMS: u32 = 20;
 
 // Whether a subscriber joins so. It closes at once.
-fn is_joined(rt: &impl Host, paths: &Paths, joined: &[u8]) -> io::Result<bool> {
-    let mut peer = subscribe(rt, paths)?;
-    reads(&mut peer, joined)
-}
-
-// Whether these bytes come next, and then nothing any more.
-fn ends_with(stream: &mut UnixStream, wanted: &[u8]) -> io::Result<bool> {
-    Ok(reads(stream, wanted)? && is_at_end(stream)?)
-}
-
-// Whether a producer that ends the subject is answered.
-fn ends_subject(producer: &mut UnixStream) -> io::Result<bool> {
-    producer.write_all(b"END s\nQUIT\n")?;
-    reads(producer, b"OK\nOK\n")
+fn is_joined(rt: &impl Host, paths: &Paths, joined: &[u8]) -> bool {
+    let mut peer = Peer::subscribed(rt, paths);
+    peer.hears(joined);
+    peer.is_right()
 }
 
 // Whether the subject's end is told to one who joined late too.
 fn ends_beside_one_late(
     rt: &impl Host,
     paths: &Paths,
-    producer: &mut UnixStream,
-    reader: &mut UnixStream,
-) -> io::Result<bool> {
-    let mut late = subscribe(rt, paths)?;
-    let mut right = reads(&mut late, b"JOINED 2\n")?;
-    right &= ends_subject(producer)?;
-    right &= ends_with(reader, b"DONE\n")?;
-    right &= ends_with(&mut late, b"DONE\n")?;
-    Ok(right)
+    producer: &mut Peer,
+    reader: &mut Peer,
+) -> bool {
+    let mut late = Peer::subscribed(rt, paths);
+    late.hears(b"JOINED 2\n");
+    producer.sends(b"END s\nQUIT\n");
+    producer.hears(b"OK\nOK\n");
+    reader.hears_last(b"DONE\n");
+    late.hears_last(b"DONE\n");
+    late.is_right()
 }
 
 // A producer emits for a reader before and after another subscriber comes and closes.
-fn emits_beside_one_gone(
-    rt: &impl Host,
-    paths: &Paths,
-    reader: &mut UnixStream,
-) -> io::Result<bool> {
-    let mut producer = connect(rt, paths)?;
-    let mut right = emit_all(&mut producer, reader, ITEMS)?;
-    right &= is_joined(rt, paths, b"JOINED 1\n")?;
-    right &= emit_all(&mut producer, reader, ITEMS)?;
-    right &= ends_beside_one_late(rt, paths, &mut producer, reader)?;
-    Ok(right)
+fn emits_beside_one_gone(rt: &impl Host, paths: &Paths, reader: &mut Peer) -> bool {
+    let mut producer = Peer::connected(rt, paths);
+    emit_all(&mut producer, reader, ITEMS);
+    let joined = is_joined(rt, paths, b"JOINED 1\n");
+    emit_all(&mut producer, reader, ITEMS);
+    let ended = ends_beside_one_late(rt, paths, &mut producer, reader);
+    joined && ended && producer.is_right()
 }
 
 // One subscriber closes once it has joined. Its place is free again at the next item.
-fn talk_beside_one_gone(rt: &impl Host, paths: &Paths) -> io::Result<bool> {
-    let mut reader = subscribe(rt, paths)?;
-    let mut right = reads(&mut reader, b"JOINED 0\n")?;
-    right &= emits_beside_one_gone(rt, paths, &mut reader)?;
-    Ok(right)
+fn talk_beside_one_gone(rt: &impl Host, paths: &Paths) -> bool {
+    let mut reader = Peer::subscribed(rt, paths);
+    reader.hears(b"JOINED 0\n");
+    emits_beside_one_gone(rt, paths, &mut reader) && reader.is_right()
 }
 
 #[test]
@@ -146,63 +125,55 @@ fn peer_closes_early(rt: HostRuntime) -> Result<(), Fail> {
     let (told, right) = join(
         &rt,
         || -> Vec<u8> { serve(&rt, &EARLY) },
-        || -> io::Result<bool> { talk_beside_one_gone(&rt, &EARLY) },
+        || -> bool { talk_beside_one_gone(&rt, &EARLY) },
     );
     let wanted = "0 s joins 3 refused 0\n|rxline: listening on rxline-early.sock\n";
     expect_served(&rt, &EARLY, told.as_slice(), right, wanted)
 }
 
 // Whether a producer of two items is answered. It reads one byte of that and closes, which resets its connection.
-fn is_reset(rt: &impl Host, paths: &Paths) -> io::Result<bool> {
-    let mut peer = connect(rt, paths)?;
-    peer.write_all(b"PUB s a\nPUB s b\n")?;
-    reads(&mut peer, b"O")
+fn is_reset(rt: &impl Host, paths: &Paths) -> bool {
+    let mut peer = Peer::connected(rt, paths);
+    peer.sends(b"PUB s a\nPUB s b\n");
+    peer.hears(b"O");
+    peer.is_right()
 }
 
 // A producer and a subscriber close before they have read all, beside one who reads.
-fn reads_beside_resets(
-    rt: &impl Host,
-    paths: &Paths,
-    mut unread: UnixStream,
-    reader: &mut UnixStream,
-) -> io::Result<bool> {
-    let mut right = reads(reader, b"JOINED 1\n")?;
-    right &= is_reset(rt, paths)?;
-    right &= reads(reader, b"NEXT a\nNEXT b\n")?;
-    right &= reads(&mut unread, b"N")?;
-    Ok(right)
+fn reads_beside_resets(rt: &impl Host, paths: &Paths, unread: Peer, reader: &mut Peer) -> bool {
+    let mut unread = unread;
+    reader.hears(b"JOINED 1\n");
+    let reset = is_reset(rt, paths);
+    reader.hears(b"NEXT a\nNEXT b\n");
+    unread.hears(b"N");
+    reset && unread.is_right()
 }
 
 // Whether one who comes after them is served beside the one who reads, to the subject's end.
-fn is_served_to_the_end(
-    rt: &impl Host,
-    paths: &Paths,
-    reader: &mut UnixStream,
-) -> io::Result<bool> {
-    let mut late = subscribe(rt, paths)?;
-    let mut right = reads(&mut late, b"JOINED 2\n")?;
-    right &= is_answered(rt, paths, b"END s\nQUIT\n", b"OK\nOK\n")?;
-    right &= ends_with(reader, b"DONE\n")?;
-    right &= ends_with(&mut late, b"DONE\n")?;
-    Ok(right)
+fn is_served_to_the_end(rt: &impl Host, paths: &Paths, reader: &mut Peer) -> bool {
+    let mut late = Peer::subscribed(rt, paths);
+    late.hears(b"JOINED 2\n");
+    let answered = is_answered(rt, paths, b"END s\nQUIT\n", b"OK\nOK\n");
+    reader.hears_last(b"DONE\n");
+    late.hears_last(b"DONE\n");
+    answered && late.is_right()
 }
 
 // Whether one who reads is served while the unread one resets, and afterwards.
-fn is_served_beside(rt: &impl Host, paths: &Paths, unread: UnixStream) -> io::Result<bool> {
-    let mut reader = subscribe(rt, paths)?;
-    let mut right = reads_beside_resets(rt, paths, unread, &mut reader)?;
-    right &= is_answered(rt, paths, b"PUB s c\nQUIT\n", b"OK\nOK\n")?;
-    right &= reads(&mut reader, b"NEXT c\n")?;
-    right &= is_served_to_the_end(rt, paths, &mut reader)?;
-    Ok(right)
+fn is_served_beside(rt: &impl Host, paths: &Paths, unread: Peer) -> bool {
+    let mut reader = Peer::subscribed(rt, paths);
+    let reset = reads_beside_resets(rt, paths, unread, &mut reader);
+    let answered = is_answered(rt, paths, b"PUB s c\nQUIT\n", b"OK\nOK\n");
+    reader.hears(b"NEXT c\n");
+    let ended = is_served_to_the_end(rt, paths, &mut reader);
+    reset && answered && ended && reader.is_right()
 }
 
 // A producer and a subscriber close before they have read all. One worker serves the others after them.
-fn talk_beside_resets(rt: &impl Host, paths: &Paths) -> io::Result<bool> {
-    let mut unread = subscribe(rt, paths)?;
-    let mut right = reads(&mut unread, b"JOINED 0\n")?;
-    right &= is_served_beside(rt, paths, unread)?;
-    Ok(right)
+fn talk_beside_resets(rt: &impl Host, paths: &Paths) -> bool {
+    let mut unread = Peer::subscribed(rt, paths);
+    unread.hears(b"JOINED 0\n");
+    unread.is_right() && is_served_beside(rt, paths, unread)
 }
 
 #[test]
@@ -211,7 +182,7 @@ fn peers_that_reset(rt: HostRuntime) -> Result<(), Fail> {
     let (told, right) = join(
         &rt,
         || -> Vec<u8> { serve(&rt, &RESET) },
-        || -> io::Result<bool> { talk_beside_resets(&rt, &RESET) },
+        || -> bool { talk_beside_resets(&rt, &RESET) },
     );
     let wanted = "0 s joins 3 refused 0\n|rxline: listening on rxline-reset.sock\n";
     expect_served(&rt, &RESET, told.as_slice(), right, wanted)

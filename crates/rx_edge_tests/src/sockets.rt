@@ -5,6 +5,7 @@ use crate::programs::joined;
 use rx_program::{Host, run_words};
 use std::fs::{self, File};
 use std::io::{self, Read, Write};
+use std::net::Shutdown;
 use std::os::unix::net::UnixStream;
 use std::process::Abort;
 use std::test::Fail;
@@ -54,45 +55,104 @@ pub(crate) fn serve(rt: &impl Host, paths: &Paths) -> Vec<u8> {
 // How often a peer looks for the socket, 5 milliseconds apart.
 const LOOKS: u32 = 2_000;
 
-pub(crate) fn connect(rt: &impl Host, paths: &Paths) -> io::Result<UnixStream> {
+fn connect(rt: &impl Host, paths: &Paths) -> Option<UnixStream> {
     for _ in 0..LOOKS {
         if let Ok(stream) = UnixStream::connect(rt, paths.socket) {
-            return Ok(stream);
+            return Some(stream);
         }
         thread::sleep(rt, Duration::from_millis(5));
     }
-    UnixStream::connect(rt, paths.socket)
+    None
 }
 
 // Whether these bytes come next. Each read brings one of them at least.
-pub(crate) fn reads(stream: &mut UnixStream, wanted: &[u8]) -> io::Result<bool> {
+fn reads(stream: &mut UnixStream, wanted: &[u8]) -> bool {
     let mut block = [0; 64];
     let mut rest = wanted;
     for _ in 0..wanted.len() {
-        let most = rest.len().min(block.len());
-        if most == 0 {
-            return Ok(true);
+        // A read for no bytes would wait for some.
+        if rest.is_empty() {
+            break;
         }
-        let count = stream.read(&mut block[..most])?;
+        let most = rest.len().min(block.len());
+        let count = stream.read(&mut block[..most]).unwrap_or(0);
         if count == 0 || block[..count] != rest[..count] {
-            return Ok(false);
+            break;
         }
         rest = &rest[count..];
     }
-    Ok(rest.is_empty())
+    rest.is_empty()
 }
 
 // Whether nothing comes any more.
-pub(crate) fn is_at_end(stream: &mut UnixStream) -> io::Result<bool> {
+fn is_at_end(stream: &mut UnixStream) -> bool {
     let mut block = [0; 1];
-    Ok(stream.read(&mut block)? == 0)
+    stream.read(&mut block).is_ok_and(|count| count == 0)
 }
 
-// A peer that asks to be an observer's.
-pub(crate) fn subscribe(rt: &impl Host, paths: &Paths) -> io::Result<UnixStream> {
-    let mut stream = connect(rt, paths)?;
-    stream.write_all(b"SUB s BUFFER DELAY\n")?;
-    Ok(stream)
+/// A peer of a server, and whether all that it has sent and heard so far is right. One that found no socket is not.
+pub(crate) struct Peer {
+    stream: Option<UnixStream>,
+    is_right: bool,
+}
+
+// It stands here, and isn't derived, so that what lets go of a peer is one call that is proved once.
+impl Drop for Peer {
+    fn drop(self) {
+        let Peer {
+            stream: _,
+            is_right: _,
+        } = self;
+    }
+}
+
+impl Peer {
+    /// A peer with a connection of its own.
+    pub(crate) fn connected(rt: &impl Host, paths: &Paths) -> Peer {
+        let stream = connect(rt, paths);
+        let is_right = stream.is_some();
+        Peer { stream, is_right }
+    }
+
+    /// A peer that asks to be an observer's.
+    pub(crate) fn subscribed(rt: &impl Host, paths: &Paths) -> Peer {
+        let mut peer = Peer::connected(rt, paths);
+        peer.sends(b"SUB s BUFFER DELAY\n");
+        peer
+    }
+
+    pub(crate) fn sends(&mut self, bytes: &[u8]) {
+        if let Some(stream) = &mut self.stream {
+            self.is_right &= stream.write_all(bytes).is_ok();
+        }
+    }
+
+    /// It sends these bytes, and none after them.
+    pub(crate) fn sends_last(&mut self, bytes: &[u8]) {
+        self.sends(bytes);
+        if let Some(stream) = &mut self.stream {
+            self.is_right &= stream.shutdown(Shutdown::Write).is_ok();
+        }
+    }
+
+    /// These bytes are to come next.
+    pub(crate) fn hears(&mut self, wanted: &[u8]) {
+        if let Some(stream) = &mut self.stream {
+            self.is_right &= reads(stream, wanted);
+        }
+    }
+
+    /// These bytes are to come next, and then nothing any more.
+    pub(crate) fn hears_last(&mut self, wanted: &[u8]) {
+        self.hears(wanted);
+        if let Some(stream) = &mut self.stream {
+            self.is_right &= is_at_end(stream);
+        }
+    }
+
+    pub(crate) fn is_right(&self) -> bool {
+        self.is_right
+    }
 }
 
 // This is told of the server, and its peers had what they are to have. The files of the run are removed.
@@ -100,26 +160,26 @@ pub(crate) fn expect_served(
     rt: &(impl Host + Abort),
     paths: &Paths,
     told: &[u8],
-    right: io::Result<bool>,
+    right: bool,
     wanted: &str,
 ) -> Result<(), Fail> {
-    expect_that(rt, right?, paths.socket);
+    expect_that(rt, right, paths.socket);
     expect_told(rt, told, wanted, paths.socket);
     remove_files(rt, paths)?;
     Ok(())
 }
 
 // A subscriber and a producer, one after the other.
-fn talk(rt: &impl Host, paths: &Paths) -> io::Result<bool> {
-    let mut first = subscribe(rt, paths)?;
-    let mut right = reads(&mut first, b"JOINED 0\n")?;
-    let mut second = connect(rt, paths)?;
-    second.write_all(b"PUB s a\nEND s\n")?;
-    right &= reads(&mut second, b"OK\nOK\n")?;
-    right &= reads(&mut first, b"NEXT a\nDONE\n")? && is_at_end(&mut first)?;
-    second.write_all(b"QUIT\n")?;
-    right &= reads(&mut second, b"OK\n")?;
-    Ok(right)
+fn talk(rt: &impl Host, paths: &Paths) -> bool {
+    let mut first = Peer::subscribed(rt, paths);
+    first.hears(b"JOINED 0\n");
+    let mut second = Peer::connected(rt, paths);
+    second.sends(b"PUB s a\nEND s\n");
+    second.hears(b"OK\nOK\n");
+    first.hears_last(b"NEXT a\nDONE\n");
+    second.sends(b"QUIT\n");
+    second.hears(b"OK\n");
+    first.is_right() && second.is_right()
 }
 
 #[test]
@@ -128,7 +188,7 @@ fn socket_round_trip(rt: HostRuntime) -> Result<(), Fail> {
     let (told, right) = join(
         &rt,
         || -> Vec<u8> { serve(&rt, &ONE) },
-        || -> io::Result<bool> { talk(&rt, &ONE) },
+        || -> bool { talk(&rt, &ONE) },
     );
     let wanted = "0 s joins 1 refused 0\n|rxline: listening on rxline-one.sock\n";
     expect_served(&rt, &ONE, told.as_slice(), right, wanted)
@@ -143,33 +203,35 @@ const LINE: &[u8] =
 const NOTE: &[u8] =
     b"NEXT 0123456789012345678901234567890123456789012345678901234567890123456789\n";
 
-// So many items, each answered before the next, and read by the one who reads.
-pub(crate) fn emit_all(
-    producer: &mut UnixStream,
-    reader: &mut UnixStream,
-    items: u32,
-) -> io::Result<bool> {
+// So many items, each answered before the next, and read by the one who reads. None behind the first that is wrong.
+pub(crate) fn emit_all(producer: &mut Peer, reader: &mut Peer, items: u32) {
     for _ in 0..items {
-        producer.write_all(LINE)?;
-        if !reads(producer, b"OK\n")? || !reads(reader, NOTE)? {
-            return Ok(false);
+        producer.sends(LINE);
+        producer.hears(b"OK\n");
+        reader.hears(NOTE);
+        if !producer.is_right() || !reader.is_right() {
+            return;
         }
     }
-    Ok(true)
+}
+
+// A producer emits for one who reads.
+fn emits_beside_one_stopped(rt: &impl Host, paths: &Paths, reader: &mut Peer) -> bool {
+    let mut producer = Peer::connected(rt, paths);
+    emit_all(&mut producer, reader, ITEMS);
+    producer.sends(b"END s\nQUIT\n");
+    producer.hears(b"OK\nOK\n");
+    reader.hears_last(b"DONE\n");
+    producer.is_right() && reader.is_right()
 }
 
 // One subscriber never reads, another one does.
-fn talk_beside_one_stopped(rt: &impl Host, paths: &Paths) -> io::Result<bool> {
-    let mut stopped = subscribe(rt, paths)?;
-    let mut right = reads(&mut stopped, b"JOINED 0\n")?;
-    let mut reader = subscribe(rt, paths)?;
-    right &= reads(&mut reader, b"JOINED 1\n")?;
-    let mut producer = connect(rt, paths)?;
-    right &= emit_all(&mut producer, &mut reader, ITEMS)?;
-    producer.write_all(b"END s\nQUIT\n")?;
-    right &= reads(&mut producer, b"OK\nOK\n")?;
-    right &= reads(&mut reader, b"DONE\n")? && is_at_end(&mut reader)?;
-    Ok(right)
+fn talk_beside_one_stopped(rt: &impl Host, paths: &Paths) -> bool {
+    let mut stopped = Peer::subscribed(rt, paths);
+    stopped.hears(b"JOINED 0\n");
+    let mut reader = Peer::subscribed(rt, paths);
+    reader.hears(b"JOINED 1\n");
+    emits_beside_one_stopped(rt, paths, &mut reader) && stopped.is_right()
 }
 
 #[test]
@@ -178,7 +240,7 @@ fn one_who_never_reads(rt: HostRuntime) -> Result<(), Fail> {
     let (told, right) = join(
         &rt,
         || -> Vec<u8> { serve(&rt, &STOPPED) },
-        || -> io::Result<bool> { talk_beside_one_stopped(&rt, &STOPPED) },
+        || -> bool { talk_beside_one_stopped(&rt, &STOPPED) },
     );
     let wanted = "0 s joins 2 refused 0\n|rxline: listening on rxline-stopped.sock\n";
     expect_served(&rt, &STOPPED, told.as_slice(), right, wanted)

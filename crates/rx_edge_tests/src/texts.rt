@@ -1,6 +1,10 @@
-//! What the faults of a server say to a person.
+//! What the faults of a server and of the program say to a person.
 
-use rx_server::{CloseCause, CloseFault, Role, ServeFault, StartCause, StartFault};
+use crate::expecting::expect_told;
+use rx_program::{ProgramFault, tell};
+use rx_server::{
+    AcceptStop, CloseCause, CloseFault, ConfigError, Role, ServeFault, StartCause, StartFault,
+};
 use std::alloc::Global;
 use std::fmt::Display;
 use std::process::Abort;
@@ -17,27 +21,103 @@ fn expect_text(
     Ok(())
 }
 
-#[test]
-fn texts_of_a_servers_faults(rt: HostRuntime) -> Result<(), Fail> {
-    let alloc = rt.alloc();
+fn expect_serve_texts(rt: &impl Abort, alloc: Global) -> Result<(), Fail> {
     for (fault, text) in &[
         (ServeFault::NoDesk, "there is no desk to serve by"),
         (ServeFault::Accept, "no connection could be accepted"),
         (ServeFault::Thread(3), "worker 3 has no thread, or is gone"),
         (ServeFault::Memory, "out of memory"),
     ] {
-        expect_text(&rt, alloc, fault, text)?;
+        expect_text(rt, alloc, fault, text)?;
     }
-    let start = StartFault {
-        thread: Role::Drainer,
-        index: 2,
+    Ok(())
+}
+
+#[test]
+fn texts_of_a_servers_faults(rt: HostRuntime) -> Result<(), Fail> {
+    let alloc = rt.alloc();
+    expect_serve_texts(&rt, alloc)?;
+    let stop = AcceptStop::NoConnection;
+    expect_text(&rt, alloc, &stop, "no connection could be accepted")?;
+    let stop = AcceptStop::WorkerGone(2);
+    expect_text(&rt, alloc, &stop, "worker 2 is gone")?;
+    expect_text(
+        &rt,
+        alloc,
+        &start_fault(Role::Drainer, 2),
+        "cannot start drainer 2",
+    )?;
+    expect_text(
+        &rt,
+        alloc,
+        &close_fault(Role::Pump, 0),
+        "close fault: pump 0",
+    )
+}
+
+// The thread of this role and number was not started.
+fn start_fault(thread: Role, index: usize) -> StartFault {
+    StartFault {
+        thread,
+        index,
         cause: StartCause::NoThread,
-    };
-    expect_text(&rt, alloc, &start, "cannot start drainer 2")?;
-    let close = CloseFault {
-        thread: Role::Pump,
-        index: 0,
+    }
+}
+
+// The thread of this role and number ended by a fault.
+fn close_fault(thread: Role, index: usize) -> CloseFault {
+    CloseFault {
+        thread,
+        index,
         cause: CloseCause::Ended,
-    };
-    expect_text(&rt, alloc, &close, "close fault: pump 0")
+    }
+}
+
+// What is told of a fault, and the line of it.
+fn expect_line(
+    rt: &impl Abort,
+    alloc: Global,
+    fault: ProgramFault,
+    text: &str,
+) -> Result<(), Fail> {
+    expect_text(rt, alloc, &fault, text)?;
+    let mut told = Vec::new(alloc);
+    tell(fault, &mut told)?;
+    let line = format!(in alloc; "rxline: {text}\n")?;
+    expect_told(rt, told.as_slice(), line.as_str(), text);
+    Ok(())
+}
+
+#[test]
+fn texts_of_the_programs_faults(rt: HostRuntime) -> Result<(), Fail> {
+    let alloc = rt.alloc();
+    for (fault, text) in &[
+        (ProgramFault::NoConfig, "cannot read config"),
+        (
+            ProgramFault::Config(ConfigError::NoSubject),
+            "config: no subject",
+        ),
+        (
+            ProgramFault::Config(ConfigError::BadSubject(usize::MAX)),
+            "config: subject 18446744073709551615 is refused",
+        ),
+        (ProgramFault::Read, "read fault"),
+        (ProgramFault::Write, "write fault"),
+        (ProgramFault::TooManyReads, "too many reads"),
+        (ProgramFault::Memory, "out of memory"),
+        (ProgramFault::Listen, "cannot listen"),
+        (
+            ProgramFault::Start(start_fault(Role::Worker, 3)),
+            "cannot start worker 3",
+        ),
+        (ProgramFault::Accept, "accept fault"),
+        (ProgramFault::Serve, "serve fault"),
+        (
+            ProgramFault::Close(close_fault(Role::Drainer, 1)),
+            "close fault: drainer 1",
+        ),
+    ] {
+        expect_line(&rt, alloc, *fault, text)?;
+    }
+    Ok(())
 }

@@ -1,6 +1,6 @@
 -- What the program does: for the words of its command line, its exit status, what becomes of its streams, and what it
 -- tells on the standard error. The statuses and the lines of faults are this project's own.
-use Rattle.std.specs.Prelude.{◌≡◌, ◌≢◌, ◌⊎◌, ◌≤◌, ◌++◌, ℕ, List, codes, length, Option, Some, Result, Ok, Err, MatchOption, MatchResult, IsSome, option_map}
+use Rattle.std.specs.Prelude.{◌≡◌, ◌≢◌, ◌⊎◌, ◌≤◌, ◌++◌, ℕ, List, [], codes, length, Option, None, Some, Result, Ok, Err, MatchOption, MatchResult, IsSome, option_map}
 use Rattle.clap.specs.Words.{Text}
 use Rattle.clap.specs.declared.error.kind.ErrorKind.{ErrorKind}
 use Rattle.clap.specs.declared.error.kind.ErrorKind.TheVariants.{OutOfMemory}
@@ -44,6 +44,11 @@ fault_text (faults.Start fault) words = codes "cannot start " ++ words
 fault_text faults.Accept words = codes "accept fault"
 fault_text faults.Serve words = codes "serve fault"
 fault_text (faults.Close fault) words = codes "close fault: " ++ words
+
+-- the words of a cause stand behind those of its fault; one without a cause has no more words
+abbrev pub HasCause : {C : Type 0} → Option C → ProgramFault → Type 0
+HasCause (Some cause) fault = (words : List ℕ) → fault_text fault words ≡ fault_text fault [] ++ words
+HasCause None fault = (words : List ℕ) → fault_text fault words ≡ fault_text fault []
 
 -- the line of a fault
 abbrev pub fault_line : ProgramFault → List ℕ → List ℕ

@@ -6,6 +6,7 @@
 
 mod clocked;
 mod config_file;
+mod fault_cause;
 mod host;
 mod incoming;
 mod names;

@@ -1,4 +1,4 @@
-ghost use Rattle.std.specs.Prelude.{◌≡◌, ◌⊎◌, map};
+ghost use Rattle.std.specs.Prelude.{◌≡◌, map};
 ghost use Rattle.clap.specs.Words.{kind_of};
 ghost use Rattle.rx_program.specs.Programs.{Answers, Does, EndsWith, Program, ShowsHelp, done_of};
 

@@ -1,5 +1,11 @@
+ghost use Rattle.std.specs.Prelude.{◌≡◌, []};
+ghost use Rattle.rx_program.specs.Programs.{HasCause, fault_text};
+
+use crate::fault_cause::FaultCause;
 use rx_config::ConfigError;
 use rx_server::{CloseFault, StartFault};
+use std::error::Error;
+use std::fmt;
 
 /// Why the program gave up.
 #[derive(Clone, Copy, Debug, PartialEq, Eq)]
@@ -27,3 +33,55 @@ pub enum ProgramFault {
     /// A thread of the server ended by a fault.
     Close(CloseFault),
 }
+
+impl ProgramFault {
+    /// What is told of it, before its cause where it has one.
+    pub(crate) fn words(&self) -> &'static str
+        ensures { result.now ≡ fault_text self.now [] }
+    {
+        match self {
+            ProgramFault::NoConfig => "cannot read config",
+            ProgramFault::Config(_) => "config: ",
+            ProgramFault::Read => "read fault",
+            ProgramFault::Write => "write fault",
+            ProgramFault::TooManyReads => "too many reads",
+            ProgramFault::Memory => "out of memory",
+            ProgramFault::Listen => "cannot listen",
+            ProgramFault::Start(_) => "cannot start ",
+            ProgramFault::Accept => "accept fault",
+            ProgramFault::Serve => "serve fault",
+            ProgramFault::Close(_) => "close fault: ",
+        }
+    }
+
+    /// What is told behind its words.
+    pub(crate) fn cause(&self) -> Option<FaultCause>
+        ensures { HasCause result self.now }
+    {
+        match self {
+            ProgramFault::Config(cause) => Some(FaultCause::Config(*cause)),
+            ProgramFault::Start(fault) => Some(FaultCause::Thread(fault.thread, fault.index)),
+            ProgramFault::Close(fault) => Some(FaultCause::Thread(fault.thread, fault.index)),
+            ProgramFault::NoConfig
+            | ProgramFault::Read
+            | ProgramFault::Write
+            | ProgramFault::TooManyReads
+            | ProgramFault::Memory
+            | ProgramFault::Listen
+            | ProgramFault::Accept
+            | ProgramFault::Serve => None,
+        }
+    }
+}
+
+impl fmt::Display for ProgramFault {
+    fn fmt<W: fmt::Write>(&self, f: &mut fmt::Formatter<W>) -> fmt::Result {
+        f.write_str(self.words())?;
+        match self.cause() {
+            Some(cause) => cause.fmt(f),
+            None => Ok(()),
+        }
+    }
+}
+
+impl Error for ProgramFault {}

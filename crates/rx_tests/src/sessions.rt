@@ -10,7 +10,7 @@ use crate::heaps::unlimited;
 use rx_heap::Heap;
 use rx_note::{Note, Policy};
 use rx_proto::{Name, Response, Word};
-use rx_session::{Desk, Follow, LineReader, Next, SessionEnd, serve_lines};
+use rx_session::{Desk, Follow, LineReader, LineState, Next, SessionEnd, serve_lines};
 use rx_signs::Told;
 use std::io::{self, ErrorKind, Read, Write};
 
@@ -269,5 +269,70 @@ fn lines_are_told_however_reads_are_cut(rt: HostRuntime) {
         for told in [2, 1, 0, 3, 20_000, 20_000] {
             expect_count(&rt, told_next(&mut lines), told, "the next line");
         }
+    }
+}
+
+/// Gives what a peer writes: writes of one size, each of them a line and behind it what is left for the next one, so many
+/// bytes. A read gives no bytes of two writes.
+#[derive(Drop)]
+struct Writes {
+    size: usize,
+    left: usize,
+    // Of the write at hand so many bytes were given.
+    given: usize,
+    reads: u64,
+    // The least that a read was asked for.
+    least: usize,
+}
+
+impl Read for Writes {
+    fn read(&mut self, buf: &mut [u8]) -> io::Result<usize> {
+        self.reads = self.reads.saturating_add(1);
+        self.least = self.least.min(buf.len());
+        if self.given >= self.size {
+            self.given = 0;
+        }
+        let len = self.size.saturating_sub(self.given).min(buf.len());
+        let line = self.size.saturating_sub(self.left).saturating_sub(1);
+        buf[..len].fill(b'x');
+        if let Some(ahead) = line.checked_sub(self.given)
+            && let Some(end) = buf[..len].get_mut(ahead)
+        {
+            *end = b'\n';
+        }
+        self.given = self.given.saturating_add(len);
+        Ok(len)
+    }
+}
+
+fn writes_of(size: usize, left: usize) -> Writes {
+    Writes {
+        size,
+        left,
+        given: 0,
+        reads: 0,
+        least: usize::MAX,
+    }
+}
+
+// Before a read what is left of a line goes to the front of its block: up to 1,101 bytes, and none of a longer one. So writes
+// of nearly a block cost a read each.
+#[test]
+fn writes_cost_a_read_each(rt: HostRuntime) {
+    for (size, left, least) in [
+        (65_536, 0, 65_536),
+        (60_000, 0, 65_536),
+        (60_000, 1, 65_535),
+        (64_435, 1_101, 64_435),
+        (65_536, 1_102, 65_536),
+        (60_000, 30_000, 65_536),
+    ] {
+        let mut reader = writes_of(size, left);
+        let mut lines = LineState::new(99);
+        for _ in 0..40 {
+            lines.advance(&mut reader);
+        }
+        expect_count(&rt, reader.reads, 40, "40 writes");
+        expect_count(&rt, reader.least as u64, least, "what a read is asked for");
     }
 }

@@ -2,9 +2,11 @@
 ghost use Rattle.std.specs.Prelude.{◌<◌, ◌≡◌, vec_len};
 ghost use Rattle.rx_workers.specs.Accepting.{AcceptsAll, AcceptsNext};
 
-use crate::listener::Listener;
+use crate::listener::{AcceptFault, Listener};
 use rx_heap::Heap;
 use rx_mailbox::Port;
+use std::error::Error;
+use std::fmt;
 use std::sync::Wait;
 
 /// Why an acceptor stopped.
@@ -15,6 +17,17 @@ pub enum AcceptStop {
     /// The worker at this place, from 0, is gone. The connection that was for it is given up.
     WorkerGone(usize),
 }
+
+impl fmt::Display for AcceptStop {
+    fn fmt<W: fmt::Write>(&self, f: &mut fmt::Formatter<W>) -> fmt::Result {
+        match self {
+            AcceptStop::NoConnection => AcceptFault.fmt(f),
+            AcceptStop::WorkerGone(place) => write!(f, "worker {place} is gone"),
+        }
+    }
+}
+
+impl Error for AcceptStop {}
 
 /// Accepts so many connections, and sends each to its worker: connection i, from 0, to worker i modulo their number. `Err`
 /// where the listener fails or a worker is gone; those accepted before went to their workers.

@@ -1,3 +1,4 @@
+use crate::listener::AcceptFault;
 use std::error::Error;
 use std::fmt;
 
@@ -18,7 +19,7 @@ impl fmt::Display for ServeFault {
     fn fmt<W: fmt::Write>(&self, f: &mut fmt::Formatter<W>) -> fmt::Result {
         match self {
             ServeFault::NoDesk => f.write_str("there is no desk to serve by"),
-            ServeFault::Accept => f.write_str("no connection could be accepted"),
+            ServeFault::Accept => AcceptFault.fmt(f),
             ServeFault::Thread(place) => write!(f, "worker {place} has no thread, or is gone"),
             ServeFault::Memory => f.write_str("out of memory"),
         }
