@@ -13,6 +13,8 @@ mod programs;
 #[cfg(test)]
 mod servers;
 #[cfg(test)]
+mod slow_peers;
+#[cfg(test)]
 mod sockets;
 #[cfg(test)]
 mod texts;

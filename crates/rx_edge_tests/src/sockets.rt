@@ -142,6 +142,13 @@ impl Peer {
         }
     }
 
+    /// As many bytes are to come next as fill this block.
+    pub(crate) fn fills(&mut self, block: &mut [u8]) {
+        if let Some(stream) = &mut self.stream {
+            self.is_right &= stream.read_exact(block).is_ok();
+        }
+    }
+
     /// These bytes are to come next, and then nothing any more.
     pub(crate) fn hears_last(&mut self, wanted: &[u8]) {
         self.hears(wanted);
