@@ -34,10 +34,10 @@ abbrev pub subject_of_config : SubjectConfig → Subject
 subject_of_config config = record { name = config.name; rules = config.rules }
 
 abbrev pub settings_of : Config → Settings
-settings_of config = record { subjects = map subject_of_config config.subjects.items; pool = record { drainers = config.drainers; workers = config.workers; window = config.window; connections = config.connections } }
+settings_of config = record { subjects = map subject_of_config config.subjects.items; pool = record { drainers = config.drainers; workers = config.workers; window = config.window; connections = config.connections; stall = config.stall } }
 
 abbrev pub standard_pool : Pool
-standard_pool = record { drainers = 1; workers = 4; window = 16; connections = 4294967295 }
+standard_pool = record { drainers = 1; workers = 4; window = 16; connections = 4294967295; stall = 60 }
 
 -- one Publish subject `s`, with the greatest limits
 abbrev pub standard_settings : Settings
@@ -87,9 +87,10 @@ bound_at key most members = bound_or most (get_member key members)
 
 -- THE POOL
 
-abbrev pub pool_with : Option ℕ → Option ℕ → Option ℕ → Option ℕ → Option Pool
-pool_with (Some drainers) (Some workers) (Some window) (Some connections) = Some (record { drainers = drainers; workers = workers; window = window; connections = connections })
-pool_with _ _ _ _ = None
+abbrev pub pool_with : Option ℕ → Option ℕ → Option ℕ → Option ℕ → Option ℕ → Option Pool
+pool_with (Some drainers) (Some workers) (Some window) (Some connections) (Some stall) =
+    Some (record { drainers = drainers; workers = workers; window = window; connections = connections; stall = stall })
+pool_with _ _ _ _ _ = None
 
 -- the numbers are in their ranges
 pub record IsInRange (pool : Pool) : Type 0 where
@@ -97,14 +98,16 @@ pub record IsInRange (pool : Pool) : Type 0 where
   pub workers : (1 ≤ pool.workers) × (pool.workers ≤ 32)
   pub window : (1 ≤ pool.window) × (pool.window ≤ 16)
   pub connections : 1 ≤ pool.connections
+  pub stall : (1 ≤ pool.stall) × (pool.stall ≤ 3600)
 
 abbrev pub pool_keys : List (List ℕ)
-pool_keys = codes "drainers" ∷ codes "workers" ∷ codes "window" ∷ codes "connections" ∷ []
+pool_keys = codes "drainers" ∷ codes "workers" ∷ codes "window" ∷ codes "connections" ∷ codes "stall" ∷ []
 
 abbrev pub pool_in : Members → Option Pool
 pool_in members =
     if has_only pool_keys members
     then pool_with (number_at (codes "drainers") 8 1 members) (number_at (codes "workers") 32 4 members) (number_at (codes "window") 16 16 members) (number_at (codes "connections") 4294967295 4294967295 members)
+    (number_at (codes "stall") 3600 60 members)
     else None
 
 -- the pool, which may be missing

@@ -18,11 +18,14 @@ pub struct Config {
     pub window: u8,
     /// How many connections are served, 1 to 4,294,967,295.
     pub connections: u32,
+    /// How long a peer may take no byte while some wait for it, 1 to 3,600 seconds.
+    pub stall: u16,
     ghost subjects_in_range: { (1 ≤ vec_len subjects) × (vec_len subjects ≤ 16) },
     ghost drainers_in_range: { (1 ≤ drainers) × (drainers ≤ 8) },
     ghost workers_in_range: { (1 ≤ workers) × (workers ≤ 32) },
     ghost window_in_range: { (1 ≤ window) × (window ≤ 16) },
     ghost some_connections: { 1 ≤ connections },
+    ghost stall_in_range: { (1 ≤ stall) × (stall ≤ 3600) },
 }
 
 impl Config {
@@ -54,6 +57,7 @@ impl Config {
             workers: 4,
             window: 16,
             connections: u32::MAX,
+            stall: 60,
         })
     }
 }

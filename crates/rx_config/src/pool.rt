@@ -11,6 +11,7 @@ pub(crate) struct Pool {
     pub(crate) workers: u8,
     pub(crate) window: u8,
     pub(crate) connections: u32,
+    pub(crate) stall: u16,
 }
 
 impl Pool {
@@ -27,6 +28,7 @@ impl Pool {
             workers: 4,
             window: 16,
             connections: u32::MAX,
+            stall: 60,
         }
     }
 
@@ -49,18 +51,23 @@ impl Pool {
         ensures pool { result ≡ pool_in (table_view table.now) }
         ensures in_range { IfSome result IsInRange }
     {
-        if !has_only(table, &["drainers", "workers", "window", "connections"]) {
+        if !has_only(
+            table,
+            &["drainers", "workers", "window", "connections", "stall"],
+        ) {
             return None;
         }
         let drainers = number_at(table, "drainers", 8, 1)?;
         let workers = number_at(table, "workers", 32, 4)?;
         let window = number_at(table, "window", 16, 16)?;
         let connections = number_at(table, "connections", u32::MAX, u32::MAX)?;
+        let stall = number_at(table, "stall", 3_600, 60)?;
         Some(Pool {
             drainers: drainers as u8,
             workers: workers as u8,
             window: window as u8,
             connections,
+            stall: stall as u16,
         })
     }
 }

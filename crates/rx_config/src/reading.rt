@@ -49,6 +49,7 @@ fn config_in(alloc: Heap, table: &Table) -> Result<Config, ConfigError>
             workers: pool.workers,
             window: pool.window,
             connections: pool.connections,
+            stall: pool.stall,
         }),
     }
 }

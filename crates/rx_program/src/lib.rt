@@ -23,7 +23,7 @@ mod words;
 pub use clocked::Clocked;
 pub use host::Host;
 pub use incoming::Incoming;
-pub use outgoing::{MAX_STALL, MOST_WAITING, Outgoing};
+pub use outgoing::{MOST_WAITING, Outgoing};
 pub use program::run_words;
 pub use program_fault::ProgramFault;
 pub use serving::serve_on;

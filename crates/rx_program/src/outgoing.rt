@@ -10,9 +10,6 @@ pub const MOST_WAITING: usize = 66_970;
 /// From so many bytes on, what is written goes out at once where nothing waits before it.
 const BLOCK: usize = 4_096;
 
-/// How long a peer may take no byte while some wait for it, in seconds: past it a flush has failed.
-pub const MAX_STALL: u64 = 60;
-
 // How long the last bytes wait for a peer once nobody writes any more, in milliseconds.
 const LAST_WAIT: u64 = 20;
 
@@ -21,12 +18,14 @@ const MOST_WRITES: u32 = 1_000;
 
 /// The half of a connection that is written. What is written waits until it is flushed, so that many lines go out by one
 /// write; a flush sends as much of it as the socket takes. Where that is not all it is `WouldBlock`, and the rest waits: a
-/// further flush goes on with it. Once the peer took no byte for a minute a flush is `TimedOut`.
+/// further flush goes on with it. Once the peer took no byte for too long a flush is `TimedOut`.
 pub struct Outgoing<C: Clock + Drop> {
     stream: UnixStream,
     clock: C,
     waiting: Vec<u8, Heap>,
-    // Since when the socket has taken no byte, by the clock.
+    // How long the peer may take no byte while some wait for it.
+    stall: Duration,
+    // Since when it has taken none, by the clock.
     stuck_since: Option<Duration>,
 }
 
@@ -37,6 +36,7 @@ impl<C: Clock + Drop> Drop for Outgoing<C> {
             mut stream,
             clock: _,
             waiting,
+            stall: _,
             stuck_since: _,
         } = self;
         if waiting.is_empty() {
@@ -50,12 +50,14 @@ impl<C: Clock + Drop> Drop for Outgoing<C> {
 }
 
 impl<C: Clock + Drop> Outgoing<C> {
-    /// The writing half of a connection. What waits takes this memory.
-    pub fn new(stream: UnixStream, clock: C, alloc: Heap) -> Outgoing<C> {
+    /// The writing half of a connection. What waits takes this memory. A flush has failed once the peer took no byte for so
+    /// long while some waited for it.
+    pub fn new(stream: UnixStream, clock: C, alloc: Heap, stall: Duration) -> Outgoing<C> {
         Outgoing {
             stream,
             clock,
             waiting: Vec::new(alloc),
+            stall,
             stuck_since: None,
         }
     }
@@ -90,7 +92,7 @@ impl<C: Clock + Drop> Outgoing<C> {
             _ => now,
         };
         self.stuck_since = Some(since);
-        if now.saturating_sub(since) >= Duration::from_secs(MAX_STALL) {
+        if now.saturating_sub(since) >= self.stall {
             io::Error::from(ErrorKind::TimedOut)
         } else {
             io::Error::from(ErrorKind::WouldBlock)

@@ -14,6 +14,7 @@ use rx_proto::Name;
 use rx_server::{CloseFault, Report, ServeFault, SubjectReport, start};
 use rx_sink::{LineRest, LineSink};
 use std::io::Write;
+use std::time::Duration;
 
 /// Serves a configuration on a new Unix socket of this path, until as many connections have ended as it says. Once it listens
 /// it tells so on `faults`; at the end it writes the report, one line a subject, also after a fault of serving.
@@ -38,7 +39,8 @@ pub fn serve_on<F: Host, W: Write, E: Write>(
     let Ok(own) = heap.clone() else {
         return Err(ProgramFault::Memory);
     };
-    let site = Site::at(rt, heap, path)?;
+    let stall = Duration::from_secs(u64::from(config.stall));
+    let site = Site::at(rt, heap, path, stall)?;
     match start::<LineSink<Outgoing<F>>, F>(rt, own, config) {
         Ok(server) => {
             let _ = writeln!(faults, "rxline: listening on {path}");

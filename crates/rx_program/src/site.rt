@@ -10,6 +10,7 @@ use rx_heap::Heap;
 use rx_server::{CloseFault, Report, ServeFault, Server};
 use rx_sink::{LineRest, LineSink};
 use std::os::unix::net::UnixListener;
+use std::time::Duration;
 
 /// What a server is served by: the socket that it listens on, the clock of its moments, and the memory for what its desks leave.
 pub struct Site<F: Host> {
@@ -30,8 +31,9 @@ impl<F: Host> Drop for Site<F> {
 }
 
 impl<F: Host> Site<F> {
-    /// A new Unix socket of this path. Refused by `Memory` before `Listen`.
-    pub fn at(rt: &F, heap: &Heap, path: &str) -> Result<Site<F>, ProgramFault>
+    /// A new Unix socket of this path, whose peers may take no byte for so long while some wait. Refused by `Memory` before
+    /// `Listen`.
+    pub fn at(rt: &F, heap: &Heap, path: &str, stall: Duration) -> Result<Site<F>, ProgramFault>
         ensures { MatchResult result (λ _. Unit {0}) MayServe }
     {
         let Ok(clock) = rt.clone() else {
@@ -48,7 +50,7 @@ impl<F: Host> Site<F> {
         };
         match UnixListener::bind(rt, path) {
             Ok(listener) => Ok(Site {
-                socket: Socket::new(listener, own_clock, own_heap),
+                socket: Socket::new(listener, own_clock, own_heap, stall),
                 clock,
                 heap,
             }),

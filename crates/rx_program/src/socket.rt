@@ -17,6 +17,7 @@ pub struct Socket<C: Clock + Clone + Drop + Send + 'static> {
     listener: UnixListener,
     clock: C,
     heap: Heap,
+    stall: Duration,
 }
 
 // It stands here, and isn't derived, so that what lets go of a socket is one call that is proved once.
@@ -26,17 +27,19 @@ impl<C: Clock + Clone + Drop + Send + 'static> Drop for Socket<C> {
             listener: _,
             clock: _,
             heap: _,
+            stall: _,
         } = self;
     }
 }
 
 impl<C: Clock + Clone + Drop + Send + 'static> Socket<C> {
-    /// The connections that come to this listener.
-    pub fn new(listener: UnixListener, clock: C, heap: Heap) -> Socket<C> {
+    /// The connections that come to this listener. A peer is given up once it took no byte for so long while some waited.
+    pub fn new(listener: UnixListener, clock: C, heap: Heap, stall: Duration) -> Socket<C> {
         Socket {
             listener,
             clock,
             heap,
+            stall,
         }
     }
 
@@ -52,7 +55,10 @@ impl<C: Clock + Clone + Drop + Send + 'static> Socket<C> {
             return Err(AcceptFault);
         };
         match stream.try_clone() {
-            Ok(reader) => Ok((Incoming::new(reader), Outgoing::new(stream, clock, heap))),
+            Ok(reader) => {
+                let writer = Outgoing::new(stream, clock, heap, self.stall);
+                Ok((Incoming::new(reader), writer))
+            }
             Err(_) => Err(AcceptFault),
         }
     }
