@@ -7,7 +7,7 @@ use std::{hint, thread};
 
 // How often who waits looks again at once, and then after letting other threads go first, before it sleeps. A sleep and
 // a wake cost more than all these looks, and what is waited for mostly comes meanwhile.
-const PAUSES: u32 = 200;
+const PAUSES: u32 = 40;
 
 const YIELDS: u32 = 30;
 

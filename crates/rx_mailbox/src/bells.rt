@@ -7,7 +7,8 @@ use std::sync::Arc;
 pub(crate) struct Bells {
     /// Its inbox waits here for a letter.
     pub(crate) letter: Bell,
-    /// Its ports wait here for room.
+    /// Its ports wait here for room. One may sleep by the flag that another set after the ring: that one either puts a
+    /// letter, and who takes it rings again, or finds the inbox gone, and rings itself.
     pub(crate) room: Bell,
 }
 

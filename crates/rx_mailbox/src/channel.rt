@@ -43,6 +43,8 @@ pub fn put<B: Drop, R: Wait>(
             Ok(()) => return Ok(()),
             Err(TrySendError::Full(back)) => letter = back,
             Err(error) => {
+                // The inbox may have rung for the last time before this port set the flag by which another sleeps.
+                bells.room.ring();
                 let Letter { from: _, post } = error.into_inner();
                 return Err(post);
             }

@@ -8,8 +8,8 @@ ghost use Rattle.rx_thread_tests.specs.Wiring.{IsTwo};
 use crate::expecting::{expect_count, expect_text, expect_that, expect_words};
 use rx_heap::{Heap, Memory};
 use rx_mailbox::{
-    EndedPort, Gone, Inbox, MAX_CAPACITY, MAX_PORTS, OpenError, Port, Post, SettleCause, open,
-    settle,
+    EndedPort, Gone, Inbox, MAX_CAPACITY, MAX_PORTS, OpenError, Port, Post, SettleCause,
+    TryRecvFault, open, settle,
 };
 use rx_signs::{Refusable, Seen, refuse_in_turn};
 use std::alloc::Global;
@@ -327,6 +327,13 @@ fn expect_texts(rt: &impl Abort, alloc: Global) -> Result<(), Fail> {
     expect_text(rt, alloc, &OpenError::BadSize, sizes)?;
     expect_text(rt, alloc, &OpenError::Memory, "out of memory")?;
     expect_text(rt, alloc, &Gone, "no letter will come any more")?;
+    expect_text(rt, alloc, &TryRecvFault::Empty, "there is no letter yet")?;
+    expect_text(
+        rt,
+        alloc,
+        &TryRecvFault::Gone,
+        "no letter will come any more",
+    )?;
     expect_text(rt, alloc, &Memory, "out of memory")
 }
 
@@ -407,12 +414,35 @@ fn send_and_leave(rt: &(impl Wait + Abort), first: Port<u32>, second: Port<u32>)
     drop(finish(rt, second));
 }
 
+// No letter is taken without a wait, for this fault.
+fn is_refused(rt: &impl Wait, inbox: &mut Inbox<u32>, fault: TryRecvFault) -> bool {
+    inbox.try_recv(rt) == Err(fault)
+}
+
+// A letter with this body is taken without a wait.
+fn takes(rt: &impl Wait, inbox: &mut Inbox<u32>, body: u32) -> bool {
+    match inbox.try_recv(rt) {
+        Ok(letter) => letter.post == Post::Body(body),
+        Err(_) => false,
+    }
+}
+
 fn receive_from_none(rt: &(impl Wait + Abort), alloc: &Heap) {
     let (mut inbox, first, second) = two::<u32>(rt, copy(rt, alloc), 8);
+    expect_that(
+        rt,
+        is_refused(rt, &mut inbox, TryRecvFault::Empty),
+        "no letter yet",
+    );
     send_and_leave(rt, first, second);
-    receive(rt, &mut inbox, 0, Post::Body(7));
+    expect_that(rt, takes(rt, &mut inbox, 7), "the body at once");
     receive(rt, &mut inbox, 1, Post::Bye);
     expect_that(rt, inbox.recv(rt) == Err(Gone), "no letter will come");
+    expect_that(
+        rt,
+        is_refused(rt, &mut inbox, TryRecvFault::Gone),
+        "no letter will come",
+    );
 }
 
 #[test]

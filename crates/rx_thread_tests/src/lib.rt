@@ -25,3 +25,5 @@ mod shared_budget;
 mod texts;
 #[cfg(test)]
 mod two_threads;
+#[cfg(test)]
+mod wakes;
