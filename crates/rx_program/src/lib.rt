@@ -1,11 +1,12 @@
 //! The program `rxline` as a library: its command line, its faults, and a configuration served on a Unix socket.
 //!
 //! [`read_words`] says what a command line asks for (`specs/CommandLines.antt`), and [`run_words`] is the program over any
-//! streams (`specs/Programs.antt`). It runs and audits scripts by `rx_script`; [`serve_on`] serves by `rx_server`.
+//! streams (`specs/Programs.antt`). It runs and audits scripts by `rx_script`, and serves by `rx_server`.
 #![tactic(auto)]
 
 mod clocked;
 mod config_file;
+mod ended;
 mod fault_cause;
 mod host;
 mod incoming;
@@ -20,14 +21,12 @@ mod task;
 mod telling;
 mod words;
 
-pub use clocked::Clocked;
 pub use host::Host;
 pub use incoming::Incoming;
 pub use outgoing::{MOST_WAITING, Outgoing};
 pub use program::run_words;
 pub use program_fault::ProgramFault;
-pub use serving::serve_on;
-pub use socket::{MAX_WAIT, Socket};
+pub use socket::Socket;
 pub use task::Task;
 pub use telling::tell;
 pub use words::read_words;

@@ -4,15 +4,14 @@ ghost use Rattle.rx_program.specs.Programs.{MayServe};
 
 use crate::host::Host;
 use crate::names::Names;
-use crate::outgoing::Outgoing;
 use crate::program_fault::ProgramFault;
 use crate::site::Site;
 use crate::telling::tell;
 use rx_config::Config;
 use rx_heap::Heap;
 use rx_proto::Name;
-use rx_server::{CloseFault, Report, ServeFault, SubjectReport, start};
-use rx_sink::{LineRest, LineSink};
+use rx_server::{CloseFault, Report, ServeFault, SubjectReport};
+use rx_sink::LineRest;
 use std::io::Write;
 use std::time::Duration;
 
@@ -36,37 +35,29 @@ pub fn serve_on<F: Host, W: Write, E: Write>(
     let Ok(names) = Names::of(heap, &config) else {
         return Err(ProgramFault::Memory);
     };
-    let Ok(own) = heap.clone() else {
-        return Err(ProgramFault::Memory);
-    };
     let stall = Duration::from_secs(u64::from(config.stall));
     let site = Site::at(rt, heap, path, stall)?;
-    match start::<LineSink<Outgoing<F>>, F>(rt, own, config) {
-        Ok(server) => {
-            let _ = writeln!(faults, "rxline: listening on {path}");
-            let (served, closed) = site.serve(rt, server);
-            ended(served, told(&names, closed, writer), faults)
-        }
-        Err(fault) => Err(ProgramFault::Start(fault)),
-    }
+    let ended = site.serve(rt, config, path, faults)?;
+    let reported = told(&names, &ended.closed, writer);
+    end_of(ended.served, reported, faults)
 }
 
 // Tells the report of a server that was closed, or why there is none.
 fn told<W: Write>(
     names: &Names,
-    closed: Result<Report<LineRest>, CloseFault>,
+    closed: &Result<Report<LineRest>, CloseFault>,
     writer: &mut W,
 ) -> Result<(), ProgramFault>
     ensures { MatchResult result (λ _. Unit {0}) MayServe }
 {
     match closed {
-        Ok(report) => write_report(names.as_slice(), &report, writer),
-        Err(fault) => Err(ProgramFault::Close(fault)),
+        Ok(report) => write_report(names.as_slice(), report, writer),
+        Err(fault) => Err(ProgramFault::Close(*fault)),
     }
 }
 
 // How it ended, by how serving and closing did. Where both had a fault, the first is told here.
-fn ended<E: Write>(
+fn end_of<E: Write>(
     served: Result<(), ServeFault>,
     closed: Result<(), ProgramFault>,
     faults: &mut E,

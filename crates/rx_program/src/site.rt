@@ -2,21 +2,26 @@ ghost use Rattle.std.specs.Prelude.{MatchResult};
 ghost use Rattle.rx_program.specs.Programs.{MayServe};
 
 use crate::clocked::Clocked;
+use crate::ended::Ended;
 use crate::host::Host;
 use crate::outgoing::Outgoing;
 use crate::program_fault::ProgramFault;
 use crate::socket::Socket;
+use rx_config::Config;
 use rx_heap::Heap;
-use rx_server::{CloseFault, Report, ServeFault, Server};
-use rx_sink::{LineRest, LineSink};
+use rx_server::start;
+use rx_sink::LineSink;
+use std::io::Write;
 use std::os::unix::net::UnixListener;
 use std::time::Duration;
 
-/// What a server is served by: the socket that it listens on, the clock of its moments, and the memory for what its desks leave.
+/// What a server is served by: the socket that it listens on, the clock of its moments, the memory for what its desks leave,
+/// and its own memory.
 pub struct Site<F: Host> {
     socket: Socket<F>,
     clock: F,
     heap: Heap,
+    own: Heap,
 }
 
 // It stands here, and isn't derived, so that what lets go of a site is one call that is proved once.
@@ -26,6 +31,7 @@ impl<F: Host> Drop for Site<F> {
             socket: _,
             clock: _,
             heap: _,
+            own: _,
         } = self;
     }
 }
@@ -42,7 +48,10 @@ impl<F: Host> Site<F> {
         let Ok(own_clock) = rt.clone() else {
             return Err(ProgramFault::Memory);
         };
-        let Ok(own_heap) = heap.clone() else {
+        let Ok(own) = heap.clone() else {
+            return Err(ProgramFault::Memory);
+        };
+        let Ok(waiting) = heap.clone() else {
             return Err(ProgramFault::Memory);
         };
         let Ok(heap) = heap.clone() else {
@@ -50,27 +59,43 @@ impl<F: Host> Site<F> {
         };
         match UnixListener::bind(rt, path) {
             Ok(listener) => Ok(Site {
-                socket: Socket::new(listener, own_clock, own_heap, stall),
+                socket: Socket::new(listener, own_clock, waiting, stall),
                 clock,
                 heap,
+                own,
             }),
             Err(_) => Err(ProgramFault::Listen),
         }
     }
 
-    /// Serves the connections that come, and closes the server. It answers what either did.
-    pub fn serve(
+    /// Starts the server of a configuration, tells on `faults` that it listens at this path, serves the connections that come,
+    /// and closes it. `Start`: it did not start.
+    // All that a server of this sink does is done here: the types of its threads are looked through in each function that has
+    // one.
+    pub fn serve<E: Write>(
         self,
         rt: &F,
-        server: Server<LineSink<Outgoing<F>>>,
-    ) -> (Result<(), ServeFault>, Result<Report<LineRest>, CloseFault>) {
+        config: Config,
+        path: &str,
+        faults: &mut E,
+    ) -> Result<Ended, ProgramFault>
+        ensures { MatchResult result (λ _. Unit {0}) MayServe }
+    {
         let Site {
             mut socket,
             clock,
             heap,
+            own,
         } = self;
-        let mut server = server;
+        let mut server = match start::<LineSink<Outgoing<F>>, F>(rt, own, config) {
+            Ok(server) => server,
+            Err(fault) => return Err(ProgramFault::Start(fault)),
+        };
+        let _ = writeln!(faults, "rxline: listening on {path}");
         let served = server.serve(rt, &mut socket, Clocked::new(clock));
-        (served, server.close(rt, Vec::new(heap)))
+        Ok(Ended {
+            served,
+            closed: server.close(rt, Vec::new(heap)),
+        })
     }
 }
