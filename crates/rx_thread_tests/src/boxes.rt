@@ -16,6 +16,7 @@ use std::alloc::Global;
 use std::process::Abort;
 use std::sync::Wait;
 use std::test::Fail;
+use std::time::Duration;
 
 // A body that a box is tried with.
 trait Sample: Drop + PartialEq {
@@ -414,14 +415,15 @@ fn send_and_leave(rt: &(impl Wait + Abort), first: Port<u32>, second: Port<u32>)
     drop(finish(rt, second));
 }
 
-// No letter is taken without a wait, for this fault.
+// No letter is taken without a wait, nor by one of a millisecond, for this fault.
 fn is_refused(rt: &impl Wait, inbox: &mut Inbox<u32>, fault: TryRecvFault) -> bool {
     inbox.try_recv(rt) == Err(fault)
+        && inbox.recv_within(rt, Duration::from_millis(1)) == Err(fault)
 }
 
-// A letter with this body is taken without a wait.
+// A letter with this body is taken without a wait to speak of.
 fn takes(rt: &impl Wait, inbox: &mut Inbox<u32>, body: u32) -> bool {
-    match inbox.try_recv(rt) {
+    match inbox.recv_within(rt, Duration::from_millis(1)) {
         Ok(letter) => letter.post == Post::Body(body),
         Err(_) => false,
     }

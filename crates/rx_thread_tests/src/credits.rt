@@ -385,7 +385,12 @@ impl Drawn {
     // All went out, and was paid.
     fn expect_all(&self, rt: &(impl Wait + Abort), bench: Bench) {
         expect_count(rt, self.first.paid, self.first.given, "paid of the first");
-        expect_count(rt, self.second.paid, self.second.given, "paid of the second");
+        expect_count(
+            rt,
+            self.second.paid,
+            self.second.given,
+            "paid of the second",
+        );
         let ended = end_of(rt, bench);
         expect_told(rt, ended.calls.as_bytes(), "d0d1.", "at the end");
         let mut wanted = Told::new();
