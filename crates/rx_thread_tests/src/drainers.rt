@@ -9,7 +9,8 @@ ghost use Rattle.std.specs.Prelude.{◌≡◌, []};
 use crate::boxes::{copy, finish, first_of_two, send, two, unlimited};
 use crate::expecting::{expect_count, expect_that, expect_told, expect_words};
 use rx_drain::{
-    DrainEnd, Drainer, LineSink, MemorySink, PutAway, RunningDrainer, Sink, start_drainer,
+    DrainEnd, Drainer, Flow, LineSink, MemorySink, PutAway, RunningDrainer, Sink, SinkFault,
+    start_drainer,
 };
 use rx_heap::Heap;
 use rx_mailbox::{Inbox, Port, Post};
@@ -17,7 +18,7 @@ use rx_note::{Event, Note};
 use rx_pump::{Call, Out};
 use rx_signs::{Meeting, Refusable, Seen, Tale, Told, note_of, refuse_in_turn};
 use std::alloc::Global;
-use std::io::{self, Write};
+use std::io::{self, ErrorKind, Write};
 use std::process::Abort;
 use std::sync::atomic::AtomicU64;
 use std::sync::{Arc, Wait};
@@ -83,6 +84,75 @@ fn line_sink(rt: HostRuntime) {
         ("", "JOINED 3\n|10-"),
     ] {
         let told = told_of_lines(&rt, &heap, signs.as_bytes());
+        expect_told(&rt, told.as_bytes(), wanted, signs);
+    }
+}
+
+/// Has nothing go out for so many flushes, each of which would have to wait.
+#[derive(Drop)]
+struct Dam {
+    closed_for: u64,
+}
+
+impl Write for Dam {
+    fn write(&mut self, buf: &[u8]) -> io::Result<usize> {
+        Ok(buf.len())
+    }
+
+    fn flush(&mut self) -> io::Result<()> {
+        if self.closed_for > 0 {
+            self.closed_for = self.closed_for.saturating_sub(1);
+            return Err(io::Error::from(ErrorKind::WouldBlock));
+        }
+        Ok(())
+    }
+}
+
+// How the sink stands: `c` for clear, `r` for ready, `s` for stuck, `!` at a fault.
+fn sign_of_flow(flow: Result<Flow, SinkFault>) -> u8 {
+    match flow {
+        Ok(Flow::Clear) => b'c',
+        Ok(Flow::Ready) => b'r',
+        Ok(Flow::Stuck) => b's',
+        Err(SinkFault) => b'!',
+    }
+}
+
+// What a sink that took so many notes answers then: to a flush at an `f`, and else to the note of a sign.
+fn told_flows(rt: &impl Abort, heap: &Heap, sink: LineSink<Dam>, taken: u32, signs: &[u8]) -> Told {
+    let mut sink = sink;
+    for _ in 0..taken {
+        let _ = sink.take(note(rt, heap, b'a'));
+    }
+    let mut told = Told::new();
+    for sign in signs {
+        let flow = match *sign {
+            b'f' => sink.flush(),
+            sign => sink.take(note(rt, heap, sign)),
+        };
+        told.put(sign_of_flow(flow));
+    }
+    told
+}
+
+// Nothing waits where the writer doesn't gather. Where it does, 48 notes are taken ahead of what went out, unless it is stuck.
+#[test]
+fn a_line_sink_tells_what_waits(rt: HostRuntime) {
+    let heap = unlimited(&rt);
+    for (gathers, closed_for, taken, signs, wanted) in [
+        (false, 0, 0, "af", "cc"),
+        (false, 1, 0, "af", "c!"),
+        (true, 0, 0, "afa", "rcr"),
+        (true, 1, 0, "afafa", "rsscr"),
+        (true, 0, 47, "aafa", "rscr"),
+    ] {
+        let dam = Dam { closed_for };
+        let sink = if gathers {
+            LineSink::gathering(dam)
+        } else {
+            LineSink::new(dam)
+        };
+        let told = told_flows(&rt, &heap, sink, taken, signs.as_bytes());
         expect_told(&rt, told.as_bytes(), wanted, signs);
     }
 }
