@@ -20,13 +20,14 @@ use std::marker::Model;
 /// the Backpressure operators (<https://reactivex.io/documentation/operators/backpressure.html>); rooms, `Latest` and all
 /// refusals are this project's own.
 pub struct Lane {
+    // It stands first here and in `TapeLane`, so that what asks it of either looks at one place.
+    owed: u32,
     errors: Errors,
     queue: Queue,
     last: Option<Note>,
     // Under `Bounded`, before the end, the error by which an overflow would end the lane: so an offer takes no memory.
     overflow: Option<Note>,
     ended: bool,
-    owed: u32,
 }
 
 // It stands here, and isn't derived, so that what lets go of a lane is one call that is proved once.

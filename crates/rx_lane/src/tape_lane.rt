@@ -22,11 +22,11 @@ use std::marker::Model;
 /// Its strategy is `Buffer` or `Latest`. What waits under `Drop` is no end of the tape, so it takes a lane of its own. That
 /// items are shared is this project's own; demand and strategies are those of `Lane`.
 pub struct TapeLane {
+    owed: u32,
     policy: Policy,
     waiting: Waiting,
     last: Option<Note>,
     ended: bool,
-    owed: u32,
 }
 
 // It stands here, and isn't derived, so that what lets go of a lane is one call that is proved once.
