@@ -1,5 +1,7 @@
 //! A sink in which notes wait until it is opened for them.
 
+ghost use Rattle.std.specs.Prelude.{◌≡◌};
+
 use crate::Told;
 use crate::signs::sign_of;
 use rx_heap::Memory;
@@ -37,7 +39,9 @@ impl Valve {
     }
 
     // How many of its notes went out, where it is opened for so many.
-    fn let_out(&mut self, opened: u64) -> Flow {
+    fn let_out(&mut self, opened: u64) -> Flow
+        ensures { self.new.faults ≡ self.old.faults }
+    {
         let taken = self.taken.len();
         self.stuck = opened < taken as u64;
         if self.stuck {
