@@ -1,5 +1,5 @@
 -- Where nothing ever waits in a sink nothing is due of it.
-use Rattle.std.proofs.Common.{◌≡◌, ◌∙◌, ◌⊎◌, sym, inl, inr, ℕ, List, [], ◌∷◌, Option, Some, None}
+use Rattle.std.proofs.Common.{◌≡◌, ◌∙◌, sym, inl, inr, ℕ, List, [], ◌∷◌, Option, Some, None}
 use Rattle.std.specs.List.{AllByRecursion, AllZip, FoldsTo}
 use Rattle.rx_sink.specs.declared.flow.Flow.TheVariants.{Clear, Stuck}
 use Rattle.rx_sink.specs.declared.kept.Kept.{Kept}
