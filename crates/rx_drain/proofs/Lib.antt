@@ -7,3 +7,4 @@ mod Owing
 mod Tallying
 pub mod Crediting
 pub mod Clearing
+pub mod Paying

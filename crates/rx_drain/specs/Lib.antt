@@ -7,3 +7,4 @@ pub mod Served
 pub mod Once
 pub mod Sent
 pub mod Tallies
+pub mod Paying

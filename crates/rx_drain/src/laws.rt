@@ -1,13 +1,16 @@
 //! Laws of marked letters. The functions do nothing: their contracts are the laws.
 
 ghost use Rattle.rx_drain.specs.Once.{EachSinkOnce};
+ghost use Rattle.rx_drain.specs.Paying.{OwesNothing};
 ghost use Rattle.rx_drain.specs.Sent.{EachIsSentFor};
 ghost use Rattle.rx_drain.specs.Served.{EachSinkTook};
 ghost use Rattle.rx_drain.specs.Tallies.{EachNoteCounts};
 
+use rx_sink::Sink;
+
 /// The sinks' notes: of what the sink of an attachment is to be served, one that is kept took all so far; one that was put
-/// away after a terminal, since its observer left, or when the drainer was told to leave took all; and one that had a fault
-/// took what comes before the note at which it came.
+/// away after a terminal, since its observer left, or when the drainer was told to leave took all; one that had a fault took
+/// what comes before the note at which it came, and at a fault of a flush the first of it.
 pub fn each_sink_took<S: Drop>()
     ensures { EachSinkTook S }
 {}
@@ -17,9 +20,9 @@ pub fn each_sink_once<S: Drop>()
     ensures { EachSinkOnce S }
 {}
 
-/// Each attachment's calls: its subject is sent, for each attachment, a request for one item more after each item that its
-/// sink took, and then at its end one disposal, but where its observer had left. Nothing else is sent, but the disposal of an
-/// observer whose sink found no memory.
+/// Each attachment's calls: its subject is sent, for each attachment, a request for one item more for each item that its sink
+/// took, but for those that are due while it is kept, and then at its end one disposal, but where its observer had left.
+/// Nothing else is sent, but the disposal of an observer whose sink found no memory.
 pub fn each_is_sent_for<S: Drop>()
     ensures { EachIsSentFor S }
 {}
@@ -27,4 +30,10 @@ pub fn each_is_sent_for<S: Drop>()
 /// The count of notes taken is the number of notes that the sinks of all attachments took, kept or put away.
 pub fn each_note_counts<S: Drop>()
     ensures { EachNoteCounts S }
+{}
+
+/// Credit is given back at once where nothing ever waits in a sink: after each turn without a fault nothing is due of any that
+/// is kept.
+pub fn sinks_that_never_wait_are_paid<S: Sink>()
+    ensures { OwesNothing S.acts }
 {}

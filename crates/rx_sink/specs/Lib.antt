@@ -3,3 +3,4 @@ pub mod Attachments
 pub mod Stands
 pub mod Kinds
 pub mod Taken
+pub mod Waiting

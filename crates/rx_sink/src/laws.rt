@@ -1,5 +1,7 @@
-//! What the sinks of this crate have taken once they are put away. The functions do nothing: their clauses are the laws.
+//! What the sinks of this crate have taken once they are put away, and that nothing waits in them. The functions do nothing:
+//! their clauses are the laws.
 ghost use Rattle.rx_sink.specs.Taken.{CountsNotes, KeepsNotes, WritesLines};
+ghost use Rattle.rx_sink.specs.Waiting.{NeverWaits};
 
 use crate::{LineSink, MemorySink, Sink};
 use std::io::Write;
@@ -17,4 +19,14 @@ pub fn line_sinks_write<W: Write + Drop>()
 /// The rest of a line sink tells how many notes it took, and whether it had a fault.
 pub fn line_sinks_count<W: Write + Drop>()
     ensures { CountsNotes ⟦<LineSink<W> as Sink>⟧.acts (λ s. s.notes) (λ s. s.faults) (λ rest. rest.notes) (λ rest. rest.failed) }
+{}
+
+/// Nothing ever waits in a memory sink.
+pub fn memory_sinks_never_wait()
+    ensures { NeverWaits ⟦<MemorySink as Sink>⟧.acts }
+{}
+
+/// Nothing ever waits in a line sink.
+pub fn line_sinks_never_wait<W: Write + Drop>()
+    ensures { NeverWaits ⟦<LineSink<W> as Sink>⟧.acts }
 {}

@@ -37,7 +37,8 @@ pub trait Sink: Drop {
         ensures same { OnOk result (acts.faults self.new ≡ acts.faults self.old) }
         ensures rose { OnErr result (acts.faults self.new ≡ raised (acts.faults self.old)) };
 
-    /// Takes the next note, and waits for nobody. It answers whether something waits in the sink.
+    /// Takes the next note. It need not wait for who reads it: what can't go out at once may wait in the sink. It answers
+    /// whether something does.
     fn take(&mut self, note: Note) -> Result<Flow, SinkFault>
         ensures ok { IfOk result (λ flow. acts.took self.old note flow self.new) }
         ensures fault { OnErr result (acts.take_faulted self.old note self.new) }
