@@ -24,17 +24,17 @@ struct Load {
 const LOADS: [Load; 6] = [
     Load {
         capacity: 1,
-        bodies: 50_000,
+        bodies: 10_000,
         quiet: 1,
     },
     Load {
         capacity: 1,
-        bodies: 5_000,
+        bodies: 2_000,
         quiet: 64,
     },
     Load {
         capacity: 2,
-        bodies: 20_000,
+        bodies: 5_000,
         quiet: 3,
     },
     Load {
@@ -111,7 +111,7 @@ fn letters_through_a_small_box(rt: HostRuntime) {
 
 // How often a thread leaves the box: after so many rounds of letting other threads go first, so that the one that waits is
 // awake, about to sleep, or asleep.
-const ROUNDS: u32 = 400;
+const ROUNDS: u32 = 150;
 
 // Lets other threads go first so many times.
 fn idle(rounds: u32) {
