@@ -183,12 +183,15 @@ fn growths_of(alloc: Global, len: usize) -> Result<(u64, bool), Fail> {
     Ok((ample.asked(), made && refused))
 }
 
+// The bytes of a text, and its growths.
+const GROWTHS: [(usize, u64); 6] = [(0, 0), (20, 0), (21, 1), (56, 1), (57, 1), (1024, 1)];
+
 #[test]
 fn a_text_takes_few_growths(rt: HostRuntime) -> Result<(), Fail> {
-    for (len, growths) in [(0, 0), (20, 0), (21, 1), (56, 1), (57, 1), (1024, 1)] {
-        let (asked, refused) = growths_of(rt.alloc(), len)?;
-        expect_count(&rt, asked, growths, "growths of a text");
-        expect_that(&rt, refused == (growths > 0), "a text without memory");
+    for (len, growths) in &GROWTHS {
+        let (asked, refused) = growths_of(rt.alloc(), *len)?;
+        expect_count(&rt, asked, *growths, "growths of a text");
+        expect_that(&rt, refused == (*growths > 0), "a text without memory");
     }
     Ok(())
 }
@@ -219,27 +222,29 @@ fn refill(text: &mut Text, other: Text, shared: bool) -> Result<bool, Memory> {
     Ok(did)
 }
 
+// How long a text and the one that takes its place are, whether a copy shares it, and whether it is refilled.
+const REFILLS: [(usize, usize, bool, bool); 13] = [
+    (21, 56, false, true),
+    (56, 21, false, true),
+    (50, 50, true, false),
+    (50, 20, false, false),
+    (50, 57, false, false),
+    (57, 50, false, false),
+    (57, 120, false, true),
+    (121, 248, false, true),
+    (249, 504, false, true),
+    (505, 1024, false, true),
+    (505, 504, false, false),
+    (1024, 1024, true, false),
+    (20, 50, false, false),
+];
+
 #[test]
 fn a_text_in_a_block_of_its_own_is_refilled(rt: HostRuntime) -> Result<(), Fail> {
-    let rows = [
-        (21, 56, false, true),
-        (56, 21, false, true),
-        (50, 50, true, false),
-        (50, 20, false, false),
-        (50, 57, false, false),
-        (57, 50, false, false),
-        (57, 120, false, true),
-        (121, 248, false, true),
-        (249, 504, false, true),
-        (505, 1024, false, true),
-        (505, 504, false, false),
-        (1024, 1024, true, false),
-        (20, 50, false, false),
-    ];
-    for (len, other, shared, did) in rows {
-        let (is_refilled, asked) = refilled(rt.alloc(), len, other, shared)?;
-        expect_that(&rt, is_refilled == did, "a text that is refilled");
-        expect_count(&rt, asked, (len > 20) as u64, "growths of two texts");
+    for (len, other, shared, did) in &REFILLS {
+        let (is_refilled, asked) = refilled(rt.alloc(), *len, *other, *shared)?;
+        expect_that(&rt, is_refilled == *did, "a text that is refilled");
+        expect_count(&rt, asked, (*len > 20) as u64, "growths of two texts");
     }
     Ok(())
 }

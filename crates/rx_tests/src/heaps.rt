@@ -85,17 +85,20 @@ fn told_of(alloc: Global, budget: Option<u64>, script: &[u8]) -> Result<Told, Fa
     Ok(tried.told)
 }
 
+// The bytes of a budget, a script, and what is told.
+const BUDGETS: [(Option<u64>, &str, &str); 6] = [
+    (Some(90), "6?4?3?1?-?-?9?1-?", "6!69!9609!0"),
+    (Some(90), "96#?", "!29"),
+    (Some(90), "8?/?5?#", "8493"),
+    (Some(0), "1?0#", "!01"),
+    (Some(u64::MAX), "9?", "9"),
+    (None, "99?#", "00"),
+];
+
 #[test]
 fn a_budget_is_kept_and_given_back(rt: HostRuntime) -> Result<(), Fail> {
-    for (budget, script, wanted) in [
-        (Some(90), "6?4?3?1?-?-?9?1-?", "6!69!9609!0"),
-        (Some(90), "96#?", "!29"),
-        (Some(90), "8?/?5?#", "8493"),
-        (Some(0), "1?0#", "!01"),
-        (Some(u64::MAX), "9?", "9"),
-        (None, "99?#", "00"),
-    ] {
-        let told = told_of(rt.alloc(), budget, script.as_bytes())?;
+    for (budget, script, wanted) in &BUDGETS {
+        let told = told_of(rt.alloc(), *budget, script.as_bytes())?;
         expect_told(&rt, told.as_bytes(), wanted, script);
     }
     Ok(())

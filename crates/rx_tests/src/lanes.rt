@@ -195,64 +195,131 @@ impl Script for Row {
     }
 }
 
+// The strategy and the error mode of a lane, the first request if it was joined, the script, and what is told.
+const ROWS: [(Strategy, Errors, Option<u32>, &str, &str); 22] = [
+    (
+        Strategy::Latest(2),
+        Errors::Delay,
+        None,
+        "01a bcd? 5? .? *",
+        "Za 220- cd003- .003! Tcd",
+    ),
+    (
+        Strategy::Buffer,
+        Errors::Delay,
+        Some(0),
+        "a.? 1?",
+        "120- a.000!",
+    ),
+    (Strategy::Buffer, Errors::Delay, Some(0), "abc.9", "abc."),
+    (Strategy::Drop(0), Errors::Delay, Some(0), "abc.9", "."),
+    (Strategy::Drop(1), Errors::Delay, Some(0), "abc.9", "a."),
+    (Strategy::Drop(2), Errors::Delay, Some(0), "abc.9", "ab."),
+    (
+        Strategy::Drop(1024),
+        Errors::Delay,
+        Some(0),
+        "abc.9",
+        "abc.",
+    ),
+    (Strategy::Latest(1), Errors::Delay, Some(0), "abc.9", "c."),
+    (Strategy::Latest(2), Errors::Delay, Some(0), "abc.9", "bc."),
+    (
+        Strategy::Latest(1024),
+        Errors::Delay,
+        Some(0),
+        "abc.9",
+        "abc.",
+    ),
+    (
+        Strategy::Bounded(1024),
+        Errors::Delay,
+        Some(0),
+        "abc.9",
+        "abc.",
+    ),
+    (Strategy::Buffer, Errors::Ahead, Some(0), "ab!? 9", "!000! "),
+    (
+        Strategy::Drop(2),
+        Errors::Ahead,
+        Some(0),
+        "abc!? 9",
+        "!000! ",
+    ),
+    (
+        Strategy::Latest(2),
+        Errors::Ahead,
+        Some(0),
+        "abc!? 9",
+        "!000! ",
+    ),
+    (
+        Strategy::Latest(2),
+        Errors::Ahead,
+        Some(0),
+        "abc.? 9",
+        "230- bc.",
+    ),
+    (
+        Strategy::Buffer,
+        Errors::Delay,
+        Some(0),
+        "ab!? 9",
+        "230- ab!",
+    ),
+    (
+        Strategy::Bounded(0),
+        Errors::Delay,
+        Some(0),
+        "ab? 9",
+        "%000! ",
+    ),
+    (
+        Strategy::Bounded(1),
+        Errors::Delay,
+        Some(1),
+        "abcd? 1?",
+        "a120- b%000!",
+    ),
+    (
+        Strategy::Bounded(1),
+        Errors::Ahead,
+        Some(1),
+        "abcd? 1?",
+        "a%000! 001!",
+    ),
+    (
+        Strategy::Bounded(2),
+        Errors::Delay,
+        None,
+        "01abcde.? 9",
+        "Za230- bc%",
+    ),
+    (
+        Strategy::Bounded(2),
+        Errors::Delay,
+        Some(0),
+        "ab.c!? 9",
+        "230- ab.",
+    ),
+    (
+        Strategy::Bounded(2),
+        Errors::Ahead,
+        Some(0),
+        "ab!c? 9",
+        "!000! ",
+    ),
+];
+
 #[test]
 fn lane_call_by_call(rt: HostRuntime) -> Result<(), Fail> {
-    let joined = Some(0);
-    let (ahead, delay) = (Errors::Ahead, Errors::Delay);
-    for (strategy, errors, first, script, wanted) in [
-        (
-            Strategy::Latest(2),
-            delay,
-            None,
-            "01a bcd? 5? .? *",
-            "Za 220- cd003- .003! Tcd",
-        ),
-        (Strategy::Buffer, delay, joined, "a.? 1?", "120- a.000!"),
-        (Strategy::Buffer, delay, joined, "abc.9", "abc."),
-        (Strategy::Drop(0), delay, joined, "abc.9", "."),
-        (Strategy::Drop(1), delay, joined, "abc.9", "a."),
-        (Strategy::Drop(2), delay, joined, "abc.9", "ab."),
-        (Strategy::Drop(1024), delay, joined, "abc.9", "abc."),
-        (Strategy::Latest(1), delay, joined, "abc.9", "c."),
-        (Strategy::Latest(2), delay, joined, "abc.9", "bc."),
-        (Strategy::Latest(1024), delay, joined, "abc.9", "abc."),
-        (Strategy::Bounded(1024), delay, joined, "abc.9", "abc."),
-        (Strategy::Buffer, ahead, joined, "ab!? 9", "!000! "),
-        (Strategy::Drop(2), ahead, joined, "abc!? 9", "!000! "),
-        (Strategy::Latest(2), ahead, joined, "abc!? 9", "!000! "),
-        (Strategy::Latest(2), ahead, joined, "abc.? 9", "230- bc."),
-        (Strategy::Buffer, delay, joined, "ab!? 9", "230- ab!"),
-        (Strategy::Bounded(0), delay, joined, "ab? 9", "%000! "),
-        (
-            Strategy::Bounded(1),
-            delay,
-            Some(1),
-            "abcd? 1?",
-            "a120- b%000!",
-        ),
-        (
-            Strategy::Bounded(1),
-            ahead,
-            Some(1),
-            "abcd? 1?",
-            "a%000! 001!",
-        ),
-        (
-            Strategy::Bounded(2),
-            delay,
-            None,
-            "01abcde.? 9",
-            "Za230- bc%",
-        ),
-        (Strategy::Bounded(2), delay, joined, "ab.c!? 9", "230- ab."),
-        (Strategy::Bounded(2), ahead, joined, "ab!c? 9", "!000! "),
-    ] {
+    for (strategy, errors, first, script, wanted) in &ROWS {
         for who in [None, Some(7)] {
             let row = Row {
                 who,
-                strategy,
-                errors,
-                first,
+                strategy: *strategy,
+                errors: *errors,
+                first: *first,
                 script,
             };
             expect_in_turn(&rt, rt.alloc(), &row, wanted, script)?;

@@ -141,21 +141,24 @@ fn expect_long_line(
     Ok(())
 }
 
+// The front of a line, how many letters follow, and the sign of what is read.
+const LONG_LINES: [(&str, usize, u8); 9] = [
+    ("PUB s ", 1024, b'P'),
+    ("PUB s ", 1025, b'l'),
+    ("FAIL s ", 1025, b'l'),
+    ("PUB S ", 1025, b'-'),
+    ("PUB s \n", 1024, b'-'),
+    ("END ", 32, b'E'),
+    ("END ", 33, b'-'),
+    ("", 1100, b'-'),
+    ("", 1101, b'l'),
+];
+
 #[test]
 fn text_limits_on_the_line(rt: HostRuntime) -> Result<(), Fail> {
     let heap = unlimited(&rt);
-    for (front, len, sign) in [
-        ("PUB s ", 1024, b'P'),
-        ("PUB s ", 1025, b'l'),
-        ("FAIL s ", 1025, b'l'),
-        ("PUB S ", 1025, b'-'),
-        ("PUB s \n", 1024, b'-'),
-        ("END ", 32, b'E'),
-        ("END ", 33, b'-'),
-        ("", 1100, b'-'),
-        ("", 1101, b'l'),
-    ] {
-        expect_long_line(&rt, &heap, front, len, sign)?;
+    for (front, len, sign) in &LONG_LINES {
+        expect_long_line(&rt, &heap, front, *len, *sign)?;
     }
     Ok(())
 }
@@ -176,15 +179,22 @@ fn a_pub_has_its_name_and_text(rt: HostRuntime) -> Result<(), Fail> {
     Ok(())
 }
 
+// Bytes, and whether they are a name.
+const NAMES: [(&str, bool); 4] = [
+    ("", false),
+    ("abcdefghijklmnopqrstuvwxyz-01234", true),
+    ("abcdefghijklmnopqrstuvwxyz-012345", false),
+    ("a_b", false),
+];
+
 #[test]
 fn names_have_1_to_32_bytes(rt: HostRuntime) {
-    for (bytes, is_name) in [
-        ("", false),
-        ("abcdefghijklmnopqrstuvwxyz-01234", true),
-        ("abcdefghijklmnopqrstuvwxyz-012345", false),
-        ("a_b", false),
-    ] {
-        expect_that(&rt, Name::new(bytes.as_bytes()).is_some() == is_name, bytes);
+    for (bytes, is_name) in &NAMES {
+        expect_that(
+            &rt,
+            Name::new(bytes.as_bytes()).is_some() == *is_name,
+            bytes,
+        );
     }
 }
 

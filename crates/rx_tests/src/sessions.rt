@@ -154,97 +154,109 @@ fn told_of(heap: &Heap, reader: &mut Drips, writer: Sheet, takes: bool, max_read
     told
 }
 
+// The input, how many bytes a read gives, whether the desk keeps the writer, the most reads, and what is told.
+const SESSIONS: [(&str, usize, bool, u64, &str); 7] = [
+    (
+        "PUB s a\nNOPE\nQUIT\nPUB s b\n",
+        7,
+        true,
+        99,
+        "QOK\nERR SYNTAX\nOK\n|n",
+    ),
+    ("SUB s BUFFER DELAY\nPUB s a\n", 64, true, 99, "H|s"),
+    (
+        "SUB s BUFFER DELAY\nFAIL s a\nEND s\n",
+        7,
+        false,
+        99,
+        "EERR FULL\nOK\nOK\n|sfc",
+    ),
+    ("PUB s a\r\nPUB s b", 3, true, 99, "EOK\n|n"),
+    (
+        "\n\n\n\n\n\n\n",
+        1,
+        true,
+        5,
+        "TERR SYNTAX\nERR SYNTAX\nERR SYNTAX\nERR SYNTAX\nERR SYNTAX\n|",
+    ),
+    ("", 1, true, 1, "E|"),
+    ("", 1, true, 0, "T|"),
+];
+
 #[test]
 fn session_over_memory(rt: HostRuntime) {
     let heap = unlimited(&rt);
-    for (input, step, takes, max_reads, told) in [
-        (
-            "PUB s a\nNOPE\nQUIT\nPUB s b\n",
-            7,
-            true,
-            99,
-            "QOK\nERR SYNTAX\nOK\n|n",
-        ),
-        ("SUB s BUFFER DELAY\nPUB s a\n", 64, true, 99, "H|s"),
-        (
-            "SUB s BUFFER DELAY\nFAIL s a\nEND s\n",
-            7,
-            false,
-            99,
-            "EERR FULL\nOK\nOK\n|sfc",
-        ),
-        ("PUB s a\r\nPUB s b", 3, true, 99, "EOK\n|n"),
-        (
-            "\n\n\n\n\n\n\n",
-            1,
-            true,
-            5,
-            "TERR SYNTAX\nERR SYNTAX\nERR SYNTAX\nERR SYNTAX\nERR SYNTAX\n|",
-        ),
-        ("", 1, true, 1, "E|"),
-        ("", 1, true, 0, "T|"),
-    ] {
-        let mut reader = dripping(input.as_bytes(), step);
-        let told_now = told_of(&heap, &mut reader, blank(4096), takes, max_reads);
+    for (input, step, takes, max_reads, told) in &SESSIONS {
+        let mut reader = dripping(input.as_bytes(), *step);
+        let told_now = told_of(&heap, &mut reader, blank(4096), *takes, *max_reads);
         expect_told(&rt, told_now.as_bytes(), told, input);
     }
 }
+
+// How many reads are interrupted, which one fails and how, the most reads, what is told, and how many are made.
+const FAILING_READS: [(u64, u64, ErrorKind, u64, &str, u64); 5] = [
+    (2, 0, ErrorKind::Other, 3, "QOK\n|", 3),
+    (2, 0, ErrorKind::Other, 2, "T|", 2),
+    (2, 3, ErrorKind::Other, 9, "R|", 3),
+    (0, 1, ErrorKind::WouldBlock, 9, "R|", 1),
+    (0, 1, ErrorKind::WouldBlock, 1, "R|", 1),
+];
 
 // A read that was interrupted is made again, and counts; no other that failed is.
 #[test]
 fn reads_that_fail(rt: HostRuntime) {
     let heap = unlimited(&rt);
-    for (interrupted, fails_at, kind, max_reads, told, reads) in [
-        (2, 0, ErrorKind::Other, 3, "QOK\n|", 3),
-        (2, 0, ErrorKind::Other, 2, "T|", 2),
-        (2, 3, ErrorKind::Other, 9, "R|", 3),
-        (0, 1, ErrorKind::WouldBlock, 9, "R|", 1),
-        (0, 1, ErrorKind::WouldBlock, 1, "R|", 1),
-    ] {
+    for (interrupted, fails_at, kind, max_reads, told, reads) in &FAILING_READS {
         let mut reader = dripping(b"QUIT\n", 16);
-        reader.interrupted = interrupted;
-        reader.fails_at = fails_at;
-        reader.kind = kind;
-        let told_now = told_of(&heap, &mut reader, blank(4096), true, max_reads);
+        reader.interrupted = *interrupted;
+        reader.fails_at = *fails_at;
+        reader.kind = *kind;
+        let told_now = told_of(&heap, &mut reader, blank(4096), true, *max_reads);
         expect_told(&rt, told_now.as_bytes(), told, "reads that fail");
-        expect_count(&rt, reader.reads, reads, told);
+        expect_count(&rt, reader.reads, *reads, told);
     }
 }
 
 const LINES: &[u8] = b"END s\nEND s\nQUIT\n";
 
+// How many bytes the writer takes, and what is told.
+const ROOMS: [(usize, &str); 7] = [
+    (0, "W|c"),
+    (1, "WO|c"),
+    (2, "WOK|c"),
+    (3, "WOK\n|cc"),
+    (5, "WOK\nOK|cc"),
+    (8, "WOK\nOK\nOK|cc"),
+    (9, "QOK\nOK\nOK\n|cc"),
+];
+
 #[test]
 fn writer_fails_at_each_byte(rt: HostRuntime) {
     let heap = unlimited(&rt);
-    for (room, told) in [
-        (0, "W|c"),
-        (1, "WO|c"),
-        (2, "WOK|c"),
-        (3, "WOK\n|cc"),
-        (5, "WOK\nOK|cc"),
-        (8, "WOK\nOK\nOK|cc"),
-        (9, "QOK\nOK\nOK\n|cc"),
-    ] {
+    for (room, told) in &ROOMS {
         let mut reader = dripping(LINES, 6);
-        let told_now = told_of(&heap, &mut reader, blank(room), true, 99);
+        let told_now = told_of(&heap, &mut reader, blank(*room), true, 99);
         expect_told(&rt, told_now.as_bytes(), told, "a writer with little room");
     }
 }
+
+// Which flush fails, none by 0, and what is told.
+const FLUSHES: [(u64, &str); 6] = [
+    (0, "QOK\nOK\nOK\n|cc"),
+    (1, "W|"),
+    (2, "WOK\n|c"),
+    (3, "WOK\nOK\n|cc"),
+    (4, "WOK\nOK\nOK\n|cc"),
+    (5, "QOK\nOK\nOK\n|cc"),
+];
 
 // All is flushed before each read and at the end, and a flush that fails ends the session.
 #[test]
 fn flushes_are_made(rt: HostRuntime) {
     let heap = unlimited(&rt);
-    for (fails_at, told) in [
-        (0, "QOK\nOK\nOK\n|cc"),
-        (1, "W|"),
-        (2, "WOK\n|c"),
-        (3, "WOK\nOK\n|cc"),
-        (4, "WOK\nOK\nOK\n|cc"),
-        (5, "QOK\nOK\nOK\n|cc"),
-    ] {
+    for (fails_at, told) in &FLUSHES {
         let mut writer = blank(4096);
-        writer.fails_at = fails_at;
+        writer.fails_at = *fails_at;
         let mut reader = dripping(LINES, 6);
         let told_now = told_of(&heap, &mut reader, writer, true, 99);
         expect_told(&rt, told_now.as_bytes(), told, "a flush that fails");
@@ -315,24 +327,27 @@ fn writes_of(size: usize, left: usize) -> Writes {
     }
 }
 
+// The bytes of a write, how many of them are left for the next line, and the least that a read is asked for.
+const WRITES: [(usize, usize, u64); 6] = [
+    (65_536, 0, 65_536),
+    (60_000, 0, 65_536),
+    (60_000, 1, 65_535),
+    (64_435, 1_101, 64_435),
+    (65_536, 1_102, 65_536),
+    (60_000, 30_000, 65_536),
+];
+
 // Before a read what is left of a line goes to the front of its block: up to 1,101 bytes, and none of a longer one. So writes
 // of nearly a block cost a read each.
 #[test]
 fn writes_cost_a_read_each(rt: HostRuntime) {
-    for (size, left, least) in [
-        (65_536, 0, 65_536),
-        (60_000, 0, 65_536),
-        (60_000, 1, 65_535),
-        (64_435, 1_101, 64_435),
-        (65_536, 1_102, 65_536),
-        (60_000, 30_000, 65_536),
-    ] {
-        let mut reader = writes_of(size, left);
+    for (size, left, least) in &WRITES {
+        let mut reader = writes_of(*size, *left);
         let mut lines = LineState::new(99);
         for _ in 0..40 {
             lines.advance(&mut reader);
         }
         expect_count(&rt, reader.reads, 40, "40 writes");
-        expect_count(&rt, reader.least as u64, least, "what a read is asked for");
+        expect_count(&rt, reader.least as u64, *least, "what a read is asked for");
     }
 }

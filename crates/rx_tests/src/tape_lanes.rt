@@ -302,41 +302,101 @@ impl Script for Row {
     }
 }
 
+// The items before, the lead, how far back the cursor begins, the room under `Latest`, the error mode, the first request, the
+// script, and what is told.
+const ROWS: [(
+    &str,
+    Option<u8>,
+    usize,
+    Option<u16>,
+    Errors,
+    u32,
+    &str,
+    &str,
+); 13] = [
+    (
+        "",
+        None,
+        0,
+        Some(2),
+        Errors::Delay,
+        0,
+        "01a bcd? 5? .?",
+        "Za 220- cd003- .003!",
+    ),
+    ("", None, 0, None, Errors::Delay, 0, "a.? 1?", "120- a.000!"),
+    ("", None, 0, None, Errors::Delay, 0, "abc.9", "abc."),
+    ("", None, 0, Some(1), Errors::Delay, 0, "abc.9", "c."),
+    ("", None, 0, None, Errors::Ahead, 0, "ab!? 9", "!000! "),
+    (
+        "",
+        None,
+        0,
+        Some(2),
+        Errors::Ahead,
+        0,
+        "abc.? 9",
+        "230- bc.",
+    ),
+    (
+        "",
+        None,
+        0,
+        Some(2),
+        Errors::Ahead,
+        0,
+        "ab.c!? 9",
+        "230- ab.",
+    ),
+    (
+        "",
+        None,
+        0,
+        None,
+        Errors::Ahead,
+        1,
+        "abc!d.? 1?",
+        "a!000! 001!",
+    ),
+    ("abc", None, 2, Some(1), Errors::Delay, 0, "? 9", "110- c"),
+    ("abc", None, 2, None, Errors::Delay, 1, "d? 9", "b220- cd"),
+    ("abc", Some(b'z'), 0, Some(2), Errors::Delay, 0, "ab9", "ab"),
+    (
+        "abc",
+        Some(b'z'),
+        2,
+        None,
+        Errors::Delay,
+        2,
+        "? 9",
+        "zb110- c",
+    ),
+    (
+        "abc",
+        Some(b'z'),
+        3,
+        None,
+        Errors::Delay,
+        9,
+        "?",
+        "zabc005-",
+    ),
+];
+
 #[test]
 fn tape_lane_call_by_call(rt: HostRuntime) -> Result<(), Fail> {
-    let (ahead, delay) = (Errors::Ahead, Errors::Delay);
-    for (before, lead, back, room, errors, first, script, wanted) in [
-        (
-            "",
-            None,
-            0,
-            Some(2),
-            delay,
-            0,
-            "01a bcd? 5? .?",
-            "Za 220- cd003- .003!",
-        ),
-        ("", None, 0, None, delay, 0, "a.? 1?", "120- a.000!"),
-        ("", None, 0, None, delay, 0, "abc.9", "abc."),
-        ("", None, 0, Some(1), delay, 0, "abc.9", "c."),
-        ("", None, 0, None, ahead, 0, "ab!? 9", "!000! "),
-        ("", None, 0, Some(2), ahead, 0, "abc.? 9", "230- bc."),
-        ("", None, 0, Some(2), ahead, 0, "ab.c!? 9", "230- ab."),
-        ("", None, 0, None, ahead, 1, "abc!d.? 1?", "a!000! 001!"),
-        ("abc", None, 2, Some(1), delay, 0, "? 9", "110- c"),
-        ("abc", None, 2, None, delay, 1, "d? 9", "b220- cd"),
-        ("abc", Some(b'z'), 0, Some(2), delay, 0, "ab9", "ab"),
-        ("abc", Some(b'z'), 2, None, delay, 2, "? 9", "zb110- c"),
-        ("abc", Some(b'z'), 3, None, delay, 9, "?", "zabc005-"),
-    ] {
+    for (before, lead, back, room, errors, first, script, wanted) in &ROWS {
         for who in [None, Some(7)] {
             let row = Row {
                 who,
                 before,
-                lead,
-                back,
-                shared: Shared { room, errors },
-                first,
+                lead: *lead,
+                back: *back,
+                shared: Shared {
+                    room: *room,
+                    errors: *errors,
+                },
+                first: *first,
                 script,
             };
             expect_in_turn(&rt, rt.alloc(), &row, wanted, script)?;

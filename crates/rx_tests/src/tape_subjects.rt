@@ -228,20 +228,26 @@ fn tape_subject_call_by_call(rt: HostRuntime) -> Result<(), Fail> {
     Ok(())
 }
 
+// A kind, a script, and how many items the tape keeps.
+const KEPT: [(Named, &str, u64); 7] = [
+    (Named::Publish, "abc", 0),
+    (Named::Async, "abc", 0),
+    (Named::Behavior(None), "abc", 1),
+    (Named::Replay(Some(2), None), "abc", 2),
+    (Named::Replay(None, None), "abc", 3),
+    (Named::Replay(None, Some(10)), "0a 5b 10c", 2),
+    (Named::Replay(None, Some(10)), "0a 5b 10c 10. 99+", 2),
+];
+
 #[test]
 fn a_tape_keeps_what_joiners_may_need(rt: HostRuntime) -> Result<(), Fail> {
     let heap = unlimited(&rt);
-    for (named, script, kept) in [
-        (Named::Publish, "abc", 0),
-        (Named::Async, "abc", 0),
-        (Named::Behavior(None), "abc", 1),
-        (Named::Replay(Some(2), None), "abc", 2),
-        (Named::Replay(None, None), "abc", 3),
-        (Named::Replay(None, Some(10)), "0a 5b 10c", 2),
-        (Named::Replay(None, Some(10)), "0a 5b 10c 10. 99+", 2),
-    ] {
-        let row = Row { named, script };
-        expect_count(&rt, row.kept(&heap)? as u64, kept, script);
+    for (named, script, kept) in &KEPT {
+        let row = Row {
+            named: *named,
+            script,
+        };
+        expect_count(&rt, row.kept(&heap)? as u64, *kept, script);
     }
     Ok(())
 }

@@ -132,18 +132,21 @@ impl Script for Row {
     }
 }
 
+// A script, and what is told.
+const ROWS: [(&str, &str); 8] = [
+    ("ab1<c><><)#1<", "0bc_11c"),
+    ("<#(#", "_00"),
+    ("ab2<~>~", "0ab_"),
+    ("ab20(#@>(#>(#", "01210"),
+    ("ab2-(#", "00"),
+    ("ab1-c3-", "00"),
+    ("ab20@-2<@<", "010aa"),
+    ("abcd4)#>>>>>)#<", "041_"),
+];
+
 #[test]
 fn tape_call_by_call(rt: HostRuntime) -> Result<(), Fail> {
-    for (script, wanted) in [
-        ("ab1<c><><)#1<", "0bc_11c"),
-        ("<#(#", "_00"),
-        ("ab2<~>~", "0ab_"),
-        ("ab20(#@>(#>(#", "01210"),
-        ("ab2-(#", "00"),
-        ("ab1-c3-", "00"),
-        ("ab20@-2<@<", "010aa"),
-        ("abcd4)#>>>>>)#<", "041_"),
-    ] {
+    for (script, wanted) in &ROWS {
         expect_in_turn(&rt, rt.alloc(), &Row { script }, wanted, script)?;
     }
     Ok(())
