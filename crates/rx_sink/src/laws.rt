@@ -1,7 +1,7 @@
-//! What the sinks of this crate have taken once they are put away, and that nothing waits in them. The functions do nothing:
+//! What the sinks of this crate have taken once they are put away, and when something waits in them. The functions do nothing:
 //! their clauses are the laws.
 ghost use Rattle.rx_sink.specs.Taken.{CountsNotes, KeepsNotes, WritesLines};
-ghost use Rattle.rx_sink.specs.Waiting.{NeverWaits};
+ghost use Rattle.rx_sink.specs.Waiting.{NeverWaits, WaitsOnlyWhere};
 
 use crate::{LineSink, MemorySink, Sink};
 use std::io::Write;
@@ -26,7 +26,7 @@ pub fn memory_sinks_never_wait()
     ensures { NeverWaits ⟦<MemorySink as Sink>⟧.acts }
 {}
 
-/// Nothing ever waits in a line sink.
-pub fn line_sinks_never_wait<W: Write + Drop>()
-    ensures { NeverWaits ⟦<LineSink<W> as Sink>⟧.acts }
+/// Something waits in a line sink only where its writer gathers what it is given.
+pub fn line_sinks_wait_by_their_writer<W: Write + Drop>()
+    ensures { WaitsOnlyWhere ⟦<LineSink<W> as Sink>⟧.acts (λ s. s.gathers) }
 {}
