@@ -13,7 +13,7 @@ pub const MAX_WAIT: u64 = 250;
 const MAX_TRIES: u32 = 1_000;
 
 /// The connections of a Unix socket. What is written to one waits for its peer in this memory.
-pub struct Socket<C: Clock + Clone + Drop + Send + 'static> {
+pub struct Socket<C: Clock + Clone + Drop> {
     listener: UnixListener,
     clock: C,
     heap: Heap,
@@ -21,7 +21,7 @@ pub struct Socket<C: Clock + Clone + Drop + Send + 'static> {
 }
 
 // It stands here, and isn't derived, so that what lets go of a socket is one call that is proved once.
-impl<C: Clock + Clone + Drop + Send + 'static> Drop for Socket<C> {
+impl<C: Clock + Clone + Drop> Drop for Socket<C> {
     fn drop(self) {
         let Socket {
             listener: _,
@@ -32,7 +32,7 @@ impl<C: Clock + Clone + Drop + Send + 'static> Drop for Socket<C> {
     }
 }
 
-impl<C: Clock + Clone + Drop + Send + 'static> Socket<C> {
+impl<C: Clock + Clone + Drop> Socket<C> {
     /// The connections that come to this listener. A peer is given up once it took no byte for so long while some waited.
     pub fn new(listener: UnixListener, clock: C, heap: Heap, stall: Duration) -> Socket<C> {
         Socket {

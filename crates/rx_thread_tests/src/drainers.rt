@@ -26,11 +26,24 @@ use std::test::Fail;
 use std::thread::Threads;
 use std::time::Clock;
 
-// Keeps what is written, and counts the calls.
+// Keeps what is written, and counts the calls. Each flush of one that is torn fails.
 #[derive(Drop)]
 struct Page {
     held: Told,
     writes: usize,
+    flushes: usize,
+    is_torn: bool,
+}
+
+impl Page {
+    fn new(is_torn: bool) -> Page {
+        Page {
+            held: Told::new(),
+            writes: 0,
+            flushes: 0,
+            is_torn,
+        }
+    }
 }
 
 impl Write for Page {
@@ -41,6 +54,10 @@ impl Write for Page {
     }
 
     fn flush(&mut self) -> io::Result<()> {
+        self.flushes = self.flushes.saturating_add(1);
+        if self.is_torn {
+            return Err(io::ErrorKind::BrokenPipe.into());
+        }
         Ok(())
     }
 }
@@ -52,10 +69,7 @@ pub(crate) fn note(rt: &impl Abort, heap: &Heap, sign: u8) -> Note {
 
 // A sink over a page that was started for observer 3 and took the notes of these signs.
 fn lined(rt: &impl Abort, heap: &Heap, signs: &[u8]) -> LineSink<Page> {
-    let mut sink = LineSink::new(Page {
-        held: Told::new(),
-        writes: 0,
-    });
+    let mut sink = LineSink::new(Page::new(false));
     let _ = sink.start(3);
     for sign in signs {
         let _ = sink.take(note(rt, heap, *sign));
@@ -67,7 +81,12 @@ fn lined(rt: &impl Abort, heap: &Heap, signs: &[u8]) -> LineSink<Page> {
 // failed, else `-`.
 fn told_of_lines(rt: &impl Abort, heap: &Heap, signs: &[u8]) -> Told {
     let rest = lined(rt, heap, signs).finish();
-    let Page { mut held, writes } = lined(rt, heap, signs).into_writer();
+    let Page {
+        mut held,
+        writes,
+        flushes: _,
+        is_torn: _,
+    } = lined(rt, heap, signs).into_writer();
     held.put(b'|');
     held.put_digit(writes);
     held.put_digit(rest.notes as usize);
@@ -154,6 +173,18 @@ fn a_line_sink_tells_what_waits(rt: HostRuntime) {
         };
         let told = told_flows(&rt, &heap, sink, taken, signs.as_bytes());
         expect_told(&rt, told.as_bytes(), wanted, signs);
+    }
+}
+
+#[test]
+fn line_sink_is_flushed(rt: HostRuntime) {
+    for (is_torn, wanted) in [(false, "1-"), (true, "1!")] {
+        let mut sink = LineSink::new(Page::new(is_torn));
+        let sign = if sink.flush().is_ok() { b'-' } else { b'!' };
+        let mut told = Told::new();
+        told.put_digit(sink.into_writer().flushes);
+        told.put(sign);
+        expect_told(&rt, told.as_bytes(), wanted, "flushes that reached a page");
     }
 }
 
