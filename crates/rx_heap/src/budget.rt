@@ -39,7 +39,7 @@ impl Budget {
     ///
     /// It is kept out of line, and `regains` in line, so that a growth without a limit stays short.
     #[cold]
-    #[inline(never)]
+    #[inline(never)] // said above
     pub(crate) fn takes(&self, size: u64) -> bool {
         let growth = self.asked.fetch_add(1, Ordering::SeqCst);
         if self.refused == Some(growth) || size > self.most {
@@ -54,7 +54,7 @@ impl Budget {
     }
 
     /// Takes `size` bytes back.
-    #[inline(always)]
+    #[inline(always)] // said at `takes`
     pub(crate) fn regains(&self, size: u64) {
         self.used.fetch_sub(size, Ordering::SeqCst);
     }

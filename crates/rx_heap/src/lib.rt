@@ -10,7 +10,7 @@ mod limit;
 mod limited;
 mod refused;
 
-pub use giving_back::{ROOM_KEPT, give_back};
+pub use giving_back::give_back;
 pub use limited::Limited;
 pub use refused::Memory;
 

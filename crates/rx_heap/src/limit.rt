@@ -21,7 +21,7 @@ impl Model for Limit {
 // A budget stays until the program ends: a handle is let go with each text and each collection, where it is to cost nothing
 // and to be no case of its own.
 impl Drop for Limit {
-    #[inline]
+    #[inline] // nothing is done
     fn drop(self) {
         let Self { budget } = self;
         forget(budget);
@@ -56,13 +56,13 @@ impl Limit {
 
     /// Whether the growth of a block from `old` items of `size` bytes to `new` ones is refused. Where it is not, the bytes
     /// that it has more are taken.
-    #[inline]
+    #[inline] // with each growth of a list
     pub(crate) fn refuses_change(&self, old: usize, new: usize, size: usize) -> bool {
         self.refuses(new.saturating_sub(old).saturating_mul(size))
     }
 
     /// Takes back what such a growth took.
-    #[inline]
+    #[inline] // with each list that shrinks
     pub(crate) fn regains_change(&self, old: usize, new: usize, size: usize) {
         self.regains(new.saturating_sub(old).saturating_mul(size));
     }

@@ -17,7 +17,7 @@ pub struct Limited<B: Allocator + Drop> {
 
 // It stands here, and isn't derived, so that what lets go of a heap is one call that is proved once.
 impl<B: Allocator + Drop> Drop for Limited<B> {
-    #[inline(always)]
+    #[inline(always)] // nothing is done
     fn drop(self) {
         let Limited { inner: _, limit: _ } = self;
     }

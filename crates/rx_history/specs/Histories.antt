@@ -50,7 +50,7 @@ end_of (H ▹ (port, Join policy first at)) = end_of H
 end_of (H ▹ (port, Request who n)) = end_of H
 end_of (H ▹ (port, Dispose who)) = end_of H
 
--- whether the subject ended; an Emit is accepted where it had not
+-- whether the subject ended
 abbrev pub is_ended : History → Bool
 is_ended H = is_some (end_of H)
 
@@ -112,10 +112,35 @@ may_join rules H = admits rules.limits (roster_of rules.limits H)
 
 -- THE CLOCK AND THE ITEMS
 
+-- whether a note finds room where so many items were accepted before it; terminals are not limited
+abbrev pub has_room : Limits → ℕ → Note → Bool
+has_room limits count (Next item) = nat_lt count limits.items
+has_room limits count Completed = true
+has_room limits count (Failed text) = true
+
+-- how many items there are with that of a note
+abbrev pub count_with : ℕ → Note → ℕ
+count_with count (Next item) = count + 1
+count_with count Completed = count
+count_with count (Failed text) = count
+
+-- how many items were accepted
+abbrev pub item_count : Rules → History → ℕ
+item_count rules NoEvents = 0
+item_count rules (H ▹ (port, Emit note at)) =
+    if not (is_ended H) && has_room rules.limits (item_count rules H) note then count_with (item_count rules H) note else item_count rules H
+item_count rules (H ▹ (port, Join policy first at)) = item_count rules H
+item_count rules (H ▹ (port, Request who n)) = item_count rules H
+item_count rules (H ▹ (port, Dispose who)) = item_count rules H
+
+-- whether an Emit of a note is accepted
+abbrev pub accepts : Rules → History → Note → Bool
+accepts rules H note = not (is_ended H) && has_room rules.limits (item_count rules H) note
+
 -- the stamp: the greatest moment of the accepted Emits and Joins
 abbrev pub stamp : Rules → History → ℕ
 stamp rules NoEvents = 0
-stamp rules (H ▹ (port, Emit note at)) = if is_ended H then stamp rules H else max (stamp rules H) at
+stamp rules (H ▹ (port, Emit note at)) = if accepts rules H note then max (stamp rules H) at else stamp rules H
 stamp rules (H ▹ (port, Join policy first at)) = if may_join rules H then max (stamp rules H) at else stamp rules H
 stamp rules (H ▹ (port, Request who n)) = stamp rules H
 stamp rules (H ▹ (port, Dispose who)) = stamp rules H
@@ -124,17 +149,19 @@ stamp rules (H ▹ (port, Dispose who)) = stamp rules H
 abbrev pub Stamped : Type 0
 Stamped = Item × ℕ
 
--- the item of a note, as sent from a port
-abbrev pub item_in : ℕ → Note → List Item
-item_in port (Next item) = record item { from = port } ∷ []
-item_in port Completed = []
-item_in port (Failed text) = []
+-- the item of a note, as sent from a port at a place
+abbrev pub item_in : ℕ → ℕ → Note → List Item
+item_in port place (Next item) = record item { from = port; place = place } ∷ []
+item_in port place Completed = []
+item_in port place (Failed text) = []
 
--- the items of the accepted Emits, with their stamps
+-- the items of the accepted Emits, with their stamps; the place of an item is how many were accepted before it
 abbrev pub items : Rules → History → List Stamped
 items rules NoEvents = []
 items rules (H ▹ (port, Emit note at)) =
-    if is_ended H then items rules H else items rules H ++ map (λ item. (item, max (stamp rules H) at)) (item_in port note)
+    if accepts rules H note
+    then items rules H ++ map (λ item. (item, max (stamp rules H) at)) (item_in port (item_count rules H) note)
+    else items rules H
 items rules (H ▹ (port, Join policy first at)) = items rules H
 items rules (H ▹ (port, Request who n)) = items rules H
 items rules (H ▹ (port, Dispose who)) = items rules H
@@ -158,9 +185,9 @@ abbrev pub or_else : List Item → List Item → List Item
 or_else [] others = others
 or_else (first ∷ rest) others = first ∷ rest
 
--- the seed as an item; it comes from no port
+-- the seed as an item; it comes from no port, and has no place
 abbrev pub seed_item : Option Text → List Item
-seed_item seed = map (λ text. record { from = 4294967295; text = text }) (option_to_list seed)
+seed_item seed = map (λ text. record { from = 4294967295; place = 4294967295; text = text }) (option_to_list seed)
 
 -- whether an age is below a bound; without a bound every age is
 abbrev pub is_young : Option ℕ → ℕ → Bool
@@ -204,15 +231,16 @@ opened rules H policy first at =
     followed_by (Start policy ▸ Requested first) (map Offered (opening_by rules.kind rules H (max (stamp rules H) at)) ++ ended_by (end_of H))
 
 -- the items that an accepted note offers, by kind: its own at once, save that Async offers the last item at completion
-abbrev pub offers_by : Kind → List Item → ℕ → Note → List Item
-offers_by Publish last port note = item_in port note
-offers_by (Behavior seed) last port note = item_in port note
-offers_by Async last port note = if is_completion (terminal_in note) then last else []
-offers_by (Replay count age) last port note = item_in port note
+abbrev pub offers_by : Kind → List Item → ℕ → ℕ → Note → List Item
+offers_by Publish last port place note = item_in port place note
+offers_by (Behavior seed) last port place note = item_in port place note
+offers_by Async last port place note = if is_completion (terminal_in note) then last else []
+offers_by (Replay count age) last port place note = item_in port place note
 
 -- the signals of an accepted note: what is offered, and then the end
 abbrev pub signalled : Rules → History → ℕ → Note → List Signal
-signalled rules H port note = map Offered (offers_by rules.kind (last_item rules H) port note) ++ ended_by (terminal_in note)
+signalled rules H port note =
+    map Offered (offers_by rules.kind (last_item rules H) port (item_count rules H) note) ++ ended_by (terminal_in note)
 
 -- whether a request for n more is neither for none nor for too many
 abbrev pub may_request : ℕ → Signals → Bool
@@ -222,7 +250,7 @@ may_request n s = nat_lt 0 n && nat_le (owed s + n) 4294967295
 abbrev pub signals : Rules → History → ℕ → Option Signals
 signals rules NoEvents o = None
 signals rules (H ▹ (port, Emit note at)) o =
-    if is_held rules H o && not (is_ended H) then option_map (λ s. followed_by s (signalled rules H port note)) (signals rules H o) else signals rules H o
+    if is_held rules H o && accepts rules H note then option_map (λ s. followed_by s (signalled rules H port note)) (signals rules H o) else signals rules H o
 signals rules (H ▹ (port, Join policy first at)) o =
     if (joins rules H == o) && may_join rules H then Some (opened rules H policy first at) else signals rules H o
 signals rules (H ▹ (port, Request who n)) o =
@@ -251,7 +279,9 @@ owed_to rules H o = option_map_or owed (signals rules H o) 0
 
 -- what an event is answered after H
 abbrev pub answer : Rules → History → Event → Result Answer Refusal
-answer rules H (Emit note at) = if is_ended H then Err refused.Ended else Ok Admitted
+answer rules H (Emit note at) =
+    if is_ended H then Err refused.Ended
+    else (if has_room rules.limits (item_count rules H) note then Ok Admitted else Err refused.Spent)
 answer rules H (Join policy first at) =
     if not (nat_lt (length (held rules H)) rules.limits.observers) then Err refused.Full
     else (if nat_lt (joins rules H) rules.limits.joins then Ok (Joined (joins rules H)) else Err refused.Spent)

@@ -24,7 +24,7 @@ impl<const N: usize> Model for Block<N> {
 
 impl<const N: usize> Block<N> {
     /// A block of these bytes, in one growth. It is kept out of line, so that who makes a small block has no room for a large one.
-    #[inline(never)]
+    #[inline(never)] // said above
     pub(crate) fn shared(alloc: Heap, bytes: &[u8]) -> Result<Arc<Block<N>, Heap>, Memory>
         requires { length bytes.now ≤ N }
         ensures { IfOk result (λ block. arc_value block ≡ bytes.now) }
@@ -47,7 +47,7 @@ impl<const N: usize> Block<N> {
         made
     }
 
-    #[inline]
+    #[inline] // a part of the two that make and refill a block
     fn fill(&mut self, bytes: &[u8])
         requires { length bytes.now ≤ N }
         ensures { self.new ≡ bytes.now }
@@ -58,7 +58,7 @@ impl<const N: usize> Block<N> {
     }
 
     /// Puts these bytes in the place of its own, where no copy shares the block. Whether it did so.
-    #[inline]
+    #[inline] // once for each line that a script refills a text from
     pub(crate) fn refill(shared: &mut Arc<Block<N>, Heap>, bytes: &[u8]) -> bool
         requires { length bytes.now ≤ N }
         ensures filled { result ≡ true → arc_value shared.new ≡ bytes.now }

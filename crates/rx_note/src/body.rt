@@ -24,7 +24,7 @@ pub(crate) enum Body {
 
 // By hand, so that to let a text go is one step in each function that does, whichever form it has.
 impl Drop for Body {
-    #[inline(always)]
+    #[inline(always)] // a short one costs its holder a test
     fn drop(self) {
         match self {
             Body::Short { len: _, bytes: _ } => {}
@@ -36,13 +36,13 @@ impl Drop for Body {
 
 // Lets go of a block that the copies share. It is kept out of line, so that to let a short text go costs one test. The block is
 // taken out of its count, which is cheaper where no copy shares it.
-#[inline(never)]
+#[inline(never)] // said above
 fn let_go(block: Arc<Block<MEDIUM>, Heap>) {
     drop(Arc::try_unwrap(block));
 }
 
 // Lets go of a larger one, which isn't taken out, since that would move its bytes.
-#[inline(never)]
+#[inline(never)] // as of the small ones
 fn let_go_long(block: LongBlock) {
     drop(block);
 }
@@ -51,7 +51,7 @@ impl Body {
     ghost use Rattle.rx_note.specs.Bodies.{bytes_of, IsWithin};
 
     /// The body of these bytes.
-    #[inline(always)]
+    #[inline(always)] // a short one is made in its place
     pub(crate) fn new(alloc: Heap, bytes: &[u8]) -> Result<Body, Memory>
         requires { length bytes.now ≤ 1024 }
         ensures bytes { IfOk result (λ body. bytes_of body ≡ bytes.now) }
@@ -64,7 +64,7 @@ impl Body {
     }
 
     // The body of bytes that the copies share. It is kept out of line, so that a short text is made in place.
-    #[inline(never)]
+    #[inline(never)] // said above
     fn shared(alloc: Heap, bytes: &[u8]) -> Result<Body, Memory>
         requires { length bytes.now ≤ 1024 }
         ensures bytes { IfOk result (λ body. bytes_of body ≡ bytes.now) }
@@ -77,7 +77,7 @@ impl Body {
         }
     }
 
-    #[inline(always)]
+    #[inline(always)] // a part of `new`
     fn short(bytes: &[u8]) -> Body
         requires { length bytes.now ≤ 20 }
         ensures bytes { bytes_of result ≡ bytes.now }
@@ -94,7 +94,7 @@ impl Body {
 
     /// Puts these bytes in the place of its own, where it stands in a block that has room for them, and no much larger one, no
     /// copy shares it, and they are too many for a short text. Whether it did so.
-    #[inline]
+    #[inline] // a part of what a text does
     pub(crate) fn refill(&mut self, bytes: &[u8]) -> bool
         ensures bytes { result ≡ true → bytes_of self.new ≡ bytes.now }
         ensures within { result ≡ true → IsWithin self.new }

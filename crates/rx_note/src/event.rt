@@ -19,11 +19,11 @@ pub enum Event {
 }
 
 impl Event {
-    /// A producer emits this text at a moment, in milliseconds. The subject sets by which port it came.
+    /// A producer emits this text at a moment, in milliseconds. The subject sets by which port and at which place it came.
     pub fn item(text: Text, at: u64) -> Event
-        ensures { result ≡ Emit (Next (record { from = 0; text = text })) at }
+        ensures { result ≡ Emit (Next (record { from = 0; place = 0; text = text })) at }
     {
-        let note = Note::Next(Item { from: 0, text });
+        let note = Note::Next(Item::new(text));
         Event::Emit { note, at }
     }
 }

@@ -30,7 +30,7 @@ pub use item::Item;
 pub use kind::{Kind, KindError, MAX_COUNT};
 pub use limits::Limits;
 pub use note::{Note, copy_of};
-pub use policy::{BadRoom, MAX_ROOM, Policy};
+pub use policy::{BadRoom, Policy};
 pub use refusal::Refusal;
 pub use rules::Rules;
 pub use strategy::Strategy;

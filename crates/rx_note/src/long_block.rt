@@ -29,7 +29,7 @@ impl LongBlock {
     ghost use Rattle.rx_note.specs.Bodies.{bytes_in};
 
     /// A block of these bytes, in one growth.
-    #[inline(never)]
+    #[inline(never)] // the type says why
     pub(crate) fn new(alloc: Heap, bytes: &[u8]) -> Result<LongBlock, Memory>
         requires { length bytes.now ≤ 1024 }
         ensures { IfOk result (λ block. bytes_in block ≡ bytes.now) }
@@ -44,7 +44,7 @@ impl LongBlock {
 
     /// Puts these bytes in the place of its own, where its block is the smallest that has room for them and no copy shares it.
     /// Whether it did so.
-    #[inline(never)]
+    #[inline(never)] // the type says why
     pub(crate) fn refill(&mut self, bytes: &[u8]) -> bool
         ensures filled { result ≡ true → bytes_in self.new ≡ bytes.now }
         ensures kept { result ≡ false → self.new ≡ self.old }
@@ -59,7 +59,7 @@ impl LongBlock {
     }
 
     /// The bytes.
-    #[inline(never)]
+    #[inline(never)] // the type says why
     pub(crate) fn as_bytes(&self) -> &[u8]
         ensures { result.now ≡ bytes_in self.now }
     {
@@ -72,7 +72,7 @@ impl LongBlock {
     }
 
     /// The same block, shared by one more.
-    #[inline(never)]
+    #[inline(never)] // the type says why
     pub(crate) fn share(&self) -> Result<LongBlock, Memory>
         ensures { IfOk result (λ copy. bytes_in copy ≡ bytes_in self.now) }
     {

@@ -6,7 +6,7 @@ use std::fmt;
 use std::marker::Model;
 
 /// The most items that a room holds.
-pub const MAX_ROOM: u16 = 1024;
+const MAX_ROOM: u16 = 1024;
 
 /// The room of a strategy is out of its limits, which are this project's own: 0 to 1,024 for `Drop` and `Bounded`, 1 to 1,024
 /// for `Latest`.

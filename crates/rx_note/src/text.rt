@@ -51,7 +51,7 @@ pub struct Text {
 
 // It stands here, and isn't derived, so that what lets go of a text is one call that is proved once.
 impl Drop for Text {
-    #[inline(always)]
+    #[inline(always)] // a short one costs its holder a test
     fn drop(self) {
         let Text { body: _ } = self;
     }
@@ -92,7 +92,7 @@ impl Text {
     }
 
     /// The text of bytes of a line that are known to be one, which are not looked through again.
-    #[inline(always)]
+    #[inline(always)] // a short one is made in its place
     pub fn of_line(alloc: Heap, bytes: &[u8]) -> Result<Text, Memory>
         requires within { length bytes.now ≤ 1024 }
         requires no_lf { list_any (λ b. nat_eq b 10) bytes.now ≡ false }
@@ -104,7 +104,7 @@ impl Text {
 
     /// Becomes the text of bytes of a line that are known to be one, for which it takes no memory, where it stands in a block
     /// that has room for them and that no copy shares. Whether it did so; else it stays as it was.
-    #[inline]
+    #[inline] // once for each line that a script refills a text from
     pub fn refill(&mut self, bytes: &[u8]) -> bool
         requires within { length bytes.now ≤ 1024 }
         requires no_lf { list_any (λ b. nat_eq b 10) bytes.now ≡ false }
@@ -115,7 +115,7 @@ impl Text {
     }
 
     /// Whether it stands in a block, which a text of more than 20 bytes does, so that it may be refilled.
-    #[inline]
+    #[inline] // asked for each note that a script has printed
     pub fn has_block(&self) -> bool {
         self.body.has_block()
     }
