@@ -41,7 +41,7 @@ standard_pool = record { drainers = 1; workers = 4; window = 16; connections = 4
 
 -- one Publish subject `s`, with the greatest limits
 abbrev pub standard_settings : Settings
-standard_settings = record { subjects = record { name = codes "s"; rules = record { kind = Publish; limits = record { observers = 64; joins = 4294967295 } } } ∷ []; pool = standard_pool }
+standard_settings = record { subjects = record { name = codes "s"; rules = record { kind = Publish; limits = record { observers = 64; joins = 4294967295; items = 4294967295 } } } ∷ []; pool = standard_pool }
 
 -- KEYS
 
