@@ -66,7 +66,7 @@ fn speak<R: Wait>(rt: &R, heap: &Heap, mut caller: Caller) -> Result<EndedDesk<S
         let Ok(text) = Text::new(heap.clone()?, word.as_bytes()) else {
             bail!("no text for {word}");
         };
-        caller.emit(rt, Note::Next(Item { from: 0, text }))?;
+        caller.emit(rt, Note::Next(Item::new(text)))?;
     }
     caller.emit(rt, Note::Completed)?;
     caller.finish(rt)

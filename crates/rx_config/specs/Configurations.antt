@@ -41,7 +41,7 @@ standard_pool = record { drainers = 1; workers = 4; window = 16; connections = 4
 
 -- one Publish subject `s`, with the greatest limits
 abbrev pub standard_settings : Settings
-standard_settings = record { subjects = record { name = codes "s"; rules = record { kind = Publish; limits = record { observers = 64; joins = 4294967295 } } } ∷ []; pool = standard_pool }
+standard_settings = record { subjects = record { name = codes "s"; rules = record { kind = Publish; limits = record { observers = 64; joins = 4294967295; items = 4294967295 } } } ∷ []; pool = standard_pool }
 
 -- KEYS
 
@@ -141,13 +141,13 @@ abbrev pub seed_in : Members → Option (Option (List ℕ))
 seed_in members = seed_of (get_member (codes "seed") members)
 
 abbrev pub plain_keys : List (List ℕ)
-plain_keys = codes "name" ∷ codes "kind" ∷ codes "observers" ∷ codes "joins" ∷ []
+plain_keys = codes "name" ∷ codes "kind" ∷ codes "observers" ∷ codes "joins" ∷ codes "items" ∷ []
 
 abbrev pub behavior_keys : List (List ℕ)
-behavior_keys = codes "name" ∷ codes "kind" ∷ codes "observers" ∷ codes "joins" ∷ codes "seed" ∷ []
+behavior_keys = codes "name" ∷ codes "kind" ∷ codes "observers" ∷ codes "joins" ∷ codes "items" ∷ codes "seed" ∷ []
 
 abbrev pub replay_keys : List (List ℕ)
-replay_keys = codes "name" ∷ codes "kind" ∷ codes "observers" ∷ codes "joins" ∷ codes "count" ∷ codes "age" ∷ []
+replay_keys = codes "name" ∷ codes "kind" ∷ codes "observers" ∷ codes "joins" ∷ codes "items" ∷ codes "count" ∷ codes "age" ∷ []
 
 abbrev pub plain_in : Kind → Members → Option Kind
 plain_in kind members = if has_only plain_keys members then Some kind else None
@@ -177,12 +177,14 @@ kind_named members word =
 abbrev pub kind_in : Members → Option Kind
 kind_in members = option_and_then (kind_named members) (text_at (codes "kind") members)
 
-abbrev pub limits_with : Option ℕ → Option ℕ → Option Limits
-limits_with (Some observers) (Some joins) = Some (record { observers = observers; joins = joins })
-limits_with _ _ = None
+abbrev pub limits_with : Option ℕ → Option ℕ → Option ℕ → Option Limits
+limits_with (Some observers) (Some joins) (Some items) = Some (record { observers = observers; joins = joins; items = items })
+limits_with _ _ _ = None
 
 abbrev pub limits_in : Members → Option Limits
-limits_in members = limits_with (number_at (codes "observers") 64 64 members) (number_at (codes "joins") 4294967295 4294967295 members)
+limits_in members =
+    limits_with (number_at (codes "observers") 64 64 members) (number_at (codes "joins") 4294967295 4294967295 members)
+    (number_at (codes "items") 4294967295 4294967295 members)
 
 abbrev pub subject_with : Option (List ℕ) → Option Limits → Option Kind → Option Subject
 subject_with (Some name) (Some limits) (Some kind) = Some (record { name = name; rules = record { kind = kind; limits = limits } })

@@ -47,6 +47,7 @@ impl Config {
             limits: Limits {
                 observers: 64,
                 joins: u32::MAX,
+                items: u32::MAX,
             },
         };
         let mut subjects = Vec::new(alloc);

@@ -1,4 +1,4 @@
-ghost use Rattle.std.specs.Prelude.{◌≡◌, ◌&&◌, true, IfOk, IfSome, Ok, nat_le, option_and_then, option_map};
+ghost use Rattle.std.specs.Prelude.{◌≡◌, true, IfOk, IfSome, Ok};
 ghost use Rattle.rx_note.specs.Kinds.{is_count, kind_checked};
 ghost use Rattle.rx_hub.specs.Hubs.{are_in_range};
 ghost use Rattle.toml.specs.View.{view, table_view};
@@ -52,7 +52,12 @@ fn limits_in(table: &Table) -> Option<Limits>
 {
     let observers = number_at(table, "observers", 64, 64)?;
     let joins = number_at(table, "joins", u32::MAX, u32::MAX)?;
-    Some(Limits { observers, joins })
+    let items = number_at(table, "items", u32::MAX, u32::MAX)?;
+    Some(Limits {
+        observers,
+        joins,
+        items,
+    })
 }
 
 // The kind of a table, with the keys of that kind alone.
@@ -90,7 +95,7 @@ fn plain_in(table: &Table, kind: Kind) -> Result<Kind, Fault>
     ensures reads { Reads (plain_in kind (table_view table.now)) result }
     ensures checked { IfOk result (λ kind. kind_checked kind ≡ Ok tt) }
 {
-    if !has_only(table, &["name", "kind", "observers", "joins"]) {
+    if !has_only(table, &["name", "kind", "observers", "joins", "items"]) {
         return Err(Fault::Refused);
     }
     Ok(kind)
@@ -101,7 +106,10 @@ fn behavior_in(heap: &Heap, table: &Table) -> Result<Kind, Fault>
     ensures reads { Reads (behavior_in (table_view table.now)) result }
     ensures checked { IfOk result (λ kind. kind_checked kind ≡ Ok tt) }
 {
-    if !has_only(table, &["name", "kind", "observers", "joins", "seed"]) {
+    if !has_only(
+        table,
+        &["name", "kind", "observers", "joins", "items", "seed"],
+    ) {
         return Err(Fault::Refused);
     }
     match seed_in(heap, table) {
@@ -117,7 +125,15 @@ fn replay_in(table: &Table) -> Result<Kind, Fault>
 {
     if !has_only(
         table,
-        &["name", "kind", "observers", "joins", "count", "age"],
+        &[
+            "name",
+            "kind",
+            "observers",
+            "joins",
+            "items",
+            "count",
+            "age",
+        ],
     ) {
         return Err(Fault::Refused);
     }

@@ -1,4 +1,4 @@
-ghost use Rattle.std.specs.Prelude.{◌≡◌, ◌≤◌, IfSome, option_map, true};
+ghost use Rattle.std.specs.Prelude.{◌≡◌, ◌≤◌, IfSome, true};
 ghost use Rattle.rx_note.specs.Kinds.{is_age};
 ghost use Rattle.toml.specs.View.{view, table_view};
 ghost use Rattle.rx_config.specs.Configurations.{bound_at, natural_of, number_at, number_of};

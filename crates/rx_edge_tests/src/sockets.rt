@@ -176,29 +176,52 @@ pub(crate) fn expect_served(
     Ok(())
 }
 
+// A subscriber, by what it says, what it is answered, and the notes that it hears.
+struct Subscriber {
+    says: &'static [u8],
+    answered: &'static [u8],
+    notes: &'static [u8],
+}
+
 // A subscriber and a producer, one after the other.
-fn talk(rt: &impl Host, paths: &Paths) -> bool {
-    let mut first = Peer::subscribed(rt, paths);
-    first.hears(b"JOINED 0\n");
+fn talk(rt: &impl Host, paths: &Paths, subscriber: &Subscriber) -> bool {
+    let mut first = Peer::connected(rt, paths);
+    first.sends(subscriber.says);
+    first.hears(subscriber.answered);
     let mut second = Peer::connected(rt, paths);
     second.sends(b"PUB s a\nEND s\n");
     second.hears(b"OK\nOK\n");
-    first.hears_last(b"NEXT a\nDONE\n");
+    first.hears_last(subscriber.notes);
     second.sends(b"QUIT\n");
     second.hears(b"OK\n");
     first.is_right() && second.is_right()
 }
 
-#[test]
-fn socket_round_trip(rt: HostRuntime) -> Result<(), Fail> {
-    write_config(&rt, &ONE, b"connections = 2\n")?;
+fn round_trip(rt: &(impl Host + Abort), subscriber: &Subscriber) -> Result<(), Fail> {
+    write_config(rt, &ONE, b"connections = 2\n")?;
     let (told, right) = join(
-        &rt,
-        || -> Vec<u8> { serve(&rt, &ONE) },
-        || -> bool { talk(&rt, &ONE) },
+        rt,
+        || -> Vec<u8> { serve(rt, &ONE) },
+        || -> bool { talk(rt, &ONE, subscriber) },
     );
     let wanted = "0 s joins 1 refused 0\n|rxline: listening on rxline-one.sock\n";
-    expect_served(&rt, &ONE, told.as_slice(), right, wanted)
+    expect_served(rt, &ONE, told.as_slice(), right, wanted)
+}
+
+#[test]
+fn socket_round_trip(rt: HostRuntime) -> Result<(), Fail> {
+    let first_version = Subscriber {
+        says: b"SUB s BUFFER DELAY\n",
+        answered: b"JOINED 0\n",
+        notes: b"NEXT a\nDONE\n",
+    };
+    let second_version_on_the_socket = Subscriber {
+        says: b"HELLO 2\nSUB s BUFFER DELAY\n",
+        answered: b"OK\nJOINED 0\n",
+        notes: b"NEXT 0 1 a\nDONE\n",
+    };
+    round_trip(&rt, &first_version)?;
+    round_trip(&rt, &second_version_on_the_socket)
 }
 
 // How many items are emitted beside one who never reads: more bytes than the buffer of a socket takes.

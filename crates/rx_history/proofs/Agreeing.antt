@@ -1,5 +1,5 @@
 -- Where a walk agrees with a history, it does with one entry more.
-use Rattle.std.proofs.Common.{◌≡◌, ℕ, ◌==◌, max, Bool, true, false, cond, ◌&&◌, List, ◌++◌, map, Option, None, Some, is_some, Result, Ok, Err, OnOk, refl, sym, ap, subst, ◌∙◌, arith}
+use Rattle.std.proofs.Common.{◌≡◌, ℕ, ◌==◌, max, Bool, true, false, cond, ◌&&◌, List, ◌++◌, map, Option, Some, Result, Ok, Err, OnOk, refl, sym, ap, subst, ◌∙◌, arith}
 use Rattle.std.specs.Option.{option_map}
 use Rattle.std.specs.List.{list_any}
 use Rattle.std.proofs.lemmas.Bool.Decides.{nat_tests}
@@ -9,60 +9,75 @@ use Rattle.rx_note.specs.declared.event.Event.TheVariants.{Emit, Join, Request, 
 use Rattle.rx_note.specs.declared.rules.Rules.{Rules}
 use Rattle.rx_note.specs.Choices.{Choice}
 use Rattle.rx_note.specs.Signals.{Requested, Offered, Signals, Start, ◌▸◌}
-use Rattle.rx_history.specs.Histories.{History, ◌▹◌, Roster, with_one_more, without_one, admits, roster_of, joins, is_held, end_of, may_join, stamp, items, last_item, age_moment, opening_by, offers_by, terminal_in, followed_by, ended_by, may_request, signals}
+use Rattle.rx_history.specs.Histories.{History, ◌▹◌, Roster, with_one_more, without_one, admits, roster_of, joins, is_held, end_of, item_count, accepts, may_join, stamp, items, last_item, age_moment, opening_by, offers_by, terminal_in, followed_by, ended_by, may_request, signals}
 use Rattle.rx_history.specs.Pasts.{Remembers}
 use Rattle.rx_history.specs.Traces.{Traces, MayTrace}
 use Rattle.rx_history.specs.Walks.{Passes}
 use Rattle.rx_history.specs.declared.past.Past.{Past}
 use Rattle.rx_history.specs.declared.trace.Trace.{Trace}
 use Rattle.rx_history.specs.declared.walk.Walk.{Walk}
-use Rattle.rx_history.proofs.Cases.{absent}
-use Rattle.rx_history.proofs.Remembering.{remembers_not_joined, remembers_requested, remembers_left, age_moment-joined}
-use Rattle.rx_history.proofs.Entries.{and_false, signals-emitted, signals-passed_by, signals-not_joined, signals-joined, signals-not_requested, signals-requested}
+use Rattle.rx_history.proofs.Remembering.{remembers_refused, remembers_not_joined, remembers_requested, remembers_left, age_moment-joined}
+use Rattle.rx_history.proofs.Entries.{and_false, signals-emitted, signals-passed_by, signals-refused, signals-not_joined, signals-joined, signals-not_requested, signals-requested}
 
 -- a trace of some signals is one of the same signals
 traces_same : (trace : Option Trace) (a b : Option Signals) → b ≡ a → MayTrace trace a → MayTrace trace b
 traces_same trace a b e traces = let P : Option Signals → Type 0 = λ x. MayTrace trace x in subst P (sym e) traces
 
+-- whether a past takes a note is as its history says
+abbrev pub AcceptsAs : Rules → Past → Note → Bool → Type 0
+AcceptsAs rules past note b = (H : History) → Remembers rules past H → accepts rules H note ≡ b
+
 -- an accepted note, to an observer that is held
-pub passes_emitted : (rules : Rules) (old new : Walk) (port : ℕ) (note : Note) (at : ℕ) (offers : List Item) → is_some old.past.end ≡ false
+pub passes_emitted : (rules : Rules) (old new : Walk) (port : ℕ) (note : Note) (at : ℕ) (offers : List Item) → AcceptsAs rules old.past note true
     → list_any (λ k. k == old.who) old.roster.held ≡ true → new.who ≡ old.who → new.roster ≡ old.roster
-    → ((H : History) → end_of H ≡ None → Remembers rules old.past H → Remembers rules new.past (H ▹ (port, Emit note at)))
-    → ((H : History) → Remembers rules old.past H → offers ≡ offers_by rules.kind (last_item rules H) port note)
+    → ((H : History) → accepts rules H note ≡ true → Remembers rules old.past H → Remembers rules new.past (H ▹ (port, Emit note at)))
+    → ((H : History) → Remembers rules old.past H → offers ≡ offers_by rules.kind (last_item rules H) port (item_count rules H) note)
     → ((s : Option Signals) → MayTrace old.trace s → MayTrace new.trace (option_map (λ t. followed_by t (map Offered offers ++ ended_by (terminal_in note))) s))
     → Passes rules old new (port, Emit note at)
-passes_emitted rules old new port note at offers open_now holds who roster remembers offered follows H was =
-    let unended : end_of H ≡ None = sym was.has_past.has_end ∙ absent old.past.end open_now in
+passes_emitted rules old new port note at offers accepting holds who roster remembers offered follows H was =
+    let accepted = accepting H was.has_past in
     let held : is_held rules H old.who ≡ true = ap (λ (r : Roster). list_any (λ k. k == old.who) r.held) (sym was.has_roster) ∙ holds in
     let follow : List Item → Option Signals = λ xs. option_map (λ t. followed_by t (map Offered xs ++ ended_by (terminal_in note))) (signals rules H old.who) in
     record {
       has_roster = roster ∙ was.has_roster;
-      has_past = remembers H unended was.has_past;
+      has_past = remembers H accepted was.has_past;
       has_trace =
           traces_same new.trace (follow offers) (signals rules (H ▹ (port, Emit note at)) new.who)
           (ap (signals rules (H ▹ (port, Emit note at))) who
-          ∙ signals-emitted rules H port note at old.who unended held
+          ∙ signals-emitted rules H port note at old.who accepted held
           ∙ ap follow (sym (offered H was.has_past)))
           (follows (signals rules H old.who) was.has_trace);
     }
 
 -- and to one that is not
-pub passes_passed_by : (rules : Rules) (old new : Walk) (port : ℕ) (note : Note) (at : ℕ) → is_some old.past.end ≡ false
+pub passes_passed_by : (rules : Rules) (old new : Walk) (port : ℕ) (note : Note) (at : ℕ) → AcceptsAs rules old.past note true
     → list_any (λ k. k == old.who) old.roster.held ≡ false → new.who ≡ old.who → new.roster ≡ old.roster → new.trace ≡ old.trace
-    → ((H : History) → end_of H ≡ None → Remembers rules old.past H → Remembers rules new.past (H ▹ (port, Emit note at)))
+    → ((H : History) → accepts rules H note ≡ true → Remembers rules old.past H → Remembers rules new.past (H ▹ (port, Emit note at)))
     → Passes rules old new (port, Emit note at)
-passes_passed_by rules old new port note at open_now holds who roster trace remembers H was =
-    let unended : end_of H ≡ None = sym was.has_past.has_end ∙ absent old.past.end open_now in
+passes_passed_by rules old new port note at accepting holds who roster trace remembers H was =
+    let accepted = accepting H was.has_past in
     let left : is_held rules H old.who ≡ false = ap (λ (r : Roster). list_any (λ k. k == old.who) r.held) (sym was.has_roster) ∙ holds in
     let P : Option Trace → Type 0 = λ t. MayTrace t (signals rules (H ▹ (port, Emit note at)) new.who) in
     record {
       has_roster = roster ∙ was.has_roster;
-      has_past = remembers H unended was.has_past;
+      has_past = remembers H accepted was.has_past;
       has_trace =
           subst P (sym trace)
           (traces_same old.trace (signals rules H old.who) (signals rules (H ▹ (port, Emit note at)) new.who)
           (ap (signals rules (H ▹ (port, Emit note at))) who ∙ signals-passed_by rules H port note at old.who left)
           was.has_trace);
+    }
+
+-- one that is refused
+pub passes_refused : (rules : Rules) (walk : Walk) (port : ℕ) (note : Note) (at : ℕ) → AcceptsAs rules walk.past note false → Passes rules walk walk (port, Emit note at)
+passes_refused rules walk port note at refusing H was =
+    let refused = refusing H was.has_past in
+    record {
+      has_roster = was.has_roster;
+      has_past = remembers_refused rules walk.past H port note at refused was.has_past;
+      has_trace =
+          traces_same walk.trace (signals rules H walk.who) (signals rules (H ▹ (port, Emit note at)) walk.who)
+          (signals-refused rules H port note at walk.who refused) was.has_trace;
     }
 
 -- what a Join makes of the observers

@@ -26,8 +26,9 @@ use Rattle.rx_note.proofs.Lines.{line_items-ended, given-waiting}
 use Rattle.rx_note.proofs.Sending.{sent-end}
 use Rattle.rx_note.proofs.Steps.{end_ahead}
 use Rattle.rx_note.proofs.Order.{line_items-in_order}
-use Rattle.rx_history.specs.Histories.{Entry, History, ◌▹◌, terminal_in, end_of, joins, held, is_held, may_join, is_ended, followed_by, ended_by, last_item, offers_by, signalled, may_request, signals, given_to, line_of, waiting_for}
+use Rattle.rx_history.specs.Histories.{Entry, History, ◌▹◌, terminal_in, end_of, joins, held, is_held, may_join, item_count, accepts, followed_by, ended_by, last_item, offers_by, signalled, may_request, signals, given_to, line_of, waiting_for}
 use Rattle.rx_history.specs.Delivery.{items_among, IsTerminal, offered, offered_to, end_for, loses_nothing, ends_ahead, offers_at_once, EndsAsTheSubjectOrOverflows, EndStays, OverflowEndsIt, OverflowStaysBehind, OverflowGoesAhead, KeepsAll, IsSubsequence, LineIsInOrder, OffersAreInOrder, EachPortIsInOrder, GivenThenWaiting, GivenOnlyGrows, TerminalIsLast, LineEndsAsTheSubject, NothingFollowsATerminal, NothingFollowsTheEnd, ErrorGoesAhead, DisposeDiscards, NothingFollowsADispose, GivenAndOwed, GivenWithinRequests, NothingWaitsWhileOwed, WaitsWithinRoom}
+use Rattle.rx_history.proofs.Accepting.{accepted}
 use Rattle.rx_history.proofs.Endings.{EndsBy, signals-ends, unended, ends_as_subject, ends_with_subject}
 use Rattle.rx_history.proofs.Feeding.{followed-behind, followed-overflow, followed-grows}
 use Rattle.rx_history.proofs.Numbers.{signals_unmade}
@@ -127,19 +128,19 @@ requests_grow (Some s) n = request_grows (may_request n s) s n
 grows_along : (before after after' : List Note) → after' ≡ after → Grows before after → Grows before after'
 grows_along before after after' e grown = (grown.0, e ∙ grown.1)
 
-accepted_grows : (rules : Rules) (H : History) (o port : ℕ) (note : Note) (at : ℕ) (held : Bool) → is_held rules H o ≡ held → end_of H ≡ None
+accepted_grows : (rules : Rules) (H : History) (o port : ℕ) (note : Note) (at : ℕ) (held : Bool) → is_held rules H o ≡ held → accepts rules H note ≡ true
     → Grows (given_to rules H o) (given_to rules (H ▹ (port, Emit note at)) o)
-accepted_grows rules H o port note at true held open_now =
-    grows_along (given_to rules H o) _ _ (ap given_of (signals-emitted rules H port note at o open_now held))
+accepted_grows rules H o port note at true held accepted =
+    grows_along (given_to rules H o) _ _ (ap given_of (signals-emitted rules H port note at o accepted held))
     (emit_grows (signals rules H o) (signalled rules H port note))
-accepted_grows rules H o port note at false left open_now =
+accepted_grows rules H o port note at false left accepted =
     grows_same (given_to rules H o) _ (ap given_of (signals-passed_by rules H port note at o left))
 
-emitted_grows : (rules : Rules) (H : History) (o port : ℕ) (note : Note) (at : ℕ) (end : Option Note) → end_of H ≡ end
+emitted_grows : (rules : Rules) (H : History) (o port : ℕ) (note : Note) (at : ℕ) (b : Bool) → accepts rules H note ≡ b
     → Grows (given_to rules H o) (given_to rules (H ▹ (port, Emit note at)) o)
-emitted_grows rules H o port note at None open_now = accepted_grows rules H o port note at (is_held rules H o) refl open_now
-emitted_grows rules H o port note at (Some end) ended =
-    grows_same (given_to rules H o) _ (ap given_of (signals-refused rules H port note at o (ap is_some ended)))
+emitted_grows rules H o port note at true accepted = accepted_grows rules H o port note at (is_held rules H o) refl accepted
+emitted_grows rules H o port note at false refused =
+    grows_same (given_to rules H o) _ (ap given_of (signals-refused rules H port note at o refused))
 
 same_number : (a b : ℕ) (admitted : Bool) → ((a == b) && admitted) ≡ true → a ≤ b
 same_number a b true it = grind (arith, nat_tests)
@@ -164,7 +165,7 @@ requested_grows rules H o port who n false other =
     grows_same (given_to rules H o) _ (ap given_of (signals-not_requested rules H port who n o other))
 
 pub given_only_grows : GivenOnlyGrows
-given_only_grows rules H o (port, Emit note at) = emitted_grows rules H o port note at (end_of H) refl
+given_only_grows rules H o (port, Emit note at) = emitted_grows rules H o port note at (accepts rules H note) refl
 given_only_grows rules H o (port, Join policy first at) =
     joined_grows rules H o port policy first at ((joins rules H == o) && may_join rules H) refl
 given_only_grows rules H o (port, Request who n) = requested_grows rules H o port who n ((who == o) && is_held rules H o) refl
@@ -266,11 +267,11 @@ pub nothing_follows_the_end : NothingFollowsTheEnd
 nothing_follows_the_end rules H o entry held ended none = follows_by rules H o entry (signals rules H o) refl held ended none
 
 -- an error offers no item, by any kind
-error_offers_nothing : (kind : Kind) (last : List Item) (port : ℕ) (text : Text) → offers_by kind last port (Failed text) ≡ []
-error_offers_nothing Publish last port text = refl
-error_offers_nothing (Behavior seed) last port text = refl
-error_offers_nothing Async last port text = refl
-error_offers_nothing (Replay count age) last port text = refl
+error_offers_nothing : (kind : Kind) (last : List Item) (port place : ℕ) (text : Text) → offers_by kind last port place (Failed text) ≡ []
+error_offers_nothing Publish last port place text = refl
+error_offers_nothing (Behavior seed) last port place text = refl
+error_offers_nothing Async last port place text = refl
+error_offers_nothing (Replay count age) last port place text = refl
 
 -- an end by Ahead, as the last signal
 given_ahead : (rules : Rules) (H later : History) (o : ℕ) (s : Signals) (terminal : Note) → goes_ahead (policy_of s).errors terminal ≡ true → terminal_of s ≡ None
@@ -301,9 +302,9 @@ error_ahead_by rules H o port text at None none held chose open_now = cc
 error_ahead_by rules H o port text at (Some s) is held chose open_now =
     let later = H ▹ (port, Emit (Failed text) at) in
     let now : signals rules later o ≡ Some (s ▸ Ended (Failed text)) =
-    signals-emitted rules H port (Failed text) at o (unended rules H o s is held open_now) held
-    ∙ ap (option_map (λ t. followed_by t (map Offered (offers_by rules.kind (last_item rules H) port (Failed text)) ++ Ended (Failed text) ∷ []))) is
-    ∙ ap (λ xs. Some (followed_by s (map Offered xs ++ Ended (Failed text) ∷ []))) (error_offers_nothing rules.kind (last_item rules H) port text)
+    signals-emitted rules H port (Failed text) at o (accepted rules H (Failed text) (unended rules H o s is held open_now) refl) held
+    ∙ ap (option_map (λ t. followed_by t (map Offered (offers_by rules.kind (last_item rules H) port (item_count rules H) (Failed text)) ++ Ended (Failed text) ∷ []))) is
+    ∙ ap (λ xs. Some (followed_by s (map Offered xs ++ Ended (Failed text) ∷ []))) (error_offers_nothing rules.kind (last_item rules H) port (item_count rules H) text)
     ∙ ap (λ t. Some t) (sent-end s (Failed text) open_now) in
     given_ahead rules H later o s (Failed text) (by_ahead s text chose) open_now is now held
 
@@ -314,33 +315,34 @@ error_goes_ahead rules H o port text at held chose open_now = error_ahead_by rul
 
 -- the signals that it leaves
 overflowed : (rules : Rules) (H : History) (o port : ℕ) (item : Item) (at : ℕ) (s : Signals) → offers_at_once rules.kind ≡ true → is_held rules H o ≡ true
-    → signals rules H o ≡ Some s → terminal_of s ≡ None → overflows s ≡ true → signals rules (H ▹ (port, Emit (Next item) at)) o ≡ Some (s ▸ Ended overflow)
-overflowed rules H o port item at s once held is open_now over =
-    signals-emitted rules H port (Next item) at o (unended rules H o s is held open_now) held
-    ∙ ap (option_map (λ t. followed_by t (map Offered (offers_by rules.kind (last_item rules H) port (Next item)) ++ []))) is
-    ∙ ap (λ xs. Some (followed_by s (map Offered xs ++ []))) (now_offered rules.kind (last_item rules H) port (Next item) once)
-    ∙ ap (λ t. Some t) (followed-overflow s (record item { from = port }) [] None open_now over)
+    → accepts rules H (Next item) ≡ true → signals rules H o ≡ Some s → terminal_of s ≡ None → overflows s ≡ true
+    → signals rules (H ▹ (port, Emit (Next item) at)) o ≡ Some (s ▸ Ended overflow)
+overflowed rules H o port item at s once held accepted is open_now over =
+    signals-emitted rules H port (Next item) at o accepted held
+    ∙ ap (option_map (λ t. followed_by t (map Offered (offers_by rules.kind (last_item rules H) port (item_count rules H) (Next item)) ++ []))) is
+    ∙ ap (λ xs. Some (followed_by s (map Offered xs ++ []))) (now_offered rules.kind (last_item rules H) port (item_count rules H) (Next item) once)
+    ∙ ap (λ t. Some t) (followed-overflow s (record item { from = port; place = item_count rules H }) [] None open_now over)
 
 overflow_ends_by : (rules : Rules) (H : History) (o port : ℕ) (item : Item) (at : ℕ) (before : Option Signals) → signals rules H o ≡ before → offers_at_once rules.kind ≡ true → is_held rules H o ≡ true
-    → option_map_or terminal_of before None ≡ None → option_map_or overflows before false ≡ true
+    → accepts rules H (Next item) ≡ true → option_map_or terminal_of before None ≡ None → option_map_or overflows before false ≡ true
     → (end_for rules (H ▹ (port, Emit (Next item) at)) o ≡ Some overflow) × (offered_to rules (H ▹ (port, Emit (Next item) at)) o ≡ offered_to rules H o)
-overflow_ends_by rules H o port item at None none once held open_now over = cc
-overflow_ends_by rules H o port item at (Some s) is once held open_now over =
-    let now = overflowed rules H o port item at s once held is open_now over in (
+overflow_ends_by rules H o port item at None none once held accepted open_now over = cc
+overflow_ends_by rules H o port item at (Some s) is once held accepted open_now over =
+    let now = overflowed rules H o port item at s once held accepted is open_now over in (
       ap (λ t. option_map_or terminal_of t None) now,
       ap (λ t. option_map_or offered t []) now ∙ ap (λ t. option_map_or offered t []) (sym is),
     )
 
 pub overflow_ends_it : OverflowEndsIt
-overflow_ends_it rules H o port item at once holds open_now over = overflow_ends_by rules H o port item at (signals rules H o) refl once holds open_now over
+overflow_ends_it rules H o port item at once holds accepted open_now over = overflow_ends_by rules H o port item at (signals rules H o) refl once holds accepted open_now over
 
 overflow_behind_by : (rules : Rules) (H : History) (o port : ℕ) (item : Item) (at : ℕ) (before : Option Signals) → signals rules H o ≡ before → offers_at_once rules.kind ≡ true → is_held rules H o ≡ true
-    → errors_of before ≡ Some Delay → option_map_or terminal_of before None ≡ None → option_map_or overflows before false ≡ true
+    → accepts rules H (Next item) ≡ true → errors_of before ≡ Some Delay → option_map_or terminal_of before None ≡ None → option_map_or overflows before false ≡ true
     → line_of rules (H ▹ (port, Emit (Next item) at)) o ≡ line_of rules H o ++ overflow ∷ []
-overflow_behind_by rules H o port item at None none once held chose open_now over = cc
-overflow_behind_by rules H o port item at (Some s) is once held chose open_now over =
+overflow_behind_by rules H o port item at None none once held accepted chose open_now over = cc
+overflow_behind_by rules H o port item at (Some s) is once held accepted chose open_now over =
     let later = H ▹ (port, Emit (Next item) at) in
-    let now = overflowed rules H o port item at s once held is open_now over in
+    let now = overflowed rules H o port item at s once held accepted is open_now over in
     let before : line_of rules H o ≡ map Next (line_items s) =
     line_of-held rules H o s is held ∙ ap (λ end. map Next (line_items s) ++ option_to_list end) open_now ∙ append-nil (map Next (line_items s)) in
     line_of-held rules later o (s ▸ Ended overflow) now held
@@ -348,19 +350,19 @@ overflow_behind_by rules H o port item at (Some s) is once held chose open_now o
     ∙ ap (λ notes. notes ++ overflow ∷ []) (sym before)
 
 pub overflow_stays_behind : OverflowStaysBehind
-overflow_stays_behind rules H o port item at once holds chose open_now over =
-    overflow_behind_by rules H o port item at (signals rules H o) refl once holds chose open_now over
+overflow_stays_behind rules H o port item at once holds accepted chose open_now over =
+    overflow_behind_by rules H o port item at (signals rules H o) refl once holds accepted chose open_now over
 
 overflow_ahead_by : (rules : Rules) (H : History) (o port : ℕ) (item : Item) (at : ℕ) (before : Option Signals) → signals rules H o ≡ before → offers_at_once rules.kind ≡ true → is_held rules H o ≡ true
-    → errors_of before ≡ Some Ahead → option_map_or terminal_of before None ≡ None → option_map_or overflows before false ≡ true
+    → accepts rules H (Next item) ≡ true → errors_of before ≡ Some Ahead → option_map_or terminal_of before None ≡ None → option_map_or overflows before false ≡ true
     → (given_to rules (H ▹ (port, Emit (Next item) at)) o ≡ given_to rules H o ++ overflow ∷ []) × (waiting_for rules (H ▹ (port, Emit (Next item) at)) o ≡ [])
-overflow_ahead_by rules H o port item at None none once held chose open_now over = cc
-overflow_ahead_by rules H o port item at (Some s) is once held chose open_now over =
-    given_ahead rules H (H ▹ (port, Emit (Next item) at)) o s overflow (by_ahead s (codes "OVERFLOW") chose) open_now is (overflowed rules H o port item at s once held is open_now over) held
+overflow_ahead_by rules H o port item at None none once held accepted chose open_now over = cc
+overflow_ahead_by rules H o port item at (Some s) is once held accepted chose open_now over =
+    given_ahead rules H (H ▹ (port, Emit (Next item) at)) o s overflow (by_ahead s (codes "OVERFLOW") chose) open_now is (overflowed rules H o port item at s once held accepted is open_now over) held
 
 pub overflow_goes_ahead : OverflowGoesAhead
-overflow_goes_ahead rules H o port item at once holds chose open_now over =
-    overflow_ahead_by rules H o port item at (signals rules H o) refl once holds chose open_now over
+overflow_goes_ahead rules H o port item at once holds accepted chose open_now over =
+    overflow_ahead_by rules H o port item at (signals rules H o) refl once holds accepted chose open_now over
 
 -- AN END STAYS
 
@@ -390,12 +392,12 @@ same_along before after after' e same = (ap (λ t. option_map_or terminal_of t N
 no_end : (end : Note) → None ≡ Some end → ⊥
 no_end end e = cc
 
-emitted_stays : (rules : Rules) (H : History) (o port : ℕ) (note : Note) (at : ℕ) (end : Note) (fed : Bool) → (is_held rules H o && not (is_ended H)) ≡ fed → end_for rules H o ≡ Some end
+emitted_stays : (rules : Rules) (H : History) (o port : ℕ) (note : Note) (at : ℕ) (end : Note) (fed : Bool) → (is_held rules H o && accepts rules H note) ≡ fed → end_for rules H o ≡ Some end
     → SameEnd (signals rules H o) (signals rules (H ▹ (port, Emit note at)) o)
 emitted_stays rules H o port note at end true fed ended =
     same_along (signals rules H o) (option_map (λ s. followed_by s (signalled rules H port note)) (signals rules H o)) _
     (ap (λ b. cond b (option_map (λ s. followed_by s (signalled rules H port note)) (signals rules H o)) (signals rules H o)) fed)
-    (fed_stays (signals rules H o) (offers_by rules.kind (last_item rules H) port note) (terminal_in note) end ended)
+    (fed_stays (signals rules H o) (offers_by rules.kind (last_item rules H) port (item_count rules H) note) (terminal_in note) end ended)
 emitted_stays rules H o port note at end false passed ended =
     same_signals (signals rules H o) _ (ap (λ b. cond b (option_map (λ s. followed_by s (signalled rules H port note)) (signals rules H o)) (signals rules H o)) passed)
 
@@ -411,7 +413,7 @@ requested_stays rules H o port who n true own =
 requested_stays rules H o port who n false other = same_signals (signals rules H o) _ (signals-not_requested rules H port who n o other)
 
 stays_so : (rules : Rules) (H : History) (o : ℕ) (entry : Entry) (end : Note) → end_for rules H o ≡ Some end → SameEnd (signals rules H o) (signals rules (H ▹ entry) o)
-stays_so rules H o (port, Emit note at) end ended = emitted_stays rules H o port note at end (is_held rules H o && not (is_ended H)) refl ended
+stays_so rules H o (port, Emit note at) end ended = emitted_stays rules H o port note at end (is_held rules H o && accepts rules H note) refl ended
 stays_so rules H o (port, Join policy first at) end ended = joined_stays rules H o port policy first at end ((joins rules H == o) && may_join rules H) refl ended
 stays_so rules H o (port, Request who n) end ended = requested_stays rules H o port who n ((who == o) && is_held rules H o) refl
 stays_so rules H o (port, Dispose who) end ended = same_signals (signals rules H o) _ refl

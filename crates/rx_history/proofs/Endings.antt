@@ -10,7 +10,8 @@ use Rattle.rx_note.specs.declared.strategy.Strategy.{Strategy}
 use Rattle.rx_note.specs.declared.strategy.Strategy.TheVariants.{Buffer, Drop, Latest, Bounded}
 use Rattle.rx_note.specs.Signals.{Requested, Offered, Signals, Start, ◌▸◌, policy_of, terminal_of, may_overflow, overflow, are_too_many, overflows}
 use Rattle.rx_note.proofs.Sending.{sent-end}
-use Rattle.rx_history.specs.Histories.{History, NoEvents, ◌▹◌, terminal_in, end_of, joins, is_held, may_join, stamp, opening_by, followed_by, ended_by, opened, last_item, offers_by, signalled, may_request, signals}
+use Rattle.rx_history.specs.Histories.{History, NoEvents, ◌▹◌, terminal_in, end_of, item_count, accepts, joins, is_held, may_join, stamp, opening_by, followed_by, ended_by, opened, last_item, offers_by, signalled, may_request, signals}
+use Rattle.rx_history.proofs.Accepting.{accepts-open, end_of-refused}
 use Rattle.rx_history.proofs.Cases.{chosen, mapped}
 use Rattle.rx_history.proofs.Entries.{is_held-not_joined, held_before, signals-emitted, signals-refused}
 use Rattle.rx_history.proofs.Feeding.{followed-behind, followed-overflow, followed-fits}
@@ -62,24 +63,24 @@ requested-ends false s n end was = was
 
 -- OF AN OBSERVER THAT IS HELD
 
-emitted-ends : (rules : Rules) (H : History) (port : ℕ) (note : Note) (at o : ℕ) (s : Signals) (end : Option Note) → end_of H ≡ end → is_held rules H o ≡ true
+emitted-ends : (rules : Rules) (H : History) (port : ℕ) (note : Note) (at o : ℕ) (s : Signals) (b : Bool) → accepts rules H note ≡ b → is_held rules H o ≡ true
     → ((t : Signals) → signals rules H o ≡ Some t → EndsBy (end_of H) t)
     → signals rules (H ▹ (port, Emit note at)) o ≡ Some s → EndsBy (end_of (H ▹ (port, Emit note at))) s
-emitted-ends rules H port note at o s None unended held before is =
-    let found = mapped (λ (t : Signals). followed_by t (signalled rules H port note)) (signals rules H o) s (sym (signals-emitted rules H port note at o unended held) ∙ is) in
+emitted-ends rules H port note at o s true accepted held before is =
+    let unended = accepts-open rules H note accepted in
+    let found = mapped (λ (t : Signals). followed_by t (signalled rules H port note)) (signals rules H o) s (sym (signals-emitted rules H port note at o accepted held) ∙ is) in
     let was : EndsBy None found.0 = subst (λ end. EndsBy end found.0) unended (before found.0 found.1) in
     let now : EndsBy (terminal_in note) s =
-    subst (EndsBy (terminal_in note)) found.2 (followed-ends found.0 (offers_by rules.kind (last_item rules H) port note) (terminal_in note) was) in
+    subst (EndsBy (terminal_in note)) found.2 (followed-ends found.0 (offers_by rules.kind (last_item rules H) port (item_count rules H) note) (terminal_in note) was) in
     subst (λ end. EndsBy (option_or end (terminal_in note)) s) (sym unended) now
-emitted-ends rules H port note at o s (Some end) ended held before is =
-    let was : EndsBy (Some end) s = subst (λ end. EndsBy end s) ended (before s (sym (signals-refused rules H port note at o (ap is_some ended)) ∙ is)) in
-    subst (λ end. EndsBy (option_or end (terminal_in note)) s) (sym ended) was
+emitted-ends rules H port note at o s false refused held before is =
+    subst (λ end. EndsBy end s) (sym (end_of-refused rules H port note at refused)) (before s (sym (signals-refused rules H port note at o refused) ∙ is))
 
 -- its signals end as the subject does, or by an overflow
 pub signals-ends : (rules : Rules) (H : History) (o : ℕ) (s : Signals) → signals rules H o ≡ Some s → is_held rules H o ≡ true → EndsBy (end_of H) s
 signals-ends rules NoEvents o s is held = cc
 signals-ends rules (H ▹ (port, Emit note at)) o s is held =
-    emitted-ends rules H port note at o s (end_of H) refl held (λ t was. signals-ends rules H o t was held) is
+    emitted-ends rules H port note at o s (accepts rules H note) refl held (λ t was. signals-ends rules H o t was held) is
 signals-ends rules (H ▹ (port, Join policy first at)) o s is held =
     elim (chosen ((joins rules H == o) && may_join rules H) (Some (opened rules H policy first at)) (signals rules H o) (Some s) is) [
       | inl joined ↦

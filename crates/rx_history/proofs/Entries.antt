@@ -10,7 +10,7 @@ use Rattle.rx_note.specs.declared.event.Event.TheVariants.{Emit, Join, Request, 
 use Rattle.rx_note.specs.declared.rules.Rules.{Rules}
 use Rattle.rx_note.specs.Choices.{Choice}
 use Rattle.rx_note.specs.Signals.{Signal, Requested, Signals, ◌▸◌, line, waiting}
-use Rattle.rx_history.specs.Histories.{History, NoEvents, ◌▹◌, Roster, with_one_more, roster_of, joins, held, is_held, is_ended, end_of, may_join, followed_by, signalled, opened, may_request, signals, line_of, given_to, waiting_for}
+use Rattle.rx_history.specs.Histories.{History, NoEvents, ◌▹◌, Roster, with_one_more, roster_of, joins, held, is_held, accepts, may_join, followed_by, signalled, opened, may_request, signals, line_of, given_to, waiting_for}
 use Rattle.rx_history.proofs.Numbers.{signals_unmade}
 
 or_true : (b : Bool) → (b || true) ≡ true
@@ -62,7 +62,7 @@ held_before rules H port who o held = any_filter (λ k. k == o) (λ k. not (k ==
 pub held_made : (rules : Rules) (H : History) (o : ℕ) → is_held rules H o ≡ true → is_some (signals rules H o) ≡ true
 held_made rules NoEvents o held = held
 held_made rules (H ▹ (port, Emit note at)) o held =
-    found_fed (is_held rules H o && not (is_ended H)) (λ s. followed_by s (signalled rules H port note)) (signals rules H o)
+    found_fed (is_held rules H o && accepts rules H note) (λ s. followed_by s (signalled rules H port note)) (signals rules H o)
     ∙ held_made rules H o held
 held_made rules (H ▹ (port, Join policy first at)) o held =
     held_joined (joins rules H == o) (may_join rules H) (roster_of rules.limits H) o (opened rules H policy first at) (signals rules H o) refl (held_made rules H o) held
@@ -105,12 +105,12 @@ and_false true = refl
 and_false false = refl
 
 -- an accepted note is signalled to an observer that is held
-pub signals-emitted : (rules : Rules) (H : History) (port : ℕ) (note : Note) (at o : ℕ) → end_of H ≡ None → is_held rules H o ≡ true
+pub signals-emitted : (rules : Rules) (H : History) (port : ℕ) (note : Note) (at o : ℕ) → accepts rules H note ≡ true → is_held rules H o ≡ true
     → signals rules (H ▹ (port, Emit note at)) o ≡ option_map (λ s. followed_by s (signalled rules H port note)) (signals rules H o)
-signals-emitted rules H port note at o unended held =
+signals-emitted rules H port note at o accepted held =
     let S = signals rules H o in
     let fed : List Signal → Option Signals = λ more. option_map (λ s. followed_by s more) S in
-    ap (λ end. cond (is_held rules H o && not (is_some end)) (fed (signalled rules H port note)) S) unended
+    ap (λ b. cond (is_held rules H o && b) (fed (signalled rules H port note)) S) accepted
     ∙ ap (λ b. cond (b && true) (fed (signalled rules H port note)) S) held
 
 -- and to no other
@@ -118,14 +118,14 @@ pub signals-passed_by : (rules : Rules) (H : History) (port : ℕ) (note : Note)
     → signals rules (H ▹ (port, Emit note at)) o ≡ signals rules H o
 signals-passed_by rules H port note at o left =
     let S = signals rules H o in
-    ap (λ b. cond (b && not (is_ended H)) (option_map (λ s. followed_by s (signalled rules H port note)) S) S) left
+    ap (λ b. cond (b && accepts rules H note) (option_map (λ s. followed_by s (signalled rules H port note)) S) S) left
 
--- a note after the end changes nothing
-pub signals-refused : (rules : Rules) (H : History) (port : ℕ) (note : Note) (at o : ℕ) → is_ended H ≡ true
+-- a note that is refused changes nothing
+pub signals-refused : (rules : Rules) (H : History) (port : ℕ) (note : Note) (at o : ℕ) → accepts rules H note ≡ false
     → signals rules (H ▹ (port, Emit note at)) o ≡ signals rules H o
-signals-refused rules H port note at o ended =
+signals-refused rules H port note at o refused =
     let S = signals rules H o in
-    ap (λ b. cond (is_held rules H o && not b) (option_map (λ s. followed_by s (signalled rules H port note)) S) S) ended
+    ap (λ b. cond (is_held rules H o && b) (option_map (λ s. followed_by s (signalled rules H port note)) S) S) refused
     ∙ ap (λ b. cond b (option_map (λ s. followed_by s (signalled rules H port note)) S) S) (and_false (is_held rules H o))
 
 -- a Join that is not accepted, or of another, changes nothing for an observer
@@ -174,7 +174,7 @@ not_made false false roster o made before at none low = low none
 pub signals_none : (rules : Rules) (H : History) (o : ℕ) → signals rules H o ≡ None → joins rules H ≤ o
 signals_none rules NoEvents o none = omega arith
 signals_none rules (H ▹ (port, Emit note at)) o none =
-    signals_none rules H o (none_fed (is_held rules H o && not (is_ended H)) (λ s. followed_by s (signalled rules H port note)) (signals rules H o) none)
+    signals_none rules H o (none_fed (is_held rules H o && accepts rules H note) (λ s. followed_by s (signalled rules H port note)) (signals rules H o) none)
 signals_none rules (H ▹ (port, Join policy first at)) o none =
     not_made (joins rules H == o) (may_join rules H) (roster_of rules.limits H) o (opened rules H policy first at) (signals rules H o) refl none (signals_none rules H o)
 signals_none rules (H ▹ (port, Request who n)) o none =

@@ -1,4 +1,5 @@
 mod Rows
+pub mod Accepting
 pub mod Agreeing
 pub mod Cases
 pub mod Delivered
@@ -10,6 +11,7 @@ pub mod Gaining
 pub mod Leaving
 pub mod Numbers
 pub mod Offers
+pub mod Placing
 pub mod Queueing
 pub mod Remembering
 pub mod Rooms

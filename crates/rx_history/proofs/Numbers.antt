@@ -7,7 +7,7 @@ use Rattle.rx_note.specs.declared.event.Event.TheVariants.{Emit, Join, Request, 
 use Rattle.rx_note.specs.declared.rules.Rules.{Rules}
 use Rattle.rx_note.specs.declared.limits.Limits.{Limits}
 use Rattle.rx_note.specs.Signals.{Signals, ◌▸◌, Requested}
-use Rattle.rx_history.specs.Histories.{History, NoEvents, ◌▹◌, Roster, admits, with_one_more, roster_of, joins, is_held, is_ended, may_join, followed_by, signalled, opened, may_request, signals}
+use Rattle.rx_history.specs.Histories.{History, NoEvents, ◌▹◌, Roster, admits, with_one_more, roster_of, joins, is_held, accepts, may_join, followed_by, signalled, opened, may_request, signals}
 
 -- the numbers rise, from low on, and are below high
 abbrev pub Rises : ℕ → List ℕ → ℕ → Type 0
@@ -112,7 +112,7 @@ unmade_joined false roster o made before le none = unmade_refused (roster.joins 
 pub signals_unmade : (rules : Rules) (H : History) (o : ℕ) → joins rules H ≤ o → signals rules H o ≡ None
 signals_unmade rules NoEvents o le = refl
 signals_unmade rules (H ▹ (port, Emit note at)) o le =
-    unmade_fed (is_held rules H o && not (is_ended H)) (λ s. followed_by s (signalled rules H port note)) (signals rules H o) (signals_unmade rules H o le)
+    unmade_fed (is_held rules H o && accepts rules H note) (λ s. followed_by s (signalled rules H port note)) (signals rules H o) (signals_unmade rules H o le)
 signals_unmade rules (H ▹ (port, Join policy first at)) o le =
     unmade_joined (may_join rules H) (roster_of rules.limits H) o (Some (opened rules H policy first at)) (signals rules H o) le (signals_unmade rules H o)
 signals_unmade rules (H ▹ (port, Request who n)) o le =

@@ -1,5 +1,5 @@
 -- The items offered to an observer, event by event.
-use Rattle.std.proofs.Common.{◌≡◌, ℕ, zero, suc, ◌-◌, ◌==◌, max, Bool, true, false, cond, ◌&&◌, not, List, [], ◌∷◌, ◌++◌, length, map, take, Option, None, Some, is_some, refl, sym, ap, ◌∙◌}
+use Rattle.std.proofs.Common.{◌≡◌, ℕ, zero, suc, ◌-◌, ◌==◌, max, Bool, true, false, cond, ◌&&◌, List, [], ◌∷◌, ◌++◌, length, map, take, Option, None, Some, is_some, refl, sym, ap, ◌∙◌}
 use Rattle.std.specs.Option.{option_map, option_map_or, option_or}
 use Rattle.std.proofs.lemmas.List.{append-nil, append_assoc, map-append}
 use Rattle.rx_note.specs.declared.item.Item.{Item}
@@ -12,11 +12,12 @@ use Rattle.rx_note.specs.declared.rules.Rules.{Rules}
 use Rattle.rx_note.specs.Choices.{Choice}
 use Rattle.rx_note.specs.Signals.{Signal, Requested, Offered, Ended, Signals, Start, ◌▸◌, policy_of, terminal_of, may_overflow, overflows, sent}
 use Rattle.rx_note.proofs.Sending.{sent-fits}
-use Rattle.rx_history.specs.Histories.{History, NoEvents, ◌▹◌, terminal_in, end_of, is_ended, is_completion, joins, is_held, may_join, stamp, Stamped, item_in, items, unstamped, newest, last_item, or_else, seed_item, is_young, young, at_most, age_moment, opening_by, offers_by, followed_by, ended_by, signalled, may_request, signals}
+use Rattle.rx_history.specs.Histories.{History, NoEvents, ◌▹◌, terminal_in, end_of, is_ended, item_count, accepts, is_completion, joins, is_held, may_join, stamp, Stamped, item_in, items, unstamped, newest, last_item, or_else, seed_item, is_young, young, at_most, age_moment, opening_by, offers_by, followed_by, ended_by, signalled, may_request, signals}
 use Rattle.rx_history.specs.Delivery.{offered, offered_to, emitted, seed_of, all_items, offers_at_once, is_bounded, IsSubsequence, EachItemIsOffered, AsyncOffersTheLast}
 use Rattle.rx_history.proofs.Subsequences.{along, none_of, all_of, take_of, both_of, some_of_some, filter_of, drop_of}
+use Rattle.rx_history.proofs.Accepting.{accepts-open, end_of-refused}
 use Rattle.rx_history.proofs.Cases.{neither}
-use Rattle.rx_history.proofs.Endings.{overflows-never, unended, ends_as_subject}
+use Rattle.rx_history.proofs.Endings.{overflows-never, ends_as_subject}
 use Rattle.rx_history.proofs.Feeding.{followed-behind, followed-overflow, followed-fits, policy_of-followed}
 use Rattle.rx_history.proofs.Entries.{held_made, held_before, is_held-not_joined, signals-emitted, signals-passed_by, signals-refused, signals-not_joined, signals-joined, signals-not_requested, signals-requested}
 
@@ -66,11 +67,11 @@ offered-whole s (item ∷ offers) end open_now other =
     ∙ append_assoc (offered s) (item ∷ []) offers
 
 -- a note whose item fits, or that has none
-offered-note : (s : Signals) (port : ℕ) (note : Note) → terminal_of s ≡ None → overflows s ≡ false
-    → offered (followed_by s (map Offered (item_in port note) ++ ended_by (terminal_in note))) ≡ offered s ++ item_in port note
-offered-note s port (Next item) open_now fits = ap offered (sent-fits s (record item { from = port }) open_now fits)
-offered-note s port Completed open_now fits = offered-end s Completed ∙ sym (append-nil (offered s))
-offered-note s port (Failed text) open_now fits = offered-end s (Failed text) ∙ sym (append-nil (offered s))
+offered-note : (s : Signals) (port place : ℕ) (note : Note) → terminal_of s ≡ None → overflows s ≡ false
+    → offered (followed_by s (map Offered (item_in port place note) ++ ended_by (terminal_in note))) ≡ offered s ++ item_in port place note
+offered-note s port place (Next item) open_now fits = ap offered (sent-fits s (record item { from = port; place = place }) open_now fits)
+offered-note s port place Completed open_now fits = offered-end s Completed ∙ sym (append-nil (offered s))
+offered-note s port place (Failed text) open_now fits = offered-end s (Failed text) ∙ sym (append-nil (offered s))
 
 offered-request : (b : Bool) (s : Signals) (n : ℕ) → offered (cond b (s ▸ Requested n) s) ≡ offered s
 offered-request true s n = refl
@@ -90,31 +91,32 @@ unmade (Some s) none made = cc
 
 -- WHAT EACH ENTRY OFFERS
 
-emitted_first_by : (rules : Rules) (H : History) (o port : ℕ) (note : Note) (at : ℕ) (before : Option Signals) → signals rules H o ≡ before → end_of H ≡ None → is_held rules H o ≡ true
-    → (n : ℕ) × (offered_to rules (H ▹ (port, Emit note at)) o ≡ offered_to rules H o ++ take n (offers_by rules.kind (last_item rules H) port note))
-emitted_first_by rules H o port note at None none unended held = absurd (unmade (signals rules H o) none (held_made rules H o held))
-emitted_first_by rules H o port note at (Some s) is unended held =
-    let offers = offers_by rules.kind (last_item rules H) port note in
+emitted_first_by : (rules : Rules) (H : History) (o port : ℕ) (note : Note) (at : ℕ) (before : Option Signals) → signals rules H o ≡ before → accepts rules H note ≡ true → is_held rules H o ≡ true
+    → (n : ℕ) × (offered_to rules (H ▹ (port, Emit note at)) o ≡ offered_to rules H o ++ take n (offers_by rules.kind (last_item rules H) port (item_count rules H) note))
+emitted_first_by rules H o port note at None none accepted held = absurd (unmade (signals rules H o) none (held_made rules H o held))
+emitted_first_by rules H o port note at (Some s) is accepted held =
+    let offers = offers_by rules.kind (last_item rules H) port (item_count rules H) note in
     let first = offered-first s offers (terminal_in note) in (
       first.0,
-      ap offered_of (signals-emitted rules H port note at o unended held)
+      ap offered_of (signals-emitted rules H port note at o accepted held)
           ∙ ap (λ b. offered_of (option_map (λ t. followed_by t (map Offered offers ++ ended_by (terminal_in note))) b)) is
           ∙ first.1
           ∙ ap (λ b. offered_of b ++ take first.0 offers) (sym is),
     )
 
 -- an accepted note offers the first of what its kind says, to an observer that is held
-offered_to-emitted : (rules : Rules) (H : History) (o port : ℕ) (note : Note) (at : ℕ) → end_of H ≡ None → is_held rules H o ≡ true
-    → (n : ℕ) × (offered_to rules (H ▹ (port, Emit note at)) o ≡ offered_to rules H o ++ take n (offers_by rules.kind (last_item rules H) port note))
-offered_to-emitted rules H o port note at unended held = emitted_first_by rules H o port note at (signals rules H o) refl unended held
+offered_to-emitted : (rules : Rules) (H : History) (o port : ℕ) (note : Note) (at : ℕ) → accepts rules H note ≡ true → is_held rules H o ≡ true
+    → (n : ℕ) × (offered_to rules (H ▹ (port, Emit note at)) o ≡ offered_to rules H o ++ take n (offers_by rules.kind (last_item rules H) port (item_count rules H) note))
+offered_to-emitted rules H o port note at accepted held = emitted_first_by rules H o port note at (signals rules H o) refl accepted held
 
-whole_by : (rules : Rules) (H : History) (o port : ℕ) (note : Note) (at : ℕ) (before : Option Signals) → signals rules H o ≡ before → end_of H ≡ None → is_held rules H o ≡ true
+whole_by : (rules : Rules) (H : History) (o port : ℕ) (note : Note) (at : ℕ) (before : Option Signals) → signals rules H o ≡ before → accepts rules H note ≡ true → is_held rules H o ≡ true
     → bounded_of before ≡ false
-    → offered_to rules (H ▹ (port, Emit note at)) o ≡ offered_to rules H o ++ offers_by rules.kind (last_item rules H) port note
-whole_by rules H o port note at None none unended held other = absurd (unmade (signals rules H o) none (held_made rules H o held))
-whole_by rules H o port note at (Some s) is unended held other =
-    let offers = offers_by rules.kind (last_item rules H) port note in
-    ap offered_of (signals-emitted rules H port note at o unended held)
+    → offered_to rules (H ▹ (port, Emit note at)) o ≡ offered_to rules H o ++ offers_by rules.kind (last_item rules H) port (item_count rules H) note
+whole_by rules H o port note at None none accepted held other = absurd (unmade (signals rules H o) none (held_made rules H o held))
+whole_by rules H o port note at (Some s) is accepted held other =
+    let unended = accepts-open rules H note accepted in
+    let offers = offers_by rules.kind (last_item rules H) port (item_count rules H) note in
+    ap offered_of (signals-emitted rules H port note at o accepted held)
     ∙ ap (λ b. offered_of (option_map (λ t. followed_by t (map Offered offers ++ ended_by (terminal_in note))) b)) is
     ∙ offered-whole s offers (terminal_in note) (ends_as_subject rules H o s is held other ∙ unended) other
     ∙ ap (λ b. offered_of b ++ offers) (sym is)
@@ -142,27 +144,27 @@ offered_to-request : (rules : Rules) (H : History) (port who n o : ℕ) (b : Boo
 offered_to-request rules H port who n o true own = ap offered_of (signals-requested rules H port who n o own) ∙ asked_same (signals rules H o) n
 offered_to-request rules H port who n o false other = ap offered_of (signals-not_requested rules H port who n o other)
 
-pub now_offered : (kind : Kind) (last : List Item) (port : ℕ) (note : Note) → offers_at_once kind ≡ true → offers_by kind last port note ≡ item_in port note
-now_offered Publish last port note once = refl
-now_offered (Behavior seed) last port note once = refl
-now_offered Async last port note once = cc
-now_offered (Replay count age) last port note once = refl
+pub now_offered : (kind : Kind) (last : List Item) (port place : ℕ) (note : Note) → offers_at_once kind ≡ true → offers_by kind last port place note ≡ item_in port place note
+now_offered Publish last port place note once = refl
+now_offered (Behavior seed) last port place note once = refl
+now_offered Async last port place note once = cc
+now_offered (Replay count age) last port place note once = refl
 
 note_by : (rules : Rules) (H : History) (o port : ℕ) (note : Note) (at : ℕ) (before : Option Signals) → signals rules H o ≡ before → offers_at_once rules.kind ≡ true → is_held rules H o ≡ true
-    → option_map_or terminal_of before None ≡ None → option_map_or overflows before false ≡ false
-    → offered_to rules (H ▹ (port, Emit note at)) o ≡ offered_to rules H o ++ item_in port note
-note_by rules H o port note at None none once held open_now fits = absurd (unmade (signals rules H o) none (held_made rules H o held))
-note_by rules H o port note at (Some s) is once held open_now fits =
-    let offers = offers_by rules.kind (last_item rules H) port note in
-    ap offered_of (signals-emitted rules H port note at o (unended rules H o s is held open_now) held)
+    → accepts rules H note ≡ true → option_map_or terminal_of before None ≡ None → option_map_or overflows before false ≡ false
+    → offered_to rules (H ▹ (port, Emit note at)) o ≡ offered_to rules H o ++ item_in port (item_count rules H) note
+note_by rules H o port note at None none once held accepted open_now fits = absurd (unmade (signals rules H o) none (held_made rules H o held))
+note_by rules H o port note at (Some s) is once held accepted open_now fits =
+    let offers = offers_by rules.kind (last_item rules H) port (item_count rules H) note in
+    ap offered_of (signals-emitted rules H port note at o accepted held)
     ∙ ap (λ b. offered_of (option_map (λ t. followed_by t (map Offered offers ++ ended_by (terminal_in note))) b)) is
-    ∙ ap (λ xs. offered (followed_by s (map Offered xs ++ ended_by (terminal_in note)))) (now_offered rules.kind (last_item rules H) port note once)
-    ∙ offered-note s port note open_now fits
-    ∙ ap (λ b. offered_of b ++ item_in port note) (sym is)
+    ∙ ap (λ xs. offered (followed_by s (map Offered xs ++ ended_by (terminal_in note)))) (now_offered rules.kind (last_item rules H) port (item_count rules H) note once)
+    ∙ offered-note s port (item_count rules H) note open_now fits
+    ∙ ap (λ b. offered_of b ++ item_in port (item_count rules H) note) (sym is)
 
 -- but for Async, an accepted item is offered to each observer that is held and has no end, unless it overflows
 pub each_item_is_offered : EachItemIsOffered
-each_item_is_offered rules H o port note at once holds open_now fits = note_by rules H o port note at (signals rules H o) refl once holds open_now fits
+each_item_is_offered rules H o port note at once holds accepted open_now fits = note_by rules H o port note at (signals rules H o) refl once holds accepted open_now fits
 
 -- THE ITEMS OF A HISTORY
 
@@ -171,26 +173,26 @@ firsts [] z = refl
 firsts (x ∷ xs) z = ap (λ ys. x ∷ ys) (firsts xs z)
 
 -- the items of an accepted note come last
-pub items-accepted : (rules : Rules) (H : History) (port : ℕ) (note : Note) (at : ℕ) → is_ended H ≡ false
-    → items rules (H ▹ (port, Emit note at)) ≡ items rules H ++ map (λ item. (item, max (stamp rules H) at)) (item_in port note)
-items-accepted rules H port note at unended =
-    ap (λ b. cond b (items rules H) (items rules H ++ map (λ item. (item, max (stamp rules H) at)) (item_in port note))) unended
+pub items-accepted : (rules : Rules) (H : History) (port : ℕ) (note : Note) (at : ℕ) → accepts rules H note ≡ true
+    → items rules (H ▹ (port, Emit note at)) ≡ items rules H ++ map (λ item. (item, max (stamp rules H) at)) (item_in port (item_count rules H) note)
+items-accepted rules H port note at accepted =
+    ap (λ b. cond b (items rules H ++ map (λ item. (item, max (stamp rules H) at)) (item_in port (item_count rules H) note)) (items rules H)) accepted
 
-pub items-refused : (rules : Rules) (H : History) (port : ℕ) (note : Note) (at : ℕ) → is_ended H ≡ true → items rules (H ▹ (port, Emit note at)) ≡ items rules H
-items-refused rules H port note at ended =
-    ap (λ b. cond b (items rules H) (items rules H ++ map (λ item. (item, max (stamp rules H) at)) (item_in port note))) ended
+pub items-refused : (rules : Rules) (H : History) (port : ℕ) (note : Note) (at : ℕ) → accepts rules H note ≡ false → items rules (H ▹ (port, Emit note at)) ≡ items rules H
+items-refused rules H port note at refused =
+    ap (λ b. cond b (items rules H ++ map (λ item. (item, max (stamp rules H) at)) (item_in port (item_count rules H) note)) (items rules H)) refused
 
-emitted-accepted : (rules : Rules) (H : History) (port : ℕ) (note : Note) (at : ℕ) → is_ended H ≡ false
-    → emitted rules (H ▹ (port, Emit note at)) ≡ emitted rules H ++ item_in port note
-emitted-accepted rules H port note at unended =
+pub emitted-accepted : (rules : Rules) (H : History) (port : ℕ) (note : Note) (at : ℕ) → accepts rules H note ≡ true
+    → emitted rules (H ▹ (port, Emit note at)) ≡ emitted rules H ++ item_in port (item_count rules H) note
+emitted-accepted rules H port note at accepted =
     let z = max (stamp rules H) at in
-    ap unstamped (items-accepted rules H port note at unended)
-    ∙ map-append (λ (stamped : Stamped). stamped.0) (items rules H) (map (λ item. (item, z)) (item_in port note))
-    ∙ ap (λ xs. emitted rules H ++ xs) (firsts (item_in port note) z)
+    ap unstamped (items-accepted rules H port note at accepted)
+    ∙ map-append (λ (stamped : Stamped). stamped.0) (items rules H) (map (λ item. (item, z)) (item_in port (item_count rules H) note))
+    ∙ ap (λ xs. emitted rules H ++ xs) (firsts (item_in port (item_count rules H) note) z)
 
-emitted-refused : (rules : Rules) (H : History) (port : ℕ) (note : Note) (at : ℕ) → is_ended H ≡ true
+pub emitted-refused : (rules : Rules) (H : History) (port : ℕ) (note : Note) (at : ℕ) → accepts rules H note ≡ false
     → emitted rules (H ▹ (port, Emit note at)) ≡ emitted rules H
-emitted-refused rules H port note at ended = ap unstamped (items-refused rules H port note at ended)
+emitted-refused rules H port note at refused = ap unstamped (items-refused rules H port note at refused)
 
 -- ASYNC
 
@@ -203,32 +205,33 @@ nothing_yet : (rules : Rules) (H : History) → end_of H ≡ None → last_alone
 nothing_yet rules H unended = ap (λ end. cond (is_completion end) (last_item rules H) []) unended
 
 -- a completion brings no item of its own
-async_note : (rules : Rules) (H : History) (port : ℕ) (note : Note) (at : ℕ) → is_ended H ≡ false
+async_note : (rules : Rules) (H : History) (port : ℕ) (note : Note) (at : ℕ) → accepts rules H note ≡ true
     → cond (is_completion (terminal_in note)) (last_item rules H) [] ≡ cond (is_completion (terminal_in note)) (last_item rules (H ▹ (port, Emit note at))) []
-async_note rules H port (Next item) at open_now = refl
-async_note rules H port Completed at open_now =
-    ap (λ xs. unstamped (newest 1 xs)) (sym (items-accepted rules H port Completed at open_now ∙ append-nil (items rules H)))
-async_note rules H port (Failed text) at open_now = refl
+async_note rules H port (Next item) at accepted = refl
+async_note rules H port Completed at accepted =
+    ap (λ xs. unstamped (newest 1 xs)) (sym (items-accepted rules H port Completed at accepted ∙ append-nil (items rules H)))
+async_note rules H port (Failed text) at accepted = refl
 
-async-emitted : (rules : Rules) (H : History) (o port : ℕ) (note : Note) (at : ℕ) (end : Option Note) → rules.kind ≡ Async → is_held rules H o ≡ true → end_of H ≡ end
+async-emitted : (rules : Rules) (H : History) (o port : ℕ) (note : Note) (at : ℕ) (b : Bool) → rules.kind ≡ Async → is_held rules H o ≡ true → accepts rules H note ≡ b
     → is_bounded rules H o ≡ false → offered_to rules H o ≡ last_alone rules H
     → offered_to rules (H ▹ (port, Emit note at)) o ≡ last_alone rules (H ▹ (port, Emit note at))
-async-emitted rules H o port note at None kind held unended other was =
+async-emitted rules H o port note at true kind held accepted other was =
     let later = H ▹ (port, Emit note at) in
+    let unended = accepts-open rules H note accepted in
     let end : end_of later ≡ terminal_in note = ap (λ e. option_or e (terminal_in note)) unended in
-    whole_by rules H o port note at (signals rules H o) refl unended held other
-    ∙ ap (λ xs. xs ++ offers_by rules.kind (last_item rules H) port note) (was ∙ nothing_yet rules H unended)
-    ∙ ap (λ k. offers_by k (last_item rules H) port note) kind
-    ∙ async_note rules H port note at (ap is_some unended)
+    whole_by rules H o port note at (signals rules H o) refl accepted held other
+    ∙ ap (λ xs. xs ++ offers_by rules.kind (last_item rules H) port (item_count rules H) note) (was ∙ nothing_yet rules H unended)
+    ∙ ap (λ k. offers_by k (last_item rules H) port (item_count rules H) note) kind
+    ∙ async_note rules H port note at accepted
     ∙ ap (λ e. cond (is_completion e) (last_item rules later) []) (sym end)
-async-emitted rules H o port note at (Some end) kind held ended other was =
+async-emitted rules H o port note at false kind held refused other was =
     let later = H ▹ (port, Emit note at) in
-    let same : end_of later ≡ end_of H = ap (λ e. option_or e (terminal_in note)) ended ∙ sym ended in
-    ap offered_of (signals-refused rules H port note at o (ap is_some ended))
+    let same : end_of later ≡ end_of H = end_of-refused rules H port note at refused in
+    ap offered_of (signals-refused rules H port note at o refused)
     ∙ was
     ∙ ap (λ e. cond (is_completion e) (last_item rules H) []) (sym same)
     ∙ ap (λ xs. cond (is_completion (end_of later)) (unstamped (newest 1 xs)) [])
-    (sym (items-refused rules H port note at (ap is_some ended)))
+    (sym (items-refused rules H port note at refused))
 
 async-joined : (rules : Rules) (H : History) (o port : ℕ) (policy : Choice) (first at : ℕ) (b : Bool) → rules.kind ≡ Async → ((joins rules H == o) && may_join rules H) ≡ b
     → (b ≡ true → may_overflow policy.strategy ≡ false) → (b ≡ false → offered_to rules H o ≡ last_alone rules H)
@@ -252,7 +255,7 @@ bounded-asked : (before : Option Signals) (n : ℕ) → bounded_of (option_map (
 bounded-asked None n = refl
 bounded-asked (Some s) n = bounded-asked_by (may_request n s) s n
 
-bounded-emitted : (rules : Rules) (H : History) (o port : ℕ) (note : Note) (at : ℕ) (b : Bool) → (is_held rules H o && not (is_ended H)) ≡ b → is_bounded rules (H ▹ (port, Emit note at)) o ≡ is_bounded rules H o
+bounded-emitted : (rules : Rules) (H : History) (o port : ℕ) (note : Note) (at : ℕ) (b : Bool) → (is_held rules H o && accepts rules H note) ≡ b → is_bounded rules (H ▹ (port, Emit note at)) o ≡ is_bounded rules H o
 bounded-emitted rules H o port note at true fed =
     ap (λ c. bounded_of (cond c (option_map (λ s. followed_by s (signalled rules H port note)) (signals rules H o)) (signals rules H o))) fed
     ∙ bounded-followed (signals rules H o) (signalled rules H port note)
@@ -274,8 +277,8 @@ bounded-joined rules H o port policy first at it =
 pub async_offers_the_last : AsyncOffersTheLast
 async_offers_the_last rules NoEvents o kind held other = refl
 async_offers_the_last rules (H ▹ (port, Emit note at)) o kind held other =
-    let still = sym (bounded-emitted rules H o port note at (is_held rules H o && not (is_ended H)) refl) ∙ other in
-    async-emitted rules H o port note at (end_of H) kind held refl still (async_offers_the_last rules H o kind held still)
+    let still = sym (bounded-emitted rules H o port note at (is_held rules H o && accepts rules H note) refl) ∙ other in
+    async-emitted rules H o port note at (accepts rules H note) kind held refl still (async_offers_the_last rules H o kind held still)
 async_offers_the_last rules (H ▹ (port, Join policy first at)) o kind held other =
     async-joined rules H o port policy first at ((joins rules H == o) && may_join rules H) kind refl
     (λ it. sym (bounded-joined rules H o port policy first at it) ∙ other)
@@ -295,14 +298,19 @@ take_none (suc n) = refl
 no_item : (note : Note) → terminal_in note ≡ None → is_completion (terminal_in note) ≡ false
 no_item note none = ap is_completion none
 
-nothing_emitted : (rules : Rules) (H : History) (o port : ℕ) (note : Note) (at : ℕ) (held : Bool) → rules.kind ≡ Async → end_of H ≡ None → terminal_in note ≡ None → is_held rules H o ≡ held
+nothing_fed : (rules : Rules) (H : History) (o port : ℕ) (note : Note) (at : ℕ) (b : Bool) → rules.kind ≡ Async → accepts rules H note ≡ b → terminal_in note ≡ None → is_held rules H o ≡ true
     → offered_to rules H o ≡ [] → offered_to rules (H ▹ (port, Emit note at)) o ≡ []
-nothing_emitted rules H o port note at true kind unended none held was =
-    let first = offered_to-emitted rules H o port note at unended held in
-    let offers : offers_by rules.kind (last_item rules H) port note ≡ [] =
-    ap (λ k. offers_by k (last_item rules H) port note) kind ∙ ap (λ b. cond b (last_item rules H) []) (no_item note none) in
-    first.1 ∙ ap (λ xs. xs ++ take first.0 (offers_by rules.kind (last_item rules H) port note)) was ∙ ap (take first.0) offers ∙ take_none first.0
-nothing_emitted rules H o port note at false kind unended none left was = ap offered_of (signals-passed_by rules H port note at o left) ∙ was
+nothing_fed rules H o port note at true kind accepted none held was =
+    let first = offered_to-emitted rules H o port note at accepted held in
+    let offers : offers_by rules.kind (last_item rules H) port (item_count rules H) note ≡ [] =
+    ap (λ k. offers_by k (last_item rules H) port (item_count rules H) note) kind ∙ ap (λ b. cond b (last_item rules H) []) (no_item note none) in
+    first.1 ∙ ap (λ xs. xs ++ take first.0 (offers_by rules.kind (last_item rules H) port (item_count rules H) note)) was ∙ ap (take first.0) offers ∙ take_none first.0
+nothing_fed rules H o port note at false kind refused none held was = ap offered_of (signals-refused rules H port note at o refused) ∙ was
+
+nothing_emitted : (rules : Rules) (H : History) (o port : ℕ) (note : Note) (at : ℕ) (held : Bool) → rules.kind ≡ Async → terminal_in note ≡ None → is_held rules H o ≡ held
+    → offered_to rules H o ≡ [] → offered_to rules (H ▹ (port, Emit note at)) o ≡ []
+nothing_emitted rules H o port note at true kind none held was = nothing_fed rules H o port note at (accepts rules H note) kind refl none held was
+nothing_emitted rules H o port note at false kind none left was = ap offered_of (signals-passed_by rules H port note at o left) ∙ was
 
 nothing_joined : (rules : Rules) (H : History) (o port : ℕ) (policy : Choice) (first at : ℕ) (b : Bool) → rules.kind ≡ Async → end_of H ≡ None → ((joins rules H == o) && may_join rules H) ≡ b
     → offered_to rules H o ≡ [] → offered_to rules (H ▹ (port, Join policy first at)) o ≡ []
@@ -317,7 +325,7 @@ nothing_before : (rules : Rules) (H : History) (o : ℕ) → rules.kind ≡ Asyn
 nothing_before rules NoEvents o kind unended = refl
 nothing_before rules (H ▹ (port, Emit note at)) o kind unended =
     let both = neither (end_of H) (terminal_in note) unended in
-    nothing_emitted rules H o port note at (is_held rules H o) kind both.0 both.1 refl (nothing_before rules H o kind both.0)
+    nothing_emitted rules H o port note at (is_held rules H o) kind both.1 refl (nothing_before rules H o kind both.0)
 nothing_before rules (H ▹ (port, Join policy first at)) o kind unended =
     nothing_joined rules H o port policy first at ((joins rules H == o) && may_join rules H) kind unended refl (nothing_before rules H o kind unended)
 nothing_before rules (H ▹ (port, Request who n)) o kind unended =
@@ -358,51 +366,52 @@ opening_in_order (Replay count age) rules H z =
 -- what an accepted note offers to an observer that is held comes behind what it was offered
 kind_in_order : (rules : Rules) (H : History) (o port : ℕ) (note : Note) (kind : Kind) → rules.kind ≡ kind → is_held rules H o ≡ true → end_of H ≡ None
     → IsSubsequence (offered_to rules H o) (all_items rules H)
-    → IsSubsequence (offered_to rules H o ++ offers_by kind (last_item rules H) port note) (all_items rules H ++ item_in port note)
-kind_in_order rules H o port note Publish is held unended of = both_of _ _ _ _ of (all_of (item_in port note))
-kind_in_order rules H o port note (Behavior seed) is held unended of = both_of _ _ _ _ of (all_of (item_in port note))
-kind_in_order rules H o port note (Replay count age) is held unended of = both_of _ _ _ _ of (all_of (item_in port note))
+    → IsSubsequence (offered_to rules H o ++ offers_by kind (last_item rules H) port (item_count rules H) note) (all_items rules H ++ item_in port (item_count rules H) note)
+kind_in_order rules H o port note Publish is held unended of = both_of _ _ _ _ of (all_of (item_in port (item_count rules H) note))
+kind_in_order rules H o port note (Behavior seed) is held unended of = both_of _ _ _ _ of (all_of (item_in port (item_count rules H) note))
+kind_in_order rules H o port note (Replay count age) is held unended of = both_of _ _ _ _ of (all_of (item_in port (item_count rules H) note))
 kind_in_order rules H o port note Async is held unended of =
     let last = cond (is_completion (terminal_in note)) (last_item rules H) [] in
     let none : offered_to rules H o ≡ [] = nothing_before rules H o is unended in
     let all : all_items rules H ≡ emitted rules H = ap (λ k. seed_of k ++ emitted rules H) is in
-    along (last ++ []) (emitted rules H ++ item_in port note) _ _
+    along (last ++ []) (emitted rules H ++ item_in port (item_count rules H) note) _ _
     (ap (λ xs. xs ++ last) none ∙ sym (append-nil last))
-    (ap (λ xs. xs ++ item_in port note) all)
-    (both_of last (emitted rules H) [] (item_in port note)
+    (ap (λ xs. xs ++ item_in port (item_count rules H) note) all)
+    (both_of last (emitted rules H) [] (item_in port (item_count rules H) note)
     (chosen_in_order (is_completion (terminal_in note)) (last_item rules H) [] (emitted rules H) (newest_in_order (items rules H) 1) (none_of (emitted rules H)))
-    (none_of (item_in port note)))
+    (none_of (item_in port (item_count rules H) note)))
 
-all_items-accepted : (rules : Rules) (H : History) (port : ℕ) (note : Note) (at : ℕ) → end_of H ≡ None
-    → all_items rules (H ▹ (port, Emit note at)) ≡ all_items rules H ++ item_in port note
-all_items-accepted rules H port note at unended =
-    ap (λ xs. seed_of rules.kind ++ xs) (emitted-accepted rules H port note at (ap is_some unended))
-    ∙ sym (append_assoc (seed_of rules.kind) (emitted rules H) (item_in port note))
+all_items-accepted : (rules : Rules) (H : History) (port : ℕ) (note : Note) (at : ℕ) → accepts rules H note ≡ true
+    → all_items rules (H ▹ (port, Emit note at)) ≡ all_items rules H ++ item_in port (item_count rules H) note
+all_items-accepted rules H port note at accepted =
+    ap (λ xs. seed_of rules.kind ++ xs) (emitted-accepted rules H port note at accepted)
+    ∙ sym (append_assoc (seed_of rules.kind) (emitted rules H) (item_in port (item_count rules H) note))
 
-accepted_in_order : (rules : Rules) (H : History) (o port : ℕ) (note : Note) (at : ℕ) (held : Bool) → is_held rules H o ≡ held → end_of H ≡ None
+accepted_in_order : (rules : Rules) (H : History) (o port : ℕ) (note : Note) (at : ℕ) (held : Bool) → is_held rules H o ≡ held → accepts rules H note ≡ true
     → IsSubsequence (offered_to rules H o) (all_items rules H)
     → IsSubsequence (offered_to rules (H ▹ (port, Emit note at)) o) (all_items rules (H ▹ (port, Emit note at)))
-accepted_in_order rules H o port note at true held unended of =
-    let offers = offers_by rules.kind (last_item rules H) port note in
-    let first = offered_to-emitted rules H o port note at unended held in
-    along (offered_to rules H o ++ take first.0 offers) (all_items rules H ++ item_in port note) _ _ first.1 (all_items-accepted rules H port note at unended)
-    (some_of_some (offered_to rules H o ++ take first.0 offers) (offered_to rules H o ++ offers) (all_items rules H ++ item_in port note)
+accepted_in_order rules H o port note at true held accepted of =
+    let unended = accepts-open rules H note accepted in
+    let offers = offers_by rules.kind (last_item rules H) port (item_count rules H) note in
+    let first = offered_to-emitted rules H o port note at accepted held in
+    along (offered_to rules H o ++ take first.0 offers) (all_items rules H ++ item_in port (item_count rules H) note) _ _ first.1 (all_items-accepted rules H port note at accepted)
+    (some_of_some (offered_to rules H o ++ take first.0 offers) (offered_to rules H o ++ offers) (all_items rules H ++ item_in port (item_count rules H) note)
     (both_of (offered_to rules H o) (offered_to rules H o) (take first.0 offers) offers (all_of (offered_to rules H o)) (take_of first.0 offers))
     (kind_in_order rules H o port note rules.kind refl held unended of))
-accepted_in_order rules H o port note at false left unended of =
-    along (offered_to rules H o ++ []) (all_items rules H ++ item_in port note) _ _
+accepted_in_order rules H o port note at false left accepted of =
+    along (offered_to rules H o ++ []) (all_items rules H ++ item_in port (item_count rules H) note) _ _
     (ap offered_of (signals-passed_by rules H port note at o left) ∙ sym (append-nil (offered_to rules H o)))
-    (all_items-accepted rules H port note at unended)
-    (both_of (offered_to rules H o) (all_items rules H) [] (item_in port note) of (none_of (item_in port note)))
+    (all_items-accepted rules H port note at accepted)
+    (both_of (offered_to rules H o) (all_items rules H) [] (item_in port (item_count rules H) note) of (none_of (item_in port (item_count rules H) note)))
 
-emitted_in_order : (rules : Rules) (H : History) (o port : ℕ) (note : Note) (at : ℕ) (end : Option Note) → end_of H ≡ end
+emitted_in_order : (rules : Rules) (H : History) (o port : ℕ) (note : Note) (at : ℕ) (b : Bool) → accepts rules H note ≡ b
     → IsSubsequence (offered_to rules H o) (all_items rules H)
     → IsSubsequence (offered_to rules (H ▹ (port, Emit note at)) o) (all_items rules (H ▹ (port, Emit note at)))
-emitted_in_order rules H o port note at None unended of = accepted_in_order rules H o port note at (is_held rules H o) refl unended of
-emitted_in_order rules H o port note at (Some end) ended of =
+emitted_in_order rules H o port note at true accepted of = accepted_in_order rules H o port note at (is_held rules H o) refl accepted of
+emitted_in_order rules H o port note at false refused of =
     along (offered_to rules H o) (all_items rules H) _ _
-    (ap offered_of (signals-refused rules H port note at o (ap is_some ended)))
-    (ap (λ xs. seed_of rules.kind ++ xs) (emitted-refused rules H port note at (ap is_some ended))) of
+    (ap offered_of (signals-refused rules H port note at o refused))
+    (ap (λ xs. seed_of rules.kind ++ xs) (emitted-refused rules H port note at refused)) of
 
 joined_in_order : (rules : Rules) (H : History) (o port : ℕ) (policy : Choice) (first at : ℕ) (b : Bool) → ((joins rules H == o) && may_join rules H) ≡ b
     → IsSubsequence (offered_to rules H o) (all_items rules H) → IsSubsequence (offered_to rules (H ▹ (port, Join policy first at)) o) (all_items rules H)
@@ -418,7 +427,7 @@ joined_in_order rules H o port policy first at false not_it of =
 -- the items offered are the seed and items of the accepted Emits, in their order
 pub offers_in_order : (rules : Rules) (H : History) (o : ℕ) → IsSubsequence (offered_to rules H o) (all_items rules H)
 offers_in_order rules NoEvents o = none_of (all_items rules NoEvents)
-offers_in_order rules (H ▹ (port, Emit note at)) o = emitted_in_order rules H o port note at (end_of H) refl (offers_in_order rules H o)
+offers_in_order rules (H ▹ (port, Emit note at)) o = emitted_in_order rules H o port note at (accepts rules H note) refl (offers_in_order rules H o)
 offers_in_order rules (H ▹ (port, Join policy first at)) o =
     joined_in_order rules H o port policy first at ((joins rules H == o) && may_join rules H) refl (offers_in_order rules H o)
 offers_in_order rules (H ▹ (port, Request who n)) o =

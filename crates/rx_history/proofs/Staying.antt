@@ -1,5 +1,5 @@
 -- What is so of an observer's first signals, and what each signal leaves, is so of its signals after every history.
-use Rattle.std.proofs.Common.{◌≡◌, ℕ, ◌+◌, ◌-◌, ◌≤◌, ◌==◌, max, Bool, true, false, cond, ◌&&◌, not, List, [], ◌∷◌, ◌++◌, map, Option, None, Some, inl, inr, refl, subst, arith}
+use Rattle.std.proofs.Common.{◌≡◌, ℕ, ◌+◌, ◌-◌, ◌≤◌, ◌==◌, max, Bool, true, false, cond, ◌&&◌, List, [], ◌∷◌, ◌++◌, map, Option, None, Some, inl, inr, refl, subst, arith}
 use Rattle.std.specs.Option.{option_map}
 use Rattle.std.proofs.lemmas.Bool.Decides.{nat_tests}
 use Rattle.rx_note.specs.declared.item.Item.{Item}
@@ -10,7 +10,7 @@ use Rattle.rx_note.specs.declared.rules.Rules.{Rules}
 use Rattle.rx_note.specs.declared.strategy.Strategy.{Strategy}
 use Rattle.rx_note.specs.declared.strategy.Strategy.TheVariants.{Buffer, Drop, Latest, Bounded}
 use Rattle.rx_note.specs.Signals.{Requested, Offered, Ended, Signals, Start, ◌▸◌, policy_of, demand, offered_count, terminal_of, overflow, are_too_many, overflows, sent, ending}
-use Rattle.rx_history.specs.Histories.{History, NoEvents, ◌▹◌, terminal_in, end_of, is_ended, joins, is_held, may_join, stamp, opening_by, followed_by, ended_by, opened, last_item, offers_by, signalled, may_request, signals}
+use Rattle.rx_history.specs.Histories.{History, NoEvents, ◌▹◌, terminal_in, end_of, item_count, accepts, joins, is_held, may_join, stamp, opening_by, followed_by, ended_by, opened, last_item, offers_by, signalled, may_request, signals}
 use Rattle.rx_history.specs.Delivery.{items_among, IsTerminal}
 use Rattle.rx_history.proofs.Cases.{chosen, mapped}
 use Rattle.rx_history.proofs.Feeding.{item_sent, end_sent}
@@ -38,11 +38,11 @@ asked P false s n stays so = so
 pub stays : (P : Signals → Type 0) (rules : Rules) (H : History) (o : ℕ) (s : Signals) → Stays P → signals rules H o ≡ Some s → P s
 stays P rules NoEvents o s each is = cc
 stays P rules (H ▹ (port, Emit note at)) o s each is =
-    elim (chosen (is_held rules H o && not (is_ended H)) (option_map (λ t. followed_by t (signalled rules H port note)) (signals rules H o)) (signals rules H o) (Some s) is) [
+    elim (chosen (is_held rules H o && accepts rules H note) (option_map (λ t. followed_by t (signalled rules H port note)) (signals rules H o)) (signals rules H o) (Some s) is) [
       | inl fed ↦
           let found = mapped (λ (t : Signals). followed_by t (signalled rules H port note)) (signals rules H o) s fed.1 in
           subst P found.2
-          (stays-items P found.0 (offers_by rules.kind (last_item rules H) port note) (terminal_in note) each (in_a_note note) (stays P rules H o found.0 each found.1))
+          (stays-items P found.0 (offers_by rules.kind (last_item rules H) port (item_count rules H) note) (terminal_in note) each (in_a_note note) (stays P rules H o found.0 each found.1))
       | inr same ↦ stays P rules H o s each same.1
     ]
 stays P rules (H ▹ (port, Join policy first at)) o s each is =

@@ -3,7 +3,7 @@
 -- (reactivex.io/documentation/contract.html); that a request bounds what is given is that of the Backpressure operators
 -- (reactivex.io/documentation/operators/backpressure.html); that a room bounds what waits, and that an overflow ends one
 -- observer alone, are this project's own.
-use Rattle.std.specs.Prelude.{◌≡◌, ℕ, ◌+◌, ◌<◌, ◌≤◌, ◌==◌, Bool, true, false, if◌then◌else◌, List, [], ◌∷◌, ◌++◌, length, map, Option, None, Some, is_some, option_to_list, ◌⊎◌}
+use Rattle.std.specs.Prelude.{◌≡◌, ℕ, ◌+◌, ◌<◌, ◌≤◌, ◌==◌, Bool, true, false, not, if◌then◌else◌, List, [], ◌∷◌, ◌++◌, length, map, Option, None, Some, is_some, option_to_list, ◌⊎◌}
 use Rattle.std.specs.List.{filter, items_where_true}
 use Rattle.std.specs.Option.{option_map, option_map_or}
 use Rattle.rx_note.specs.declared.given.Given.{Given}
@@ -21,7 +21,7 @@ use Rattle.rx_note.specs.declared.errors.Errors.{Errors}
 use Rattle.rx_note.specs.declared.errors.Errors.TheVariants.{Ahead, Delay}
 use Rattle.rx_note.specs.Choices.{Choice}
 use Rattle.rx_note.specs.Signals.{Requested, Offered, Ended, Signals, Start, ◌▸◌, policy_of, demand, terminal_of, may_overflow, overflow, overflows, goes_ahead}
-use Rattle.rx_history.specs.Histories.{Entry, History, ◌▹◌, terminal_in, end_of, is_ended, is_completion, joins, is_held, item_in, items, unstamped, last_item, seed_item, signals, given_to, line_of, waiting_for, owed_to, outs}
+use Rattle.rx_history.specs.Histories.{Entry, History, ◌▹◌, terminal_in, end_of, is_ended, is_completion, joins, is_held, item_count, accepts, item_in, items, unstamped, last_item, seed_item, signals, given_to, line_of, waiting_for, owed_to, outs}
 
 -- THE WORDS
 
@@ -144,8 +144,8 @@ EachPortIsInOrder =
 abbrev pub EachItemIsOffered : Type 0
 EachItemIsOffered =
     (rules : Rules) (H : History) (o port : ℕ) (note : Note) (at : ℕ) → offers_at_once rules.kind ≡ true → is_held rules H o ≡ true
-    → end_for rules H o ≡ None → overflows_now rules H o ≡ false
-    → offered_to rules (H ▹ (port, Emit note at)) o ≡ offered_to rules H o ++ item_in port note
+    → accepts rules H note ≡ true → end_for rules H o ≡ None → overflows_now rules H o ≡ false
+    → offered_to rules (H ▹ (port, Emit note at)) o ≡ offered_to rules H o ++ item_in port (item_count rules H) note
 
 -- of an Async subject an observer that is held is offered the last item alone, and only once the subject completed,
 -- whether it joined before that or after; but to one by Bounded the item may overflow
@@ -153,6 +153,32 @@ abbrev pub AsyncOffersTheLast : Type 0
 AsyncOffersTheLast =
     (rules : Rules) (H : History) (o : ℕ) → rules.kind ≡ Async → is_held rules H o ≡ true → is_bounded rules H o ≡ false
     → offered_to rules H o ≡ (if is_completion (end_of H) then last_item rules H else [])
+
+-- PLACES
+
+-- places from n on, one after the other
+abbrev pub AreCounted : ℕ → List Item → Type 0
+AreCounted n [] = Unit {0}
+AreCounted n (item ∷ items) = (item.place ≡ n) × AreCounted (n + 1) items
+
+-- places from n on, each above the one before
+abbrev pub Rise : ℕ → List Item → Type 0
+Rise n [] = Unit {0}
+Rise n (item ∷ items) = (n ≤ item.place) × Rise (item.place + 1) items
+
+-- items without a seed
+abbrev pub unseeded : List Item → List Item
+unseeded items = filter (λ item. not (item.place == 4294967295)) items
+
+-- the place of an accepted item is how many were accepted before it, and there are no more than the limit
+abbrev pub PlacesAreCounted : Type 0
+PlacesAreCounted =
+    (rules : Rules) (H : History)
+    → AreCounted 0 (emitted rules H) × (length (emitted rules H) ≡ item_count rules H) × (item_count rules H ≤ rules.limits.items)
+
+-- so that along a line the places rise, the seed left out
+abbrev pub PlacesRise : Type 0
+PlacesRise = (rules : Rules) (H : History) (o : ℕ) → Rise 0 (unseeded (items_among (line_of rules H o)))
 
 -- GIVEN AND WAITING
 
@@ -224,7 +250,7 @@ ErrorGoesAhead =
 abbrev pub OverflowEndsIt : Type 0
 OverflowEndsIt =
     (rules : Rules) (H : History) (o port : ℕ) (item : Item) (at : ℕ) → offers_at_once rules.kind ≡ true → is_held rules H o ≡ true
-    → end_for rules H o ≡ None → overflows_now rules H o ≡ true
+    → accepts rules H (Next item) ≡ true → end_for rules H o ≡ None → overflows_now rules H o ≡ true
     → (end_for rules (H ▹ (port, Emit (Next item) at)) o ≡ Some overflow)
     × (offered_to rules (H ▹ (port, Emit (Next item) at)) o ≡ offered_to rules H o)
 
@@ -232,14 +258,14 @@ OverflowEndsIt =
 abbrev pub OverflowStaysBehind : Type 0
 OverflowStaysBehind =
     (rules : Rules) (H : History) (o port : ℕ) (item : Item) (at : ℕ) → offers_at_once rules.kind ≡ true → is_held rules H o ≡ true
-    → errors_by rules H o ≡ Some Delay → end_for rules H o ≡ None → overflows_now rules H o ≡ true
+    → accepts rules H (Next item) ≡ true → errors_by rules H o ≡ Some Delay → end_for rules H o ≡ None → overflows_now rules H o ≡ true
     → line_of rules (H ▹ (port, Emit (Next item) at)) o ≡ line_of rules H o ++ overflow ∷ []
 
 -- by Ahead it is given at once, and nothing waits for the observer any more
 abbrev pub OverflowGoesAhead : Type 0
 OverflowGoesAhead =
     (rules : Rules) (H : History) (o port : ℕ) (item : Item) (at : ℕ) → offers_at_once rules.kind ≡ true → is_held rules H o ≡ true
-    → errors_by rules H o ≡ Some Ahead → end_for rules H o ≡ None → overflows_now rules H o ≡ true
+    → accepts rules H (Next item) ≡ true → errors_by rules H o ≡ Some Ahead → end_for rules H o ≡ None → overflows_now rules H o ≡ true
     → (given_to rules (H ▹ (port, Emit (Next item) at)) o ≡ given_to rules H o ++ overflow ∷ [])
     × (waiting_for rules (H ▹ (port, Emit (Next item) at)) o ≡ [])
 

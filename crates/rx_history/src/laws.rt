@@ -1,7 +1,7 @@
 //! The laws of delivery, for every history: each function does nothing, and its contract is one law of
 //! `specs/Delivery.antt`.
 
-ghost use Rattle.rx_history.specs.Delivery.{LineIsInOrder, OffersAreInOrder, EachPortIsInOrder, EachItemIsOffered, AsyncOffersTheLast, GivenThenWaiting, GivenOnlyGrows, OutsAreGiven, TerminalIsLast, LineEndsAsTheSubject, EndsAsTheSubjectOrOverflows, EndStays, NothingFollowsATerminal, NothingFollowsTheEnd, ErrorGoesAhead, OverflowEndsIt, OverflowStaysBehind, OverflowGoesAhead, DisposeDiscards, NothingFollowsADispose, GivenAndOwed, GivenWithinRequests, NothingWaitsWhileOwed, WaitsWithinRoom, KeepsAll};
+ghost use Rattle.rx_history.specs.Delivery.{LineIsInOrder, OffersAreInOrder, EachPortIsInOrder, PlacesAreCounted, PlacesRise, EachItemIsOffered, AsyncOffersTheLast, GivenThenWaiting, GivenOnlyGrows, OutsAreGiven, TerminalIsLast, LineEndsAsTheSubject, EndsAsTheSubjectOrOverflows, EndStays, NothingFollowsATerminal, NothingFollowsTheEnd, ErrorGoesAhead, OverflowEndsIt, OverflowStaysBehind, OverflowGoesAhead, DisposeDiscards, NothingFollowsADispose, GivenAndOwed, GivenWithinRequests, NothingWaitsWhileOwed, WaitsWithinRoom, KeepsAll};
 
 /// The items of a line are items offered to the observer, in their order and none twice.
 pub fn line_is_in_order()
@@ -16,6 +16,16 @@ pub fn offers_are_in_order()
 /// The items of each port come in that port's order.
 pub fn each_port_is_in_order()
     ensures { EachPortIsInOrder }
+{}
+
+/// The place of an accepted item is how many were accepted before it, and there are no more than the limit.
+pub fn places_are_counted()
+    ensures { PlacesAreCounted }
+{}
+
+/// Along a line the places rise, the seed left out.
+pub fn places_rise()
+    ensures { PlacesRise }
 {}
 
 /// But for Async, an item that is accepted is offered to every observer that is held and has no end, unless it overflows.

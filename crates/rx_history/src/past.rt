@@ -1,15 +1,12 @@
-ghost use Rattle.std.specs.Prelude.{◌≡◌, ℕ, List, [], true, IfOk, OnOk};
+ghost use Rattle.std.specs.Prelude.{◌≡◌, ℕ, List, [], true, IfOk, OnOk, vec_len};
 ghost use Rattle.rx_note.specs.declared.event.Event.TheVariants.{Emit, Join};
-ghost use Rattle.rx_history.specs.Histories.{History, NoEvents, ◌▹◌, Stamped, may_join, end_of, items as items_of, item_in, terminal_in, unstamped, newest, seed_item, or_else, is_young, young, at_most, age_moment, last_item, opening_by, offers_by};
+ghost use Rattle.rx_history.specs.Histories.{History, NoEvents, ◌▹◌, Stamped, may_join, end_of, has_room, item_count, accepts, items as items_of, item_in, terminal_in, unstamped, newest, seed_item, or_else, is_young, young, at_most, age_moment, last_item, opening_by, offers_by};
 
 use rx_heap::{Heap, Memory};
-use rx_note::{Event, Item, Kind, Note, Policy, Rules, Text};
+use rx_note::{Event, Item, Kind, Limits, Note, Policy, Rules, Text};
 
 /// An item and the moment at its place, in milliseconds.
 pub(crate) type Stamped = (Item, u64);
-
-// The port of a seed, which no producer sent.
-const NO_PORT: u32 = u32::MAX;
 
 /// What a subject remembers of its past for the observers that join later: its end, the moment in milliseconds at which
 /// the ages of its items are told, and its items. The moment stands still once the subject has ended.
@@ -44,13 +41,27 @@ impl Past {
         }
     }
 
+    /// Whether a note is accepted.
+    pub(crate) fn accepts(&self, limits: &Limits, note: &Note) -> bool
+        ensures { (rules : Rules) (H : History) → rules.limits ≡ limits.now → Remembers rules self.now H → result ≡ accepts rules H note.now }
+    {
+        self.end.is_none() && has_room(limits, self.items.len(), note)
+    }
+
     /// A note is accepted from a port at a moment.
-    pub(crate) fn emit(&mut self, port: u32, note: &Note, at: u64) -> Result<(), Memory>
-        ensures { OnOk result ((rules : Rules) (H : History) → end_of H ≡ None → Remembers rules self.old H
+    pub(crate) fn emit(
+        &mut self,
+        limits: &Limits,
+        port: u32,
+        note: &Note,
+        at: u64,
+    ) -> Result<(), Memory>
+        ensures { OnOk result ((rules : Rules) (H : History) → rules.limits ≡ limits.now → accepts rules H note.now ≡ true → Remembers rules self.old H
             → Remembers rules self.new (H ▹ (port, Emit note.now at))) }
     {
+        let place = self.place(limits);
         self.moment = self.moment.max(at);
-        for item in self.item_in(port, note)? {
+        for item in self.item_in(port, place, note)? {
             self.items.push((item, self.moment))?;
         }
         self.end = terminal_in(note)?;
@@ -70,15 +81,17 @@ impl Past {
     /// The items that an accepted note from a port offers to every observer.
     pub(crate) fn offers(
         &self,
-        kind: &Kind,
+        rules: &Rules,
         port: u32,
         note: &Note,
     ) -> Result<Vec<Item, Heap>, Memory>
-        ensures { IfOk result (λ offers. (rules : Rules) (H : History) → Remembers rules self.now H
-            → offers.items ≡ offers_by kind.now (last_item rules H) port note.now) }
+        ensures { IfOk result (λ offers. (H : History) → Remembers rules.now self.now H
+            → offers.items ≡ offers_by rules.now.kind (last_item rules.now H) port (item_count rules.now H) note.now) }
     {
-        match kind {
-            Kind::Publish | Kind::Behavior(_) | Kind::Replay { .. } => self.item_in(port, note),
+        match &rules.kind {
+            Kind::Publish | Kind::Behavior(_) | Kind::Replay { .. } => {
+                self.item_in(port, self.place(&rules.limits), note)
+            }
             Kind::Async if matches!(note, Note::Completed) => self.last(),
             Kind::Async => self.no_items(),
         }
@@ -105,14 +118,25 @@ impl Past {
         Ok(Vec::new(self.items.allocator().clone()?))
     }
 
-    // The item of a note, if it is one, as sent from a port.
-    fn item_in(&self, port: u32, note: &Note) -> Result<Vec<Item, Heap>, Memory>
-        ensures { IfOk result (λ items. items.items ≡ item_in port note.now) }
+    // The place of the next item: how many there are, which is never more than the limit.
+    fn place(&self, limits: &Limits) -> u32
+        ensures { (rules : Rules) (H : History) → rules.limits ≡ limits.now → Remembers rules self.now H → result ≡ item_count rules H }
+    {
+        self.items.len().min(limits.items as usize) as u32
+    }
+
+    // The item of a note, if it is one, as sent from a port at a place.
+    fn item_in(&self, port: u32, place: u32, note: &Note) -> Result<Vec<Item, Heap>, Memory>
+        ensures { IfOk result (λ items. items.items ≡ item_in port place note.now) }
     {
         let mut items = self.no_items()?;
         if let Note::Next(item) = note {
             let text = item.text.copy()?;
-            items.push(Item { from: port, text })?;
+            items.push(Item {
+                from: port,
+                place,
+                text,
+            })?;
         }
         Ok(items)
     }
@@ -123,11 +147,7 @@ impl Past {
     {
         let mut items = self.no_items()?;
         if let Some(text) = seed {
-            let text = text.copy()?;
-            items.push(Item {
-                from: NO_PORT,
-                text,
-            })?;
+            items.push(Item::seed(text.copy()?))?;
         }
         Ok(items)
     }
@@ -166,6 +186,16 @@ impl Past {
             }
         }
         Ok(items)
+    }
+}
+
+// Whether a note finds room where so many items were accepted before it; terminals are not limited.
+fn has_room(limits: &Limits, count: usize, note: &Note) -> bool
+    ensures { result ≡ has_room limits.now count note.now }
+{
+    match note {
+        Note::Next(_) => count < limits.items as usize,
+        Note::Completed | Note::Failed(_) => true,
     }
 }
 

@@ -69,21 +69,21 @@ impl Walk {
         }
     }
 
-    // A note is emitted from a port; it is refused where the subject has ended. What it offers is told from the past
-    // before it.
+    // A note is emitted from a port; it is refused where the subject has ended, and an item also where there are as many as
+    // the limit. What it offers is told from the past before it.
     fn emit(&mut self, rules: &Rules, port: u32, note: &Note, at: u64) -> Result<(), Memory>
         ensures passes { OnOk result (Passes rules.now self.old self.new (port, Emit note.now at)) }
         ensures who { self.new.who ≡ self.old.who }
     {
-        if self.past.end.is_some() {
+        if !self.past.accepts(&rules.limits, note) {
             return Ok(());
         }
         if !self.roster.holds(self.who) {
-            return self.past.emit(port, note, at);
+            return self.past.emit(&rules.limits, port, note, at);
         }
-        let offers = self.past.offers(&rules.kind, port, note)?;
+        let offers = self.past.offers(rules, port, note)?;
         follow(&mut self.trace, offers, terminal_in(note)?)?;
-        self.past.emit(port, note, at)
+        self.past.emit(&rules.limits, port, note, at)
     }
 
     // An observer joins; it is refused where the limits are reached. Its number is the count of the Joins before it.

@@ -8,7 +8,7 @@ pub enum Refusal {
     Ended,
     /// Join: as many observers are held as may be.
     Full,
-    /// Join: as many joins were accepted as may be.
+    /// Emit of an item: as many items were accepted as may be. Join: as many joins were.
     Spent,
     /// Request: for no items.
     ZeroRequest,
@@ -25,7 +25,7 @@ impl fmt::Display for Refusal {
         f.write_str(match self {
             Refusal::Ended => "the subject has ended",
             Refusal::Full => "as many observers are held as may be",
-            Refusal::Spent => "as many joins were accepted as may be",
+            Refusal::Spent => "as many joins or items were accepted as may be",
             Refusal::ZeroRequest => "a request is for at least 1 item",
             Refusal::NoObserver => "no observer of that number is held",
             Refusal::TooMuch => "more than 4294967295 items would be owed",

@@ -12,7 +12,7 @@ use Rattle.rx_proto.specs.Grammar.{IsText, IsDigit, value_behind, SpellsNumber, 
 use Rattle.rx_proto.specs.LineFeeds.{HasNoLf}
 use Rattle.rx_proto.specs.Names.{IsName, IsNameByte}
 use Rattle.rx_proto.specs.Reading.{◌>>=◌, cut_read, same_word, begins_with, pub_read, name_read, named_read, text_read, digits_read, wide_number_read, number_read, room_read, strategy_read, errors_read, policy_read, named_text_read, join_read, request_read, dispose_read, sub_read, words_read, line_read}
-use Rattle.rx_proto.specs.declared.command.Command.TheVariants.{Pub, End, Fail, Sub, Quit}
+use Rattle.rx_proto.specs.declared.command.Command.TheVariants.{Pub, End, Fail, Sub, Hello, Quit}
 use Rattle.rx_proto.specs.declared.line_error.BadLine.TheVariants.{Long}
 use Rattle.rx_proto.specs.declared.script_line.ScriptLine.{ScriptLine}
 use Rattle.rx_proto.specs.declared.script_line.ScriptLine.TheVariants.{Command, At, Join, Request, Dispose}
@@ -215,6 +215,10 @@ sub_words : (bytes : List ℕ) → words_read (codes "SUB") bytes ≡ sub_read b
 unfolding words_read
 sub_words bytes = refl
 
+hello_words : (bytes : List ℕ) → words_read (codes "HELLO") bytes ≡ (number_read bytes >>= λ version. Ok (Command (Hello version)))
+unfolding words_read
+hello_words bytes = refl
+
 quit_read : line_read (codes "QUIT") ≡ Ok (Command Quit)
 unfolding line_read
 quit_read = refl
@@ -230,6 +234,8 @@ line_read-spelled line (Command (Fail name text)) s few =
 line_read-spelled line (Command (Sub name policy)) s few =
     let bytes = name ++ (32 ∷ (s.strategy ++ (32 ∷ s.errors))) in
     line_read-words (codes "SUB") bytes line s.words few refl refl refl ∙ sub_words bytes ∙ sub_read-words name policy line s
+line_read-spelled line (Command (Hello version)) s few =
+    line_read-words (codes "HELLO") s.number line s.words few refl refl refl ∙ hello_words s.number ∙ rw (number_read-number version s.number s.number_is) refl
 line_read-spelled line (Command Quit) s few = ap line_read s ∙ quit_read
 line_read-spelled line (At moment) s few =
     line_read-words (codes "AT") s.number line s.words few refl refl refl ∙ at_words s.number ∙ rw (wide_number_read-number moment s.number s.number_is) refl

@@ -5,7 +5,7 @@ use Rattle.std.proofs.lemmas.Bool.Decides.{nat_tests}
 use Rattle.rx_proto.specs.Grammar.{SpellsCommand, SpellsInScript, IsOfScript, IsSpelled, IsLong}
 use Rattle.rx_proto.specs.Laws.{IsExact}
 use Rattle.rx_proto.specs.Reading.{◌>>=◌, begins_with, rest_behind, line_read, in_script, in_session, named_text_read, pub_read, script_read, session_read}
-use Rattle.rx_proto.specs.declared.command.Command.TheVariants.{Pub, End, Fail, Sub, Quit}
+use Rattle.rx_proto.specs.declared.command.Command.TheVariants.{Pub, End, Fail, Sub, Hello, Quit}
 use Rattle.rx_proto.specs.declared.line_error.BadLine.{BadLine}
 use Rattle.rx_proto.specs.declared.line_error.BadLine.TheVariants.{Long, Syntax}
 use Rattle.rx_proto.specs.declared.script_line.ScriptLine.{ScriptLine}
@@ -47,6 +47,7 @@ in_script-says line (Command (Pub name text)) is = ((is.0, tt), is.1)
 in_script-says line (Command (End name)) is = ((is.0, tt), is.1)
 in_script-says line (Command (Fail name text)) is = ((is.0, tt), is.1)
 in_script-says line (Command (Sub name policy)) is = tt
+in_script-says line (Command (Hello version)) is = ((is.0, tt), is.1)
 in_script-says line (Command Quit) is = ((is.0, tt), is.1)
 in_script-says line (At moment) is = ((is.0, tt), is.1)
 in_script-says line (Join name policy first) is = ((is.0, tt), is.1)
@@ -58,6 +59,7 @@ in_script-of (Command (Pub name text)) is = refl
 in_script-of (Command (End name)) is = refl
 in_script-of (Command (Fail name text)) is = refl
 in_script-of (Command (Sub name policy)) is = absurd is
+in_script-of (Command (Hello version)) is = refl
 in_script-of (Command Quit) is = refl
 in_script-of (At moment) is = refl
 in_script-of (Join name policy first) is = refl

@@ -9,7 +9,7 @@ use Rattle.rx_proto.specs.Grammar.{IsDigit, SpellsNumber, SpellsRoom, SpellsStra
 use Rattle.rx_proto.specs.LineFeeds.{HasNoLf}
 use Rattle.rx_proto.specs.Names.{IsName, IsNameByte}
 use Rattle.rx_proto.specs.Reading.{cut_read, named_read, line_read}
-use Rattle.rx_proto.specs.declared.command.Command.TheVariants.{Pub, End, Fail, Sub, Quit}
+use Rattle.rx_proto.specs.declared.command.Command.TheVariants.{Pub, End, Fail, Sub, Hello, Quit}
 use Rattle.rx_proto.specs.declared.line_error.BadLine.TheVariants.{Syntax}
 use Rattle.rx_proto.specs.declared.script_line.ScriptLine.{ScriptLine}
 use Rattle.rx_proto.specs.declared.script_line.ScriptLine.TheVariants.{Command, At, Join, Request, Dispose}
@@ -82,6 +82,8 @@ spelled-no_lf (Command (Sub name policy)) line s =
     (parted (codes "SUB") (name ++ (32 ∷ (s.strategy ++ (32 ∷ s.errors)))) (search arith)
     (parted name (s.strategy ++ (32 ∷ s.errors)) (name-no_lf name s.name_is)
     (parted s.strategy s.errors (strategy-no_lf policy.strategy s.strategy s.strategy_is) (errors-no_lf policy.errors s.errors s.errors_is))))
+spelled-no_lf (Command (Hello version)) line s =
+    subst HasNoLf (sym s.words) (parted (codes "HELLO") s.number (search arith) (number-no_lf 32 version s.number s.number_is))
 spelled-no_lf (Command Quit) line s = subst HasNoLf (sym s) (search arith)
 spelled-no_lf (At moment) line s =
     subst HasNoLf (sym s.words) (parted (codes "AT") s.number (search arith) (number-no_lf 64 moment s.number s.number_is))

@@ -15,7 +15,7 @@ use Rattle.rx_proto.specs.Grammar.{IsText, IsDigit, value_behind, SpellsNumber, 
 use Rattle.rx_proto.specs.LineFeeds.{HasNoLf}
 use Rattle.rx_proto.specs.Names.{IsName}
 use Rattle.rx_proto.specs.Reading.{◌>>=◌, cut_read, same_word, begins_with, rest_behind, name_read, named_read, text_read, is_digit, digits_read, wide_number_read, number_read, room_read, strategy_read, errors_read, policy_read, named_text_read, pub_read, join_read, request_read, dispose_read, sub_read, words_read, line_read}
-use Rattle.rx_proto.specs.declared.command.Command.TheVariants.{Pub, End, Fail, Sub}
+use Rattle.rx_proto.specs.declared.command.Command.TheVariants.{Pub, End, Fail, Sub, Hello}
 use Rattle.rx_proto.specs.declared.line_error.BadLine.{BadLine}
 use Rattle.rx_proto.specs.declared.line_error.BadLine.TheVariants.{Long, Syntax}
 use Rattle.rx_proto.specs.declared.script_line.ScriptLine.{ScriptLine}
@@ -360,7 +360,11 @@ words_says command bytes =
     (λ is. at_command command (codes "DISPOSE") bytes (word_is command (codes "DISPOSE") is) (dispose_read bytes) (dispose_says bytes))
     (λ _. Says-test (same_word command (codes "SUB")) _ _ Goal Long_one
     (λ is. at_command command (codes "SUB") bytes (word_is command (codes "SUB") is) (sub_read bytes) (sub_says bytes))
-    (λ _. tt)))))))
+    (λ _. Says-test (same_word command (codes "HELLO")) _ _ Goal Long_one
+    (λ is. let this = word_is command (codes "HELLO") is in
+    Says-then (number_read bytes) (λ version. Ok (Command (Hello version))) (λ n. SpellsNumber 32 n bytes) ⊥ Goal Long_one (number_says bytes)
+    (λ version number. record { number = bytes; number_is = number; words = as_this command (codes "HELLO") bytes bytes this refl }) (λ never. absurd never))
+    (λ _. tt))))))))
 
 -- what is read of a line
 abbrev pub IsRead : List ℕ → ScriptLine → Type 0

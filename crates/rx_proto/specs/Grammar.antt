@@ -9,7 +9,7 @@ use Rattle.rx_note.specs.declared.errors.Errors.TheVariants.{Ahead, Delay}
 use Rattle.rx_proto.specs.LineFeeds.{HasNoLf}
 use Rattle.rx_proto.specs.Names.{IsName}
 use Rattle.rx_proto.specs.declared.command.Command.{Command as SessionCommand}
-use Rattle.rx_proto.specs.declared.command.Command.TheVariants.{Pub, End, Fail, Sub, Quit}
+use Rattle.rx_proto.specs.declared.command.Command.TheVariants.{Pub, End, Fail, Sub, Hello, Quit}
 use Rattle.rx_proto.specs.declared.script_line.ScriptLine.{ScriptLine}
 use Rattle.rx_proto.specs.declared.script_line.ScriptLine.TheVariants.{Command, At, Join, Request, Dispose}
 
@@ -72,6 +72,12 @@ pub record SpellsSub (name : List ℕ) (policy : Choice) (line : List ℕ) : Typ
   pub errors_is : SpellsErrors policy.errors errors
   pub words : line ≡ sentence (codes "SUB" ∷ name ∷ strategy ∷ errors ∷ [])
 
+-- a choice of the version: its number
+pub record SpellsHello (version : ℕ) (line : List ℕ) : Type 0 where
+  pub number : List ℕ
+  pub number_is : SpellsNumber 32 version number
+  pub words : line ≡ sentence (codes "HELLO" ∷ number ∷ [])
+
 -- a setting of the moment, in milliseconds: its number
 pub record SpellsAt (moment : ℕ) (line : List ℕ) : Type 0 where
   pub number : List ℕ
@@ -111,6 +117,7 @@ SpellsCommand (Pub name text) line = SpellsText (codes "PUB") name text line
 SpellsCommand (End name) line = IsName name × (line ≡ sentence (codes "END" ∷ name ∷ []))
 SpellsCommand (Fail name text) line = SpellsText (codes "FAIL") name text line
 SpellsCommand (Sub name policy) line = SpellsSub name policy line
+SpellsCommand (Hello version) line = SpellsHello version line
 SpellsCommand Quit line = line ≡ codes "QUIT"
 
 -- the line spells this meaning, be it a session's or a script's

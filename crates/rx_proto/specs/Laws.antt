@@ -8,6 +8,7 @@ use Rattle.rx_proto.specs.declared.line_error.BadLine.{BadLine}
 use Rattle.rx_proto.specs.declared.line_error.BadLine.TheVariants.{Long, Syntax}
 use Rattle.rx_proto.specs.declared.response.Response.{Response}
 use Rattle.rx_proto.specs.declared.response.Response.TheVariants.{Done, Joined, Refused}
+use Rattle.rx_proto.specs.declared.version.Version.TheVariants.{One, Two}
 
 -- THE EXACT GRAMMAR: what is read of a line is spelled by it; what a line in its limit spells is read of it; a line is
 -- refused as too long exactly where it is, and as no line exactly where it is not too long and spells nothing
@@ -27,13 +28,23 @@ IsResponse (Refused word) = Unit {0}
 abbrev pub RepliesTell : Type 0
 RepliesTell = (a b : Response) → IsResponse a → IsResponse b → reply_line a ≡ reply_line b → a ≡ b
 
--- two notes are equal but for the producers of their items
+-- two notes are equal but for the ports and the places of their items
 abbrev pub AreAlike : Note → Note → Type 0
 AreAlike (Next a) (Next b) = a.text ≡ b.text
 AreAlike Completed Completed = Unit {0}
 AreAlike (Failed a) (Failed b) = a ≡ b
 AreAlike _ _ = ⊥
 
--- two notes written alike are equal but for the producers of their items
+-- two notes written alike in the first version are equal but for the ports and the places of their items
 abbrev pub NotesTell : Type 0
-NotesTell = (a b : Note) → note_line a ≡ note_line b → AreAlike a b
+NotesTell = (a b : Note) → note_line One a ≡ note_line One b → AreAlike a b
+
+-- a note whose numbers have 32 bits; an item has a seed's place only together with a seed's port
+abbrev pub IsPlaced : Note → Type 0
+IsPlaced (Next item) = (item.from < 2 ^ 32) × (item.place < 2 ^ 32) × (item.place ≡ 4294967295 → item.from ≡ 4294967295)
+IsPlaced Completed = Unit {0}
+IsPlaced (Failed text) = Unit {0}
+
+-- two notes written alike in the second version are equal
+abbrev pub PlacedNotesTell : Type 0
+PlacedNotesTell = (a b : Note) → IsPlaced a → IsPlaced b → note_line Two a ≡ note_line Two b → a ≡ b

@@ -5,3 +5,4 @@ pub mod LineFeeds
 pub mod Names
 pub mod Printing
 pub mod Reading
+pub mod Versions

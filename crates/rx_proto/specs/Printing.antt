@@ -1,5 +1,6 @@
 -- What is printed, byte by byte.
-use Rattle.std.specs.Prelude.{ℕ, List, [], ◌∷◌, ◌++◌, codes, decimal}
+use Rattle.std.specs.Prelude.{ℕ, List, [], ◌∷◌, ◌++◌, ◌==◌, if◌then◌else◌, codes, decimal}
+use Rattle.rx_note.specs.declared.item.Item.{Item}
 use Rattle.rx_note.specs.declared.note.Note.{Note}
 use Rattle.rx_note.specs.declared.note.Note.TheVariants.{Next, Completed, Failed}
 use Rattle.rx_proto.specs.declared.line_error.BadLine.{BadLine}
@@ -8,6 +9,8 @@ use Rattle.rx_proto.specs.declared.line_error.LineError.{LineError}
 use Rattle.rx_proto.specs.declared.line_error.LineError.TheVariants as errors
 use Rattle.rx_proto.specs.declared.response.Response.{Response}
 use Rattle.rx_proto.specs.declared.response.Response.TheVariants.{Done, Joined, Refused}
+use Rattle.rx_proto.specs.declared.version.Version.{Version}
+use Rattle.rx_proto.specs.declared.version.Version.TheVariants.{One, Two}
 use Rattle.rx_proto.specs.declared.word.Word.{Word}
 use Rattle.rx_proto.specs.declared.word.Word.TheVariants as words
 
@@ -24,6 +27,7 @@ letters_of words.Observer = codes "OBSERVER"
 letters_of words.TooMuch = codes "TOOMUCH"
 letters_of words.Memory = codes "MEMORY"
 letters_of words.Gone = codes "GONE"
+letters_of words.Version = codes "VERSION"
 
 -- the word of a refusal of a line
 abbrev pub word_of_fault : LineError → Word
@@ -54,12 +58,21 @@ reply_line response = line (reply_of response)
 abbrev pub joined_line : ℕ → List ℕ
 joined_line who = line (codes "JOINED " ++ decimal who)
 
--- what a note says
-abbrev pub saying_of : Note → List ℕ
-saying_of (Next item) = codes "NEXT " ++ item.text
-saying_of Completed = codes "DONE"
-saying_of (Failed text) = codes "FAILED " ++ text
+-- what stands before the text of an item: its place and its port, or two hyphens where it is a seed, by its place
+abbrev pub origin_of : Item → List ℕ
+origin_of item = if item.place == 4294967295 then codes "- - " else decimal item.place ++ (32 ∷ (decimal item.from ++ (32 ∷ [])))
 
--- the line of a note
-abbrev pub note_line : Note → List ℕ
-note_line note = line (saying_of note)
+-- what an item says in a version
+abbrev pub item_saying : Version → Item → List ℕ
+item_saying One item = item.text
+item_saying Two item = origin_of item ++ item.text
+
+-- what a note says in a version
+abbrev pub saying_of : Version → Note → List ℕ
+saying_of version (Next item) = codes "NEXT " ++ item_saying version item
+saying_of version Completed = codes "DONE"
+saying_of version (Failed text) = codes "FAILED " ++ text
+
+-- the line of a note in a version
+abbrev pub note_line : Version → Note → List ℕ
+note_line version note = line (saying_of version note)

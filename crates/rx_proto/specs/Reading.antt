@@ -7,7 +7,7 @@ use Rattle.rx_note.specs.declared.strategy.Strategy.TheVariants.{Buffer, Drop, L
 use Rattle.rx_note.specs.declared.errors.Errors.{Errors}
 use Rattle.rx_note.specs.declared.errors.Errors.TheVariants.{Ahead, Delay}
 use Rattle.rx_proto.specs.declared.command.Command.{Command as SessionCommand}
-use Rattle.rx_proto.specs.declared.command.Command.TheVariants.{Pub, End, Fail, Sub, Quit}
+use Rattle.rx_proto.specs.declared.command.Command.TheVariants.{Pub, End, Fail, Sub, Hello, Quit}
 use Rattle.rx_proto.specs.declared.line.Line.{Line}
 use Rattle.rx_proto.specs.declared.line.Line.TheVariants as lines
 use Rattle.rx_proto.specs.declared.line_error.BadLine.{BadLine}
@@ -160,6 +160,7 @@ words_read command bytes =
     else if same_word command (codes "FAIL") then named_text_read bytes >>= (λ p. Ok (Command (Fail p.0 p.1)))
     else if same_word command (codes "DISPOSE") then dispose_read bytes
     else if same_word command (codes "SUB") then sub_read bytes
+    else if same_word command (codes "HELLO") then number_read bytes >>= (λ version. Ok (Command (Hello version)))
     else Err Syntax
 
 -- a line, be it a session's or a script's
@@ -181,6 +182,7 @@ in_script (Command (Pub name text)) = Ok (Command (Pub name text))
 in_script (Command (End name)) = Ok (Command (End name))
 in_script (Command (Fail name text)) = Ok (Command (Fail name text))
 in_script (Command (Sub name policy)) = Err Syntax
+in_script (Command (Hello version)) = Ok (Command (Hello version))
 in_script (Command Quit) = Ok (Command Quit)
 in_script (At moment) = Ok (At moment)
 in_script (Join name policy first) = Ok (Join name policy first)
@@ -213,6 +215,7 @@ meaning_of (lines.Pub name text) = Command (Pub name.now text.now)
 meaning_of (lines.End name) = Command (End name.now)
 meaning_of (lines.Fail name text) = Command (Fail name.now text.now)
 meaning_of (lines.Sub name policy) = Command (Sub name.now policy)
+meaning_of (lines.Hello version) = Command (Hello version)
 meaning_of lines.Quit = Command Quit
 meaning_of (lines.At moment) = At moment
 meaning_of (lines.Join name policy first) = Join name.now policy first

@@ -12,6 +12,8 @@ pub enum Command {
     Fail { name: Name, text: Text },
     /// Join as an observer, to which the connection then belongs. A script has no such line.
     Sub { name: Name, policy: Policy },
+    /// Have notes in the version of this number: of a later `Sub`, or those that a script prints after it.
+    Hello(u32),
     /// End.
     Quit,
 }

@@ -4,7 +4,7 @@ ghost use Rattle.std.specs.Prelude.{◌≡◌, ◌≤◌, drop, decimal};
 pub const MAX_DIGITS: usize = 10;
 
 /// Writes the decimal digits of a number, without leading zeros, at the end of the array. Where they begin.
-#[inline(never)]
+#[inline(never)] // its loop is the same wherever a number is printed
 pub fn write_digits(number: u32, digits: &mut [u8; MAX_DIGITS]) -> usize
     ensures digits { drop result digits.new ≡ decimal number }
     ensures within { result ≤ 10 }

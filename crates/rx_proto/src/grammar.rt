@@ -12,22 +12,11 @@ pub const MAX_LINE: usize = 1100;
 
 const LF: u8 = b'\n';
 
-/// What these bytes mean, be they a line of a session or of a script. Refused in the order `Long`, `Syntax`.
-/// It takes no memory.
-pub fn read_line(line: &[u8]) -> Result<Line<'_>, BadLine>
-    ensures { Gives meaning_of result (line_read line.now) }
-{
-    match fault_of_bytes(line) {
-        Some(fault) => Err(fault),
-        None => read_line_without_lf(line),
-    }
-}
-
-/// What the bytes mean of a line that was found by its LF and is no longer than a line may be: what [`read_line`] says, but
-/// no LF is searched. It tests the commonest line first.
-#[inline]
+/// What these bytes mean, be they a line of a session or of a script, where they have no LF and are no more than a line may
+/// have. Refused in the order `Long`, `Syntax`. It takes no memory, and tests the commonest line first.
+#[inline] // once for each line that a session reads
 #[tactic(auto, unfolding(crate::specs::Reading::line_read))]
-pub fn read_line_without_lf(line: &[u8]) -> Result<Line<'_>, BadLine>
+pub(crate) fn read_line_without_lf(line: &[u8]) -> Result<Line<'_>, BadLine>
     requires within { length line.now ≤ 1100 }
     requires no_lf { HasNoLf line.now }
     ensures { Gives meaning_of result (line_read line.now) }
@@ -40,7 +29,7 @@ pub fn read_line_without_lf(line: &[u8]) -> Result<Line<'_>, BadLine>
 
 /// What these bytes mean as a line of a script, which is never `Sub`. Refused in the order `Long`, `Syntax`. It takes no
 /// memory, so that who asks may look for the subject before a text is made.
-pub fn read_script(line: &[u8]) -> Result<Line<'_>, BadLine>
+pub(crate) fn read_script(line: &[u8]) -> Result<Line<'_>, BadLine>
     ensures { Gives meaning_of result (script_read line.now) }
 {
     match fault_of_bytes(line) {
@@ -49,8 +38,8 @@ pub fn read_script(line: &[u8]) -> Result<Line<'_>, BadLine>
     }
 }
 
-/// The same of a line that was found by its LF, as [`read_line_without_lf`].
-#[inline(always)]
+/// The same of a line that was found by its LF and is no longer than a line may be: no LF is searched.
+#[inline(always)] // a PUB of a script is read where it is asked for
 pub fn read_script_without_lf(line: &[u8]) -> Result<Line<'_>, BadLine>
     requires within { length line.now ≤ 1100 }
     requires no_lf { HasNoLf line.now }
@@ -89,8 +78,8 @@ fn is_sub(line: &Line<'_>) -> bool
     }
 }
 
-// What a line of a script means that is no PUB. It is kept out of line, so that a PUB stays short.
-#[inline(never)]
+// What a line of a script means that is no PUB.
+#[inline(never)] // so that a PUB stays short
 fn read_other_of_script(line: &[u8]) -> Result<Line<'_>, BadLine>
     requires within { length line.now ≤ 1100 }
     requires no_lf { HasNoLf line.now }
@@ -124,7 +113,7 @@ fn read_other(line: &[u8]) -> Result<Line<'_>, BadLine>
     read_words(command, rest)
 }
 
-#[inline(always)]
+#[inline(always)] // the commonest line, of both that read
 #[tactic(auto, unfolding(crate::specs::Reading::pub_read))]
 fn read_pub(words: &[u8]) -> Result<Line<'_>, BadLine>
     requires { HasNoLf words.now }
@@ -156,6 +145,9 @@ fn read_words<'a>(command: &[u8], rest: &'a [u8]) -> Result<Line<'a>, BadLine>
         read_dispose(rest)
     } else if command == b"SUB".as_slice() {
         read_sub(rest)
+    } else if command == b"HELLO".as_slice() {
+        let version = number_of(rest)?;
+        Ok(Line::Hello(version))
     } else {
         Err(BadLine::Syntax)
     }

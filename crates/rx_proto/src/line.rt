@@ -22,6 +22,8 @@ pub enum Line<'a> {
         name: &'a [u8],
         policy: Policy,
     },
+    /// Have notes in the version of this number.
+    Hello(u32),
     /// End.
     Quit,
     /// The events that follow come at this moment, in milliseconds.

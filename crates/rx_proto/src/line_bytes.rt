@@ -38,7 +38,7 @@ impl<const N: usize> LineBytes<N> {
     }
 
     /// Its bytes at the front of a block of fixed size, and how many they are.
-    #[inline]
+    #[inline] // a part of what an outbox does
     pub fn padded(&self) -> (&[u8; N], usize)
         ensures bytes { take result.1 result.0.now ≡ self.now }
         ensures within { result.1 ≤ N }
@@ -47,7 +47,7 @@ impl<const N: usize> LineBytes<N> {
     }
 
     // Puts these bytes behind those that it has.
-    #[inline]
+    #[inline] // so that a piece of fixed size is copied by that
     pub(crate) fn put(&mut self, bytes: &[u8])
         requires { length self.old + length bytes.now ≤ N }
         ensures { self.new ≡ self.old ++ bytes.now }

@@ -5,8 +5,8 @@ ghost use Rattle.rx_proto.specs.Names.{IsName, IsNameByte};
 
 use std::marker::Model;
 
-/// The most bytes that a name has.
-pub const MAX_NAME: usize = 32;
+// The most bytes that a name has.
+pub(crate) const MAX_NAME: usize = 32;
 
 /// The name of a subject: 1 to 32 bytes of `a` to `z`, `0` to `9` and `-`. Contracts see a name as the list of its bytes.
 #[derive(Drop, Debug)]
@@ -58,7 +58,7 @@ impl Name {
     }
 
     /// Its bytes at the front of a block of fixed size, and how many they are.
-    #[inline]
+    #[inline] // once for each note that a script prints
     pub fn padded(&self) -> (&[u8; MAX_NAME], usize)
         ensures bytes { take result.1 result.0.now ≡ self.now }
         ensures within { result.1 ≤ 32 }
@@ -96,7 +96,7 @@ pub(crate) fn is_name(bytes: &[u8]) -> bool
 }
 
 // Whether a byte may stand in a name.
-#[inline(always)]
+#[inline(always)] // once for each byte of a name
 pub(crate) fn is_name_byte(byte: u8) -> bool
     ensures { IsTrue result ↔ IsNameByte byte }
 {

@@ -3,10 +3,8 @@ ghost use Rattle.rx_proto.specs.Grammar.{IsSpelled, IsText};
 ghost use Rattle.rx_proto.specs.LineFeeds.{HasNoLf};
 ghost use Rattle.rx_proto.specs.Reading.{HoldsText, LineHoldsText, Parses, in_session, meaning_of, refusal_of, said_by, script_read, session_read};
 
-use crate::grammar::fault_of_bytes;
-use crate::{
-    BadLine, Command, Line, LineError, Name, ScriptLine, read_line_without_lf, read_script,
-};
+use crate::grammar::{fault_of_bytes, read_line_without_lf, read_script};
+use crate::{BadLine, Command, Line, LineError, Name, ScriptLine};
 use rx_heap::Heap;
 use rx_note::Text;
 
@@ -20,7 +18,7 @@ pub fn parse_line(alloc: &Heap, line: &[u8]) -> Result<Command, LineError>
     }
 }
 
-/// The same of a line that was found by its LF, as [`crate::read_line_without_lf`].
+/// The same of a line that was found by its LF and is no longer than a line may be: no LF is searched.
 pub fn parse_line_without_lf(alloc: &Heap, line: &[u8]) -> Result<Command, LineError>
     requires within { length line.now ≤ 1100 }
     requires no_lf { HasNoLf line.now }
@@ -117,6 +115,7 @@ fn command_of(alloc: &Heap, line: &Line<'_>) -> Result<Command, LineError>
             name: Name::of(name),
             policy: *policy,
         }),
+        Line::Hello(version) => Ok(Command::Hello(*version)),
         Line::Quit => Ok(Command::Quit),
         _ => Err(LineError::Syntax),
     }

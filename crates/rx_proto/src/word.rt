@@ -23,4 +23,6 @@ pub enum Word {
     Memory,
     /// The thread that owns the subject is gone.
     Gone,
+    /// There is no version of that number.
+    Version,
 }

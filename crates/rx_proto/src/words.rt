@@ -36,7 +36,7 @@ pub fn name_of(bytes: &[u8]) -> Result<&[u8], BadLine>
 }
 
 /// A name, and what stands behind one space. It looks at each byte of the name once.
-#[inline(always)]
+#[inline(always)] // a part of each PUB
 pub fn named(bytes: &[u8]) -> Result<(&[u8], &[u8]), BadLine>
     ensures { Gives (λ parts. (parts.0.now, parts.1.now)) result (named_read bytes.now) }
 {
@@ -52,7 +52,7 @@ pub fn named(bytes: &[u8]) -> Result<(&[u8], &[u8]), BadLine>
 }
 
 // The same, where the first space stands behind so many bytes, each of which may stand in a name.
-#[inline(always)]
+#[inline(always)] // a part of `named`
 fn named_at(bytes: &[u8], len: usize) -> Result<(&[u8], &[u8]), BadLine>
     requires within { len < length bytes.now }
     requires each { AllByRecursion IsNameByte (take len bytes.now) }
@@ -67,7 +67,7 @@ fn named_at(bytes: &[u8], len: usize) -> Result<(&[u8], &[u8]), BadLine>
 }
 
 /// The text that these bytes of a line are, among which is no LF.
-#[inline(always)]
+#[inline(always)] // a part of each PUB
 pub fn text_of(bytes: &[u8]) -> Result<&[u8], BadLine>
     requires { HasNoLf bytes.now }
     ensures { Gives (λ text. text.now) result (text_read bytes.now) }
@@ -133,7 +133,7 @@ fn is_digit(byte: u8) -> bool
 }
 
 /// A name and a text, behind one space.
-#[inline(always)]
+#[inline(always)] // a part of each PUB
 #[tactic(auto, unfolding(crate::specs::Reading::named_text_read))]
 pub fn named_text(bytes: &[u8]) -> Result<(&[u8], &[u8]), BadLine>
     requires { HasNoLf bytes.now }

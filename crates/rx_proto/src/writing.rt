@@ -1,7 +1,8 @@
 ghost use Rattle.rx_proto.specs.Bytes.{Writes};
 ghost use Rattle.rx_proto.specs.Printing.{reply_line, joined_line, note_line};
 
-use crate::{Response, joined_line, note_line, reply_line};
+use crate::printing::{joined_line, note_line, placed_line, reply_line};
+use crate::{Response, Version};
 use rx_note::Note;
 use std::error::Error;
 use std::fmt;
@@ -33,11 +34,25 @@ pub fn write_joined<W: Write>(writer: &mut W, who: u32) -> Result<(), WriteFault
     write_bytes(writer, joined_line(who).as_bytes())
 }
 
-/// Writes the line of a note.
-pub fn write_note<W: Write>(writer: &mut W, note: &Note) -> Result<(), WriteFault>
-    ensures { Writes result (W.contents writer.old) (W.contents writer.new) (note_line note.now) }
+/// Writes the line of a note in a version.
+pub fn write_note<W: Write>(writer: &mut W, note: &Note, version: Version) -> Result<(), WriteFault>
+    ensures { Writes result (W.contents writer.old) (W.contents writer.new) (note_line version note.now) }
 {
-    write_bytes(writer, note_line(note).as_bytes())
+    match version {
+        Version::One => write_bytes(writer, note_line(note).as_bytes()),
+        Version::Two => write_placed(writer, note),
+    }
+}
+
+// Writes the line of a note in the second version.
+#[inline(never)] // so that the first version pays for it with one test alone
+fn write_placed<W: Write>(writer: &mut W, note: &Note) -> Result<(), WriteFault>
+    ensures { Writes result (W.contents writer.old) (W.contents writer.new) (note_line Version.Two note.now) }
+{
+    match note {
+        Note::Next(item) => write_bytes(writer, placed_line(item).as_bytes()),
+        _ => write_bytes(writer, note_line(note).as_bytes()),
+    }
 }
 
 /// Writes all of the bytes. A write that fails or takes none is a fault.

@@ -7,13 +7,13 @@ use Rattle.rx_session.specs.declared.line_state.LineState.{LineState}
 use Rattle.rx_proto.specs.declared.script_line.ScriptLine.{ScriptLine}
 use Rattle.rx_session.specs.declared.session_end.SessionEnd.{SessionEnd}
 use Rattle.rx_session.specs.declared.session_end.SessionEnd.TheVariants as ends
-use Rattle.rx_script.specs.Audits.{Audits, audited, audit_written, prints, Prints, Learns, Enters, Follows}
+use Rattle.rx_script.specs.Audits.{Audits, audited, audit_written, prints, Prints, Learns, Enters, Follows, after_entry}
 use Rattle.rx_proto.specs.Bytes.{AppendsPrefix, Writes}
 use Rattle.rx_session.specs.Bytes.{Holds}
 use Rattle.rx_session.specs.Lines.{lines_of, TakesLine, TakesNoLine, without_cr}
 use Rattle.rx_proto.specs.Reading.{script_read}
 use Rattle.rx_session.specs.Steps.{unread, GoesOn}
-use Rattle.rx_script.specs.Transcripts.{Subject, State, new_state, after_line, has_end}
+use Rattle.rx_script.specs.Transcripts.{Subject, State, new_state, has_end}
 use Rattle.rx_session.proofs.LinesOf.{lines_of-first, lines_of-taken, lines_of-none}
 use Rattle.rx_session.proofs.Written.{Prefix-behind, Prefix-none}
 
@@ -75,7 +75,7 @@ LearnsSoFar-line first now next read_old read_now read_new rest rest_after h tak
       goes_on = λ more.
           ap (λ xs. audited first (lines_of xs)) (append_assoc h.read read more) ∙ h.goes_on (read ++ more)
           ∙ ap (audited now) (lines_of-taken rest read takes.line rest_after more takes.begins)
-          ∙ ap (λ b. cond b now.subjects (audited (after_line now line false) (lines_of (rest_after ++ more)))) takes.said.0
+          ∙ ap (λ b. cond b now.subjects (audited (after_entry now line) (lines_of (rest_after ++ more)))) takes.said.0
           ∙ ap (λ state. audited state (lines_of (rest_after ++ more))) (sym takes.said.1);
       ended = λ more.
           ap (λ xs. has_end (lines_of xs)) (append_assoc h.read read more) ∙ h.ended (read ++ more)
@@ -101,7 +101,7 @@ learns ends.Quit first now last read_old read_now read_new before later h takes 
     record {
       read = h.read ++ takes.read;
       consumed = Consumes-trans read_old read_now read_new h.read takes.read h.consumed takes.told;
-      are = ap (λ (state : State). state.subjects) takes.said.2 ∙ sym (h.goes_on takes.read ∙ ap (audited now) parted ∙ ap (λ b. cond b now.subjects (audited (after_line now line false) (lines_of (unread later)))) takes.said.1);
+      are = ap (λ (state : State). state.subjects) takes.said.2 ∙ sym (h.goes_on takes.read ∙ ap (audited now) parted ∙ ap (λ b. cond b now.subjects (audited (after_entry now line) (lines_of (unread later)))) takes.said.1);
       ends = h.ended takes.read ∙ ap has_end parted ∙ ap (λ b. cond b true (has_end (lines_of (unread later)))) takes.said.1;
     }
 learns ends.EndOfInput first now last read_old read_now read_new before later h takes =

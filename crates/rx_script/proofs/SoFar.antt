@@ -52,9 +52,9 @@ SoFar-begun subjects read written script rest is_in none nothing =
 
 -- what was held was written, or a front of it
 pub SoFar-put : (subjects : List Subject) (read_old read_now w0 w1 w2 : Option (List ℕ)) (script after : Script) (rest rest_after : List ℕ)
-    → SoFar subjects read_old read_now w0 w1 script rest → after.topics.items ≡ script.topics.items → after.moment ≡ script.moment → rest_after ≡ rest
+    → SoFar subjects read_old read_now w0 w1 script rest → after.topics.items ≡ script.topics.items → after.moment ≡ script.moment → after.version ≡ script.version → rest_after ≡ rest
     → Holds script.outbox after.outbox w1 w2 [] → SoFar subjects read_old read_now w0 w2 after rest_after
-SoFar-put subjects read_old read_now w0 w1 w2 script after rest rest_after h same_topics same_moment same_rest holds =
+SoFar-put subjects read_old read_now w0 w1 w2 script after rest rest_after h same_topics same_moment same_version same_rest holds =
     let same : (h.written ++ holds.written) ++ after.outbox ≡ h.written ++ script.outbox =
     append_assoc h.written holds.written after.outbox ∙ ap (λ xs. h.written ++ xs) (holds.parts ∙ append-nil script.outbox) in
     record {
@@ -66,6 +66,7 @@ SoFar-put subjects read_old read_now w0 w1 w2 script after rest rest_after h sam
       is_in = record {
         subjects = subst (λ (ts : List Topic). AllStand ts h.now.subjects) (sym same_topics) h.is_in.subjects;
         moment = same_moment ∙ h.is_in.moment;
+        version = same_version ∙ h.is_in.version;
       };
       goes_on = λ marks more.
           let so = h.goes_on marks more in (

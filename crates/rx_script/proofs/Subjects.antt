@@ -91,32 +91,36 @@ some_topic (topic ∷ topics) place lt = topic
 -- the run after an event, which may have met want of memory
 pub IsIn-after : (script after : Script) (state : State) (name : List ℕ) (place : ℕ) (d : Topic) (event : Event) (missed : Bool) (topic : Topic)
     → IsIn script state → (f : IsFound script.topics.items state.subjects name place d)
-    → after.topics.items ≡ set script.topics.items place topic → after.moment ≡ script.moment
+    → after.topics.items ≡ set script.topics.items place topic → after.moment ≡ script.moment → after.version ≡ script.version
     → Stands topic (cond missed f.subject (taking f.subject event)) → IsIn after (cond missed state (after_asked state (asked.Event name event)))
-IsIn-after script after state name place d event true topic is_in f topics moment one = record {
+IsIn-after script after state name place d event true topic is_in f topics moment version one = record {
   subjects = subst (λ (ts : List Topic). AllStand ts state.subjects) (sym topics) (f.keeps topic one);
   moment = moment ∙ is_in.moment;
+  version = version ∙ is_in.version;
 }
-IsIn-after script after state name place d event false topic is_in f topics moment one = record {
+IsIn-after script after state name place d event false topic is_in f topics moment version one = record {
   subjects = subst (λ (ts : List Topic). AllStand ts (all_taking state.subjects name event)) (sym topics) (f.takes topic event one);
   moment = moment ∙ is_in.moment;
+  version = version ∙ is_in.version;
 }
 
 -- the run after an event of a subject that nobody knows
 pub IsIn-unknown : (script after : Script) (state : State) (name : List ℕ) (event : Event)
-    → IsIn script state → all_taking state.subjects name event ≡ state.subjects → after.topics.items ≡ script.topics.items → after.moment ≡ script.moment
+    → IsIn script state → all_taking state.subjects name event ≡ state.subjects → after.topics.items ≡ script.topics.items → after.moment ≡ script.moment → after.version ≡ script.version
     → IsIn after (after_asked state (asked.Event name event))
-IsIn-unknown script after state name event is_in none topics moment = record {
+IsIn-unknown script after state name event is_in none topics moment version = record {
   subjects = subst (λ (ts : List Topic). AllStand ts (all_taking state.subjects name event)) (sym topics)
       (subst (λ (ss : List Subject). AllStand script.topics.items ss) (sym none) is_in.subjects);
   moment = moment ∙ is_in.moment;
+  version = version ∙ is_in.version;
 }
 
 -- the run after a line that was refused
-pub IsIn-same : (script after : Script) (state : State) → IsIn script state → after.topics.items ≡ script.topics.items → after.moment ≡ script.moment → IsIn after state
-IsIn-same script after state is_in topics moment = record {
+pub IsIn-same : (script after : Script) (state : State) → IsIn script state → after.topics.items ≡ script.topics.items → after.moment ≡ script.moment → after.version ≡ script.version → IsIn after state
+IsIn-same script after state is_in topics moment version = record {
   subjects = subst (λ (ts : List Topic). AllStand ts state.subjects) (sym topics) is_in.subjects;
   moment = moment ∙ is_in.moment;
+  version = version ∙ is_in.version;
 }
 
 -- what holds at Ok

@@ -13,6 +13,7 @@ use Rattle.rx_history.specs.Histories.{History, answer, outs}
 use Rattle.rx_hub.specs.Hubs.{HubState, HubView, StandsFor, Steps, MayMiss, takes_memory}
 use Rattle.rx_script.specs.declared.topic.Topic.{Topic}
 use Rattle.rx_proto.specs.declared.response.Response.TheVariants.{Refused}
+use Rattle.rx_proto.specs.declared.version.Version.{Version}
 use Rattle.rx_proto.specs.declared.word.Word.TheVariants as words
 use Rattle.rx_proto.specs.Printing.{reply_line}
 use Rattle.rx_script.specs.Printing.{given_line}
@@ -32,11 +33,11 @@ is_memory (Err refused.TooMuch) = inr (λ e. cc)
 is_memory (Err refused.Memory) = inl refl
 
 -- what a step of a topic's hub is in a script
-pub record Told (topic : Topic) (hub : HubView) (event : Event) (answered : Result Answer Refusal) (given : List Given) (subject : Subject) : Type 0 where
+pub record Told (topic : Topic) (hub : HubView) (event : Event) (version : Version) (answered : Result Answer Refusal) (given : List Given) (subject : Subject) : Type 0 where
   pub missed : Bool
   pub accepted : missed ≡ true → takes_it_with_memory event subject ≡ true
-  pub written : reply_line (response_to answered) ++ given_lines topic.name given
-      ≡ cond missed (reply_line (Refused words.Memory)) (event_written subject event)
+  pub written : reply_line (response_to answered) ++ given_lines version topic.name given
+      ≡ cond missed (reply_line (Refused words.Memory)) (event_written version subject event)
   pub stands : Stands (record topic { hub = hub }) (cond missed subject (taking subject event))
 
 both : (a b : Bool) → a ≡ true → b ≡ true → (a && b) ≡ true
@@ -45,13 +46,13 @@ both true false p q = q
 both false b p q = p
 
 -- by the clauses of the step
-pub told : (topic : Topic) (hub : HubView) (event : Event) (answered : Result Answer Refusal) (given : List Given) (subject : Subject)
+pub told : (topic : Topic) (hub : HubView) (event : Event) (version : Version) (answered : Result Answer Refusal) (given : List Given) (subject : Subject)
     → (answered ≢ Err refused.Memory → (H : History) → StandsFor topic.hub.state H → Steps topic.hub.state hub.state [] given answered H (0, event))
     → (answered ≡ Err refused.Memory → (hub.state ≡ topic.hub.state) × (given ≡ []))
     → (answered ≡ Err refused.Memory → (H : History) → StandsFor topic.hub.state H → MayMiss topic.hub.state.rules H (0, event))
     → hub.state.rules ≡ topic.hub.state.rules
-    → Stands topic subject → Told topic hub event answered given subject
-told topic hub event answered given subject steps misses accepted rules stands = elim (is_memory answered) [
+    → Stands topic subject → Told topic hub event version answered given subject
+told topic hub event version answered given subject steps misses accepted rules stands = elim (is_memory answered) [
   | inl missed ↦ record {
     missed = true;
     accepted = λ _.
@@ -59,8 +60,8 @@ told topic hub event answered given subject steps misses accepted rules stands =
         both (takes_memory event) (is_ok (answer subject.rules subject.history event)) may.0
         (ap (λ (r : Rules). is_ok (answer r subject.history event)) (sym stands.rules) ∙ may.1);
     written =
-        ap (λ r. reply_line (response_to r) ++ given_lines topic.name given) missed
-        ∙ ap (λ gs. reply_line (Refused words.Memory) ++ given_lines topic.name gs) (misses missed).1
+        ap (λ r. reply_line (response_to r) ++ given_lines version topic.name given) missed
+        ∙ ap (λ gs. reply_line (Refused words.Memory) ++ given_lines version topic.name gs) (misses missed).1
         ∙ append-nil (reply_line (Refused words.Memory));
     stands = record {
       name = stands.name;
@@ -76,26 +77,26 @@ told topic hub event answered given subject steps misses accepted rules stands =
         missed = false;
         accepted = λ e. cc;
         written =
-            ap (λ r. reply_line (response_to r) ++ given_lines topic.name given) same_answer
-            ∙ ap (λ gs. reply_line (response_to (answer subject.rules subject.history event)) ++ given_lines topic.name gs) same_outs
-            ∙ ap (λ name. reply_line (response_to (answer subject.rules subject.history event)) ++ given_lines name (outs subject.rules subject.history (0, event))) stands.name;
+            ap (λ r. reply_line (response_to r) ++ given_lines version topic.name given) same_answer
+            ∙ ap (λ gs. reply_line (response_to (answer subject.rules subject.history event)) ++ given_lines version topic.name gs) same_outs
+            ∙ ap (λ name. reply_line (response_to (answer subject.rules subject.history event)) ++ given_lines version name (outs subject.rules subject.history (0, event))) stands.name;
         stands = record { name = stands.name; rules = rules ∙ stands.rules; history = step.goes_on };
       }
 ]
 
 -- the lines of one note more
-pub given_lines-more : (name : List ℕ) (given : List Given) (i : ℕ) (next : Given) → i < length given → next ≡ get_or given i next
-    → given_lines name (take (i + 1) given) ≡ given_lines name (take i given) ++ given_line name next.who next.note
-given_lines-more name given i next lt is =
-    let line : Given → List ℕ = λ g. given_line name g.who g.note in
+pub given_lines-more : (version : Version) (name : List ℕ) (given : List Given) (i : ℕ) (next : Given) → i < length given → next ≡ get_or given i next
+    → given_lines version name (take (i + 1) given) ≡ given_lines version name (take i given) ++ given_line version name next.who next.note
+given_lines-more version name given i next lt is =
+    let line : Given → List ℕ = λ g. given_line version name g.who g.note in
     ap (flat_map line) (take_more given i next lt ∙ ap (λ g. take i given ++ g ∷ []) (sym is))
     ∙ flat_map-append line (take i given) (next ∷ [])
     ∙ ap (λ bytes. flat_map line (take i given) ++ bytes) (append-nil (line next))
 
 -- the lines of all notes, parted behind one of them
-pub given_lines-parts : (name : List ℕ) (given : List Given) (i : ℕ) (next : Given) → i < length given → next ≡ get_or given i next
-    → (given_lines name (take i given) ++ given_line name next.who next.note) ++ given_lines name (drop (i + 1) given) ≡ given_lines name given
-given_lines-parts name given i next lt is =
-    let line : Given → List ℕ = λ g. given_line name g.who g.note in
-    ap (λ bytes. bytes ++ given_lines name (drop (i + 1) given)) (sym (given_lines-more name given i next lt is))
+pub given_lines-parts : (version : Version) (name : List ℕ) (given : List Given) (i : ℕ) (next : Given) → i < length given → next ≡ get_or given i next
+    → (given_lines version name (take i given) ++ given_line version name next.who next.note) ++ given_lines version name (drop (i + 1) given) ≡ given_lines version name given
+given_lines-parts version name given i next lt is =
+    let line : Given → List ℕ = λ g. given_line version name g.who g.note in
+    ap (λ bytes. bytes ++ given_lines version name (drop (i + 1) given)) (sym (given_lines-more version name given i next lt is))
     ∙ sym (flat_map-append line (take (i + 1) given) (drop (i + 1) given)) ∙ ap (flat_map line) (take-append-drop (i + 1) given)

@@ -15,12 +15,14 @@ pub record AsksEvent (a : Asked) (name : List ℕ) : Type 0 where
 pub some_asked : (a : Asked) (name : List ℕ) → name_asked a ≡ Some name → AsksEvent a name
 some_asked (asked.Event other event) name same = record { event = event; is = cc }
 some_asked (asked.At moment) name same = cc
+some_asked (asked.Hello number) name same = cc
 some_asked asked.Quit name same = cc
 
 -- the event that was made is asked for
 pub event_asked : (a : Asked) (name : List ℕ) (event : Event) → name_asked a ≡ Some name → MakesEvent (Ok event) a → a ≡ asked.Event name event
 event_asked (asked.Event other wanted) name event same made = cc
 event_asked (asked.At moment) name event same made = absurd made
+event_asked (asked.Hello number) name event same made = absurd made
 event_asked asked.Quit name event same made = absurd made
 
 -- an event with a text is asked for
@@ -32,6 +34,7 @@ pub record AsksText (a : Asked) (name : List ℕ) : Type 0 where
 pub text_asked : (a : Asked) (name : List ℕ) (memory : Memory) → name_asked a ≡ Some name → MakesEvent (Err memory) a → AsksText a name
 text_asked (asked.Event other event) name memory same text = record { event = event; is = cc; text = text }
 text_asked (asked.At moment) name memory same text = absurd text
+text_asked (asked.Hello number) name memory same text = absurd text
 text_asked asked.Quit name memory same text = absurd text
 
 either : (a b : Bool) → b ≡ true → (a || b) ≡ true

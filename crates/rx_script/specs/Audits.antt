@@ -1,5 +1,5 @@
 -- What the audit of a script is: the subjects after its lines, and the printing of what each observer was given and of
--- what waits for it. The rules are this project's own.
+-- what waits for it, in the first version: a HELLO is passed over. The rules are this project's own.
 use Rattle.std.specs.Prelude.{◌≡◌, ◌⊎◌, ℕ, zero, suc, Bool, true, false, if◌then◌else◌, List, [], ◌∷◌, ◌++◌, map, Option, None, Some, is_some, Result, codes, decimal}
 use Rattle.std.specs.List.{flat_map}
 use Rattle.std.specs.Io.KnownBytes.{Consumes, Appends, IsAtEnd}
@@ -19,17 +19,26 @@ use Rattle.rx_proto.specs.Bytes.{AppendsPrefix}
 use Rattle.rx_session.specs.Lines.{lines_of, TakesLine, TakesNoLine}
 use Rattle.rx_proto.specs.Printing.{note_line}
 use Rattle.rx_proto.specs.Reading.{script_read}
+use Rattle.rx_proto.specs.declared.version.Version.TheVariants.{One}
 use Rattle.rx_script.specs.Scripts.{EndsSo}
 use Rattle.rx_session.specs.Steps.{unread, GoesOn}
 use Rattle.rx_script.specs.Transcripts.{Subject, State, new_state, after_asked, after_line, ends_script, is_quit}
 
 -- THE SUBJECTS AFTER THE LINES
 
+-- the state after what a line asks, but for the version, which no line changes
+abbrev pub after_heard : State → Asked → State
+after_heard state asked = record (after_asked state asked) { version = state.version }
+
+-- the state after a line
+abbrev pub after_entry : State → Result ScriptLine BadLine → State
+after_entry state line = record (after_line state line false) { version = state.version }
+
 -- the subjects after the lines up to the first that ends the script; no line meets want of memory
 abbrev pub audited : State → List (List ℕ) → List Subject
 audited state [] = state.subjects
 audited state (line ∷ lines) =
-    if ends_script (script_read line) then state.subjects else audited (after_line state (script_read line) false) lines
+    if ends_script (script_read line) then state.subjects else audited (after_entry state (script_read line)) lines
 
 -- WHAT IS PRINTED
 
@@ -39,7 +48,7 @@ observer_line name who = codes "OBSERVER " ++ (name ++ (32 ∷ (decimal who ++ 1
 
 -- a line for each note, with a mark before it
 abbrev pub note_lines : List ℕ → List Note → List ℕ
-note_lines mark notes = flat_map (λ note. mark ++ note_line note) notes
+note_lines mark notes = flat_map (λ note. mark ++ note_line One note) notes
 
 -- the lines of an observer: those of the notes given, and then of those that wait
 abbrev pub observed_lines : List ℕ → ℕ → List Note → List Note → List ℕ
@@ -111,7 +120,7 @@ subjects_in ledgers = map subject_in ledgers
 
 -- the state of an audit
 abbrev pub state_in : Audit → State
-state_in audit = record { subjects = subjects_in audit.ledgers.items; moment = audit.moment }
+state_in audit = record { subjects = subjects_in audit.ledgers.items; moment = audit.moment; version = One }
 
 -- what is known of an observer is what it was given and what waits for it, or that there is none
 abbrev pub Observes : Option Observed → Subject → ℕ → Type 0
@@ -130,12 +139,12 @@ pub record Learns (state : State) (after : List Subject) (end : SessionEnd) (rea
 
 -- what a line asks was done, or it ended the script
 abbrev pub EntersAsked : Option SessionEnd → State → State → Asked → Type 0
-EntersAsked None state after asked = (is_quit asked ≡ false) × (after ≡ after_asked state asked)
+EntersAsked None state after asked = (is_quit asked ≡ false) × (after ≡ after_heard state asked)
 EntersAsked (Some end) state after asked = (end ≡ ends.Quit) × (is_quit asked ≡ true) × (after ≡ state)
 
 -- the same of a line
 abbrev pub Enters : Option SessionEnd → State → State → Result ScriptLine BadLine → Type 0
-Enters None state after line = (ends_script line ≡ false) × (after ≡ after_line state line false)
+Enters None state after line = (ends_script line ≡ false) × (after ≡ after_entry state line)
 Enters (Some end) state after line = (end ≡ ends.Quit) × (ends_script line ≡ true) × (after ≡ state)
 
 -- the next line was taken and what it asks done, or there was none and an end

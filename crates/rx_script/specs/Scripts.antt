@@ -11,6 +11,7 @@ use Rattle.rx_session.specs.declared.session_end.SessionEnd.TheVariants as ends
 use Rattle.rx_config.specs.declared.subject_config.SubjectConfig.{SubjectConfig}
 use Rattle.rx_script.specs.declared.told.Told.{Told}
 use Rattle.rx_script.specs.declared.topic.Topic.{Topic}
+use Rattle.rx_proto.specs.declared.version.Version.{Version}
 use Rattle.rx_proto.specs.declared.writing.WriteFault.{WriteFault}
 use Rattle.rx_proto.specs.Bytes.{AppendsPrefix}
 use Rattle.rx_session.specs.Bytes.{Puts}
@@ -70,19 +71,19 @@ AllStand [] (subject ∷ subjects) = ⊥
 AllStand (topic ∷ topics) [] = ⊥
 AllStand (topic ∷ topics) (subject ∷ subjects) = Stands topic subject × AllStand topics subjects
 
--- what a topic did that took an event: its answer and the notes given were put, and it stands for the subject that has taken
+-- what a topic did that took an event: its answer and the notes given were put in a version, and it stands for the subject that has taken
 -- it; or an event that would have been accepted met want of memory
-abbrev pub TakesEvent : Result (Unit {0}) WriteFault → Topic → Topic → Event → List ℕ → List ℕ → Option (List ℕ) → Option (List ℕ) → Type 0
-TakesEvent result topic topic_after event held held_after old new =
+abbrev pub TakesEvent : Result (Unit {0}) WriteFault → Topic → Topic → Event → Version → List ℕ → List ℕ → Option (List ℕ) → Option (List ℕ) → Type 0
+TakesEvent result topic topic_after event version held held_after old new =
     (subject : Subject) → Stands topic subject
     → (missed : Bool) × (missed ≡ true → takes_it_with_memory event subject ≡ true)
-    × Puts result held held_after old new (if missed then reply_line (Refused words.Memory) else event_written subject event)
+    × Puts result held held_after old new (if missed then reply_line (Refused words.Memory) else event_written version subject event)
     × Stands topic_after (if missed then subject else taking subject event)
 
 -- the same of the topic at a place of several
-abbrev pub TakesAt : Result Told WriteFault → List Topic → List Topic → ℕ → Topic → Event → List ℕ → List ℕ → Option (List ℕ) → Option (List ℕ) → Type 0
-TakesAt result topics topics_after place d event held held_after old new =
+abbrev pub TakesAt : Result Told WriteFault → List Topic → List Topic → ℕ → Topic → Event → Version → List ℕ → List ℕ → Option (List ℕ) → Option (List ℕ) → Type 0
+TakesAt result topics topics_after place d event version held held_after old new =
     (subject : Subject) → Stands (slice_index_or topics place d) subject
     → (missed : Bool) × (missed ≡ true → takes_it_with_memory event subject ≡ true)
-    × Puts result held held_after old new (if missed then reply_line (Refused words.Memory) else event_written subject event)
+    × Puts result held held_after old new (if missed then reply_line (Refused words.Memory) else event_written version subject event)
     × (topic_after : Topic) × (topics_after ≡ slice_set topics place topic_after) × Stands topic_after (if missed then subject else taking subject event)

@@ -27,10 +27,11 @@ use Rattle.rx_session.specs.Steps.{unread, GoesOn}
 use Rattle.rx_proto.specs.Printing.{reply_line}
 use Rattle.rx_script.specs.Transcripts.{State, wants_memory, is_quit, asked_written, after_asked, line_written, after_line, ends_script}
 
--- the run of a script is in a state: its topics stand for the subjects, and the moment is the same
+-- the run of a script is in a state: its topics stand for the subjects, and the moment and the version are the same
 pub record IsIn (script : Script) (state : State) : Type 0 where
   pub subjects : AllStand script.topics.items state.subjects
   pub moment : script.moment ≡ state.moment
+  pub version : script.version ≡ state.version
 
 -- whether the script goes on
 abbrev pub is_last : Told → Bool
@@ -51,7 +52,7 @@ abbrev pub CarriesOut : Result Told WriteFault → Script → Script → Option 
 CarriesOut result before after old new asked =
     (state : State) → IsIn before state
     → (missed : Bool) × (missed ≡ true → wants_memory state.subjects asked ≡ true)
-    × Puts result before.outbox after.outbox old new (if missed then reply_line (Refused words.Memory) else asked_written state.subjects asked)
+    × Puts result before.outbox after.outbox old new (if missed then reply_line (Refused words.Memory) else asked_written state asked)
     × MatchResult result (λ told. (is_last told ≡ is_quit asked) × IsIn after (if missed then state else after_asked state asked)) (λ _. Unit {0})
 
 -- what is read of a line that is told, or of one that is too long

@@ -1,6 +1,6 @@
 -- What is written for the lines of a script. A script is told by the histories of its subjects: each line is answered,
--- and gives, what the definitions say of the history of the subject that it names. Its events come at the moment that a
--- line set last. The rules are this project's own.
+-- and gives, what the definitions say of the history of the subject that it names. Its events come at the moment, and notes
+-- are printed in the version, that a line set last. The rules are this project's own.
 use Rattle.std.specs.Prelude.{ℕ, ◌&&◌, ◌||◌, Bool, true, false, if◌then◌else◌, List, [], ◌∷◌, ◌++◌, Option, None, Some, Result, Ok, Err, is_ok}
 use Rattle.std.specs.List.{flat_map}
 use Rattle.std.specs.Option.{option_map_or}
@@ -16,7 +16,9 @@ use Rattle.rx_script.specs.declared.asked.Asked.TheVariants as asked
 use Rattle.rx_proto.specs.declared.response.Response.{Response}
 use Rattle.rx_proto.specs.declared.response.Response.TheVariants as responses
 use Rattle.rx_proto.specs.declared.word.Word.TheVariants as words
-use Rattle.rx_proto.specs.declared.command.Command.TheVariants.{Pub, End, Fail, Sub, Quit}
+use Rattle.rx_proto.specs.declared.command.Command.TheVariants.{Pub, End, Fail, Sub, Hello, Quit}
+use Rattle.rx_proto.specs.declared.version.Version.{Version}
+use Rattle.rx_proto.specs.declared.version.Version.TheVariants.{One}
 use Rattle.rx_proto.specs.declared.script_line.ScriptLine.{ScriptLine}
 use Rattle.rx_proto.specs.declared.script_line.ScriptLine.TheVariants.{Command, At, Join, Request, Dispose}
 use Rattle.rx_proto.specs.declared.line_error.BadLine.{BadLine}
@@ -24,6 +26,7 @@ use Rattle.rx_proto.specs.declared.line_error.BadLine.TheVariants.{Long, Syntax}
 use Rattle.rx_proto.specs.Printing.{reply_line}
 use Rattle.rx_script.specs.Printing.{given_line}
 use Rattle.rx_proto.specs.Reading.{script_read, same_word}
+use Rattle.rx_proto.specs.Versions.{response_to_hello, version_after}
 use Rattle.rx_session.specs.Responses.{response_to}
 
 -- a subject of a script: its name, its rules and the history that the lines so far have made
@@ -32,23 +35,26 @@ pub record Subject : Type 0 where
   pub rules : Rules
   pub history : History
 
--- what a script has come to: its subjects, and the moment of the events that follow, in milliseconds
+-- what a script has come to: its subjects, and the moment of the events that follow, in milliseconds, and the version in which
+-- the notes that follow are printed
 pub record State : Type 0 where
   pub subjects : List Subject
   pub moment : ℕ
+  pub version : Version
 
--- at first the moment is 0
+-- at first the moment is 0, and the version the first
 abbrev pub new_state : List Subject → State
-new_state subjects = record { subjects = subjects; moment = 0 }
+new_state subjects = record { subjects = subjects; moment = 0; version = One }
 
 -- WHAT A LINE ASKS
 
 -- what a line asks at a moment, at which its event comes; a SUB, which no script has, would join with a request for none
 abbrev pub asks : ℕ → ScriptLine → Asked
-asks moment (Command (Pub name text)) = asked.Event name (events.Emit (Next (record { from = 0; text = text })) moment)
+asks moment (Command (Pub name text)) = asked.Event name (events.Emit (Next (record { from = 0; place = 0; text = text })) moment)
 asks moment (Command (End name)) = asked.Event name (events.Emit Completed moment)
 asks moment (Command (Fail name text)) = asked.Event name (events.Emit (Failed text) moment)
 asks moment (Command (Sub name policy)) = asked.Event name (events.Join policy 0 moment)
+asks moment (Command (Hello number)) = asked.Hello number
 asks moment (Command Quit) = asked.Quit
 asks moment (At next) = asked.At next
 asks moment (Join name policy first) = asked.Event name (events.Join policy first moment)
@@ -72,8 +78,8 @@ response_to_fault Long = responses.Refused words.Long
 response_to_fault Syntax = responses.Refused words.Syntax
 
 -- the lines of the notes given
-abbrev pub given_lines : List ℕ → List Given → List ℕ
-given_lines name given = flat_map (λ g. given_line name g.who g.note) given
+abbrev pub given_lines : Version → List ℕ → List Given → List ℕ
+given_lines version name given = flat_map (λ g. given_line version name g.who g.note) given
 
 -- WHAT AN EVENT DOES
 
@@ -93,10 +99,10 @@ all_taking (subject ∷ subjects) name event =
     if same_word subject.name name then taking subject event ∷ subjects else subject ∷ all_taking subjects name event
 
 -- what is written for an event: its answer, and a line for each note that it gives
-abbrev pub event_written : Subject → Event → List ℕ
-event_written subject event =
+abbrev pub event_written : Version → Subject → Event → List ℕ
+event_written version subject event =
     reply_line (response_to (answer subject.rules subject.history event))
-    ++ given_lines subject.name (outs subject.rules subject.history (0, event))
+    ++ given_lines version subject.name (outs subject.rules subject.history (0, event))
 
 -- whether the subject accepts an event, and memory is taken for it
 abbrev pub takes_it_with_memory : Event → Subject → Bool
@@ -112,12 +118,14 @@ wants_memory_for event subject = has_text event || takes_it_with_memory event su
 abbrev pub wants_memory : List Subject → Asked → Bool
 wants_memory subjects (asked.Event name event) = option_map_or (wants_memory_for event) (subject_of subjects name) false
 wants_memory subjects (asked.At moment) = false
+wants_memory subjects (asked.Hello number) = false
 wants_memory subjects asked.Quit = false
 
 -- whether what a line asks is the end
 abbrev pub is_quit : Asked → Bool
 is_quit (asked.Event name event) = false
 is_quit (asked.At moment) = false
+is_quit (asked.Hello number) = false
 is_quit asked.Quit = true
 
 -- whether a line met want of memory; only one that takes memory can
@@ -125,22 +133,24 @@ abbrev pub misses : State → ScriptLine → Bool → Bool
 misses state line missed = missed && wants_memory state.subjects (asks state.moment line)
 
 -- what is written for what a line asks
-abbrev pub asked_written : List Subject → Asked → List ℕ
-asked_written subjects (asked.Event name event) =
-    option_map_or (λ subject. event_written subject event) (subject_of subjects name) (reply_line (responses.Refused words.Subject))
-asked_written subjects (asked.At moment) = reply_line responses.Done
-asked_written subjects asked.Quit = reply_line responses.Done
+abbrev pub asked_written : State → Asked → List ℕ
+asked_written state (asked.Event name event) =
+    option_map_or (λ subject. event_written state.version subject event) (subject_of state.subjects name) (reply_line (responses.Refused words.Subject))
+asked_written state (asked.At moment) = reply_line responses.Done
+asked_written state (asked.Hello number) = reply_line (response_to_hello number)
+asked_written state asked.Quit = reply_line responses.Done
 
 -- what is written for a line; one that met want of memory counts as never sent
 abbrev pub line_written : State → Result ScriptLine BadLine → Bool → List ℕ
 line_written state (Err fault) missed = reply_line (response_to_fault fault)
 line_written state (Ok line) missed =
-    if misses state line missed then reply_line (responses.Refused words.Memory) else asked_written state.subjects (asks state.moment line)
+    if misses state line missed then reply_line (responses.Refused words.Memory) else asked_written state (asks state.moment line)
 
--- the state after what a line asks: a subject has taken the event, or the moment is another
+-- the state after what a line asks: a subject has taken the event, or the moment or the version is another
 abbrev pub after_asked : State → Asked → State
 after_asked state (asked.Event name event) = record state { subjects = all_taking state.subjects name event }
 after_asked state (asked.At moment) = record state { moment = moment }
+after_asked state (asked.Hello number) = record state { version = version_after state.version number }
 after_asked state asked.Quit = state
 
 -- the state after a line

@@ -12,6 +12,8 @@ pub enum Asked {
     Event(Name, Event),
     /// To have the events that follow come at this moment, in milliseconds.
     At(u64),
+    /// To have the notes that follow printed in the version of this number.
+    Hello(u32),
     /// To end.
     Quit,
 }
@@ -22,13 +24,14 @@ pub fn asked_by(line: ScriptLine, moment: u64) -> Asked
 {
     match line {
         ScriptLine::Command(Command::Pub { name, text }) => {
-            emitted(name, Note::Next(Item { from: 0, text }), moment)
+            emitted(name, Note::Next(Item::new(text)), moment)
         }
         ScriptLine::Command(Command::End { name }) => emitted(name, Note::Completed, moment),
         ScriptLine::Command(Command::Fail { name, text }) => {
             emitted(name, Note::Failed(text), moment)
         }
         ScriptLine::Command(Command::Sub { name, policy }) => joined(name, policy, 0, moment),
+        ScriptLine::Command(Command::Hello(number)) => Asked::Hello(number),
         ScriptLine::Command(Command::Quit) => Asked::Quit,
         ScriptLine::At(next) => Asked::At(next),
         ScriptLine::Join {

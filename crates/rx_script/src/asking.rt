@@ -11,7 +11,7 @@ use rx_note::{Event, Item, Note, Policy, Text};
 use rx_proto::Line;
 
 /// The name of the subject of which a line asks something.
-#[inline(always)]
+#[inline(always)] // once for each line of a script
 pub fn name_in<'a>(line: &Line<'a>) -> &'a [u8]
     requires { names_subject (meaning_of line.now) ≡ true }
     ensures { (moment : ℕ) → name_asked (asks moment (meaning_of line.now)) ≡ Some result.now }
@@ -24,13 +24,13 @@ pub fn name_in<'a>(line: &Line<'a>) -> &'a [u8]
         Line::Join { name, .. } => name,
         Line::Request { name, .. } => name,
         Line::Dispose { name, .. } => name,
-        Line::Quit | Line::At(_) => unreachable!(),
+        Line::Hello(_) | Line::Quit | Line::At(_) => unreachable!(),
     }
 }
 
 /// The event for which a line asks, at a moment in milliseconds. Its text is the spare one where that has room for the bytes,
 /// else it is made over `heap`.
-#[inline(always)]
+#[inline(always)] // once for each line of a script
 pub fn event_in(
     heap: &Heap,
     spare: &mut Option<Text>,
@@ -44,7 +44,7 @@ pub fn event_in(
     match line {
         Line::Pub { text, .. } => {
             let text = text_of(heap, spare, text)?;
-            Ok(emitted(Note::Next(Item { from: 0, text }), moment))
+            Ok(emitted(Note::Next(Item::new(text)), moment))
         }
         Line::Fail { text, .. } => {
             let text = text_of(heap, spare, text)?;
@@ -55,18 +55,18 @@ pub fn event_in(
         Line::Join { policy, first, .. } => Ok(joined(*policy, *first, moment)),
         Line::Request { who, n, .. } => Ok(Event::Request { who: *who, n: *n }),
         Line::Dispose { who, .. } => Ok(Event::Dispose { who: *who }),
-        Line::Quit | Line::At(_) => unreachable!(),
+        Line::Hello(_) | Line::Quit | Line::At(_) => unreachable!(),
     }
 }
 
-#[inline(always)]
+#[inline(always)] // so that the event is made in its place
 fn emitted(note: Note, at: u64) -> Event
     ensures { result ≡ Event.Emit note at }
 {
     Event::Emit { note, at }
 }
 
-#[inline(always)]
+#[inline(always)] // so that the event is made in its place
 fn joined(policy: Policy, first: u32, at: u64) -> Event
     ensures { result ≡ Event.Join policy first at }
 {
@@ -74,7 +74,7 @@ fn joined(policy: Policy, first: u32, at: u64) -> Event
 }
 
 // The text of these bytes, which are one.
-#[inline(always)]
+#[inline(always)] // so that a short text is made in its place
 fn text_of(heap: &Heap, spare: &mut Option<Text>, bytes: &[u8]) -> Result<Text, Memory>
     requires { IsText bytes.now }
     ensures { IfOk result (λ text. text ≡ bytes.now) }

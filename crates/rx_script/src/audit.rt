@@ -121,7 +121,7 @@ fn enter_line(alloc: &Heap, audit: &mut Audit, line: &[u8]) -> Result<Option<Ses
     }
 }
 
-// Adds the event that a line asks for, or sets the moment, or ends at QUIT.
+// Adds the event that a line asks for, or sets the moment, or ends at QUIT. A HELLO is passed over.
 fn enter_asked(audit: &mut Audit, asked: Asked) -> Result<Option<SessionEnd>, Memory>
     ensures { IfOk result (λ end. EntersAsked end (state_in audit.old) (state_in audit.new) asked) }
 {
@@ -131,6 +131,7 @@ fn enter_asked(audit: &mut Audit, asked: Asked) -> Result<Option<SessionEnd>, Me
             audit.moment = moment;
             Ok(None)
         }
+        Asked::Hello(_) => Ok(None),
         Asked::Event(name, event) => {
             enter(&mut audit.ledgers, &name, event)?;
             Ok(None)

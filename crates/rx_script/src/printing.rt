@@ -2,23 +2,25 @@ ghost use Rattle.std.specs.Prelude.{◌≡◌, ◌≤◌, ◌+◌, ◌++◌, dec
 ghost use Rattle.rx_script.specs.Audits.{observer_line};
 ghost use Rattle.rx_session.specs.Bytes.{Puts};
 ghost use Rattle.rx_proto.specs.Printing.{note_line};
+ghost use Rattle.rx_proto.specs.declared.version.Version.TheVariants.{One};
 ghost use Rattle.rx_script.specs.Printing.{given_line};
 
 use rx_note::Note;
-use rx_proto::{MAX_DIGITS, Name, WriteFault, write_digits};
+use rx_proto::{MAX_DIGITS, Name, Version, WriteFault, write_digits};
 use rx_session::Outbox;
 use std::io::Write;
 
-/// Puts the line that a script prints for a note given to an observer of this subject.
-#[inline(always)]
+/// Puts the line that a script prints in a version for a note given to an observer of this subject.
+#[inline(always)] // once for each note
 pub fn put_given<W: Write>(
     outbox: &mut Outbox,
     writer: &mut W,
+    version: Version,
     name: &Name,
     who: u32,
     note: &Note,
 ) -> Result<(), WriteFault>
-    ensures { Puts result outbox.old outbox.new (W.contents writer.old) (W.contents writer.new) (given_line name.now who note.now) }
+    ensures { Puts result outbox.old outbox.new (W.contents writer.old) (W.contents writer.new) (given_line version name.now who note.now) }
 {
     let (name, len) = name.padded();
     outbox.ready(writer)?;
@@ -26,7 +28,7 @@ pub fn put_given<W: Write>(
     outbox.push(b" ");
     push_decimal(outbox, who);
     outbox.push(b" ");
-    outbox.push_note(note);
+    outbox.push_note(note, version);
     Ok(())
 }
 
@@ -49,7 +51,7 @@ pub fn put_observer<W: Write>(
     Ok(())
 }
 
-/// Puts the line of a note with a mark before it, of at most 16 bytes.
+/// Puts the line of a note, in the first version, with a mark before it of at most 16 bytes.
 pub fn put_marked<W: Write>(
     outbox: &mut Outbox,
     writer: &mut W,
@@ -57,16 +59,16 @@ pub fn put_marked<W: Write>(
     note: &Note,
 ) -> Result<(), WriteFault>
     requires { length mark.now ≤ 16 }
-    ensures { Puts result outbox.old outbox.new (W.contents writer.old) (W.contents writer.new) (mark.now ++ note_line note.now) }
+    ensures { Puts result outbox.old outbox.new (W.contents writer.old) (W.contents writer.new) (mark.now ++ note_line One note.now) }
 {
     outbox.ready(writer)?;
     outbox.push(mark);
-    outbox.push_note(note);
+    outbox.push_note(note, Version::One);
     Ok(())
 }
 
 // Pushes the digits of a number, for which there is room.
-#[inline]
+#[inline] // once for each note; most numbers have one digit
 fn push_decimal(outbox: &mut Outbox, number: u32)
     requires { length outbox.old + 10 ≤ 65536 }
     ensures digits { outbox.new ≡ outbox.old ++ decimal number }

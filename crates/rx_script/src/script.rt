@@ -18,7 +18,7 @@ use crate::topic::{Topic, place_of, topics_of};
 use rx_config::Config;
 use rx_heap::{Heap, Memory};
 use rx_note::{Answer, Event, Given, Item, Note, Refusal, Text};
-use rx_proto::{BadLine, Line, Name, Response, Word, WriteFault, read_script_without_lf};
+use rx_proto::{BadLine, Line, Name, Response, Version, Word, WriteFault, read_script_without_lf};
 use rx_session::{LineState, Outbox, SessionEnd, Step, response_to};
 use std::io::{Read, Write};
 
@@ -48,10 +48,12 @@ pub fn run_script<R: Read, W: Write>(
     }
 }
 
-/// The run of a script: its topics, the moment of the events that follow, in milliseconds, and what is to be written.
+/// The run of a script: its topics, the moment of the events that follow, in milliseconds, the version in which their notes are
+/// printed, and what is to be written.
 pub(crate) struct Script {
     topics: Vec<Topic, Heap>,
     moment: u64,
+    version: Version,
     outs: Vec<Given, Heap>,
     outbox: Outbox,
     // A text that was let go, in whose block the next one may stand.
@@ -65,6 +67,7 @@ impl Drop for Script {
         let Script {
             topics: _,
             moment: _,
+            version: _,
             outs: _,
             outbox: _,
             spare: _,
@@ -88,6 +91,7 @@ impl Script {
         Ok(Script {
             topics: topics_of(&alloc, config.subjects)?,
             moment: 0,
+            version: Version::One,
             outs: Vec::new(alloc),
             outbox: Outbox::new(),
             spare: None,
@@ -95,7 +99,7 @@ impl Script {
     }
 
     // Takes the next line, or finds the end. Where that takes a read, all that was answered is written first.
-    #[inline(always)]
+    #[inline(always)] // once for each line
     fn next_step<R: Read, W: Write>(
         &mut self,
         lines: &mut LineState,
@@ -107,6 +111,7 @@ impl Script {
         ensures empty { OnOk result (HasNoLf (unread lines.old) → self.new.outbox ≡ []) }
         ensures topics { self.new.topics.items ≡ self.old.topics.items }
         ensures moment { self.new.moment ≡ self.old.moment }
+        ensures version { self.new.version ≡ self.old.version }
         ensures goes { IfOk result (λ step. Goes step (R.remaining reader.old) (R.remaining reader.new) lines.old lines.new) }
         ensures no_read { OnErr result (R.remaining reader.new ≡ R.remaining reader.old) }
     {
@@ -120,7 +125,7 @@ impl Script {
     }
 
     // Tells the line that a step took, or the end that it found. How the script ended, if it did.
-    #[inline(always)]
+    #[inline(always)] // once for each line
     fn tell_step<W: Write>(
         &mut self,
         lines: &LineState,
@@ -141,18 +146,19 @@ impl Script {
     }
 
     // Writes all that was answered, and flushes the writer.
-    #[inline(never)]
+    #[inline(never)] // once for each block
     fn flush<W: Write>(&mut self, writer: &mut W) -> Result<(), WriteFault>
         ensures written { Writes result (W.contents writer.old) (W.contents writer.new) self.old.outbox }
         ensures empty { self.new.outbox ≡ [] }
         ensures topics { self.new.topics.items ≡ self.old.topics.items }
         ensures moment { self.new.moment ≡ self.old.moment }
+        ensures version { self.new.version ≡ self.old.version }
     {
         self.outbox.flush(writer)
     }
 
     // Tells a line, or that there is one which is too long. How the script ended, if it did.
-    #[inline(always)]
+    #[inline(always)] // once for each line
     fn tell_on<W: Write>(&mut self, writer: &mut W, line: Option<&[u8]>) -> Option<SessionEnd>
         requires { MayBeTold line }
         ensures { TellsOn result self.old self.new (W.contents writer.old) (W.contents writer.new) (reading_of line.entry) }
@@ -165,7 +171,7 @@ impl Script {
     }
 
     // Tells a line: puts what is written for it, and has the topics take what it asks.
-    #[inline(always)]
+    #[inline(always)] // once for each line
     fn tell<W: Write>(&mut self, writer: &mut W, line: Option<&[u8]>) -> Result<Told, WriteFault>
         requires { MayBeTold line }
         ensures { Tells result self.old self.new (W.contents writer.old) (W.contents writer.new) (reading_of line.entry) }
@@ -185,7 +191,7 @@ impl Script {
 
     // Carries out a line that is no Pub. It has the code of `carry_out` once more, so that a Pub, by far the commonest line,
     // passes no test of what it is.
-    #[inline(never)]
+    #[inline(never)] // said above
     fn carry_out_other<W: Write>(
         &mut self,
         writer: &mut W,
@@ -198,7 +204,7 @@ impl Script {
     }
 
     // Carries out what a line asks, and puts the answer.
-    #[inline(always)]
+    #[inline(always)] // so that a Pub has code of its own
     fn carry_out<W: Write>(&mut self, writer: &mut W, line: &Line<'_>) -> Result<Told, WriteFault>
         requires { IsSpelled (meaning_of line.now) }
         ensures { CarriesOut result self.old self.new (W.contents writer.old) (W.contents writer.new) (asks self.old.moment (meaning_of line.now)) }
@@ -213,12 +219,17 @@ impl Script {
                 self.outbox.put_reply(writer, Response::Done)?;
                 Ok(Told::More)
             }
+            Line::Hello(number) => {
+                let response = self.version.hello(*number);
+                self.outbox.put_reply(writer, response)?;
+                Ok(Told::More)
+            }
             _ => self.ask(writer, line),
         }
     }
 
     // Asks of a subject what a line says. Its text is made only where there is the subject, over the memory of that.
-    #[inline(always)]
+    #[inline(always)] // a part of `carry_out`
     fn ask<W: Write>(&mut self, writer: &mut W, line: &Line<'_>) -> Result<Told, WriteFault>
         requires spelled { IsSpelled (meaning_of line.now) }
         requires named { names_subject (meaning_of line.now) ≡ true }
@@ -234,11 +245,12 @@ impl Script {
     }
 
     // Puts the answer to a line that is refused.
-    #[inline(never)]
+    #[inline(never)] // rare
     fn refuse<W: Write>(&mut self, writer: &mut W, word: Word) -> Result<Told, WriteFault>
         ensures puts { Puts result self.old.outbox self.new.outbox (W.contents writer.old) (W.contents writer.new) (reply_line (Response.Refused word)) }
         ensures topics { self.new.topics.items ≡ self.old.topics.items }
         ensures moment { self.new.moment ≡ self.old.moment }
+        ensures version { self.new.version ≡ self.old.version }
         ensures more { IfOk result (λ told. told ≡ Told.More) }
     {
         self.outbox.put_reply(writer, Response::Refused(word))?;
@@ -246,7 +258,7 @@ impl Script {
     }
 
     // Has the topic at a place take an event, and puts its answer and the notes that it gives.
-    #[inline(always)]
+    #[inline(always)] // a part of `ask`
     fn take<W: Write>(
         &mut self,
         writer: &mut W,
@@ -254,13 +266,15 @@ impl Script {
         event: Event,
     ) -> Result<Told, WriteFault>
         requires { place < length self.old.topics.items }
-        ensures took { (d : Topic) → TakesAt result self.old.topics.items self.new.topics.items place d event self.old.outbox self.new.outbox (W.contents writer.old) (W.contents writer.new) }
+        ensures took { (d : Topic) → TakesAt result self.old.topics.items self.new.topics.items place d event self.old.version self.old.outbox self.new.outbox (W.contents writer.old) (W.contents writer.new) }
         ensures moment { self.new.moment ≡ self.old.moment }
+        ensures version { self.new.version ≡ self.old.version }
         ensures more { IfOk result (λ told. told ≡ Told.More) }
     {
         take_event(
             &mut self.topics[place],
             event,
+            self.version,
             &mut self.outs,
             &mut self.spare,
             &mut self.outbox,
@@ -281,28 +295,29 @@ impl Script {
 }
 
 // Steps the hub of a topic, and puts the answer and the notes given.
-#[inline(always)]
+#[inline(always)] // a part of `take`
 fn take_event<W: Write>(
     topic: &mut Topic,
     event: Event,
+    version: Version,
     outs: &mut Vec<Given, Heap>,
     spare: &mut Option<Text>,
     outbox: &mut Outbox,
     writer: &mut W,
 ) -> Result<(), WriteFault>
     requires { outs.old.items ≡ [] }
-    ensures took { TakesEvent result topic.old topic.new event outbox.old outbox.new (W.contents writer.old) (W.contents writer.new) }
+    ensures took { TakesEvent result topic.old topic.new event version outbox.old outbox.new (W.contents writer.old) (W.contents writer.new) }
     ensures outs { outs.new.items ≡ [] }
 {
     let answered = topic.hub.step(0, event, outs);
-    let put = put_answer(outbox, writer, &topic.name, answered, outs);
+    let put = put_answer(outbox, writer, version, &topic.name, answered, outs);
     let_go(outs, &topic.heap, spare);
     put
 }
 
 // Lets go of the notes that were put. The text of the last is kept where the next text may stand in its block, unless there
 // is a limit, by which a block that is kept would count.
-#[inline(always)]
+#[inline(always)] // once for each line; mostly there is nothing
 fn let_go(outs: &mut Vec<Given, Heap>, heap: &Heap, spare: &mut Option<Text>)
     ensures { outs.new.items ≡ [] }
 {
@@ -313,13 +328,13 @@ fn let_go(outs: &mut Vec<Given, Heap>, heap: &Heap, spare: &mut Option<Text>)
 }
 
 // Whether the last note is an item whose text stands in a block.
-#[inline(always)]
+#[inline(always)] // a part of `let_go`
 fn ends_in_block(outs: &Vec<Given, Heap>) -> bool {
     match outs.last() {
         Some(
             Given {
                 who: _,
-                note: Note::Next(Item { from: _, text }),
+                note: Note::Next(Item { text, .. }),
             },
         ) => text.has_block(),
         _ => false,
@@ -327,12 +342,12 @@ fn ends_in_block(outs: &Vec<Given, Heap>) -> bool {
 }
 
 // Keeps the text of the last note, which is taken out.
-#[inline(never)]
+#[inline(never)] // only for texts in blocks
 fn keep_last(outs: &mut Vec<Given, Heap>, spare: &mut Option<Text>) {
     if let Some(
         Given {
             who: _,
-            note: Note::Next(Item { from: _, text }),
+            note: Note::Next(Item { text, .. }),
         },
     ) = outs.pop()
     {
@@ -340,23 +355,24 @@ fn keep_last(outs: &mut Vec<Given, Heap>, spare: &mut Option<Text>) {
     }
 }
 
-// Puts the answer to an event, and a line for each note given.
-#[inline(always)]
+// Puts the answer to an event, and a line in a version for each note given.
+#[inline(always)] // once for each line
 fn put_answer<W: Write>(
     outbox: &mut Outbox,
     writer: &mut W,
+    version: Version,
     name: &Name,
     answered: Result<Answer, Refusal>,
     outs: &Vec<Given, Heap>,
 ) -> Result<(), WriteFault>
-    ensures { Puts result outbox.old outbox.new (W.contents writer.old) (W.contents writer.new) (reply_line (response_to answered) ++ given_lines name.now outs.now.items) }
+    ensures { Puts result outbox.old outbox.new (W.contents writer.old) (W.contents writer.new) (reply_line (response_to answered) ++ given_lines version name.now outs.now.items) }
 {
     outbox.put_reply(writer, response_of(answered))?;
-    put_all(outbox, writer, name, outs)
+    put_all(outbox, writer, version, name, outs)
 }
 
 // The response to an event. That to an emission which was admitted is tested first, as by far the commonest.
-#[inline(always)]
+#[inline(always)] // so that the commonest answer is known where it is put
 fn response_of(answered: Result<Answer, Refusal>) -> Response
     ensures { result ≡ response_to answered }
 {
@@ -366,18 +382,19 @@ fn response_of(answered: Result<Answer, Refusal>) -> Response
     }
 }
 
-// Puts a line for each note given.
-#[inline(always)]
+// Puts a line in a version for each note given.
+#[inline(always)] // once for each line
 fn put_all<W: Write>(
     outbox: &mut Outbox,
     writer: &mut W,
+    version: Version,
     name: &Name,
     outs: &Vec<Given, Heap>,
 ) -> Result<(), WriteFault>
-    ensures { Puts result outbox.old outbox.new (W.contents writer.old) (W.contents writer.new) (given_lines name.now outs.now.items) }
+    ensures { Puts result outbox.old outbox.new (W.contents writer.old) (W.contents writer.new) (given_lines version name.now outs.now.items) }
 {
     for given in outs.iter() {
-        put_given(outbox, writer, name, given.who, &given.note)?;
+        put_given(outbox, writer, version, name, given.who, &given.note)?;
     }
     Ok(())
 }

@@ -54,7 +54,7 @@ pub fn topics_of(
 }
 
 /// The place of the first topic of this name.
-#[inline(always)]
+#[inline(always)] // once for each line of a script
 pub fn place_of(topics: &Vec<Topic, Heap>, name: &[u8]) -> Option<usize>
     ensures { result ≡ position (λ topic. same_word topic.name name.now) topics.now.items }
 {

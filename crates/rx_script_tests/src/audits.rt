@@ -35,7 +35,7 @@ fn audit_of<R: Read>(alloc: Global, reader: &mut R, max_reads: u64) -> Result<Ra
 /// The name of an input, its script, what is written, and how it ends.
 type Row = (&'static str, &'static [u8], &'static [u8], SessionEnd);
 
-const ROWS: [Row; 7] = [
+const ROWS: [Row; 8] = [
     (
         "audit_of_a_waiting_end",
         WAITING_END,
@@ -58,6 +58,12 @@ const ROWS: [Row; 7] = [
         "audit_of_an_overflow",
         b"JOIN s BOUNDED:1 DELAY 1\nJOIN s BOUNDED:1 AHEAD 1\nPUB s a\nPUB s b\nPUB s c\nPUB s d\n",
         b"OBSERVER s 0\nGIVEN NEXT a\nWAITING NEXT b\nWAITING FAILED OVERFLOW\nOBSERVER s 1\nGIVEN NEXT a\nGIVEN FAILED OVERFLOW\n",
+        SessionEnd::EndOfInput,
+    ),
+    (
+        "hello_is_passed_over",
+        b"HELLO 2\nJOIN s BUFFER DELAY 1\nHELLO 7\nPUB s a\nPUB s b\n",
+        b"OBSERVER s 0\nGIVEN NEXT a\nWAITING NEXT b\n",
         SessionEnd::EndOfInput,
     ),
     ("no_line", b"", b"", SessionEnd::EndOfInput),
@@ -96,6 +102,7 @@ fn config_of_two(alloc: Global) -> Result<Config, Memory> {
         limits: Limits {
             observers: 1,
             joins: 1,
+            items: 1,
         },
     };
     config.subjects.push(SubjectConfig { name, rules })?;

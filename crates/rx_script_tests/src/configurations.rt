@@ -40,7 +40,8 @@ fn tell_subject<W: Write>(out: &mut W, subject: &SubjectConfig) -> io::Result<()
     out.write_all(b"; ")?;
     out.write_all(subject.name.as_bytes())?;
     let limits = subject.rules.limits;
-    write!(out, " {} {} ", limits.observers, limits.joins)?;
+    let most = (limits.observers, limits.joins, limits.items);
+    write!(out, " {} {} {} ", most.0, most.1, most.2)?;
     tell_kind(out, &subject.rules.kind)
 }
 
@@ -95,18 +96,21 @@ fn expect_readings(
 
 // What stands behind a first subject, and what is told.
 const CONFIGURATIONS: [(&str, &str); 4] = [
-    ("", "1 4 16 4294967295 60; s 64 4294967295 publish"),
     (
-        "observers = 1\njoins = 2\n[pool]\ndrainers = 8\nworkers = 32\nwindow = 1\nconnections = 1\n",
-        "8 32 1 1 60; s 1 2 publish",
+        "",
+        "1 4 16 4294967295 60; s 64 4294967295 4294967295 publish",
+    ),
+    (
+        "observers = 1\njoins = 2\nitems = 3\n[pool]\ndrainers = 8\nworkers = 32\nwindow = 1\nconnections = 1\n",
+        "8 32 1 1 60; s 1 2 3 publish",
     ),
     (
         "[[subject]]\nname = \"b-1\"\nkind = \"behavior\"\nseed = \"\"\n[[subject]]\nname = \"c\"\nkind = \"async\"\n",
-        "1 4 16 4294967295 60; s 64 4294967295 publish; b-1 64 4294967295 behavior ; c 64 4294967295 async",
+        "1 4 16 4294967295 60; s 64 4294967295 4294967295 publish; b-1 64 4294967295 4294967295 behavior ; c 64 4294967295 4294967295 async",
     ),
     (
         "[[subject]]\nname = \"r\"\nkind = \"replay\"\ncount = 4096\nage = 9223372036854775807\n",
-        "1 4 16 4294967295 60; s 64 4294967295 publish; r 64 4294967295 replay Some(4096) Some(9223372036854775807)",
+        "1 4 16 4294967295 60; s 64 4294967295 4294967295 publish; r 64 4294967295 4294967295 replay Some(4096) Some(9223372036854775807)",
     ),
 ];
 
@@ -127,46 +131,63 @@ fn example_of_two_subjects(rt: HostRuntime) -> Result<(), Fail> {
     let text =
         b"[[subject]]\nname = \"s\"\nkind = \"replay\"\ncount = 16\n\n[[subject]]\nname = \"b\"\nkind = \"behavior\"\nseed = \"none yet\"\n".as_slice();
     let wanted =
-        "1 4 16 4294967295 60; s 64 4294967295 replay Some(16) None; b 64 4294967295 behavior none yet";
+        "1 4 16 4294967295 60; s 64 4294967295 4294967295 replay Some(16) None; b 64 4294967295 4294967295 behavior none yet";
     expect_reading(&rt, rt.alloc(), text, wanted)?;
     expect_reading(&rt, rt.alloc(), b"\xff".as_slice(), "config is not TOML")
 }
 
 // Each key at its least and its greatest value, one below, one above, and of another type: what stands before it, its
 // line, and what is told.
-const EDGES: [(&str, &str, &str); 56] = [
+const EDGES: [(&str, &str, &str); 61] = [
     (
         FIRST,
         "observers = 1\n",
-        "1 4 16 4294967295 60; s 1 4294967295 publish",
+        "1 4 16 4294967295 60; s 1 4294967295 4294967295 publish",
     ),
     (
         FIRST,
         "observers = 64\n",
-        "1 4 16 4294967295 60; s 64 4294967295 publish",
+        "1 4 16 4294967295 60; s 64 4294967295 4294967295 publish",
     ),
     (FIRST, "observers = 0\n", "subject 0 is refused"),
     (FIRST, "observers = 65\n", "subject 0 is refused"),
     (FIRST, "observers = -1\n", "subject 0 is refused"),
     (FIRST, "observers = \"1\"\n", "subject 0 is refused"),
-    (FIRST, "joins = 1\n", "1 4 16 4294967295 60; s 64 1 publish"),
+    (
+        FIRST,
+        "joins = 1\n",
+        "1 4 16 4294967295 60; s 64 1 4294967295 publish",
+    ),
     (
         FIRST,
         "joins = 4294967295\n",
-        "1 4 16 4294967295 60; s 64 4294967295 publish",
+        "1 4 16 4294967295 60; s 64 4294967295 4294967295 publish",
     ),
     (FIRST, "joins = 0\n", "subject 0 is refused"),
     (FIRST, "joins = 4294967296\n", "subject 0 is refused"),
     (FIRST, "joins = true\n", "subject 0 is refused"),
     (
+        FIRST,
+        "items = 1\n",
+        "1 4 16 4294967295 60; s 64 4294967295 1 publish",
+    ),
+    (
+        FIRST,
+        "items = 4294967295\n",
+        "1 4 16 4294967295 60; s 64 4294967295 4294967295 publish",
+    ),
+    (FIRST, "items = 0\n", "subject 0 is refused"),
+    (FIRST, "items = 4294967296\n", "subject 0 is refused"),
+    (FIRST, "items = \"1\"\n", "subject 0 is refused"),
+    (
         REPLAY,
         "count = 1\n",
-        "1 4 16 4294967295 60; s 64 4294967295 replay Some(1) None",
+        "1 4 16 4294967295 60; s 64 4294967295 4294967295 replay Some(1) None",
     ),
     (
         REPLAY,
         "count = 4096\n",
-        "1 4 16 4294967295 60; s 64 4294967295 replay Some(4096) None",
+        "1 4 16 4294967295 60; s 64 4294967295 4294967295 replay Some(4096) None",
     ),
     (REPLAY, "count = 0\n", "subject 0 is refused"),
     (REPLAY, "count = 4097\n", "subject 0 is refused"),
@@ -174,12 +195,12 @@ const EDGES: [(&str, &str, &str); 56] = [
     (
         REPLAY,
         "age = 1\n",
-        "1 4 16 4294967295 60; s 64 4294967295 replay None Some(1)",
+        "1 4 16 4294967295 60; s 64 4294967295 4294967295 replay None Some(1)",
     ),
     (
         REPLAY,
         "age = 9223372036854775807\n",
-        "1 4 16 4294967295 60; s 64 4294967295 replay None Some(9223372036854775807)",
+        "1 4 16 4294967295 60; s 64 4294967295 4294967295 replay None Some(9223372036854775807)",
     ),
     (REPLAY, "age = 0\n", "subject 0 is refused"),
     (REPLAY, "age = 9223372036854775808\n", "config is not TOML"),
@@ -187,12 +208,12 @@ const EDGES: [(&str, &str, &str); 56] = [
     (
         UNNAMED,
         "name = \"-\"\n",
-        "1 4 16 4294967295 60; - 64 4294967295 publish",
+        "1 4 16 4294967295 60; - 64 4294967295 4294967295 publish",
     ),
     (
         UNNAMED,
         "name = \"abcdefghijklmnopqrstuvwxyz012345\"\n",
-        "1 4 16 4294967295 60; abcdefghijklmnopqrstuvwxyz012345 64 4294967295 publish",
+        "1 4 16 4294967295 60; abcdefghijklmnopqrstuvwxyz012345 64 4294967295 4294967295 publish",
     ),
     (UNNAMED, "name = \"\"\n", "subject 0 is refused"),
     (
@@ -207,7 +228,7 @@ const EDGES: [(&str, &str, &str); 56] = [
     (
         NO_KIND,
         "kind = \"behavior\"\nseed = \"\"\n",
-        "1 4 16 4294967295 60; s 64 4294967295 behavior ",
+        "1 4 16 4294967295 60; s 64 4294967295 4294967295 behavior ",
     ),
     (
         NO_KIND,
@@ -222,12 +243,12 @@ const EDGES: [(&str, &str, &str); 56] = [
     (
         POOL,
         "drainers = 1\n",
-        "1 4 16 4294967295 60; s 64 4294967295 async",
+        "1 4 16 4294967295 60; s 64 4294967295 4294967295 async",
     ),
     (
         POOL,
         "drainers = 8\n",
-        "8 4 16 4294967295 60; s 64 4294967295 async",
+        "8 4 16 4294967295 60; s 64 4294967295 4294967295 async",
     ),
     (POOL, "drainers = 0\n", "pool is refused"),
     (POOL, "drainers = 9\n", "pool is refused"),
@@ -235,12 +256,12 @@ const EDGES: [(&str, &str, &str); 56] = [
     (
         POOL,
         "workers = 1\n",
-        "1 1 16 4294967295 60; s 64 4294967295 async",
+        "1 1 16 4294967295 60; s 64 4294967295 4294967295 async",
     ),
     (
         POOL,
         "workers = 32\n",
-        "1 32 16 4294967295 60; s 64 4294967295 async",
+        "1 32 16 4294967295 60; s 64 4294967295 4294967295 async",
     ),
     (POOL, "workers = 0\n", "pool is refused"),
     (POOL, "workers = 33\n", "pool is refused"),
@@ -248,12 +269,12 @@ const EDGES: [(&str, &str, &str); 56] = [
     (
         POOL,
         "window = 1\n",
-        "1 4 1 4294967295 60; s 64 4294967295 async",
+        "1 4 1 4294967295 60; s 64 4294967295 4294967295 async",
     ),
     (
         POOL,
         "window = 16\n",
-        "1 4 16 4294967295 60; s 64 4294967295 async",
+        "1 4 16 4294967295 60; s 64 4294967295 4294967295 async",
     ),
     (POOL, "window = 0\n", "pool is refused"),
     (POOL, "window = 17\n", "pool is refused"),
@@ -261,12 +282,12 @@ const EDGES: [(&str, &str, &str); 56] = [
     (
         POOL,
         "connections = 1\n",
-        "1 4 16 1 60; s 64 4294967295 async",
+        "1 4 16 1 60; s 64 4294967295 4294967295 async",
     ),
     (
         POOL,
         "connections = 4294967295\n",
-        "1 4 16 4294967295 60; s 64 4294967295 async",
+        "1 4 16 4294967295 60; s 64 4294967295 4294967295 async",
     ),
     (POOL, "connections = 0\n", "pool is refused"),
     (POOL, "connections = 4294967296\n", "pool is refused"),
@@ -274,12 +295,12 @@ const EDGES: [(&str, &str, &str); 56] = [
     (
         POOL,
         "stall = 1\n",
-        "1 4 16 4294967295 1; s 64 4294967295 async",
+        "1 4 16 4294967295 1; s 64 4294967295 4294967295 async",
     ),
     (
         POOL,
         "stall = 3600\n",
-        "1 4 16 4294967295 3600; s 64 4294967295 async",
+        "1 4 16 4294967295 3600; s 64 4294967295 4294967295 async",
     ),
     (POOL, "stall = 0\n", "pool is refused"),
     (POOL, "stall = 3601\n", "pool is refused"),

@@ -45,7 +45,7 @@ fn kind_of(heap: &Heap, named: Named) -> Result<Kind, Memory> {
     }
 }
 
-// How many observers a subject has room for.
+// How many observers and items a subject has room for.
 #[derive(Clone, Copy)]
 pub(crate) enum Room {
     // As many as the limits allow.
@@ -54,17 +54,24 @@ pub(crate) enum Room {
     OneAtATime,
     // One at a time, and two in all.
     TwoInAll,
+    // As many as the limits allow, and two items.
+    TwoItems,
 }
 
 fn limits_of(room: Room) -> Limits
     ensures { are_in_range result ≡ true }
 {
-    let (observers, joins) = match room {
-        Room::Wide => (64, u32::MAX),
-        Room::OneAtATime => (1, u32::MAX),
-        Room::TwoInAll => (1, 2),
+    let (observers, joins, items) = match room {
+        Room::Wide => (64, u32::MAX, u32::MAX),
+        Room::OneAtATime => (1, u32::MAX, u32::MAX),
+        Room::TwoInAll => (1, 2, u32::MAX),
+        Room::TwoItems => (64, u32::MAX, 2),
     };
-    Limits { observers, joins }
+    Limits {
+        observers,
+        joins,
+        items,
+    }
 }
 
 // The configuration of a run.
@@ -108,7 +115,7 @@ pub(crate) struct Run {
     pub(crate) answers: &'static [u8],
 }
 
-pub(crate) const RUNS: [Run; 16] = [
+pub(crate) const RUNS: [Run; 20] = [
     Run {
         name: "publish_after_its_end",
         kind: Named::Publish,
@@ -220,6 +227,34 @@ pub(crate) const RUNS: [Run; 16] = [
         room: Room::OneAtATime,
         script: b"JOIN s BOUNDED:0 AHEAD 0\nPUB s a\nJOIN s BOUNDED:0 AHEAD 1\nREQUEST s 0 1\nDISPOSE s 0\nJOIN s BOUNDED:0 AHEAD 1\nPUB s b\n",
         answers: b"OK 0\nOK\ns 0 FAILED OVERFLOW\nERR FULL\nOK\nOK\nOK 1\nOK\ns 1 NEXT b\n",
+    },
+    Run {
+        name: "place_and_version",
+        kind: Named::Behavior,
+        room: Room::TwoItems,
+        script: b"HELLO 3\nHELLO 2\nJOIN s BUFFER DELAY 9\nPUB s a\nHELLO 1\nPUB s b\nPUB s c\nEND s\n",
+        answers: b"ERR VERSION\nOK\nOK 0\ns 0 NEXT - - z\nOK\ns 0 NEXT 0 0 a\nOK\nOK\ns 0 NEXT b\nERR SPENT\nOK\ns 0 DONE\n",
+    },
+    Run {
+        name: "ended_goes_before_spent",
+        kind: Named::Publish,
+        room: Room::TwoItems,
+        script: b"PUB s a\nPUB s b\nPUB s c\nFAIL s x\nPUB s d\nFAIL s y\nJOIN s BUFFER DELAY 1\n",
+        answers: b"OK\nOK\nERR SPENT\nOK\nERR ENDED\nERR ENDED\nOK 0\ns 0 FAILED x\n",
+    },
+    Run {
+        name: "async_keeps_the_last_item_within_its_limit",
+        kind: Named::Async,
+        room: Room::TwoItems,
+        script: b"HELLO 2\nJOIN s BUFFER DELAY 1\nPUB s a\nPUB s b\nPUB s c\nEND s\n",
+        answers: b"OK\nOK 0\nOK\nOK\nERR SPENT\nOK\ns 0 NEXT 1 0 b\ns 0 DONE\n",
+    },
+    Run {
+        name: "refused_item_neither_ages_nor_counts",
+        kind: Named::Replay(None, Some(10)),
+        room: Room::TwoItems,
+        script: b"HELLO 02\nAT 0\nPUB s a\nPUB s b\nAT 50\nPUB s c\nAT 5\nJOIN s BUFFER DELAY 9\n",
+        answers: b"OK\nOK\nOK\nOK\nOK\nERR SPENT\nOK\nOK 0\ns 0 NEXT 0 0 a\ns 0 NEXT 1 0 b\n",
     },
 ];
 

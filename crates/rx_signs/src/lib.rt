@@ -13,8 +13,8 @@ mod valve;
 pub use in_turn::{Refusable, Refusals, Seen, Tale, refuse_in_turn};
 pub use meeting::Meeting;
 pub use signs::{
-    Named, SEED_PORT, digit_of, event_at, event_of, item, kind_of, note_of, policy_by, policy_of,
-    rules_of, sign_of, sign_of_item, text_of,
+    Named, digit_of, event_at, event_of, item, kind_of, note_of, policy_by, policy_of, rules_of,
+    sign_of, sign_of_item, text_of,
 };
 pub use told::Told;
 pub use valve::{BROKEN, Valve};

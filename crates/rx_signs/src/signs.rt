@@ -14,8 +14,7 @@ pub fn text_of(heap: &Heap, bytes: &[u8]) -> Result<Text, Memory> {
 
 /// The item of port 0 with this text.
 pub fn item(heap: &Heap, text: &[u8]) -> Result<Item, Memory> {
-    let text = text_of(heap, text)?;
-    Ok(Item { from: 0, text })
+    Ok(Item::new(text_of(heap, text)?))
 }
 
 /// The policy of a strategy, with errors behind the items.
@@ -27,9 +26,6 @@ pub fn policy_of(strategy: Strategy) -> Result<Policy, BadRoom> {
 pub fn policy_by(strategy: Strategy, errors: Errors) -> Result<Policy, BadRoom> {
     Policy::new(strategy, errors)
 }
-
-/// The port of a seed, which came by none.
-pub const SEED_PORT: u32 = 4_294_967_295;
 
 /// A kind as a table names it. It owns no memory: a seed is told by its one letter.
 #[derive(Clone, Copy, Debug)]
@@ -62,6 +58,7 @@ pub fn rules_of(kind: Kind) -> Rules
     let limits = Limits {
         observers: 64,
         joins: 4_294_967_295,
+        items: 4_294_967_295,
     };
     Rules { kind, limits }
 }
@@ -108,7 +105,7 @@ pub fn event_at(
 pub fn sign_of_item(item: &Item) -> u8 {
     match item.text.as_bytes() {
         [letter] if item.from == 0 => *letter,
-        [letter] if item.from == SEED_PORT => letter.to_ascii_uppercase(),
+        [letter] if item.is_seed() => letter.to_ascii_uppercase(),
         _ => b'?',
     }
 }

@@ -75,6 +75,7 @@ fn fault_of(
         events: EVENTS,
         policy: Some((strategy, errors)),
         fails,
+        items: u32::MAX,
     };
     let ran = run_drawn(heap, named, plan)?;
     ran.fault()

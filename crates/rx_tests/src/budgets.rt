@@ -40,6 +40,7 @@ impl Waiting {
         let limits = Limits {
             observers: 1,
             joins: 1,
+            items: u32::MAX,
         };
         let outs = Vec::new(list);
         let hub = Hub::new(tight, Kind::Publish, limits).expect(rt, "a hub");

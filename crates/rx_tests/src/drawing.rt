@@ -17,6 +17,8 @@ pub(crate) struct Plan {
     pub(crate) policy: Option<(Strategy, Errors)>,
     /// Whether the end is an error.
     pub(crate) fails: bool,
+    /// How many items are accepted at most.
+    pub(crate) items: u32,
 }
 
 /// Draws events.

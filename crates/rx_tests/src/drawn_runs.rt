@@ -7,7 +7,7 @@ use crate::hubs::{OBSERVERS, Ran, Reading, joined, reading_of, run_drawn};
 use rx_heap::Heap;
 use rx_hub::{NoObserver, Step};
 use rx_note::{Answer, Errors, Given, Note, Refusal, Strategy};
-use rx_signs::{Named, SEED_PORT, sign_of};
+use rx_signs::{Named, sign_of};
 use std::process::Abort;
 use std::test::Fail;
 
@@ -17,6 +17,7 @@ fn plan_of(fails: bool) -> Plan {
         events: 400,
         policy: None,
         fails,
+        items: u32::MAX,
     }
 }
 
@@ -84,7 +85,7 @@ fn seeds(outs: &[Given]) -> u32 {
     let mut seeds: u32 = 0;
     for given in outs {
         match &given.note {
-            Note::Next(item) if item.from == SEED_PORT => seeds = seeds.saturating_add(1),
+            Note::Next(item) if item.is_seed() => seeds = seeds.saturating_add(1),
             _ => {}
         }
     }
@@ -302,6 +303,69 @@ fn lines_of_the_drawn_events_are_shorter(rt: HostRuntime) -> Result<(), Fail> {
     for pair in &PAIRS {
         let fewer = shorter(&unlimited(&rt), pair)?;
         expect_fewer(&rt, fewer, pair);
+    }
+    Ok(())
+}
+
+// How many items are accepted at most in the runs with a limit.
+const FEW_ITEMS: u32 = 20;
+
+// How many events were refused since a limit was reached: of joins, or of items.
+fn spent(steps: &[Step]) -> u32 {
+    let mut spent: u32 = 0;
+    for step in steps {
+        if step.result == Err(Refusal::Spent) {
+            spent = spent.saturating_add(1);
+        }
+    }
+    spent
+}
+
+// The greatest place of an item given, but for a seed.
+fn last_place(outs: &[Given]) -> Option<u32> {
+    let mut last = None;
+    for given in outs {
+        match &given.note {
+            Note::Next(item) if !item.is_seed() => last = last.max(Some(item.place)),
+            _ => {}
+        }
+    }
+    last
+}
+
+// What a run with a limit of items shows.
+struct Limited {
+    spent: u32,
+    last: Option<u32>,
+    differs: Option<u32>,
+}
+
+fn limited_run(heap: &Heap, named: Named, fails: bool) -> Result<Limited, Fail> {
+    let mut plan = plan_of(fails);
+    plan.items = FEW_ITEMS;
+    let ran = run_drawn(heap, named, plan)?;
+    Ok(Limited {
+        spent: spent(ran.run.steps.as_slice()),
+        last: last_place(ran.run.outs.as_slice()),
+        differs: ran.differs()?,
+    })
+}
+
+// Many events were refused, the last item that was accepted is given but where an Async subject fails, and the run differs from
+// the history for no observer.
+fn expect_limited(rt: &impl Abort, run: &Limited, gives: bool, named: Named) {
+    let last = if gives { Some(FEW_ITEMS - 1) } else { None };
+    assert!(rt; run.spent > 50, "{named:?}");
+    assert!(rt; run.last == last, "{named:?}");
+    assert!(rt; run.differs.is_none(), "{named:?}");
+}
+
+#[test]
+fn a_run_with_a_limit_of_items(rt: HostRuntime) -> Result<(), Fail> {
+    for (named, fails, _, _, _, _) in &DRAWN_KINDS {
+        let run = limited_run(&unlimited(&rt), *named, *fails)?;
+        let gives = !(*fails && matches!(*named, Named::Async));
+        expect_limited(&rt, &run, gives, *named);
     }
     Ok(())
 }

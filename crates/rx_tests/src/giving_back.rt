@@ -36,6 +36,7 @@ impl Charged {
         let limits = Limits {
             observers: 2,
             joins: 2,
+            items: u32::MAX,
         };
         let hub = Hub::new(copy(rt, heap), kind, limits).expect(rt, "a hub");
         Charged {

@@ -138,13 +138,14 @@ fn runs_of_worked_events(rt: HostRuntime) -> Result<(), Fail> {
 pub(crate) const OBSERVERS: u32 = 32;
 
 // The rules of a drawn run.
-fn drawn_rules(heap: &Heap, named: Named) -> Result<Rules, Fail>
+fn drawn_rules(heap: &Heap, named: Named, items: u32) -> Result<Rules, Fail>
     ensures { IfOk result (λ rules. rules.limits.observers ≤ 64) }
 {
     let kind = kind_of(heap, named)?;
     let limits = Limits {
         observers: OBSERVERS,
         joins: 34,
+        items,
     };
     Ok(Rules { kind, limits })
 }
@@ -195,7 +196,7 @@ fn history_of(heap: &Heap, plan: Plan) -> Result<History, Fail> {
 /// The history of drawn events, read by this kind.
 pub(crate) fn reading_of(heap: &Heap, named: Named, plan: Plan) -> Result<Reading, Fail> {
     let history = history_of(heap, plan)?;
-    let rules = drawn_rules(heap, named)?;
+    let rules = drawn_rules(heap, named, plan.items)?;
     Ok(Reading { history, rules })
 }
 
@@ -213,7 +214,7 @@ fn ran_of(heap: &Heap, hub: Hub, run: Run, named: Named, plan: Plan) -> Result<R
 
 /// The run of drawn events by a new hub of this kind.
 pub(crate) fn run_drawn(heap: &Heap, named: Named, plan: Plan) -> Result<Ran, Fail> {
-    let hub = hub_of(heap, drawn_rules(heap, named)?)?;
+    let hub = hub_of(heap, drawn_rules(heap, named, plan.items)?)?;
     ran_by(heap, hub, named, plan)
 }
 

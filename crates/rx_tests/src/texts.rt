@@ -41,7 +41,7 @@ fn texts_of_limits(rt: HostRuntime) -> Result<(), Fail> {
         (KindError::BadAge, "an age is at least 1 millisecond"),
     ];
     expect_texts(&rt, alloc, &kinds)?;
-    let limits = "limits are 1 to 64 observers and 1 to 4294967295 joins";
+    let limits = "limits are 1 to 64 observers, and 1 to 4294967295 joins and items";
     let hubs = [
         (HubError::BadLimits, limits),
         (HubError::Memory, "out of memory"),
@@ -57,7 +57,10 @@ fn texts_of_refused_events(rt: HostRuntime) -> Result<(), Fail> {
     let refusals = [
         (Refusal::Ended, "the subject has ended"),
         (Refusal::Full, "as many observers are held as may be"),
-        (Refusal::Spent, "as many joins were accepted as may be"),
+        (
+            Refusal::Spent,
+            "as many joins or items were accepted as may be",
+        ),
         (Refusal::ZeroRequest, "a request is for at least 1 item"),
         (Refusal::NoObserver, "no observer of that number is held"),
         (Refusal::TooMuch, most),

@@ -84,6 +84,7 @@ pub(crate) fn pump_if(
     let limits = Limits {
         observers: 1,
         joins: 1,
+        items: u32::MAX,
     };
     let hub = Hub::new(copy(rt, tight), Kind::Publish, limits).ok()?;
     let drainers = vec![in copy(rt, heap); drainer].expect(rt, "memory");

@@ -12,5 +12,5 @@ pub returns : goal.returns
 returns g c =
     let named = c.push_padded.ensures ∙ ap (λ (name : List ℕ). c.ready.new.self ++ name) c.padded-len.ensures.bytes in
     Holds-pushed _ _ _ _ _ _ c.in_ok-ready.ensures.puts
-    (pushed-five c.ready.new.self c.args.name.now (32 ∷ []) (decimal c.args.who) (32 ∷ []) (note_line c.args.note.now) _ _ _ _ _
+    (pushed-five c.ready.new.self c.args.name.now (32 ∷ []) (decimal c.args.who) (32 ∷ []) (note_line c.args.version c.args.note.now) _ _ _ _ _
     named c.push.ensures c.push_decimal.ensures.digits c.push-2.ensures c.push_note.ensures)

@@ -5,4 +5,4 @@ use Rattle.rx_script.proofs.script.put_all.Given as goal
 
 abbrev pub invariant-loop-given : goal.invariant-loop-given
 invariant-loop-given g l =
-    Holds l.initial.outbox l.outbox (g.W.Write.contents l.initial.writer) (g.W.Write.contents l.writer) (given_lines l.name (take l.given-index l.given-items))
+    Holds l.initial.outbox l.outbox (g.W.Write.contents l.initial.writer) (g.W.Write.contents l.writer) (given_lines l.version l.name (take l.given-index l.given-items))

@@ -16,11 +16,11 @@ tell_step-requires g c = in_hand _ _ _ _ _ c.in-Ok.ensures.goes
 
 pub returns-in-Some-clause-runs : goal.returns-in-Some-clause-runs
 returns-in-Some-clause-runs g c =
-    let caught_up = SoFar-put _ _ _ _ _ _ _ _ _ _ c.loop-step.invariant.0 c.in-Ok.ensures.topics c.in-Ok.ensures.moment refl c.in-Ok.ensures.puts in
+    let caught_up = SoFar-put _ _ _ _ _ _ _ _ _ _ c.loop-step.invariant.0 c.in-Ok.ensures.topics c.in-Ok.ensures.moment c.in-Ok.ensures.version refl c.in-Ok.ensures.puts in
     Runs-end c.in-Some.end _ _ _ _ _ _ _ _ _ _ _ caught_up c.in-Ok.ensures.empty (c.in-Some.ensures _ _ _ c.in-Ok.ensures.goes)
 
 pub loop-step-preserved : goal.loop-step-preserved
 loop-step-preserved g c =
-    let caught_up = SoFar-put _ _ _ _ _ _ _ _ _ _ c.loop-step.invariant.0 c.in-Ok.ensures.topics c.in-Ok.ensures.moment refl c.in-Ok.ensures.puts in
+    let caught_up = SoFar-put _ _ _ _ _ _ _ _ _ _ c.loop-step.invariant.0 c.in-Ok.ensures.topics c.in-Ok.ensures.moment c.in-Ok.ensures.version refl c.in-Ok.ensures.puts in
     let turn = c.in_default-tell_step.ensures _ _ _ c.in-Ok.ensures.goes in
     (SoFar-line _ _ _ _ _ _ _ _ _ _ _ caught_up turn.0, turn.1.no_end)

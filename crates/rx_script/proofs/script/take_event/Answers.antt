@@ -7,7 +7,7 @@ use Rattle.rx_script.proofs.script.take_event.Goals as goal
 
 pub returns-clause-took : goal.returns-clause-took
 returns-clause-took g c subject stands =
-    let t = told c.args.topic.now c.step-answered.new.self c.args.event c.step-answered.result c.step-answered.new.outs.items subject
+    let t = told c.args.topic.now c.step-answered.new.self c.args.event c.args.version c.step-answered.result c.step-answered.new.outs.items subject
     (λ other H s. subst (λ (before : List Given). Steps c.args.topic.now.hub.state c.step-answered.new.self.state before c.step-answered.new.outs.items c.step-answered.result H (0, c.args.event))
     c.requires (c.step-answered.ensures.step other H s))
     (λ missed. (ap (λ (h : HubView). h.state) (c.step-answered.ensures.missed missed).0, (c.step-answered.ensures.missed missed).1 ∙ c.requires))

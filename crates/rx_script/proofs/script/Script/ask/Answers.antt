@@ -33,10 +33,11 @@ returns-in-Ok g c =
       t.0,
       λ missed. ap (λ s. option_map_or (wants_memory_for event) s false) f.is ∙ wants-event event f.subject (t.1 missed),
       Puts-as c.take.result old new before.outbox after.outbox _ _
-          (ap (λ s. cond t.0 (reply_line (Refused words.Memory)) (option_map_or (λ subject. event_written subject event) s (reply_line (Refused words.Subject)))) (sym f.is)) t.2,
+          (ap (λ version. cond t.0 (reply_line (Refused words.Memory)) (event_written version f.subject event)) is_in.version
+          ∙ ap (λ s. cond t.0 (reply_line (Refused words.Memory)) (option_map_or (λ subject. event_written state.version subject event) s (reply_line (Refused words.Subject)))) (sym f.is)) t.2,
       match_ok c.take.result (λ x. x ≡ told.More) _ c.take.ensures.more (λ x more. (
         ap is_last more,
-        IsIn-after before after state name place d event t.0 t.3 is_in f t.4 c.take.ensures.moment t.5,
+        IsIn-after before after state name place d event t.0 t.3 is_in f t.4 c.take.ensures.moment c.take.ensures.version t.5,
       )),
     ))
 
@@ -59,7 +60,7 @@ returns-in-Err g c =
       c.refuse-in-Err.ensures.puts,
       match_ok c.refuse-in-Err.result (λ x. x ≡ told.More) _ c.refuse-in-Err.ensures.more (λ x more. (
         ap is_last more,
-        IsIn-same before after state is_in c.refuse-in-Err.ensures.topics c.refuse-in-Err.ensures.moment,
+        IsIn-same before after state is_in c.refuse-in-Err.ensures.topics c.refuse-in-Err.ensures.moment c.refuse-in-Err.ensures.version,
       )),
     ))
 
@@ -77,9 +78,9 @@ returns-in_default g c =
       false,
       λ missed. cc,
       Puts-as c.refuse.result old new before.outbox after.outbox _ _
-          (ap (λ s. option_map_or (λ subject. event_written subject a.event) s (reply_line (Refused words.Subject))) (sym none.0)) c.refuse.ensures.puts,
+          (ap (λ s. option_map_or (λ subject. event_written state.version subject a.event) s (reply_line (Refused words.Subject))) (sym none.0)) c.refuse.ensures.puts,
       match_ok c.refuse.result (λ x. x ≡ told.More) _ c.refuse.ensures.more (λ x more. (
         ap is_last more,
-        IsIn-unknown before after state name a.event is_in none.1 c.refuse.ensures.topics c.refuse.ensures.moment,
+        IsIn-unknown before after state name a.event is_in none.1 c.refuse.ensures.topics c.refuse.ensures.moment c.refuse.ensures.version,
       )),
     ))
