@@ -1,5 +1,5 @@
 -- A step that accepts a note: each observer was fed what the note offers.
-use Rattle.std.proofs.Common.{◌≡◌, ℕ, Bool, true, false, cond, ◌&&◌, ◌==◌, not, is_some, List, [], ◌∷◌, ◌++◌, Option, None, Some, Ok, Err, refl, sym, ap, subst, ◌∙◌}
+use Rattle.std.proofs.Common.{◌≡◌, ℕ, Bool, true, false, cond, ◌&&◌, ◌==◌, is_some, List, [], ◌∷◌, ◌++◌, Option, None, Some, Ok, Err, refl, sym, ap, subst, ◌∙◌}
 use Rattle.std.specs.Option.{option_map}
 use Rattle.std.specs.List.{list_any, flat_map}
 use Rattle.rx_note.specs.declared.given.Given.{Given}
@@ -9,7 +9,8 @@ use Rattle.rx_note.specs.declared.event.Event.TheVariants.{Emit}
 use Rattle.rx_note.specs.declared.answer.Answer.TheVariants.{Admitted}
 use Rattle.rx_note.specs.declared.refusal.Refusal.TheVariants as refused
 use Rattle.rx_note.specs.Signals.{Signal, Signals, given}
-use Rattle.rx_history.specs.Histories.{History, ◌▹◌, end_of, is_ended, held, is_held, followed_by, signalled, signals, addressed}
+use Rattle.rx_history.specs.Histories.{History, ◌▹◌, end_of, is_ended, has_room, item_count, accepts, held, is_held, followed_by, signalled, signals, addressed}
+use Rattle.rx_history.proofs.Accepting.{accepted}
 use Rattle.rx_subject.specs.Subjects.{SubjectState, signals_by}
 use Rattle.rx_subject.specs.Subjects as subjects
 use Rattle.rx_subject.proofs.Standing.{not_ended, signals-signalled}
@@ -50,24 +51,27 @@ fed table later signals all (old ∷ olds) (new ∷ news) given more among stand
       all_gained = feeds.2 ∙ ap (λ os. os ++ feeds.1) (sym mine) ∙ ap (λ os. gains table later old.who ++ os) rest.all_gained;
     }
 
-both : (b c : Bool) (x y : Option Signals) → b ≡ true → c ≡ false → cond (b && not c) x y ≡ x
-both true true x y e f = cc
-both false true x y e f = cc
-both true false x y e f = refl
-both false false x y e f = cc
+both : (b c : Bool) (x y : Option Signals) → b ≡ true → c ≡ true → cond (b && c) x y ≡ x
+both true true x y e f = refl
+both false c x y e f = cc
+both true false x y e f = cc
 
--- the subject goes on from every history by a note
+-- the subject goes on by a note from every history after which it finds room
 abbrev pub TakesNote : SubjectState → SubjectState → ℕ → Note → ℕ → Type 0
 TakesNote old new port note at =
-    (rules : Rules) (H : History) → subjects.StandsFor old rules H → subjects.StandsFor new rules (H ▹ (port, Emit note at))
+    (rules : Rules) (H : History) → has_room rules.limits (item_count rules H) note ≡ true → subjects.StandsFor old rules H
+    → subjects.StandsFor new rules (H ▹ (port, Emit note at))
 
 -- a note is accepted
 pub emit_admitted : (hub : HubState) (subject : SubjectState) (news : List Observer) (before after : List Given) (H : History) (port : ℕ) (note : Note) (at : ℕ)
-    → is_some hub.subject.terminal ≡ false → TakesNote hub.subject subject port note at → AllFedInto (signals_by hub.subject port note) hub.observers news before after → StandsFor hub H
+    → is_some hub.subject.terminal ≡ false → has_room hub.rules.limits hub.subject.count note ≡ true → TakesNote hub.subject subject port note at
+    → AllFedInto (signals_by hub.subject port note) hub.observers news before after → StandsFor hub H
     → Steps hub (record hub { subject = subject; observers = news }) before after (Ok Admitted) H (port, Emit note at)
-emit_admitted hub subject news before after H port note at unended takes feeds stands =
+emit_admitted hub subject news before after H port note at unended roomy takes feeds stands =
     let none : end_of H ≡ None = not_ended hub.subject hub.rules H unended stands.subject_stands in
     let is : is_ended H ≡ false = ap is_some none in
+    let room : has_room hub.rules.limits (item_count hub.rules H) note ≡ true = ap (λ n. has_room hub.rules.limits n note) (sym stands.subject_stands.count_is) ∙ roomy in
+    let taken : accepts hub.rules H note ≡ true = accepted hub.rules H note none room in
     let offers = signals_by hub.subject port note in
     let table : ℕ → Option Signals = signals hub.rules H in
     let later : ℕ → Option Signals = signals hub.rules (H ▹ (port, Emit note at)) in
@@ -75,14 +79,17 @@ emit_admitted hub subject news before after H port note at unended takes feeds s
     let among : AllAmong (held hub.rules H) (numbers hub.observers) =
     subst (λ (ks : List ℕ). AllAmong (held hub.rules H) ks) (sym stands.held_are) (AllAmong-self (held hub.rules H)) in
     let done = fed table later offers (held hub.rules H) hub.observers news feeds.0
-    (λ o is_among. both (is_held hub.rules H o) (is_ended H) (option_map (λ s. followed_by s (signalled hub.rules H port note)) (table o)) (table o) is_among is
+    (λ o is_among. both (is_held hub.rules H o) (accepts hub.rules H note) (option_map (λ s. followed_by s (signalled hub.rules H port note)) (table o)) (table o) is_among taken
     ∙ ap (λ signals'. option_map (λ s. followed_by s signals') (table o)) told)
     among stands.lanes_stand feeds.2 in
     record {
-      answers = sym (ap (λ b. cond b (Err refused.Ended) (Ok Admitted)) is);
+      answers = sym (
+          ap (λ b. cond b (Err refused.Ended) (cond (has_room hub.rules.limits (item_count hub.rules H) note) (Ok Admitted) (Err refused.Spent))) is
+          ∙ ap (λ b. cond b (Ok Admitted) (Err refused.Spent)) room
+          );
       gives = feeds.1 ∙ ap (λ os. before ++ os) (done.all_gained ∙ ap (flat_map (gains table later)) stands.held_are);
       goes_on = record {
-        subject_stands = takes hub.rules H stands.subject_stands;
+        subject_stands = takes hub.rules H room stands.subject_stands;
         joins_are = stands.joins_are;
         held_are = done.same_numbers ∙ stands.held_are;
         lanes_stand = done.all_stand;
@@ -91,10 +98,10 @@ emit_admitted hub subject news before after H port note at unended takes feeds s
 
 -- the same, as the code has it
 pub emit_done : (hub : HubState) (subject : SubjectState) (rules : Rules) (olds news : List Observer) (before middle after : List Given) (port : ℕ) (note : Note) (at : ℕ)
-    → is_some hub.subject.terminal ≡ false → rules ≡ hub.rules → TakesNote hub.subject subject port note at → olds ≡ hub.observers → middle ≡ before
+    → is_some hub.subject.terminal ≡ false → has_room hub.rules.limits hub.subject.count note ≡ true → rules ≡ hub.rules → TakesNote hub.subject subject port note at → olds ≡ hub.observers → middle ≡ before
     → AllFedInto (signals_by hub.subject port note) olds news middle after
     → Takes hub (record hub { rules = rules; subject = subject; observers = news }) before after (Ok Admitted) (port, Emit note at)
-emit_done hub subject rules olds news before middle after port note at unended same_rules takes same_olds same_outs feeds =
+emit_done hub subject rules olds news before middle after port note at unended roomy same_rules takes same_olds same_outs feeds =
     let OfOlds : List Observer → Type 0 = λ os. AllFedInto (signals_by hub.subject port note) os news middle after in
     let OfOuts : List Given → Type 0 = λ os. AllFedInto (signals_by hub.subject port note) hub.observers news os after in
     let all_fed = subst OfOuts same_outs (subst OfOlds same_olds feeds) in
@@ -102,5 +109,5 @@ emit_done hub subject rules olds news before middle after port note at unended s
       rules = same_rules;
       took = λ H stands.
           let By : Rules → Type 0 = λ r. Steps hub (record hub { rules = r; subject = subject; observers = news }) before after (Ok Admitted) H (port, Emit note at) in
-          subst By (sym same_rules) (emit_admitted hub subject news before after H port note at unended takes all_fed stands);
+          subst By (sym same_rules) (emit_admitted hub subject news before after H port note at unended roomy takes all_fed stands);
     }

@@ -13,7 +13,9 @@ use Rattle.rx_note.specs.declared.answer.Answer.TheVariants.{Admitted, Joined}
 use Rattle.rx_note.specs.declared.refusal.Refusal.{Refusal}
 use Rattle.rx_note.specs.declared.refusal.Refusal.TheVariants as refused
 use Rattle.rx_note.specs.Signals.{Signals, ◌▸◌, Requested}
-use Rattle.rx_history.specs.Histories.{History, ◌▹◌, Entry, Roster, is_ended, joins, held, is_held, may_join, with_one_more, roster_of, followed_by, signalled, opened, may_request, signals, answer, outs}
+use Rattle.rx_history.specs.Histories.{History, ◌▹◌, Entry, Roster, is_ended, has_room, item_count, accepts, joins, held, is_held, may_join, with_one_more, roster_of, opened, may_request, signals, answer, outs}
+use Rattle.rx_history.proofs.Accepting.{refused-ended, refused-full}
+use Rattle.rx_history.proofs.Entries.{signals-refused}
 use Rattle.rx_subject.specs.Subjects.{SubjectState}
 use Rattle.rx_subject.specs.Subjects as subjects
 use Rattle.rx_subject.proofs.Standing.{stands_request, stands_not_joined, stands_refused}
@@ -45,26 +47,38 @@ quiet hub outs_so_far result H entry stands answers q =
       };
     }
 
--- AN EMIT ON AN ENDED SUBJECT
+-- AN EMIT THAT IS REFUSED
 
-ended_and : (b c : Bool) (x y : Option Signals) → c ≡ true → cond (b && not c) x y ≡ y
-ended_and true true x y e = refl
-ended_and false true x y e = refl
-ended_and true false x y e = cc
-ended_and false false x y e = refl
+not_emitted : (rules : Rules) (H : History) (port : ℕ) (note : Note) (at : ℕ) → accepts rules H note ≡ false → IsQuiet rules H (port, Emit note at)
+not_emitted rules H port note at refused_now = record {
+  subject = λ subject stands. stands_refused subject rules H port note at refused_now stands;
+  roster = refl;
+  same = λ o. signals-refused rules H port note at o refused_now;
+}
 
-pub emit_refused : (hub : HubState) (outs_so_far : List Given) (H : History) (port : ℕ) (note : Note) (at : ℕ)
+-- how an emission is answered
+abbrev emit_answer : Bool → Bool → Result Answer Refusal
+emit_answer ended room = cond ended (Err refused.Ended) (cond room (Ok Admitted) (Err refused.Spent))
+
+-- on an ended subject
+pub emit_ended : (hub : HubState) (outs_so_far : List Given) (H : History) (port : ℕ) (note : Note) (at : ℕ)
     → is_some hub.subject.terminal ≡ true → StandsFor hub H → Steps hub hub outs_so_far outs_so_far (Err refused.Ended) H (port, Emit note at)
-emit_refused hub outs_so_far H port note at ended stands =
+emit_ended hub outs_so_far H port note at ended stands =
     let is : is_ended H ≡ true = ap is_some (sym stands.subject_stands.end_is) ∙ ended in
     quiet hub outs_so_far (Err refused.Ended) H (port, Emit note at) stands
-    (sym (ap (λ b. cond b (Err refused.Ended) (Ok Admitted)) is))
-    (record {
-      subject = λ subject stands. stands_refused subject hub.rules H port note at is stands;
-      roster = refl;
-      same = λ o. ended_and (is_held hub.rules H o) (is_ended H)
-          (option_map (λ s. followed_by s (signalled hub.rules H port note)) (signals hub.rules H o)) (signals hub.rules H o) is;
-    })
+    (sym (ap (λ b. emit_answer b (has_room hub.rules.limits (item_count hub.rules H) note)) is))
+    (not_emitted hub.rules H port note at (refused-ended hub.rules H note is))
+
+-- of an item too many
+pub emit_spent : (hub : HubState) (outs_so_far : List Given) (H : History) (port : ℕ) (note : Note) (at : ℕ)
+    → is_some hub.subject.terminal ≡ false → has_room hub.rules.limits hub.subject.count note ≡ false → StandsFor hub H
+    → Steps hub hub outs_so_far outs_so_far (Err refused.Spent) H (port, Emit note at)
+emit_spent hub outs_so_far H port note at unended full stands =
+    let open_now : is_ended H ≡ false = ap is_some (sym stands.subject_stands.end_is) ∙ unended in
+    let is : has_room hub.rules.limits (item_count hub.rules H) note ≡ false = ap (λ n. has_room hub.rules.limits n note) (sym stands.subject_stands.count_is) ∙ full in
+    quiet hub outs_so_far (Err refused.Spent) H (port, Emit note at) stands
+    (sym (ap (λ b. emit_answer b (has_room hub.rules.limits (item_count hub.rules H) note)) open_now ∙ ap (emit_answer false) is))
+    (not_emitted hub.rules H port note at (refused-full hub.rules H note is))
 
 -- A JOIN TOO MANY
 

@@ -27,7 +27,7 @@ pub record HubView : Type 0 where
 
 -- whether limits are in range
 abbrev pub are_in_range : Limits → Bool
-are_in_range limits = nat_le 1 limits.observers && nat_le limits.observers 64 && nat_le 1 limits.joins
+are_in_range limits = nat_le 1 limits.observers && nat_le limits.observers 64 && nat_le 1 limits.joins && nat_le 1 limits.items
 
 -- a hub stands for a history: its subject stands for it, it has the history's joins and held observers, and each
 -- observer's queue stands for its signals

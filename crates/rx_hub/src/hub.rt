@@ -16,7 +16,7 @@ use std::marker::Model;
 /// Why a hub was not made.
 #[derive(Clone, Copy, Debug, PartialEq, Eq)]
 pub enum HubError {
-    /// The limits are not 1 to 64 observers and 1 to 4,294,967,295 joins.
+    /// The limits are not 1 to 64 observers, and 1 to 4,294,967,295 joins and items.
     BadLimits,
     /// There was no memory for it.
     Memory,
@@ -25,7 +25,8 @@ pub enum HubError {
 impl fmt::Display for HubError {
     fn fmt<W: fmt::Write>(&self, f: &mut fmt::Formatter<W>) -> fmt::Result {
         f.write_str(match self {
-            HubError::BadLimits => "limits are 1 to 64 observers and 1 to 4294967295 joins",
+            HubError::BadLimits =>
+                "limits are 1 to 64 observers, and 1 to 4294967295 joins and items",
             HubError::Memory => "out of memory",
         })
     }
@@ -71,7 +72,7 @@ impl Hub {
         ensures rules { IfOk result (λ hub. hub.state.rules ≡ record { kind = kind; limits = limits }) }
         ensures misses { IfOk result (λ hub. hub.misses ≡ 0) }
     {
-        if limits.observers < 1 || limits.observers > 64 || limits.joins < 1 {
+        if limits.observers < 1 || limits.observers > 64 || limits.joins < 1 || limits.items < 1 {
             return Err(HubError::BadLimits);
         }
         match Multicast::new(alloc, kind, limits) {
@@ -84,9 +85,10 @@ impl Hub {
     }
 
     /// Takes one event from a port, and puts at the end of `outs` what it gives: by rising number of the observer, and
-    /// to each observer in its order. Refused in the order of its kind: Emit Ended, Memory; Join Full, Spent, Memory;
-    /// Request ZeroRequest, NoObserver, TooMuch, Memory; Dispose NoObserver, for it takes no memory. A refusal leaves the hub
-    /// and `outs`, but a Memory answer is counted in `misses`.
+    /// to each observer in its order. Refused in the order of its kind: Emit Ended, Spent, Memory; Join Full, Spent,
+    /// Memory; Request ZeroRequest, NoObserver, TooMuch, Memory; Dispose NoObserver, for it takes no memory. An emission is
+    /// Spent where it is an item, and as many were accepted as the limits allow. A refusal leaves the hub and `outs`, but a
+    /// Memory answer is counted in `misses`.
     #[inline(always)] // so that an event is moved once
     pub fn step(
         &mut self,

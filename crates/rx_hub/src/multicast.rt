@@ -1,7 +1,8 @@
-ghost use Rattle.std.specs.Prelude.{◌≡◌, ◌<◌, ◌≤◌, ◌^◌, ℕ, List, max, length, IfOk};
+ghost use Rattle.std.specs.Prelude.{◌≡◌, ◌<◌, ◌≤◌, ◌^◌, ℕ, List, true, max, length, IfOk};
 ghost use Rattle.rx_note.specs.declared.event.Event.TheVariants.{Emit, Join, Request, Dispose};
 ghost use Rattle.rx_note.specs.declared.given.Given.{Given};
-ghost use Rattle.rx_history.specs.Histories.{History};
+ghost use Rattle.rx_history.specs.Histories.{History, has_room};
+ghost use Rattle.rx_subject.specs.Subjects.{HasPlace};
 ghost use Rattle.rx_hub.specs.Hubs.{StandsFor, Takes};
 ghost use Rattle.rx_hub.specs.Counts.{waiting_count};
 ghost use Rattle.rx_hub.specs.Audiences.{most_waiting};
@@ -110,12 +111,27 @@ impl Multicast {
         if self.subject.is_ended() {
             return Err(Refusal::Ended);
         }
+        if !self.has_room(&note) {
+            return Err(Refusal::Spent);
+        }
         let emission = Emission { port, note, at };
         let Ok(()) = self.audience.admit(&mut self.subject, emission, outs) else {
             return Err(Refusal::Memory);
         };
         self.audience.trim(self.subject.keep());
         Ok(Answer::Admitted)
+    }
+
+    // Whether a note finds room: an item does where fewer were accepted than the limits allow.
+    #[inline(always)] // on the path of every emission
+    fn has_room(&self, note: &Note) -> bool
+        ensures room { result ≡ has_room self.now.limits self.now.subject.count note.now }
+        ensures place { result ≡ true → HasPlace self.now.subject.count note.now }
+    {
+        match note {
+            Note::Next(_) => self.subject.items() < self.limits.items,
+            Note::Completed | Note::Failed(_) => true,
+        }
     }
 
     // An observer joins.

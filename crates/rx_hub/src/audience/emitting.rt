@@ -1,10 +1,10 @@
 // What an emission does to the observers of a subject.
 ghost use Rattle.std.specs.Prelude.{◌≡◌, ◌≢◌, ℕ, option_to_list, OnOk, OnErr};
 ghost use Rattle.rx_note.specs.declared.kind.Kind.TheVariants.{Async};
-ghost use Rattle.rx_subject.specs.Subjects.{offered_by, signals_by};
+ghost use Rattle.rx_subject.specs.Subjects.{HasPlace, offered_by, signals_by};
 ghost use Rattle.rx_subject.specs.TapeSubjects.{subject_on};
 ghost use Rattle.rx_subject.specs.Offers.{offer_signals};
-ghost use Rattle.rx_hub.specs.Emissions.{IsOpen, StaysAs, Admits, delivery, of_item};
+ghost use Rattle.rx_hub.specs.Emissions.{IsOpen, IsNext, StaysAs, Admits, delivery, of_item};
 
 use crate::audience::Audience;
 use crate::emission::Emission;
@@ -27,21 +27,34 @@ impl Audience {
         emission: Emission,
         outs: &mut Vec<Given, Heap>,
     ) -> Result<(), Memory>
-        requires { IsOpen subject.old self.old }
+        requires open { IsOpen subject.old self.old }
+        requires place { HasPlace subject.old.count emission.note }
         ensures err { OnErr result (StaysAs (delivery subject.old self.old outs.old.items) (delivery subject.new self.new outs.new.items)) }
         ensures admits { OnOk result (Admits (delivery subject.old self.old outs.old.items) (delivery subject.new self.new outs.new.items) emission) }
     {
         let Emission { port, note, at } = emission;
         match note {
-            Note::Next(Item { from: _, text }) => {
-                self.admit_item(subject, Item { from: port, text }, at, outs)
+            Note::Next(
+                Item {
+                    from: _,
+                    place: _,
+                    text,
+                },
+            ) => {
+                let place = subject.items();
+                let item = Item {
+                    from: port,
+                    place,
+                    text,
+                };
+                self.admit_item(subject, item, at, outs)
             }
             note => self.admit_offer(subject, Emission { port, note, at }, outs),
         }
     }
 
-    // Has the subject admit an item, which comes by the port that it names. One that all are owed, and nobody may need later,
-    // goes by no tape.
+    // Has the subject admit an item, which comes by the port that it names and has the next place. One that all are owed, and
+    // nobody may need later, goes by no tape.
     #[inline(always)] // so that a text is moved once
     fn admit_item(
         &mut self,
@@ -50,9 +63,10 @@ impl Audience {
         at: u64,
         outs: &mut Vec<Given, Heap>,
     ) -> Result<(), Memory>
-        requires { IsOpen subject.old self.old }
+        requires open { IsOpen subject.old self.old }
+        requires next { IsNext subject.old item }
         ensures err { OnErr result (StaysAs (delivery subject.old self.old outs.old.items) (delivery subject.new self.new outs.new.items)) }
-        ensures admits { OnOk result ((wrote : ℕ) → Admits (delivery subject.old self.old outs.old.items) (delivery subject.new self.new outs.new.items) (of_item wrote item at)) }
+        ensures admits { OnOk result ((from place : ℕ) → Admits (delivery subject.old self.old outs.old.items) (delivery subject.new self.new outs.new.items) (of_item from place item at)) }
     {
         if subject.keeps_nothing() && are_owed(&self.subscriptions) {
             let before = outs.len();
@@ -78,9 +92,10 @@ impl Audience {
         at: u64,
         outs: &mut Vec<Given, Heap>,
     ) -> Result<(), Memory>
-        requires { IsOpen subject.old self.old }
+        requires open { IsOpen subject.old self.old }
+        requires next { IsNext subject.old item }
         ensures err { OnErr result (StaysAs (delivery subject.old self.old outs.old.items) (delivery subject.new self.new outs.new.items)) }
-        ensures admits { OnOk result ((wrote : ℕ) → Admits (delivery subject.old self.old outs.old.items) (delivery subject.new self.new outs.new.items) (of_item wrote item at)) }
+        ensures admits { OnOk result ((from place : ℕ) → Admits (delivery subject.old self.old outs.old.items) (delivery subject.new self.new outs.new.items) (of_item from place item at)) }
     {
         if subject.keeps_back() {
             subject.keep_back(item, at);
@@ -99,9 +114,10 @@ impl Audience {
         outs: &mut Vec<Given, Heap>,
     ) -> Result<(), Memory>
         requires open { IsOpen subject.old self.old }
+        requires next { IsNext subject.old item }
         requires offered { subject.old.kind ≢ Async }
         ensures err { OnErr result (StaysAs (delivery subject.old self.old outs.old.items) (delivery subject.new self.new outs.new.items)) }
-        ensures admits { OnOk result ((wrote : ℕ) → Admits (delivery subject.old self.old outs.old.items) (delivery subject.new self.new outs.new.items) (of_item wrote item at)) }
+        ensures admits { OnOk result ((from place : ℕ) → Admits (delivery subject.old self.old outs.old.items) (delivery subject.new self.new outs.new.items) (of_item from place item at)) }
     {
         let before = outs.len();
         make_room(outs, self.subscriptions.len())?;
@@ -131,7 +147,8 @@ impl Audience {
         emission: Emission,
         outs: &mut Vec<Given, Heap>,
     ) -> Result<(), Memory>
-        requires { IsOpen subject.old self.old }
+        requires open { IsOpen subject.old self.old }
+        requires place { HasPlace subject.old.count emission.note }
         ensures err { OnErr result (StaysAs (delivery subject.old self.old outs.old.items) (delivery subject.new self.new outs.new.items)) }
         ensures admits { OnOk result (Admits (delivery subject.old self.old outs.old.items) (delivery subject.new self.new outs.new.items) emission) }
     {
@@ -150,6 +167,7 @@ impl Audience {
         outs: &mut Vec<Given, Heap>,
     ) -> Result<(), Memory>
         requires open { IsOpen subject.old self.old }
+        requires place { HasPlace subject.old.count emission.note }
         requires item { offered_by (subject_on self.old.items subject.old) emission.port emission.note ≡ option_to_list offer.now.item }
         requires offers { signals_by (subject_on self.old.items subject.old) emission.port emission.note ≡ offer_signals offer.now }
         ensures err { OnErr result (StaysAs (delivery subject.old self.old outs.old.items) (delivery subject.new self.new outs.new.items)) }

@@ -11,5 +11,5 @@ returns-in-Next-clause-admits c =
     on_ok c.admit_item.result
     (λ admits.
     subst (λ (note : Note). Admits old new (record { port = c.args.emission.port; note = note; at = c.args.emission.at })) (sym c.in-Next.is)
-    (admits c.in-Next.field-0.from))
+    (admits c.in-Next.field-0.from c.in-Next.field-0.place))
     c.admit_item.ensures.admits

@@ -107,9 +107,9 @@ returns-clause-admits c =
     ap (observers_on items) c.in-Ok.ensures.places ∙ ap (λ (v : AudienceState). v.observers) c.self.view_is in
     let By : List Signal → List Observer → List Given → Type 0 = λ signals os gs. AllFedInto signals os news gs after in
     record {
-      stands = λ rules H stands.
+      stands = λ rules H room stands.
           subst (λ (xs : List Item). subjects.StandsFor (subject_on xs c.admit_offered.new.self) rules (H ▹ (port, Emit note c.args.emission.at))) (sym c.feed_all.ensures.items)
-          (c.in-Ok-admit_offered.ensures.stands rules H (subst (λ (v : AudienceState). subjects.StandsFor (subject_on v.items c.args.subject.now) rules H) (sym c.self.view_is) stands));
+          (c.in-Ok-admit_offered.ensures.stands rules H room (subst (λ (v : AudienceState). subjects.StandsFor (subject_on v.items c.args.subject.now) rules H) (sym c.self.view_is) stands));
       fed =
           subst (λ (signals : List Signal). By signals c.args.self.now.observers c.args.outs.now.items) (sym c.requires.offers)
           (subst (λ (os : List Observer). By (offer_signals offer) os c.args.outs.now.items) olds

@@ -33,8 +33,8 @@ returns-then-are_owed-clause-admits c =
     let olds = ap (λ (v : AudienceState). v.observers) c.self.view_is in
     let publishes = c.keeps_nothing.ensures.0 c.if-keeps_nothing.true in
     item_admitted old new item c.args.at
-    (λ is. cc)
-    (λ wrote rules H stands. c.pass_item.ensures.stands items item.from (record { from = wrote; text = item.text }) rules H
+    (λ is. cc) c.requires.next.next
+    (λ from place rules H room stands. c.pass_item.ensures.stands items item.from (record { from = from; place = place; text = item.text }) rules H room
     (subst (λ (v : AudienceState). subjects.StandsFor (subject_on v.items c.args.subject.now) rules H) (sym c.self.view_is) stands)) (
       fed.0,
       c.in-Ok.ensures.given
@@ -43,7 +43,7 @@ returns-then-are_owed-clause-admits c =
       subst (λ (os : List Observer). AllFed (Offered item ∷ []) os news fed.0) olds fed.2,
     )
     (subst (λ (stamps : List ℕ). length stamps ≤ length items) (sym c.pass_item.ensures.stamps)
-    (subst (λ (v : AudienceState). length c.args.subject.now.stamps ≤ length v.items) (sym c.self.view_is) c.requires.stamps))
+    (subst (λ (v : AudienceState). length c.args.subject.now.stamps ≤ length v.items) (sym c.self.view_is) c.requires.open.stamps))
     c.pass_item.ensures.kind
 
 pub pass_item-requires : goal.pass_item-requires
@@ -52,4 +52,4 @@ pass_item-requires c = search rules
 pub pass_owed_all-requires-clause-open : goal.pass_owed_all-requires-clause-open
 pass_owed_all-requires-clause-open c =
     let a = c.self.inside in
-    seats_take_more c.args.self.now a.tape.items (places_of a.subscriptions.items) (places_of a.subscriptions.items) c.self.view_is refl c.requires.all_open
+    seats_take_more c.args.self.now a.tape.items (places_of a.subscriptions.items) (places_of a.subscriptions.items) c.self.view_is refl c.requires.open.all_open

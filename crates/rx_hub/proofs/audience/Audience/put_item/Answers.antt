@@ -110,11 +110,11 @@ returns-clause-admits c =
     let new = delivery c.admit_on.new.self (record { items = later; observers = news }) c.give_item.new.outs.items in
     let fed = c.pass_all.ensures.fed items item (ap (λ (t : TapeState). t.items) c.in-Ok-admit_on.ensures.tape) (c.in-Ok.ensures.holds c.if-not-fits.false) in
     let were = ap (observers_on items) c.in-Ok.ensures.places ∙ ap (λ (v : AudienceState). v.observers) c.self.view_is in
-    item_admitted old new item c.args.at c.requires.offered
-    (λ wrote rules H stands.
-    let note = Next (record { from = wrote; text = item.text }) in
+    item_admitted old new item c.args.at c.requires.offered c.requires.next.next
+    (λ from place rules H room stands.
+    let note = Next (record { from = from; place = place; text = item.text }) in
     subst (λ (xs : List Item). subjects.StandsFor (subject_on xs c.admit_on.new.self) rules (H ▹ (item.from, Emit note c.args.at))) (sym c.pass_all.ensures.items)
-    (c.in-Ok-admit_on.ensures.stands wrote rules H (subst (λ (v : AudienceState). subjects.StandsFor (subject_on v.items c.args.subject.now) rules H) (sym c.self.view_is) stands))) (
+    (c.in-Ok-admit_on.ensures.stands from place rules H room (subst (λ (v : AudienceState). subjects.StandsFor (subject_on v.items c.args.subject.now) rules H) (sym c.self.view_is) stands))) (
       fed.0,
       c.in-Ok.ensures.given c.if-not-fits.false
           ∙ ap (λ os. os ++ gifts item olds) c.in_ok-make_room.ensures.items
@@ -130,8 +130,8 @@ pass_all-requires-clause-open c =
     seats_take_more c.args.self.now a.tape.items (places_of a.subscriptions.items) (places_of c.give_item.new.subscriptions.items) c.self.view_is c.in-Ok.ensures.places c.requires.open.all_open
 
 -- where it overflows, all is as it was before the other way is taken
-pub admit_offer-requires : goal.admit_offer-requires
-admit_offer-requires c =
+pub admit_offer-requires-clause-open : goal.admit_offer-requires-clause-open
+admit_offer-requires-clause-open c =
     let a = c.self.inside in
     let same = shown a.tape.items a.tape.items (places_of a.subscriptions.items) (places_of c.take_back-then-not-fits.new.subscriptions.items) refl (c.take_back-then-not-fits.ensures.places ∙ c.in-Ok.ensures.places) ∙ c.self.view_is in
     subst (λ (v : AudienceState). IsOpen c.args.subject.now v) (sym same) c.requires.open
@@ -158,7 +158,7 @@ returns-then-not-fits-clause-admits c =
     ∙ c.in-Ok.ensures.front
     ∙ c.in_ok-make_room.ensures.items in
     let new = delivery c.admit_offer.new.subject c.admit_offer.new.self c.admit_offer.new.outs.items in
-    let By : AudienceState → List Given → Type 0 = λ audience before. Admits (delivery c.args.subject.now audience before) new (of_item item.from item c.args.at) in
+    let By : AudienceState → List Given → Type 0 = λ audience before. Admits (delivery c.args.subject.now audience before) new (of_item item.from item.place item c.args.at) in
     on_ok c.admit_offer.result
     (λ admits.
     wrote_another (delivery c.args.subject.now c.args.self.now c.args.outs.now.items) new item c.args.at c.requires.open.open_now

@@ -12,7 +12,7 @@ use Rattle.rx_hub.specs.Hubs.{Takes}
 use Rattle.rx_hub.specs.Multicasts.{state_of}
 use Rattle.rx_hub.specs.States.{state_by}
 use Rattle.rx_note.specs.declared.answer.Answer.TheVariants.{Admitted}
-use Rattle.rx_hub.proofs.Quiet.{emit_refused}
+use Rattle.rx_hub.proofs.Quiet.{emit_ended, emit_spent}
 use Rattle.rx_hub.proofs.Emitting.{emit_done}
 use Rattle.rx_hub.proofs.Feeding.{AllFed-length}
 use Rattle.rx_hub.proofs.Being.{of_history, same_history, all_open}
@@ -23,7 +23,14 @@ pub returns-then-is_ended : goal.returns-then-is_ended
 returns-then-is_ended c = record {
   rules = refl;
   took = λ H stands.
-      emit_refused (state_of c.args.self.now) c.args.outs.now.items H c.args.port c.args.note c.args.at (sym c.is_ended.ensures ∙ c.if-is_ended.true) stands;
+      emit_ended (state_of c.args.self.now) c.args.outs.now.items H c.args.port c.args.note c.args.at (sym c.is_ended.ensures ∙ c.if-is_ended.true) stands;
+}
+
+pub returns-then-not-has_room : goal.returns-then-not-has_room
+returns-then-not-has_room c = record {
+  rules = refl;
+  took = λ H stands.
+      emit_spent (state_of c.args.self.now) c.args.outs.now.items H c.args.port c.args.note c.args.at (sym c.is_ended.ensures ∙ c.if-is_ended.false) (sym c.has_room.ensures.room ∙ c.if-not-has_room.true) stands;
 }
 
 -- the note was taken
@@ -40,8 +47,8 @@ taken c =
     let ruled : Kind → Rules = λ kind. record { kind = kind; limits = old.limits } in
     let signals = signals_by (subject_on old.audience.items old.subject) c.args.port c.args.note in
     emit_done (state_of old) now (ruled subject.kind) old.audience.observers c.trim.new.self.observers before before after c.args.port c.args.note c.args.at
-    (sym c.is_ended.ensures ∙ c.if-is_ended.false) (ap ruled c.in-Ok.ensures.admits.kind)
-    (λ rules H stands. subst (λ (s : SubjectState). subjects.StandsFor s rules (H ▹ (c.args.port, Emit c.args.note c.args.at))) (sym same) (c.in-Ok.ensures.admits.stands rules H stands))
+    (sym c.is_ended.ensures ∙ c.if-is_ended.false) (sym c.has_room.ensures.room ∙ c.if-not-has_room.false) (ap ruled c.in-Ok.ensures.admits.kind)
+    (λ rules H room stands. subst (λ (s : SubjectState). subjects.StandsFor s rules (H ▹ (c.args.port, Emit c.args.note c.args.at))) (sym same) (c.in-Ok.ensures.admits.stands rules H room stands))
     refl refl
     (subst (λ (os : List Observer). AllFedInto signals old.audience.observers os before after) (sym c.trim.ensures.observers) c.in-Ok.ensures.admits.fed)
 
@@ -61,8 +68,8 @@ invariant_of-self-2 c =
 pub returns : goal.returns
 returns c = taken c.before
 
-pub admit-requires : goal.admit-requires
-admit-requires c =
+pub admit-requires-clause-open : goal.admit-requires-clause-open
+admit-requires-clause-open c =
     let unended = sym c.is_ended.ensures ∙ c.if-is_ended.false in
     record {
       open_now = unended;
