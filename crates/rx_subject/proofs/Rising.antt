@@ -7,7 +7,7 @@ use Rattle.rx_note.specs.declared.note.Note.{Note}
 use Rattle.rx_note.specs.declared.note.Note.TheVariants.{Next, Completed, Failed}
 use Rattle.rx_note.specs.declared.event.Event.TheVariants.{Emit, Join, Request, Dispose}
 use Rattle.rx_note.specs.declared.rules.Rules.{Rules}
-use Rattle.rx_history.specs.Histories.{History, NoEvents, ◌▹◌, Stamped, is_ended, may_join, stamp, item_in, items}
+use Rattle.rx_history.specs.Histories.{History, NoEvents, ◌▹◌, Stamped, item_count, accepts, may_join, stamp, item_in, items}
 
 -- the stamps rise, from low on, and are not above high
 abbrev pub RisesTo : ℕ → List Stamped → ℕ → Type 0
@@ -42,14 +42,14 @@ pub sifted : (p : Stamped → Bool) (low : ℕ) (xs : List Stamped) (high : ℕ)
 sifted p low [] high h = h
 sifted p low (x ∷ xs) high h = chosen (p x) low x (filter p xs) high h.0 (sifted p x.1 xs high h.1)
 
-note_rises : (note : Note) (ended : Bool) (xs : List Stamped) (now at port : ℕ) → RisesTo 0 xs now
-    → RisesTo 0 (cond ended xs (xs ++ map (λ item. (item, max now at)) (item_in port note))) (cond ended now (max now at))
-note_rises note true xs now at port h = h
-note_rises (Next item) false xs now at port h = pushed 0 xs now (max now at) _ (le-max_left now at) h
-note_rises Completed false xs now at port h =
+note_rises : (note : Note) (accepted : Bool) (xs : List Stamped) (now at port place : ℕ) → RisesTo 0 xs now
+    → RisesTo 0 (cond accepted (xs ++ map (λ item. (item, max now at)) (item_in port place note)) xs) (cond accepted (max now at) now)
+note_rises note false xs now at port place h = h
+note_rises (Next item) true xs now at port place h = pushed 0 xs now (max now at) _ (le-max_left now at) h
+note_rises Completed true xs now at port place h =
     let P : List Stamped → Type 0 = λ ys. RisesTo 0 ys (max now at) in
     subst P (sym (append-nil xs)) (raised 0 xs now (max now at) (le-max_left now at) h)
-note_rises (Failed text) false xs now at port h =
+note_rises (Failed text) true xs now at port place h =
     let P : List Stamped → Type 0 = λ ys. RisesTo 0 ys (max now at) in
     subst P (sym (append-nil xs)) (raised 0 xs now (max now at) (le-max_left now at) h)
 
@@ -60,7 +60,7 @@ join_rises false xs now at h = h
 -- the stamps of the items rise to the stamp of the subject
 pub items_rise : (rules : Rules) (H : History) → RisesTo 0 (items rules H) (stamp rules H)
 items_rise rules NoEvents = omega arith
-items_rise rules (H ▹ (port, Emit note at)) = note_rises note (is_ended H) (items rules H) (stamp rules H) at port (items_rise rules H)
+items_rise rules (H ▹ (port, Emit note at)) = note_rises note (accepts rules H note) (items rules H) (stamp rules H) at port (item_count rules H) (items_rise rules H)
 items_rise rules (H ▹ (port, Join policy first at)) = join_rises (may_join rules H) (items rules H) (stamp rules H) at (items_rise rules H)
 items_rise rules (H ▹ (port, Request who n)) = items_rise rules H
 items_rise rules (H ▹ (port, Dispose who)) = items_rise rules H

@@ -1,9 +1,10 @@
 -- What a subject that stands for a history offers, what it opens with, and what it stands for after each event.
-use Rattle.std.proofs.Common.{◌≡◌, ℕ, ◌-◌, ◌≤◌, max, Bool, true, false, cond, List, [], ◌∷◌, ◌++◌, length, map, take, Option, None, Some, is_some, refl, sym, ap, ◌∙◌, arith, append-nil}
+use Rattle.std.proofs.Common.{◌≡◌, ℕ, ◌+◌, ◌-◌, ◌≤◌, max, Bool, true, false, cond, List, [], ◌∷◌, ◌++◌, length, map, take, Option, None, Some, is_some, refl, sym, ap, subst, ◌∙◌, arith, append-nil}
 use Rattle.std.proofs.Math.Nat.{le-max_left}
 use Rattle.std.specs.Option.{option_or}
 use Rattle.std.proofs.lemmas.List.{length-drop, drop_all, take_all}
 use Rattle.rx_note.specs.declared.item.Item.{Item}
+use Rattle.rx_note.specs.declared.limits.Limits.{Limits}
 use Rattle.rx_note.specs.declared.note.Note.{Note}
 use Rattle.rx_note.specs.declared.note.Note.TheVariants.{Next, Completed, Failed}
 use Rattle.rx_note.specs.declared.event.Event.TheVariants.{Emit, Join, Request, Dispose}
@@ -12,7 +13,8 @@ use Rattle.rx_note.specs.declared.kind.Kind.TheVariants.{Publish, Behavior, Asyn
 use Rattle.rx_note.specs.declared.rules.Rules.{Rules}
 use Rattle.rx_note.specs.Choices.{Choice}
 use Rattle.rx_note.specs.Signals.{Offered}
-use Rattle.rx_history.specs.Histories.{Entry, History, NoEvents, ◌▹◌, Stamped, unstamped, newest, last_item, or_else, seed_item, terminal_in, end_of, is_ended, is_completion, up_to_end, may_join, stamp, item_in, items, young, at_most, age_moment, opening_by, offers_by, ended_by, signalled}
+use Rattle.rx_history.specs.Histories.{Entry, History, NoEvents, ◌▹◌, Stamped, unstamped, newest, last_item, or_else, seed_item, terminal_in, end_of, is_ended, has_room, count_with, item_count, accepts, is_completion, up_to_end, may_join, stamp, item_in, items, young, at_most, age_moment, opening_by, offers_by, ended_by, signalled}
+use Rattle.rx_history.proofs.Accepting.{accepted, end_of-refused, item_count-accepted, item_count-refused}
 use Rattle.rx_history.proofs.Cases.{absent}
 use Rattle.rx_history.proofs.Offers.{items-accepted, items-refused}
 use Rattle.rx_subject.specs.Windows.{count_kept, age_kept, kept_by, window_of, from_young}
@@ -33,32 +35,34 @@ first_kept : (now : ℕ) (xs : List Stamped) → take 1 (at_most (Some 1) (young
 first_kept now xs = ap (take 1) (one_kept now xs) ∙ first_of_last xs
 
 -- so that the item kept is the one that an end may offer
-offers_known : (kind : Kind) (rules : Rules) (H : History) (now port : ℕ) (note : Note)
-    → offers_by kind (unstamped (take 1 (kept_by kind now (items rules H)))) port note ≡ offers_by kind (last_item rules H) port note
-offers_known Publish rules H now port note = refl
-offers_known (Behavior seed) rules H now port note = refl
-offers_known Async rules H now port note =
+offers_known : (kind : Kind) (rules : Rules) (H : History) (now port place : ℕ) (note : Note)
+    → offers_by kind (unstamped (take 1 (kept_by kind now (items rules H)))) port place note ≡ offers_by kind (last_item rules H) port place note
+offers_known Publish rules H now port place note = refl
+offers_known (Behavior seed) rules H now port place note = refl
+offers_known Async rules H now port place note =
     ap (λ xs. cond (is_completion (terminal_in note)) (unstamped xs) []) (first_kept now (items rules H))
-offers_known (Replay count age) rules H now port note = refl
+offers_known (Replay count age) rules H now port place note = refl
 
 -- a note offers what the definitions say
 pub signals-signalled : (s : SubjectState) (rules : Rules) (H : History) (port : ℕ) (note : Note) → StandsFor s rules H
     → signals_by s port note ≡ signalled rules H port note
 signals-signalled s rules H port note stands =
-    ap (λ k. map Offered (offers_by k (unstamped (take 1 s.window)) port note) ++ ended_by (terminal_in note)) stands.kind_is
-    ∙ ap (λ w. map Offered (offers_by rules.kind (unstamped (take 1 w)) port note) ++ ended_by (terminal_in note)) stands.window_is
-    ∙ ap (λ xs. map Offered xs ++ ended_by (terminal_in note)) (offers_known rules.kind rules H (age_moment rules H (stamp rules H)) port note)
+    ap (λ k. map Offered (offers_by k (unstamped (take 1 s.window)) port s.count note) ++ ended_by (terminal_in note)) stands.kind_is
+    ∙ ap (λ w. map Offered (offers_by rules.kind (unstamped (take 1 w)) port s.count note) ++ ended_by (terminal_in note)) stands.window_is
+    ∙ ap (λ n. map Offered (offers_by rules.kind (unstamped (take 1 (window_of rules H))) port n note) ++ ended_by (terminal_in note)) stands.count_is
+    ∙ ap (λ xs. map Offered xs ++ ended_by (terminal_in note)) (offers_known rules.kind rules H (age_moment rules H (stamp rules H)) port (item_count rules H) note)
 
--- an item is offered with the port that it came by, whatever port it names
-offers-by_port : (kind : Kind) (last : List Item) (port : ℕ) (item : Item)
-    → offers_by kind last port (Next (record { from = port; text = item.text })) ≡ offers_by kind last port (Next item)
-offers-by_port Publish last port item = refl
-offers-by_port (Behavior seed) last port item = refl
-offers-by_port Async last port item = refl
-offers-by_port (Replay count age) last port item = refl
+-- an item is offered with the port that it came by and at its place, whatever port and place it names
+offers-written : (kind : Kind) (last : List Item) (port place from stood : ℕ) (item : Item)
+    → offers_by kind last port place (Next (record { from = from; place = stood; text = item.text })) ≡ offers_by kind last port place (Next item)
+offers-written Publish last port place from stood item = refl
+offers-written (Behavior seed) last port place from stood item = refl
+offers-written Async last port place from stood item = refl
+offers-written (Replay count age) last port place from stood item = refl
 
-pub signals-by_port : (s : SubjectState) (port : ℕ) (item : Item) → signals_by s port (Next (record { from = port; text = item.text })) ≡ signals_by s port (Next item)
-signals-by_port s port item = ap (λ xs. map Offered xs ++ []) (offers-by_port s.kind (unstamped (take 1 s.window)) port item)
+pub signals-written : (s : SubjectState) (port from place : ℕ) (item : Item)
+    → signals_by s port (Next (record { from = from; place = place; text = item.text })) ≡ signals_by s port (Next item)
+signals-written s port from place item = ap (λ xs. map Offered xs ++ []) (offers-written s.kind (unstamped (take 1 s.window)) port s.count from place item)
 
 -- WHAT A JOINER BEGINS WITH
 
@@ -117,7 +121,7 @@ none_kept (Replay (Some count) age) now = drop_all (0 - count) [] (omega arith)
 
 -- a new subject stands for no event
 pub stands_first : (kind : Kind) (rules : Rules) → rules.kind ≡ kind → StandsFor (subject_at_first kind) rules NoEvents
-stands_first kind rules is = record { kind_is = sym is; end_is = refl; stamp_is = refl; window_is = sym (none_kept rules.kind 0) }
+stands_first kind rules is = record { kind_is = sym is; end_is = refl; stamp_is = refl; count_is = refl; window_is = sym (none_kept rules.kind 0) }
 
 -- AN ITEM
 
@@ -138,31 +142,45 @@ window_more Async now later xs item rises le = last_more now later xs item rises
 window_more (Replay count age) now later xs item rises le = kept-pushed count age now later xs now item rises le le
 
 -- an accepted note raises the stamp
-stamp-accepted : (rules : Rules) (H : History) (port : ℕ) (note : Note) (at : ℕ) → is_ended H ≡ false → stamp rules (H ▹ (port, Emit note at)) ≡ max (stamp rules H) at
-stamp-accepted rules H port note at open_now = ap (λ b. cond b (stamp rules H) (max (stamp rules H) at)) open_now
+stamp-accepted : (rules : Rules) (H : History) (port : ℕ) (note : Note) (at : ℕ) → accepts rules H note ≡ true → stamp rules (H ▹ (port, Emit note at)) ≡ max (stamp rules H) at
+stamp-accepted rules H port note at accepted = ap (λ b. cond b (max (stamp rules H) at) (stamp rules H)) accepted
 
-pub stands_item : (s : SubjectState) (rules : Rules) (H : History) (port : ℕ) (item : Item) (at : ℕ) → end_of H ≡ None → StandsFor s rules H
-    → StandsFor (after_item s (record item { from = port }) at) rules (H ▹ (port, Emit (Next item) at))
-stands_item s rules H port item at unended stands =
+pub stands_item : (s : SubjectState) (rules : Rules) (H : History) (port : ℕ) (item : Item) (at : ℕ) → end_of H ≡ None → has_room rules.limits (item_count rules H) (Next item) ≡ true
+    → StandsFor s rules H → StandsFor (after_item s (record item { from = port; place = s.count }) at) rules (H ▹ (port, Emit (Next item) at))
+stands_item s rules H port item at unended room stands =
     let later = max (stamp rules H) at in
     let H' = H ▹ (port, Emit (Next item) at) in
+    let placed : ℕ → Item = λ place. record item { from = port; place = place } in
+    let this = placed (item_count rules H) in
     let open_now : is_ended H ≡ false = ap is_some unended in
+    let taken : accepts rules H (Next item) ≡ true = accepted rules H (Next item) unended room in
     let end : end_of H' ≡ None = ap (λ e. option_or e None) unended in
-    let stamped : stamp rules H' ≡ later = stamp-accepted rules H port (Next item) at open_now in
-    let all : items rules H' ≡ items rules H ++ (record item { from = port }, later) ∷ [] = items-accepted rules H port (Next item) at open_now in
+    let stamped : stamp rules H' ≡ later = stamp-accepted rules H port (Next item) at taken in
+    let all : items rules H' ≡ items rules H ++ (this, later) ∷ [] = items-accepted rules H port (Next item) at taken in
     record {
       kind_is = stands.kind_is;
       end_is = stands.end_is ∙ unended ∙ sym end;
       stamp_is = ap (λ n. max n at) stands.stamp_is ∙ sym stamped;
+      count_is = ap (λ n. n + 1) stands.count_is ∙ sym (item_count-accepted rules H port (Next item) at taken);
       window_is =
-          ap (λ n. window_with s.kind s.window (record item { from = port }) (max n at)) stands.stamp_is
-          ∙ ap (λ k. window_with k s.window (record item { from = port }) later) stands.kind_is
-          ∙ ap (λ w. window_with rules.kind w (record item { from = port }) later) stands.window_is
-          ∙ ap (λ n. window_with rules.kind (kept_by rules.kind n (items rules H)) (record item { from = port }) later) (moment_open rules H (stamp rules H) open_now)
-          ∙ window_more rules.kind (stamp rules H) later (items rules H) (record item { from = port }) (items_rise rules H) (le-max_left (stamp rules H) at)
+          ap (λ n. window_with s.kind s.window (placed n) (max s.clock at)) stands.count_is
+          ∙ ap (λ n. window_with s.kind s.window this (max n at)) stands.stamp_is
+          ∙ ap (λ k. window_with k s.window this later) stands.kind_is
+          ∙ ap (λ w. window_with rules.kind w this later) stands.window_is
+          ∙ ap (λ n. window_with rules.kind (kept_by rules.kind n (items rules H)) this later) (moment_open rules H (stamp rules H) open_now)
+          ∙ window_more rules.kind (stamp rules H) later (items rules H) this (items_rise rules H) (le-max_left (stamp rules H) at)
           ∙ ap (kept_by rules.kind later) (sym all)
           ∙ ap (λ n. kept_by rules.kind n (items rules H')) (sym (moment_open rules H' (stamp rules H') (ap is_some end) ∙ stamped));
     }
+
+-- the same of an item that names its port and has its place, whatever its producer wrote
+pub stands_placed : (s : SubjectState) (rules : Rules) (H : History) (item : Item) (from place at : ℕ) → end_of H ≡ None → has_room rules.limits (item_count rules H) (Next item) ≡ true
+    → item.place ≡ s.count → StandsFor s rules H
+    → StandsFor (after_item s item at) rules (H ▹ (item.from, Emit (Next (record { from = from; place = place; text = item.text })) at))
+stands_placed s rules H item from place at unended room next stands =
+    let written : Item = record { from = from; place = place; text = item.text } in
+    subst (λ (n : ℕ). StandsFor (after_item s (record item { place = n }) at) rules (H ▹ (item.from, Emit (Next written) at))) (sym next)
+    (stands_item s rules H item.from written at unended room stands)
 
 -- THE END
 
@@ -177,10 +195,22 @@ pub not_ended : (s : SubjectState) (rules : Rules) (H : History) → is_some s.t
 not_ended s rules H none stands = sym stands.end_is ∙ absent s.terminal none
 
 -- a terminal is no item
-no_item_in : (port : ℕ) (note end : Note) → terminal_in note ≡ Some end → item_in port note ≡ []
-no_item_in port (Next item) end is = cc
-no_item_in port Completed end is = refl
-no_item_in port (Failed text) end is = refl
+no_item_in : (port place : ℕ) (note end : Note) → terminal_in note ≡ Some end → item_in port place note ≡ []
+no_item_in port place (Next item) end is = cc
+no_item_in port place Completed end is = refl
+no_item_in port place (Failed text) end is = refl
+
+-- so it isn't limited
+end-has_room : (limits : Limits) (count : ℕ) (note end : Note) → terminal_in note ≡ Some end → has_room limits count note ≡ true
+end-has_room limits count (Next item) end is = cc
+end-has_room limits count Completed end is = refl
+end-has_room limits count (Failed text) end is = refl
+
+-- and isn't counted
+pub end-counts : (count : ℕ) (note end : Note) → terminal_in note ≡ Some end → count_with count note ≡ count
+end-counts count (Next item) end is = cc
+end-counts count Completed end is = refl
+end-counts count (Failed text) end is = refl
 
 pub stands_end : (s : SubjectState) (rules : Rules) (H : History) (port : ℕ) (note : Note) (at : ℕ) → end_of H ≡ None → terminal_in note ≡ Some note → StandsFor s rules H
     → StandsFor (after_end s note at) rules (H ▹ (port, Emit note at))
@@ -188,16 +218,18 @@ stands_end s rules H port note at unended terminal stands =
     let later = max (stamp rules H) at in
     let H' = H ▹ (port, Emit note at) in
     let open_now : is_ended H ≡ false = ap is_some unended in
+    let taken : accepts rules H note ≡ true = accepted rules H note unended (end-has_room rules.limits (item_count rules H) note note terminal) in
     let end : end_of H' ≡ Some note = ap (λ e. option_or e (terminal_in note)) unended ∙ terminal in
-    let stamped : stamp rules H' ≡ later = stamp-accepted rules H port note at open_now in
+    let stamped : stamp rules H' ≡ later = stamp-accepted rules H port note at taken in
     let all : items rules H' ≡ items rules H =
-    items-accepted rules H port note at open_now
-    ∙ ap (λ more. items rules H ++ map (λ item. (item, later)) more) (no_item_in port note note terminal)
+    items-accepted rules H port note at taken
+    ∙ ap (λ more. items rules H ++ map (λ item. (item, later)) more) (no_item_in port (item_count rules H) note note terminal)
     ∙ append-nil (items rules H) in
     record {
       kind_is = stands.kind_is;
       end_is = sym end;
       stamp_is = ap (λ n. max n at) stands.stamp_is ∙ sym stamped;
+      count_is = stands.count_is ∙ sym (item_count-accepted rules H port note at taken ∙ end-counts (item_count rules H) note note terminal);
       window_is =
           ap (λ n. from_young (age_kept s.kind) (max n at) s.window) stands.stamp_is
           ∙ ap (λ k. from_young (age_kept k) later s.window) stands.kind_is
@@ -226,6 +258,7 @@ stands_join s rules H port policy first at joins stands =
       kind_is = stands.kind_is;
       end_is = stands.end_is;
       stamp_is = ap (λ n. max n at) stands.stamp_is ∙ sym stamped;
+      count_is = stands.count_is;
       window_is =
           ap (λ n. cond (is_some s.terminal) s.window (from_young (age_kept s.kind) (max n at) s.window)) stands.stamp_is
           ∙ ap (λ k. cond (is_some s.terminal) s.window (from_young (age_kept k) later s.window)) stands.kind_is
@@ -239,12 +272,13 @@ stands_join s rules H port policy first at joins stands =
 -- WHAT CHANGES NOTHING
 
 -- an event that leaves the end, the stamp and the items
-still : (s : SubjectState) (rules : Rules) (H : History) (entry : Entry) → end_of (H ▹ entry) ≡ end_of H → stamp rules (H ▹ entry) ≡ stamp rules H → items rules (H ▹ entry) ≡ items rules H
-    → StandsFor s rules H → StandsFor s rules (H ▹ entry)
-still s rules H entry end stamped all stands = record {
+still : (s : SubjectState) (rules : Rules) (H : History) (entry : Entry) → end_of (H ▹ entry) ≡ end_of H → stamp rules (H ▹ entry) ≡ stamp rules H
+    → item_count rules (H ▹ entry) ≡ item_count rules H → items rules (H ▹ entry) ≡ items rules H → StandsFor s rules H → StandsFor s rules (H ▹ entry)
+still s rules H entry end stamped counted all stands = record {
   kind_is = stands.kind_is;
   end_is = stands.end_is ∙ sym end;
   stamp_is = stands.stamp_is ∙ sym stamped;
+  count_is = stands.count_is ∙ sym counted;
   window_is =
       stands.window_is
       ∙ ap (kept_by rules.kind (age_moment rules H (stamp rules H))) (sym all)
@@ -253,22 +287,18 @@ still s rules H entry end stamped all stands = record {
 }
 
 pub stands_request : (s : SubjectState) (rules : Rules) (H : History) (port who n : ℕ) → StandsFor s rules H → StandsFor s rules (H ▹ (port, Request who n))
-stands_request s rules H port who n stands = still s rules H (port, Request who n) refl refl refl stands
+stands_request s rules H port who n stands = still s rules H (port, Request who n) refl refl refl refl stands
 
 pub stands_dispose : (s : SubjectState) (rules : Rules) (H : History) (port who : ℕ) → StandsFor s rules H → StandsFor s rules (H ▹ (port, Dispose who))
-stands_dispose s rules H port who stands = still s rules H (port, Dispose who) refl refl refl stands
+stands_dispose s rules H port who stands = still s rules H (port, Dispose who) refl refl refl refl stands
 
 pub stands_not_joined : (s : SubjectState) (rules : Rules) (H : History) (port : ℕ) (policy : Choice) (first at : ℕ) → may_join rules H ≡ false → StandsFor s rules H
     → StandsFor s rules (H ▹ (port, Join policy first at))
 stands_not_joined s rules H port policy first at denied stands =
-    still s rules H (port, Join policy first at) refl (ap (λ b. cond b (max (stamp rules H) at) (stamp rules H)) denied) refl stands
+    still s rules H (port, Join policy first at) refl (ap (λ b. cond b (max (stamp rules H) at) (stamp rules H)) denied) refl refl stands
 
-ended_same : (end : Option Note) (other : Option Note) → is_some end ≡ true → option_or end other ≡ end
-ended_same None other is = cc
-ended_same (Some note) other is = refl
-
-pub stands_refused : (s : SubjectState) (rules : Rules) (H : History) (port : ℕ) (note : Note) (at : ℕ) → is_ended H ≡ true → StandsFor s rules H
+pub stands_refused : (s : SubjectState) (rules : Rules) (H : History) (port : ℕ) (note : Note) (at : ℕ) → accepts rules H note ≡ false → StandsFor s rules H
     → StandsFor s rules (H ▹ (port, Emit note at))
-stands_refused s rules H port note at ended stands =
-    still s rules H (port, Emit note at) (ended_same (end_of H) (terminal_in note) ended)
-    (ap (λ b. cond b (stamp rules H) (max (stamp rules H) at)) ended) (items-refused rules H port note at ended) stands
+stands_refused s rules H port note at refused stands =
+    still s rules H (port, Emit note at) (end_of-refused rules H port note at refused)
+    (ap (λ b. cond b (max (stamp rules H) at) (stamp rules H)) refused) (item_count-refused rules H port note at refused) (items-refused rules H port note at refused) stands

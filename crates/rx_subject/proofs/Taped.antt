@@ -1,5 +1,5 @@
 -- What a subject keeps of the last items of a tape, by their stamps.
-use Rattle.std.proofs.Common.{◌≡◌, ℕ, zero, suc, ◌-◌, ◌≤◌, ◌≢◌, max, Bool, true, false, cond, List, [], ◌∷◌, ◌++◌, length, take, drop, Option, None, Some, is_some, refl, sym, ap, subst, ◌∙◌, arith, append_assoc, append-nil}
+use Rattle.std.proofs.Common.{◌≡◌, ℕ, zero, suc, ◌+◌, ◌-◌, ◌≤◌, ◌≢◌, max, Bool, true, false, cond, List, [], ◌∷◌, ◌++◌, length, take, drop, Option, None, Some, is_some, refl, sym, ap, subst, ◌∙◌, arith, append_assoc, append-nil}
 use Rattle.std.proofs.lemmas.List.{length-append, length-drop, take_all}
 use Rattle.rx_note.specs.declared.item.Item.{Item}
 use Rattle.rx_note.specs.declared.kind.Kind.{Kind}
@@ -193,17 +193,17 @@ subject_kept subject items left same =
 
 -- WHAT STANDS ON THE TAPE
 
-no_item_in : (port : ℕ) (note : Note) → terminal_in note ≡ Some note → item_in port note ≡ []
-no_item_in port (Next item) is = absurd cc
-no_item_in port Completed is = refl
-no_item_in port (Failed text) is = refl
+no_item_in : (port place : ℕ) (note : Note) → terminal_in note ≡ Some note → item_in port place note ≡ []
+no_item_in port place (Next item) is = absurd cc
+no_item_in port place Completed is = refl
+no_item_in port place (Failed text) is = refl
 
 -- an end puts nothing there
-pub untaped : (kind : Kind) (port : ℕ) (note : Note) → terminal_in note ≡ Some note → taped kind port note ≡ []
-untaped Publish port note is = no_item_in port note is
-untaped (Behavior seed) port note is = no_item_in port note is
-untaped Async port note is = refl
-untaped (Replay count age) port note is = no_item_in port note is
+pub untaped : (kind : Kind) (port place : ℕ) (note : Note) → terminal_in note ≡ Some note → taped kind port place note ≡ []
+untaped Publish port place note is = no_item_in port place note is
+untaped (Behavior seed) port place note is = no_item_in port place note is
+untaped Async port place note is = refl
+untaped (Replay count age) port place note is = no_item_in port place note is
 
 -- WHAT AN EVENT LEAVES
 
@@ -235,10 +235,10 @@ ended_on t items note at clock stamps h clock_is stamps_is =
 pub item_on : (t : TapeSubjectState) (items : List Item) (item : Item) (at clock : ℕ) (all left : List ℕ) → t.kind ≢ Async → length t.stamps ≤ length items
     → beyond (count_kept t.kind) (length t.stamps) ≡ 0 → clock ≡ max t.clock at
     → all ≡ drop (beyond (count_kept t.kind) (length (t.stamps ++ clock ∷ []))) (t.stamps ++ clock ∷ []) → left ≡ drop (old_count (age_kept t.kind) clock all) all
-    → subject_on (items ++ item ∷ []) (record t { clock = clock; stamps = left }) ≡ after_item (subject_on items t) item at
+    → subject_on (items ++ item ∷ []) (record t { clock = clock; count = t.count + 1; stamps = left }) ≡ after_item (subject_on items t) item at
 item_on t items item at clock all left other h few clock_is all_is left_is =
-    ap (λ (w : List Stamped). record (subject_on items t) { clock = clock; window = w }) (window_more t.kind clock items item t.own t.stamps all left other h few all_is left_is)
-    ∙ ap (λ (n : ℕ). record (subject_on items t) { clock = n; window = window_with t.kind (window_on t.kind items t.own t.stamps) item n }) clock_is
+    ap (λ (w : List Stamped). record (subject_on items t) { clock = clock; count = t.count + 1; window = w }) (window_more t.kind clock items item t.own t.stamps all left other h few all_is left_is)
+    ∙ ap (λ (n : ℕ). record (subject_on items t) { clock = n; count = t.count + 1; window = window_with t.kind (window_on t.kind items t.own t.stamps) item n }) clock_is
 
 -- WHAT A JOINER BEGINS WITH
 
@@ -281,40 +281,41 @@ all_open kind terminal end count age items own stamps now n kind_is ended h n_is
 -- WHAT IS OFFERED ON THE TAPE
 
 -- an item stands on the tape where it is offered at once
-pub taped-offered : (kind : Kind) (last : List Item) (port : ℕ) (item : Item) → taped kind port (Next item) ≡ offers_by kind last port (Next item)
-taped-offered Publish last port item = refl
-taped-offered (Behavior seed) last port item = refl
-taped-offered Async last port item = refl
-taped-offered (Replay count age) last port item = refl
+pub taped-offered : (kind : Kind) (last : List Item) (port place : ℕ) (item : Item) → taped kind port place (Next item) ≡ offers_by kind last port place (Next item)
+taped-offered Publish last port place item = refl
+taped-offered (Behavior seed) last port place item = refl
+taped-offered Async last port place item = refl
+taped-offered (Replay count age) last port place item = refl
 
 -- and it is the only one
-pub taped-alone : (kind : Kind) (item : Item) → kind ≢ Async → taped kind item.from (Next item) ≡ item ∷ []
+pub taped-alone : (kind : Kind) (item : Item) → kind ≢ Async → taped kind item.from item.place (Next item) ≡ item ∷ []
 taped-alone Publish item other = refl
 taped-alone (Behavior seed) item other = refl
 taped-alone Async item other = absurd (other refl)
 taped-alone (Replay count age) item other = refl
 
--- what Publish passes leaves it as it was, but for its clock
-pub passed_on : (t : TapeSubjectState) (items : List Item) (item : Item) (at : ℕ) → t.kind ≡ Publish → after_item (subject_on items t) item at ≡ subject_on items (record t { clock = max t.clock at })
+-- what Publish passes leaves it as it was, but for its clock and its count
+pub passed_on : (t : TapeSubjectState) (items : List Item) (item : Item) (at : ℕ) → t.kind ≡ Publish
+    → after_item (subject_on items t) item at ≡ subject_on items (record t { clock = max t.clock at; count = t.count + 1 })
 passed_on t items item at publishes =
-    ap (λ (w : List Stamped). record (subject_on items t) { clock = max t.clock at; window = w })
+    ap (λ (w : List Stamped). record (subject_on items t) { clock = max t.clock at; count = t.count + 1; window = w })
     (ap (λ (k : Kind). window_with k (window_on t.kind items t.own t.stamps) item (max t.clock at)) publishes)
 
 -- what an end offers is what the subject keeps itself
-pub ended-offers : (kind : Kind) (items : List Item) (own : List Stamped) (stamps : List ℕ) (port : ℕ) (note : Note)
-    → offers_by kind (unstamped (take 1 (window_on kind items own stamps))) port note ≡ offers_by kind (unstamped (take 1 own)) port note
-ended-offers Publish items own stamps port note = refl
-ended-offers (Behavior seed) items own stamps port note = refl
-ended-offers Async items own stamps port note = refl
-ended-offers (Replay count age) items own stamps port note = refl
+pub ended-offers : (kind : Kind) (items : List Item) (own : List Stamped) (stamps : List ℕ) (port place : ℕ) (note : Note)
+    → offers_by kind (unstamped (take 1 (window_on kind items own stamps))) port place note ≡ offers_by kind (unstamped (take 1 own)) port place note
+ended-offers Publish items own stamps port place note = refl
+ended-offers (Behavior seed) items own stamps port place note = refl
+ended-offers Async items own stamps port place note = refl
+ended-offers (Replay count age) items own stamps port place note = refl
 
 -- what an end puts on the tape is no item that the subject keeps there
-pub window_ended : (kind : Kind) (items last : List Item) (own : List Stamped) (stamps : List ℕ) (port : ℕ) (note : Note) → terminal_in note ≡ Some note
-    → window_on kind (items ++ offers_by kind last port note) own stamps ≡ window_on kind items own stamps
-window_ended Publish items last own stamps port note is = ap (λ more. last_stamped (items ++ more) stamps) (no_item_in port note is) ∙ ap (λ xs. last_stamped xs stamps) (append-nil items)
-window_ended (Behavior seed) items last own stamps port note is = ap (λ more. last_stamped (items ++ more) stamps) (no_item_in port note is) ∙ ap (λ xs. last_stamped xs stamps) (append-nil items)
-window_ended Async items last own stamps port note is = refl
-window_ended (Replay count age) items last own stamps port note is = ap (λ more. last_stamped (items ++ more) stamps) (no_item_in port note is) ∙ ap (λ xs. last_stamped xs stamps) (append-nil items)
+pub window_ended : (kind : Kind) (items last : List Item) (own : List Stamped) (stamps : List ℕ) (port place : ℕ) (note : Note) → terminal_in note ≡ Some note
+    → window_on kind (items ++ offers_by kind last port place note) own stamps ≡ window_on kind items own stamps
+window_ended Publish items last own stamps port place note is = ap (λ more. last_stamped (items ++ more) stamps) (no_item_in port place note is) ∙ ap (λ xs. last_stamped xs stamps) (append-nil items)
+window_ended (Behavior seed) items last own stamps port place note is = ap (λ more. last_stamped (items ++ more) stamps) (no_item_in port place note is) ∙ ap (λ xs. last_stamped xs stamps) (append-nil items)
+window_ended Async items last own stamps port place note is = refl
+window_ended (Replay count age) items last own stamps port place note is = ap (λ more. last_stamped (items ++ more) stamps) (no_item_in port place note is) ∙ ap (λ xs. last_stamped xs stamps) (append-nil items)
 
 -- the items of a tape with several more
 pub pushed_items : (tape : TapeState) (more : List Item) → (pushed_all tape more).items ≡ tape.items ++ more

@@ -1,35 +1,44 @@
 -- What contracts see of a subject, and the histories that it stands for.
-use Rattle.std.specs.Prelude.{◌≡◌, ℕ, max, List, [], ◌∷◌, ◌++◌, map, take, Option, None, Some, is_some, if◌then◌else◌}
+use Rattle.std.specs.Prelude.{◌≡◌, ◌<◌, ℕ, ◌+◌, max, List, [], ◌∷◌, ◌++◌, map, take, Option, None, Some, is_some, if◌then◌else◌}
 use Rattle.rx_note.specs.declared.kind.Kind.{Kind}
 use Rattle.rx_note.specs.declared.kind.Kind.TheVariants.{Publish, Behavior, Async, Replay}
 use Rattle.rx_note.specs.declared.item.Item.{Item}
 use Rattle.rx_note.specs.declared.note.Note.{Note}
+use Rattle.rx_note.specs.declared.note.Note.TheVariants.{Next, Completed, Failed}
 use Rattle.rx_note.specs.declared.rules.Rules.{Rules}
 use Rattle.rx_note.specs.Signals.{Signal, Offered}
-use Rattle.rx_history.specs.Histories.{History, Stamped, unstamped, or_else, seed_item, at_most, terminal_in, is_completion, end_of, stamp, offers_by, ended_by}
+use Rattle.rx_history.specs.Histories.{History, Stamped, unstamped, or_else, seed_item, at_most, terminal_in, is_completion, end_of, item_count, stamp, offers_by, ended_by}
 use Rattle.rx_subject.specs.Windows.{age_kept, window_of, from_young}
 
--- a subject: its kind, its end, the greatest moment so far, and the items that it keeps for later joiners
+-- a subject: its kind, its end, the greatest moment and the number of items so far, and the items that it keeps for later joiners
 pub record SubjectState : Type 0 where
   pub kind : Kind
   pub terminal : Option Note
   pub clock : ℕ
+  pub count : ℕ
   pub window : List Stamped
 
 -- a subject with no event yet
 abbrev pub subject_at_first : Kind → SubjectState
-subject_at_first kind = record { kind = kind; terminal = None; clock = 0; window = [] }
+subject_at_first kind = record { kind = kind; terminal = None; clock = 0; count = 0; window = [] }
 
--- a subject stands for a history: it has that history's end and stamp, and keeps the items that later joiners may need
+-- a subject stands for a history: it has that history's end, stamp and number of items, and keeps the items that later joiners may need
 pub record StandsFor (subject : SubjectState) (rules : Rules) (H : History) : Type 0 where
   pub kind_is : subject.kind ≡ rules.kind
   pub end_is : subject.terminal ≡ end_of H
   pub stamp_is : subject.clock ≡ stamp rules H
+  pub count_is : subject.count ≡ item_count rules H
   pub window_is : subject.window ≡ window_of rules H
 
--- the items that a note from a port offers, by what the subject keeps
+-- whether a note may be the next: an item has a place, which is below that of a seed
+abbrev pub HasPlace : ℕ → Note → Type 0
+HasPlace count (Next item) = count < 4294967295
+HasPlace count Completed = Unit {0}
+HasPlace count (Failed text) = Unit {0}
+
+-- the items that a note from a port offers, by what the subject keeps; the place of its own is how many there were
 abbrev pub offered_by : SubjectState → ℕ → Note → List Item
-offered_by subject port note = offers_by subject.kind (unstamped (take 1 subject.window)) port note
+offered_by subject port note = offers_by subject.kind (unstamped (take 1 subject.window)) port subject.count note
 
 -- and its signals: these items, and then the end
 abbrev pub signals_by : SubjectState → ℕ → Note → List Signal
@@ -55,6 +64,7 @@ window_with (Replay count age) window item now = from_young age now (at_most cou
 abbrev pub after_item : SubjectState → Item → ℕ → SubjectState
 after_item subject item at = record subject {
   clock = max subject.clock at;
+  count = subject.count + 1;
   window = window_with subject.kind subject.window item (max subject.clock at);
 }
 

@@ -17,6 +17,7 @@ pub record TapeSubjectState : Type 0 where
   pub kind : Kind
   pub terminal : Option Note
   pub clock : ℕ
+  pub count : ℕ
   pub own : List Stamped
   pub stamps : List ℕ
 
@@ -27,7 +28,7 @@ own_of (Some kept) = (kept.item, kept.stamp) ∷ []
 
 -- a subject with no event yet
 abbrev pub tape_subject_at_first : Kind → TapeSubjectState
-tape_subject_at_first kind = record { kind = kind; terminal = None; clock = 0; own = []; stamps = [] }
+tape_subject_at_first kind = record { kind = kind; terminal = None; clock = 0; count = 0; own = []; stamps = [] }
 
 -- items with their stamps
 abbrev pub paired : List Item → List ℕ → List Stamped
@@ -52,6 +53,7 @@ subject_on items subject = record {
   kind = subject.kind;
   terminal = subject.terminal;
   clock = subject.clock;
+  count = subject.count;
   window = window_on subject.kind items subject.own subject.stamps;
 }
 
@@ -65,12 +67,12 @@ abbrev pub beyond : Option ℕ → ℕ → ℕ
 beyond None count = 0
 beyond (Some most) count = count - most
 
--- the items that a note puts on the tape: none of Async
-abbrev pub taped : Kind → ℕ → Note → List Item
-taped Publish port note = item_in port note
-taped (Behavior seed) port note = item_in port note
-taped Async port note = []
-taped (Replay count age) port note = item_in port note
+-- the items that a note from a port puts on the tape, at a place: none of Async
+abbrev pub taped : Kind → ℕ → ℕ → Note → List Item
+taped Publish port place note = item_in port place note
+taped (Behavior seed) port place note = item_in port place note
+taped Async port place note = []
+taped (Replay count age) port place note = item_in port place note
 
 -- the tape with several items more
 abbrev pub pushed_all : TapeState → List Item → TapeState

@@ -9,17 +9,20 @@ use crate::kept::{Kept, copy_kept};
 use rx_heap::Memory;
 use rx_note::{Item, Kind, Note, Text};
 
-// The port of a seed, which came by none.
-const SEED_PORT: u32 = u32::MAX;
-
-/// What an item from a port offers at once; Async keeps it back.
-pub(crate) fn item_offered(kind: &Kind, port: u32, item: &Item) -> Result<Option<Item>, Memory>
-    ensures { IfOk result (λ offered. (last : List Item) → option_to_list offered ≡ offers_by kind.now last port (Next item.now)) }
+/// What an item from a port offers at once, at its place; Async keeps it back.
+pub(crate) fn item_offered(
+    kind: &Kind,
+    port: u32,
+    place: u32,
+    item: &Item,
+) -> Result<Option<Item>, Memory>
+    ensures { IfOk result (λ offered. (last : List Item) → option_to_list offered ≡ offers_by kind.now last port place (Next item.now)) }
 {
     match kind {
         Kind::Async => Ok(None),
         Kind::Publish | Kind::Behavior(_) | Kind::Replay { .. } => Ok(Some(Item {
             from: port,
+            place,
             text: item.text.copy()?,
         })),
     }
@@ -31,8 +34,8 @@ pub(crate) fn last_offered(
     own: &Option<Kept>,
     terminal: &Note,
 ) -> Result<Option<Item>, Memory>
-    ensures { IfOk result (λ offered. (port : ℕ) → terminal_in terminal.now ≡ Some terminal.now
-        → option_to_list offered ≡ offers_by kind.now (unstamped (take 1 (own_of own.now))) port terminal.now) }
+    ensures { IfOk result (λ offered. (port place : ℕ) → terminal_in terminal.now ≡ Some terminal.now
+        → option_to_list offered ≡ offers_by kind.now (unstamped (take 1 (own_of own.now))) port place terminal.now) }
 {
     match (kind, terminal) {
         (Kind::Async, Note::Completed) => copy_kept(own),
@@ -45,10 +48,7 @@ pub(crate) fn seed_of(seed: &Option<Text>) -> Result<Option<Item>, Memory>
     ensures { IfOk result (λ item. option_to_list item ≡ seed_item seed.now) }
 {
     match seed {
-        Some(seed) => Ok(Some(Item {
-            from: SEED_PORT,
-            text: seed.copy()?,
-        })),
+        Some(seed) => Ok(Some(Item::seed(seed.copy()?))),
         None => Ok(None),
     }
 }

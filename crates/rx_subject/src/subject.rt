@@ -2,10 +2,10 @@ ghost use Rattle.std.specs.Prelude.{◌≡◌, ◌↔◌, ◌≤◌, ℕ, length
 ghost use Rattle.rx_note.specs.declared.event.Event.TheVariants.{Emit, Join};
 ghost use Rattle.rx_note.specs.declared.rules.Rules.{Rules};
 ghost use Rattle.rx_note.specs.Choices.{Choice};
-ghost use Rattle.rx_history.specs.Histories.{History, NoEvents, ◌▹◌, may_join, signalled};
+ghost use Rattle.rx_history.specs.Histories.{History, NoEvents, ◌▹◌, has_room, count_with, item_count, may_join, signalled};
 ghost use Rattle.rx_tape.specs.Tapes.{waits};
 ghost use Rattle.rx_subject.specs.Offers.{offer_signals, Opens};
-ghost use Rattle.rx_subject.specs.Subjects.{StandsFor, signals_by, subject_at_first, after_join};
+ghost use Rattle.rx_subject.specs.Subjects.{StandsFor, HasPlace, signals_by, subject_at_first, after_join};
 
 use crate::admit_error::AdmitError;
 use crate::offer::Offer;
@@ -18,8 +18,8 @@ use rx_tape::Tape;
 use std::marker::Model;
 
 /// What a subject keeps for later joiners: a [`TapeSubject`] and a tape of its own. Contracts see its kind, its end, the
-/// greatest moment so far and the items that it keeps, and tell by the history that it stands for what it offers and opens
-/// with.
+/// greatest moment and the number of items so far and the items that it keeps, and tell by the history that it stands for what
+/// it offers and opens with.
 ///
 /// The kinds are those of the page Subject (<https://reactivex.io/documentation/subject.html>); moments, ages and seeds are
 /// this project's own.
@@ -68,14 +68,18 @@ impl Subject {
         })
     }
 
-    /// Takes a note that comes by a port at a moment, in milliseconds, and says what it offers to every observer. Refused in
-    /// the order `Ended`, `Memory`; a refusal leaves the subject.
+    /// Takes a note that comes by a port at a moment, in milliseconds, and says what it offers to every observer: an item stands
+    /// at the next place. It knows no limit of items but that of the places. Refused in the order `Ended`, `Memory`; a refusal
+    /// leaves the subject.
     pub fn admit(&mut self, port: u32, note: Note, at: u64) -> Result<Offer, AdmitError>
+        requires { HasPlace self.old.count note }
         ensures ended { (result ≡ Err AdmitError.Ended) ↔ (is_some self.old.terminal ≡ true) }
         ensures err { OnErr result (self.new ≡ self.old) }
         ensures offers { IfOk result (λ offer. offer_signals offer ≡ signals_by self.old port note) }
         ensures signalled { IfOk result (λ offer. (rules : Rules) (H : History) → StandsFor self.old rules H → offer_signals offer ≡ signalled rules H port note) }
-        ensures stands { OnOk result ((rules : Rules) (H : History) → StandsFor self.old rules H → StandsFor self.new rules (H ▹ (port, Emit note at))) }
+        ensures stands { OnOk result ((rules : Rules) (H : History) → has_room rules.limits (item_count rules H) note ≡ true → StandsFor self.old rules H
+            → StandsFor self.new rules (H ▹ (port, Emit note at))) }
+        ensures count { OnOk result (self.new.count ≡ count_with self.old.count note) }
         ensures kind { self.new.kind ≡ self.old.kind }
     {
         let offer = self.subject.admit(port, note, at, &mut self.tape)?;
@@ -127,6 +131,13 @@ impl Subject {
         ensures { result ≡ self.now.clock }
     {
         self.subject.stamp()
+    }
+
+    /// How many items were accepted, which is the place of the next. It takes no memory.
+    pub fn items(&self) -> u32
+        ensures { result ≡ self.now.count }
+    {
+        self.subject.items()
     }
 
     // Removes from the tape what no later joiner needs.

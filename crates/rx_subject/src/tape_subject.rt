@@ -1,14 +1,14 @@
-ghost use Rattle.std.specs.Prelude.{◌≡◌, ◌≢◌, ◌↔◌, ◌≤◌, ℕ, List, [], None, Some, max, length, is_some, true, false, Err, IfOk, OnOk, OnErr, option_to_list};
+ghost use Rattle.std.specs.Prelude.{◌≡◌, ◌≢◌, ◌↔◌, ◌≤◌, ◌<◌, ◌+◌, ℕ, List, [], None, Some, max, length, is_some, true, false, Err, IfOk, OnOk, OnErr, option_to_list};
 ghost use Rattle.rx_note.specs.declared.event.Event.TheVariants.{Emit, Join};
 ghost use Rattle.rx_note.specs.declared.kind.Kind.TheVariants.{Publish, Async};
 ghost use Rattle.rx_note.specs.declared.note.Note.TheVariants.{Next};
 ghost use Rattle.rx_note.specs.declared.item.Item.{Item};
 ghost use Rattle.rx_note.specs.declared.rules.Rules.{Rules};
 ghost use Rattle.rx_note.specs.Choices.{Choice};
-ghost use Rattle.rx_history.specs.Histories.{History, NoEvents, ◌▹◌, terminal_in, may_join, signalled};
+ghost use Rattle.rx_history.specs.Histories.{History, NoEvents, ◌▹◌, terminal_in, has_room, count_with, item_count, may_join, signalled};
 ghost use Rattle.rx_tape.specs.Tapes.{pushed, waits};
 ghost use Rattle.rx_subject.specs.Offers.{offer_signals};
-ghost use Rattle.rx_subject.specs.Subjects.{StandsFor, signals_by, offered_by, items_by, after_item, after_end, after_join};
+ghost use Rattle.rx_subject.specs.Subjects.{StandsFor, HasPlace, signals_by, offered_by, items_by, after_item, after_end, after_join};
 ghost use Rattle.rx_subject.specs.TapeSubjects.{TapeSubjectState, tape_subject_at_first, subject_on, taped, pushed_all, TapeOpens};
 
 use crate::admit_error::AdmitError;
@@ -18,7 +18,7 @@ use crate::offer::Offer;
 use crate::stamps::{count_old_stamps, drop_old_stamps, keep_stamp, reserve_stamp};
 use crate::tape_opening::TapeOpening;
 use rx_heap::{Heap, Memory};
-use rx_note::{Item, Kind, Note, copy_of};
+use rx_note::{Item, Kind, Note, Text, copy_of};
 use rx_tape::Tape;
 use std::collections::VecDeque;
 use std::marker::Model;
@@ -35,6 +35,7 @@ pub struct TapeSubject {
     stamps: VecDeque<u64, Heap>,
     terminal: Option<Note>,
     stamp: u64,
+    count: u32,
 }
 
 // It stands here, and isn't derived, so that what lets go of a subject is one call that is proved once.
@@ -46,6 +47,7 @@ impl Drop for TapeSubject {
             stamps: _,
             terminal: _,
             stamp: _,
+            count: _,
         } = self;
     }
 }
@@ -57,7 +59,7 @@ impl Model for TapeSubject {
 
     ghost Value = { TapeSubjectState };
 
-    ghost view = { λ s. record { kind = s.kind; terminal = s.terminal; clock = s.stamp; own = own_of s.own; stamps = s.stamps.items } };
+    ghost view = { λ s. record { kind = s.kind; terminal = s.terminal; clock = s.stamp; count = s.count; own = own_of s.own; stamps = s.stamps.items } };
 
     ghost invariant = { λ s. beyond (count_kept_by s.kind) (length s.stamps.items) ≡ 0 };
 }
@@ -75,11 +77,13 @@ impl TapeSubject {
             stamps,
             terminal: None,
             stamp: 0,
+            count: 0,
         })
     }
 
-    /// Takes a note that comes by a port at a moment, in milliseconds, puts its item on the tape (none of Async), and says what
-    /// the note offers to every observer. Refused in the order `Ended`, `Memory`; a refusal leaves the subject and the tape.
+    /// Takes a note that comes by a port at a moment, in milliseconds, puts its item on the tape (none of Async), at the next
+    /// place, and says what the note offers to every observer. It knows no limit of items but that of the places. Refused in
+    /// the order `Ended`, `Memory`; a refusal leaves the subject and the tape.
     pub fn admit(
         &mut self,
         port: u32,
@@ -87,23 +91,32 @@ impl TapeSubject {
         at: u64,
         tape: &mut Tape,
     ) -> Result<Offer, AdmitError>
-        requires { length self.old.stamps ≤ length tape.old.items }
+        requires stamps { length self.old.stamps ≤ length tape.old.items }
+        requires place { HasPlace self.old.count note }
         ensures ended { (result ≡ Err AdmitError.Ended) ↔ (is_some self.old.terminal ≡ true) }
         ensures err { OnErr result ((self.new ≡ self.old) × (tape.new ≡ tape.old)) }
         ensures offers { IfOk result (λ offer. offer_signals offer ≡ signals_by (subject_on tape.old.items self.old) port note) }
         ensures signalled { IfOk result (λ offer. (rules : Rules) (H : History) → StandsFor (subject_on tape.old.items self.old) rules H → offer_signals offer ≡ signalled rules H port note) }
-        ensures stands { OnOk result ((rules : Rules) (H : History) → StandsFor (subject_on tape.old.items self.old) rules H
-            → StandsFor (subject_on tape.new.items self.new) rules (H ▹ (port, Emit note at))) }
-        ensures tape { OnOk result (tape.new ≡ pushed_all tape.old (taped self.old.kind port note)) }
+        ensures stands { OnOk result ((rules : Rules) (H : History) → has_room rules.limits (item_count rules H) note ≡ true
+            → StandsFor (subject_on tape.old.items self.old) rules H → StandsFor (subject_on tape.new.items self.new) rules (H ▹ (port, Emit note at))) }
+        ensures tape { OnOk result (tape.new ≡ pushed_all tape.old (taped self.old.kind port self.old.count note)) }
         ensures within { length self.new.stamps ≤ length tape.new.items }
+        ensures count { OnOk result (self.new.count ≡ count_with self.old.count note) }
         ensures kind { self.new.kind ≡ self.old.kind }
     {
         if self.is_ended() {
             return Err(AdmitError::Ended);
         }
         match note {
-            Note::Next(Item { from: _, text }) => {
-                let offer = self.admit_item(Item { from: port, text }, at, tape)?;
+            Note::Next(
+                Item {
+                    from: _,
+                    place: _,
+                    text,
+                },
+            ) => {
+                let item = self.next_item(port, text);
+                let offer = self.admit_item(item, at, tape)?;
                 Ok(offer)
             }
             terminal => {
@@ -122,11 +135,13 @@ impl TapeSubject {
         at: u64,
         tape: &mut Tape,
     ) -> Result<(), AdmitError>
-        requires { length self.old.stamps ≤ length tape.old.items }
+        requires stamps { length self.old.stamps ≤ length tape.old.items }
+        requires place { HasPlace self.old.count note }
         ensures ended { (result ≡ Err AdmitError.Ended) ↔ (is_some self.old.terminal ≡ true) }
         ensures err { OnErr result ((self.new ≡ self.old) × (tape.new ≡ tape.old)) }
-        ensures stands { OnOk result ((rules : Rules) (H : History) → StandsFor (subject_on tape.old.items self.old) rules H
-            → StandsFor (subject_on tape.new.items self.new) rules (H ▹ (port, Emit note at))) }
+        ensures stands { OnOk result ((rules : Rules) (H : History) → has_room rules.limits (item_count rules H) note ≡ true
+            → StandsFor (subject_on tape.old.items self.old) rules H → StandsFor (subject_on tape.new.items self.new) rules (H ▹ (port, Emit note at))) }
+        ensures count { OnOk result (self.new.count ≡ count_with self.old.count note) }
         ensures tape { OnOk result (tape.new ≡ pushed_all tape.old (offered_by (subject_on tape.old.items self.old) port note)) }
         ensures within { length self.new.stamps ≤ length tape.new.items }
         ensures kind { self.new.kind ≡ self.old.kind }
@@ -135,8 +150,15 @@ impl TapeSubject {
             return Err(AdmitError::Ended);
         }
         match note {
-            Note::Next(Item { from: _, text }) => {
-                self.keep_item(Item { from: port, text }, at, tape)?;
+            Note::Next(
+                Item {
+                    from: _,
+                    place: _,
+                    text,
+                },
+            ) => {
+                let item = self.next_item(port, text);
+                self.keep_item(item, at, tape)?;
             }
             terminal => {
                 let last = last_offered(&self.kind, &self.own, &terminal)?;
@@ -147,15 +169,19 @@ impl TapeSubject {
         Ok(())
     }
 
-    /// Takes an item that comes by the port that it names, at a moment, in milliseconds, and puts it on the tape. It is meant
-    /// before the end, and for a kind that keeps no item back. `Memory` leaves the subject and the tape.
+    /// Takes an item that comes by the port that it names and has the next place, at a moment, in milliseconds, and puts it on
+    /// the tape. It is meant before the end, and for a kind that keeps no item back. `Memory` leaves the subject and the tape.
     pub fn admit_on(&mut self, item: Item, at: u64, tape: &mut Tape) -> Result<(), Memory>
         requires stamps { length self.old.stamps ≤ length tape.old.items }
         requires open { is_some self.old.terminal ≡ false }
         requires offered { self.old.kind ≢ Async }
+        requires next { item.place ≡ self.old.count }
+        requires place { self.old.count < 4294967295 }
         ensures err { OnErr result ((self.new ≡ self.old) × (tape.new ≡ tape.old)) }
-        ensures stands { OnOk result ((from : ℕ) (rules : Rules) (H : History) → StandsFor (subject_on tape.old.items self.old) rules H
-            → StandsFor (subject_on tape.new.items self.new) rules (H ▹ (item.from, Emit (Next (record { from = from; text = item.text })) at))) }
+        ensures stands { OnOk result ((from place : ℕ) (rules : Rules) (H : History) → has_room rules.limits (item_count rules H) (Next item) ≡ true
+            → StandsFor (subject_on tape.old.items self.old) rules H
+            → StandsFor (subject_on tape.new.items self.new) rules (H ▹ (item.from, Emit (Next (record { from = from; place = place; text = item.text })) at))) }
+        ensures count { OnOk result (self.new.count ≡ self.old.count + 1) }
         ensures tape { OnOk result (tape.new ≡ pushed tape.old item) }
         ensures within { length self.new.stamps ≤ length tape.new.items }
         ensures kind { self.new.kind ≡ self.old.kind }
@@ -164,14 +190,19 @@ impl TapeSubject {
         Ok(())
     }
 
-    /// Takes an item that comes by the port that it names, at a moment, in milliseconds, where the kind is Async, which keeps it
-    /// back: nothing is offered, the tape needs no room for it, and it takes no memory. It is meant before the end.
+    /// Takes an item that comes by the port that it names and has the next place, at a moment, in milliseconds, where the kind is
+    /// Async, which keeps it back: nothing is offered, the tape needs no room for it, and it takes no memory. It is meant before
+    /// the end.
     pub fn keep_back(&mut self, item: Item, at: u64)
         requires keeps_back { self.old.kind ≡ Async }
         requires open { is_some self.old.terminal ≡ false }
-        ensures stands { (items : List Item) (from : ℕ) (rules : Rules) (H : History) → StandsFor (subject_on items self.old) rules H
-            → StandsFor (subject_on items self.new) rules (H ▹ (item.from, Emit (Next (record { from = from; text = item.text })) at)) }
-        ensures offers { (items : List Item) (from : ℕ) → signals_by (subject_on items self.old) item.from (Next (record { from = from; text = item.text })) ≡ [] }
+        requires next { item.place ≡ self.old.count }
+        requires place { self.old.count < 4294967295 }
+        ensures stands { (items : List Item) (from place : ℕ) (rules : Rules) (H : History) → has_room rules.limits (item_count rules H) (Next item) ≡ true
+            → StandsFor (subject_on items self.old) rules H
+            → StandsFor (subject_on items self.new) rules (H ▹ (item.from, Emit (Next (record { from = from; place = place; text = item.text })) at)) }
+        ensures offers { (items : List Item) (from place : ℕ) → signals_by (subject_on items self.old) item.from (Next (record { from = from; place = place; text = item.text })) ≡ [] }
+        ensures count { self.new.count ≡ self.old.count + 1 }
         ensures stamps { self.new.stamps ≡ self.old.stamps }
         ensures kind { self.new.kind ≡ self.old.kind }
     {
@@ -183,12 +214,15 @@ impl TapeSubject {
     pub fn pass_item(&mut self, at: u64)
         requires publishes { self.old.kind ≡ Publish }
         requires open { is_some self.old.terminal ≡ false }
-        ensures stands { (items : List Item) (port : ℕ) (item : Item) (rules : Rules) (H : History) → StandsFor (subject_on items self.old) rules H
-            → StandsFor (subject_on items self.new) rules (H ▹ (port, Emit (Next item) at)) }
+        requires place { self.old.count < 4294967295 }
+        ensures stands { (items : List Item) (port : ℕ) (item : Item) (rules : Rules) (H : History) → has_room rules.limits (item_count rules H) (Next item) ≡ true
+            → StandsFor (subject_on items self.old) rules H → StandsFor (subject_on items self.new) rules (H ▹ (port, Emit (Next item) at)) }
+        ensures count { self.new.count ≡ self.old.count + 1 }
         ensures stamps { self.new.stamps ≡ self.old.stamps }
         ensures kind { self.new.kind ≡ self.old.kind }
     {
-        self.stamp = self.stamp.max(at);
+        let later = self.stamp.max(at);
+        self.count_item(later);
     }
 
     /// What `admit` would offer, refused alike; the texts are copies. Nothing is changed.
@@ -203,7 +237,7 @@ impl TapeSubject {
         }
         match note {
             Note::Next(item) => {
-                let item = item_offered(&self.kind, port, item)?;
+                let item = item_offered(&self.kind, port, self.count, item)?;
                 Ok(Offer { item, end: None })
             }
             terminal => {
@@ -236,6 +270,7 @@ impl TapeSubject {
         ensures within { length self.new.stamps ≤ length self.old.stamps }
         ensures kind { self.new.kind ≡ self.old.kind }
         ensures terminal { self.new.terminal ≡ self.old.terminal }
+        ensures count { self.new.count ≡ self.old.count }
     {
         self.pass_to(at);
     }
@@ -268,6 +303,14 @@ impl TapeSubject {
         self.stamp
     }
 
+    /// How many items were accepted, which is the place of the next. It takes no memory.
+    #[inline] // asked for every item
+    pub fn items(&self) -> u32
+        ensures { result ≡ self.now.count }
+    {
+        self.count
+    }
+
     /// How many of the last items of the tape later joiners may need.
     pub fn keep(&self) -> usize
         ensures { result ≡ length self.now.stamps }
@@ -279,6 +322,7 @@ impl TapeSubject {
     fn pass_to(&mut self, at: u64)
         ensures kind { self.new.kind ≡ self.old.kind }
         ensures terminal { self.new.terminal ≡ self.old.terminal }
+        ensures count { self.new.count ≡ self.old.count }
         ensures state { (items : List Item) → length self.old.stamps ≤ length items → subject_on items self.new ≡ after_join (subject_on items self.old) at }
         ensures within { length self.new.stamps ≤ length self.old.stamps }
     {
@@ -288,16 +332,39 @@ impl TapeSubject {
         }
     }
 
+    // The item of a text that comes by a port, at the next place.
+    fn next_item(&self, port: u32, text: Text) -> Item
+        ensures { result ≡ record { from = port; place = self.now.count; text = text } }
+    {
+        Item {
+            from: port,
+            place: self.count,
+            text,
+        }
+    }
+
+    // An item more was accepted, at a stamp.
+    #[inline(always)] // two stores, once for each item
+    fn count_item(&mut self, stamp: u64)
+        requires { self.old.count < 4294967295 }
+        ensures { self.new ≡ record self.old { clock = stamp; count = self.old.count + 1 } }
+    {
+        self.stamp = stamp;
+        self.count += 1;
+    }
+
     // Takes an item. The text of what it offers is a copy.
     fn admit_item(&mut self, item: Item, at: u64, tape: &mut Tape) -> Result<Offer, Memory>
-        requires { length self.old.stamps ≤ length tape.old.items }
+        requires stamps { length self.old.stamps ≤ length tape.old.items }
+        requires next { item.place ≡ self.old.count }
+        requires place { self.old.count < 4294967295 }
         ensures err { OnErr result ((self.new ≡ self.old) × (tape.new ≡ tape.old)) }
         ensures state { OnOk result (subject_on tape.new.items self.new ≡ after_item (subject_on tape.old.items self.old) item at) }
         ensures offers { IfOk result (λ offer. offer_signals offer ≡ signals_by (subject_on tape.old.items self.old) item.from (Next item)) }
-        ensures tape { OnOk result (tape.new ≡ pushed_all tape.old (taped self.old.kind item.from (Next item))) }
+        ensures tape { OnOk result (tape.new ≡ pushed_all tape.old (taped self.old.kind item.from item.place (Next item))) }
         ensures within { length self.new.stamps ≤ length tape.new.items }
     {
-        let offered = item_offered(&self.kind, item.from, &item)?;
+        let offered = item_offered(&self.kind, item.from, item.place, &item)?;
         self.keep_item(item, at, tape)?;
         Ok(Offer {
             item: offered,
@@ -307,10 +374,11 @@ impl TapeSubject {
 
     // Keeps an item, of Async by itself and else on the tape.
     fn keep_item(&mut self, item: Item, at: u64, tape: &mut Tape) -> Result<(), Memory>
-        requires { length self.old.stamps ≤ length tape.old.items }
+        requires stamps { length self.old.stamps ≤ length tape.old.items }
+        requires place { self.old.count < 4294967295 }
         ensures err { OnErr result ((self.new ≡ self.old) × (tape.new ≡ tape.old)) }
         ensures state { OnOk result (subject_on tape.new.items self.new ≡ after_item (subject_on tape.old.items self.old) item at) }
-        ensures tape { OnOk result (tape.new ≡ pushed_all tape.old (taped self.old.kind item.from (Next item))) }
+        ensures tape { OnOk result (tape.new ≡ pushed_all tape.old (taped self.old.kind item.from item.place (Next item))) }
         ensures within { length self.new.stamps ≤ length tape.new.items }
     {
         if is_async(&self.kind) {
@@ -321,22 +389,23 @@ impl TapeSubject {
         let count = count_kept(&self.kind);
         reserve_stamp(&mut self.stamps, count)?;
         tape.push(item)?;
-        self.stamp = stamp;
         keep_stamp(&mut self.stamps, stamp, count);
         drop_old_stamps(&mut self.stamps, age_kept(&self.kind), stamp);
+        self.count_item(stamp);
         Ok(())
     }
 
     // Keeps an item by itself, in the place of the last one. It takes no memory.
     fn keep_own(&mut self, item: Item, at: u64)
-        requires { self.old.kind ≡ Async }
+        requires keeps_back { self.old.kind ≡ Async }
+        requires place { self.old.count < 4294967295 }
         ensures state { (items : List Item) → subject_on items self.new ≡ after_item (subject_on items self.old) item at }
         ensures stamps { self.new.stamps ≡ self.old.stamps }
         ensures kind { self.new.kind ≡ self.old.kind }
     {
         let stamp = self.stamp.max(at);
         self.own = Some(Kept { item, stamp });
-        self.stamp = stamp;
+        self.count_item(stamp);
     }
 
     // Takes the end.

@@ -7,7 +7,7 @@ use Rattle.rx_subject.proofs.tape_subject.TapeSubject.keep_end.Goals as goal
 pub returns-clause-state : goal.returns-clause-state
 returns-clause-state c = λ items within.
     let s = c.self.inside in
-    let v : TapeSubjectState = record { kind = s.kind; terminal = s.terminal; clock = s.stamp; own = own_of s.own; stamps = s.stamps.items } in
+    let v : TapeSubjectState = record { kind = s.kind; terminal = s.terminal; clock = s.stamp; count = s.count; own = own_of s.own; stamps = s.stamps.items } in
     let count = ap (λ (t : TapeSubjectState). length t.stamps) c.self.view_is in
     let clock = c.max-self-inside.result in
     let stamps = c.drop_old_stamps.ensures ∙ ap (λ (a : Option ℕ). drop (old_count a clock s.stamps.items) s.stamps.items) c.age_kept.ensures in

@@ -18,8 +18,8 @@ returns-in_ok-copy-in_default c =
     let terminal : terminal_in note ≡ Some note = is_terminal note c.in_default.not-Next in
     let item = c.in_ok-item-in_default.item in
     let end = c.in_ok-copy-in_default.field-0 in
-    let kept = subst (λ (v : TapeSubjectState). option_to_list item ≡ offers_by v.kind (unstamped (take 1 v.own)) port note) c.self.view_is (c.in_ok-item-in_default.ensures port terminal) in
-    let offered : (items : List Item) → option_to_list item ≡ offered_by (subject_on items t) port note = λ items. kept ∙ sym (ended-offers t.kind items t.own t.stamps port note) in
+    let kept = subst (λ (v : TapeSubjectState). option_to_list item ≡ offers_by v.kind (unstamped (take 1 v.own)) port v.count note) c.self.view_is (c.in_ok-item-in_default.ensures port c.self.inside.count terminal) in
+    let offered : (items : List Item) → option_to_list item ≡ offered_by (subject_on items t) port note = λ items. kept ∙ sym (ended-offers t.kind items t.own t.stamps port t.count note) in
     let offers : (items : List Item) → offer_signals (record { item = item; end = Some end }) ≡ signals_by (subject_on items t) port note = λ items.
     ap (λ xs. map Offered xs ++ ended_by (Some end)) (offered items)
     ∙ ap (λ e. map Offered (offered_by (subject_on items t) port note) ++ ended_by e) (ap Some c.in_ok-copy-in_default.ensures ∙ sym terminal) in
