@@ -4,8 +4,9 @@ use std::io::{ErrorKind, Write};
 use std::os::unix::net::UnixStream;
 use std::time::{Clock, Duration};
 
-/// How many bytes wait for a peer at most: 64 notes of the greatest length, a terminal, and the first line.
-pub const MOST_WAITING: usize = 66_970;
+/// How many bytes wait for a peer at most: 64 notes of the greatest length, in the second version, a terminal, and the first
+/// line.
+pub const MOST_WAITING: usize = 68_378;
 
 /// From so many bytes on, what is written goes out at once where nothing waits before it.
 const BLOCK: usize = 4_096;

@@ -28,6 +28,7 @@ A script is read from standard input, one line a command:
   END s, FAIL s why         completes a subject, or fails it
   DISPOSE s 0               lets observer 0 leave
   AT 1000                   sets the moment of what follows, in milliseconds
+  HELLO 2                   has items told with their place and port from now on
   QUIT                      ends the run
 
 Example:

@@ -16,8 +16,11 @@ const JOINED_LINE: usize = 18;
 // The most bytes of the line of a note in the first version.
 const NOTE_LINE: usize = 1040;
 
-// The most bytes of the line of an item in the second: two numbers of 32 bits more, each with a space.
+// The most bytes of the line of an item in the second.
 const PLACED_LINE: usize = 1062;
+
+// The most bytes of what stands before its text there: two numbers of 32 bits, each with a space.
+const ORIGIN: usize = 22;
 
 /// The line of a response, with its LF.
 pub fn reply_line(response: Response) -> LineBytes<REPLY_LINE>
@@ -98,33 +101,34 @@ pub(crate) fn placed_line(item: &Item) -> LineBytes<PLACED_LINE>
 {
     let mut line = LineBytes::new();
     line.put(b"NEXT ");
-    put_origin(&mut line, item);
+    line.put(item_origin(item).as_bytes());
     line.put(item.text.as_bytes());
     line.put(b"\n");
     line
 }
 
-// Puts what stands before the text of an item in the second version.
-fn put_origin(line: &mut LineBytes<PLACED_LINE>, item: &Item)
-    requires { length line.old ≤ 5 }
-    ensures bytes { line.new ≡ line.old ++ origin_of item.now }
-    ensures within { length line.new ≤ 27 }
+/// What stands before the text of an item in the second version: its place and its port, or two hyphens of a seed.
+pub fn item_origin(item: &Item) -> LineBytes<ORIGIN>
+    ensures { result ≡ origin_of item.now }
 {
+    let mut origin = LineBytes::new();
     if item.is_seed() {
-        return line.put(b"- - ");
+        origin.put(b"- - ");
+    } else {
+        put_number(&mut origin, item.place);
+        put_number(&mut origin, item.from);
     }
-    put_number(line, item.place);
-    put_number(line, item.from);
+    origin
 }
 
 // Puts the digits of a number and a space.
-fn put_number(line: &mut LineBytes<PLACED_LINE>, number: u32)
-    requires { length line.old ≤ 16 }
-    ensures bytes { line.new ≡ line.old ++ (decimal number ++ (32 ∷ [])) }
-    ensures within { length line.new ≤ length line.old + 11 }
+fn put_number(origin: &mut LineBytes<ORIGIN>, number: u32)
+    requires { length origin.old ≤ 11 }
+    ensures bytes { origin.new ≡ origin.old ++ (decimal number ++ (32 ∷ [])) }
+    ensures within { length origin.new ≤ length origin.old + 11 }
 {
     let mut digits = [0; MAX_DIGITS];
     let start = write_digits(number, &mut digits);
-    line.put(&digits[start..]);
-    line.put(b" ");
+    origin.put(&digits[start..]);
+    origin.put(b" ");
 }

@@ -8,18 +8,21 @@ use Rattle.rx_proto.proofs.Exact.{session_exact}
 use Rattle.rx_proto.specs.Bytes.{AppendsPrefix}
 use Rattle.rx_proto.specs.Printing.{reply_line, word_of_fault}
 use Rattle.rx_proto.specs.Reading.{HoldsText, Parses, session_read}
+use Rattle.rx_proto.specs.Versions.{response_to_hello, version_after}
 use Rattle.rx_proto.specs.declared.command.Command.{Command}
-use Rattle.rx_proto.specs.declared.command.Command.TheVariants.{Pub, End, Fail, Sub, Quit}
+use Rattle.rx_proto.specs.declared.command.Command.TheVariants.{Pub, End, Fail, Sub, Hello, Quit}
 use Rattle.rx_proto.specs.declared.line_error.BadLine.{BadLine}
 use Rattle.rx_proto.specs.declared.line_error.BadLine.TheVariants as bad
 use Rattle.rx_proto.specs.declared.line_error.LineError.{LineError}
 use Rattle.rx_proto.specs.declared.line_error.LineError.TheVariants.{Long, Syntax, Memory}
 use Rattle.rx_proto.specs.declared.response.Response.{Response}
 use Rattle.rx_proto.specs.declared.response.Response.TheVariants.{Done, Refused}
+use Rattle.rx_proto.specs.declared.version.Version.{Version}
 use Rattle.rx_session.specs.Lines.{TakesLine, without_cr}
 use Rattle.rx_session.specs.Sessions.{Parties, Place, Outcome, answered, Emits, Goes}
 use Rattle.rx_session.specs.Steps.{Advances, Goes as Steps}
 use Rattle.rx_session.specs.Turns.{hands, Tells, Quits, IsAt, Comes, Carries}
+use Rattle.rx_session.specs.declared.follow.Follow.{Follow}
 use Rattle.rx_session.specs.declared.follow.Follow.TheVariants.{Taken, Back}
 use Rattle.rx_session.specs.declared.input_end.InputEnd.{InputEnd}
 use Rattle.rx_session.specs.declared.line_state.LineState.{LineState}
@@ -38,81 +41,110 @@ same_outcome {D = D} {W = W} desk end end' back back' e b =
 
 module _ {D W : Type 0} (p : Parties D W) where
   -- what was told at the place, and bytes behind it
-  all_told : (at : Place D W) (desk : D) (writer : W) (held bytes : List ℕ) (is : IsAt p at (hands desk writer held)) → is.written ++ (held ++ bytes) ≡ at.told ++ bytes
-  all_told at desk writer held bytes is = sym (append_assoc is.written held bytes) ∙ ap (λ t. t ++ bytes) is.parts
+  all_told : (at : Place D W) (desk : D) (writer : W) (version : Version) (held bytes : List ℕ) (is : IsAt p at (hands desk writer version held)) → is.written ++ (held ++ bytes) ≡ at.told ++ bytes
+  all_told at desk writer version held bytes is = sym (append_assoc is.written held bytes) ∙ ap (λ t. t ++ bytes) is.parts
 
-  -- a response is told
-  pub told : (at : Place D W) (desk after : D) (writer : W) (held held_after : List ℕ) (response : Response) (result : Turned W) (says : Place D W → Type 0)
-      → IsAt p at (hands desk writer held) → Tells p.contents result writer held held_after (reply_line response)
-      → says (answered at after response) → Comes p says result after held_after
-  told at desk after writer held held_after response (On now) says is tells there = (
-    answered at after response,
+  -- the place behind a response, in this version
+  abbrev behind : Place D W → D → Version → Response → Place D W
+  behind at desk version response = record { desk = desk; writer = at.writer; version = version; told = at.told ++ reply_line response }
+
+  -- a response is told, from now on in this version
+  pub told_in : (at : Place D W) (desk after : D) (writer : W) (version then now : Version) (held held_after : List ℕ) (response : Response) (result : Turned W) (says : Place D W → Type 0)
+      → IsAt p at (hands desk writer version held) → then ≡ now → Tells p.contents result writer held held_after (reply_line response)
+      → says (behind at after then response) → Comes p says result after now held_after
+  told_in at desk after writer version then now held held_after response (On last) says is same tells there = (
+    behind at after then response,
     there,
     record {
       desk_is = refl;
+      version_is = same;
       written = is.written ++ tells.written;
-      since = Appends-trans (p.contents at.writer) (p.contents writer) (p.contents now) is.written tells.written is.since tells.told;
-      parts = append_assoc is.written tells.written held_after ∙ ap (λ t. is.written ++ t) tells.parts ∙ all_told at desk writer held (reply_line response) is;
+      since = Appends-trans (p.contents at.writer) (p.contents writer) (p.contents last) is.written tells.written is.since tells.told;
+      parts = append_assoc is.written tells.written held_after ∙ ap (λ t. is.written ++ t) tells.parts ∙ all_told at desk writer version held (reply_line response) is;
     },
   )
-  told at desk after writer held held_after response (Over end back) says is tells there = (
-    answered at after response,
+  told_in at desk after writer version then now held held_after response (Over end back) says is same tells there = (
+    behind at after then response,
     there,
     (
       tells.0,
-      subst (λ (bytes : List ℕ). AppendsPrefix (p.contents at.writer) (p.contents tells.0) bytes) (all_told at desk writer held (reply_line response) is)
+      subst (λ (bytes : List ℕ). AppendsPrefix (p.contents at.writer) (p.contents tells.0) bytes) (all_told at desk writer version held (reply_line response) is)
           (Prefix-behind (p.contents at.writer) (p.contents writer) (p.contents tells.0) is.written (held ++ reply_line response) is.since tells.3),
       same_outcome after end ends.WriteFault back (Some tells.0) tells.1 tells.2,
     ),
   )
 
+  -- a response is told
+  pub told : (at : Place D W) (desk after : D) (writer : W) (version : Version) (held held_after : List ℕ) (response : Response) (result : Turned W) (says : Place D W → Type 0)
+      → IsAt p at (hands desk writer version held) → Tells p.contents result writer held held_after (reply_line response)
+      → says (answered at after response) → Comes p says result after version held_after
+  told at desk after writer version held held_after response result says is tells there =
+      told_in at desk after writer version at.version version held held_after response result says is is.version_is tells there
+
   -- the desk emitted a note, and its response is told
-  pub emitted : (at : Place D W) (name : List ℕ) (note : Note) (desk after : D) (writer : W) (held held_after : List ℕ) (response : Response) (result : Turned W)
-      → IsAt p at (hands desk writer held) → p.emits desk name note response after → Tells p.contents result writer held held_after (reply_line response)
-      → Comes p (Emits p at name note) result after held_after
-  emitted at name note desk after writer held held_after response result is emits tells =
-      told at desk after writer held held_after response result (Emits p at name note) is tells
+  pub emitted : (at : Place D W) (name : List ℕ) (note : Note) (desk after : D) (writer : W) (version : Version) (held held_after : List ℕ) (response : Response) (result : Turned W)
+      → IsAt p at (hands desk writer version held) → p.emits desk name note response after → Tells p.contents result writer held held_after (reply_line response)
+      → Comes p (Emits p at name note) result after version held_after
+  emitted at name note desk after writer version held held_after response result is emits tells =
+      told at desk after writer version held held_after response result (Emits p at name note) is tells
       (response, after, subst (λ (d : D). p.emits d name note response after) (sym is.desk_is) emits, refl)
 
+  -- the version was set, and the response is told
+  pub greeted_by : (at : Place D W) (number : ℕ) (desk : D) (writer : W) (version now : Version) (held held_after : List ℕ) (response : Response) (result : Turned W)
+      → IsAt p at (hands desk writer version held) → response ≡ response_to_hello number → now ≡ version_after version number
+      → Tells p.contents result writer held held_after (reply_line response) → Comes p (Goes p (Ok (Hello number)) at) result desk now held_after
+  greeted_by at number desk writer version now held held_after response result is responds sets tells =
+      let then = version_after at.version number in
+      told_in at desk desk writer version then now held held_after response result (Goes p (Ok (Hello number)) at) is
+      (ap (λ (v : Version). version_after v number) is.version_is ∙ sym sets) tells
+      (ap (λ (d : D). behind at d then response) (sym is.desk_is) ∙ ap (λ (r : Response). behind at at.desk then r) responds)
+
   -- the writer faulted where all that is held was to be written
-  pub flush_faulted : (reading : Result Command BadLine) (at : Place D W) (desk : D) (writer mid : W) (held held_after : List ℕ)
-      → IsAt p at (hands desk writer held) → AppendsPrefix (p.contents writer) (p.contents mid) held
-      → Carries p reading at (Over ends.WriteFault (Some mid)) desk held_after
-  flush_faulted reading at desk writer mid held held_after is faulted = inl (
+  pub flush_faulted : (reading : Result Command BadLine) (at : Place D W) (desk : D) (writer mid : W) (version : Version) (held held_after : List ℕ)
+      → IsAt p at (hands desk writer version held) → AppendsPrefix (p.contents writer) (p.contents mid) held
+      → Carries p reading at (Over ends.WriteFault (Some mid)) desk version held_after
+  flush_faulted reading at desk writer mid version held held_after is faulted = inl (
     mid,
     subst (λ (bytes : List ℕ). AppendsPrefix (p.contents at.writer) (p.contents mid) bytes) is.parts
         (Prefix-behind (p.contents at.writer) (p.contents writer) (p.contents mid) is.written held is.since faulted),
     ap (λ (d : D). record { end = ends.WriteFault; desk = d; back = Some mid }) (sym is.desk_is),
   )
 
+  -- what the desk did is what it did at the place
+  followed_at : (at : Place D W) (desk : D) (name : List ℕ) (policy : Choice) (version : Version) (writer : W) (follow : Follow W) (after : D)
+      → at.desk ≡ desk → at.version ≡ version → p.follows desk name policy version writer follow after → p.follows at.desk name policy at.version writer follow after
+  followed_at at desk name policy version writer follow after d v follows =
+      subst (λ (u : Version). p.follows at.desk name policy u writer follow after) (sym v)
+      (subst (λ (e : D). p.follows e name policy version writer follow after) (sym d) follows)
+
   -- the desk has the writer, which had all that was told to it
-  pub handed_over : (at : Place D W) (name : List ℕ) (policy : Choice) (desk after : D) (writer mid : W) (held held_after : List ℕ)
-      → IsAt p at (hands desk writer held) → Appends (p.contents writer) (p.contents mid) held → p.follows desk name policy mid Taken after
-      → Carries p (Ok (Sub name policy)) at (Over ends.HandedOver None) after held_after
-  handed_over at name policy desk after writer mid held held_after is flushed follows = inr (inl (
+  pub handed_over : (at : Place D W) (name : List ℕ) (policy : Choice) (desk after : D) (writer mid : W) (version : Version) (held held_after : List ℕ)
+      → IsAt p at (hands desk writer version held) → Appends (p.contents writer) (p.contents mid) held → p.follows desk name policy version mid Taken after
+      → Carries p (Ok (Sub name policy)) at (Over ends.HandedOver None) after version held_after
+  handed_over at name policy desk after writer mid version held held_after is flushed follows = inr (inl (
     mid,
     after,
     subst (λ (bytes : List ℕ). Appends (p.contents at.writer) (p.contents mid) bytes) is.parts
         (Appends-trans (p.contents at.writer) (p.contents writer) (p.contents mid) is.written held is.since flushed),
-    subst (λ (d : D). p.follows d name policy mid Taken after) (sym is.desk_is) follows,
+    followed_at at desk name policy version mid Taken after is.desk_is is.version_is follows,
     refl,
   ))
 
   -- the writer came back
-  pub came_back : (at : Place D W) (name : List ℕ) (policy : Choice) (desk after : D) (writer mid back : W) (held none held_after : List ℕ) (response : Response) (result : Turned W)
-      → IsAt p at (hands desk writer held) → Appends (p.contents writer) (p.contents mid) held → none ≡ []
-      → p.follows desk name policy mid (Back response back) after → Tells p.contents result back none held_after (reply_line response)
-      → Carries p (Ok (Sub name policy)) at result after held_after
-  came_back at name policy desk after writer mid back held none held_after response result is flushed empty follows tells =
-      let now : Place D W = record { desk = after; writer = back; told = reply_line response } in
+  pub came_back : (at : Place D W) (name : List ℕ) (policy : Choice) (desk after : D) (writer mid back : W) (version : Version) (held none held_after : List ℕ) (response : Response) (result : Turned W)
+      → IsAt p at (hands desk writer version held) → Appends (p.contents writer) (p.contents mid) held → none ≡ []
+      → p.follows desk name policy version mid (Back response back) after → Tells p.contents result back none held_after (reply_line response)
+      → Carries p (Ok (Sub name policy)) at result after version held_after
+  came_back at name policy desk after writer mid back version held none held_after response result is flushed empty follows tells =
+      let now : Place D W = record { desk = after; writer = back; version = at.version; told = reply_line response } in
       let caught : Appends (p.contents at.writer) (p.contents mid) at.told =
       subst (λ (bytes : List ℕ). Appends (p.contents at.writer) (p.contents mid) bytes) is.parts
       (Appends-trans (p.contents at.writer) (p.contents writer) (p.contents mid) is.written held is.since flushed) in
       let goes : Goes p (Ok (Sub name policy)) at now =
-      (mid, response, caught, subst (λ (d : D). p.follows d name policy mid (Back response back) after) (sym is.desk_is) follows, refl) in
-      let P : Turned W → Type 0 = λ r. Tells p.contents r back none held_after (reply_line response) → Carries p (Ok (Sub name policy)) at r after held_after in
+      (mid, response, caught, followed_at at desk name policy version mid (Back response back) after is.desk_is is.version_is follows, refl, refl) in
+      let P : Turned W → Type 0 = λ r. Tells p.contents r back none held_after (reply_line response) → Carries p (Ok (Sub name policy)) at r after version held_after in
       elim result as P [
-        | On last ↦ λ t. (now, goes, record { desk_is = refl; written = t.written; since = t.told; parts = t.parts ∙ ap (λ xs. xs ++ reply_line response) empty })
+        | On last ↦ λ t. (now, goes, record { desk_is = refl; version_is = is.version_is; written = t.written; since = t.told; parts = t.parts ∙ ap (λ xs. xs ++ reply_line response) empty })
         | Over end other ↦ λ t. inr (inr (
           now,
           goes,
@@ -125,18 +157,18 @@ module _ {D W : Type 0} (p : Parties D W) where
       ] tells
 
   -- a line is carried out by what a session comes to
-  pub carries : (reading : Result Command BadLine) (at : Place D W) (says : Place D W → Type 0) (result : Turned W) (desk : D) (held : List ℕ)
-      → ((after : Place D W) → says after → Goes p reading at after) → Comes p says result desk held → Carries p reading at result desk held
-  carries reading at says (On writer) desk held goes comes = (comes.0, goes comes.0 comes.1, comes.2)
-  carries reading at says (Over end back) desk held goes comes = inr (inr (comes.0, goes comes.0 comes.1, comes.2))
+  pub carries : (reading : Result Command BadLine) (at : Place D W) (says : Place D W → Type 0) (result : Turned W) (desk : D) (version : Version) (held : List ℕ)
+      → ((after : Place D W) → says after → Goes p reading at after) → Comes p says result desk version held → Carries p reading at result desk version held
+  carries reading at says (On writer) desk version held goes comes = (comes.0, goes comes.0 comes.1, comes.2)
+  carries reading at says (Over end back) desk version held goes comes = inr (inr (comes.0, goes comes.0 comes.1, comes.2))
 
   -- the same of a line that was parsed
-  pub carries_parsed : (parsed : Result Command LineError) (command : Command) (reading : Result Command BadLine) (at : Place D W) (result : Turned W) (desk : D) (held : List ℕ)
-      → parsed ≡ Ok command → Parses HoldsText parsed reading → Carries p (Ok command) at result desk held → Carries p reading at result desk held
-  carries_parsed parsed command reading at result desk held is parses there =
+  pub carries_parsed : (parsed : Result Command LineError) (command : Command) (reading : Result Command BadLine) (at : Place D W) (result : Turned W) (desk : D) (version : Version) (held : List ℕ)
+      → parsed ≡ Ok command → Parses HoldsText parsed reading → Carries p (Ok command) at result desk version held → Carries p reading at result desk version held
+  carries_parsed parsed command reading at result desk version held is parses there =
       let P : Result Command LineError → Type 0 = λ q. Parses HoldsText q reading in
       let read : reading ≡ Ok command = subst P is parses in
-      let C : Result Command BadLine → Type 0 = λ r. Carries p r at result desk held in
+      let C : Result Command BadLine → Type 0 = λ r. Carries p r at result desk version held in
       subst C (sym read) there
 
   -- a line that is refused
@@ -148,27 +180,28 @@ module _ {D W : Type 0} (p : Parties D W) where
   refused_goes Memory (Ok (End name)) at after is e = absurd is
   refused_goes Memory (Ok (Fail name text)) at after is e = inr e
   refused_goes Memory (Ok (Sub name policy)) at after is e = absurd is
+  refused_goes Memory (Ok (Hello number)) at after is e = absurd is
   refused_goes Memory (Ok Quit) at after is e = absurd is
   refused_goes Memory (Err fault) at after is e = absurd is
 
   -- a refusal is told
-  pub refused : (parsed : Result Command LineError) (fault : LineError) (reading : Result Command BadLine) (at : Place D W) (desk : D) (writer : W) (held held_after : List ℕ) (response : Response) (result : Turned W)
-      → parsed ≡ Err fault → Parses HoldsText parsed reading → response ≡ Refused (word_of_fault fault) → IsAt p at (hands desk writer held)
-      → Tells p.contents result writer held held_after (reply_line response) → Carries p reading at result desk held_after
-  refused parsed fault reading at desk writer held held_after response result failed parses by is tells =
+  pub refused : (parsed : Result Command LineError) (fault : LineError) (reading : Result Command BadLine) (at : Place D W) (desk : D) (writer : W) (version : Version) (held held_after : List ℕ) (response : Response) (result : Turned W)
+      → parsed ≡ Err fault → Parses HoldsText parsed reading → response ≡ Refused (word_of_fault fault) → IsAt p at (hands desk writer version held)
+      → Tells p.contents result writer held held_after (reply_line response) → Carries p reading at result desk version held_after
+  refused parsed fault reading at desk writer version held held_after response result failed parses by is tells =
       let P : Result Command LineError → Type 0 = λ q. Parses HoldsText q reading in
       let says : Place D W → Type 0 = λ after. after ≡ answered at at.desk (Refused (word_of_fault fault)) in
-      carries reading at says result desk held_after (λ after e. refused_goes fault reading at after (subst P failed parses) e)
-      (told at desk desk writer held held_after response result says is tells
+      carries reading at says result desk version held_after (λ after e. refused_goes fault reading at after (subst P failed parses) e)
+      (told at desk desk writer version held held_after response result says is tells
       (ap (λ (d : D). answered at d response) (sym is.desk_is) ∙ ap (λ r. answered at at.desk r) by))
 
   -- a session quits
-  pub quits : (at : Place D W) (desk : D) (writer : W) (held held_after : List ℕ) (result : Turned W) → IsAt p at (hands desk writer held) → Quits p.contents result writer held
-      → Carries p (Ok Quit) at result desk held_after
-  quits at desk writer held held_after (On after) is q = absurd q
-  quits at desk writer held held_after (Over end back) is q =
+  pub quits : (at : Place D W) (desk : D) (writer : W) (version : Version) (held held_after : List ℕ) (result : Turned W) → IsAt p at (hands desk writer version held) → Quits p.contents result writer held
+      → Carries p (Ok Quit) at result desk version held_after
+  quits at desk writer version held held_after (On after) is q = absurd q
+  quits at desk writer version held held_after (Over end back) is q =
       let then : Place D W = answered at at.desk Done in
-      let whole = all_told at desk writer held (reply_line Done) is in
+      let whole = all_told at desk writer version held (reply_line Done) is in
       let same : (e : SessionEnd) → end ≡ e → ◌≡◌ {A = Outcome D W} (record { end = end; desk = desk; back = back }) (record { end = e; desk = at.desk; back = Some q.0 }) =
       λ e ended. same_outcome desk end e back (Some q.0) ended q.1 ∙ ap (λ (d : D). record { end = e; desk = d; back = Some q.0 }) (sym is.desk_is) in
       inr (inl (elim q.2 [

@@ -5,6 +5,8 @@ use Rattle.std.specs.Io.KnownBytes.{Appends, Consumes}
 use Rattle.rx_proto.specs.Bytes.{AppendsPrefix}
 use Rattle.rx_proto.specs.LineFeeds.{HasNoLf}
 use Rattle.rx_proto.specs.Reading.{session_read}
+use Rattle.rx_proto.specs.declared.version.Version.{Version}
+use Rattle.rx_proto.specs.declared.version.Version.TheVariants.{One}
 use Rattle.rx_session.specs.Bytes.{Holds, Loses}
 use Rattle.rx_session.specs.Lines.{lines_of, without_cr}
 use Rattle.rx_session.specs.Sessions.{Parties, Place, Outcome, Serves, Session, Faults, end_of}
@@ -38,23 +40,23 @@ module _ {D W : Type 0} (p : Parties D W) where
 
   -- at first
   pub SoFar-begun : (desk : D) (writer : W) (read_old : Option (List ℕ)) (held rest : List ℕ) → held ≡ [] → rest ≡ []
-      → SoFar (record { desk = desk; writer = writer; told = [] }) read_old read_old (hands desk writer held) rest
+      → SoFar (record { desk = desk; writer = writer; version = One; told = [] }) read_old read_old (hands desk writer One held) rest
   SoFar-begun desk writer read_old held rest nothing none =
-      let start : Place D W = record { desk = desk; writer = writer; told = [] } in
+      let start : Place D W = record { desk = desk; writer = writer; version = One; told = [] } in
       record {
         read = [];
         consumed = Consumes-nil read_old;
         at = start;
-        is_at = record { desk_is = refl; written = []; since = Appends-nil (p.contents writer); parts = nothing };
+        is_at = record { desk_is = refl; version_is = refl; written = []; since = Appends-nil (p.contents writer); parts = nothing };
         goes_on = λ left input out more serves.
             let P : List ℕ → Type 0 = λ r. Serves p left input start (lines_of (r ++ more)) out in subst P none serves;
       }
 
   -- what was held was written, or a front of it
-  pub SoFar-put : (start : Place D W) (read_old read_now : Option (List ℕ)) (desk : D) (writer after : W) (held held_after rest rest_after : List ℕ)
-      → SoFar start read_old read_now (hands desk writer held) rest → Holds held held_after (p.contents writer) (p.contents after) [] → rest_after ≡ rest
-      → SoFar start read_old read_now (hands desk after held_after) rest_after
-  SoFar-put start read_old read_now desk writer after held held_after rest rest_after h holds same =
+  pub SoFar-put : (start : Place D W) (read_old read_now : Option (List ℕ)) (desk : D) (writer after : W) (version : Version) (held held_after rest rest_after : List ℕ)
+      → SoFar start read_old read_now (hands desk writer version held) rest → Holds held held_after (p.contents writer) (p.contents after) [] → rest_after ≡ rest
+      → SoFar start read_old read_now (hands desk after version held_after) rest_after
+  SoFar-put start read_old read_now desk writer after version held held_after rest rest_after h holds same =
       let is = h.is_at in
       record {
         read = h.read;
@@ -62,6 +64,7 @@ module _ {D W : Type 0} (p : Parties D W) where
         at = h.at;
         is_at = record {
           desk_is = is.desk_is;
+          version_is = is.version_is;
           written = is.written ++ holds.written;
           since = Appends-trans (p.contents h.at.writer) (p.contents writer) (p.contents after) is.written holds.written is.since holds.told;
           parts = append_assoc is.written holds.written held_after ∙ ap (λ xs. is.written ++ xs) (holds.parts ∙ append-nil held) ∙ is.parts;
@@ -83,10 +86,10 @@ module _ {D W : Type 0} (p : Parties D W) where
       (h.read ++ read, Consumes-trans read_old read_now read_new h.read read h.consumed told, h.goes_on read_new input out read serves)
 
   -- the writer faulted before the next line
-  pub over-fault : (start : Place D W) (read_old read_now : Option (List ℕ)) (input : Option InputEnd) (desk : D) (writer after : W) (held held_after rest : List ℕ)
-      → SoFar start read_old read_now (hands desk writer held) rest → Loses held held_after (p.contents writer) (p.contents after) []
+  pub over-fault : (start : Place D W) (read_old read_now : Option (List ℕ)) (input : Option InputEnd) (desk : D) (writer after : W) (version : Version) (held held_after rest : List ℕ)
+      → SoFar start read_old read_now (hands desk writer version held) rest → Loses held held_after (p.contents writer) (p.contents after) []
       → (all : List ℕ) × Consumes read_old read_now all × Serves p read_now input start (lines_of all) (record { end = ends.WriteFault; desk = desk; back = Some after })
-  over-fault start read_old read_now input desk writer after held held_after rest h loses =
+  over-fault start read_old read_now input desk writer after version held held_after rest h loses =
       let is = h.is_at in
       let out : Outcome D W = record { end = ends.WriteFault; desk = desk; back = Some after } in
       let front : AppendsPrefix (p.contents writer) (p.contents after) held =
@@ -97,18 +100,16 @@ module _ {D W : Type 0} (p : Parties D W) where
             (Prefix-behind (p.contents h.at.writer) (p.contents writer) (p.contents after) is.written held is.since front),
         ap (λ (d : D). record { end = ends.WriteFault; desk = d; back = Some after }) (sym is.desk_is),
       ) in
-      whole start read_old read_now read_now (hands desk writer held) rest [] input out h (Consumes-nil read_now) (Serves-fault read_now input h.at (lines_of (rest ++ [])) out faults)
+      whole start read_old read_now read_now (hands desk writer version held) rest [] input out h (Consumes-nil read_now) (Serves-fault read_now input h.at (lines_of (rest ++ [])) out faults)
 
   -- a line was carried out, and the session goes on
-  pub SoFar-turn : (start : Place D W) (read_old read_now read_new : Option (List ℕ)) (before : Hands D W) (desk : D) (writer : W) (held : List ℕ) (lines lines_after : LineState) (after : Hands D W)
-      → SoFar start read_old read_now before (unread lines) → after.desk ≡ desk → after.held ≡ held → Turns p (On writer) before after read_now read_new lines lines_after
-      → SoFar start read_old read_new (hands desk writer held) (unread lines_after)
-  SoFar-turn start read_old read_now read_new before desk writer held lines lines_after after h same_desk same_held (inl turn) =
+  pub SoFar-turn : (start : Place D W) (read_old read_now read_new : Option (List ℕ)) (before : Hands D W) (writer : W) (lines lines_after : LineState) (after : Hands D W)
+      → SoFar start read_old read_now before (unread lines) → Turns p (On writer) before after read_now read_new lines lines_after
+      → SoFar start read_old read_new (hands after.desk writer after.version after.held) (unread lines_after)
+  SoFar-turn start read_old read_now read_new before writer lines lines_after after h (inl turn) =
       let takes = turn.takes in
       let line = without_cr takes.line in
-      let P : D → Type 0 = λ d. Carries p (session_read line) h.at (On writer) d after.held in
-      let Q : List ℕ → Type 0 = λ bytes. Carries p (session_read line) h.at (On writer) desk bytes in
-      let carried : Carries p (session_read line) h.at (On writer) desk held = subst Q same_held (subst P same_desk (takes.said h.at h.is_at)) in
+      let carried : Carries p (session_read line) h.at (On writer) after.desk after.version after.held = takes.said h.at h.is_at in
       record {
         read = h.read ++ takes.read;
         consumed = Consumes-trans read_old read_now read_new h.read takes.read h.consumed takes.told;
@@ -122,7 +123,7 @@ module _ {D W : Type 0} (p : Parties D W) where
             let S : List ℕ → Type 0 = λ xs. Serves p left input start (lines_of xs) out in
             subst S (sym (append_assoc h.read takes.read more)) (h.goes_on left input out (takes.read ++ more) all);
       }
-  SoFar-turn start read_old read_now read_new before desk writer held lines lines_after after h same_desk same_held (inr turn) = cc
+  SoFar-turn start read_old read_now read_new before writer lines lines_after after h (inr turn) = cc
 
   -- the session ended by a line
   Serves-ends : (left : Option (List ℕ)) (input : Option InputEnd) (at : Place D W) (line : List ℕ) (lines : List (List ℕ)) (out : Outcome D W)
@@ -166,6 +167,6 @@ module _ {D W : Type 0} (p : Parties D W) where
 
   -- the whole session
   pub as_session : (read_old read_new : Option (List ℕ)) (input : Option InputEnd) (desk : D) (writer : W) (out : Outcome D W)
-      → ((all : List ℕ) × Consumes read_old read_new all × Serves p read_new input (record { desk = desk; writer = writer; told = [] }) (lines_of all) out)
+      → ((all : List ℕ) × Consumes read_old read_new all × Serves p read_new input (record { desk = desk; writer = writer; version = One; told = [] }) (lines_of all) out)
       → Session p read_old read_new input desk writer out
   as_session read_old read_new input desk writer out all = record { read = all.0; consumed = all.1; served = all.2 }

@@ -7,6 +7,7 @@ use Rattle.rx_proto.specs.Reading.{session_read}
 use Rattle.rx_proto.specs.declared.command.Command.{Command}
 use Rattle.rx_proto.specs.declared.line_error.BadLine.{BadLine}
 use Rattle.rx_proto.specs.declared.response.Response.TheVariants.{Done}
+use Rattle.rx_proto.specs.declared.version.Version.{Version}
 use Rattle.rx_session.specs.Bytes.{Holds}
 use Rattle.rx_session.specs.Lines.{TakesLine, TakesNoLine}
 use Rattle.rx_session.specs.Sessions.{Parties, Place, Outcome, Goes, Faults, Stops, IsLeft, end_of}
@@ -17,15 +18,16 @@ use Rattle.rx_session.specs.declared.session_end.SessionEnd.TheVariants as ends
 use Rattle.rx_session.specs.declared.serving.Turned.{Turned}
 use Rattle.rx_session.specs.declared.serving.Turned.TheVariants.{On, Over}
 
--- what a session has in hand: its desk, its writer, and what is held for that
+-- what a session has in hand: its desk, its writer, its version, and what is held for the writer
 pub record Hands (D W : Type 0) : Type 0 where
   pub desk : D
   pub writer : W
+  pub version : Version
   pub held : List ℕ
 
--- these three
-abbrev pub hands : {D W : Type 0} → D → W → List ℕ → Hands D W
-hands desk writer held = record { desk = desk; writer = writer; held = held }
+-- these four
+abbrev pub hands : {D W : Type 0} → D → W → Version → List ℕ → Hands D W
+hands desk writer version held = record { desk = desk; writer = writer; version = version; held = held }
 
 -- what telling some bytes to a writer did: they are held or written, or the writer faulted
 abbrev pub Tells : {W : Type 0} → (W → Option (List ℕ)) → Turned W → W → List ℕ → List ℕ → List ℕ → Type 0
@@ -42,31 +44,32 @@ Quits {W = W} contents (Over end back) writer held =
     ⊎ ((end ≡ ends.WriteFault) × AppendsPrefix (contents writer) (contents after) (held ++ reply_line Done)))
 
 module _ {D W : Type 0} (p : Parties D W) where
-  -- the session stands at a place: the desk is the same, and the writer has what was told to it but for what is held
+  -- the session stands at a place: desk and version are the same, and the writer has what was told to it but for what is held
   pub record IsAt (at : Place D W) (now : Hands D W) : Type 0 where
     pub desk_is : at.desk ≡ now.desk
+    pub version_is : at.version ≡ now.version
     pub written : List ℕ
     pub since : Appends (p.contents at.writer) (p.contents now.writer) written
     pub parts : written ++ now.held ≡ at.told
 
   -- the session came to a place of which something is said, and stands there or met a fault of the writer
-  abbrev pub Comes : (Place D W → Type 0) → Turned W → D → List ℕ → Type 0
-  Comes says (On writer) desk held = (after : Place D W) × says after × IsAt after (hands desk writer held)
-  Comes says (Over end back) desk held = (after : Place D W) × says after × Faults p after (record { end = end; desk = desk; back = back })
+  abbrev pub Comes : (Place D W → Type 0) → Turned W → D → Version → List ℕ → Type 0
+  Comes says (On writer) desk version held = (after : Place D W) × says after × IsAt after (hands desk writer version held)
+  Comes says (Over end back) desk version held = (after : Place D W) × says after × Faults p after (record { end = end; desk = desk; back = back })
 
   -- the session ended by a line that was read so, or by a fault of the writer before or behind it
   abbrev pub Ends : Result Command BadLine → Place D W → Outcome D W → Type 0
   Ends reading at out = Faults p at out ⊎ Stops p reading at out ⊎ ((after : Place D W) × Goes p reading at after × Faults p after out)
 
   -- what carrying out a line did that was read so
-  abbrev pub Carries : Result Command BadLine → Place D W → Turned W → D → List ℕ → Type 0
-  Carries reading at (On writer) desk held = (after : Place D W) × Goes p reading at after × IsAt after (hands desk writer held)
-  Carries reading at (Over end back) desk held = Ends reading at (record { end = end; desk = desk; back = back })
+  abbrev pub Carries : Result Command BadLine → Place D W → Turned W → D → Version → List ℕ → Type 0
+  Carries reading at (On writer) desk version held = (after : Place D W) × Goes p reading at after × IsAt after (hands desk writer version held)
+  Carries reading at (Over end back) desk version held = Ends reading at (record { end = end; desk = desk; back = back })
 
   -- the next line was taken and carried out, from wherever the session stood
   pub record TakesTurn (result : Turned W) (before after : Hands D W) (read_old read_new : Option (List ℕ)) (lines lines_after : LineState) : Type 0 where
     pub takes : TakesLine read_old read_new (unread lines) (unread lines_after)
-        (λ line. (at : Place D W) → IsAt at before → Carries (session_read line) at result after.desk after.held)
+        (λ line. (at : Place D W) → IsAt at before → Carries (session_read line) at result after.desk after.version after.held)
     pub goes_on : GoesOn lines lines_after
 
   -- there was no line any more

@@ -1,6 +1,6 @@
 use crate::Follow;
 use rx_note::{Note, Policy};
-use rx_proto::{Name, Response};
+use rx_proto::{Name, Response, Version};
 
 /// To whom a session passes its commands. Its relations say what its calls answer and what they leave of it.
 pub trait Desk<W> {
@@ -8,17 +8,18 @@ pub trait Desk<W> {
     ghost use Rattle.rx_note.specs.Choices.{Choice};
     ghost use Rattle.rx_note.specs.declared.note.Note.{Note};
     ghost use Rattle.rx_proto.specs.declared.response.Response.{Response};
+    ghost use Rattle.rx_proto.specs.declared.version.Version.{Version};
     ghost use Rattle.rx_session.specs.declared.follow.Follow.{Follow};
 
     ghost emits: { Self → List ℕ → Note → Response → Self → Type 0 };
 
-    ghost follows: { Self → List ℕ → Choice → W → Follow W → Self → Type 0 };
+    ghost follows: { Self → List ℕ → Choice → Version → W → Follow W → Self → Type 0 };
 
     /// Emits a note at the subject of this name.
     fn emit(&mut self, name: &Name, note: Note) -> Response
         ensures { emits self.old name.now note result self.new };
 
-    /// Joins an observer at the subject of this name, which is given its notes by this writer.
-    fn follow(&mut self, name: &Name, policy: Policy, writer: W) -> Follow<W>
-        ensures { follows self.old name.now policy writer result self.new };
+    /// Joins an observer at the subject of this name, which is given its notes by this writer, in this version.
+    fn follow(&mut self, name: &Name, policy: Policy, version: Version, writer: W) -> Follow<W>
+        ensures { follows self.old name.now policy version writer result self.new };
 }

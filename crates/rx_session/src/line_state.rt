@@ -52,7 +52,7 @@ impl LineState {
 
     /// Tells the next line where that was read to its LF already, so that no read is made. None where the next step makes a
     /// read or tells an end. Lets go of the line last told.
-    #[inline]
+    #[inline] // once for each line that a script has in hand
     pub fn known(&mut self) -> Option<Step>
         ensures knows { Knows result self.old self.new }
         ensures reads { self.new.reads ≡ self.old.reads }
@@ -70,7 +70,7 @@ impl LineState {
 
     /// Tells the next line, for which it reads as often as it must, or the end. After an end no further read is made,
     /// and the same end is told again.
-    #[inline(never)]
+    #[inline(never)] // once for each block, or for each line of a session
     pub fn advance<R: Read>(&mut self, reader: &mut R) -> Step
         ensures advances { Advances result (R.remaining reader.old) (R.remaining reader.new) self.old self.new }
         ensures no_read { HasLf (unread self.old) → self.new.reads ≡ self.old.reads }
@@ -101,7 +101,7 @@ impl LineState {
     }
 
     // Tells the line of so many bytes at the front of the window, behind which its LF stands.
-    #[inline]
+    #[inline] // a part of `known`
     fn step_at(&mut self, len: usize) -> Step
         requires within { len < length self.old.window }
         requires few { len < 65536 }
@@ -120,7 +120,7 @@ impl LineState {
         }
     }
 
-    #[inline]
+    #[inline] // a part of `known`
     fn let_go(&mut self)
         ensures taken { self.new.taken ≡ 0 }
         ensures window { self.new.window ≡ unread self.old }

@@ -4,8 +4,8 @@ ghost use Rattle.rx_proto.specs.Bytes.{Writes};
 ghost use Rattle.rx_proto.specs.Printing.{note_line, reply_line};
 ghost use Rattle.rx_session.specs.Bytes.{Puts};
 
-use rx_note::Note;
-use rx_proto::{Response, WriteFault, reply_line, write_bytes};
+use rx_note::{Item, Note};
+use rx_proto::{Response, Version, WriteFault, item_origin, reply_line, write_bytes};
 use std::io::Write;
 use std::marker::Model;
 
@@ -45,7 +45,7 @@ impl Outbox {
     }
 
     /// Holds these bytes too, and writes first where there is no room for them. After a fault it holds nothing.
-    #[inline]
+    #[inline] // by far the most bytes find room
     pub fn put<W: Write>(&mut self, writer: &mut W, bytes: &[u8]) -> Result<(), WriteFault>
         ensures { Puts result self.old self.new (W.contents writer.old) (W.contents writer.new) bytes.now }
     {
@@ -58,7 +58,7 @@ impl Outbox {
 
     /// Makes room for 2,048 bytes more, which is more than any line that is written: where there is less, writes what it
     /// holds. After a fault it holds nothing. A line that is pushed in pieces takes one test of room so.
-    #[inline]
+    #[inline] // once for each line, and there is mostly room
     pub fn ready<W: Write>(&mut self, writer: &mut W) -> Result<(), WriteFault>
         ensures puts { Puts result self.old self.new (W.contents writer.old) (W.contents writer.new) [] }
         ensures room { OnOk result (length self.new + 2048 ≤ 65536) }
@@ -70,7 +70,7 @@ impl Outbox {
     }
 
     /// Holds these bytes too, for which there is room.
-    #[inline]
+    #[inline] // so that a piece of fixed size is copied by that
     pub fn push(&mut self, bytes: &[u8])
         requires { length self.old + length bytes.now ≤ 65536 }
         ensures { self.new ≡ self.old ++ bytes.now }
@@ -82,7 +82,7 @@ impl Outbox {
 
     /// Holds the first of these bytes too, so many, and has room for all of them: a copy of fixed size is quicker than one
     /// of the bytes that count.
-    #[inline]
+    #[inline] // so that the copy is one of fixed size
     pub fn push_padded<const N: usize>(&mut self, bytes: &[u8; N], len: usize)
         requires room { length self.old + N ≤ 65536 }
         requires within { len ≤ N }
@@ -92,11 +92,46 @@ impl Outbox {
         self.len += len;
     }
 
-    /// Holds the line of a note too, for which there is room.
-    #[inline(always)]
-    pub fn push_note(&mut self, note: &Note)
+    /// Holds the line of a note in a version too, for which there is room.
+    #[inline(always)] // once for each note that a script prints
+    pub fn push_note(&mut self, note: &Note, version: Version)
+        requires { length self.old + 1062 ≤ 65536 }
+        ensures { self.new ≡ self.old ++ note_line version note.now }
+    {
+        match version {
+            Version::One => self.push_plain(note),
+            Version::Two => self.push_placed(note),
+        }
+    }
+
+    // The same in the second version.
+    #[inline(never)] // so that the first version pays for it with one test alone
+    fn push_placed(&mut self, note: &Note)
+        requires { length self.old + 1062 ≤ 65536 }
+        ensures { self.new ≡ self.old ++ note_line Version.Two note.now }
+    {
+        match note {
+            Note::Next(item) => self.push_item(item),
+            _ => self.push_plain(note),
+        }
+    }
+
+    // Holds the line of an item in the second version too.
+    fn push_item(&mut self, item: &Item)
+        requires { length self.old + 1062 ≤ 65536 }
+        ensures { self.new ≡ self.old ++ note_line Version.Two (Note.Next item.now) }
+    {
+        self.push(b"NEXT ");
+        self.push(item_origin(item).as_bytes());
+        self.push(item.text.as_bytes());
+        self.push(b"\n");
+    }
+
+    // Holds the line of a note in the first version too.
+    #[inline(always)] // a part of `push_note`
+    fn push_plain(&mut self, note: &Note)
         requires { length self.old + 1040 ≤ 65536 }
-        ensures { self.new ≡ self.old ++ note_line note.now }
+        ensures { self.new ≡ self.old ++ note_line Version.One note.now }
     {
         match note {
             Note::Next(item) => {
@@ -113,7 +148,7 @@ impl Outbox {
     }
 
     /// Holds the line of a response too, as `put` does.
-    #[inline(always)]
+    #[inline(always)] // once for each line that is answered
     pub fn put_reply<W: Write>(
         &mut self,
         writer: &mut W,
@@ -130,7 +165,7 @@ impl Outbox {
     }
 
     // Holds the line of a response too, for which there is room. By far the most are OK, which is copied by a fixed size.
-    #[inline(always)]
+    #[inline(always)] // a part of `put_reply`
     fn push_reply(&mut self, response: Response)
         requires { length self.old + 2048 ≤ 65536 }
         ensures { self.new ≡ self.old ++ reply_line response }
@@ -141,9 +176,9 @@ impl Outbox {
         self.push_other_reply(response);
     }
 
-    // The same of any response. It is kept out of line, so that an OK stays short.
+    // The same of any response.
     #[cold]
-    #[inline(never)]
+    #[inline(never)] // so that an OK stays short
     fn push_other_reply(&mut self, response: Response)
         requires { length self.old + 2048 ≤ 65536 }
         ensures { self.new ≡ self.old ++ reply_line response }
@@ -181,7 +216,7 @@ impl Outbox {
     }
 
     #[cold]
-    #[inline(never)]
+    #[inline(never)] // once for each block
     fn write_out<W: Write>(&mut self, writer: &mut W) -> Result<(), WriteFault>
         ensures written { Writes result (W.contents writer.old) (W.contents writer.new) self.old }
         ensures empty { self.new ≡ [] }

@@ -14,14 +14,17 @@ ghost use Rattle.rx_session.specs.Turns.{Carries, Comes, IsAt, Quits, Tells, Tur
 use crate::{Desk, Follow, LineState, Outbox, SessionEnd, Step};
 use rx_heap::Heap;
 use rx_note::{Item, Note, Policy};
-use rx_proto::{Command, LineError, Name, Response, Word, WriteFault, parse_line_without_lf};
+use rx_proto::{
+    Command, LineError, Name, Response, Version, Word, WriteFault, parse_line_without_lf,
+};
 use std::io::{Read, Write};
 
 /// Serves a session: asks the desk the commands of the lines that are read, and writes the line of each response to the
 /// writer. It ends at QUIT, at a SUB by which the writer is gone, at the end of the input, at a fault, or where
 /// `max_reads` reads were made.
 ///
-/// A line that is refused is answered without the desk. What was answered is written and flushed before each read, and all
+/// A line that is refused is answered without the desk, and so is a HELLO, which sets the version of later SUBs; it is the
+/// first until then. What was answered is written and flushed before each read, and all
 /// of it before the desk is handed the writer. The writer then held comes back, except where the end is `HandedOver`.
 /// After a fault of the writer a prefix of the answers was written. What was read behind the last line that was carried
 /// out is discarded.
@@ -52,13 +55,14 @@ pub fn serve<R: Read, W: Write + Drop, D: Desk<W>>(
     ensures { Session (parties D.emits D.follows W.contents) (R.remaining reader.old) (R.remaining reader.new) lines.new.end desk.old writer (record { end = result.0; desk = desk.new; back = result.1 }) }
 {
     let mut outbox = Outbox::new();
+    let mut version = Version::One;
     let mut held = writer;
     loop {
         match catch_up(lines, &mut outbox, &mut held) {
             Ok(()) => {}
             Err(_) => return (SessionEnd::WriteFault, Some(held)),
         }
-        match turn(alloc, lines, reader, &mut outbox, desk, held) {
+        match turn(alloc, lines, reader, &mut outbox, desk, &mut version, held) {
             Turned::On(writer) => held = writer,
             Turned::Over(end, back) => return (end, back),
         }
@@ -98,15 +102,16 @@ fn turn<R: Read, W: Write + Drop, D: Desk<W>>(
     reader: &mut R,
     outbox: &mut Outbox,
     desk: &mut D,
+    version: &mut Version,
     writer: W,
 ) -> Turned<W>
     requires { lines.old.end ≡ None }
-    ensures { Turns (parties D.emits D.follows W.contents) result (hands desk.old writer outbox.old) (hands desk.new writer outbox.new) (R.remaining reader.old) (R.remaining reader.new) lines.old lines.new }
+    ensures { Turns (parties D.emits D.follows W.contents) result (hands desk.old writer version.old outbox.old) (hands desk.new writer version.new outbox.new) (R.remaining reader.old) (R.remaining reader.new) lines.old lines.new }
 {
     match lines.advance(reader) {
         Step::Line(len) => {
             let parsed = parse_line_without_lf(alloc, lines.line(len));
-            carry_out(outbox, desk, writer, parsed)
+            carry_out(outbox, desk, version, writer, parsed)
         }
         Step::Long => answer(outbox, writer, Response::Refused(Word::Long)),
         Step::EndOfInput => Turned::Over(SessionEnd::EndOfInput, Some(writer)),
@@ -119,25 +124,22 @@ fn turn<R: Read, W: Write + Drop, D: Desk<W>>(
 fn carry_out<W: Write + Drop, D: Desk<W>>(
     outbox: &mut Outbox,
     desk: &mut D,
+    version: &mut Version,
     writer: W,
     parsed: Result<Command, LineError>,
 ) -> Turned<W>
-    ensures { (reading : Result Command BadLine) (at : Place D W) → Parses HoldsText parsed reading → IsAt (parties D.emits D.follows W.contents) at (hands desk.old writer outbox.old)
-        → Carries (parties D.emits D.follows W.contents) reading at result desk.new outbox.new }
+    ensures { (reading : Result Command BadLine) (at : Place D W) → Parses HoldsText parsed reading → IsAt (parties D.emits D.follows W.contents) at (hands desk.old writer version.old outbox.old)
+        → Carries (parties D.emits D.follows W.contents) reading at result desk.new version.new outbox.new }
 {
     match parsed {
         Ok(Command::Pub { name, text }) => {
-            emit(
-                outbox,
-                desk,
-                writer,
-                &name,
-                Note::Next(Item { from: 0, text }),
-            )
+            let note = Note::Next(Item::new(text));
+            emit(outbox, desk, writer, &name, note)
         }
         Ok(Command::End { name }) => emit(outbox, desk, writer, &name, Note::Completed),
         Ok(Command::Fail { name, text }) => emit(outbox, desk, writer, &name, Note::Failed(text)),
-        Ok(Command::Sub { name, policy }) => follow(outbox, desk, writer, &name, policy),
+        Ok(Command::Sub { name, policy }) => follow(outbox, desk, *version, writer, &name, policy),
+        Ok(Command::Hello(number)) => answer(outbox, writer, version.hello(number)),
         Ok(Command::Quit) => quit(outbox, writer),
         Err(fault) => answer(outbox, writer, Response::Refused(fault.word())),
     }
@@ -151,8 +153,8 @@ fn emit<W: Write + Drop, D: Desk<W>>(
     name: &Name,
     note: Note,
 ) -> Turned<W>
-    ensures { (at : Place D W) → IsAt (parties D.emits D.follows W.contents) at (hands desk.old writer outbox.old)
-        → Comes (parties D.emits D.follows W.contents) (Emits (parties D.emits D.follows W.contents) at name.now note) result desk.new outbox.new }
+    ensures { (at : Place D W) (version : Version) → IsAt (parties D.emits D.follows W.contents) at (hands desk.old writer version outbox.old)
+        → Comes (parties D.emits D.follows W.contents) (Emits (parties D.emits D.follows W.contents) at name.now note) result desk.new version outbox.new }
 {
     let response = desk.emit(name, note);
     answer(outbox, writer, response)
@@ -162,19 +164,20 @@ fn emit<W: Write + Drop, D: Desk<W>>(
 fn follow<W: Write + Drop, D: Desk<W>>(
     outbox: &mut Outbox,
     desk: &mut D,
+    version: Version,
     writer: W,
     name: &Name,
     policy: Policy,
 ) -> Turned<W>
-    ensures { (at : Place D W) → IsAt (parties D.emits D.follows W.contents) at (hands desk.old writer outbox.old)
-        → Carries (parties D.emits D.follows W.contents) (Ok (Sub name.now policy)) at result desk.new outbox.new }
+    ensures { (at : Place D W) → IsAt (parties D.emits D.follows W.contents) at (hands desk.old writer version outbox.old)
+        → Carries (parties D.emits D.follows W.contents) (Ok (Sub name.now policy)) at result desk.new version outbox.new }
 {
     let mut writer = writer;
     match outbox.flush(&mut writer) {
         Ok(()) => {}
         Err(_) => return Turned::Over(SessionEnd::WriteFault, Some(writer)),
     }
-    match desk.follow(name, policy, writer) {
+    match desk.follow(name, policy, version, writer) {
         Follow::Taken => Turned::Over(SessionEnd::HandedOver, None),
         Follow::Back(response, back) => answer(outbox, back, response),
     }

@@ -6,6 +6,7 @@ use Rattle.std.specs.Io.KnownBytes.{Appends}
 use Rattle.rx_note.specs.declared.note.Note.{Note}
 use Rattle.rx_proto.specs.Bytes.{AppendsPrefix}
 use Rattle.rx_proto.specs.Printing.{joined_line, note_line}
+use Rattle.rx_proto.specs.declared.version.Version.{Version}
 use Rattle.rx_sink.specs.declared.flow.Flow.{Flow}
 use Rattle.rx_sink.specs.Acts.{Acts, Step, Takes, Flushes, notes_by, Makes, Took, raised}
 use Rattle.rx_sink.specs.Attachments.{Attachment, Why, TookLast, Detached, Closed, FailedAtStart, FailedAt, FailedAtFlush}
@@ -54,47 +55,63 @@ module _ {S Rest : Type 0} (acts : Acts S Rest) where
 
   -- LINES THAT ARE WRITTEN
 
-  -- the calls of a kind of sink that writes lines
-  pub record Writing (bytes : S → Option (List ℕ)) : Type 0 where
-    pub started : (s : S) (who : ℕ) (t : S) → acts.started s who t → Appends (bytes s) (bytes t) (joined_line who)
+  -- the calls of a kind of sink that writes lines in a version
+  pub record Writing (version : S → Version) (bytes : S → Option (List ℕ)) : Type 0 where
+    pub started : (s : S) (who : ℕ) (t : S) → acts.started s who t → Appends (bytes s) (bytes t) (joined_line who) × (version t ≡ version s)
     pub start_faulted : (s : S) (who : ℕ) (t : S) → acts.start_faulted s who t → AppendsPrefix (bytes s) (bytes t) (joined_line who)
-    pub took : (s : S) (note : Note) (flow : Flow) (t : S) → acts.took s note flow t → Appends (bytes s) (bytes t) (note_line note)
-    pub take_faulted : (s : S) (note : Note) (t : S) → acts.take_faulted s note t → AppendsPrefix (bytes s) (bytes t) (note_line note)
-    pub flushed : (s : S) (flow : Flow) (t : S) → acts.flushed s flow t → Appends (bytes s) (bytes t) []
+    pub took : (s : S) (note : Note) (flow : Flow) (t : S) → acts.took s note flow t → Appends (bytes s) (bytes t) (note_line (version s) note) × (version t ≡ version s)
+    pub take_faulted : (s : S) (note : Note) (t : S) → acts.take_faulted s note t → AppendsPrefix (bytes s) (bytes t) (note_line (version s) note)
+    pub flushed : (s : S) (flow : Flow) (t : S) → acts.flushed s flow t → Appends (bytes s) (bytes t) [] × (version t ≡ version s)
     pub flush_faulted : (s t : S) → acts.flush_faulted s t → Appends (bytes s) (bytes t) []
 
-  makes_write : (bytes : S → Option (List ℕ)) → Writing bytes
-      → (s : S) (steps : List Step) (t : S) → FoldsTo (Makes acts) s steps t → Appends (bytes s) (bytes t) (concat (map note_line (notes_by steps)))
-  makes_write bytes w s [] t made = subst (λ (u : S). Appends (bytes s) (bytes u) []) made (Appends-nil (bytes s))
-  makes_write bytes w s (Takes note flow ∷ steps) t made =
-      Appends-trans (bytes s) (bytes made.0) (bytes t) (note_line note) (concat (map note_line (notes_by steps))) (w.took s note flow made.0 made.1) (makes_write bytes w made.0 steps t made.2)
-  makes_write bytes w s (Flushes flow ∷ steps) t made =
-      Appends-trans (bytes s) (bytes made.0) (bytes t) [] (concat (map note_line (notes_by steps))) (w.flushed s flow made.0 made.1) (makes_write bytes w made.0 steps t made.2)
+  -- some steps write the lines of their notes in the version that the sink has, and leave it that version
+  abbrev WritesOn : (version : S → Version) (bytes : S → Option (List ℕ)) → Version → S → List Note → S → Type 0
+  WritesOn version bytes v s notes t = Appends (bytes s) (bytes t) (concat (map (note_line v) notes)) × (version t ≡ v)
 
-  took_write : (bytes : S → Option (List ℕ)) → Writing bytes
-      → (s : S) (who : ℕ) (more : List Note) (step : Option Step) (t : S) → Took acts s who more step t → Appends (bytes s) (bytes t) (lines_of who more)
-  took_write bytes w s who more step t took =
-      subst (λ (l : List Note). Appends (bytes s) (bytes t) (lines_of who l)) took.notes_are
-      (Appends-trans (bytes s) (bytes took.begun) (bytes t) (joined_line who) (concat (map note_line (notes_by took.steps))) (w.started s who took.begun took.start) (makes_write bytes w took.begun took.steps t took.made))
+  makes_write : (version : S → Version) (bytes : S → Option (List ℕ)) → Writing version bytes
+      → (v : Version) (s : S) (steps : List Step) (t : S) → version s ≡ v → FoldsTo (Makes acts) s steps t → WritesOn version bytes v s (notes_by steps) t
+  makes_write version bytes w v s [] t is made = (subst (λ (u : S). Appends (bytes s) (bytes u) []) made (Appends-nil (bytes s)), ap version (sym made) ∙ is)
+  makes_write version bytes w v s (Takes note flow ∷ steps) t is made =
+      let one = w.took s note flow made.0 made.1 in
+      let line : Appends (bytes s) (bytes made.0) (note_line v note) = subst (λ (u : Version). Appends (bytes s) (bytes made.0) (note_line u note)) is one.0 in
+      let rest = makes_write version bytes w v made.0 steps t (one.1 ∙ is) made.2 in
+      (Appends-trans (bytes s) (bytes made.0) (bytes t) (note_line v note) (concat (map (note_line v) (notes_by steps))) line rest.0, rest.1)
+  makes_write version bytes w v s (Flushes flow ∷ steps) t is made =
+      let one = w.flushed s flow made.0 made.1 in
+      let rest = makes_write version bytes w v made.0 steps t (one.1 ∙ is) made.2 in
+      (Appends-trans (bytes s) (bytes made.0) (bytes t) [] (concat (map (note_line v) (notes_by steps))) one.0 rest.0, rest.1)
 
-  pub writes_lines : (bytes : S → Option (List ℕ)) → Writing bytes → WritesLines acts bytes
-  writes_lines bytes w a TookLast last was = took_write bytes w a.sink a.who a.taken a.last last was
-  writes_lines bytes w a Detached last was = took_write bytes w a.sink a.who a.taken a.last last was
-  writes_lines bytes w a Closed last was = took_write bytes w a.sink a.who a.taken a.last last was
-  writes_lines bytes w a FailedAtStart last was =
+  took_write : (version : S → Version) (bytes : S → Option (List ℕ)) → Writing version bytes
+      → (s : S) (who : ℕ) (more : List Note) (step : Option Step) (t : S) → Took acts s who more step t
+      → Appends (bytes s) (bytes t) (lines_of (version s) who more) × (version t ≡ version s)
+  took_write version bytes w s who more step t took =
+      let begun = w.started s who took.begun took.start in
+      let rest = makes_write version bytes w (version s) took.begun took.steps t begun.1 took.made in (
+        subst (λ (l : List Note). Appends (bytes s) (bytes t) (lines_of (version s) who l)) took.notes_are
+            (Appends-trans (bytes s) (bytes took.begun) (bytes t) (joined_line who) (concat (map (note_line (version s)) (notes_by took.steps))) begun.0 rest.0),
+        rest.1,
+      )
+
+  pub writes_lines : (version : S → Version) (bytes : S → Option (List ℕ)) → Writing version bytes → WritesLines acts version bytes
+  writes_lines version bytes w a TookLast last was = (took_write version bytes w a.sink a.who a.taken a.last last was).0
+  writes_lines version bytes w a Detached last was = (took_write version bytes w a.sink a.who a.taken a.last last was).0
+  writes_lines version bytes w a Closed last was = (took_write version bytes w a.sink a.who a.taken a.last last was).0
+  writes_lines version bytes w a FailedAtStart last was =
       let part = w.start_faulted a.sink a.who last was.1 in
       record { front = part.front; back = part.back; parts = part.parts; told = part.told }
-  writes_lines bytes w a (FailedAt note) last was =
+  writes_lines version bytes w a (FailedAt note) last was =
+      let took = took_write version bytes w a.sink a.who a.taken a.last was.0 was.1 in
       let part = w.take_faulted was.0 note last was.2 in
       record {
         front = part.front;
         back = part.back;
-        parts = part.parts;
-        told = Appends-trans (bytes a.sink) (bytes was.0) (bytes last) (lines_of a.who a.taken) part.front (took_write bytes w a.sink a.who a.taken a.last was.0 was.1) part.told;
+        parts = part.parts ∙ ap (λ (v : Version). note_line v note) took.1;
+        told = Appends-trans (bytes a.sink) (bytes was.0) (bytes last) (lines_of (version a.sink) a.who a.taken) part.front took.0 part.told;
       }
-  writes_lines bytes w a FailedAtFlush last was =
-      subst (Appends (bytes a.sink) (bytes last)) (append-nil (lines_of a.who a.taken))
-      (Appends-trans (bytes a.sink) (bytes was.0) (bytes last) (lines_of a.who a.taken) [] (took_write bytes w a.sink a.who a.taken a.last was.0 was.1) (w.flush_faulted was.0 last was.2))
+  writes_lines version bytes w a FailedAtFlush last was =
+      let lines = lines_of (version a.sink) a.who a.taken in
+      subst (Appends (bytes a.sink) (bytes last)) (append-nil lines)
+      (Appends-trans (bytes a.sink) (bytes was.0) (bytes last) lines [] (took_write version bytes w a.sink a.who a.taken a.last was.0 was.1).0 (w.flush_faulted was.0 last was.2))
 
   -- NOTES THAT ARE COUNTED
 

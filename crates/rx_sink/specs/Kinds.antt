@@ -38,16 +38,18 @@ memory_acts = record {
 abbrev pub WaitsBy : Bool → Flow → Type 0
 WaitsBy gathers flow = gathers ≡ false → flow ≡ Clear
 
--- a sink over a writer writes each line, or a front of it at a fault, and counts the notes that it took; a flush writes
--- nothing more. Nothing ever waits in it, unless its writer gathers what it is given
+-- a sink over a writer writes each line in its version, or a front of it at a fault, and counts the notes that it took; a flush
+-- writes nothing more. Nothing ever waits in it, unless its writer gathers what it is given
 abbrev pub line_acts : {W : Type 0} → (W → Option (List ℕ)) → Acts (LineSink W) LineRest
 line_acts contents = record {
-  started = λ s who t. Appends (contents s.writer) (contents t.writer) (joined_line who) × (t.notes ≡ s.notes) × (t.faults ≡ s.faults) × (t.gathers ≡ s.gathers);
+  started = λ s who t. Appends (contents s.writer) (contents t.writer) (joined_line who) × (t.notes ≡ s.notes) × (t.faults ≡ s.faults) × (t.gathers ≡ s.gathers)
+      × (t.version ≡ s.version);
   start_faulted = λ s who t. AppendsPrefix (contents s.writer) (contents t.writer) (joined_line who) × (t.notes ≡ s.notes) × (t.faults ≡ raised s.faults);
-  took = λ s note flow t. WaitsBy s.gathers flow × Appends (contents s.writer) (contents t.writer) (note_line note) × (t.notes ≡ raised s.notes) × (t.faults ≡ s.faults)
-      × (t.gathers ≡ s.gathers);
-  take_faulted = λ s note t. AppendsPrefix (contents s.writer) (contents t.writer) (note_line note) × (t.notes ≡ s.notes) × (t.faults ≡ raised s.faults);
-  flushed = λ s flow t. WaitsBy s.gathers flow × Appends (contents s.writer) (contents t.writer) [] × (t.notes ≡ s.notes) × (t.faults ≡ s.faults) × (t.gathers ≡ s.gathers);
+  took = λ s note flow t. WaitsBy s.gathers flow × Appends (contents s.writer) (contents t.writer) (note_line s.version note) × (t.notes ≡ raised s.notes) × (t.faults ≡ s.faults)
+      × (t.gathers ≡ s.gathers) × (t.version ≡ s.version);
+  take_faulted = λ s note t. AppendsPrefix (contents s.writer) (contents t.writer) (note_line s.version note) × (t.notes ≡ s.notes) × (t.faults ≡ raised s.faults);
+  flushed = λ s flow t. WaitsBy s.gathers flow × Appends (contents s.writer) (contents t.writer) [] × (t.notes ≡ s.notes) × (t.faults ≡ s.faults) × (t.gathers ≡ s.gathers)
+      × (t.version ≡ s.version);
   flush_faulted = λ s t. Appends (contents s.writer) (contents t.writer) [] × (t.notes ≡ s.notes) × (t.faults ≡ raised s.faults);
   finished = λ s rest. (rest.notes ≡ s.notes) × (IsTrue rest.failed ↔ (0 < s.faults));
   faults = λ s. s.faults;

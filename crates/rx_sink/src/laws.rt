@@ -11,9 +11,10 @@ pub fn memory_sinks_keep()
     ensures { KeepsNotes ⟦<MemorySink as Sink>⟧.acts (λ s. s.notes.items) (λ rest. rest.items) }
 {}
 
-/// A line sink wrote the lines of its start and of the notes that it took, and after a fault a front of the next line.
+/// A line sink wrote the lines of its start and, in its version, of the notes that it took, and after a fault a front of the
+/// next line.
 pub fn line_sinks_write<W: Write + Drop>()
-    ensures { WritesLines ⟦<LineSink<W> as Sink>⟧.acts (λ s. W.contents s.writer) }
+    ensures { WritesLines ⟦<LineSink<W> as Sink>⟧.acts (λ s. s.version) (λ s. W.contents s.writer) }
 {}
 
 /// The rest of a line sink tells how many notes it took, and whether it had a fault.

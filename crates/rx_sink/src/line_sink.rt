@@ -3,15 +3,15 @@ ghost use Rattle.rx_sink.specs.Kinds.{WaitsBy};
 
 use crate::{Flow, LineRest, Sink, SinkFault};
 use rx_note::Note;
-use rx_proto::{write_joined, write_note};
+use rx_proto::{Version, write_joined, write_note};
 use std::io::{ErrorKind, Write};
 
 // How many lines a writer that gathers may hold and the sink still asks for more at once. What is outside its subject is this
 // and a window at most.
 const MOST_AHEAD: u32 = 48;
 
-/// A sink that writes a line when it is started, `JOINED` and the number of the observer, and then the line of each note.
-/// A write that fails or takes no byte is a fault; the writer then has a front of the line. So is a flush that fails. A line
+/// A sink that writes a line when it is started, `JOINED` and the number of the observer, and then the line of each note
+/// in its version. A write that fails or takes no byte is a fault; the writer then has a front of the line. So is a flush that fails. A line
 /// that the writer took is gone for this sink, in which nothing ever waits; but over a writer that gathers what it is given
 /// (`gathering`) it tells by the writer's flush whether something waits there.
 ///
@@ -20,6 +20,7 @@ const MOST_AHEAD: u32 = 48;
 #[derive(Drop)]
 pub struct LineSink<W: Write + Drop> {
     writer: W,
+    version: Version,
     notes: u64,
     faults: u64,
     // The writer gathers what it is given, and sends it when it is flushed.
@@ -32,11 +33,12 @@ pub struct LineSink<W: Write + Drop> {
 
 impl<W: Write + Drop> LineSink<W> {
     /// A sink that wrote nothing yet.
-    pub fn new(writer: W) -> LineSink<W>
-        ensures { result ≡ record { writer = writer; notes = 0; faults = 0; gathers = false; ahead = 0; stuck = false } }
+    pub fn new(writer: W, version: Version) -> LineSink<W>
+        ensures { result ≡ record { writer = writer; version = version; notes = 0; faults = 0; gathers = false; ahead = 0; stuck = false } }
     {
         LineSink {
             writer,
+            version,
             notes: 0,
             faults: 0,
             gathers: false,
@@ -47,11 +49,12 @@ impl<W: Write + Drop> LineSink<W> {
 
     /// A sink over a writer that may gather what it is given, and waits for nobody: what can't go out yet waits in it, and its
     /// flush is then `WouldBlock`, or Ok where nothing waits. The sink wrote nothing yet.
-    pub fn gathering(writer: W) -> LineSink<W>
-        ensures { result ≡ record { writer = writer; notes = 0; faults = 0; gathers = true; ahead = 0; stuck = false } }
+    pub fn gathering(writer: W, version: Version) -> LineSink<W>
+        ensures { result ≡ record { writer = writer; version = version; notes = 0; faults = 0; gathers = true; ahead = 0; stuck = false } }
     {
         LineSink {
             writer,
+            version,
             notes: 0,
             faults: 0,
             gathers: true,
@@ -63,7 +66,7 @@ impl<W: Write + Drop> LineSink<W> {
     // How it stands once one line more was written.
     fn flow(&mut self) -> Flow
         ensures flow { WaitsBy self.old.gathers result }
-        ensures rest { (self.new.writer ≡ self.old.writer) × (self.new.notes ≡ self.old.notes) × (self.new.faults ≡ self.old.faults) × (self.new.gathers ≡ self.old.gathers) }
+        ensures rest { (self.new.writer ≡ self.old.writer) × (self.new.notes ≡ self.old.notes) × (self.new.faults ≡ self.old.faults) × (self.new.gathers ≡ self.old.gathers) × (self.new.version ≡ self.old.version) }
     {
         if !self.gathers {
             return Flow::Clear;
@@ -100,7 +103,7 @@ impl<W: Write + Drop> Sink for LineSink<W> {
     }
 
     fn take(&mut self, note: Note) -> Result<Flow, SinkFault> {
-        let Ok(()) = write_note(&mut self.writer, &note) else {
+        let Ok(()) = write_note(&mut self.writer, &note, self.version) else {
             self.faults = self.faults.saturating_add(1);
             return Err(SinkFault);
         };

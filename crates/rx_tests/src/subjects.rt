@@ -85,6 +85,10 @@ impl Tried {
 
     fn admitted(&mut self, heap: &Heap, sign: u8) -> Result<Result<Offer, AdmitError>, Memory> {
         let note = note_of(heap, sign)?;
+        // No row comes near as many items as there are places.
+        if self.subject.items() == u32::MAX {
+            return Err(Memory);
+        }
         Ok(self.subject.admit(0, note, self.moment))
     }
 

@@ -1,5 +1,4 @@
 // One connection, served by a session.
-ghost use Rattle.std.specs.Prelude.{◌≡◌};
 ghost use Rattle.rx_workers.specs.SessionDesks.{KeepsSession};
 ghost use Rattle.rx_workers.specs.Connections.{IsServed};
 

@@ -1,4 +1,5 @@
 use Rattle.std.proofs.Common.{◌≡◌, [], None}
+use Rattle.rx_proto.specs.declared.version.Version.TheVariants.{One}
 use Rattle.rx_session.specs.Reads.{ahead}
 use Rattle.rx_session.specs.Sessions.{parties}
 use Rattle.rx_session.specs.Steps.{unread}
@@ -8,8 +9,8 @@ use Rattle.rx_session.proofs.serving.serve.Given as goal
 
 abbrev pub invariant-loop-held : goal.invariant-loop-held
 invariant-loop-held g l =
-    SoFar (parties g.D.Desk.emits g.D.Desk.follows g.W.Write.contents) (record { desk = l.initial.desk; writer = l.initial.held; told = [] })
-    (g.R.Read.remaining l.initial.reader) (g.R.Read.remaining l.reader) (hands l.desk l.held l.outbox) (unread l.lines)
+    SoFar (parties g.D.Desk.emits g.D.Desk.follows g.W.Write.contents) (record { desk = l.initial.desk; writer = l.initial.held; version = One; told = [] })
+    (g.R.Read.remaining l.initial.reader) (g.R.Read.remaining l.reader) (hands l.desk l.held l.version l.outbox) (unread l.lines)
     × (l.lines.end ≡ None)
 
 abbrev pub decreases-loop-held : goal.decreases-loop-held

@@ -25,7 +25,7 @@ returns-in-Long g c =
     let steps = steps_by Long (g.R.Read.remaining c.args.reader.now) (g.R.Read.remaining c.advance.new.reader) c.args.lines.now c.advance.new.self c.requires c.in-Long.ensures.advances in
     inl (record {
       takes = taken _ _ _ _ (λ line. 1100 < length line) _
-          (λ line long at is. refused p (Err errors.Long) errors.Long (session_read line) at c.args.desk.now c.args.writer c.args.outbox.now c.answer.new.outbox _ c.answer.result
+          (λ line long at is. refused p (Err errors.Long) errors.Long (session_read line) at c.args.desk.now c.args.writer c.args.version.now c.args.outbox.now c.answer.new.outbox _ c.answer.result
           refl (long_read line long) refl is c.answer.ensures)
           steps.0;
       goes_on = steps.1;
