@@ -36,7 +36,7 @@ HasPlace count (Next item) = count < 4294967295
 HasPlace count Completed = Unit {0}
 HasPlace count (Failed text) = Unit {0}
 
--- the items that a note from a port offers, by what the subject keeps; the place of its own is how many there were
+-- the items that a note from a port offers, by what the subject keeps; the place of an item is how many came before it
 abbrev pub offered_by : SubjectState → ℕ → Note → List Item
 offered_by subject port note = offers_by subject.kind (unstamped (take 1 subject.window)) port subject.count note
 
