@@ -5,9 +5,10 @@ use Rattle.rx_note.specs.declared.note.Note.{Note}
 use Rattle.rx_note.specs.declared.note.Note.TheVariants.{Next, Completed, Failed}
 use Rattle.rx_proto.specs.Reading.{session_read}
 use Rattle.rx_proto.specs.declared.command.Command.{Command}
-use Rattle.rx_proto.specs.declared.command.Command.TheVariants.{Pub, End, Fail, Sub, Quit}
+use Rattle.rx_proto.specs.declared.command.Command.TheVariants.{Pub, End, Fail, Sub, Hello, Quit}
 use Rattle.rx_proto.specs.declared.line_error.BadLine.{BadLine}
 use Rattle.rx_proto.specs.declared.response.Response.{Response}
+use Rattle.rx_proto.specs.declared.version.Version.{Version}
 use Rattle.rx_session.specs.Sessions.{Parties, Place, Outcome, Emits, Lacks, Goes, Faults, Stops, RunsOut, Serves}
 use Rattle.rx_session.specs.declared.follow.Follow.{Follow}
 use Rattle.rx_session.specs.declared.follow.Follow.TheVariants.{Taken, Back}
@@ -15,7 +16,7 @@ use Rattle.rx_session.specs.declared.input_end.InputEnd.{InputEnd}
 
 module _ {D W : Type 0} (p : Parties D W) (P : D → Type 0)
     (by_emit : (d : D) (name : List ℕ) (note : Note) (r : Response) (e : D) → p.emits d name note r e → P d → P e)
-    (by_follow : (d : D) (name : List ℕ) (c : Choice) (w : W) (f : Follow W) (e : D) → p.follows d name c w f e → P d → P e) where
+    (by_follow : (d : D) (name : List ℕ) (c : Choice) (v : Version) (w : W) (f : Follow W) (e : D) → p.follows d name c v w f e → P d → P e) where
   -- a note was emitted
   emit_keeps : (at after : Place D W) (name : List ℕ) (note : Note) → Emits p at name note after → P at.desk → P after.desk
   emit_keeps at after name note e had = subst P (sym (ap (λ (x : Place D W). x.desk) e.3)) (by_emit at.desk name note e.0 e.1 e.2 had)
@@ -26,12 +27,13 @@ module _ {D W : Type 0} (p : Parties D W) (P : D → Type 0)
 
   -- a line after which the session goes on
   goes_keeps : (reading : Result Command BadLine) (at after : Place D W) → Goes p reading at after → P at.desk → P after.desk
-  goes_keeps (Ok (Pub name text)) at after (inl e) had = emit_keeps at after name (Next (record { from = 0; text = text })) e had
+  goes_keeps (Ok (Pub name text)) at after (inl e) had = emit_keeps at after name (Next (record { from = 0; place = 0; text = text })) e had
   goes_keeps (Ok (Pub name text)) at after (inr e) had = lack_keeps at after e had
   goes_keeps (Ok (End name)) at after e had = emit_keeps at after name Completed e had
   goes_keeps (Ok (Fail name text)) at after (inl e) had = emit_keeps at after name (Failed text) e had
   goes_keeps (Ok (Fail name text)) at after (inr e) had = lack_keeps at after e had
-  goes_keeps (Ok (Sub name policy)) at after e had = by_follow at.desk name policy e.0 (Back e.1 after.writer) after.desk e.3 had
+  goes_keeps (Ok (Sub name policy)) at after e had = by_follow at.desk name policy at.version e.0 (Back e.1 after.writer) after.desk e.3 had
+  goes_keeps (Ok (Hello number)) at after e had = subst P (sym (ap (λ (x : Place D W). x.desk) e)) had
   goes_keeps (Ok Quit) at after e had = absurd e
   goes_keeps (Err fault) at after e had = subst P (sym (ap (λ (x : Place D W). x.desk) e)) had
 
@@ -52,7 +54,8 @@ module _ {D W : Type 0} (p : Parties D W) (P : D → Type 0)
   stop_keeps (Ok (Pub name text)) at out s had = absurd s
   stop_keeps (Ok (End name)) at out s had = absurd s
   stop_keeps (Ok (Fail name text)) at out s had = absurd s
-  stop_keeps (Ok (Sub name policy)) at out s had = outcome_keeps s.1 _ out s.4 refl (by_follow at.desk name policy s.0 Taken s.1 s.3 had)
+  stop_keeps (Ok (Sub name policy)) at out s had = outcome_keeps s.1 _ out s.4 refl (by_follow at.desk name policy at.version s.0 Taken s.1 s.3 had)
+  stop_keeps (Ok (Hello number)) at out s had = absurd s
   stop_keeps (Ok Quit) at out (inl c) had = outcome_keeps at.desk _ out c.2 refl had
   stop_keeps (Ok Quit) at out (inr f) had = outcome_keeps at.desk _ out f.2 refl had
   stop_keeps (Err fault) at out s had = absurd s

@@ -4,6 +4,8 @@ use Rattle.rx_note.specs.Choices.{Choice}
 use Rattle.rx_note.specs.declared.note.Note.{Note}
 use Rattle.rx_proto.specs.declared.response.Response.{Response}
 use Rattle.rx_proto.specs.declared.response.Response.TheVariants.{Refused}
+use Rattle.rx_proto.specs.declared.version.Version.{Version}
+use Rattle.rx_proto.specs.declared.version.Version.TheVariants.{One}
 use Rattle.rx_proto.specs.declared.word.Word.TheVariants as words
 use Rattle.rx_pump.specs.Desks.{DeskView, KeepsDesk}
 use Rattle.rx_session.specs.Lines.{lines_of}
@@ -50,9 +52,10 @@ module _ {M W : Type 0} (tells : M → ℕ → M → Type 0) where
       (λ x. keeps-equal s t x.1) (λ subject x. x.1.kept) e
 
   -- a Join keeps the desk
-  follow_keeps : (s : SessionView M (LineSink W)) (name : List ℕ) (policy : Choice) (writer : W) (f : Follow W) (t : SessionView M (LineSink W)) → follows tells s name policy writer f t → KeepsSession s t
-  follow_keeps s name policy writer f t e =
-      match_option (place_of name s.subjects) ((f ≡ Back (Refused words.Subject) writer) × (t ≡ s)) (FollowsAt tells s policy writer f t) (KeepsSession s t)
+  follow_keeps : (s : SessionView M (LineSink W)) (name : List ℕ) (policy : Choice) (version : Version) (writer : W) (f : Follow W) (t : SessionView M (LineSink W))
+      → follows tells s name policy version writer f t → KeepsSession s t
+  follow_keeps s name policy version writer f t e =
+      match_option (place_of name s.subjects) ((f ≡ Back (Refused words.Subject) writer) × (t ≡ s)) (FollowsAt tells s policy version writer f t) (KeepsSession s t)
       (λ x. keeps-equal s t x.1) (λ subject x. x.1.kept) e
 
   -- a session keeps the desk
@@ -61,6 +64,6 @@ module _ {M W : Type 0} (tells : M → ℕ → M → Type 0) where
   session_keeps contents read_old read_new before after writer end served =
       serves_keeps (parties (emits tells) (follows tells) contents) (λ (s : SessionView M (LineSink W)). KeepsSession before s)
       (λ d name note r e by had. keeps-then before d e had (emit_keeps d name note r e by))
-      (λ d name c w f e by had. keeps-then before d e had (follow_keeps d name c w f e by))
-      read_new served.0 (record { desk = before; writer = writer; told = [] }) (lines_of served.2.read)
+      (λ d name c v w f e by had. keeps-then before d e had (follow_keeps d name c v w f e by))
+      read_new served.0 (record { desk = before; writer = writer; version = One; told = [] }) (lines_of served.2.read)
       (record { end = end; desk = after; back = served.1 }) served.2.served (keeps-same before)

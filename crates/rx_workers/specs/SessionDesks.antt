@@ -8,6 +8,7 @@ use Rattle.rx_note.specs.declared.note.Note.{Note}
 use Rattle.rx_proto.specs.Reading.{same_word}
 use Rattle.rx_proto.specs.declared.response.Response.{Response}
 use Rattle.rx_proto.specs.declared.response.Response.TheVariants.{Refused}
+use Rattle.rx_proto.specs.declared.version.Version.{Version}
 use Rattle.rx_proto.specs.declared.word.Word.TheVariants as words
 use Rattle.rx_pump.specs.Desks.{DeskView, Called, IsOver, KeepsDesk}
 use Rattle.rx_pump.specs.declared.call_error.CallError.{CallError}
@@ -38,9 +39,9 @@ pub record KeepsSession {M S : Type 0} (before after : SessionView M S) : Type 0
   pub calls : KeepsDesk before.calls after.calls
 
 module _ {W : Type 0} where
-  -- the sink over a writer, of which nothing was written yet
-  abbrev pub line_sink : W → LineSink W
-  line_sink writer = record { writer = writer; notes = 0; faults = 0; gathers = true; ahead = 0; stuck = false }
+  -- the sink over a writer that writes its notes in a version, and wrote nothing yet
+  abbrev pub line_sink : Version → W → LineSink W
+  line_sink version writer = record { writer = writer; version = version; notes = 0; faults = 0; gathers = true; ahead = 0; stuck = false }
 
   -- the writer of the sink that came back, with a response; without one it is taken
   abbrev pub back_with : Response → Option (LineSink W) → Follow W
@@ -72,13 +73,15 @@ module _ {M W : Type 0} (tells : M → ℕ → M → Type 0) where
   emits before name note response after =
       MatchOption (place_of name before.subjects) ((response ≡ Refused words.Subject) × (after ≡ before)) (EmitsAt before note response after)
 
-  -- an observer joined at the subject at this place, with the window as its first request and a sink over the writer
-  abbrev pub FollowsAt : SessionView M (LineSink W) → Choice → W → Follow W → SessionView M (LineSink W) → ℕ → Type 0
-  FollowsAt before policy writer result after subject =
+  -- an observer joined at the subject at this place, with the window as its first request and a sink of the version over the
+  -- writer
+  abbrev pub FollowsAt : SessionView M (LineSink W) → Choice → Version → W → Follow W → SessionView M (LineSink W) → ℕ → Type 0
+  FollowsAt before policy version writer result after subject =
       (answered : Result (Reply (LineSink W)) (CallError (LineSink W)))
-      × CallsOnce before after subject (λ at. Join policy before.window at) (Some (line_sink writer)) answered × (result ≡ followed answered)
+      × CallsOnce before after subject (λ at. Join policy before.window at) (Some (line_sink version writer)) answered × (result ≡ followed answered)
 
   -- a Join at the subject of a name; without such a subject no call is made, and the writer comes back
-  abbrev pub follows : SessionView M (LineSink W) → List ℕ → Choice → W → Follow W → SessionView M (LineSink W) → Type 0
-  follows before name policy writer result after =
-      MatchOption (place_of name before.subjects) ((result ≡ Back (Refused words.Subject) writer) × (after ≡ before)) (FollowsAt before policy writer result after)
+  abbrev pub follows : SessionView M (LineSink W) → List ℕ → Choice → Version → W → Follow W → SessionView M (LineSink W) → Type 0
+  follows before name policy version writer result after =
+      MatchOption (place_of name before.subjects) ((result ≡ Back (Refused words.Subject) writer) × (after ≡ before))
+      (FollowsAt before policy version writer result after)

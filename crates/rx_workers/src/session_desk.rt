@@ -7,7 +7,7 @@ use crate::responding::{has_joined, response_of, sink_in};
 use rx_config::{Config, SubjectConfig};
 use rx_heap::Heap;
 use rx_note::{Event, Note, Policy};
-use rx_proto::{Name, Response, Word};
+use rx_proto::{Name, Response, Version, Word};
 use rx_pump::{CallDesk, CallError, Reply};
 use rx_session::{Desk, Follow};
 use rx_sink::LineSink;
@@ -91,14 +91,14 @@ impl<'a, R: Wait, M: Moments + Drop, W: Write + Drop> Desk<W> for SessionDesk<'a
         response_of(&answered)
     }
 
-    fn follow(&mut self, name: &Name, policy: Policy, writer: W) -> Follow<W> {
+    fn follow(&mut self, name: &Name, policy: Policy, version: Version, writer: W) -> Follow<W> {
         let Some(place) = self.place_of(name) else {
             return Follow::Back(Response::Refused(Word::Subject), writer);
         };
         let at = self.moments.now();
         let first = u32::from(self.config.window);
         let event = Event::Join { policy, first, at };
-        let sink = LineSink::gathering(writer);
+        let sink = LineSink::gathering(writer, version);
         let answered = self.calls.call(self.rt, place, event, Some(sink));
         followed(answered)
     }
