@@ -114,7 +114,7 @@ impl<S: Drop> Caller<S> {
     // Emits the item of this one byte.
     fn emit(&mut self, rt: &(impl Wait + Abort), heap: &Heap, byte: u8) -> Result<Answer, Refusal> {
         let text = Text::new(copy(rt, heap), &[byte]).expect(rt, "a text");
-        let note = Note::Next(Item { from: 0, text });
+        let note = Note::Next(Item::new(text));
         self.call(rt, Event::Emit { note, at: 0 }, None)
     }
 

@@ -1,4 +1,4 @@
-//! The signs of which scripts and what is told of them are made: a letter is the item of port 0 with this text, a capital
+//! The signs of which scripts and what is told of them are made: a letter is the item of port and place 0 with this text, a capital
 //! letter a seed whose text is the small one, `.` the completion, `!` the failure `x`, `%` the failure `OVERFLOW`, a digit a
 //! number.
 
@@ -12,10 +12,10 @@ pub fn text_of(heap: &Heap, bytes: &[u8]) -> Result<Text, Memory> {
     Text::new(heap.clone()?, bytes).map_err(|_| Memory)
 }
 
-/// The item of port 0 with this text.
+/// The item of port and place 0 with this text.
 pub fn item(heap: &Heap, text: &[u8]) -> Result<Item, Memory> {
     let text = text_of(heap, text)?;
-    Ok(Item { from: 0, text })
+    Ok(Item::new(text))
 }
 
 /// The policy of a strategy, with errors behind the items.

@@ -71,7 +71,7 @@ fn admit(rt: &(impl Wait + Abort), alloc: &Heap, desk: &mut CallDesk<u8>)
     ensures { KeepsDesk desk.old desk.new }
 {
     let text = Text::new(copy(rt, alloc), b"a").expect(rt, "a text");
-    let note = Note::Next(Item { from: 0, text });
+    let note = Note::Next(Item::new(text));
     let event = Event::Emit { note, at: 0 };
     match desk.call(rt, 0, event, None) {
         Ok(reply) => expect_answer(rt, reply.result, Ok(Answer::Admitted)),
