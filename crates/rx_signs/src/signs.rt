@@ -62,6 +62,7 @@ pub fn rules_of(kind: Kind) -> Rules
     let limits = Limits {
         observers: 64,
         joins: 4_294_967_295,
+        items: 4_294_967_295,
     };
     Rules { kind, limits }
 }
