@@ -10,12 +10,12 @@ use anyhow::{Result, bail};
 use caller::Caller;
 use rx_heap::{Heap, Memory};
 use rx_note::{Item, Kind, Note, Text};
-use rx_proto::note_line;
+use rx_proto::{Version, write_note};
 use rx_pump::EndedDesk;
 use rx_server::{Config, Report, Server, start};
 use rx_sink::{LineSink, MemorySink};
 use shelf::Shelf;
-use std::io::{self, Stdout, Write};
+use std::io::{Stdout, Write};
 use std::sync::Wait;
 use std::thread::{Threads, join};
 
@@ -81,23 +81,24 @@ fn listen<R: Wait>(
 ) -> Result<EndedDesk<Shelf>> {
     let items = WORDS.len() as u32;
     caller.join(rt, Shelf::Kept(MemorySink::new(heap.clone()?, None)), items)?;
-    caller.join(rt, Shelf::Written(LineSink::new(out)), items)?;
+    caller.join(rt, Shelf::Written(LineSink::new(out, Version::One)), items)?;
     caller.finish(rt)
 }
 
-fn write_report(report: &Report<Option<Vec<Note, Heap>>>, out: &mut Stdout) -> io::Result<()> {
+fn write_report(report: &Report<Option<Vec<Note, Heap>>>, out: &mut Stdout) -> Result<()> {
     for away in report.put_away.iter().flatten() {
         if let Some(notes) = &away.rest {
             write_kept(away.who, notes.as_slice(), out)?;
         }
     }
-    writeln!(out, "{} notes were taken", report.taken)
+    writeln!(out, "{} notes were taken", report.taken)?;
+    Ok(())
 }
 
-fn write_kept(who: u32, notes: &[Note], out: &mut Stdout) -> io::Result<()> {
+fn write_kept(who: u32, notes: &[Note], out: &mut Stdout) -> Result<()> {
     writeln!(out, "observer {who} kept:")?;
     for note in notes {
-        out.write_all(note_line(note).as_bytes())?;
+        write_note(out, note, Version::One)?;
     }
     Ok(())
 }

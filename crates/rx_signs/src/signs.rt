@@ -1,4 +1,4 @@
-//! The signs of which scripts and what is told of them are made: a letter is the item of port 0 with this text, a capital
+//! The signs of which scripts and what is told of them are made: a letter is the item of port and place 0 with this text, a capital
 //! letter a seed whose text is the small one, `.` the completion, `!` the failure `x`, `%` the failure `OVERFLOW`, a digit a
 //! number.
 
@@ -12,9 +12,10 @@ pub fn text_of(heap: &Heap, bytes: &[u8]) -> Result<Text, Memory> {
     Text::new(heap.clone()?, bytes).map_err(|_| Memory)
 }
 
-/// The item of port 0 with this text.
+/// The item of port and place 0 with this text.
 pub fn item(heap: &Heap, text: &[u8]) -> Result<Item, Memory> {
-    Ok(Item::new(text_of(heap, text)?))
+    let text = text_of(heap, text)?;
+    Ok(Item::new(text))
 }
 
 /// The policy of a strategy, with errors behind the items.
@@ -26,6 +27,9 @@ pub fn policy_of(strategy: Strategy) -> Result<Policy, BadRoom> {
 pub fn policy_by(strategy: Strategy, errors: Errors) -> Result<Policy, BadRoom> {
     Policy::new(strategy, errors)
 }
+
+/// The port of a seed, which came by none.
+pub const SEED_PORT: u32 = 4_294_967_295;
 
 /// A kind as a table names it. It owns no memory: a seed is told by its one letter.
 #[derive(Clone, Copy, Debug)]
@@ -105,7 +109,7 @@ pub fn event_at(
 pub fn sign_of_item(item: &Item) -> u8 {
     match item.text.as_bytes() {
         [letter] if item.from == 0 => *letter,
-        [letter] if item.is_seed() => letter.to_ascii_uppercase(),
+        [letter] if item.from == SEED_PORT => letter.to_ascii_uppercase(),
         _ => b'?',
     }
 }

@@ -1,15 +1,15 @@
 //! The line protocol: which lines are read, told by a sign each, and what is printed.
 //!
-//! The signs: P, E, F, S and Q for PUB, END, FAIL, SUB and QUIT, A for AT, J for JOIN, R for REQUEST, D for DISPOSE; `l`
-//! for a line that is too long, `-` for no line, and `m` for want of memory.
+//! The signs: P, E, F, S, H and Q for PUB, END, FAIL, SUB, HELLO and QUIT, A for AT, J for JOIN, R for REQUEST, D for DISPOSE;
+//! `l` for a line that is too long, `-` for no line, and `m` for want of memory.
 
 use crate::expecting::{expect_count, expect_that, expect_told};
 use crate::heaps::unlimited;
 use rx_heap::Heap;
 use rx_note::{Item, Note, Strategy, Text};
 use rx_proto::{
-    Command, LineError, Name, Response, ScriptLine, Word, parse_line, parse_script, write_note,
-    write_reply,
+    Command, LineError, Name, Response, ScriptLine, Version, Word, parse_line, parse_script,
+    write_note, write_reply,
 };
 use std::process::Abort;
 use std::test::Fail;
@@ -28,6 +28,7 @@ fn sign_of_command(command: &Command) -> u8 {
         Command::End { .. } => b'E',
         Command::Fail { .. } => b'F',
         Command::Sub { .. } => b'S',
+        Command::Hello(_) => b'H',
         Command::Quit => b'Q',
     }
 }
@@ -51,13 +52,23 @@ fn sign_in_script(heap: &Heap, line: &[u8]) -> u8 {
 }
 
 // Lines, with the sign of what is read in a session and in a script.
-const LINES: [(&str, u8, u8); 39] = [
+const LINES: [(&str, u8, u8); 49] = [
     ("PUB s a", b'P', b'P'),
     ("PUB s-1 a b ", b'P', b'P'),
     ("PUB s ", b'P', b'P'),
     ("FAIL s ", b'F', b'F'),
     ("END s", b'E', b'E'),
     ("QUIT", b'Q', b'Q'),
+    ("HELLO 1", b'H', b'H'),
+    ("HELLO 2", b'H', b'H'),
+    ("HELLO 3", b'H', b'H'),
+    ("HELLO 01", b'H', b'H'),
+    ("HELLO 4294967295", b'H', b'H'),
+    ("HELLO 4294967296", b'-', b'-'),
+    ("HELLO", b'-', b'-'),
+    ("HELLO  1", b'-', b'-'),
+    ("HELLO 1 ", b'-', b'-'),
+    ("hello 1", b'-', b'-'),
     ("SUB s BUFFER AHEAD", b'S', b'-'),
     ("SUB s DROP:0 DELAY", b'S', b'-'),
     ("SUB s LATEST:0001024 DELAY", b'S', b'-'),
@@ -205,7 +216,7 @@ fn written(heap: &Heap, response: Response) -> Result<Vec<u8, Heap>, Fail> {
     Ok(writer)
 }
 
-const RESPONSES: [(Response, &str); 14] = [
+const RESPONSES: [(Response, &str); 15] = [
     (Response::Done, "OK\n"),
     (Response::Joined(0), "OK 0\n"),
     (Response::Joined(4_294_967_295), "OK 4294967295\n"),
@@ -220,6 +231,7 @@ const RESPONSES: [(Response, &str); 14] = [
     (Response::Refused(Word::TooMuch), "ERR TOOMUCH\n"),
     (Response::Refused(Word::Memory), "ERR MEMORY\n"),
     (Response::Refused(Word::Gone), "ERR GONE\n"),
+    (Response::Refused(Word::Version), "ERR VERSION\n"),
 ];
 
 #[test]
@@ -236,26 +248,77 @@ fn responses_are_printed(rt: HostRuntime) -> Result<(), Fail> {
     Ok(())
 }
 
-// The lines of three notes.
-fn three_notes(heap: &Heap) -> Result<Vec<u8, Heap>, Fail> {
+// The line of a note in a version, as it is written.
+fn note_written(heap: &Heap, note: &Note, version: Version) -> Result<Vec<u8, Heap>, Fail> {
     let mut writer = Vec::new(heap.clone()?);
-    let text = Text::new(heap.clone()?, b"a b")?;
-    write_note(&mut writer, &Note::Next(Item { from: 7, text }))?;
-    write_note(&mut writer, &Note::Completed)?;
-    write_note(&mut writer, &Note::Failed(Text::new(heap.clone()?, b"x")?))?;
+    write_note(&mut writer, note, version)?;
     Ok(writer)
 }
 
-#[test]
-fn notes_are_printed(rt: HostRuntime) -> Result<(), Fail> {
-    let written = three_notes(&unlimited(&rt))?;
-    expect_told(
-        &rt,
-        written.as_slice(),
-        "NEXT a b\nDONE\nFAILED x\n",
-        "notes",
-    );
+// A note is written so in the first version, and so in the second.
+fn expect_lines(
+    rt: &impl Abort,
+    heap: &Heap,
+    note: &Note,
+    first: &str,
+    second: &str,
+) -> Result<(), Fail> {
+    let written = note_written(heap, note, Version::One)?;
+    expect_told(rt, written.as_slice(), first, "the first version");
+    let written = note_written(heap, note, Version::Two)?;
+    expect_told(rt, written.as_slice(), second, "the second version");
     Ok(())
+}
+
+// The port, the place and the text of an item, and its line in each version.
+const ITEMS: [(u32, u32, &str, &str, &str); 6] = [
+    (1, 0, "a", "NEXT a\n", "NEXT 0 1 a\n"),
+    (1, 0, "", "NEXT \n", "NEXT 0 1 \n"),
+    (0, 10, "7 a b ", "NEXT 7 a b \n", "NEXT 10 0 7 a b \n"),
+    (
+        4_294_967_295,
+        4_294_967_294,
+        "a",
+        "NEXT a\n",
+        "NEXT 4294967294 4294967295 a\n",
+    ),
+    (
+        4_294_967_295,
+        4_294_967_295,
+        "z",
+        "NEXT z\n",
+        "NEXT - - z\n",
+    ),
+    (
+        4_294_967_295,
+        4_294_967_295,
+        "",
+        "NEXT \n",
+        "NEXT - - \n",
+    ),
+];
+
+#[test]
+fn items_are_printed_in_each_version(rt: HostRuntime) -> Result<(), Fail> {
+    let heap = unlimited(&rt);
+    for (from, place, text, first, second) in &ITEMS {
+        let text = Text::new(heap.clone()?, text.as_bytes())?;
+        let item = Item {
+            from: *from,
+            place: *place,
+            text,
+        };
+        expect_lines(&rt, &heap, &Note::Next(item), first, second)?;
+    }
+    Ok(())
+}
+
+#[test]
+fn terminals_are_printed_alike_in_each_version(rt: HostRuntime) -> Result<(), Fail> {
+    let heap = unlimited(&rt);
+    let failed = Note::Failed(Text::new(heap.clone()?, b"x")?);
+    expect_lines(&rt, &heap, &failed, "FAILED x\n", "FAILED x\n")?;
+    expect_lines(&rt, &heap, &Note::Completed, "DONE\n", "DONE\n")
 }
 
 fn expect_request(rt: &impl Abort, line: &ScriptLine) {

@@ -3,13 +3,13 @@
 //!
 //! Told is how a session ended (Q for QUIT, E for the end of the input, H for handed over, R for a fault of the reader, W for
 //! one of the writer, T for too many reads), then what was written, and behind `|` what the desk was asked: `n`, `c` and `f`
-//! for an item, completion and an error, and `s` for a Join.
+//! for an item, completion and an error, and `s` for a Join in the first version, `t` for one in the second.
 
 use crate::expecting::{expect_count, expect_told};
 use crate::heaps::unlimited;
 use rx_heap::Heap;
 use rx_note::{Note, Policy};
-use rx_proto::{Name, Response, Word};
+use rx_proto::{Name, Response, Version, Word};
 use rx_session::{Desk, Follow, LineReader, LineState, Next, SessionEnd, serve_lines};
 use rx_signs::Told;
 use std::io::{self, ErrorKind, Read, Write};
@@ -101,15 +101,24 @@ impl<W: Drop> Desk<W> for Clerk {
 
     ghost emits = { λ old name note response new. Unit {0} };
 
-    ghost follows = { λ old name policy writer answer new. Unit {0} };
+    ghost follows = { λ old name policy version writer answer new. Unit {0} };
 
     fn emit(&mut self, _name: &Name, note: Note) -> Response {
         self.asked.put(sign_of(&note));
         Response::Done
     }
 
-    fn follow(&mut self, _name: &Name, _policy: Policy, writer: W) -> Follow<W> {
-        self.asked.put(b's');
+    fn follow(
+        &mut self,
+        _name: &Name,
+        _policy: Policy,
+        version: Version,
+        writer: W,
+    ) -> Follow<W> {
+        self.asked.put(match version {
+            Version::One => b's',
+            Version::Two => b't',
+        });
         if self.takes {
             Follow::Taken
         } else {
@@ -155,7 +164,7 @@ fn told_of(heap: &Heap, reader: &mut Drips, writer: Sheet, takes: bool, max_read
 }
 
 // The input, how many bytes a read gives, whether the desk keeps the writer, the most reads, and what is told.
-const SESSIONS: [(&str, usize, bool, u64, &str); 7] = [
+const SESSIONS: [(&str, usize, bool, u64, &str); 10] = [
     (
         "PUB s a\nNOPE\nQUIT\nPUB s b\n",
         7,
@@ -164,6 +173,21 @@ const SESSIONS: [(&str, usize, bool, u64, &str); 7] = [
         "QOK\nERR SYNTAX\nOK\n|n",
     ),
     ("SUB s BUFFER DELAY\nPUB s a\n", 64, true, 99, "H|s"),
+    (
+        "HELLO 3\nHELLO 2\nSUB s BUFFER DELAY\n",
+        64,
+        false,
+        99,
+        "EERR VERSION\nOK\nERR FULL\n|t",
+    ),
+    (
+        "HELLO 2\nHELLO 0\nSUB s BUFFER DELAY\nSUB s BUFFER DELAY\nHELLO 1\nSUB s BUFFER DELAY\n",
+        5,
+        false,
+        99,
+        "EOK\nERR VERSION\nERR FULL\nERR FULL\nOK\nERR FULL\n|tts",
+    ),
+    ("HELLO 2\nSUB s BUFFER DELAY\n", 64, true, 99, "H|t"),
     (
         "SUB s BUFFER DELAY\nFAIL s a\nEND s\n",
         7,

@@ -15,6 +15,7 @@ use rx_drain::{
 use rx_heap::Heap;
 use rx_mailbox::{Inbox, Port, Post};
 use rx_note::{Event, Note};
+use rx_proto::Version;
 use rx_pump::{Call, Out};
 use rx_signs::{Meeting, Refusable, Seen, Tale, Told, note_of, refuse_in_turn};
 use std::alloc::Global;
@@ -67,9 +68,9 @@ pub(crate) fn note(rt: &impl Abort, heap: &Heap, sign: u8) -> Note {
     note_of(heap, sign).expect(rt, "a note")
 }
 
-// A sink over a page that was started for observer 3 and took the notes of these signs.
-fn lined(rt: &impl Abort, heap: &Heap, signs: &[u8]) -> LineSink<Page> {
-    let mut sink = LineSink::new(Page::new(false));
+// A sink of a version over a page that was started for observer 3 and took the notes of these signs.
+fn lined(rt: &impl Abort, heap: &Heap, version: Version, signs: &[u8]) -> LineSink<Page> {
+    let mut sink = LineSink::new(Page::new(false), version);
     let _ = sink.start(3);
     for sign in signs {
         let _ = sink.take(note(rt, heap, *sign));
@@ -77,16 +78,16 @@ fn lined(rt: &impl Abort, heap: &Heap, signs: &[u8]) -> LineSink<Page> {
     sink
 }
 
-// What a line sink wrote of the notes of these signs; behind `|` in how many calls, how many notes it took, and `!` where it
-// failed, else `-`.
-fn told_of_lines(rt: &impl Abort, heap: &Heap, signs: &[u8]) -> Told {
-    let rest = lined(rt, heap, signs).finish();
+// What a line sink of a version wrote of the notes of these signs; behind `|` in how many calls, how many notes it took, and `!`
+// where it failed, else `-`.
+fn told_of_lines(rt: &impl Abort, heap: &Heap, version: Version, signs: &[u8]) -> Told {
+    let rest = lined(rt, heap, version, signs).finish();
     let Page {
         mut held,
         writes,
         flushes: _,
         is_torn: _,
-    } = lined(rt, heap, signs).into_writer();
+    } = lined(rt, heap, version, signs).into_writer();
     held.put(b'|');
     held.put_digit(writes);
     held.put_digit(rest.notes as usize);
@@ -97,12 +98,19 @@ fn told_of_lines(rt: &impl Abort, heap: &Heap, signs: &[u8]) -> Told {
 #[test]
 fn line_sink(rt: HostRuntime) {
     let heap = unlimited(&rt);
-    for (signs, wanted) in [
-        ("a.", "JOINED 3\nNEXT a\nDONE\n|32-"),
-        ("ab!", "JOINED 3\nNEXT a\nNEXT b\nFAILED x\n|43-"),
-        ("", "JOINED 3\n|10-"),
+    for (version, signs, wanted) in [
+        (Version::One, "a.", "JOINED 3\nNEXT a\nDONE\n|32-"),
+        (
+            Version::One,
+            "ab!",
+            "JOINED 3\nNEXT a\nNEXT b\nFAILED x\n|43-",
+        ),
+        (Version::One, "", "JOINED 3\n|10-"),
+        (Version::Two, "a.", "JOINED 3\nNEXT 0 0 a\nDONE\n|32-"),
+        (Version::Two, "!", "JOINED 3\nFAILED x\n|21-"),
+        (Version::Two, "", "JOINED 3\n|10-"),
     ] {
-        let told = told_of_lines(&rt, &heap, signs.as_bytes());
+        let told = told_of_lines(&rt, &heap, version, signs.as_bytes());
         expect_told(&rt, told.as_bytes(), wanted, signs);
     }
 }
@@ -167,9 +175,9 @@ fn a_line_sink_tells_what_waits(rt: HostRuntime) {
     ] {
         let dam = Dam { closed_for };
         let sink = if gathers {
-            LineSink::gathering(dam)
+            LineSink::gathering(dam, Version::One)
         } else {
-            LineSink::new(dam)
+            LineSink::new(dam, Version::One)
         };
         let told = told_flows(&rt, &heap, sink, taken, signs.as_bytes());
         expect_told(&rt, told.as_bytes(), wanted, signs);
@@ -179,7 +187,7 @@ fn a_line_sink_tells_what_waits(rt: HostRuntime) {
 #[test]
 fn line_sink_is_flushed(rt: HostRuntime) {
     for (is_torn, wanted) in [(false, "1-"), (true, "1!")] {
-        let mut sink = LineSink::new(Page::new(is_torn));
+        let mut sink = LineSink::new(Page::new(is_torn), Version::One);
         let sign = if sink.flush().is_ok() { b'-' } else { b'!' };
         let mut told = Told::new();
         told.put_digit(sink.into_writer().flushes);

@@ -52,7 +52,8 @@ module _ {M W : Type 0} (tells : M → ℕ → M → Type 0) where
       (λ x. keeps-equal s t x.1) (λ subject x. x.1.kept) e
 
   -- a Join keeps the desk
-  follow_keeps : (s : SessionView M (LineSink W)) (name : List ℕ) (policy : Choice) (version : Version) (writer : W) (f : Follow W) (t : SessionView M (LineSink W)) → follows tells s name policy version writer f t → KeepsSession s t
+  follow_keeps : (s : SessionView M (LineSink W)) (name : List ℕ) (policy : Choice) (version : Version) (writer : W) (f : Follow W) (t : SessionView M (LineSink W))
+      → follows tells s name policy version writer f t → KeepsSession s t
   follow_keeps s name policy version writer f t e =
       match_option (place_of name s.subjects) ((f ≡ Back (Refused words.Subject) writer) × (t ≡ s)) (FollowsAt tells s policy version writer f t) (KeepsSession s t)
       (λ x. keeps-equal s t x.1) (λ subject x. x.1.kept) e

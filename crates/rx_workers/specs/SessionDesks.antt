@@ -39,7 +39,7 @@ pub record KeepsSession {M S : Type 0} (before after : SessionView M S) : Type 0
   pub calls : KeepsDesk before.calls after.calls
 
 module _ {W : Type 0} where
-  -- the sink of a version over a writer, of which nothing was written yet
+  -- the sink over a writer that writes its notes in a version, and wrote nothing yet
   abbrev pub line_sink : Version → W → LineSink W
   line_sink version writer = record { writer = writer; version = version; notes = 0; faults = 0; gathers = true; ahead = 0; stuck = false }
 
@@ -83,4 +83,5 @@ module _ {M W : Type 0} (tells : M → ℕ → M → Type 0) where
   -- a Join at the subject of a name; without such a subject no call is made, and the writer comes back
   abbrev pub follows : SessionView M (LineSink W) → List ℕ → Choice → Version → W → Follow W → SessionView M (LineSink W) → Type 0
   follows before name policy version writer result after =
-      MatchOption (place_of name before.subjects) ((result ≡ Back (Refused words.Subject) writer) × (after ≡ before)) (FollowsAt before policy version writer result after)
+      MatchOption (place_of name before.subjects) ((result ≡ Back (Refused words.Subject) writer) × (after ≡ before))
+      (FollowsAt before policy version writer result after)
