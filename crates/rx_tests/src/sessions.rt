@@ -108,13 +108,7 @@ impl<W: Drop> Desk<W> for Clerk {
         Response::Done
     }
 
-    fn follow(
-        &mut self,
-        _name: &Name,
-        _policy: Policy,
-        version: Version,
-        writer: W,
-    ) -> Follow<W> {
+    fn follow(&mut self, _name: &Name, _policy: Policy, version: Version, writer: W) -> Follow<W> {
         self.asked.put(match version {
             Version::One => b's',
             Version::Two => b't',
