@@ -334,6 +334,7 @@ fn last_place(outs: &[Given]) -> Option<u32> {
 }
 
 // What a run with a limit of items shows.
+#[derive(Clone, Copy)]
 struct Limited {
     spent: u32,
     last: Option<u32>,
