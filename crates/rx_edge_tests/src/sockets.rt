@@ -23,6 +23,11 @@ const ONE: Paths = Paths {
     socket: "rxline-one.sock",
 };
 
+const TWO: Paths = Paths {
+    config: "rxline-two.toml",
+    socket: "rxline-two.sock",
+};
+
 const STOPPED: Paths = Paths {
     config: "rxline-stopped.toml",
     socket: "rxline-stopped.sock",
@@ -177,11 +182,24 @@ pub(crate) fn expect_served(
 }
 
 // A subscriber, by what it says, what it is answered, and the notes that it hears.
+#[derive(Clone, Copy)]
 struct Subscriber {
     says: &'static [u8],
     answered: &'static [u8],
     notes: &'static [u8],
 }
+
+const FIRST_VERSION: Subscriber = Subscriber {
+    says: b"SUB s BUFFER DELAY\n",
+    answered: b"JOINED 0\n",
+    notes: b"NEXT a\nDONE\n",
+};
+
+const SECOND_VERSION: Subscriber = Subscriber {
+    says: b"HELLO 2\nSUB s BUFFER DELAY\n",
+    answered: b"OK\nJOINED 0\n",
+    notes: b"NEXT 0 1 a\nDONE\n",
+};
 
 // A subscriber and a producer, one after the other.
 fn talk(rt: &impl Host, paths: &Paths, subscriber: &Subscriber) -> bool {
@@ -197,31 +215,31 @@ fn talk(rt: &impl Host, paths: &Paths, subscriber: &Subscriber) -> bool {
     first.is_right() && second.is_right()
 }
 
-fn round_trip(rt: &(impl Host + Abort), subscriber: &Subscriber) -> Result<(), Fail> {
-    write_config(rt, &ONE, b"connections = 2\n")?;
+fn round_trip(
+    rt: &(impl Host + Abort + Sync),
+    paths: &Paths,
+    subscriber: &Subscriber,
+    wanted: &str,
+) -> Result<(), Fail> {
+    write_config(rt, paths, b"connections = 2\n")?;
     let (told, right) = join(
         rt,
-        || -> Vec<u8> { serve(rt, &ONE) },
-        || -> bool { talk(rt, &ONE, subscriber) },
+        || -> Vec<u8> { serve(rt, paths) },
+        || -> bool { talk(rt, paths, subscriber) },
     );
-    let wanted = "0 s joins 1 refused 0\n|rxline: listening on rxline-one.sock\n";
-    expect_served(rt, &ONE, told.as_slice(), right, wanted)
+    expect_served(rt, paths, told.as_slice(), right, wanted)
 }
 
 #[test]
 fn socket_round_trip(rt: HostRuntime) -> Result<(), Fail> {
-    let first_version = Subscriber {
-        says: b"SUB s BUFFER DELAY\n",
-        answered: b"JOINED 0\n",
-        notes: b"NEXT a\nDONE\n",
-    };
-    let second_version_on_the_socket = Subscriber {
-        says: b"HELLO 2\nSUB s BUFFER DELAY\n",
-        answered: b"OK\nJOINED 0\n",
-        notes: b"NEXT 0 1 a\nDONE\n",
-    };
-    round_trip(&rt, &first_version)?;
-    round_trip(&rt, &second_version_on_the_socket)
+    let wanted = "0 s joins 1 refused 0\n|rxline: listening on rxline-one.sock\n";
+    round_trip(&rt, &ONE, &FIRST_VERSION, wanted)
+}
+
+#[test]
+fn second_version_on_the_socket(rt: HostRuntime) -> Result<(), Fail> {
+    let wanted = "0 s joins 1 refused 0\n|rxline: listening on rxline-two.sock\n";
+    round_trip(&rt, &TWO, &SECOND_VERSION, wanted)
 }
 
 // How many items are emitted beside one who never reads: more bytes than the buffer of a socket takes.
