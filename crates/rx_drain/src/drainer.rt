@@ -1,4 +1,4 @@
-ghost use Rattle.std.specs.Prelude.{◌≡◌, ◌+◌, [], Some, None, Err, vec_len, MatchResult, OnOk, IfSome};
+ghost use Rattle.std.specs.Prelude.{◌≡◌, ◌+◌, false, [], Some, None, Err, vec_len, MatchResult, OnOk, IfSome};
 ghost use Rattle.std.specs.List.{All};
 ghost use Rattle.rx_pump.specs.Pumps.{IsFresh};
 
@@ -52,7 +52,7 @@ impl<S: Sink> Model for Drainer<S> {
 
 impl<S: Sink> Drainer<S> {
     ghost use Rattle.rx_mailbox.specs.Boxes.{HasEachBye};
-    ghost use Rattle.rx_drain.specs.Drainers.{IsDrained, KeepsPlaces, TakesMore, fresh_drainer, view_of};
+    ghost use Rattle.rx_drain.specs.Drainers.{IsDrained, KeepsPlaces, TakesMore, TakesOne, any_may_wait, fresh_drainer, view_of};
     ghost use Rattle.rx_drain.specs.Serving.{HasServed, HasStopped};
 
     /// A drainer of new parts: one port to each subject, and an inbox with a port for each and one more, the leave port.
@@ -95,7 +95,7 @@ impl<S: Sink> Drainer<S> {
 
     /// Takes the letters that are there, some thousand at most, and waits while there is none. Then it flushes each sink in
     /// which something may wait. While something waits in a sink it waits for a letter some milliseconds at most, and then
-    /// flushes again, so a turn may have taken none.
+    /// flushes again, so a turn may have taken none. Where nothing waits it took one at least.
     ///
     /// A sink that a subject attaches is started and kept. A note goes to the sink that is kept for its observer, which took
     /// no terminal yet. The subject is asked for one item more for each that the sink took: at once, but while the sink is
@@ -115,6 +115,7 @@ impl<S: Sink> Drainer<S> {
         ensures drained { IsDrained S.acts self.new }
         ensures fault { MatchResult result (λ _. self.new.fault ≡ None) (λ fault. self.new.fault ≡ Some fault) }
         ensures took { OnOk result (TakesMore self.old.inbox self.new.inbox) }
+        ensures takes_one { OnOk result (any_may_wait self.old.kept ≡ false → TakesOne self.old.inbox self.new.inbox) }
         ensures kept { KeepsPlaces self.old self.new }
         ensures over { IfSome self.old.fault (λ fault. (result ≡ Err fault) × (self.new ≡ self.old)) }
     {

@@ -3,7 +3,7 @@ ghost use Rattle.std.specs.Prelude.{◌≡◌, true, false, None, IfOk, OnOk, On
 ghost use Rattle.rx_mailbox.specs.declared.letter.Post.TheVariants.{Bye};
 ghost use Rattle.rx_mailbox.specs.Letters as letters;
 ghost use Rattle.rx_pump.specs.Pumps.{AreSame};
-ghost use Rattle.rx_drain.specs.Drainers.{Fits, Goes, Handles, Pays, TakesMore, view_of};
+ghost use Rattle.rx_drain.specs.Drainers.{Fits, Goes, Handles, Pays, TakesMore, TakesOne, any_may_wait, view_of};
 
 use crate::flushing::flush_all;
 use crate::sending::{part_all, send_asks};
@@ -77,6 +77,7 @@ pub fn handle_first<S: Sink, R: Wait>(
     ensures gone { OnErr result (hands.new ≡ hands.old) }
     ensures fits { IfOk result (λ now. Fits leave now.left now.fault hands.new) }
     ensures inbox { OnOk result (TakesMore hands.old.parts.inbox hands.new.parts.inbox) }
+    ensures takes_one { OnOk result (any_may_wait hands.old.kept.items ≡ false → TakesOne hands.old.parts.inbox hands.new.parts.inbox) }
     ensures ports { IfOk result (λ now. AreSame (view_of hands.old left None).ports (view_of hands.new now.left now.fault).ports) }
     ensures goes { IfOk result (λ now. Goes S.acts (view_of hands.old left None) (view_of hands.new now.left now.fault)) }
 {
@@ -96,7 +97,9 @@ pub fn handle_first<S: Sink, R: Wait>(
 }
 
 // Whether something may wait in one of the sinks.
-fn may_wait<S: Sink>(kept: &[Kept<S>]) -> bool {
+fn may_wait<S: Sink>(kept: &[Kept<S>]) -> bool
+    ensures { result ≡ any_may_wait kept.now }
+{
     kept.iter().any(|one| one.may_wait)
 }
 
