@@ -4,7 +4,7 @@ use Rattle.std.specs.List.{AllByRecursion, AllZip, FoldsTo}
 use Rattle.rx_sink.specs.declared.flow.Flow.{Flow}
 use Rattle.rx_sink.specs.declared.flow.Flow.TheVariants.{Clear, Stuck}
 use Rattle.rx_sink.specs.declared.kept.Kept.{Kept}
-use Rattle.rx_sink.specs.Acts.{Acts, Step, Takes, Flushes, last_by, Makes, Took}
+use Rattle.rx_sink.specs.Acts.{Acts, Step, Takes, Flushes, last_by, Makes}
 use Rattle.rx_sink.specs.Attachments.{Attachment, is_clear, may_wait}
 use Rattle.rx_sink.specs.Stands.{IsKept}
 use Rattle.rx_sink.specs.Waiting.{NeverWaits}

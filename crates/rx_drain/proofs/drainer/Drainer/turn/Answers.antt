@@ -1,4 +1,4 @@
-use Rattle.std.proofs.Common.{◌≡◌, false, Some, None, Option, OnOk, Result, Ok, Err, sym, refl, ap, subst, ◌∙◌}
+use Rattle.std.proofs.Common.{◌≡◌, false, Some, Option, OnOk, Result, Ok, Err, sym, refl, ap, subst, ◌∙◌}
 use Rattle.rx_mailbox.specs.Boxes.{Incoming}
 use Rattle.rx_pump.specs.Pumps.{AreSame}
 use Rattle.rx_drain.specs.declared.drain_fault.DrainFault.{DrainFault}
