@@ -77,7 +77,7 @@ module _ {S Rest : Type 0} (acts : Acts S Rest) where
       stands = record {
         left = left;
         sent = subst (λ (l : Bool). HaveSent (is_cut view.fault) l (λ d. []) view.ports) (sym left) (HavePut-fresh (is_cut view.fault) view.ports (ap is_cut whole) fresh);
-        sinks = record { kept_are = subst (AllZip (IsKept acts) []) (sym kept) tt; away_are = subst (AllZip (IsPutAway acts) []) (sym away) tt };
+        sinks = record { kept_are = subst (AllZip (IsKept acts) []) (sym kept) tt; away_are = subst (AllZip (IsPutAway acts) []) (sym away) tt; apart = tt };
         missed = misses;
         took = taken;
       };

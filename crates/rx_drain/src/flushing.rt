@@ -54,6 +54,6 @@ fn flush_at<S: Sink, R: Wait>(
     let one = &hands.kept[place];
     let subject = one.subject;
     let who = one.who;
-    let asks = flush_one(&mut hands.kept, &mut hands.put_away, subject, who);
+    let asks = flush_one(&mut hands.kept, &mut hands.put_away, place, subject, who);
     send_asks(rt, &mut hands.parts.subjects, subject, asks)
 }
