@@ -1,6 +1,5 @@
 -- The sinks of a log took the notes that they were to be served.
-use Rattle.std.proofs.Common.{◌≡◌, ◌∙◌, sym, refl, ap, subst, ℕ, ◌+◌, ◌<◌, ◌==◌, ◌&&◌, ◌⊎◌, inl, inr, if◌then◌else◌, Bool, true, false, not, List, [], ◌∷◌, ◌++◌, append_assoc, append-nil, length, length-append, map, drop, Option, Some, None, slice_get, eq-eqb, arith}
-use Rattle.std.proofs.lemmas.Bool.{eqb-true, ne_eqb}
+use Rattle.std.proofs.Common.{◌≡◌, ◌∙◌, sym, refl, ap, subst, ℕ, ◌+◌, ◌<◌, ◌==◌, ◌&&◌, ◌⊎◌, inl, inr, if◌then◌else◌, Bool, true, false, not, List, [], ◌∷◌, ◌++◌, append_assoc, append-nil, length, length-append, map, drop, Option, Some, None, slice_get, arith}
 use Rattle.std.proofs.lemmas.List.{map-append, drop_all, drop-append-le}
 use Rattle.std.specs.List.{AllByRecursion}
 use Rattle.rx_mailbox.specs.declared.letter.Letter.{Letter}
