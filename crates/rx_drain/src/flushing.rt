@@ -3,7 +3,7 @@ ghost use Rattle.std.specs.Prelude.{◌≡◌, ◌+◌, ◌<◌, ◌≤◌, fals
 ghost use Rattle.rx_pump.specs.Pumps.{AreSame};
 ghost use Rattle.rx_drain.specs.Drainers.{Fits, FlushesAll, FlushesAt, view_of};
 
-use crate::sending::send_asks;
+use crate::sending::{send_asks, wake_all};
 use crate::{DrainFault, DrainerLeft};
 use rx_sink::{Sink, flush_one};
 use std::sync::Wait;
@@ -11,6 +11,23 @@ use std::sync::Wait;
 // Flushes each sink in which something may wait, and asks the subjects for what is due of those that are not stuck. It
 // answers the fault, if there is one.
 pub fn flush_all<S: Sink, R: Wait>(
+    rt: &R,
+    hands: &mut DrainerLeft<S>,
+    leave: usize,
+) -> Option<DrainFault>
+    requires { Fits leave false None hands.old }
+    ensures fits { Fits leave false result hands.new }
+    ensures inbox { hands.new.parts.inbox ≡ hands.old.parts.inbox }
+    ensures ports { AreSame (view_of hands.old false None).ports (view_of hands.new false result).ports }
+    ensures flushes { FlushesAll S.acts (view_of hands.old false None) (view_of hands.new false result) }
+{
+    let fault = flush_each(rt, hands, leave);
+    wake_all(&hands.parts.subjects);
+    fault
+}
+
+// The same, but it wakes no subject that sleeps: many requests are put before one is woken.
+fn flush_each<S: Sink, R: Wait>(
     rt: &R,
     hands: &mut DrainerLeft<S>,
     leave: usize,

@@ -6,7 +6,7 @@ ghost use Rattle.rx_pump.specs.Pumps.{AreSame};
 ghost use Rattle.rx_drain.specs.Drainers.{Fits, Goes, Handles, Pays, TakesMore, TakesOne, any_may_wait, view_of};
 
 use crate::flushing::flush_all;
-use crate::sending::{part_all, send_asks};
+use crate::sending::{part_all, send_asks, wake, wake_all};
 use crate::serving_out::{pass_over, serve_out};
 use crate::{DrainFault, DrainerLeft};
 use rx_mailbox::{Gone, Letter, Post, TryRecvFault};
@@ -62,6 +62,7 @@ pub fn handle<S: Sink, R: Wait>(
         out,
     );
     let fault = send_asks(rt, &mut hands.parts.subjects, from, asks);
+    wake(&hands.parts.subjects, from);
     Handled { left, fault }
 }
 
@@ -185,6 +186,7 @@ fn leave_all<S: Sink, R: Wait>(rt: &R, hands: &mut DrainerLeft<S>, leave: u32) -
     ensures handles { Handles S.acts (letters.letter leave Bye) (view_of hands.old false None) (view_of hands.new true result) }
 {
     let fault = part_all(rt, &mut hands.parts.subjects, hands.kept.as_slice());
+    wake_all(&hands.parts.subjects);
     put_all_away(&mut hands.kept, &mut hands.put_away);
     if fault.is_some() {
         return fault;

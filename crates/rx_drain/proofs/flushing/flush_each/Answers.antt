@@ -3,7 +3,7 @@ use Rattle.std.proofs.lemmas.Option.{slice_get-get_or}
 use Rattle.rx_drain.specs.declared.drain_fault.DrainFault.{DrainFault}
 use Rattle.rx_drain.specs.Drainers.{Fits, view_of}
 use Rattle.rx_drain.proofs.Clearing.{Flushing, Flushing-none, Flushing-past, Flushing-more, Flushing-whole, Flushing-all, Flushing-fault}
-use Rattle.rx_drain.proofs.flushing.flush_all.Goals as goal
+use Rattle.rx_drain.proofs.flushing.flush_each.Goals as goal
 
 -- there is no fault
 none_of : (fault : Option DrainFault) → is_some fault ≡ false → fault ≡ None
