@@ -104,11 +104,11 @@ impl<S: Sink> Drainer<S> {
     /// a fault of the sink, and where there was no memory for one that came. The sink of an observer that left is put away.
     /// What is due is asked for before that.
     ///
-    /// Before the Bye of the leave port is heard each sink is flushed once more in which something may wait. Then each
-    /// observer is disposed of whose sink is kept, in the order in which they came, all are put away, and the ports to
-    /// subjects end. Unserved is a sink that comes later, from the leave port, or while one is kept for its observer; what
-    /// comes for an observer without a sink, and what else the leave port sends, is discarded: so a body from it can have a
-    /// drainer that waits look after its sinks.
+    /// Before the Bye of the leave port is heard each sink is flushed once more in which something may wait, and for about a
+    /// quarter of a second again while something waits in one. Then each observer is disposed of whose sink is kept, in the
+    /// order in which they came, all are put away, and the ports to subjects end. Unserved is a sink that comes later, from the
+    /// leave port, or while one is kept for its observer; what comes for an observer without a sink, and what else the leave
+    /// port sends, is discarded: so a body from it can have a drainer that waits look after its sinks.
     ///
     /// At a fault what was sent is the first of that, and from then on each turn answers this fault and does nothing.
     pub fn turn<R: Wait>(&mut self, rt: &R) -> Result<(), DrainFault>

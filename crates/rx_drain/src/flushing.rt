@@ -1,12 +1,20 @@
 // What waits in the sinks goes out, as far as it can now.
 ghost use Rattle.std.specs.Prelude.{◌≡◌, ◌+◌, ◌<◌, ◌≤◌, false, None, vec_len};
 ghost use Rattle.rx_pump.specs.Pumps.{AreSame};
-ghost use Rattle.rx_drain.specs.Drainers.{Fits, FlushesAll, FlushesAt, view_of};
+ghost use Rattle.rx_drain.specs.Drainers.{Fits, FlushesAll, FlushesAt, any_may_wait, view_of};
 
 use crate::sending::{send_asks, wake_all};
 use crate::{DrainFault, DrainerLeft};
-use rx_sink::{Sink, flush_one};
+use rx_sink::{Kept, Sink, flush_one};
 use std::sync::Wait;
+use std::sync::atomic::AtomicU64;
+use std::time::Duration;
+
+// How often the sinks are flushed before the drainer leaves, and for how many milliseconds it rests after each time: a quarter
+// of a second in all.
+const LAST_ROUNDS: u32 = 62;
+
+const LAST_REST: u64 = 4;
 
 // Flushes each sink in which something may wait, and asks the subjects for what is due of those that are not stuck. It
 // answers the fault, if there is one.
@@ -50,6 +58,44 @@ fn flush_each<S: Sink, R: Wait>(
         }
     }
     None
+}
+
+// Flushes the sinks until nothing waits in any, but for about a quarter of a second at most, all of them together. It answers
+// the fault, if there is one.
+pub fn flush_last<S: Sink, R: Wait>(
+    rt: &R,
+    hands: &mut DrainerLeft<S>,
+    leave: usize,
+) -> Option<DrainFault>
+    requires { Fits leave false None hands.old }
+    ensures fits { Fits leave false result hands.new }
+    ensures inbox { hands.new.parts.inbox ≡ hands.old.parts.inbox }
+    ensures ports { AreSame (view_of hands.old false None).ports (view_of hands.new false result).ports }
+    ensures flushes { FlushesAll S.acts (view_of hands.old false None) (view_of hands.new false result) }
+{
+    for _ in 0..LAST_ROUNDS {
+        let fault = flush_all(rt, hands, leave);
+        if fault.is_some() {
+            return fault;
+        }
+        if !may_wait(&hands.kept) {
+            return None;
+        }
+        rest(rt);
+    }
+    flush_all(rt, hands, leave)
+}
+
+// Lets some milliseconds pass: nobody wakes it.
+fn rest<R: Wait>(rt: &R) {
+    AtomicU64::new(0).park_timeout(rt, 0, Duration::from_millis(LAST_REST));
+}
+
+// Whether something may wait in one of the sinks.
+pub fn may_wait<S: Sink>(kept: &[Kept<S>]) -> bool
+    ensures { result ≡ any_may_wait kept.now }
+{
+    kept.iter().any(|one| one.may_wait)
 }
 
 // Flushes the sink at this place, and asks its subject for what is due, unless the sink is stuck. It answers the fault, if

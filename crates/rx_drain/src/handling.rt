@@ -5,13 +5,13 @@ ghost use Rattle.rx_mailbox.specs.Letters as letters;
 ghost use Rattle.rx_pump.specs.Pumps.{AreSame};
 ghost use Rattle.rx_drain.specs.Drainers.{Fits, Goes, Handles, Pays, TakesMore, TakesOne, any_may_wait, view_of};
 
-use crate::flushing::flush_all;
+use crate::flushing::{flush_all, flush_last, may_wait};
 use crate::sending::{part_all, send_asks, wake, wake_all};
 use crate::serving_out::{pass_over, serve_out};
 use crate::{DrainFault, DrainerLeft};
 use rx_mailbox::{Gone, Letter, Post, TryRecvFault};
 use rx_pump::{Out, finish_all};
-use rx_sink::{Kept, Sink, put_all_away};
+use rx_sink::{Sink, put_all_away};
 use std::sync::Wait;
 use std::time::Duration;
 
@@ -97,13 +97,6 @@ pub fn handle_first<S: Sink, R: Wait>(
     }
 }
 
-// Whether something may wait in one of the sinks.
-fn may_wait<S: Sink>(kept: &[Kept<S>]) -> bool
-    ensures { result ≡ any_may_wait kept.now }
-{
-    kept.iter().any(|one| one.may_wait)
-}
-
 // Does what the letters ask that are there, as long as there is no fault, and waits for none.
 pub fn handle_more<S: Sink, R: Wait>(
     rt: &R,
@@ -151,7 +144,7 @@ pub fn handle_rest<S: Sink, R: Wait>(
 }
 
 // Does what a Bye asks: the first of the leave port has the drainer leave. What waits in the sinks goes out before that, as
-// far as it can.
+// far as it can within about a quarter of a second.
 fn hear_bye<S: Sink, R: Wait>(
     rt: &R,
     hands: &mut DrainerLeft<S>,
@@ -168,7 +161,7 @@ fn hear_bye<S: Sink, R: Wait>(
     if left || from as usize != leave {
         return Handled { left, fault: None };
     }
-    let fault = flush_all(rt, hands, leave);
+    let fault = flush_last(rt, hands, leave);
     if fault.is_some() {
         put_all_away(&mut hands.kept, &mut hands.put_away);
         return Handled { left: true, fault };

@@ -10,9 +10,6 @@ pub const MOST_WAITING: usize = 66_970;
 /// From so many bytes on, what is written goes out at once where nothing waits before it.
 const BLOCK: usize = 4_096;
 
-// How long the last bytes wait for a peer once nobody writes any more, in milliseconds.
-const LAST_WAIT: u64 = 20;
-
 // How often a flush writes at most.
 const MOST_WRITES: u32 = 1_000;
 
@@ -29,7 +26,7 @@ pub struct Outgoing<C: Clock + Drop> {
     stuck_since: Option<Duration>,
 }
 
-// What still waits is tried once more: by now it is known that nothing comes after it.
+// What still waits is tried once more, and waits no longer: a drainer that leaves has flushed it for as long as any may wait.
 impl<C: Clock + Drop> Drop for Outgoing<C> {
     fn drop(self) {
         let Outgoing {
@@ -39,12 +36,8 @@ impl<C: Clock + Drop> Drop for Outgoing<C> {
             stall: _,
             stuck_since: _,
         } = self;
-        if waiting.is_empty() {
-            return;
-        }
-        let last = Some(Duration::from_millis(LAST_WAIT));
-        if stream.set_write_timeout(last).is_ok() && stream.set_nonblocking(false).is_ok() {
-            let _ = stream.write_all(waiting.as_slice());
+        if !waiting.is_empty() && stream.set_nonblocking(true).is_ok() {
+            let _ = stream.write(waiting.as_slice());
         }
     }
 }
