@@ -119,10 +119,22 @@ impl<S: Sink> Drainer<S> {
         ensures kept { KeepsPlaces self.old self.new }
         ensures over { IfSome self.old.fault (λ fault. (result ≡ Err fault) × (self.new ≡ self.old)) }
     {
+        self.turn_by(rt, false)
+    }
+
+    // A turn. Where it looks, it may also wait for a letter for a quarter of a second in vain, and look after all sinks.
+    fn turn_by<R: Wait>(&mut self, rt: &R, looks: bool) -> Result<(), DrainFault>
+        ensures drained { IsDrained S.acts self.new }
+        ensures fault { MatchResult result (λ _. self.new.fault ≡ None) (λ fault. self.new.fault ≡ Some fault) }
+        ensures took { OnOk result (TakesMore self.old.inbox self.new.inbox) }
+        ensures takes_one { OnOk result (looks ≡ false → any_may_wait self.old.kept ≡ false → TakesOne self.old.inbox self.new.inbox) }
+        ensures kept { KeepsPlaces self.old self.new }
+        ensures over { IfSome self.old.fault (λ fault. (result ≡ Err fault) × (self.new ≡ self.old)) }
+    {
         if let Some(fault) = self.fault {
             return Err(fault);
         }
-        let Ok(first) = handle_first(rt, &mut self.hands, self.leave, self.left) else {
+        let Ok(first) = handle_first(rt, &mut self.hands, self.leave, self.left, looks) else {
             self.fault = Some(DrainFault::InboxGone);
             return Err(DrainFault::InboxGone);
         };
@@ -133,8 +145,9 @@ impl<S: Sink> Drainer<S> {
         outcome(rest.fault)
     }
 
-    /// Takes letters until the Bye of each port came, that of the leave port too, and waits while there is none. `Err` at a
-    /// fault, with the parts that are left.
+    /// Takes letters until the Bye of each port came, that of the leave port too, and waits while there is none. Where none
+    /// comes for a quarter of a second it looks after all sinks, so that one whose reader is gone can have its fault with no
+    /// note. `Err` at a fault, with the parts that are left.
     pub fn serve<R: Wait>(self, rt: &R) -> Result<DrainEnd<S>, DrainStop<S>>
         ensures { MatchResult result (λ end. HasServed S.acts self end) (λ stop. HasStopped S.acts self stop) }
     {
@@ -173,7 +186,9 @@ impl<S: Sink> Drainer<S> {
             if is_over {
                 return Ok(());
             }
-            self.turn(rt)?;
+            // Without a sink there is nothing to look after.
+            let looks = !self.hands.kept.is_empty();
+            self.turn_by(rt, looks)?;
         }
         unreachable!()
     }

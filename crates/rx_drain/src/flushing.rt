@@ -29,16 +29,39 @@ pub fn flush_all<S: Sink, R: Wait>(
     ensures ports { AreSame (view_of hands.old false None).ports (view_of hands.new false result).ports }
     ensures flushes { FlushesAll S.acts (view_of hands.old false None) (view_of hands.new false result) }
 {
-    let fault = flush_each(rt, hands, leave);
-    wake_all(&hands.parts.subjects);
+    let mut asked = false;
+    let fault = flush_each(rt, hands, leave, false, &mut asked);
+    wake_all(&hands.parts.subjects, asked);
     fault
 }
 
-// The same, but it wakes no subject that sleeps: many requests are put before one is woken.
+// Flushes all sinks, also those in which nothing waits: one whose reader is gone may have its fault then. It answers the fault
+// of a subject, if there is one.
+pub fn look_after<S: Sink, R: Wait>(
+    rt: &R,
+    hands: &mut DrainerLeft<S>,
+    leave: usize,
+) -> Option<DrainFault>
+    requires { Fits leave false None hands.old }
+    ensures fits { Fits leave false result hands.new }
+    ensures inbox { hands.new.parts.inbox ≡ hands.old.parts.inbox }
+    ensures ports { AreSame (view_of hands.old false None).ports (view_of hands.new false result).ports }
+    ensures flushes { FlushesAll S.acts (view_of hands.old false None) (view_of hands.new false result) }
+{
+    let mut asked = false;
+    let fault = flush_each(rt, hands, leave, true, &mut asked);
+    wake_all(&hands.parts.subjects, asked);
+    fault
+}
+
+// Flushes all sinks, or each in which something may wait, and wakes no subject that sleeps: many requests are put before one is
+// woken. It notes whether something was asked.
 fn flush_each<S: Sink, R: Wait>(
     rt: &R,
     hands: &mut DrainerLeft<S>,
     leave: usize,
+    all: bool,
+    asked: &mut bool,
 ) -> Option<DrainFault>
     requires { Fits leave false None hands.old }
     ensures fits { Fits leave false result hands.new }
@@ -50,8 +73,8 @@ fn flush_each<S: Sink, R: Wait>(
     let mut place = hands.kept.len();
     while place > 0 {
         place -= 1;
-        if hands.kept[place].may_wait {
-            let fault = flush_at(rt, hands, leave, place);
+        if all || hands.kept[place].may_wait {
+            let fault = flush_at(rt, hands, leave, place, asked);
             if fault.is_some() {
                 return fault;
             }
@@ -98,13 +121,14 @@ pub fn may_wait<S: Sink>(kept: &[Kept<S>]) -> bool
     kept.iter().any(|one| one.may_wait)
 }
 
-// Flushes the sink at this place, and asks its subject for what is due, unless the sink is stuck. It answers the fault, if
-// there is one.
+// Flushes the sink at this place, and asks its subject for what is due, unless the sink is stuck. It notes whether something was
+// asked, and answers the fault, if there is one.
 fn flush_at<S: Sink, R: Wait>(
     rt: &R,
     hands: &mut DrainerLeft<S>,
     leave: usize,
     place: usize,
+    asked: &mut bool,
 ) -> Option<DrainFault>
     requires within { place < vec_len hands.old.kept }
     requires fits { Fits leave false None hands.old }
@@ -118,5 +142,6 @@ fn flush_at<S: Sink, R: Wait>(
     let subject = one.subject;
     let who = one.who;
     let asks = flush_one(&mut hands.kept, &mut hands.put_away, place, subject, who);
+    *asked = *asked || asks.items > 0 || asks.leaves;
     send_asks(rt, &mut hands.parts.subjects, subject, asks)
 }

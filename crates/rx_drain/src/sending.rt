@@ -64,8 +64,11 @@ pub fn wake<S: Drop>(subjects: &Vec<Port<Call<S>>, Heap>, subject: u32) {
     }
 }
 
-// Wakes the subjects that sleep.
-pub fn wake_all<S: Drop>(subjects: &Vec<Port<Call<S>>, Heap>) {
+// Wakes the subjects that sleep, if something was asked of any.
+pub fn wake_all<S: Drop>(subjects: &Vec<Port<Call<S>>, Heap>, asked: bool) {
+    if !asked {
+        return;
+    }
     for port in subjects.iter() {
         port.ring();
     }

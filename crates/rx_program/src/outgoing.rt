@@ -75,6 +75,18 @@ impl<C: Clock + Drop> Outgoing<C> {
         (sent, Err(io::Error::from(ErrorKind::WouldBlock)))
     }
 
+    // Sees whether the peer is gone, where nothing waits for it: then a write of no bytes fails, and it doesn't where a peer
+    // only ended what it writes. While a session reads from the socket, which its writes then wait for, the session sees to that.
+    fn look(&mut self) -> io::Result<()> {
+        let Ok(None) = self.stream.write_timeout() else {
+            return Ok(());
+        };
+        match self.stream.write(&[]) {
+            Err(fault) if is_gone(fault.kind()) => Err(fault),
+            _ => Ok(()),
+        }
+    }
+
     // The fault of a socket that takes no more bytes now: they wait, but not for ever where it takes none at all.
     fn stuck(&mut self, sent: usize) -> io::Error {
         let Ok(now) = self.clock.monotonic() else {
@@ -109,6 +121,9 @@ impl<C: Clock + Drop> Write for Outgoing<C> {
     }
 
     fn flush(&mut self) -> io::Result<()> {
+        if self.waiting.is_empty() {
+            return self.look();
+        }
         let (sent, ended) = self.send();
         self.waiting.drain(..sent.min(self.waiting.len()));
         match ended {
@@ -120,4 +135,9 @@ impl<C: Clock + Drop> Write for Outgoing<C> {
             }
         }
     }
+}
+
+// Whether nobody reads what is written any more.
+fn is_gone(kind: ErrorKind) -> bool {
+    matches!(kind, ErrorKind::BrokenPipe | ErrorKind::ConnectionReset)
 }

@@ -35,8 +35,8 @@ loop-place-preserved g c =
           (slice_get-get_or hands.kept.items next one (omega (arith, inv.within, c.loop-place-test.true, hands.kept.ok.0)) ∙ ap Some (sym c.index.ensures)) c.if-index.false inv.flushing;
     }
 
-pub loop-place-preserved-else-is_some : goal.loop-place-preserved-else-is_some
-loop-place-preserved-else-is_some g c =
+pub loop-place-preserved-in-loop-place : goal.loop-place-preserved-in-loop-place
+loop-place-preserved-in-loop-place g c =
     let inv = c.loop-place.invariant in
     let hands = c.loop-place.hands in
     let after = c.flush_at-fault.new.hands in
