@@ -18,7 +18,7 @@ use Rattle.rx_sink.specs.Stands.{IsKept, Stand}
 use Rattle.rx_drain.specs.declared.drain_fault.DrainFault.{DrainFault}
 use Rattle.rx_drain.specs.declared.drain_fault.DrainFault.TheVariants.{InboxGone, SubjectGone}
 use Rattle.rx_drain.specs.Calls.{calls_to, partings_of}
-use Rattle.rx_drain.specs.Credit.{IsPaid}
+use Rattle.rx_drain.specs.Credit.{AreAllPaid, IsPaid}
 use Rattle.rx_drain.specs.Logs.{Log, Next, Flush, letters, kept_in, owed}
 use Rattle.rx_drain.specs.Drainers.{DrainerView, is_cut, IsOfSubject, NamesSubject, HaveSent, Stands, Handles, FlushesAt, FlushesAll}
 use Rattle.rx_drain.proofs.Crediting.{paid_by_flush, paid_without}
@@ -107,6 +107,36 @@ module _ {S Rest : Type 0} (acts : Acts S Rest) where
         fault = subst (λ (m : ℕ). IsOfSubject after.fault m) (AreSame-length before.ports now.ports same) at.fault;
         stands = λ log s. (let h = g.stands log s in (h.0, h.1, h.2, λ none. absurd (some_fault after.fault some none)));
       }
+
+  -- SEVERAL TIMES
+
+  -- from all for which the drainer stood it came to this by some flushes
+  abbrev pub ComesTo : DrainerView S Rest → DrainerView S Rest → Type 0
+  ComesTo before now = (log : Log S) → Stands acts (length before.ports) log before → (more : Log S) × (letters more ≡ letters log) × Stands acts (length before.ports) more now
+
+  pub comes_nowhere : (view : DrainerView S Rest) → ComesTo view view
+  comes_nowhere view log s = (log, refl, s)
+
+  -- it was flushed once more
+  pub flushes_again : (before now after : DrainerView S Rest) → AreSame before.ports now.ports → ComesTo before now → FlushesAll acts now after → FlushesAll acts before after
+  flushes_again before now after same comes flushes =
+      let count : length now.ports ≡ length before.ports = AreSame-length before.ports now.ports same in
+      record {
+        fault = subst (λ (m : ℕ). IsOfSubject after.fault m) count flushes.fault;
+        stands = λ log s.
+            (let c = comes log s in
+            let f = flushes.stands c.0 (subst (λ (m : ℕ). Stands acts m c.0 now) (sym count) c.2) in
+            (f.0, f.1 ∙ c.1, subst (λ (m : ℕ). Stands acts m f.0 after) count f.2, λ none. subst (λ (m : ℕ). AreAllPaid m f.0) count (f.3 none)));
+      }
+
+  -- and goes on, where that was no fault
+  pub comes_again : (before now : DrainerView S Rest) (after : Option DrainFault → DrainerView S Rest) (fault : Option DrainFault) → is_some fault ≡ false → AreSame before.ports now.ports
+      → ComesTo before now → FlushesAll acts now (after fault) → FlushesAll acts before (after None)
+  comes_again before now after None whole same comes flushes = flushes_again before now (after None) same comes flushes
+  comes_again before now after (Some fault) whole same comes flushes = cc
+
+  pub comes_by : (before after : DrainerView S Rest) → FlushesAll acts before after → ComesTo before after
+  comes_by before after flushes log s = (let f = flushes.stands log s in (f.0, f.1, f.2))
 
   -- BEFORE A LETTER
 

@@ -10,12 +10,13 @@ use Rattle.rx_pump.specs.declared.out.Out.TheVariants.{Attach, Give, Detach}
 use Rattle.rx_sink.specs.declared.flow.Flow.{Flow}
 use Rattle.rx_sink.specs.declared.flow.Flow.TheVariants.{Clear, Ready, Stuck}
 use Rattle.rx_sink.specs.declared.kept.Kept.{Kept}
-use Rattle.rx_sink.specs.Acts.{Acts, Takes, Flushes}
-use Rattle.rx_sink.specs.Attachments.{Attachment, Mark, Fine, Fault, NoMemory, is_clear, is_held_back, is_last, may_wait, is_of, kept_for, without, replaced, with_note, with_flush, paid, attached, given, settled, served, served_yet, flushed, written, detached, let_go}
+use Rattle.rx_sink.specs.Acts.{Acts, Step, Takes, Flushes}
+use Rattle.rx_sink.specs.Attachments.{Attachment, Mark, Fine, Fault, NoMemory, Apart, is_clear, is_held_back, is_last, may_wait, is_of, kept_for, without, replaced, with_note, with_flush, paid, attached, given, settled, served, served_yet, flushed, written, detached, let_go}
 use Rattle.rx_sink.specs.Stands.{IsKept}
 use Rattle.rx_drain.specs.Credit.{IsPaid}
 use Rattle.rx_drain.specs.Logs.{Log, NoLetters, Next, Flush, letters, has_left, brought, post_change, letter_change, kept_in}
-use Rattle.rx_drain.proofs.Taking.{Apart, all_append, all_but, all_with, apart_in, key_is}
+use Rattle.rx_sink.proofs.Apartness.{key_is}
+use Rattle.rx_drain.proofs.Taking.{all_append, all_but, all_with, apart_in}
 
 bool_cases : (b : Bool) → (b ≡ true) ⊎ (b ≡ false)
 bool_cases true = inl refl
@@ -27,6 +28,14 @@ held_stuck : (flow : Flow) (due : ℕ) → is_held_back flow due ≡ true → fl
 held_stuck Clear due is = cc
 held_stuck Ready due is = cc
 held_stuck Stuck due is = refl
+
+-- where nothing waits in a sink, it was flushed last
+clear_last : (last : Option Step) → may_wait last ≡ false → last ≡ Some (Flushes Clear)
+clear_last None is = cc
+clear_last (Some (Takes note flow)) is = cc
+clear_last (Some (Flushes Clear)) is = refl
+clear_last (Some (Flushes Ready)) is = cc
+clear_last (Some (Flushes Stuck)) is = cc
 
 module _ {S : Type 0} where
   -- nothing is due, or the sink was stuck when it last took a note or was flushed
@@ -103,11 +112,11 @@ module _ {S : Type 0} where
   withheld leave (Next log x mark) = withheld_letter (has_left leave log) leave (length (letters log)) x mark (kept_in leave log) (withheld leave log)
   withheld leave (Flush log s w mark) = withheld_flush s w mark (kept_for s w (kept_in leave log)) (kept_in leave log) (withheld leave log)
 
-  -- where nothing waits in a sink, nothing is due
+  -- and nothing is due of it
   clear_paid : (a : Attachment S) → may_wait a.last ≡ false → Withheld a → IsPaid a
-  clear_paid a clear (inl none) = inl none
+  clear_paid a clear (inl none) = (Clear, clear_last a.last clear, inl none)
   clear_paid a clear (inr (inl (note, is))) = (let no : true ≡ false = sym (ap may_wait is) ∙ clear in cc)
-  clear_paid a clear (inr (inr is)) = inr is
+  clear_paid a clear (inr (inr is)) = (Stuck, is, inr refl)
 
 -- ONE PLACE
 
@@ -176,16 +185,17 @@ module _ {S : Type 0} (s w : ℕ) where
         | inr test ↦ first_later c a kept i test (first kept i a is key apart.1)
       ]
 
-  pays_settle : (kept : List (Attachment S)) (i : ℕ) (a b : Attachment S) (leaves held_back : Bool) (took : ℕ) → First kept i a → (held_back ≡ true → IsPaid b)
+  pays_settle : (kept : List (Attachment S)) (i : ℕ) (a b : Attachment S) (flow : Flow) (leaves held_back : Bool) (took : ℕ) → First kept i a
+      → b.last ≡ Some (Flushes flow) → (held_back ≡ true → flow ≡ Stuck)
       → AllByRecursion IsPaid (drop (suc i) kept) → AllByRecursion IsPaid (drop i (settled leaves held_back s w b took kept).kept)
-  pays_settle kept i a b true held_back took f stuck all = subst (AllByRecursion IsPaid) (sym f.left_out) all
-  pays_settle kept i a b false true took f stuck all = subst (AllByRecursion IsPaid) (sym (f.put_in b)) (stuck refl, all)
-  pays_settle kept i a b false false took f stuck all = subst (AllByRecursion IsPaid) (sym (f.put_in (paid b))) (inl refl, all)
+  pays_settle kept i a b flow true held_back took f last stuck all = subst (AllByRecursion IsPaid) (sym f.left_out) all
+  pays_settle kept i a b flow false true took f last stuck all = subst (AllByRecursion IsPaid) (sym (f.put_in b)) ((flow, last, inr (stuck refl)), all)
+  pays_settle kept i a b flow false false took f last stuck all = subst (AllByRecursion IsPaid) (sym (f.put_in (paid b))) ((flow, last, inl refl), all)
 
   pays_write : (kept : List (Attachment S)) (i : ℕ) (a : Attachment S) (mark : Mark) → First kept i a
       → AllByRecursion IsPaid (drop (suc i) kept) → AllByRecursion IsPaid (drop i (written mark s w a kept).kept)
   pays_write kept i a (Fine flow) f all =
-      pays_settle kept i a (with_flush flow a) (a.over && is_clear flow) (is_held_back flow a.due) 0 f (λ held. inr (ap (λ (g : Flow). Some (Flushes g)) (held_stuck flow a.due held))) all
+      pays_settle kept i a (with_flush flow a) flow (a.over && is_clear flow) (is_held_back flow a.due) 0 f refl (held_stuck flow a.due) all
   pays_write kept i a Fault f all = subst (AllByRecursion IsPaid) (sym f.left_out) all
   pays_write kept i a NoMemory f all = subst (AllByRecursion IsPaid) (sym f.left_out) all
 

@@ -24,7 +24,7 @@ use Rattle.rx_drain.specs.declared.drain_fault.DrainFault.TheVariants.{InboxGone
 use Rattle.rx_drain.specs.declared.drain_stop.DrainStop.{DrainStop}
 use Rattle.rx_drain.specs.Logs.{Log, NoLetters, Next, Flush, letters, has_left, letter_change, post_change, kept_in, owed}
 use Rattle.rx_drain.specs.Credit.{IsPaid, AreAllPaid}
-use Rattle.rx_drain.specs.Drainers.{DrainerView, is_cut, NamesSubject, HaveSent, Stands, Drains, IsDrained, Handles, FlushesAll, Goes, Pays, KeepsPlaces, TakesMore, with_letters, view_of}
+use Rattle.rx_drain.specs.Drainers.{DrainerView, is_cut, NamesSubject, HaveSent, Stands, Drains, IsDrained, Handles, FlushesAll, Goes, Pays, KeepsPlaces, TakesMore, TakesOne, with_letters, view_of}
 use Rattle.rx_drain.specs.Serving.{HasServed, HasStopped}
 use Rattle.rx_drain.proofs.Standing.{names_of}
 
@@ -77,7 +77,7 @@ module _ {S Rest : Type 0} (acts : Acts S Rest) where
       stands = record {
         left = left;
         sent = subst (λ (l : Bool). HaveSent (is_cut view.fault) l (λ d. []) view.ports) (sym left) (HavePut-fresh (is_cut view.fault) view.ports (ap is_cut whole) fresh);
-        sinks = record { kept_are = subst (AllZip (IsKept acts) []) (sym kept) tt; away_are = subst (AllZip (IsPutAway acts) []) (sym away) tt };
+        sinks = record { kept_are = subst (AllZip (IsKept acts) []) (sym kept) tt; away_are = subst (AllZip (IsPutAway acts) []) (sym away) tt; apart = tt };
         missed = misses;
         took = taken;
       };
@@ -181,6 +181,16 @@ module _ {S Rest : Type 0} (acts : Acts S Rest) where
   takes_both a b c (xs, first) (ys, then) = (
     xs ++ ys,
     then ∙ ap (λ (i : Incoming (Out S)). with_letters i ys) first ∙ ap (λ (l : List (Letter (Out S))). incoming a.box a.ports l) (append_assoc a.received xs ys),
+  )
+
+  pub takes_single : (a mid c : Incoming (Out S)) (x : Letter (Out S)) → mid ≡ with_letter a x → c ≡ mid → TakesOne a c
+  takes_single a mid c x received kept = (x, [], kept ∙ received)
+
+  pub takes_one_and : (a b c : Incoming (Out S)) → TakesOne a b → TakesMore b c → TakesOne a c
+  takes_one_and a b c (x, xs, first) (ys, then) = (
+    x,
+    xs ++ ys,
+    then ∙ ap (λ (i : Incoming (Out S)). with_letters i ys) first ∙ ap (λ (l : List (Letter (Out S))). incoming a.box a.ports l) (append_assoc a.received (x ∷ xs) ys),
   )
 
   -- a turn

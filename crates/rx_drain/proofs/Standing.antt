@@ -343,6 +343,7 @@ module _ {S Rest : Type 0} (acts : Acts S Rest) where
     sinks = record {
       kept_are = s.sinks.kept_are;
       away_are = subst (λ (l : List (Attachment S × Why)). AllZip (IsPutAway acts) l view.away) (sym (append-nil (gone_in leave log))) s.sinks.away_are;
+      apart = s.sinks.apart;
     };
     missed = omega (arith, s.missed);
     took = omega (arith, s.took);

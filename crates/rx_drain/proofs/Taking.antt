@@ -1,6 +1,5 @@
 -- The sinks of a log took the notes that they were to be served.
-use Rattle.std.proofs.Common.{◌≡◌, ◌∙◌, sym, refl, ap, subst, ℕ, ◌+◌, ◌<◌, ◌==◌, ◌&&◌, ◌⊎◌, inl, inr, if◌then◌else◌, Bool, true, false, not, List, [], ◌∷◌, ◌++◌, append_assoc, append-nil, length, length-append, map, drop, Option, Some, None, slice_get, eq-eqb, arith}
-use Rattle.std.proofs.lemmas.Bool.{eqb-true, ne_eqb}
+use Rattle.std.proofs.Common.{◌≡◌, ◌∙◌, sym, refl, ap, subst, ℕ, ◌+◌, ◌<◌, ◌==◌, ◌&&◌, ◌⊎◌, inl, inr, if◌then◌else◌, Bool, true, false, not, List, [], ◌∷◌, ◌++◌, append_assoc, append-nil, length, length-append, map, drop, Option, Some, None, slice_get, arith}
 use Rattle.std.proofs.lemmas.List.{map-append, drop_all, drop-append-le}
 use Rattle.std.specs.List.{AllByRecursion}
 use Rattle.rx_mailbox.specs.declared.letter.Letter.{Letter}
@@ -12,9 +11,10 @@ use Rattle.rx_pump.specs.declared.out.Out.{Out}
 use Rattle.rx_pump.specs.declared.out.Out.TheVariants.{Attach, Give, Detach}
 use Rattle.rx_pump.proofs.Placing.{slice_get-append_left, slice_get-append_right}
 use Rattle.rx_sink.specs.declared.flow.Flow.{Flow}
-use Rattle.rx_sink.specs.Attachments.{Attachment, Why, TookLast, Detached, Closed, FailedAtStart, FailedAt, FailedAtFlush, Mark, Fine, Fault, NoMemory, Change, is_clear, is_held_back, is_last, is_of, kept_for, without, replaced, with_note, with_flush, paid, attached, given, settled, served as serve_note, served_yet, flushed, written, detached, let_go, closed}
+use Rattle.rx_sink.specs.Attachments.{Attachment, Why, TookLast, Detached, Closed, FailedAtStart, FailedAt, FailedAtFlush, Mark, Fine, Fault, NoMemory, Change, Apart, is_clear, is_held_back, is_last, is_of, kept_for, without, replaced, with_note, with_flush, paid, attached, given, settled, served as serve_note, served_yet, flushed, written, detached, let_go, closed}
 use Rattle.rx_drain.specs.Logs.{Log, NoLetters, Next, Flush, letters, has_left, brought, post_change, letter_change, kept_in, change, flush_change, gone_in}
 use Rattle.rx_drain.specs.Served.{Bearing, Bears, Stops, Passes, post_bearing, bearing, notes_in, TookOf, bearings, served, StandsAt, SinksTook}
+use Rattle.rx_sink.proofs.Apartness.{apart_but, apart_push, apart_with, both_true, key_is, none_replaced, none_split, none_without}
 use Rattle.rx_drain.proofs.Ending.{bool_cases, kept_none}
 
 -- ONE BEARING MORE
@@ -288,75 +288,9 @@ all_append P (x ∷ xs) ys first second = (first.0, all_append P xs ys first.1 s
 
 -- ONE ATTACHMENT OF AN OBSERVER
 
-none_split : {X : Type 0} (b : Bool) (x : X) (o : Option X) → (if b then Some x else o) ≡ None → (b ≡ false) × (o ≡ None)
-none_split true x o is = cc
-none_split false x o is = (refl, is)
-
 pub some_split : {X : Type 0} (b : Bool) (x y : X) (o : Option X) → (if b then Some x else o) ≡ Some y → ((b ≡ true) × (x ≡ y)) ⊎ ((b ≡ false) × (o ≡ Some y))
 some_split true x y o is = inl (refl, cc)
 some_split false x y o is = inr (refl, is)
-
-both_true : (x y : Bool) → (x && y) ≡ true → (x ≡ true) × (y ≡ true)
-both_true true true is = (refl, refl)
-both_true true false is = cc
-both_true false y is = cc
-
-eqb_turned : (m n : ℕ) → (m == n) ≡ (n == m)
-eqb_turned m n =
-    elim (bool_cases (m == n)) [
-      | inl same ↦ same ∙ sym (eq-eqb n m (sym (eqb-true m n same)))
-      | inr other ↦ other ∙ sym (ne_eqb n m (λ e. (let both : true ≡ false = sym (eq-eqb m n (sym e)) ∙ other in cc)))
-    ]
-
-module _ {S : Type 0} where
-  pub key_is : (s w : ℕ) (a : Attachment S) → is_of s w a ≡ true → (a.subject ≡ s) × (a.who ≡ w)
-  key_is s w a test = let tests = both_true (a.subject == s) (a.who == w) test in (eqb-true a.subject s tests.0, eqb-true a.who w tests.1)
-
-  -- no two attachments are of one observer
-  abbrev pub Apart : List (Attachment S) → Type 0
-  Apart [] = Unit {0}
-  Apart (a ∷ kept) = (kept_for a.subject a.who kept ≡ None) × Apart kept
-
-  turned : (a c : Attachment S) → is_of a.subject a.who c ≡ is_of c.subject c.who a
-  turned a c = ap (λ t. t && (c.who == a.who)) (eqb_turned c.subject a.subject) ∙ ap (λ t. (a.subject == c.subject) && t) (eqb_turned c.who a.who)
-
-  none_push : (s w : ℕ) (kept : List (Attachment S)) (a : Attachment S) → kept_for s w kept ≡ None → is_of s w a ≡ false → kept_for s w (kept ++ a ∷ []) ≡ None
-  none_push s w [] a none other = ap (λ t. if t then Some a else None) other
-  none_push s w (c ∷ kept) a none other =
-      let parts = none_split (is_of s w c) c (kept_for s w kept) none in
-      ap (λ t. if t then Some c else kept_for s w (kept ++ a ∷ [])) parts.0 ∙ none_push s w kept a parts.1 other
-
-  apart_push : (kept : List (Attachment S)) (a : Attachment S) → kept_for a.subject a.who kept ≡ None → Apart kept → Apart (kept ++ a ∷ [])
-  apart_push [] a none apart = (refl, tt)
-  apart_push (c ∷ kept) a none apart =
-      let parts = none_split (is_of a.subject a.who c) c (kept_for a.subject a.who kept) none in
-      (none_push c.subject c.who kept a apart.0 (sym (turned a c) ∙ parts.0), apart_push kept a parts.1 apart.1)
-
-  none_without : (k l s w : ℕ) (kept : List (Attachment S)) → kept_for k l kept ≡ None → kept_for k l (without s w kept) ≡ None
-  none_without k l s w [] none = refl
-  none_without k l s w (a ∷ kept) none =
-      let parts = none_split (is_of k l a) a (kept_for k l kept) none in
-      let later = none_without k l s w kept parts.1 in
-      elim (bool_cases (is_of s w a)) [
-        | inl test ↦ subst (λ (t : Bool). kept_for k l (if t then kept else a ∷ without s w kept) ≡ None) (sym test) parts.1
-        | inr test ↦ subst (λ (t : Bool). kept_for k l (if t then kept else a ∷ without s w kept) ≡ None) (sym test)
-            (ap (λ t. if t then Some a else kept_for k l (without s w kept)) parts.0 ∙ later)
-      ]
-
-  none_replaced : (k l s w : ℕ) (b : Attachment S) (kept : List (Attachment S)) → b.subject ≡ s → b.who ≡ w → kept_for k l kept ≡ None → kept_for k l (replaced s w b kept) ≡ None
-  none_replaced k l s w b [] subject who none = refl
-  none_replaced k l s w b (a ∷ kept) subject who none =
-      let parts = none_split (is_of k l a) a (kept_for k l kept) none in
-      let later = none_replaced k l s w b kept subject who parts.1 in
-      elim (bool_cases (is_of s w a)) [
-        | inl test ↦
-            let key = key_is s w a test in
-            let same : is_of k l b ≡ is_of k l a = ap (λ n. (n == k) && (b.who == l)) (subject ∙ sym key.0) ∙ ap (λ n. (a.subject == k) && (n == l)) (who ∙ sym key.1) in
-            subst (λ (t : Bool). kept_for k l (if t then b ∷ kept else a ∷ replaced s w b kept) ≡ None) (sym test)
-            (ap (λ t. if t then Some b else kept_for k l kept) (same ∙ parts.0) ∙ parts.1)
-        | inr test ↦ subst (λ (t : Bool). kept_for k l (if t then b ∷ kept else a ∷ replaced s w b kept) ≡ None) (sym test)
-            (ap (λ t. if t then Some a else kept_for k l (replaced s w b kept)) parts.0 ∙ later)
-      ]
 
 module _ {S : Type 0} (leave s w : ℕ) (xs : List (Letter (Out S))) (x : Letter (Out S)) where
   -- the letter passes all others by
@@ -605,26 +539,6 @@ module _ {S : Type 0} where
       elim (bool_cases (is_of s w c)) [
         | inl test ↦ subst (λ (t : Bool). AllByRecursion P (if t then b ∷ kept else c ∷ replaced s w b kept)) (sym test) (here, all.1)
         | inr test ↦ subst (λ (t : Bool). AllByRecursion P (if t then b ∷ kept else c ∷ replaced s w b kept)) (sym test) (all.0, all_with P s w b kept here all.1)
-      ]
-
-  apart_but : (s w : ℕ) (kept : List (Attachment S)) → Apart kept → Apart (without s w kept)
-  apart_but s w [] apart = tt
-  apart_but s w (c ∷ kept) apart =
-      elim (bool_cases (is_of s w c)) [
-        | inl test ↦ subst (λ (t : Bool). Apart (if t then kept else c ∷ without s w kept)) (sym test) apart.1
-        | inr test ↦ subst (λ (t : Bool). Apart (if t then kept else c ∷ without s w kept)) (sym test) (none_without c.subject c.who s w kept apart.0, apart_but s w kept apart.1)
-      ]
-
-  apart_with : (s w : ℕ) (b : Attachment S) (kept : List (Attachment S)) → b.subject ≡ s → b.who ≡ w → Apart kept → Apart (replaced s w b kept)
-  apart_with s w b [] subject who apart = tt
-  apart_with s w b (c ∷ kept) subject who apart =
-      elim (bool_cases (is_of s w c)) [
-        | inl test ↦
-            (let key = key_is s w c test in
-            let none : kept_for b.subject b.who kept ≡ None =
-            subst (λ (n : ℕ). kept_for n b.who kept ≡ None) (key.0 ∙ sym subject) (subst (λ (n : ℕ). kept_for c.subject n kept ≡ None) (key.1 ∙ sym who) apart.0) in
-            subst (λ (t : Bool). Apart (if t then b ∷ kept else c ∷ replaced s w b kept)) (sym test) (none, apart.1))
-        | inr test ↦ subst (λ (t : Bool). Apart (if t then b ∷ kept else c ∷ replaced s w b kept)) (sym test) (none_replaced c.subject c.who s w b kept subject who apart.0, apart_with s w b kept subject who apart.1)
       ]
 
 module _ {S : Type 0} (leave : ℕ) (xs : List (Letter (Out S))) (kept : List (Attachment S)) (all : AllOpen leave xs kept) (apart : Apart kept) where

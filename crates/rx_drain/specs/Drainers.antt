@@ -1,5 +1,6 @@
 -- A drainer, and what it has done with the letters that it received (this project's own rule).
 use Rattle.std.specs.Prelude.{◌≡◌, ◌+◌, ◌-◌, ◌^◌, ◌<◌, ◌≤◌, min, ℕ, Bool, true, false, List, [], ◌∷◌, ◌++◌, length, map, Option, Some, None, slice_get, vec_len, vec_capacity}
+use Rattle.std.specs.List.{list_any}
 use Rattle.rx_mailbox.specs.declared.letter.Letter.{Letter}
 use Rattle.rx_mailbox.specs.Boxes.{Outgoing, Incoming, incoming}
 use Rattle.rx_note.specs.declared.event.Event.{Event}
@@ -84,6 +85,14 @@ module _ {S : Type 0} where
   -- some letters more were received, or none
   abbrev pub TakesMore : Incoming (Out S) → Incoming (Out S) → Type 0
   TakesMore before after = (xs : List (Letter (Out S))) × (after ≡ with_letters before xs)
+
+  -- a letter more was received, or several
+  abbrev pub TakesOne : Incoming (Out S) → Incoming (Out S) → Type 0
+  TakesOne before after = (x : Letter (Out S)) × (xs : List (Letter (Out S))) × (after ≡ with_letters before (x ∷ xs))
+
+  -- something may wait in one of the sinks
+  abbrev pub any_may_wait : List (Kept S) → Bool
+  any_may_wait kept = list_any (λ one. one.may_wait) kept
 
 module _ {S Rest : Type 0} (acts : Acts S Rest) where
   -- the sinks and the ports of a drainer are what marked letters mean, where this is the number of the leave port

@@ -1,4 +1,4 @@
-ghost use Rattle.std.specs.Prelude.{◌≡◌, ◌+◌, [], Some, None, Err, vec_len, MatchResult, OnOk, IfSome};
+ghost use Rattle.std.specs.Prelude.{◌≡◌, ◌+◌, false, [], Some, None, Err, vec_len, MatchResult, OnOk, IfSome};
 ghost use Rattle.std.specs.List.{All};
 ghost use Rattle.rx_pump.specs.Pumps.{IsFresh};
 
@@ -52,7 +52,7 @@ impl<S: Sink> Model for Drainer<S> {
 
 impl<S: Sink> Drainer<S> {
     ghost use Rattle.rx_mailbox.specs.Boxes.{HasEachBye};
-    ghost use Rattle.rx_drain.specs.Drainers.{IsDrained, KeepsPlaces, TakesMore, fresh_drainer, view_of};
+    ghost use Rattle.rx_drain.specs.Drainers.{IsDrained, KeepsPlaces, TakesMore, TakesOne, any_may_wait, fresh_drainer, view_of};
     ghost use Rattle.rx_drain.specs.Serving.{HasServed, HasStopped};
 
     /// A drainer of new parts: one port to each subject, and an inbox with a port for each and one more, the leave port.
@@ -95,7 +95,7 @@ impl<S: Sink> Drainer<S> {
 
     /// Takes the letters that are there, some thousand at most, and waits while there is none. Then it flushes each sink in
     /// which something may wait. While something waits in a sink it waits for a letter some milliseconds at most, and then
-    /// flushes again, so a turn may have taken none.
+    /// flushes again, so a turn may have taken none. Where nothing waits it took one at least.
     ///
     /// A sink that a subject attaches is started and kept. A note goes to the sink that is kept for its observer, which took
     /// no terminal yet. The subject is asked for one item more for each that the sink took: at once, but while the sink is
@@ -104,24 +104,37 @@ impl<S: Sink> Drainer<S> {
     /// a fault of the sink, and where there was no memory for one that came. The sink of an observer that left is put away.
     /// What is due is asked for before that.
     ///
-    /// Before the Bye of the leave port is heard each sink is flushed once more in which something may wait. Then each
-    /// observer is disposed of whose sink is kept, in the order in which they came, all are put away, and the ports to
-    /// subjects end. Unserved is a sink that comes later, from the leave port, or while one is kept for its observer; what
-    /// comes for an observer without a sink, and what else the leave port sends, is discarded: so a body from it can have a
-    /// drainer that waits look after its sinks.
+    /// Before the Bye of the leave port is heard each sink is flushed once more in which something may wait, and for about a
+    /// quarter of a second again while something waits in one. Then each observer is disposed of whose sink is kept, in the
+    /// order in which they came, all are put away, and the ports to subjects end. Unserved is a sink that comes later, from the
+    /// leave port, or while one is kept for its observer; what comes for an observer without a sink, and what else the leave
+    /// port sends, is discarded: so a body from it can have a drainer that waits look after its sinks.
     ///
     /// At a fault what was sent is the first of that, and from then on each turn answers this fault and does nothing.
     pub fn turn<R: Wait>(&mut self, rt: &R) -> Result<(), DrainFault>
         ensures drained { IsDrained S.acts self.new }
         ensures fault { MatchResult result (λ _. self.new.fault ≡ None) (λ fault. self.new.fault ≡ Some fault) }
         ensures took { OnOk result (TakesMore self.old.inbox self.new.inbox) }
+        ensures takes_one { OnOk result (any_may_wait self.old.kept ≡ false → TakesOne self.old.inbox self.new.inbox) }
+        ensures kept { KeepsPlaces self.old self.new }
+        ensures over { IfSome self.old.fault (λ fault. (result ≡ Err fault) × (self.new ≡ self.old)) }
+    {
+        self.turn_by(rt, false)
+    }
+
+    // A turn. Where it looks, it may also wait for a letter for a quarter of a second in vain, and look after all sinks.
+    fn turn_by<R: Wait>(&mut self, rt: &R, looks: bool) -> Result<(), DrainFault>
+        ensures drained { IsDrained S.acts self.new }
+        ensures fault { MatchResult result (λ _. self.new.fault ≡ None) (λ fault. self.new.fault ≡ Some fault) }
+        ensures took { OnOk result (TakesMore self.old.inbox self.new.inbox) }
+        ensures takes_one { OnOk result (looks ≡ false → any_may_wait self.old.kept ≡ false → TakesOne self.old.inbox self.new.inbox) }
         ensures kept { KeepsPlaces self.old self.new }
         ensures over { IfSome self.old.fault (λ fault. (result ≡ Err fault) × (self.new ≡ self.old)) }
     {
         if let Some(fault) = self.fault {
             return Err(fault);
         }
-        let Ok(first) = handle_first(rt, &mut self.hands, self.leave, self.left) else {
+        let Ok(first) = handle_first(rt, &mut self.hands, self.leave, self.left, looks) else {
             self.fault = Some(DrainFault::InboxGone);
             return Err(DrainFault::InboxGone);
         };
@@ -132,8 +145,9 @@ impl<S: Sink> Drainer<S> {
         outcome(rest.fault)
     }
 
-    /// Takes letters until the Bye of each port came, that of the leave port too, and waits while there is none. `Err` at a
-    /// fault, with the parts that are left.
+    /// Takes letters until the Bye of each port came, that of the leave port too, and waits while there is none. Where none
+    /// comes for a quarter of a second it looks after all sinks, so that one whose reader is gone can have its fault with no
+    /// note. `Err` at a fault, with the parts that are left.
     pub fn serve<R: Wait>(self, rt: &R) -> Result<DrainEnd<S>, DrainStop<S>>
         ensures { MatchResult result (λ end. HasServed S.acts self end) (λ stop. HasStopped S.acts self stop) }
     {
@@ -172,7 +186,9 @@ impl<S: Sink> Drainer<S> {
             if is_over {
                 return Ok(());
             }
-            self.turn(rt)?;
+            // Without a sink there is nothing to look after.
+            let looks = !self.hands.kept.is_empty();
+            self.turn_by(rt, looks)?;
         }
         unreachable!()
     }

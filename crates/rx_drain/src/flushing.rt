@@ -1,12 +1,20 @@
 // What waits in the sinks goes out, as far as it can now.
 ghost use Rattle.std.specs.Prelude.{◌≡◌, ◌+◌, ◌<◌, ◌≤◌, false, None, vec_len};
 ghost use Rattle.rx_pump.specs.Pumps.{AreSame};
-ghost use Rattle.rx_drain.specs.Drainers.{Fits, FlushesAll, FlushesAt, view_of};
+ghost use Rattle.rx_drain.specs.Drainers.{Fits, FlushesAll, FlushesAt, any_may_wait, view_of};
 
-use crate::sending::send_asks;
+use crate::sending::{send_asks, wake_all};
 use crate::{DrainFault, DrainerLeft};
-use rx_sink::{Sink, flush_one};
+use rx_sink::{Kept, Sink, flush_one};
 use std::sync::Wait;
+use std::sync::atomic::AtomicU64;
+use std::time::Duration;
+
+// How often the sinks are flushed before the drainer leaves, and for how many milliseconds it rests after each time: a quarter
+// of a second in all.
+const LAST_ROUNDS: u32 = 62;
+
+const LAST_REST: u64 = 4;
 
 // Flushes each sink in which something may wait, and asks the subjects for what is due of those that are not stuck. It
 // answers the fault, if there is one.
@@ -21,12 +29,52 @@ pub fn flush_all<S: Sink, R: Wait>(
     ensures ports { AreSame (view_of hands.old false None).ports (view_of hands.new false result).ports }
     ensures flushes { FlushesAll S.acts (view_of hands.old false None) (view_of hands.new false result) }
 {
+    let mut asked = false;
+    let fault = flush_each(rt, hands, leave, false, &mut asked);
+    wake_all(&hands.parts.subjects, asked);
+    fault
+}
+
+// Flushes all sinks, also those in which nothing waits: one whose reader is gone may have its fault then. It answers the fault
+// of a subject, if there is one.
+pub fn look_after<S: Sink, R: Wait>(
+    rt: &R,
+    hands: &mut DrainerLeft<S>,
+    leave: usize,
+) -> Option<DrainFault>
+    requires { Fits leave false None hands.old }
+    ensures fits { Fits leave false result hands.new }
+    ensures inbox { hands.new.parts.inbox ≡ hands.old.parts.inbox }
+    ensures ports { AreSame (view_of hands.old false None).ports (view_of hands.new false result).ports }
+    ensures flushes { FlushesAll S.acts (view_of hands.old false None) (view_of hands.new false result) }
+{
+    let mut asked = false;
+    let fault = flush_each(rt, hands, leave, true, &mut asked);
+    wake_all(&hands.parts.subjects, asked);
+    fault
+}
+
+// Flushes all sinks, or each in which something may wait, and wakes no subject that sleeps: many requests are put before one is
+// woken. It notes whether something was asked.
+fn flush_each<S: Sink, R: Wait>(
+    rt: &R,
+    hands: &mut DrainerLeft<S>,
+    leave: usize,
+    all: bool,
+    asked: &mut bool,
+) -> Option<DrainFault>
+    requires { Fits leave false None hands.old }
+    ensures fits { Fits leave false result hands.new }
+    ensures inbox { hands.new.parts.inbox ≡ hands.old.parts.inbox }
+    ensures ports { AreSame (view_of hands.old false None).ports (view_of hands.new false result).ports }
+    ensures flushes { FlushesAll S.acts (view_of hands.old false None) (view_of hands.new false result) }
+{
     // From the last one on, so that a sink that is put away leaves the places of those to come as they are.
     let mut place = hands.kept.len();
     while place > 0 {
         place -= 1;
-        if hands.kept[place].may_wait {
-            let fault = flush_at(rt, hands, leave, place);
+        if all || hands.kept[place].may_wait {
+            let fault = flush_at(rt, hands, leave, place, asked);
             if fault.is_some() {
                 return fault;
             }
@@ -35,13 +83,52 @@ pub fn flush_all<S: Sink, R: Wait>(
     None
 }
 
-// Flushes the sink at this place, and asks its subject for what is due, unless the sink is stuck. It answers the fault, if
-// there is one.
+// Flushes the sinks until nothing waits in any, but for about a quarter of a second at most, all of them together. It answers
+// the fault, if there is one.
+pub fn flush_last<S: Sink, R: Wait>(
+    rt: &R,
+    hands: &mut DrainerLeft<S>,
+    leave: usize,
+) -> Option<DrainFault>
+    requires { Fits leave false None hands.old }
+    ensures fits { Fits leave false result hands.new }
+    ensures inbox { hands.new.parts.inbox ≡ hands.old.parts.inbox }
+    ensures ports { AreSame (view_of hands.old false None).ports (view_of hands.new false result).ports }
+    ensures flushes { FlushesAll S.acts (view_of hands.old false None) (view_of hands.new false result) }
+{
+    for _ in 0..LAST_ROUNDS {
+        let fault = flush_all(rt, hands, leave);
+        if fault.is_some() {
+            return fault;
+        }
+        if !may_wait(&hands.kept) {
+            return None;
+        }
+        rest(rt);
+    }
+    flush_all(rt, hands, leave)
+}
+
+// Lets some milliseconds pass: nobody wakes it.
+fn rest<R: Wait>(rt: &R) {
+    AtomicU64::new(0).park_timeout(rt, 0, Duration::from_millis(LAST_REST));
+}
+
+// Whether something may wait in one of the sinks.
+pub fn may_wait<S: Sink>(kept: &[Kept<S>]) -> bool
+    ensures { result ≡ any_may_wait kept.now }
+{
+    kept.iter().any(|one| one.may_wait)
+}
+
+// Flushes the sink at this place, and asks its subject for what is due, unless the sink is stuck. It notes whether something was
+// asked, and answers the fault, if there is one.
 fn flush_at<S: Sink, R: Wait>(
     rt: &R,
     hands: &mut DrainerLeft<S>,
     leave: usize,
     place: usize,
+    asked: &mut bool,
 ) -> Option<DrainFault>
     requires within { place < vec_len hands.old.kept }
     requires fits { Fits leave false None hands.old }
@@ -54,6 +141,7 @@ fn flush_at<S: Sink, R: Wait>(
     let one = &hands.kept[place];
     let subject = one.subject;
     let who = one.who;
-    let asks = flush_one(&mut hands.kept, &mut hands.put_away, subject, who);
+    let asks = flush_one(&mut hands.kept, &mut hands.put_away, place, subject, who);
+    *asked = *asked || asks.items > 0 || asks.leaves;
     send_asks(rt, &mut hands.parts.subjects, subject, asks)
 }

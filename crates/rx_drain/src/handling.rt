@@ -3,15 +3,15 @@ ghost use Rattle.std.specs.Prelude.{◌≡◌, true, false, None, IfOk, OnOk, On
 ghost use Rattle.rx_mailbox.specs.declared.letter.Post.TheVariants.{Bye};
 ghost use Rattle.rx_mailbox.specs.Letters as letters;
 ghost use Rattle.rx_pump.specs.Pumps.{AreSame};
-ghost use Rattle.rx_drain.specs.Drainers.{Fits, Goes, Handles, Pays, TakesMore, view_of};
+ghost use Rattle.rx_drain.specs.Drainers.{Fits, Goes, Handles, Pays, TakesMore, TakesOne, any_may_wait, view_of};
 
-use crate::flushing::flush_all;
-use crate::sending::{part_all, send_asks};
+use crate::flushing::{flush_all, flush_last, look_after, may_wait};
+use crate::sending::{part_all, send_asks, wake, wake_all};
 use crate::serving_out::{pass_over, serve_out};
 use crate::{DrainFault, DrainerLeft};
 use rx_mailbox::{Gone, Letter, Post, TryRecvFault};
 use rx_pump::{Out, finish_all};
-use rx_sink::{Kept, Sink, put_all_away};
+use rx_sink::{Sink, put_all_away};
 use std::sync::Wait;
 use std::time::Duration;
 
@@ -21,6 +21,9 @@ const MOST_LETTERS: u32 = 4096;
 
 // How long a letter is waited for while something waits in a sink, in milliseconds.
 const MOST_WAIT: u64 = 4;
+
+// How long a letter is waited for where nothing waits in a sink, before all sinks are looked after, in milliseconds.
+const MOST_IDLE: u64 = 250;
 
 // What became of a letter.
 #[derive(Clone, Copy)]
@@ -62,42 +65,79 @@ pub fn handle<S: Sink, R: Wait>(
         out,
     );
     let fault = send_asks(rt, &mut hands.parts.subjects, from, asks);
+    wake(&hands.parts.subjects, from);
     Handled { left, fault }
 }
 
 // Does what the letter asks that comes next, and waits while there is none; but where something waits in a sink no longer than
-// some milliseconds, so that it is looked after again. `Err` where no letter comes any more.
+// some milliseconds, so that it is looked after again. Where nothing does, and `looks` says so, it waits no longer than a
+// quarter of a second, and then looks after all sinks. `Err` where no letter comes any more.
 pub fn handle_first<S: Sink, R: Wait>(
     rt: &R,
     hands: &mut DrainerLeft<S>,
     leave: usize,
     left: bool,
+    looks: bool,
 ) -> Result<Handled, Gone>
     requires { Fits leave left None hands.old }
     ensures gone { OnErr result (hands.new ≡ hands.old) }
     ensures fits { IfOk result (λ now. Fits leave now.left now.fault hands.new) }
     ensures inbox { OnOk result (TakesMore hands.old.parts.inbox hands.new.parts.inbox) }
+    ensures takes_one { OnOk result (looks ≡ false → any_may_wait hands.old.kept.items ≡ false → TakesOne hands.old.parts.inbox hands.new.parts.inbox) }
     ensures ports { IfOk result (λ now. AreSame (view_of hands.old left None).ports (view_of hands.new now.left now.fault).ports) }
     ensures goes { IfOk result (λ now. Goes S.acts (view_of hands.old left None) (view_of hands.new now.left now.fault)) }
 {
-    if left || !may_wait(&hands.kept) {
+    let waits = may_wait(&hands.kept);
+    if is_patient(left, waits, looks) {
         let letter = hands.parts.inbox.recv(rt)?;
         return Ok(handle(rt, hands, leave, left, letter));
     }
-    match hands
-        .parts
-        .inbox
-        .recv_within(rt, Duration::from_millis(MOST_WAIT))
-    {
+    match hands.parts.inbox.recv_within(rt, most_wait(waits)) {
         Ok(letter) => Ok(handle(rt, hands, leave, left, letter)),
-        Err(TryRecvFault::Empty) => Ok(Handled { left, fault: None }),
         Err(TryRecvFault::Gone) => Err(Gone),
+        Err(TryRecvFault::Empty) => Ok(handle_none(rt, hands, leave, waits)),
     }
 }
 
-// Whether something may wait in one of the sinks.
-fn may_wait<S: Sink>(kept: &[Kept<S>]) -> bool {
-    kept.iter().any(|one| one.may_wait)
+// Whether the next letter is waited for without a bound.
+fn is_patient(left: bool, waits: bool, looks: bool) -> bool
+    ensures left { left ≡ true → result ≡ true }
+    ensures waits { looks ≡ false → waits ≡ false → result ≡ true }
+{
+    left || !waits && !looks
+}
+
+// How long the next letter is waited for.
+fn most_wait(waits: bool) -> Duration {
+    if waits {
+        Duration::from_millis(MOST_WAIT)
+    } else {
+        Duration::from_millis(MOST_IDLE)
+    }
+}
+
+// No letter came for a while. Where nothing waits in a sink, all are looked after.
+fn handle_none<S: Sink, R: Wait>(
+    rt: &R,
+    hands: &mut DrainerLeft<S>,
+    leave: usize,
+    waits: bool,
+) -> Handled
+    requires { Fits leave false None hands.old }
+    ensures left { result.left ≡ false }
+    ensures fits { Fits leave false result.fault hands.new }
+    ensures inbox { hands.new.parts.inbox ≡ hands.old.parts.inbox }
+    ensures ports { AreSame (view_of hands.old false None).ports (view_of hands.new false result.fault).ports }
+    ensures goes { Goes S.acts (view_of hands.old false None) (view_of hands.new false result.fault) }
+{
+    if waits {
+        return Handled {
+            left: false,
+            fault: None,
+        };
+    }
+    let fault = look_after(rt, hands, leave);
+    Handled { left: false, fault }
 }
 
 // Does what the letters ask that are there, as long as there is no fault, and waits for none.
@@ -147,7 +187,7 @@ pub fn handle_rest<S: Sink, R: Wait>(
 }
 
 // Does what a Bye asks: the first of the leave port has the drainer leave. What waits in the sinks goes out before that, as
-// far as it can.
+// far as it can within about a quarter of a second.
 fn hear_bye<S: Sink, R: Wait>(
     rt: &R,
     hands: &mut DrainerLeft<S>,
@@ -164,7 +204,7 @@ fn hear_bye<S: Sink, R: Wait>(
     if left || from as usize != leave {
         return Handled { left, fault: None };
     }
-    let fault = flush_all(rt, hands, leave);
+    let fault = flush_last(rt, hands, leave);
     if fault.is_some() {
         put_all_away(&mut hands.kept, &mut hands.put_away);
         return Handled { left: true, fault };
@@ -182,6 +222,7 @@ fn leave_all<S: Sink, R: Wait>(rt: &R, hands: &mut DrainerLeft<S>, leave: u32) -
     ensures handles { Handles S.acts (letters.letter leave Bye) (view_of hands.old false None) (view_of hands.new true result) }
 {
     let fault = part_all(rt, &mut hands.parts.subjects, hands.kept.as_slice());
+    wake_all(&hands.parts.subjects, true);
     put_all_away(&mut hands.kept, &mut hands.put_away);
     if fault.is_some() {
         return fault;

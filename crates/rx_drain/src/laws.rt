@@ -1,7 +1,7 @@
 //! Laws of marked letters. The functions do nothing: their contracts are the laws.
 
 ghost use Rattle.rx_drain.specs.Once.{EachSinkOnce};
-ghost use Rattle.rx_drain.specs.Paying.{OwesNothing};
+ghost use Rattle.rx_drain.specs.Paying.{NothingWaits, OwesNothing};
 ghost use Rattle.rx_drain.specs.Sent.{EachIsSentFor};
 ghost use Rattle.rx_drain.specs.Served.{EachSinkTook};
 ghost use Rattle.rx_drain.specs.Tallies.{EachNoteCounts};
@@ -36,4 +36,10 @@ pub fn each_note_counts<S: Drop>()
 /// is kept.
 pub fn sinks_that_never_wait_are_paid<S: Sink>()
     ensures { OwesNothing S.acts }
+{}
+
+/// Each turn of a drainer takes a letter where nothing ever waits in a sink: after each turn without a fault nothing may wait
+/// in any that is kept, and then the next takes one.
+pub fn sinks_that_never_wait_are_clear<S: Sink>()
+    ensures { NothingWaits S.acts }
 {}

@@ -4,11 +4,17 @@
 use crate::sockets::{Paths, Peer, emit_all, expect_served, serve, write_config};
 use rx_program::Host;
 use std::test::Fail;
-use std::thread::join;
+use std::thread::{self, join};
+use std::time::Duration;
 
 const RUBBISH: Paths = Paths {
     config: "rxline-rubbish.toml",
     socket: "rxline-rubbish.sock",
+};
+
+const GONE: Paths = Paths {
+    config: "rxline-gone.toml",
+    socket: "rxline-gone.sock",
 };
 
 const EARLY: Paths = Paths {
@@ -129,6 +135,49 @@ fn peer_closes_early(rt: HostRuntime) -> Result<(), Fail> {
     );
     let wanted = "0 s joins 3 refused 0\n|rxline: listening on rxline-early.sock\n";
     expect_served(&rt, &EARLY, told.as_slice(), right, wanted)
+}
+
+// How often a place is asked for that is taken, 20 milliseconds apart.
+const ASKS: u32 = 500;
+
+// Whether a peer has a place at last. It hears this line then.
+fn joins_at_last(rt: &impl Host, peer: &mut Peer, joined: &[u8; 9]) -> bool {
+    for _ in 0..ASKS {
+        let mut line = [0; 9];
+        peer.sends(b"SUB s BUFFER DELAY\n");
+        peer.fills(&mut line);
+        if line == *joined {
+            return true;
+        }
+        thread::sleep(rt, Duration::from_millis(20));
+    }
+    false
+}
+
+// One subscriber closes, and its place is free again with no item. One that only ends what it sends is served on.
+fn talk_after_one_gone(rt: &impl Host, paths: &Paths) -> bool {
+    let mut quiet = Peer::connected(rt, paths);
+    quiet.sends_last(b"SUB s BUFFER DELAY\n");
+    quiet.hears(b"JOINED 0\n");
+    let gone = is_joined(rt, paths, b"JOINED 1\n");
+    let mut late = Peer::connected(rt, paths);
+    let joins = joins_at_last(rt, &mut late, b"JOINED 2\n");
+    let emits = is_answered(rt, paths, b"PUB s a\nEND s\nQUIT\n", b"OK\nOK\nOK\n");
+    quiet.hears_last(b"NEXT a\nDONE\n");
+    late.hears_last(b"NEXT a\nDONE\n");
+    gone && joins && emits && quiet.is_right() && late.is_right()
+}
+
+#[test]
+fn a_place_is_free_with_no_item(rt: HostRuntime) -> Result<(), Fail> {
+    write_config(&rt, &GONE, b"connections = 4\n")?;
+    let (told, right) = join(
+        &rt,
+        || -> Vec<u8> { serve(&rt, &GONE) },
+        || -> bool { talk_after_one_gone(&rt, &GONE) },
+    );
+    let wanted = "0 s joins 3 refused 0\n|rxline: listening on rxline-gone.sock\n";
+    expect_served(&rt, &GONE, told.as_slice(), right, wanted)
 }
 
 // Whether a producer of two items is answered. It reads one byte of that and closes, which resets its connection.

@@ -11,9 +11,6 @@ pub const MOST_WAITING: usize = 68_378;
 /// From so many bytes on, what is written goes out at once where nothing waits before it.
 const BLOCK: usize = 4_096;
 
-// How long the last bytes wait for a peer once nobody writes any more, in milliseconds.
-const LAST_WAIT: u64 = 20;
-
 // How often a flush writes at most.
 const MOST_WRITES: u32 = 1_000;
 
@@ -30,7 +27,7 @@ pub struct Outgoing<C: Clock + Drop> {
     stuck_since: Option<Duration>,
 }
 
-// What still waits is tried once more: by now it is known that nothing comes after it.
+// What still waits is tried once more, and waits no longer: a drainer that leaves has flushed it for as long as any may wait.
 impl<C: Clock + Drop> Drop for Outgoing<C> {
     fn drop(self) {
         let Outgoing {
@@ -40,12 +37,8 @@ impl<C: Clock + Drop> Drop for Outgoing<C> {
             stall: _,
             stuck_since: _,
         } = self;
-        if waiting.is_empty() {
-            return;
-        }
-        let last = Some(Duration::from_millis(LAST_WAIT));
-        if stream.set_write_timeout(last).is_ok() && stream.set_nonblocking(false).is_ok() {
-            let _ = stream.write_all(waiting.as_slice());
+        if !waiting.is_empty() && stream.set_nonblocking(true).is_ok() {
+            let _ = stream.write(waiting.as_slice());
         }
     }
 }
@@ -83,6 +76,18 @@ impl<C: Clock + Drop> Outgoing<C> {
         (sent, Err(io::Error::from(ErrorKind::WouldBlock)))
     }
 
+    // Sees whether the peer is gone, where nothing waits for it: then a write of no bytes fails, and it doesn't where a peer
+    // only ended what it writes. While a session reads from the socket, which its writes then wait for, the session sees to that.
+    fn look(&mut self) -> io::Result<()> {
+        let Ok(None) = self.stream.write_timeout() else {
+            return Ok(());
+        };
+        match self.stream.write(&[]) {
+            Err(fault) if is_gone(fault.kind()) => Err(fault),
+            _ => Ok(()),
+        }
+    }
+
     // The fault of a socket that takes no more bytes now: they wait, but not for ever where it takes none at all.
     fn stuck(&mut self, sent: usize) -> io::Error {
         let Ok(now) = self.clock.monotonic() else {
@@ -117,6 +122,9 @@ impl<C: Clock + Drop> Write for Outgoing<C> {
     }
 
     fn flush(&mut self) -> io::Result<()> {
+        if self.waiting.is_empty() {
+            return self.look();
+        }
         let (sent, ended) = self.send();
         self.waiting.drain(..sent.min(self.waiting.len()));
         match ended {
@@ -128,4 +136,9 @@ impl<C: Clock + Drop> Write for Outgoing<C> {
             }
         }
     }
+}
+
+// Whether nobody reads what is written any more.
+fn is_gone(kind: ErrorKind) -> bool {
+    matches!(kind, ErrorKind::BrokenPipe | ErrorKind::ConnectionReset)
 }

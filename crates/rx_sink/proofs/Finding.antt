@@ -1,22 +1,14 @@
 -- Where the sink of an observer stands, and the attachment that it is of.
-use Rattle.std.proofs.Common.{◌≡◌, ◌∙◌, sym, refl, ap, subst, ℕ, zero, suc, ◌+◌, zero-add, ◌==◌, ◌&&◌, ◌⊎◌, Bool, true, false, List, [], ◌∷◌, ◌++◌, Some, None, slice_get, inl, inr, arith, if◌then◌else◌}
+use Rattle.std.proofs.Common.{◌≡◌, ◌∙◌, sym, refl, ap, subst, ℕ, zero, suc, ◌+◌, ◌==◌, ◌&&◌, true, false, List, [], ◌∷◌, ◌++◌, Some, None, slice_get, inl, inr, if◌then◌else◌}
 use Rattle.std.proofs.Math.ListN.{set}
 use Rattle.std.proofs.lemmas.Bool.{eqb-true}
 use Rattle.std.proofs.lemmas.Iterator.Adapters.{position_from-zero}
 use Rattle.std.specs.List.{AllZip, position, position_from, remove}
 use Rattle.rx_sink.specs.declared.kept.Kept.{Kept}
 use Rattle.rx_sink.specs.Acts.{Acts}
-use Rattle.rx_sink.specs.Attachments.{Attachment, is_for, is_of, kept_for, without, replaced}
+use Rattle.rx_sink.specs.Attachments.{Attachment, Apart, is_for, is_of, kept_for, without, replaced}
 use Rattle.rx_sink.specs.Stands.{IsKept}
-
-pub bool_cases : (b : Bool) → (b ≡ true) ⊎ (b ≡ false)
-bool_cases true = inl refl
-bool_cases false = inr refl
-
-both_true : (x y : Bool) → (x && y) ≡ true → (x ≡ true) × (y ≡ true)
-both_true true true is = (refl, refl)
-both_true true false is = cc
-both_true false y is = cc
+use Rattle.rx_sink.proofs.Apartness.{bool_cases, both_true, key_is, none_split}
 
 module _ {A B : Type 0} (R : A → B → Type 0) where
   -- one more on both sides
@@ -88,33 +80,36 @@ module _ {S Rest : Type 0} (acts : Acts S Rest) (subject who : ℕ) where
     with_other = λ b other r. subst (λ t. AllZip (IsKept acts) (if t then b ∷ held else a ∷ replaced subject who b held) (one ∷ set kept place other)) (sym test) (tie, f.with_other b other r);
   }
 
-  -- counted from a place on
-  FoundFrom : List (Attachment S) → List (Kept S) → ℕ → ℕ → Type 0
-  FoundFrom held kept from place = (n : ℕ) × (place ≡ from + n) × Found held kept n
+  -- none stands behind the first of it
+  none_behind : (held : List (Attachment S)) (kept : List (Kept S)) (place : ℕ) (one : Kept S)
+      → AllZip (IsKept acts) held kept → kept_for subject who held ≡ None → slice_get kept place ≡ Some one → is_for subject who one ≡ true → ⊥
+  none_behind [] [] place one zip none at key = cc
+  none_behind [] (other ∷ kept) place one zip none at key = absurd zip
+  none_behind (a ∷ held) [] place one zip none at key = absurd zip
+  none_behind (a ∷ held) (other ∷ kept) zero one zip none at key =
+      let same : other ≡ one = cc in
+      let parts = none_split (is_of subject who a) a (kept_for subject who held) none in
+      let no : true ≡ false = sym key ∙ ap (λ (k : Kept S). is_for subject who k) (sym same) ∙ same_key a other zip.0 ∙ parts.0 in cc
+  none_behind (a ∷ held) (other ∷ kept) (suc place) one zip none at key =
+      none_behind held kept place one zip.1 (none_split (is_of subject who a) a (kept_for subject who held) none).1 at key
 
-  found_step : (a : Attachment S) (held : List (Attachment S)) (one : Kept S) (kept : List (Kept S)) (from place : ℕ)
-      → IsKept acts a one → AllZip (IsKept acts) held kept → position_from (is_for subject who) from (one ∷ kept) ≡ Some place
-      → (position_from (is_for subject who) (from + 1) kept ≡ Some place → FoundFrom held kept (from + 1) place)
-      → FoundFrom (a ∷ held) (one ∷ kept) from place
-  unfolding FoundFrom
-  found_step a held one kept from place tie zip is next =
-      elim (bool_cases (is_for subject who one)) [
+  -- the sink that is kept for the observer was found
+  pub located : (held : List (Attachment S)) (kept : List (Kept S)) (place : ℕ) (one : Kept S)
+      → AllZip (IsKept acts) held kept → Apart held → slice_get kept place ≡ Some one → is_for subject who one ≡ true → Found held kept place
+  located [] [] place one zip apart at key = cc
+  located [] (other ∷ kept) place one zip apart at key = absurd zip
+  located (a ∷ held) [] place one zip apart at key = absurd zip
+  located (a ∷ held) (other ∷ kept) zero one zip apart at key =
+      let same : other ≡ one = cc in
+      found_here a held other kept zip.0 zip.1 (sym (same_key a other zip.0) ∙ ap (λ (k : Kept S). is_for subject who k) same ∙ key)
+  located (a ∷ held) (other ∷ kept) (suc place) one zip apart at key =
+      elim (bool_cases (is_of subject who a)) [
         | inl test ↦
-            let here : Some from ≡ Some place = sym (ap (λ b. if b then Some from else position_from (is_for subject who) (from + 1) kept) test) ∙ is in
-            let same : place ≡ from + 0 = let e : from ≡ place = cc in omega (arith, e) in
-            (0, same, found_here a held one kept tie zip (sym (same_key a one tie) ∙ test))
-        | inr test ↦
-            let there = next (sym (ap (λ b. if b then Some from else position_from (is_for subject who) (from + 1) kept) test) ∙ is) in
-            (suc there.0, omega (arith, there.1), found_there a held one kept there.0 tie (sym (same_key a one tie) ∙ test) there.2)
+            (let k = key_is subject who a test in
+            let none : kept_for subject who held ≡ None = subst (λ (n : ℕ). kept_for n who held ≡ None) k.0 (subst (λ (n : ℕ). kept_for a.subject n held ≡ None) k.1 apart.0) in
+            absurd (none_behind held kept place one zip.1 none at key))
+        | inr test ↦ found_there a held other kept place zip.0 test (located held kept place one zip.1 apart.1 at key)
       ]
-
-  found_from : (held : List (Attachment S)) (kept : List (Kept S)) (from place : ℕ)
-      → AllZip (IsKept acts) held kept → position_from (is_for subject who) from kept ≡ Some place → FoundFrom held kept from place
-  found_from [] [] from place zip is = cc
-  found_from [] (one ∷ kept) from place zip is = absurd zip
-  found_from (a ∷ held) [] from place zip is = absurd zip
-  found_from (a ∷ held) (one ∷ kept) from place zip is =
-      found_step a held one kept from place zip.0 zip.1 is (found_from held kept (from + 1) place zip.1)
 
   missing_step : (a : Attachment S) (held : List (Attachment S)) (one : Kept S) (kept : List (Kept S)) (from : ℕ)
       → IsKept acts a one → position_from (is_for subject who) from (one ∷ kept) ≡ None
@@ -133,14 +128,6 @@ module _ {S Rest : Type 0} (acts : Acts S Rest) (subject who : ℕ) where
   missing_from [] kept from zip is = refl
   missing_from (a ∷ held) [] from zip is = absurd zip
   missing_from (a ∷ held) (one ∷ kept) from zip is = missing_step a held one kept from zip.0 is (missing_from held kept (from + 1) zip.1)
-
-  -- the sink that is kept for the observer was found
-  pub located : (held : List (Attachment S)) (kept : List (Kept S)) (place : ℕ)
-      → AllZip (IsKept acts) held kept → position (is_for subject who) kept ≡ Some place → Found held kept place
-  unfolding FoundFrom
-  located held kept place zip is =
-      let f = found_from held kept 0 place zip (sym (position_from-zero (is_for subject who) kept) ∙ is) in
-      subst (Found held kept) (sym (zero-add f.0) ∙ sym f.1) f.2
 
   -- none is kept for the observer
   pub missing : (held : List (Attachment S)) (kept : List (Kept S))

@@ -1,3 +1,5 @@
+pub mod Apartness
+pub mod Looking
 pub mod Finding
 pub mod Tending
 pub mod Taking

@@ -17,6 +17,7 @@ use Rattle.rx_sink.specs.declared.sink.SinkFault.{SinkFault}
 use Rattle.rx_sink.specs.Acts.{Acts, Step, Takes, Flushes, notes_by, last_by, Makes, Took, raised}
 use Rattle.rx_sink.specs.Attachments.{Attachment, Why, TookLast, Detached, Closed, FailedAtStart, FailedAt, FailedAtFlush, Mark, Fine, Fault, NoMemory, Sent, Change, is_clear, is_held_back, is_last, may_wait, kept_for, given, settled, answered, served, served_yet, flushed, written, attached, detached, let_go, unchanged, with_note, with_flush, paid, request, requests, dispose, parting, without, replaced, closed}
 use Rattle.rx_sink.specs.Stands.{IsKept, Last, IsPutAway, Stand, Did, Pushes, Parts, MayPart, EndsAct, Settles, TakesNote, Flushed, addressed, counted, events_of}
+use Rattle.rx_sink.proofs.Apartness.{apart_but, apart_push, apart_with}
 use Rattle.rx_sink.proofs.Finding.{AllZip-more, Found, remove-set, set-same, slice_get-set}
 
 module _ {S : Type 0} where
@@ -70,7 +71,7 @@ module _ {S Rest : Type 0} (acts : Acts S Rest) where
   pub unchanged_stands : (held : List (Attachment S)) (gone : List (Attachment S × Why)) (kept : List (Kept S)) (away : List (PutAway Rest))
       → Stand acts held gone kept away → Did acts (unchanged held) gone kept away []
   unchanged_stands held gone kept away stand = record {
-    stand = record { kept_are = stand.kept_are; away_are = subst (λ (l : List (Attachment S × Why)). AllZip (IsPutAway acts) l away) (sym (append-nil gone)) stand.away_are };
+    stand = record { kept_are = stand.kept_are; away_are = subst (λ (l : List (Attachment S × Why)). AllZip (IsPutAway acts) l away) (sym (append-nil gone)) stand.away_are; apart = stand.apart };
     sends = refl;
   }
 
@@ -119,12 +120,13 @@ module _ {S Rest : Type 0} (acts : Acts S Rest) where
   module _ (subject who place : ℕ) (held : List (Attachment S)) (gone : List (Attachment S × Why)) (kept : List (Kept S)) (away : List (PutAway Rest))
       (stand : Stand acts held gone kept away) (f : Found acts subject who held kept place) where
     -- it goes on as another, with this sink
-    kept_on : (b : Attachment S) (now : Kept S) (sends : List Sent) (took : ℕ) (events : List (ℕ × Event)) → IsKept acts b now → events ≡ addressed sends
+    kept_on : (b : Attachment S) (now : Kept S) (sends : List Sent) (took : ℕ) (events : List (ℕ × Event)) → b.subject ≡ subject → b.who ≡ who → IsKept acts b now → events ≡ addressed sends
         → Did acts (record { kept = replaced subject who b held; gone = []; sends = sends; missed = 0; took = took }) gone (set kept place now) away events
-    kept_on b now sends took events tie sent = record {
+    kept_on b now sends took events of_subject of_who tie sent = record {
       stand = record {
         kept_are = f.with_other b now tie;
         away_are = subst (λ (l : List (Attachment S × Why)). AllZip (IsPutAway acts) l away) (sym (append-nil gone)) stand.away_are;
+        apart = apart_with subject who b held of_subject of_who stand.apart;
       };
       sends = sent;
     }
@@ -148,6 +150,7 @@ module _ {S Rest : Type 0} (acts : Acts S Rest) where
             kept_are = subst (AllZip (IsKept acts) (without subject who held)) (sym (parts.removed ∙ remove-set kept place now)) f.rest;
             away_are = away_more gone away away_after b why parts.one stand.away_are (ap (λ (k : Kept S). k.subject) one_is ∙ same_subject) (ap (λ (k : Kept S). k.who) one_is ∙ same_who)
                 (subst (λ (k : Kept S). Last acts b why k.sink) (sym one_is) was) parts.pushed;
+            apart = apart_but subject who held stand.apart;
           };
           sends = sent;
         }
@@ -205,7 +208,7 @@ module _ {S Rest : Type 0} (acts : Acts S Rest) where
         let asks_is = answered_asks flow b now asks false true is leaves_is held_is in
         let P : List (Kept S) → List (PutAway Rest) → Type 0 = λ l m. Did acts (settled false true subject who b took held) gone l m (map (λ event. (subject, event)) (events_of asks)) in
         subst (λ (l : List (Kept S)). P l away_after) (sym may.0) (subst (λ (m : List (PutAway Rest)). P (set kept place now) m) (sym may.1)
-        (kept_on b now [] took _ (record {
+        (kept_on b now [] took _ is.of_subject is.of_who (record {
           subject = is.same_subject;
           who = is.same_who;
           due = is.settles.due ∙ ap (λ (h : Bool). if h then b.due else 0) held_is;
@@ -217,7 +220,7 @@ module _ {S Rest : Type 0} (acts : Acts S Rest) where
         let asks_is = answered_asks flow b now asks false false is leaves_is held_is in
         let P : List (Kept S) → List (PutAway Rest) → Type 0 = λ l m. Did acts (settled false false subject who b took held) gone l m (map (λ event. (subject, event)) (events_of asks)) in
         subst (λ (l : List (Kept S)). P l away_after) (sym may.0) (subst (λ (m : List (PutAway Rest)). P (set kept place now) m) (sym may.1)
-        (kept_on (paid b) now (requests b) took _ (record {
+        (kept_on (paid b) now (requests b) took _ is.of_subject is.of_who (record {
           subject = is.same_subject;
           who = is.same_who;
           due = is.settles.due ∙ ap (λ (h : Bool). if h then b.due else 0) held_is;
@@ -405,6 +408,7 @@ module _ {S Rest : Type 0} (acts : Acts S Rest) where
               (AllZip-more (IsKept acts) held kept a _ stand.kept_are (record { subject = refl; who = refl; due = refl; over = refl; waits = refl; took = record { begun = now; start = started; steps = []; notes_are = refl; last_is = refl; made = refl } }));
           away_are = subst (λ (l : List (PutAway Rest)). AllZip (IsPutAway acts) (gone ++ []) l) (sym away_is)
               (subst (λ (l : List (Attachment S × Why)). AllZip (IsPutAway acts) l away) (sym (append-nil gone)) stand.away_are);
+          apart = apart_push held a none stand.apart;
         };
         sends = refl;
       })
@@ -421,6 +425,7 @@ module _ {S Rest : Type 0} (acts : Acts S Rest) where
           kept_are = subst (AllZip (IsKept acts) held) (sym kept_is) stand.kept_are;
           away_are = subst (AllZip (IsPutAway acts) (gone ++ (a, FailedAtStart) ∷ [])) (sym away_is)
               (AllZip-more (IsPutAway acts) gone away (a, FailedAtStart) _ stand.away_are (record { subject = refl; who = refl; last = now; was = (refl, faulted); rest = finished }));
+          apart = stand.apart;
         };
         sends = refl;
       })
@@ -435,6 +440,7 @@ module _ {S Rest : Type 0} (acts : Acts S Rest) where
           kept_are = subst (AllZip (IsKept acts) held) (sym kept_is) stand.kept_are;
           away_are = subst (λ (l : List (PutAway Rest)). AllZip (IsPutAway acts) (gone ++ []) l) (sym away_is)
               (subst (λ (l : List (Attachment S × Why)). AllZip (IsPutAway acts) l away) (sym (append-nil gone)) stand.away_are);
+          apart = stand.apart;
         };
         sends = refl;
       })
@@ -491,4 +497,5 @@ module _ {S Rest : Type 0} (acts : Acts S Rest) where
       record {
         kept_are = subst (AllZip (IsKept acts) []) (sym none) tt;
         away_are = all_closed held gone kept away away_after stand.kept_are stand.away_are (subst (λ (l : List (Kept S)). PushesAll away l away_after) done e.pushed);
+        apart = tt;
       }

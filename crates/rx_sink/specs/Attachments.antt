@@ -2,7 +2,7 @@
 -- (this project's own rule). A sink stays attached until it took a terminal and nothing waits in it any more, had a fault,
 -- its observer left, or the drainer was told to leave. Its subject is asked for an item more for each that it took: at once,
 -- but while the sink is stuck; then once it goes on, and at its end at the latest.
-use Rattle.std.specs.Prelude.{◌==◌, ◌&&◌, if◌then◌else◌, nat_lt, ℕ, ◌+◌, ◌^◌, Bool, true, false, not, List, [], ◌∷◌, ◌++◌, map, replicate, Option, Some, None}
+use Rattle.std.specs.Prelude.{◌≡◌, ◌==◌, ◌&&◌, if◌then◌else◌, nat_lt, ℕ, ◌+◌, ◌^◌, Bool, true, false, not, List, [], ◌∷◌, ◌++◌, map, replicate, Option, Some, None}
 use Rattle.rx_note.specs.declared.event.Event.{Event}
 use Rattle.rx_note.specs.declared.event.Event.TheVariants.{Request, Dispose}
 use Rattle.rx_note.specs.declared.note.Note.{Note}
@@ -106,6 +106,11 @@ module _ {S : Type 0} where
   abbrev pub replaced : ℕ → ℕ → Attachment S → List (Attachment S) → List (Attachment S)
   replaced subject who b [] = []
   replaced subject who b (a ∷ held) = if is_of subject who a then b ∷ held else a ∷ replaced subject who b held
+
+  -- no two attachments are of one observer
+  abbrev pub Apart : List (Attachment S) → Type 0
+  Apart [] = Unit {0}
+  Apart (a ∷ held) = (kept_for a.subject a.who held ≡ None) × Apart held
 
   -- the attachment once its sink took an item more, or a terminal, and answered so
   abbrev pub with_note : Bool → Note → Flow → Attachment S → Attachment S

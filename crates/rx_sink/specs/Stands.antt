@@ -10,7 +10,7 @@ use Rattle.rx_sink.specs.declared.kept.Kept.{Kept}
 use Rattle.rx_sink.specs.declared.put_away.PutAway.{PutAway}
 use Rattle.rx_sink.specs.declared.sink.SinkFault.{SinkFault}
 use Rattle.rx_sink.specs.Acts.{Acts, Took, raised}
-use Rattle.rx_sink.specs.Attachments.{Attachment, Why, TookLast, Detached, Closed, FailedAtStart, FailedAt, FailedAtFlush, Mark, Sent, Change, is_clear, is_held_back, is_last, may_wait, kept_for, attached, given, flushed, detached}
+use Rattle.rx_sink.specs.Attachments.{Attachment, Why, TookLast, Detached, Closed, FailedAtStart, FailedAt, FailedAtFlush, Mark, Sent, Change, Apart, is_clear, is_for, is_held_back, is_last, may_wait, kept_for, attached, given, flushed, detached}
 
 -- the events that were sent, each with its subject
 abbrev pub addressed : List Sent → List (ℕ × Event)
@@ -26,6 +26,10 @@ abbrev pub events_of : Asks → List Event
 events_of asks = replicate asks.items (Request asks.who 1) ++ (if asks.leaves then Dispose asks.who ∷ [] else [])
 
 module _ {S : Type 0} where
+  -- the sink at this place is kept for this observer
+  abbrev pub IsKeptAt : ℕ → ℕ → ℕ → List (Kept S) → Type 0
+  IsKeptAt subject who place kept = (one : Kept S) × (slice_get kept place ≡ Some one) × (is_for subject who one ≡ true)
+
   -- a kept sink that answered so, when so many items were due, asks for them or holds them back
   pub record Settles (flow : Flow) (items : ℕ) (after : Kept S) (asks : Asks) : Type 0 where
     pub due : after.due ≡ (if is_held_back flow items then items else 0)
@@ -58,10 +62,11 @@ module _ {S Rest : Type 0} (acts : Acts S Rest) where
     pub was : Last end.0 end.1 last
     pub rest : acts.finished last away.rest
 
-  -- the two lists stand for attachments that are kept and for those that have ended
+  -- the two lists stand for attachments that are kept, no two of one observer, and for those that have ended
   pub record Stand (held : List (Attachment S)) (gone : List (Attachment S × Why)) (kept : List (Kept S)) (away : List (PutAway Rest)) : Type 0 where
     pub kept_are : AllZip IsKept held kept
     pub away_are : AllZip IsPutAway gone away
+    pub apart : Apart held
 
   -- the lists were changed so, and these events are to be sent to subjects
   pub record Did (change : Change S) (gone : List (Attachment S × Why)) (kept : List (Kept S)) (away : List (PutAway Rest)) (events : List (ℕ × Event)) : Type 0 where

@@ -1,9 +1,9 @@
 // What a letter or a flush does to the sinks that are kept and to those that were put away.
-ghost use Rattle.std.specs.Prelude.{◌≡◌, if◌then◌else◌, ◌+◌, ◌<◌, ◌≤◌, [], ◌++◌, List, vec_len, vec_capacity};
+ghost use Rattle.std.specs.Prelude.{◌≡◌, if◌then◌else◌, ◌+◌, ◌<◌, ◌≤◌, [], ◌++◌, List, None, IfSome, length, vec_len, vec_capacity};
 ghost use Rattle.std.specs.List.{position};
 ghost use Rattle.rx_sink.specs.Acts.{raised};
 ghost use Rattle.rx_sink.specs.Attachments.{Attachment, Why, closed, is_for};
-ghost use Rattle.rx_sink.specs.Stands.{Attaches, Gives, FlushesOne, Detaches, EndsAct, Parts, Pushes, Stand, events_of};
+ghost use Rattle.rx_sink.specs.Stands.{Attaches, Gives, FlushesOne, Detaches, EndsAct, IsKeptAt, Parts, Pushes, Stand, events_of};
 
 use crate::{Asks, Kept, Places, PutAway, Sink, SinkFault};
 use rx_heap::Heap;
@@ -24,7 +24,7 @@ pub fn attach<S: Sink>(
     ensures room { vec_len away.new + vec_len kept.new ≤ vec_capacity away.new }
     ensures attaches { Attaches S.acts subject who sink kept.old.items kept.new.items away.old.items away.new.items places.old.misses places.new.misses (events_of result) }
 {
-    if let Some(_place) = find(kept.as_slice(), subject, who) {
+    if let Some(_place) = find(kept.as_slice(), who as usize, subject, who) {
         let _rest = sink.finish();
         return Asks::nothing(who);
     }
@@ -69,7 +69,7 @@ pub fn give<S: Sink>(
     ensures room { vec_len away.new + vec_len kept.new ≤ vec_capacity away.new }
     ensures gives { Gives S.acts subject who note kept.old.items kept.new.items away.old.items away.new.items taken.old taken.new (events_of result) }
 {
-    let Some(place) = find(kept.as_slice(), subject, who) else {
+    let Some(place) = find(kept.as_slice(), who as usize, subject, who) else {
         return Asks::nothing(who);
     };
     if kept[place].over {
@@ -82,10 +82,11 @@ pub fn give<S: Sink>(
 
 /// The sink of an observer is flushed, if one is kept. It answers what the subject is to be asked: one item more for each that
 /// is due, unless the sink is stuck. The observer is disposed of, and its sink put away, where nothing waits any more in one
-/// that took a terminal, and after a fault.
+/// that took a terminal, and after a fault. Where the sink stands at the place `near` one look finds it.
 pub fn flush_one<S: Sink>(
     kept: &mut Vec<Kept<S>, Heap>,
     away: &mut Vec<PutAway<S::Rest>, Heap>,
+    near: usize,
     subject: u32,
     who: u32,
 ) -> Asks
@@ -94,7 +95,7 @@ pub fn flush_one<S: Sink>(
     ensures len { vec_len kept.old ≤ vec_len kept.new + 1 }
     ensures flushes { FlushesOne S.acts subject who kept.old.items kept.new.items away.old.items away.new.items (events_of result) }
 {
-    let Some(place) = find(kept.as_slice(), subject, who) else {
+    let Some(place) = find(kept.as_slice(), near, subject, who) else {
         return Asks::nothing(who);
     };
     let flushed = kept[place].flush();
@@ -113,7 +114,7 @@ pub fn detach<S: Sink>(
     ensures room { vec_len away.new + vec_len kept.new ≤ vec_capacity away.new }
     ensures detaches { Detaches S.acts subject who kept.old.items kept.new.items away.old.items away.new.items (events_of result) }
 {
-    let Some(place) = find(kept.as_slice(), subject, who) else {
+    let Some(place) = find(kept.as_slice(), who as usize, subject, who) else {
         return Asks::nothing(who);
     };
     let leaves = kept[place].over;
@@ -200,12 +201,36 @@ fn push_away<S: Sink>(away: &mut Vec<PutAway<S::Rest>, Heap>, one: Kept<S>)
     away.push_reserved(PutAway { subject, who, rest });
 }
 
-// The place of the sink that is kept for an observer.
-fn find<S: Sink>(kept: &[Kept<S>], subject: u32, who: u32) -> Option<usize>
-    ensures { result ≡ position (is_for subject who) kept.now }
+// The place of the sink that is kept for an observer. It is looked for from this place down, and then from there up: the sinks
+// of a subject come by the rising numbers of their observers, and a sink that goes has those behind it move down.
+fn find<S: Sink>(kept: &[Kept<S>], near: usize, subject: u32, who: u32) -> Option<usize>
+    ensures within { IfSome result (λ place. place < length kept.now) }
+    ensures found { IfSome result (λ place. IsKeptAt subject who place kept.now) }
+    ensures none { result ≡ None → position (is_for subject who) kept.now ≡ None }
 {
-    kept.iter()
-        .position(|one| one.subject == subject && one.who == who)
+    let first = near.min(kept.len().saturating_sub(1));
+    for step in 0..kept.len() {
+        let place = place_at(first, step);
+        if is_kept_for(&kept[place], subject, who) {
+            return Some(place);
+        }
+    }
+    None
+}
+
+// The place that is looked at in this step: from `first` down to 0, and then from behind `first` up.
+fn place_at(first: usize, step: usize) -> usize
+    ensures down { step ≤ first → result + step ≡ first }
+    ensures up { first < step → result ≡ step }
+{
+    if step <= first { first - step } else { step }
+}
+
+// Whether a sink is kept for this observer.
+fn is_kept_for<S: Sink>(one: &Kept<S>, subject: u32, who: u32) -> bool
+    ensures { result ≡ is_for subject who one.now }
+{
+    one.subject == subject && one.who == who
 }
 
 // The number of notes taken with one more, where it was.

@@ -1,4 +1,0 @@
-use Rattle.std.proofs.Common.{refl}
-use Rattle.rx_drain.specs.Drainers.{view_of}
-use Rattle.rx_drain.proofs.Ending.{goes_nowhere, takes_none}
-use Rattle.rx_drain.proofs.handling.handle_first.Goals as goal

@@ -30,18 +30,18 @@ returns-then-left-clause-handles g c =
 
 pub returns-then-is_some-clause-handles : goal.returns-then-is_some-clause-handles
 returns-then-is_some-clause-handles g c =
-    let fault = c.flush_all-fault.result in
-    let hands = c.flush_all-fault.new.hands in
+    let fault = c.flush_last-fault.result in
+    let hands = c.flush_last-fault.new.hands in
     let before = view_of c.args.hands.now false None in
     let mid = view_of hands false fault in
     let left_hands : DrainerLeft _ _ = record hands { kept = c.put_all_away.new.kept; put_away = c.put_all_away.new.away } in
     let after = view_of left_hands true fault in
     let x = letter c.args.from Bye in
-    let flushes = c.flush_all-fault.ensures.flushes in
-    let same = c.flush_all-fault.ensures.ports in
+    let flushes = c.flush_last-fault.ensures.flushes in
+    let same = c.flush_last-fault.ensures.ports in
     let count : length mid.ports ≡ length before.ports = AreSame-length before.ports mid.ports same in
     let from_is : c.args.from ≡ length mid.ports =
-    omega (arith, c.if-from-leave.false, c.flush_all-fault.ensures.fits.leave_is, length-append hands.ended.items hands.parts.subjects.items) in
+    omega (arith, c.if-from-leave.false, c.flush_last-fault.ensures.fits.leave_is, length-append hands.ended.items hands.parts.subjects.items) in
     subst (λ (l : Bool). Handles g.S.Sink.acts x (view_of c.args.hands.now l None) after) (sym c.if-left.false)
     (handles_flushed g.S.Sink.acts x before mid after same flushes
     (handles_cut g.S.Sink.acts c.args.from mid after from_is refl refl c.put_all_away.ensures.kept refl refl refl refl (sym c.is_some.ensures ∙ c.if-is_some.true)

@@ -1,18 +1,18 @@
-use Rattle.std.proofs.Common.{◌∙◌, sym, ap, List, [], ◌∷◌, ◌++◌, true, false}
+use Rattle.std.proofs.Common.{◌∙◌, sym, ap, subst, List, [], ◌∷◌, ◌++◌, true, false}
 use Rattle.std.specs.List.{position}
 use Rattle.rx_sink.specs.declared.flow.Flow.TheVariants.{Clear}
 use Rattle.rx_sink.specs.declared.kept.Kept.{Kept}
 use Rattle.rx_sink.specs.declared.put_away.PutAway.{PutAway}
 use Rattle.rx_sink.specs.Attachments.{Fine, Fault, NoMemory, is_for, attached}
-use Rattle.rx_sink.specs.Stands.{counted}
+use Rattle.rx_sink.specs.Stands.{IsKeptAt, counted}
 use Rattle.rx_sink.proofs.Finding.{located, missing}
 use Rattle.rx_sink.proofs.Tending.{brought, attached_beside, attached_fine, attached_fault, attached_nowhere, said_so}
 use Rattle.rx_sink.proofs.keeping.attach.Goals as goal
 
 pub returns-in-Some-clause-attaches : goal.returns-in-Some-clause-attaches
 returns-in-Some-clause-attaches g c = λ place held gone stand.
-    let place_is = ap (position (is_for c.args.subject c.args.who)) (sym c.as_slice.ensures.value) ∙ sym c.in-Some.ensures in
-    let f = located g.S.Sink.acts c.args.subject c.args.who held c.args.kept.now.items c.in-Some._place stand.kept_are place_is in
+    let here = subst (IsKeptAt c.args.subject c.args.who c.in-Some._place) c.as_slice.ensures.value c.in-Some.ensures.found in
+    let f = located g.S.Sink.acts c.args.subject c.args.who held c.args.kept.now.items c.in-Some._place here.0 stand.kept_are stand.apart here.1 here.2 in
     let a = brought place c.args.subject c.args.who c.args.sink in (
       Fine Clear,
       (
@@ -24,7 +24,7 @@ returns-in-Some-clause-attaches g c = λ place held gone stand.
 
 pub returns-in_default-grow-clause-attaches : goal.returns-in_default-grow-clause-attaches
 returns-in_default-grow-clause-attaches g c = λ place held gone stand.
-    let none = ap (position (is_for c.args.subject c.args.who)) (sym c.as_slice.ensures.value) ∙ sym c.find.ensures ∙ c.in_default.is in
+    let none = ap (position (is_for c.args.subject c.args.who)) (sym c.as_slice.ensures.value) ∙ c.find.ensures.none c.in_default.is in
     let nobody = missing g.S.Sink.acts c.args.subject c.args.who held c.args.kept.now.items stand.kept_are none in
     let a = brought place c.args.subject c.args.who c.args.sink in (
       NoMemory,
@@ -38,7 +38,7 @@ returns-in_default-grow-clause-attaches g c = λ place held gone stand.
 
 pub returns-in-Ok-start-clause-attaches : goal.returns-in-Ok-start-clause-attaches
 returns-in-Ok-start-clause-attaches g c = λ place held gone stand.
-    let none = ap (position (is_for c.args.subject c.args.who)) (sym c.as_slice.ensures.value) ∙ sym c.find.ensures ∙ c.in_default.is in
+    let none = ap (position (is_for c.args.subject c.args.who)) (sym c.as_slice.ensures.value) ∙ c.find.ensures.none c.in_default.is in
     let nobody = missing g.S.Sink.acts c.args.subject c.args.who held c.args.kept.now.items stand.kept_are none in
     let a = brought place c.args.subject c.args.who c.args.sink in (
       Fine Clear,
@@ -54,7 +54,7 @@ returns-in-Ok-start-clause-attaches g c = λ place held gone stand.
 
 pub returns-in-Err-clause-attaches : goal.returns-in-Err-clause-attaches
 returns-in-Err-clause-attaches g c = λ place held gone stand.
-    let none = ap (position (is_for c.args.subject c.args.who)) (sym c.as_slice.ensures.value) ∙ sym c.find.ensures ∙ c.in_default.is in
+    let none = ap (position (is_for c.args.subject c.args.who)) (sym c.as_slice.ensures.value) ∙ c.find.ensures.none c.in_default.is in
     let nobody = missing g.S.Sink.acts c.args.subject c.args.who held c.args.kept.now.items stand.kept_are none in
     let a = brought place c.args.subject c.args.who c.args.sink in (
       Fault,

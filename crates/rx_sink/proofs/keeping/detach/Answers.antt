@@ -2,21 +2,21 @@ use Rattle.std.proofs.Common.{◌∙◌, sym, ap, subst}
 use Rattle.std.specs.List.{position}
 use Rattle.rx_sink.specs.declared.kept.Kept.{Kept}
 use Rattle.rx_sink.specs.Attachments.{is_for}
-use Rattle.rx_sink.specs.Stands.{Parts}
+use Rattle.rx_sink.specs.Stands.{IsKeptAt, Parts}
 use Rattle.rx_sink.proofs.Finding.{located, missing}
 use Rattle.rx_sink.proofs.Tending.{detached_one, detached_nobody, same_one}
 use Rattle.rx_sink.proofs.keeping.detach.Goals as goal
 
 pub returns-in_default-clause-detaches : goal.returns-in_default-clause-detaches
 returns-in_default-clause-detaches g c = λ held gone stand.
-    let none = ap (position (is_for c.args.subject c.args.who)) (sym c.as_slice.ensures.value) ∙ sym c.find.ensures ∙ c.in_default.is in
+    let none = ap (position (is_for c.args.subject c.args.who)) (sym c.as_slice.ensures.value) ∙ c.find.ensures.none c.in_default.is in
     detached_nobody g.S.Sink.acts c.args.subject c.args.who held gone c.args.kept.now.items c.args.away.now.items c.nothing.result
     stand (missing g.S.Sink.acts c.args.subject c.args.who held c.args.kept.now.items stand.kept_are none) c.nothing.ensures
 
 pub returns-clause-detaches : goal.returns-clause-detaches
 returns-clause-detaches g c = λ held gone stand.
-    let place_is = ap (position (is_for c.args.subject c.args.who)) (sym c.as_slice.ensures.value) ∙ sym c.in-Some.ensures in
-    let f = located g.S.Sink.acts c.args.subject c.args.who held c.args.kept.now.items c.in-Some.place stand.kept_are place_is in
+    let here = subst (IsKeptAt c.args.subject c.args.who c.in-Some.place) c.as_slice.ensures.value c.in-Some.ensures.found in
+    let f = located g.S.Sink.acts c.args.subject c.args.who held c.args.kept.now.items c.in-Some.place here.0 stand.kept_are stand.apart here.1 here.2 in
     let same = same_one c.args.kept.now.items c.in-Some.place f.one c.index.result.now f.at c.index.ensures in
     detached_one g.S.Sink.acts c.args.subject c.args.who c.in-Some.place held gone c.args.kept.now.items c.args.away.now.items stand f
     c.part.new.kept.items c.part.new.away.items c.part.result

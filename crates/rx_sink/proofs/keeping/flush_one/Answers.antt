@@ -2,21 +2,21 @@ use Rattle.std.proofs.Common.{◌∙◌, sym, ap, subst, ◌≡◌, MatchResult}
 use Rattle.std.specs.List.{position}
 use Rattle.rx_sink.specs.declared.kept.Kept.{Kept}
 use Rattle.rx_sink.specs.Attachments.{is_for}
-use Rattle.rx_sink.specs.Stands.{Flushed}
+use Rattle.rx_sink.specs.Stands.{IsKeptAt, Flushed}
 use Rattle.rx_sink.proofs.Finding.{located, missing}
 use Rattle.rx_sink.proofs.Tending.{flushed_one, flushed_nobody, same_one}
 use Rattle.rx_sink.proofs.keeping.flush_one.Goals as goal
 
 pub returns-in_default-clause-flushes : goal.returns-in_default-clause-flushes
 returns-in_default-clause-flushes g c = λ held gone stand.
-    let none = ap (position (is_for c.args.subject c.args.who)) (sym c.as_slice.ensures.value) ∙ sym c.find.ensures ∙ c.in_default.is in
+    let none = ap (position (is_for c.args.subject c.args.who)) (sym c.as_slice.ensures.value) ∙ c.find.ensures.none c.in_default.is in
     flushed_nobody g.S.Sink.acts c.args.subject c.args.who held gone c.args.kept.now.items c.args.away.now.items c.nothing.result
     stand (missing g.S.Sink.acts c.args.subject c.args.who held c.args.kept.now.items stand.kept_are none) c.nothing.ensures
 
 pub returns-clause-flushes : goal.returns-clause-flushes
 returns-clause-flushes g c = λ held gone stand.
-    let place_is = ap (position (is_for c.args.subject c.args.who)) (sym c.as_slice.ensures.value) ∙ sym c.in-Some.ensures in
-    let f = located g.S.Sink.acts c.args.subject c.args.who held c.args.kept.now.items c.in-Some.place stand.kept_are place_is in
+    let here = subst (IsKeptAt c.args.subject c.args.who c.in-Some.place) c.as_slice.ensures.value c.in-Some.ensures.found in
+    let f = located g.S.Sink.acts c.args.subject c.args.who held c.args.kept.now.items c.in-Some.place here.0 stand.kept_are stand.apart here.1 here.2 in
     let same = same_one c.args.kept.now.items c.in-Some.place f.one c.index_mut.result.now f.at c.index_mut.ensures.value in
     flushed_one g.S.Sink.acts c.args.subject c.args.who c.in-Some.place held gone c.args.kept.now.items c.args.away.now.items stand f
     c.flush-flushed.result c.flush-flushed.new.self c.end_act.result c.end_act.new.kept.items c.end_act.new.away.items

@@ -3,14 +3,14 @@ use Rattle.std.specs.List.{position}
 use Rattle.rx_sink.specs.declared.kept.Kept.{Kept}
 use Rattle.rx_sink.specs.Acts.{raised}
 use Rattle.rx_sink.specs.Attachments.{Fault, is_for}
-use Rattle.rx_sink.specs.Stands.{TakesNote}
+use Rattle.rx_sink.specs.Stands.{IsKeptAt, TakesNote}
 use Rattle.rx_sink.proofs.Finding.{located, missing}
 use Rattle.rx_sink.proofs.Tending.{given_one, given_over, given_nobody, same_one}
 use Rattle.rx_sink.proofs.keeping.give.Goals as goal
 
 pub returns-in_default-clause-gives : goal.returns-in_default-clause-gives
 returns-in_default-clause-gives g c = λ held gone stand.
-    let none = ap (position (is_for c.args.subject c.args.who)) (sym c.as_slice.ensures.value) ∙ sym c.find.ensures ∙ c.in_default.is in (
+    let none = ap (position (is_for c.args.subject c.args.who)) (sym c.as_slice.ensures.value) ∙ c.find.ensures.none c.in_default.is in (
       Fault,
       given_nobody g.S.Sink.acts c.args.taken.now c.args.subject c.args.who held gone c.args.kept.now.items c.args.away.now.items c.args.note c.nothing.result
           stand (missing g.S.Sink.acts c.args.subject c.args.who held c.args.kept.now.items stand.kept_are none) c.nothing.ensures,
@@ -18,8 +18,8 @@ returns-in_default-clause-gives g c = λ held gone stand.
 
 pub returns-then-index-clause-gives : goal.returns-then-index-clause-gives
 returns-then-index-clause-gives g c = λ held gone stand.
-    let place_is = ap (position (is_for c.args.subject c.args.who)) (sym c.as_slice.ensures.value) ∙ sym c.in-Some.ensures in
-    let f = located g.S.Sink.acts c.args.subject c.args.who held c.args.kept.now.items c.in-Some.place stand.kept_are place_is in
+    let here = subst (IsKeptAt c.args.subject c.args.who c.in-Some.place) c.as_slice.ensures.value c.in-Some.ensures.found in
+    let f = located g.S.Sink.acts c.args.subject c.args.who held c.args.kept.now.items c.in-Some.place here.0 stand.kept_are stand.apart here.1 here.2 in
     let same = same_one c.args.kept.now.items c.in-Some.place f.one c.index.result.now f.at c.index.ensures in (
       Fault,
       given_over g.S.Sink.acts c.args.subject c.args.who c.in-Some.place held gone c.args.kept.now.items c.args.away.now.items stand f c.args.taken.now c.args.note c.nothing-then-index.result
@@ -28,8 +28,8 @@ returns-then-index-clause-gives g c = λ held gone stand.
 
 pub returns-clause-gives : goal.returns-clause-gives
 returns-clause-gives g c = λ held gone stand.
-    let place_is = ap (position (is_for c.args.subject c.args.who)) (sym c.as_slice.ensures.value) ∙ sym c.in-Some.ensures in
-    let f = located g.S.Sink.acts c.args.subject c.args.who held c.args.kept.now.items c.in-Some.place stand.kept_are place_is in
+    let here = subst (IsKeptAt c.args.subject c.args.who c.in-Some.place) c.as_slice.ensures.value c.in-Some.ensures.found in
+    let f = located g.S.Sink.acts c.args.subject c.args.who held c.args.kept.now.items c.in-Some.place here.0 stand.kept_are stand.apart here.1 here.2 in
     let read = same_one c.args.kept.now.items c.in-Some.place f.one c.index.result.now f.at c.index.ensures in
     let same = same_one c.args.kept.now.items c.in-Some.place f.one c.index_mut.result.now f.at c.index_mut.ensures.value in
     let did = given_one g.S.Sink.acts c.args.subject c.args.who c.in-Some.place held gone c.args.kept.now.items c.args.away.now.items stand f

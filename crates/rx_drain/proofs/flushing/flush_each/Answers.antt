@@ -3,7 +3,7 @@ use Rattle.std.proofs.lemmas.Option.{slice_get-get_or}
 use Rattle.rx_drain.specs.declared.drain_fault.DrainFault.{DrainFault}
 use Rattle.rx_drain.specs.Drainers.{Fits, view_of}
 use Rattle.rx_drain.proofs.Clearing.{Flushing, Flushing-none, Flushing-past, Flushing-more, Flushing-whole, Flushing-all, Flushing-fault}
-use Rattle.rx_drain.proofs.flushing.flush_all.Goals as goal
+use Rattle.rx_drain.proofs.flushing.flush_each.Goals as goal
 
 -- there is no fault
 none_of : (fault : Option DrainFault) → is_some fault ≡ false → fault ≡ None
@@ -35,8 +35,8 @@ loop-place-preserved g c =
           (slice_get-get_or hands.kept.items next one (omega (arith, inv.within, c.loop-place-test.true, hands.kept.ok.0)) ∙ ap Some (sym c.index.ensures)) c.if-index.false inv.flushing;
     }
 
-pub loop-place-preserved-else-is_some : goal.loop-place-preserved-else-is_some
-loop-place-preserved-else-is_some g c =
+pub loop-place-preserved-in-loop-place : goal.loop-place-preserved-in-loop-place
+loop-place-preserved-in-loop-place g c =
     let inv = c.loop-place.invariant in
     let hands = c.loop-place.hands in
     let after = c.flush_at-fault.new.hands in

@@ -1,13 +1,13 @@
-use Rattle.std.proofs.Common.{Some, None, Option, OnOk, Result, Ok, Err, sym, refl, ap, subst, ◌∙◌}
+use Rattle.std.proofs.Common.{◌≡◌, false, Some, Option, OnOk, Result, Ok, Err, sym, refl, ap, subst, ◌∙◌}
 use Rattle.rx_mailbox.specs.Boxes.{Incoming}
 use Rattle.rx_pump.specs.Pumps.{AreSame}
 use Rattle.rx_drain.specs.declared.drain_fault.DrainFault.{DrainFault}
 use Rattle.rx_drain.specs.declared.drain_fault.DrainFault.TheVariants.{InboxGone}
 use Rattle.rx_drain.specs.declared.drainer_left.DrainerLeft.{DrainerLeft}
-use Rattle.rx_drain.specs.Drainers.{DrainerView, Fits, Goes, IsDrained, KeepsPlaces, TakesMore, view_of}
-use Rattle.rx_drain.proofs.Ending.{drained_gone, drained_turn, goes_further, takes_both}
-use Rattle.rx_drain.proofs.drainer.Drainer.turn.Given as given
-use Rattle.rx_drain.proofs.drainer.Drainer.turn.Goals as goal
+use Rattle.rx_drain.specs.Drainers.{DrainerView, Fits, Goes, IsDrained, KeepsPlaces, TakesMore, TakesOne, any_may_wait, view_of}
+use Rattle.rx_drain.proofs.Ending.{drained_gone, drained_turn, goes_further, takes_both, takes_one_and}
+use Rattle.rx_drain.proofs.drainer.Drainer.turn_by.Given as given
+use Rattle.rx_drain.proofs.drainer.Drainer.turn_by.Goals as goal
 
 -- the letters of this turn were handled, and the sinks flushed
 drained : (g : given.Over) (c : goal.After-outcome g)
@@ -99,6 +99,18 @@ pub returns-clause-took : goal.returns-clause-took
 returns-clause-took g c =
     let after = c.handle_rest-rest.new.hands.parts.inbox in
     on_ok_known c.outcome.result (subst (λ (v : DrainerView _ _). TakesMore v.inbox after) c.self.view_is (took g c))
+
+-- at least one, where nothing waits
+took_one : (g : given.Over) (c : goal.After-outcome g) → c.args.looks ≡ false → any_may_wait c.self.inside.hands.kept.items ≡ false → TakesOne c.self.inside.hands.parts.inbox c.handle_rest-rest.new.hands.parts.inbox
+took_one g c patient none =
+    let before = c.self.inside.hands.parts.inbox in
+    subst (λ (i : Incoming _). TakesOne before i) (sym c.handle_rest-rest.ensures.inbox)
+    (takes_one_and g.S.Sink.acts before c.handle_first.new.hands.parts.inbox c.handle_more-more.new.hands.parts.inbox (c.in-Ok.ensures.takes_one patient none) c.handle_more-more.ensures.inbox)
+
+pub returns-clause-takes_one : goal.returns-clause-takes_one
+returns-clause-takes_one g c =
+    let after = c.handle_rest-rest.new.hands.parts.inbox in
+    on_ok_known c.outcome.result (λ patient. subst (λ (v : DrainerView _ _). any_may_wait v.kept ≡ false → TakesOne v.inbox after) c.self.view_is (took_one g c patient))
 
 -- more letters in the inbox keep the places
 keeps : {S Rest : Type 0} (before after : DrainerView S Rest) → TakesMore before.inbox after.inbox → AreSame before.ports after.ports → KeepsPlaces before after

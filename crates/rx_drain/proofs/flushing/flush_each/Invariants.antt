@@ -2,7 +2,7 @@ use Rattle.std.proofs.Common.{◌≡◌, ◌≤◌, false, None, vec_len}
 use Rattle.rx_pump.specs.Pumps.{AreSame}
 use Rattle.rx_drain.specs.Drainers.{Fits, view_of}
 use Rattle.rx_drain.proofs.Clearing.{Flushing}
-use Rattle.rx_drain.proofs.flushing.flush_all.Given as goal
+use Rattle.rx_drain.proofs.flushing.flush_each.Given as goal
 
 -- of the sinks from this place on only stuck ones are left unpaid
 abbrev pub invariant-loop-place : goal.invariant-loop-place
