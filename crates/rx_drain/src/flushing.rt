@@ -12,9 +12,9 @@ use std::time::Duration;
 
 // How often the sinks are flushed before the drainer leaves, and for how many milliseconds it rests after each time: a quarter
 // of a second in all.
-const LAST_ROUNDS: u32 = 62;
+const LAST_ROUNDS: u32 = 25;
 
-const LAST_REST: u64 = 4;
+const LAST_REST: u64 = 10;
 
 // Flushes each sink in which something may wait, and asks the subjects for what is due of those that are not stuck. It
 // answers the fault, if there is one.
