@@ -36,7 +36,8 @@ pub fn run_script<R: Read, W: Write>(
     ensures runs { IfOk result (λ end. Runs (new_subjects config.subjects.items) end (R.remaining reader.old) (R.remaining reader.new) (W.contents writer.old) (W.contents writer.new)) }
     ensures unmade { OnErr result ((R.remaining reader.new ≡ R.remaining reader.old) × (W.contents writer.new ≡ W.contents writer.old)) }
 {
-    let mut script = Script::new(alloc, config)?;
+    let topics = topics_of(&alloc, config.subjects)?;
+    let mut script = Script::new(alloc, topics);
     let mut lines = LineState::new(max_reads);
     loop {
         let Ok(step) = script.next_step(&mut lines, reader, writer) else {
@@ -78,24 +79,26 @@ impl Drop for Script {
 impl Script {
     ghost use Rattle.rx_script.specs.Scripts.{TakesAt};
     ghost use Rattle.std.specs.Prelude.{List, Option, ℕ};
+    ghost use Rattle.rx_script.specs.Scripts.{AllStand};
     ghost use Rattle.rx_session.specs.declared.line_state.LineState.{LineState};
     ghost use Rattle.rx_session.specs.Steps.{unread, Goes};
     ghost use Rattle.rx_script.specs.Tellings.{CarriesOut, IsIn, IsInHand, MayBeTold, Quits, Tells, TellsOn, Turns, reading_of};
-    ghost use Rattle.rx_script.specs.Transcripts.{new_state};
+    ghost use Rattle.rx_script.specs.Transcripts.{Subject, new_state};
 
-    // The run of a script over the subjects of a configuration, with no line yet.
-    fn new(alloc: Heap, config: Config) -> Result<Script, Memory>
-        ensures state { IfOk result (λ script. IsIn script (new_state (new_subjects config.subjects.items))) }
-        ensures outbox { IfOk result (λ script. script.outbox ≡ []) }
+    // The run of a script over these topics, with no line yet.
+    #[inline(always)] // so that its outbox is made where it stays
+    fn new(alloc: Heap, topics: Vec<Topic, Heap>) -> Script
+        ensures state { (subjects : List Subject) → AllStand topics.items subjects → IsIn result (new_state subjects) }
+        ensures outbox { result.outbox ≡ [] }
     {
-        Ok(Script {
-            topics: topics_of(&alloc, config.subjects)?,
+        Script {
+            topics,
             moment: 0,
             version: Version::One,
             outs: Vec::new(alloc),
             outbox: Outbox::new(),
             spare: None,
-        })
+        }
     }
 
     // Takes the next line, or finds the end. Where that takes a read, all that was answered is written first.
@@ -382,9 +385,39 @@ fn response_of(answered: Result<Answer, Refusal>) -> Response
     }
 }
 
-// Puts a line in a version for each note given.
+// Puts a line in a version for each note given. Which version that is is asked once, and not at each note.
 #[inline(always)] // once for each line
 fn put_all<W: Write>(
+    outbox: &mut Outbox,
+    writer: &mut W,
+    version: Version,
+    name: &Name,
+    outs: &Vec<Given, Heap>,
+) -> Result<(), WriteFault>
+    ensures { Puts result outbox.old outbox.new (W.contents writer.old) (W.contents writer.new) (given_lines version name.now outs.now.items) }
+{
+    match version {
+        Version::One => put_each(outbox, writer, Version::One, name, outs),
+        Version::Two => put_placed(outbox, writer, name, outs),
+    }
+}
+
+// Puts a line in the second version for each note given.
+#[inline(never)] // so that the way of the first stays short
+fn put_placed<W: Write>(
+    outbox: &mut Outbox,
+    writer: &mut W,
+    name: &Name,
+    outs: &Vec<Given, Heap>,
+) -> Result<(), WriteFault>
+    ensures { Puts result outbox.old outbox.new (W.contents writer.old) (W.contents writer.new) (given_lines Version.Two name.now outs.now.items) }
+{
+    put_each(outbox, writer, Version::Two, name, outs)
+}
+
+// Puts a line in a version, which is known where it is called, for each note given.
+#[inline(always)] // so that the version is known
+fn put_each<W: Write>(
     outbox: &mut Outbox,
     writer: &mut W,
     version: Version,

@@ -25,6 +25,7 @@ impl LineState {
     ghost use Rattle.rx_session.specs.Steps.{unread, Advances, IsStepAt, Knows};
 
     /// No line was read yet, and at most `max_reads` reads may be made.
+    #[inline(always)] // so that its block is made where it stays
     pub fn new(max_reads: u64) -> LineState
         ensures unread { unread result ≡ [] }
         ensures reads { result.reads ≡ max_reads }

@@ -35,6 +35,7 @@ impl Model for Outbox {
 
 impl Outbox {
     /// The outbox that holds nothing.
+    #[inline(always)] // so that its block is made where it stays
     pub fn new() -> Outbox
         ensures { result ≡ [] }
     {

@@ -35,6 +35,7 @@ impl Model for Window {
 
 impl Window {
     /// The window with no bytes.
+    #[inline(always)] // so that its block is made where it stays
     pub fn new() -> Window
         ensures { result ≡ [] }
     {

@@ -5,7 +5,7 @@ use Rattle.rx_script.proofs.script.run_script.Goals as goal
 
 pub loop-step-init : goal.loop-step-init
 loop-step-init g c =
-    (SoFar-begun _ _ _ _ _ c.in_ok-script.ensures.state c.new-lines.ensures.unread c.in_ok-script.ensures.outbox, c.new-lines.ensures.end)
+    (SoFar-begun _ _ _ _ _ (c.new-script.ensures.state _ c.in_ok-topics.ensures) c.new-lines.ensures.unread c.new-script.ensures.outbox, c.new-lines.ensures.end)
 
 pub returns-in_default-clause-runs : goal.returns-in_default-clause-runs
 returns-in_default-clause-runs g c =

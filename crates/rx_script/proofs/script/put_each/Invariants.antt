@@ -1,7 +1,7 @@
 use Rattle.std.proofs.Common.{take}
 use Rattle.rx_session.specs.Bytes.{Holds}
 use Rattle.rx_script.specs.Transcripts.{given_lines}
-use Rattle.rx_script.proofs.script.put_all.Given as goal
+use Rattle.rx_script.proofs.script.put_each.Given as goal
 
 abbrev pub invariant-loop-given : goal.invariant-loop-given
 invariant-loop-given g l =
