@@ -5,6 +5,7 @@
 //! some bytes are.
 #![tactic(auto)]
 
+mod came;
 mod carriage;
 mod desk;
 mod follow;
