@@ -1,4 +1,5 @@
 pub mod Blocks
+pub mod Feeding
 pub mod Known
 pub mod Lanes
 pub mod Lfs

@@ -1,4 +1,5 @@
 pub mod Bytes
+pub mod Feeds
 pub mod Laws
 pub mod Lines
 pub mod Nexts

@@ -8,6 +8,7 @@
 mod came;
 mod carriage;
 mod desk;
+mod feed;
 mod follow;
 mod input_end;
 pub mod laws;
