@@ -1,4 +1,5 @@
 pub mod Blocks
+pub mod ByTurns
 pub mod Feeding
 pub mod Known
 pub mod Lanes

@@ -3,6 +3,7 @@ pub mod Feeds
 pub mod Laws
 pub mod Lines
 pub mod Nexts
+pub mod OpenSessions
 pub mod Reads
 pub mod Responses
 pub mod Sessions

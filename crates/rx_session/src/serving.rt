@@ -121,7 +121,7 @@ fn turn<R: Read, W: Write + Drop, D: Desk<W>>(
 }
 
 // Carries out a line of which this was parsed.
-fn carry_out<W: Write + Drop, D: Desk<W>>(
+pub(crate) fn carry_out<W: Write + Drop, D: Desk<W>>(
     outbox: &mut Outbox,
     desk: &mut D,
     version: &mut Version,
@@ -184,7 +184,11 @@ fn follow<W: Write + Drop, D: Desk<W>>(
 }
 
 // Answers a line by a response.
-fn answer<W: Write + Drop>(outbox: &mut Outbox, writer: W, response: Response) -> Turned<W>
+pub(crate) fn answer<W: Write + Drop>(
+    outbox: &mut Outbox,
+    writer: W,
+    response: Response,
+) -> Turned<W>
     ensures { Tells W.contents result writer outbox.old outbox.new (reply_line response) }
 {
     let mut held = writer;

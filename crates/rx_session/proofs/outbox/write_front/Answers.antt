@@ -1,5 +1,5 @@
 -- One write more: what it took stands behind what was written.
-use Rattle.std.proofs.Common.{◌+◌, take, arith, sym, subst, List, ℕ}
+use Rattle.std.proofs.Common.{arith, sym, subst, List, ℕ}
 use Rattle.std.specs.Io.KnownBytes.{Appends}
 use Rattle.std.proofs.KnownBytes.{Appends-trans}
 use Rattle.rx_session.proofs.Blocks.{take-on}
@@ -10,8 +10,7 @@ loop-done-preserved g c =
     let bytes = c.args.bytes.now in
     let done = c.loop-done.done in
     let more = c.in-Ok.more in
-    let appended = Appends-trans _ _ _ _ _ c.loop-done.invariant.1 c.in-Ok.ensures.bytes in
-    (
+    let appended = Appends-trans _ _ _ _ _ c.loop-done.invariant.1 c.in-Ok.ensures.bytes in (
       omega (arith, c.in-Ok.ensures.bound),
       subst (λ (xs : List ℕ). Appends (g.W.Write.contents c.args.writer.now) (g.W.Write.contents c.write.new.self) xs) (sym (take-on bytes done more)) appended,
     )

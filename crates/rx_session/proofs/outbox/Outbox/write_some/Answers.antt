@@ -1,9 +1,6 @@
 -- A front of what was held is written, and the writer keeps that at its flush.
-use Rattle.std.proofs.Common.{ℕ, List, take, subst}
-use Rattle.std.specs.Io.KnownBytes.{Appends}
 use Rattle.std.proofs.KnownBytes.{Appends-kept}
 use Rattle.rx_session.proofs.Written.{Holds-front, Loses-front}
-use Rattle.rx_session.proofs.outbox.Outbox.write_some.Given.{Over}
 use Rattle.rx_session.proofs.outbox.Outbox.write_some.Goals as goal
 
 pub returns-then-is_err-clause-puts : goal.returns-then-is_err-clause-puts
