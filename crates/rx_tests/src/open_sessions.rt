@@ -107,10 +107,11 @@ fn halting(input: Input, step: usize, pauses: u64) -> Halts {
     }
 }
 
-/// Takes so many bytes a call until it is full, when it faults.
+/// Takes so many bytes a call until it is full, when it faults. A flush of what it took may have to wait too.
 #[derive(Drop)]
 struct Sips {
     held: Told,
+    flushed: usize,
     step: usize,
     room: usize,
     pauses: Pauses,
@@ -129,13 +130,18 @@ impl Write for Sips {
     }
 
     fn flush(&mut self) -> io::Result<()> {
-        self.flushes.wait()
+        if self.flushed < self.held.len() {
+            self.flushes.wait()?;
+            self.flushed = self.held.len();
+        }
+        Ok(())
     }
 }
 
 fn sipping(step: usize, pauses: u64, flushes: u64) -> Sips {
     Sips {
         held: Told::new(),
+        flushed: 0,
         step,
         room: usize::MAX,
         pauses: Pauses::new(pauses),
@@ -164,7 +170,13 @@ impl Desk<Sips> for Scribe {
         Response::Done
     }
 
-    fn follow(&mut self, _name: &Name, _policy: Policy, version: Version, writer: Sips) -> Follow<Sips> {
+    fn follow(
+        &mut self,
+        _name: &Name,
+        _policy: Policy,
+        version: Version,
+        writer: Sips,
+    ) -> Follow<Sips> {
         self.asked.put(match version {
             Version::One => b's',
             Version::Two => b't',
@@ -232,7 +244,12 @@ fn told_at_once(heap: &Heap, input: Input, takes: bool) -> Told {
 
 // How many `x` a peer sends, what behind them, whether the desk keeps the writer, and what is told.
 const SESSIONS: [(usize, &str, bool, &str); 13] = [
-    (0, "PUB s a\nNOPE\nQUIT\nPUB s b\n", true, "QOK\nERR SYNTAX\nOK\n|n"),
+    (
+        0,
+        "PUB s a\nNOPE\nQUIT\nPUB s b\n",
+        true,
+        "QOK\nERR SYNTAX\nOK\n|n",
+    ),
     (0, "PUB s a\r\nPUB s b", true, "EOK\n|n"),
     (0, "", true, "E|"),
     (1_100, "\nQUIT\n", true, "QERR SYNTAX\nOK\n|"),
@@ -243,8 +260,18 @@ const SESSIONS: [(usize, &str, bool, &str); 13] = [
     (4_000, "\nQUIT\n", true, "QERR LONG\nOK\n|"),
     (4_000, "", true, "E|"),
     (0, "HELLO 2\nSUB s BUFFER DELAY\nPUB s a\n", true, "H|t3"),
-    (0, "HELLO 2\nSUB s BUFFER DELAY\nPUB s a\n", false, "EOK\nERR FULL\nOK\n|t3n"),
-    (0, "SUB s BUFFER DELAY\nSUB s BUFFER DELAY\n", false, "EERR FULL\nERR FULL\n|s0s9"),
+    (
+        0,
+        "HELLO 2\nSUB s BUFFER DELAY\nPUB s a\n",
+        false,
+        "EOK\nERR FULL\nOK\n|t3n",
+    ),
+    (
+        0,
+        "SUB s BUFFER DELAY\nSUB s BUFFER DELAY\n",
+        false,
+        "EERR FULL\nERR FULL\n|s0s9",
+    ),
 ];
 
 // How many bytes a read gives and a write takes, and how many reads, writes and flushes would block before each.
@@ -309,7 +336,13 @@ fn writer_faults_at_each_byte(rt: HostRuntime) {
 }
 
 // What so many turns came to: `A` for one that goes on at once, `w` for one that waits, or the end.
-fn told_turns(heap: &Heap, reader: &mut Halts, writer: Sips, scribe: &mut Scribe, turns: u32) -> Told {
+fn told_turns(
+    heap: &Heap,
+    reader: &mut Halts,
+    writer: Sips,
+    scribe: &mut Scribe,
+    turns: u32,
+) -> Told {
     let mut told = Told::new();
     let mut session = OpenSession::new(u64::MAX);
     let mut held = writer;
@@ -342,8 +375,20 @@ const TURNS: [(&str, usize, &str, usize, u64, u64, u64, u32, &str, u64, u64); 9]
     ("END s\n", 600, "", 65_536, 0, 0, 0, 3, "AAA", 1, 600),
     ("END s\n", 600, "", 65_536, 0, 0, 0, 4, "AAAE", 2, 600),
     ("", 0, "QUIT\nEND s\n", 16, 0, 3, 0, 9, "wwwQ", 1, 0),
-    ("", 0, "QUIT\nEND s\n", 16, 0, 0, 1, 9, "wwQ", 1, 0),
-    ("", 0, "HELLO 2\nSUB s BUFFER DELAY\n", 64, 0, 2, 0, 9, "wwH", 1, 2),
+    ("", 0, "QUIT\nEND s\n", 16, 0, 0, 2, 9, "wwQ", 1, 0),
+    (
+        "",
+        0,
+        "HELLO 2\nSUB s BUFFER DELAY\n",
+        64,
+        0,
+        2,
+        0,
+        9,
+        "wwH",
+        1,
+        2,
+    ),
 ];
 
 #[test]
