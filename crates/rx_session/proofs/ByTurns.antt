@@ -1,7 +1,7 @@
 -- A session turn by turn.
 use Rattle.std.proofs.Common.{◌≡◌, ℕ, Bool, true, false, List, [], ◌∷◌, ◌++◌, Option, None, Some, Result, Ok, refl, sym, ap, subst, ◌∙◌, append_assoc, append-nil, inl, inr}
 use Rattle.std.proofs.lemmas.Bool.{false≢true}
-use Rattle.std.proofs.KnownBytes.{Appends-trans, Consumes-trans, Consumes-nil, Consumes-kept}
+use Rattle.std.proofs.KnownBytes.{Appends-trans, Appends-nil, Consumes-trans, Consumes-nil, Consumes-kept}
 use Rattle.std.specs.Io.KnownBytes.{Appends, Consumes, Keeps}
 use Rattle.rx_proto.specs.Printing.{reply_line}
 use Rattle.rx_proto.specs.Reading.{HoldsText, Parses, session_read}
@@ -14,8 +14,8 @@ use Rattle.rx_proto.specs.declared.version.Version.{Version}
 use Rattle.rx_session.specs.Bytes.{Holds, Loses}
 use Rattle.rx_session.specs.Feeds.{IsRest, IsLine, Comes, Tells as TellsOf}
 use Rattle.rx_session.specs.Lines.{BeginsWithLine, lines_of, without_cr}
-use Rattle.rx_session.specs.Sessions.{Parties, Place, Outcome, Serves, Goes, Faults, Closes, Stops, answered, end_of}
-use Rattle.rx_session.specs.OpenSessions.{Sends, Reaches, Stands, Listens, Leaves, IsOpen, IsOver, CarriesOut, Sitting, Carried, Sits}
+use Rattle.rx_session.specs.Sessions.{Parties, Place, Outcome, Serves, Session, Goes, Faults, Closes, Stops, answered, end_of}
+use Rattle.rx_session.specs.OpenSessions.{Sends, Reaches, Through, Listens, Leaves, IsOpen, IsOver, CarriesOut, IsNew, first_place, Sitting, Carried, Sits}
 use Rattle.rx_session.specs.Steps.{unread}
 use Rattle.rx_session.specs.Turns.{Hands, hands, IsAt, Tells, Ends}
 use Rattle.rx_session.specs.declared.came.Came.TheVariants.{Bytes, Nothing, End}
@@ -31,6 +31,7 @@ use Rattle.rx_session.specs.declared.step.Step.TheVariants as steps
 use Rattle.rx_session.specs.declared.turn.Turn.{Turn}
 use Rattle.rx_session.specs.declared.turn.Turn.TheVariants as turns
 use Rattle.rx_session.proofs.Answering.{told}
+use Rattle.rx_session.proofs.Feeding.{IsRest-plain}
 use Rattle.rx_session.proofs.LinesOf.{lines_of-first, lines_of-none, BeginsWithLine-more}
 use Rattle.rx_session.proofs.SoFar.{Serves-ends, Serves-fault}
 use Rattle.rx_session.proofs.Written.{Prefix-behind}
@@ -56,18 +57,74 @@ module _ {D W : Type 0} (p : Parties D W) where
   reaches_one start at after (l ∷ lines) line reached goes = (reached.0, reached.1, reaches_one reached.0 at after lines line reached.2 goes)
 
   -- it begins anywhere
-  pub Stands-begun : (at : Place D W) (known : Option (List ℕ)) (now : Hands D W) (rest : List ℕ) → IsAt p at now → Stands p at rest known known now rest
-  Stands-begun at known now rest is = record {
-    read = [];
-    consumed = Consumes-nil known;
-    lines = [];
-    told = λ more. ap (λ bytes. lines_of (bytes ++ more)) (append-nil rest);
-    at = at;
-    reached = refl;
-    is_at = is;
+  pub Through-begun : (at : Place D W) (known : Option (List ℕ)) (rest : List ℕ) → Through p at rest known known at rest
+  Through-begun at known rest =
+      record { read = []; consumed = Consumes-nil known; lines = []; told = λ more. ap (λ bytes. lines_of (bytes ++ more)) (append-nil rest); reached = refl }
+
+  -- more bytes were read
+  Through-read : (start : Place D W) (first : List ℕ) (read_old read_now read_new : Option (List ℕ)) (at : Place D W) (rest read : List ℕ)
+      → Through p start first read_old read_now at rest → Consumes read_now read_new read → Through p start first read_old read_new at (rest ++ read)
+  Through-read start first read_old read_now read_new at rest read t told = record {
+    read = t.read ++ read;
+    consumed = Consumes-trans read_old read_now read_new t.read read t.consumed told;
+    lines = t.lines;
+    told = λ more.
+        ap (λ bytes. lines_of (bytes ++ more)) (sym (append_assoc first t.read read)) ∙ ap lines_of (append_assoc (first ++ t.read) read more) ∙ t.told (read ++ more) ∙ ap (λ bytes. t.lines ++ lines_of bytes) (sym (append_assoc rest read more));
+    reached = t.reached;
   }
 
-  -- the session stands where it stood
+  -- the reader kept its bytes
+  Through-kept : (start : Place D W) (first : List ℕ) (read_old read_now read_new : Option (List ℕ)) (at : Place D W) (rest : List ℕ)
+      → Through p start first read_old read_now at rest → Keeps read_now read_new → Through p start first read_old read_new at rest
+  Through-kept start first read_old read_now read_new at rest t kept =
+      record { read = t.read; consumed = Consumes-kept read_old read_now read_new t.read t.consumed kept; lines = t.lines; told = t.told; reached = t.reached }
+
+  -- a line was carried out, and the session goes on
+  Through-line : (start : Place D W) (first : List ℕ) (read_old read_now : Option (List ℕ)) (at place : Place D W) (rest line left : List ℕ)
+      → Through p start first read_old read_now at rest → BeginsWithLine rest line left → Goes p (session_read (without_cr line)) at place
+      → Through p start first read_old read_now place left
+  Through-line start first read_old read_now at place rest line left t begins goes = record {
+    read = t.read;
+    consumed = t.consumed;
+    lines = t.lines ++ without_cr line ∷ [];
+    told = λ more.
+        t.told more ∙ ap (λ ls. t.lines ++ ls) (lines_of-first (rest ++ more) line (left ++ more) (BeginsWithLine-more rest line left more begins))
+        ∙ sym (append_assoc t.lines (without_cr line ∷ []) (lines_of (left ++ more)));
+    reached = reaches_one start at place t.lines (without_cr line) t.reached goes;
+  }
+
+  -- a session that ended by what comes behind the lines that were carried out
+  over : (start : Place D W) (first : List ℕ) (read_old read_now read_new : Option (List ℕ)) (input : Option InputEnd) (at : Place D W) (rest : List ℕ) (out : Outcome D W)
+      → Through p start first read_old read_now at rest → Keeps read_now read_new → Serves p read_new input at (lines_of rest) out
+      → IsOver p start first read_old read_new out
+  over start first read_old read_now read_new input at rest out t kept serves = record {
+    input = input;
+    read = t.read;
+    consumed = Consumes-kept read_old read_now read_new t.read t.consumed kept;
+    served =
+        subst (λ (bytes : List ℕ). Serves p read_new input start (lines_of bytes) out) (append-nil (first ++ t.read))
+        (subst (λ (ls : List (List ℕ)). Serves p read_new input start ls out) (sym (t.told []))
+        (serves_on read_new input start at t.lines (lines_of (rest ++ [])) out t.reached
+        (subst (λ (bytes : List ℕ). Serves p read_new input at (lines_of bytes) out) (sym (append-nil rest)) serves)));
+  }
+
+  -- it ended by the first line of the rest
+  over_line : (start : Place D W) (first : List ℕ) (read_old read_now : Option (List ℕ)) (at : Place D W) (rest line left : List ℕ) (out : Outcome D W)
+      → Through p start first read_old read_now at rest → BeginsWithLine rest line left → Ends p (session_read (without_cr line)) at out
+      → IsOver p start first read_old read_now out
+  over_line start first read_old read_now at rest line left out t begins ends_by =
+      over start first read_old read_now read_now None at rest out t (Keeps-same read_now)
+      (subst (λ (ls : List (List ℕ)). Serves p read_now None at ls out) (sym (lines_of-first rest line left begins))
+      (Serves-ends p read_now None at (without_cr line) (lines_of left) out ends_by))
+
+  -- it ended where it had read QUIT
+  over_quit : (start : Place D W) (first : List ℕ) (read_old read_now : Option (List ℕ)) (now : Hands D W) (out : Outcome D W) (l : Leaves p start first read_old read_now now)
+      → Stops p (Ok Quit) l.at out → IsOver p start first read_old read_now out
+  over_quit start first read_old read_now now out l stops =
+      over_line start first read_old read_now l.at l.rest l.line l.left out l.through l.begins
+      (inr (inl (subst (λ (r : Result Command BadLine). Stops p r l.at out) (sym l.quits) stops)))
+
+  -- the session stands where it stood, once a front of what was held is written
   IsAt-put : (at : Place D W) (desk : D) (writer after : W) (version : Version) (held held_after : List ℕ) → IsAt p at (hands desk writer version held)
       → Holds held held_after (p.contents writer) (p.contents after) [] → IsAt p at (hands desk after version held_after)
   IsAt-put at desk writer after version held held_after is holds = record {
@@ -76,108 +133,6 @@ module _ {D W : Type 0} (p : Parties D W) where
     written = is.written ++ holds.written;
     since = Appends-trans (p.contents at.writer) (p.contents writer) (p.contents after) is.written holds.written is.since holds.told;
     parts = append_assoc is.written holds.written held_after ∙ ap (λ xs. is.written ++ xs) (holds.parts ∙ append-nil held) ∙ is.parts;
-  }
-
-  -- what was held was written, or a front of it
-  pub Stands-put : (start : Place D W) (first : List ℕ) (read_old read_now : Option (List ℕ)) (desk : D) (writer after : W) (version : Version) (held held_after rest : List ℕ)
-      → Stands p start first read_old read_now (hands desk writer version held) rest → Holds held held_after (p.contents writer) (p.contents after) []
-      → Stands p start first read_old read_now (hands desk after version held_after) rest
-  Stands-put start first read_old read_now desk writer after version held held_after rest s holds = record {
-    read = s.read;
-    consumed = s.consumed;
-    lines = s.lines;
-    told = s.told;
-    at = s.at;
-    reached = s.reached;
-    is_at = IsAt-put s.at desk writer after version held held_after s.is_at holds;
-  }
-
-  -- more bytes were read
-  pub Stands-read : (start : Place D W) (first : List ℕ) (read_old read_now read_new : Option (List ℕ)) (now : Hands D W) (rest read : List ℕ)
-      → Stands p start first read_old read_now now rest → Consumes read_now read_new read → Stands p start first read_old read_new now (rest ++ read)
-  Stands-read start first read_old read_now read_new now rest read s told = record {
-    read = s.read ++ read;
-    consumed = Consumes-trans read_old read_now read_new s.read read s.consumed told;
-    lines = s.lines;
-    told = λ more.
-        ap (λ bytes. lines_of (bytes ++ more)) (sym (append_assoc first s.read read)) ∙ ap lines_of (append_assoc (first ++ s.read) read more) ∙ s.told (read ++ more) ∙ ap (λ bytes. s.lines ++ lines_of bytes) (sym (append_assoc rest read more));
-    at = s.at;
-    reached = s.reached;
-    is_at = s.is_at;
-  }
-
-  -- a line was carried out, and the session goes on
-  pub Stands-line : (start : Place D W) (first : List ℕ) (read_old read_now : Option (List ℕ)) (now after : Hands D W) (place : Place D W) (rest line left : List ℕ)
-      → (s : Stands p start first read_old read_now now rest) → BeginsWithLine rest line left → Goes p (session_read (without_cr line)) s.at place → IsAt p place after
-      → Stands p start first read_old read_now after left
-  Stands-line start first read_old read_now now after place rest line left s begins goes is = record {
-    read = s.read;
-    consumed = s.consumed;
-    lines = s.lines ++ without_cr line ∷ [];
-    told = λ more.
-        s.told more ∙ ap (λ ls. s.lines ++ ls) (lines_of-first (rest ++ more) line (left ++ more) (BeginsWithLine-more rest line left more begins))
-        ∙ sym (append_assoc s.lines (without_cr line ∷ []) (lines_of (left ++ more)));
-    at = place;
-    reached = reaches_one start s.at place s.lines (without_cr line) s.reached goes;
-    is_at = is;
-  }
-
-  -- a session that ended by what comes behind the lines that were carried out
-  pub over : (start : Place D W) (first : List ℕ) (read_old read_now read_new : Option (List ℕ)) (input : Option InputEnd) (now : Hands D W) (rest : List ℕ) (out : Outcome D W)
-      → (s : Stands p start first read_old read_now now rest) → Keeps read_now read_new → Serves p read_new input s.at (lines_of rest) out
-      → IsOver p start first read_old read_new out
-  over start first read_old read_now read_new input now rest out s kept serves = record {
-    input = input;
-    read = s.read;
-    consumed = Consumes-kept read_old read_now read_new s.read s.consumed kept;
-    served =
-        subst (λ (bytes : List ℕ). Serves p read_new input start (lines_of bytes) out) (append-nil (first ++ s.read))
-        (subst (λ (ls : List (List ℕ)). Serves p read_new input start ls out) (sym (s.told []))
-        (serves_on read_new input start s.at s.lines (lines_of (rest ++ [])) out s.reached
-        (subst (λ (bytes : List ℕ). Serves p read_new input s.at (lines_of bytes) out) (sym (append-nil rest)) serves)));
-  }
-
-  -- the reader kept its bytes
-  pub Stands-kept : (start : Place D W) (first : List ℕ) (read_old read_now read_new : Option (List ℕ)) (now : Hands D W) (rest : List ℕ)
-      → Stands p start first read_old read_now now rest → Keeps read_now read_new → Stands p start first read_old read_new now rest
-  Stands-kept start first read_old read_now read_new now rest s kept = record {
-    read = s.read;
-    consumed = Consumes-kept read_old read_now read_new s.read s.consumed kept;
-    lines = s.lines;
-    told = s.told;
-    at = s.at;
-    reached = s.reached;
-    is_at = s.is_at;
-  }
-
-  -- it read QUIT, and the answer is told
-  Leaves-quit : (start : Place D W) (first : List ℕ) (read_old read_now : Option (List ℕ)) (now after : Hands D W) (rest line left : List ℕ)
-      → (s : Stands p start first read_old read_now now rest) → BeginsWithLine rest line left → session_read (without_cr line) ≡ Ok Quit → IsAt p (answered s.at s.at.desk Done) after
-      → Leaves p start first read_old read_now after
-  Leaves-quit start first read_old read_now now after rest line left s begins quits is = record {
-    read = s.read;
-    consumed = s.consumed;
-    lines = s.lines;
-    line = without_cr line;
-    behind = lines_of left;
-    told = ap lines_of (sym (append-nil (first ++ s.read))) ∙ s.told [] ∙ ap (λ bytes. s.lines ++ lines_of bytes) (append-nil rest) ∙ ap (λ ls. s.lines ++ ls) (lines_of-first rest line left begins);
-    quits = quits;
-    at = s.at;
-    reached = s.reached;
-    is_at = is;
-  }
-
-  -- the session ended where it had read QUIT
-  pub over_quit : (start : Place D W) (first : List ℕ) (read_old read_now : Option (List ℕ)) (now : Hands D W) (out : Outcome D W) (l : Leaves p start first read_old read_now now)
-      → Stops p (Ok Quit) l.at out → IsOver p start first read_old read_now out
-  over_quit start first read_old read_now now out l stops = record {
-    input = None;
-    read = l.read;
-    consumed = l.consumed;
-    served =
-        subst (λ (ls : List (List ℕ)). Serves p read_now None start ls out) (sym l.told)
-        (serves_on read_now None start l.at l.lines (l.line ∷ l.behind) out l.reached
-        (inr (inl (subst (λ (r : Result Command BadLine). Stops p r l.at out) (sym l.quits) stops))));
   }
 
   -- a line ended the session
@@ -189,34 +144,32 @@ module _ {D W : Type 0} (p : Parties D W) where
       let faults : Faults p (answered at at.desk Done) out = subst (λ (after : Place D W). Faults p after out) carries.1.1 carries.1.2 in
       inr (inl (subst (λ (r : Result Command BadLine). Stops p r at out) (sym carries.0) (inr faults)))
 
-  -- the first line of what was not told was carried out, and the session goes on
-  line_open : (start : Place D W) (first : List ℕ) (read_old read_now : Option (List ℕ)) (now : Hands D W) (rest line left : List ℕ) (quits skips : Bool) (unread : List ℕ) (writer : W) (desk : D) (version : Version) (held : List ℕ)
-      → (s : Stands p start first read_old read_now now rest) → BeginsWithLine rest line left → IsRest skips unread left
-      → CarriesOut p quits (session_read (without_cr line)) s.at (On writer) desk version held → IsOpen p start first read_old read_now (hands desk writer version held) quits skips unread
-  line_open start first read_old read_now now rest line left false skips unread writer desk version held s begins is carries =
-      record { rest = left; stands = Stands-line start first read_old read_now now (hands desk writer version held) carries.0 rest line left s begins carries.1 carries.2; is_rest = is }
-  line_open start first read_old read_now now rest line left true skips unread writer desk version held s begins is carries =
-      Leaves-quit start first read_old read_now now (hands desk writer version held) rest line left s begins carries.0
-      (subst (λ (after : Place D W). IsAt p after (hands desk writer version held)) carries.1.1 carries.1.2)
-
-  -- it ended the session, or the writer faulted
-  line_over : (start : Place D W) (first : List ℕ) (read_old read_now : Option (List ℕ)) (now : Hands D W) (rest line left : List ℕ) (quits : Bool) (end : SessionEnd) (back : Option W) (desk : D) (version : Version) (held : List ℕ)
-      → (s : Stands p start first read_old read_now now rest) → BeginsWithLine rest line left
-      → CarriesOut p quits (session_read (without_cr line)) s.at (Over end back) desk version held → IsOver p start first read_old read_now (record { end = end; desk = desk; back = back })
-  line_over start first read_old read_now now rest line left quits end back desk version held s begins carries =
-      let out : Outcome D W = record { end = end; desk = desk; back = back } in
-      over start first read_old read_now read_now None now rest out s (Keeps-same read_now)
-      (subst (λ (ls : List (List ℕ)). Serves p read_now None s.at ls out) (sym (lines_of-first rest line left begins))
-      (Serves-ends p read_now None s.at (without_cr line) (lines_of left) out (line_ends quits (session_read (without_cr line)) s.at end back desk version held carries)))
+  -- the first line of the rest was carried out, and the session goes on
+  line_open : (start : Place D W) (first : List ℕ) (read_old read_now : Option (List ℕ)) (at : Place D W) (rest line left : List ℕ) (quits skips : Bool) (unread : List ℕ) (writer : W) (desk : D) (version : Version) (held : List ℕ)
+      → Through p start first read_old read_now at rest → BeginsWithLine rest line left → IsRest skips unread left
+      → CarriesOut p quits (session_read (without_cr line)) at (On writer) desk version held → IsOpen p start first read_old read_now (hands desk writer version held) quits skips unread
+  line_open start first read_old read_now at rest line left false skips unread writer desk version held t begins is carries =
+      record { at = carries.0; rest = left; through = Through-line start first read_old read_now at carries.0 rest line left t begins carries.1; is_rest = is; is_at = carries.2 }
+  line_open start first read_old read_now at rest line left true skips unread writer desk version held t begins is carries = record {
+    at = at;
+    rest = rest;
+    through = t;
+    line = line;
+    left = left;
+    begins = begins;
+    quits = carries.0;
+    is_at = subst (λ (after : Place D W). IsAt p after (hands desk writer version held)) carries.1.1 carries.1.2;
+  }
 
   -- the line that a step told was carried out
-  line_on : (start : Place D W) (first : List ℕ) (read_old read_now : Option (List ℕ)) (now : Hands D W) (rest line left : List ℕ) (result : Turned W) (desk : D) (session : OpenSession)
-      → (s : Stands p start first read_old read_now now rest) → BeginsWithLine rest line left → IsRest session.feed.skips (unread session.feed.lines) left
-      → CarriesOut p session.quits (session_read (without_cr line)) s.at result desk session.version session.outbox → Carried p result start first read_old read_now desk session
-  line_on start first read_old read_now now rest line left (On writer) desk session s begins is carries =
-      line_open start first read_old read_now now rest line left session.quits session.feed.skips (unread session.feed.lines) writer desk session.version session.outbox s begins is carries
-  line_on start first read_old read_now now rest line left (Over end back) desk session s begins is carries =
-      line_over start first read_old read_now now rest line left session.quits end back desk session.version session.outbox s begins carries
+  line_on : (start : Place D W) (first : List ℕ) (read_old read_now : Option (List ℕ)) (at : Place D W) (rest line left : List ℕ) (result : Turned W) (desk : D) (session : OpenSession)
+      → Through p start first read_old read_now at rest → BeginsWithLine rest line left → IsRest session.feed.skips (unread session.feed.lines) left
+      → CarriesOut p session.quits (session_read (without_cr line)) at result desk session.version session.outbox → Carried p result start first read_old read_now desk session
+  line_on start first read_old read_now at rest line left (On writer) desk session t begins is carries =
+      line_open start first read_old read_now at rest line left session.quits session.feed.skips (unread session.feed.lines) writer desk session.version session.outbox t begins is carries
+  line_on start first read_old read_now at rest line left (Over end back) desk session t begins is carries =
+      over_line start first read_old read_now at rest line left (record { end = end; desk = desk; back = back }) t begins
+      (line_ends session.quits (session_read (without_cr line)) at end back desk session.version session.outbox carries)
 
   -- it goes on as long as it has read no QUIT
   pub listens : (start : Place D W) (first : List ℕ) (read_old read_now : Option (List ℕ)) (now : Hands D W) (quits skips : Bool) (unread : List ℕ) → quits ≡ false
@@ -236,12 +189,12 @@ module _ {D W : Type 0} (p : Parties D W) where
       → Carried p result start first read_old read_now desk session
   carry_on start first read_old read_now now (steps.Line len) window skips unread_before feed result desk session s tells same carries =
       let t = tells s.rest s.is_rest in
-      line_on start first read_old read_now now s.rest t.line t.left result desk session s.stands t.begins (subst (λ (f : Feed). IsRest f.skips (unread f.lines) t.left) (sym same) t.is_rest)
-      (carries (without_cr t.line) s.stands.at t.said s.stands.is_at)
+      line_on start first read_old read_now s.at s.rest t.line t.left result desk session s.through t.begins (subst (λ (f : Feed). IsRest f.skips (unread f.lines) t.left) (sym same) t.is_rest)
+      (carries (without_cr t.line) s.at t.said s.is_at)
   carry_on start first read_old read_now now steps.Long window skips unread_before feed result desk session s tells same carries =
       let t = tells s.rest s.is_rest in
-      line_on start first read_old read_now now s.rest t.line t.left result desk session s.stands t.begins (subst (λ (f : Feed). IsRest f.skips (unread f.lines) t.left) (sym same) t.is_rest)
-      (carries (without_cr t.line) s.stands.at t.said s.stands.is_at)
+      line_on start first read_old read_now s.at s.rest t.line t.left result desk session s.through t.begins (subst (λ (f : Feed). IsRest f.skips (unread f.lines) t.left) (sym same) t.is_rest)
+      (carries (without_cr t.line) s.at t.said s.is_at)
   carry_on start first read_old read_now now steps.EndOfInput window skips unread_before feed result desk session s tells same carries = absurd (tells s.rest s.is_rest)
   carry_on start first read_old read_now now steps.ReadFault window skips unread_before feed result desk session s tells same carries = absurd (tells s.rest s.is_rest)
   carry_on start first read_old read_now now steps.TooManyReads window skips unread_before feed result desk session s tells same carries = absurd (tells s.rest s.is_rest)
@@ -254,24 +207,22 @@ module _ {D W : Type 0} (p : Parties D W) where
       let now = hands desk writer session.version session.outbox in
       let s = listens start first read_old read_now now session.quits session.feed.skips (unread session.feed.lines) is sitting in
       listening start first read_old read_now now session.quits feed.skips (unread feed.lines) is
-      (record { rest = s.rest; stands = s.stands; is_rest = kept s.rest s.is_rest })
+      (record { at = s.at; rest = s.rest; through = s.through; is_rest = kept s.rest s.is_rest; is_at = s.is_at })
 
   -- what was held was written, or a front of it
   IsOpen-put : (start : Place D W) (first : List ℕ) (read_old read_now : Option (List ℕ)) (desk : D) (writer after : W) (version : Version) (held held_after : List ℕ) (quits skips : Bool) (unread : List ℕ)
       → IsOpen p start first read_old read_now (hands desk writer version held) quits skips unread → Holds held held_after (p.contents writer) (p.contents after) []
       → IsOpen p start first read_old read_now (hands desk after version held_after) quits skips unread
   IsOpen-put start first read_old read_now desk writer after version held held_after false skips unread s holds =
-      record { rest = s.rest; stands = Stands-put start first read_old read_now desk writer after version held held_after s.rest s.stands holds; is_rest = s.is_rest }
+      record { at = s.at; rest = s.rest; through = s.through; is_rest = s.is_rest; is_at = IsAt-put s.at desk writer after version held held_after s.is_at holds }
   IsOpen-put start first read_old read_now desk writer after version held held_after true skips unread l holds = record {
-    read = l.read;
-    consumed = l.consumed;
-    lines = l.lines;
-    line = l.line;
-    behind = l.behind;
-    told = l.told;
-    quits = l.quits;
     at = l.at;
-    reached = l.reached;
+    rest = l.rest;
+    through = l.through;
+    line = l.line;
+    left = l.left;
+    begins = l.begins;
+    quits = l.quits;
     is_at = IsAt-put (answered l.at l.at.desk Done) desk writer after version held held_after l.is_at holds;
   }
 
@@ -303,8 +254,8 @@ module _ {D W : Type 0} (p : Parties D W) where
       → IsOver p start first read_old read_now (record { end = ends.WriteFault; desk = desk; back = Some after })
   over_fault start first read_old read_now desk writer after version held held_after false skips unread s loses =
       let out : Outcome D W = record { end = ends.WriteFault; desk = desk; back = Some after } in
-      over start first read_old read_now read_now None (hands desk writer version held) s.rest out s.stands (Keeps-same read_now)
-      (Serves-fault p read_now None s.stands.at (lines_of s.rest) out (faulted s.stands.at desk writer after version held held_after s.stands.is_at loses))
+      over start first read_old read_now read_now None s.at s.rest out s.through (Keeps-same read_now)
+      (Serves-fault p read_now None s.at (lines_of s.rest) out (faulted s.at desk writer after version held held_after s.is_at loses))
   over_fault start first read_old read_now desk writer after version held held_after true skips unread l loses =
       let out : Outcome D W = record { end = ends.WriteFault; desk = desk; back = Some after } in
       over_quit start first read_old read_now (hands desk writer version held) out l
@@ -349,7 +300,7 @@ module _ {D W : Type 0} (p : Parties D W) where
       let s = listens start first read_old read_now now session.quits session.feed.skips (unread session.feed.lines) is sitting in
       let c = comes s.rest s.is_rest in
       listening start first read_old read_new now session.quits feed.skips (unread feed.lines) is
-      (record { rest = s.rest ++ c.0; stands = Stands-read start first read_old read_now read_new now s.rest c.0 s.stands c.1; is_rest = c.2 })
+      (record { at = s.at; rest = s.rest ++ c.0; through = Through-read start first read_old read_now read_new s.at s.rest c.0 s.through c.1; is_rest = c.2; is_at = s.is_at })
 
   -- none yet
   pub Sitting-none : (start : Place D W) (first : List ℕ) (read_old read_now read_new : Option (List ℕ)) (desk : D) (writer : W) (session : OpenSession) (feed : Feed) → session.quits ≡ false
@@ -360,7 +311,7 @@ module _ {D W : Type 0} (p : Parties D W) where
       let s = listens start first read_old read_now now session.quits session.feed.skips (unread session.feed.lines) is sitting in
       let c = comes s.rest s.is_rest in
       listening start first read_old read_new now session.quits feed.skips (unread feed.lines) is
-      (record { rest = s.rest; stands = Stands-kept start first read_old read_now read_new now s.rest s.stands c.0; is_rest = c.1 })
+      (record { at = s.at; rest = s.rest; through = Through-kept start first read_old read_now read_new s.at s.rest s.through c.0; is_rest = c.1; is_at = s.is_at })
 
   -- none any more
   pub over_end : (start : Place D W) (first : List ℕ) (read_old read_now read_new : Option (List ℕ)) (desk : D) (writer : W) (session : OpenSession) (feed : Feed) (end : InputEnd) → session.quits ≡ false → session.outbox ≡ []
@@ -371,9 +322,9 @@ module _ {D W : Type 0} (p : Parties D W) where
       let s = listens start first read_old read_now now session.quits session.feed.skips (unread session.feed.lines) is sitting in
       let c = comes s.rest s.is_rest in
       let out : Outcome D W = record { end = end_of end; desk = desk; back = Some writer } in
-      over start first read_old read_now read_new (Some end) now s.rest out s.stands c.0
-      (subst (λ (ls : List (List ℕ)). Serves p read_new (Some end) s.stands.at ls out) (sym (lines_of-none s.rest c.1))
-      (inr (end, refl, c.2, closed s.stands.at desk writer session.version session.outbox (end_of end) s.stands.is_at nothing)))
+      over start first read_old read_now read_new (Some end) s.at s.rest out s.through c.0
+      (subst (λ (ls : List (List ℕ)). Serves p read_new (Some end) s.at ls out) (sym (lines_of-none s.rest c.1))
+      (inr (end, refl, c.2, closed s.at desk writer session.version session.outbox (end_of end) s.is_at nothing)))
 
   -- a line that was read as QUIT, and its answer
   pub quit_told : (parsed : Result Command LineError) (bytes line : List ℕ) (at : Place D W) (desk : D) (writer : W) (version : Version) (held held_after : List ℕ) (result : Turned W)
@@ -384,3 +335,17 @@ module _ {D W : Type 0} (p : Parties D W) where
         ap session_read (sym same) ∙ read,
         told p at desk desk writer version held held_after Done result (λ after. after ≡ answered at at.desk Done) is tells (ap (λ (d : D). answered at d Done) (sym is.desk_is)),
       )
+
+  -- it had no turn yet
+  pub Sitting-new : (session : OpenSession) (desk : D) (writer : W) (known : Option (List ℕ)) → IsNew session → Sitting p (first_place desk writer) [] known known desk writer session
+  Sitting-new session desk writer known new =
+      let at : Place D W = first_place desk writer in
+      let now = hands desk writer session.version session.outbox in
+      let is : IsAt p at now = record { desk_is = refl; version_is = sym new.version_is; written = []; since = Appends-nil (p.contents writer); parts = new.held_is } in
+      listening at [] known known now session.quits session.feed.skips (unread session.feed.lines) new.quits_is
+      (record { at = at; rest = []; through = Through-begun at known []; is_rest = rw (new.skips_is, new.unread_is) (IsRest-plain []); is_at = is })
+
+  -- it is over as a session is
+  pub IsOver-session : (desk : D) (writer : W) (read_old read_new : Option (List ℕ)) (out : Outcome D W) → IsOver p (first_place desk writer) [] read_old read_new out
+      → (input : Option InputEnd) × Session p read_old read_new input desk writer out
+  IsOver-session desk writer read_old read_new out is = (is.input, record { read = is.read; consumed = is.consumed; served = is.served })

@@ -1,7 +1,11 @@
--- What the lines of some bytes are.
-use Rattle.std.specs.Prelude.{◌≡◌, ℕ, List, [], ◌∷◌}
+-- What the lines of some bytes are, and that an open session is a session.
+use Rattle.std.specs.Prelude.{◌≡◌, ℕ, List, [], ◌∷◌, Option}
 use Rattle.rx_proto.specs.LineFeeds.{HasNoLf}
 use Rattle.rx_session.specs.Lines.{BeginsWithLine, lines_of, without_cr}
+use Rattle.rx_session.specs.OpenSessions.{IsNew, IsOver, Sitting, first_place}
+use Rattle.rx_session.specs.Sessions.{Parties, Outcome, Session}
+use Rattle.rx_session.specs.declared.input_end.InputEnd.{InputEnd}
+use Rattle.rx_session.specs.declared.open_session.OpenSession.{OpenSession}
 
 -- bytes that begin with a line have it as their first line, and then the lines of the rest
 abbrev pub FirstLine : Type 0
@@ -10,3 +14,14 @@ FirstLine = (bytes line rest : List ℕ) → BeginsWithLine bytes line rest → 
 -- bytes without an LF have no line
 abbrev pub NoLine : Type 0
 NoLine = (bytes : List ℕ) → HasNoLf bytes → lines_of bytes ≡ []
+
+module _ {D W : Type 0} (p : Parties D W) where
+  -- an open session that had no turn yet is under way from the place of the first version where nothing was told
+  abbrev pub BeginsAsSession : Type 0
+  BeginsAsSession = (session : OpenSession) (desk : D) (writer : W) (known : Option (List ℕ)) → IsNew session → Sitting p (first_place desk writer) [] known known desk writer session
+
+  -- what began so is over as a session is that never was open
+  abbrev pub EndsAsSession : Type 0
+  EndsAsSession =
+      (desk : D) (writer : W) (read_old read_new : Option (List ℕ)) (out : Outcome D W) → IsOver p (first_place desk writer) [] read_old read_new out
+      → (input : Option InputEnd) × Session p read_old read_new input desk writer out

@@ -8,9 +8,10 @@ use Rattle.rx_proto.specs.declared.command.Command.TheVariants.{Quit}
 use Rattle.rx_proto.specs.declared.line_error.BadLine.{BadLine}
 use Rattle.rx_proto.specs.declared.response.Response.TheVariants.{Done}
 use Rattle.rx_proto.specs.declared.version.Version.{Version}
+use Rattle.rx_proto.specs.declared.version.Version.TheVariants.{One}
 use Rattle.rx_session.specs.Bytes.{Holds, Loses}
 use Rattle.rx_session.specs.Feeds.{IsRest}
-use Rattle.rx_session.specs.Lines.{lines_of}
+use Rattle.rx_session.specs.Lines.{BeginsWithLine, lines_of, without_cr}
 use Rattle.rx_session.specs.Sessions.{Parties, Place, Outcome, Goes, Serves, answered}
 use Rattle.rx_session.specs.Steps.{unread}
 use Rattle.rx_session.specs.Turns.{Hands, hands, IsAt, Carries, Comes}
@@ -21,6 +22,18 @@ use Rattle.rx_session.specs.declared.serving.Turned.TheVariants.{On, Over}
 use Rattle.rx_session.specs.declared.session_end.SessionEnd.TheVariants as ends
 use Rattle.rx_session.specs.declared.turn.Turn.{Turn}
 use Rattle.rx_session.specs.declared.turn.Turn.TheVariants as turns
+
+-- an open session that had no turn yet
+pub record IsNew (session : OpenSession) : Type 0 where
+  pub unread_is : unread session.feed.lines ≡ []
+  pub skips_is : session.feed.skips ≡ false
+  pub held_is : session.outbox ≡ []
+  pub version_is : session.version ≡ One
+  pub quits_is : session.quits ≡ false
+
+-- the place of the first version where nothing was told
+abbrev pub first_place : {D W : Type 0} → D → W → Place D W
+first_place desk writer = record { desk = desk; writer = writer; version = One; told = [] }
 
 -- what writing did, as far as the writer takes bytes now: all is written, and the session goes on or it had read QUIT; or some
 -- waits; or the writer faulted
@@ -38,34 +51,32 @@ module _ {D W : Type 0} (p : Parties D W) where
   Reaches at [] last = last ≡ at
   Reaches at (line ∷ lines) last = (after : Place D W) × Goes p (session_read line) at after × Reaches after lines last
 
-  -- SO FAR: some bytes were there first, and more were read. Of the lines of all these but the rest, each was carried out, from
-  -- the place where this began; and the session stands where that led
-  pub record Stands (start : Place D W) (first : List ℕ) (read_old read_now : Option (List ℕ)) (now : Hands D W) (rest : List ℕ) : Type 0 where
+  -- SO FAR: some bytes were there first, and more were read. The lines of all these but the rest were carried out one after
+  -- another, from the place where this began to the place where it has come
+  pub record Through (start : Place D W) (first : List ℕ) (read_old read_now : Option (List ℕ)) (at : Place D W) (rest : List ℕ) : Type 0 where
     pub read : List ℕ
     pub consumed : Consumes read_old read_now read
     pub lines : List (List ℕ)
     pub told : (more : List ℕ) → lines_of ((first ++ read) ++ more) ≡ lines ++ lines_of (rest ++ more)
-    pub at : Place D W
     pub reached : Reaches start lines at
+
+  -- the session stands there, and the rest is what its feed has not told
+  pub record Listens (start : Place D W) (first : List ℕ) (read_old read_now : Option (List ℕ)) (now : Hands D W) (skips : Bool) (unread : List ℕ) : Type 0 where
+    pub at : Place D W
+    pub rest : List ℕ
+    pub through : Through start first read_old read_now at rest
+    pub is_rest : IsRest skips unread rest
     pub is_at : IsAt p at now
 
-  -- it goes on, and the rest is what its feed has not told
-  pub record Listens (start : Place D W) (first : List ℕ) (read_old read_now : Option (List ℕ)) (now : Hands D W) (skips : Bool) (unread : List ℕ) : Type 0 where
-    pub rest : List ℕ
-    pub stands : Stands start first read_old read_now now rest
-    pub is_rest : IsRest skips unread rest
-
-  -- it read QUIT behind the lines that were carried out, and stands where the answer is told
+  -- the rest begins with a line that said QUIT, and the session stands where its answer is told
   pub record Leaves (start : Place D W) (first : List ℕ) (read_old read_now : Option (List ℕ)) (now : Hands D W) : Type 0 where
-    pub read : List ℕ
-    pub consumed : Consumes read_old read_now read
-    pub lines : List (List ℕ)
-    pub line : List ℕ
-    pub behind : List (List ℕ)
-    pub told : lines_of (first ++ read) ≡ lines ++ (line ∷ behind)
-    pub quits : session_read line ≡ Ok Quit
     pub at : Place D W
-    pub reached : Reaches start lines at
+    pub rest : List ℕ
+    pub through : Through start first read_old read_now at rest
+    pub line : List ℕ
+    pub left : List ℕ
+    pub begins : BeginsWithLine rest line left
+    pub quits : session_read (without_cr line) ≡ Ok Quit
     pub is_at : IsAt p (answered at at.desk Done) now
 
   -- a session that is under way: it goes on, or it read QUIT

@@ -1,7 +1,7 @@
 use crate::input_end::InputEnd;
 
 /// What one read came to.
-#[derive(Clone, Copy, Debug, PartialEq, Eq)]
+#[derive(Drop)]
 pub enum Came {
     /// Some bytes.
     Bytes,

@@ -1,8 +1,9 @@
 //! Sessions: the lines of a reader, each carried out by a desk and answered on a writer.
 //!
 //! What a desk does is its own: the crates above bring one. They rest on the contracts of [`serve_lines`], the session's
-//! bytes, and of [`LineState`] and [`Outbox`], by which a script is read and answered too. [`laws`] says what the lines of
-//! some bytes are.
+//! bytes, and of [`LineState`] and [`Outbox`], by which a script is read and answered too. An [`OpenSession`] is a session
+//! that waits for nobody: it is served turn by turn, and others between its turns. [`laws`] says what the lines of some bytes
+//! are, and that an open session is a session.
 #![tactic(auto)]
 
 mod came;

@@ -1,7 +1,6 @@
 ghost use Rattle.std.specs.Prelude.{◌≡◌, ◌≤◌, ◌+◌, ℕ, List, [], IsTrue, Ok, Option, Some, false, length};
 ghost use Rattle.rx_proto.specs.Reading.{session_read};
 ghost use Rattle.rx_proto.specs.declared.command.Command.TheVariants.{Quit};
-ghost use Rattle.rx_proto.specs.declared.version.Version.TheVariants.{One};
 ghost use Rattle.rx_session.specs.Feeds.{IsLine, IsWhole};
 ghost use Rattle.rx_session.specs.OpenSessions.{Sends};
 ghost use Rattle.rx_session.specs.Sessions.{Place, parties};
@@ -35,15 +34,11 @@ pub struct OpenSession {
 }
 
 impl OpenSession {
-    ghost use Rattle.rx_session.specs.OpenSessions.{Carried, CarriesOut, Sits, Sitting};
+    ghost use Rattle.rx_session.specs.OpenSessions.{Carried, CarriesOut, IsNew, Sits, Sitting};
 
-    /// Nothing was read or answered yet, and at most `max_reads` reads may be made.
+    /// Nothing was read or answered yet, and at most `max_reads` reads may be made. One that would block counts too.
     pub fn new(max_reads: u64) -> OpenSession
-        ensures unread { unread result.feed.lines ≡ [] }
-        ensures skips { result.feed.skips ≡ false }
-        ensures outbox { result.outbox ≡ [] }
-        ensures version { result.version ≡ One }
-        ensures quits { result.quits ≡ false }
+        ensures { IsNew result }
     {
         OpenSession {
             feed: Feed::new(max_reads),

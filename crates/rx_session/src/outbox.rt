@@ -63,7 +63,7 @@ impl Outbox {
         ensures puts { Puts result self.old self.new (W.contents writer.old) (W.contents writer.new) [] }
         ensures room { OnOk result (length self.new + 2048 ≤ 65536) }
     {
-        if BLOCK - self.len >= LINE_ROOM {
+        if self.has_room() {
             return Ok(());
         }
         self.write_out(writer)
@@ -221,7 +221,8 @@ impl Outbox {
         }
     }
 
-    /// Whether it has room for any line that is written.
+    /// Whether it has room for 2,048 bytes more, which is more than any line that is written.
+    #[inline] // a part of `ready`
     pub fn has_room(&self) -> bool
         ensures { IsTrue result → length self.now + 2048 ≤ 65536 }
     {
