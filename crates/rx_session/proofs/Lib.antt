@@ -1,3 +1,4 @@
+pub mod Amongst
 pub mod Blocks
 pub mod ByTurns
 pub mod Feeding

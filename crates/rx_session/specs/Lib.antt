@@ -1,3 +1,4 @@
+pub mod Among
 pub mod Bytes
 pub mod Feeds
 pub mod Laws

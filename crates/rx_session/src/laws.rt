@@ -1,6 +1,6 @@
 //! What the lines of some bytes are, and that an open session is a session. The functions do nothing: their clauses are the
 //! laws.
-ghost use Rattle.rx_session.specs.Laws.{BeginsAsSession, EndsAsSession, FirstLine, NoLine};
+ghost use Rattle.rx_session.specs.Laws.{BeginsAsSession, EndsAsSession, FirstLine, JoinsTurns, NoLine};
 ghost use Rattle.rx_session.specs.Sessions.{parties};
 
 use crate::Desk;
@@ -24,4 +24,9 @@ pub fn open_session_begins<W: Write + Drop, D: Desk<W>>()
 /// What began so is over as a session is that never was open: all its turns together are the session's bytes.
 pub fn open_session_ends<W: Write + Drop, D: Desk<W>>()
     ensures { EndsAsSession (parties D.emits D.follows W.contents) }
+{}
+
+/// Where others call the desk between the turns of an open session, these are turns of a session whose desk others call too.
+pub fn turns_among_others_join<W: Write + Drop, D: Desk<W>>()
+    ensures { JoinsTurns (parties D.emits D.follows W.contents) }
 {}
