@@ -9,10 +9,10 @@ use Rattle.rx_proto.specs.declared.response.Response.TheVariants.{Done}
 use Rattle.rx_proto.specs.declared.version.Version.{Version}
 use Rattle.rx_session.specs.Among.{among, moved}
 use Rattle.rx_session.specs.Lines.{lines_of}
-use Rattle.rx_session.specs.OpenSessions.{Reaches, Through, Listens, Leaves, IsOpen, IsOver, Sits, Sitting}
+use Rattle.rx_session.specs.OpenSessions.{Reaches, Through, IsOpen, IsOver, Sits, Sitting}
 use Rattle.rx_session.specs.Sessions.{Parties, Place, Outcome, Goes, Closes, Faults, Stops, Serves, answered, end_of}
 use Rattle.rx_session.specs.Steps.{unread}
-use Rattle.rx_session.specs.Turns.{Hands, hands, IsAt}
+use Rattle.rx_session.specs.Turns.{hands, IsAt}
 use Rattle.rx_session.specs.declared.input_end.InputEnd.{InputEnd}
 use Rattle.rx_session.specs.declared.open_session.OpenSession.{OpenSession}
 use Rattle.rx_session.specs.declared.session_end.SessionEnd.{SessionEnd}

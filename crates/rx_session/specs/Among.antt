@@ -1,5 +1,4 @@
 -- A session whose desk others call too, between its lines: each line is asked of the desk as it then is.
-use Rattle.std.specs.Prelude.{ℕ, List}
 use Rattle.rx_session.specs.Sessions.{Parties, Place}
 
 module _ {D W : Type 0} where
