@@ -120,7 +120,7 @@ fn turn<R: Read, W: Write + Drop, D: Desk<W>>(
     }
 }
 
-// Carries out a line of which this was parsed.
+/// Carries out a line of which this was parsed.
 pub(crate) fn carry_out<W: Write + Drop, D: Desk<W>>(
     outbox: &mut Outbox,
     desk: &mut D,
@@ -183,7 +183,7 @@ fn follow<W: Write + Drop, D: Desk<W>>(
     }
 }
 
-// Answers a line by a response.
+/// Answers a line by a response.
 pub(crate) fn answer<W: Write + Drop>(
     outbox: &mut Outbox,
     writer: W,
