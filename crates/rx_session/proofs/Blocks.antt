@@ -1,6 +1,6 @@
 -- Parts of a block of bytes.
 use Rattle.std.proofs.Common.{◌≡◌, ℕ, ◌+◌, ◌-◌, ◌<◌, ◌≤◌, max, inl, inr, List, ◌++◌, length, take, drop, Option, Result, Ok, Err, refl, sym, ap, ◌∙◌, subst, arith}
-use Rattle.std.proofs.lemmas.List.{take-take, drop-drop, drop-take, length-take-le, drop_at, take_at, take-append-le, append-nil}
+use Rattle.std.proofs.lemmas.List.{take-take, drop-drop, drop-take, length-take-le, drop_at, take_at, take-append-le, take_rest, append-nil}
 use Rattle.std.proofs.lemmas.List.Edits.{between_none, length-between}
 use Rattle.std.proofs.lemmas.Slice.{between_is, take-put_mid, take-put_mid_below}
 use Rattle.std.proofs.lemmas.Bool.{cases_lt}
@@ -178,3 +178,16 @@ take-put_front block bytes a k len within few =
     ∙ ap (take (a + len)) all
     ∙ ap (λ n. take (n + len) (take a block ++ bytes)) (sym (length-take-le a block within))
     ∙ take-append-add (take a block) bytes len
+
+-- so many bytes and then so many of the rest
+pub take-on : (bytes : List ℕ) (done more : ℕ) → take (done + more) bytes ≡ take done bytes ++ take more (take (length bytes - done) (drop done bytes))
+take-on bytes done more = take-add done more bytes ∙ ap (λ t. take done bytes ++ take more t) (sym (take_rest bytes done))
+
+-- what is left of the front of a block, moved to the front
+pub take-moved : (block moved : List ℕ) (len end : ℕ) → len ≤ end → end ≤ length block → moved ≡ copy_within block len end 0
+    → take (end - len) moved ≡ drop len (take end block)
+take-moved block moved len end within room after =
+    let same : len + (end - len) ≡ end = omega arith in
+    ap (λ t. take (end - len) t) after
+    ∙ take_at (between len end block) (drop (0 + (end - len)) block) (end - len) (length-between block len end room)
+    ∙ sym (drop-take len (end - len) block) ∙ ap (λ n. drop len (take n block)) same

@@ -1,4 +1,7 @@
+pub mod Amongst
 pub mod Blocks
+pub mod ByTurns
+pub mod Feeding
 pub mod Known
 pub mod Lanes
 pub mod Lfs

@@ -1,12 +1,14 @@
 -- The front of a line that is let go.
-use Rattle.std.proofs.Common.{◌≡◌, ℕ, ◌≤◌, ◌<◌, ◌⊎◌, inl, inr, Bool, true, false, List, [], ◌++◌, length, Option, None, Some, refl, subst, ap, ◌∙◌, sym, arith, append_assoc, length-append}
+use Rattle.std.proofs.Common.{◌≡◌, ℕ, ◌≤◌, ◌<◌, ◌⊎◌, inl, inr, Bool, true, false, List, [], ◌++◌, length, Option, refl, subst, ap, ◌∙◌, sym, arith, append_assoc, length-append}
 use Rattle.std.proofs.KnownBytes.{Consumes-trans, Consumes-kept, Consumes-nil}
 use Rattle.std.proofs.lemmas.List.{append-nil}
 use Rattle.std.specs.Io.KnownBytes.{Consumes, Keeps}
 use Rattle.rx_proto.specs.LineFeeds.{HasNoLf, HasLf}
 use Rattle.rx_session.specs.Reads.{Sheds, ReadsOn, FindsNext, ahead}
 use Rattle.rx_session.specs.Windows.{HasLfAt}
+use Rattle.rx_session.specs.declared.came.Came.TheVariants as came
 use Rattle.rx_session.specs.declared.input_end.InputEnd.{InputEnd}
+use Rattle.rx_session.specs.declared.input_end.InputEnd.TheVariants as inputs
 use Rattle.rx_session.specs.declared.reading.Found.TheVariants.{Lf, LongLf, End}
 use Rattle.rx_proto.proofs.LineFeeds.{HasNoLf-append}
 
@@ -74,7 +76,7 @@ HasRead-shed old new window after left left_after is_long h none long = record {
 
 -- one read more
 pub HasRead-read : (old mid new : Option (List ℕ)) (window after next : List ℕ) (left left_mid left_after : ℕ) (is_long : Bool) → HasRead old mid window after left left_mid is_long
-    → HasNoLf after → ReadsOn None mid new after next left_mid left_after → HasRead old new window next left left_after is_long
+    → HasNoLf after → ReadsOn came.Bytes mid new after next left_mid left_after → HasRead old new window next left left_after is_long
 HasRead-read old mid new window after next left left_mid left_after is_long h none r = record {
   gone = h.gone;
   shed = Sheds-read old mid new window after h.gone r.0 next h.shed r.1 r.2;
@@ -110,10 +112,16 @@ HasRead-short old new window after now left left_after len is_long h short same 
 
 -- an end behind what was let go
 pub HasRead-end : (old mid new : Option (List ℕ)) (window after now : List ℕ) (left left_mid left_after : ℕ) (is_long : Bool) (end : InputEnd) → HasRead old mid window after left left_mid is_long
-    → HasNoLf after → ReadsOn (Some end) mid new after now left_mid left_after → FindsNext (End end) old new window now left left_after
+    → HasNoLf after → ReadsOn (came.End end) mid new after now left_mid left_after → FindsNext (End end) old new window now left left_after
 HasRead-end old mid new window after now left left_mid left_after is_long end h none r = (
   h.gone,
   (let P : List ℕ → Type 0 = λ t. Sheds old new window t h.gone in subst P (sym r.1) (Sheds-kept old mid new window after h.gone h.shed r.0)),
   subst HasNoLf (sym r.1) none,
   r.3,
 )
+
+-- a read that would block behind what was let go
+pub HasRead-blocked : (old mid new : Option (List ℕ)) (window after now : List ℕ) (left left_mid left_after : ℕ) (is_long : Bool) → HasRead old mid window after left left_mid is_long
+    → HasNoLf after → ReadsOn came.Nothing mid new after now left_mid left_after → FindsNext (End inputs.ReadFault) old new window now left left_after
+HasRead-blocked old mid new window after now left left_mid left_after is_long h none r =
+    HasRead-end old mid new window after now left left_mid left_after is_long inputs.ReadFault h none (r.0, r.1, r.2, tt)

@@ -74,7 +74,7 @@ module _ {D W : Type 0} (p : Parties D W) where
       }
 
   -- a fault of the writer ends a session before any lines
-  Serves-fault : (left : Option (List ℕ)) (input : Option InputEnd) (at : Place D W) (lines : List (List ℕ)) (out : Outcome D W) → Faults p at out → Serves p left input at lines out
+  pub Serves-fault : (left : Option (List ℕ)) (input : Option InputEnd) (at : Place D W) (lines : List (List ℕ)) (out : Outcome D W) → Faults p at out → Serves p left input at lines out
   Serves-fault left input at [] out faults = inl faults
   Serves-fault left input at (line ∷ lines) out faults = inl faults
 
@@ -126,7 +126,7 @@ module _ {D W : Type 0} (p : Parties D W) where
   SoFar-turn start read_old read_now read_new before writer lines lines_after after h (inr turn) = cc
 
   -- the session ended by a line
-  Serves-ends : (left : Option (List ℕ)) (input : Option InputEnd) (at : Place D W) (line : List ℕ) (lines : List (List ℕ)) (out : Outcome D W)
+  pub Serves-ends : (left : Option (List ℕ)) (input : Option InputEnd) (at : Place D W) (line : List ℕ) (lines : List (List ℕ)) (out : Outcome D W)
       → Ends p (session_read line) at out → Serves p left input at (line ∷ lines) out
   Serves-ends left input at line lines out (inl faults) = inl faults
   Serves-ends left input at line lines out (inr (inl stops)) = inr (inl stops)

@@ -1,5 +1,5 @@
 -- Writing and putting, one call after another.
-use Rattle.std.proofs.Common.{◌≡◌, ℕ, List, [], ◌++◌, Option, Result, Ok, Err, sym, ap, subst, ◌∙◌, append_assoc, append-nil}
+use Rattle.std.proofs.Common.{◌≡◌, ℕ, List, [], ◌++◌, take, drop, Option, Result, Ok, Err, refl, sym, ap, subst, ◌∙◌, append_assoc, append-nil, take-append-drop}
 use Rattle.std.proofs.KnownBytes.{Appends-trans, Appends-nil, Appends-kept}
 use Rattle.std.proofs.lemmas.Result.{MatchResult-from_err}
 use Rattle.std.specs.Result.{IsErr}
@@ -93,4 +93,16 @@ Holds-pushed old new held then after bytes holds pushed = record {
   written = holds.written;
   told = holds.told;
   parts = ap (λ t. holds.written ++ t) pushed ∙ sym (append_assoc holds.written then bytes) ∙ ap (λ t. t ++ bytes) (holds.parts ∙ append-nil held);
+}
+
+-- a front of what is held was written, and the rest is held
+pub Holds-front : (old new : Option (List ℕ)) (held after : List ℕ) (done : ℕ) → Appends old new (take done held) → after ≡ drop done held → Holds held after old new []
+Holds-front old new held after done told rest =
+    record { written = take done held; told = told; parts = ap (λ t. take done held ++ t) rest ∙ take-append-drop done held ∙ sym (append-nil held) }
+
+-- the same, and the rest is lost
+pub Loses-front : (old new : Option (List ℕ)) (held : List ℕ) (done : ℕ) → Appends old new (take done held) → Loses held [] old new []
+Loses-front old new held done told = record {
+  written = record { front = take done held; back = drop done held; parts = take-append-drop done held ∙ sym (append-nil held); told = told };
+  empty = refl;
 }

@@ -1,7 +1,10 @@
+pub mod Among
 pub mod Bytes
+pub mod Feeds
 pub mod Laws
 pub mod Lines
 pub mod Nexts
+pub mod OpenSessions
 pub mod Reads
 pub mod Responses
 pub mod Sessions

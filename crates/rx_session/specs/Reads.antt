@@ -1,8 +1,10 @@
 -- What reading more does, until an LF or an end comes.
-use Rattle.std.specs.Prelude.{◌≡◌, ◌<◌, ◌≤◌, ◌+◌, ◌*◌, ℕ, List, [], ◌++◌, length, Option, None, Some}
+use Rattle.std.specs.Prelude.{◌≡◌, ◌<◌, ◌≤◌, ◌+◌, ◌*◌, ℕ, List, [], ◌++◌, length, Option}
 use Rattle.std.specs.Io.KnownBytes.{Consumes, IsAtEnd, Keeps}
 use Rattle.rx_proto.specs.LineFeeds.{HasNoLf}
 use Rattle.rx_session.specs.Windows.{HasLfAt}
+use Rattle.rx_session.specs.declared.came.Came.{Came}
+use Rattle.rx_session.specs.declared.came.Came.TheVariants as came
 use Rattle.rx_session.specs.declared.input_end.InputEnd.{InputEnd}
 use Rattle.rx_session.specs.declared.input_end.InputEnd.TheVariants.{EndOfInput, ReadFault, TooManyReads}
 use Rattle.rx_session.specs.declared.reading.Found.{Found}
@@ -18,11 +20,12 @@ IsEnd TooManyReads new left = left ≡ 0
 abbrev pub ahead : ℕ → List ℕ → ℕ
 ahead left window = left * 65536 + length window
 
--- some bytes came behind the window, or nothing but an end
-abbrev pub ReadsOn : Option InputEnd → Option (List ℕ) → Option (List ℕ) → List ℕ → List ℕ → ℕ → ℕ → Type 0
-ReadsOn None old new window after left left_after =
+-- some bytes came behind the window, or none yet, or an end
+abbrev pub ReadsOn : Came → Option (List ℕ) → Option (List ℕ) → List ℕ → List ℕ → ℕ → ℕ → Type 0
+ReadsOn came.Bytes old new window after left left_after =
     (read : List ℕ) × Consumes old new read × (after ≡ window ++ read) × (left_after < left) × (length read ≤ 65536)
-ReadsOn (Some end) old new window after left left_after = Keeps old new × (after ≡ window) × (left_after ≤ left) × IsEnd end new left_after
+ReadsOn came.Nothing old new window after left left_after = Keeps old new × (after ≡ window) × (left_after ≤ left)
+ReadsOn (came.End end) old new window after left left_after = Keeps old new × (after ≡ window) × (left_after ≤ left) × IsEnd end new left_after
 
 -- reads gave some bytes behind the window, and then a front without an LF was let go
 pub record Sheds (old new : Option (List ℕ)) (window after gone : List ℕ) : Type 0 where

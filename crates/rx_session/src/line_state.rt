@@ -1,8 +1,9 @@
 ghost use Rattle.std.specs.Prelude.{length, ◌≡◌, ◌≤◌, ◌<◌, ◌+◌};
 
+use crate::came::Came;
 use crate::carriage::len_without_cr;
 use crate::input_end::InputEnd;
-use crate::reading::{Found, next_lf};
+use crate::reading::{Found, next_lf, read_more};
 use crate::step::Step;
 use crate::telling::told_end;
 use crate::window::Window;
@@ -20,8 +21,9 @@ pub struct LineState {
 }
 
 impl LineState {
-    ghost use Rattle.std.specs.Prelude.{◌↔◌, IsTrue, take, [], None};
-    ghost use Rattle.rx_proto.specs.LineFeeds.{HasLf};
+    ghost use Rattle.std.specs.Prelude.{◌↔◌, IsTrue, cond, false, take, [], None};
+    ghost use Rattle.rx_proto.specs.LineFeeds.{HasLf, HasNoLf};
+    ghost use Rattle.rx_session.specs.Reads.{ReadsOn};
     ghost use Rattle.rx_session.specs.Steps.{unread, Advances, IsStepAt, Knows};
 
     /// No line was read yet, and at most `max_reads` reads may be made.
@@ -43,6 +45,7 @@ impl LineState {
     /// told.
     pub fn has_line(&mut self) -> bool
         ensures has { IsTrue result ↔ HasLf (unread self.new) }
+        ensures none { result ≡ false → HasNoLf (unread self.new) }
         ensures unread { unread self.new ≡ unread self.old }
         ensures reads { self.new.reads ≡ self.old.reads }
         ensures end { self.new.end ≡ self.old.end }
@@ -91,6 +94,37 @@ impl LineState {
                 told_end(end)
             }
         }
+    }
+
+    /// Lets go of all that is unread, where that is more than the longest line and its CR, and says whether it did. Lets go
+    /// of the line last told too.
+    pub(crate) fn shed(&mut self) -> bool
+        ensures unread { unread self.new ≡ cond result [] (unread self.old) }
+        ensures long { IsTrue result → 1101 < length (unread self.old) }
+        ensures short { length (unread self.new) ≤ 1101 }
+        ensures end { self.new.end ≡ self.old.end }
+    {
+        self.let_go();
+        if self.window.len() <= MAX_LINE + 1 {
+            return false;
+        }
+        self.window.clear();
+        true
+    }
+
+    /// One read, behind what is unread. Lets go of the line last told.
+    pub(crate) fn come<R: Read>(&mut self, reader: &mut R) -> Came
+        requires { length (unread self.old) < 65536 }
+        ensures comes { ReadsOn result (R.remaining reader.old) (R.remaining reader.new) (unread self.old) (unread self.new) self.old.reads self.new.reads }
+        ensures end { self.new.end ≡ self.old.end }
+    {
+        self.let_go();
+        read_more(&mut self.window, &mut self.reads, reader)
+    }
+
+    /// Whether what is unread begins with this byte.
+    pub(crate) fn begins_with(&self, byte: u8) -> bool {
+        self.window.has_at(self.taken, byte)
     }
 
     /// The line last told, of so many bytes.

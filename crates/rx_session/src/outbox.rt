@@ -1,12 +1,12 @@
-ghost use Rattle.std.specs.Prelude.{◌≡◌, ◌≤◌, ◌+◌, ◌++◌, [], OnOk, length, take};
-ghost use Rattle.std.specs.Io.KnownBytes.{Keeps};
+ghost use Rattle.std.specs.Prelude.{◌≡◌, ◌≤◌, ◌+◌, ◌++◌, [], IfOk, IsTrue, OnOk, drop, length, take};
+ghost use Rattle.std.specs.Io.KnownBytes.{Appends, Keeps};
 ghost use Rattle.rx_proto.specs.Bytes.{Writes};
 ghost use Rattle.rx_proto.specs.Printing.{note_line, reply_line};
 ghost use Rattle.rx_session.specs.Bytes.{Puts};
 
 use rx_note::{Item, Note};
 use rx_proto::{Response, Version, WriteFault, item_origin, reply_line, write_bytes};
-use std::io::Write;
+use std::io::{ErrorKind, Write};
 use std::marker::Model;
 
 /// The bytes that an outbox holds at most.
@@ -64,7 +64,7 @@ impl Outbox {
         ensures puts { Puts result self.old self.new (W.contents writer.old) (W.contents writer.new) [] }
         ensures room { OnOk result (length self.new + 2048 ≤ 65536) }
     {
-        if BLOCK - self.len >= LINE_ROOM {
+        if self.has_room() {
             return Ok(());
         }
         self.write_out(writer)
@@ -200,6 +200,52 @@ impl Outbox {
         }
     }
 
+    /// Writes what the writer takes now of what it holds, and flushes it; a write that would block takes nothing, and a flush
+    /// that would block leaves something at the writer. Whether nothing waits any more, here or there. After a fault it holds
+    /// nothing.
+    pub fn write_some<W: Write>(&mut self, writer: &mut W) -> Result<bool, WriteFault>
+        ensures puts { Puts result self.old self.new (W.contents writer.old) (W.contents writer.new) [] }
+        ensures all { IfOk result (λ all. IsTrue all → self.new ≡ []) }
+    {
+        let (done, taken) = write_front(writer, &self.block[..self.len]);
+        if taken.is_err() {
+            self.len = 0;
+            return Err(WriteFault);
+        }
+        self.drop_front(done);
+        match flushed_now(writer) {
+            Ok(flushed) => Ok(flushed && self.len == 0),
+            Err(fault) => {
+                self.len = 0;
+                Err(fault)
+            }
+        }
+    }
+
+    /// Whether it has room for 2,048 bytes more, which is more than any line that is written.
+    #[inline] // a part of `ready`
+    pub fn has_room(&self) -> bool
+        ensures { IsTrue result → length self.now + 2048 ≤ 65536 }
+    {
+        BLOCK - self.len >= LINE_ROOM
+    }
+
+    /// Whether it holds nothing.
+    pub fn is_empty(&self) -> bool
+        ensures { IsTrue result → self.now ≡ [] }
+    {
+        self.len == 0
+    }
+
+    // Lets go of its first bytes.
+    fn drop_front(&mut self, len: usize)
+        requires { len ≤ length self.old }
+        ensures { self.new ≡ drop len self.old }
+    {
+        self.block.copy_within(len..self.len, 0);
+        self.len -= len;
+    }
+
     #[cold]
     fn make_room<W: Write>(&mut self, writer: &mut W, bytes: &[u8]) -> Result<(), WriteFault>
         ensures { Puts result self.old self.new (W.contents writer.old) (W.contents writer.new) bytes.now }
@@ -236,4 +282,32 @@ fn flushed<W: Write>(writer: &mut W) -> Result<(), WriteFault>
         Ok(()) => Ok(()),
         Err(_) => Err(WriteFault),
     }
+}
+
+// Flushes the writer, which keeps what it holds. Whether all that it held back is out; where the flush would block it is not.
+fn flushed_now<W: Write>(writer: &mut W) -> Result<bool, WriteFault>
+    ensures { Keeps (W.contents writer.old) (W.contents writer.new) }
+{
+    match writer.flush() {
+        Ok(()) => Ok(true),
+        Err(fault) if fault.kind() == ErrorKind::WouldBlock => Ok(false),
+        Err(_) => Err(WriteFault),
+    }
+}
+
+// Writes a front of the bytes, which ends where a write would block. How many bytes were written, and whether the writer faulted.
+fn write_front<W: Write>(writer: &mut W, bytes: &[u8]) -> (usize, Result<(), WriteFault>)
+    ensures within { result.0 ≤ length bytes.now }
+    ensures front { Appends (W.contents writer.old) (W.contents writer.new) (take result.0 bytes.now) }
+{
+    let mut done = 0;
+    while done < bytes.len() {
+        match writer.write(&bytes[done..]) {
+            Ok(0) => return (done, Err(WriteFault)),
+            Ok(more) => done += more,
+            Err(fault) if fault.kind() == ErrorKind::WouldBlock => return (done, Ok(())),
+            Err(_) => return (done, Err(WriteFault)),
+        }
+    }
+    (done, Ok(()))
 }

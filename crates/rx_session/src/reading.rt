@@ -2,6 +2,7 @@ ghost use Rattle.std.specs.Prelude.{length, ◌<◌, ◌≡◌};
 ghost use Rattle.rx_proto.specs.LineFeeds.{HasLf};
 ghost use Rattle.rx_session.specs.Reads.{ReadsOn, FindsNext};
 
+use crate::came::Came;
 use crate::input_end::InputEnd;
 use crate::window::Window;
 use rx_proto::MAX_LINE;
@@ -18,7 +19,7 @@ pub enum Found {
     End(InputEnd),
 }
 
-/// Reads until an LF stands in the window, or an end comes.
+/// Reads until an LF stands in the window, or an end comes. A read that would block has failed.
 pub fn next_lf<R: Read>(window: &mut Window, reads: &mut u64, reader: &mut R) -> Found
     ensures found { FindsNext result (R.remaining reader.old) (R.remaining reader.new) window.old window.new reads.old reads.new }
     ensures no_read { HasLf window.old → reads.new ≡ reads.old }
@@ -36,28 +37,30 @@ pub fn next_lf<R: Read>(window: &mut Window, reads: &mut u64, reader: &mut R) ->
             window.clear();
             is_long = true;
         }
-        if let Some(end) = read_more(window, reads, reader) {
-            return Found::End(end);
+        match read_more(window, reads, reader) {
+            Came::Bytes => {}
+            Came::Nothing => return Found::End(InputEnd::ReadFault),
+            Came::End(end) => return Found::End(end),
         }
     }
 }
 
-// Reads until bytes come or an end. A read that was interrupted is made again, and counts.
-fn read_more<R: Read>(window: &mut Window, reads: &mut u64, reader: &mut R) -> Option<InputEnd>
+/// One read. Where it was interrupted it is made again, and counts again.
+pub fn read_more<R: Read>(window: &mut Window, reads: &mut u64, reader: &mut R) -> Came
     requires { length window.old < 65536 }
     ensures { ReadsOn result (R.remaining reader.old) (R.remaining reader.new) window.old window.new reads.old reads.new }
 {
     while *reads > 0 {
         *reads -= 1;
         match window.read_from(reader) {
-            Ok(0) => return Some(InputEnd::EndOfInput),
-            Ok(_) => return None,
-            Err(fault) => {
-                if fault.kind() != ErrorKind::Interrupted {
-                    return Some(InputEnd::ReadFault);
-                }
-            }
+            Ok(0) => return Came::End(InputEnd::EndOfInput),
+            Ok(_) => return Came::Bytes,
+            Err(fault) => match fault.kind() {
+                ErrorKind::Interrupted => {}
+                ErrorKind::WouldBlock => return Came::Nothing,
+                _ => return Came::End(InputEnd::ReadFault),
+            },
         }
     }
-    Some(InputEnd::TooManyReads)
+    Came::End(InputEnd::TooManyReads)
 }

@@ -120,8 +120,8 @@ fn turn<R: Read, W: Write + Drop, D: Desk<W>>(
     }
 }
 
-// Carries out a line of which this was parsed.
-fn carry_out<W: Write + Drop, D: Desk<W>>(
+/// Carries out a line of which this was parsed.
+pub(crate) fn carry_out<W: Write + Drop, D: Desk<W>>(
     outbox: &mut Outbox,
     desk: &mut D,
     version: &mut Version,
@@ -183,8 +183,12 @@ fn follow<W: Write + Drop, D: Desk<W>>(
     }
 }
 
-// Answers a line by a response.
-fn answer<W: Write + Drop>(outbox: &mut Outbox, writer: W, response: Response) -> Turned<W>
+/// Answers a line by a response.
+pub(crate) fn answer<W: Write + Drop>(
+    outbox: &mut Outbox,
+    writer: W,
+    response: Response,
+) -> Turned<W>
     ensures { Tells W.contents result writer outbox.old outbox.new (reply_line response) }
 {
     let mut held = writer;

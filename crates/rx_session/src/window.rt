@@ -63,6 +63,14 @@ impl Window {
         &self.block[self.start..self.start + len]
     }
 
+    /// Whether this byte stands behind so many.
+    pub fn has_at(&self, place: usize, byte: u8) -> bool
+        requires { place ≤ length self.now }
+    {
+        let at = self.start + place;
+        at < self.end && self.block[at] == byte
+    }
+
     /// Lets go of its first bytes.
     pub fn drop_front(&mut self, len: usize)
         requires { len ≤ length self.old }

@@ -31,6 +31,8 @@ mod lanes;
 #[cfg(test)]
 mod marbles;
 #[cfg(test)]
+mod open_sessions;
+#[cfg(test)]
 mod protocol;
 #[cfg(test)]
 mod refusals;

@@ -1,0 +1,113 @@
+-- What a session has come to that is served turn by turn. A turn may begin wherever the one before it ended, and all of them
+-- together do what a session does with the bytes that they read.
+use Rattle.std.specs.Prelude.{◌≡◌, ◌⊎◌, ℕ, Bool, true, false, List, [], ◌∷◌, ◌++◌, Option, Some, Result, Ok}
+use Rattle.std.specs.Io.KnownBytes.{Consumes}
+use Rattle.rx_proto.specs.Reading.{session_read}
+use Rattle.rx_proto.specs.declared.command.Command.{Command}
+use Rattle.rx_proto.specs.declared.command.Command.TheVariants.{Quit}
+use Rattle.rx_proto.specs.declared.line_error.BadLine.{BadLine}
+use Rattle.rx_proto.specs.declared.response.Response.TheVariants.{Done}
+use Rattle.rx_proto.specs.declared.version.Version.{Version}
+use Rattle.rx_proto.specs.declared.version.Version.TheVariants.{One}
+use Rattle.rx_session.specs.Bytes.{Holds, Loses}
+use Rattle.rx_session.specs.Feeds.{IsRest}
+use Rattle.rx_session.specs.Lines.{BeginsWithLine, lines_of, without_cr}
+use Rattle.rx_session.specs.Sessions.{Parties, Place, Outcome, Goes, Serves, answered}
+use Rattle.rx_session.specs.Steps.{unread}
+use Rattle.rx_session.specs.Turns.{Hands, hands, IsAt, Carries, Comes}
+use Rattle.rx_session.specs.declared.input_end.InputEnd.{InputEnd}
+use Rattle.rx_session.specs.declared.open_session.OpenSession.{OpenSession}
+use Rattle.rx_session.specs.declared.serving.Turned.{Turned}
+use Rattle.rx_session.specs.declared.serving.Turned.TheVariants.{On, Over}
+use Rattle.rx_session.specs.declared.session_end.SessionEnd.TheVariants as ends
+use Rattle.rx_session.specs.declared.turn.Turn.{Turn}
+use Rattle.rx_session.specs.declared.turn.Turn.TheVariants as turns
+
+-- an open session that had no turn yet
+pub record IsNew (session : OpenSession) : Type 0 where
+  pub unread_is : unread session.feed.lines ≡ []
+  pub skips_is : session.feed.skips ≡ false
+  pub held_is : session.outbox ≡ []
+  pub version_is : session.version ≡ One
+  pub quits_is : session.quits ≡ false
+
+-- the place of the first version where nothing was told
+abbrev pub first_place : {D W : Type 0} → D → W → Place D W
+first_place desk writer = record { desk = desk; writer = writer; version = One; told = [] }
+
+-- what writing did, as far as the writer takes bytes now: all is written, and the session goes on or it had read QUIT; or some
+-- waits; or the writer faulted
+abbrev pub Sends : {W : Type 0} → (W → Option (List ℕ)) → Turn W → Bool → W → List ℕ → List ℕ → Type 0
+Sends contents (turns.Again after) quits writer held held_after = (quits ≡ false) × (held_after ≡ []) × Holds held held_after (contents writer) (contents after) []
+Sends contents (turns.Waits after) quits writer held held_after = Holds held held_after (contents writer) (contents after) []
+Sends {W = W} contents (turns.Over end back) quits writer held held_after =
+    (after : W) × (back ≡ Some after)
+    × (((end ≡ ends.Quit) × (quits ≡ true) × (held_after ≡ []) × Holds held held_after (contents writer) (contents after) [])
+    ⊎ ((end ≡ ends.WriteFault) × Loses held held_after (contents writer) (contents after) []))
+
+module _ {D W : Type 0} (p : Parties D W) where
+  -- the session went through these lines, from a place to a place
+  abbrev pub Reaches : Place D W → List (List ℕ) → Place D W → Type 0
+  Reaches at [] last = last ≡ at
+  Reaches at (line ∷ lines) last = (after : Place D W) × Goes p (session_read line) at after × Reaches after lines last
+
+  -- SO FAR: some bytes were there first, and more were read. The lines of all these but the rest were carried out one after
+  -- another, from the place where this began to the place where it has come
+  pub record Through (start : Place D W) (first : List ℕ) (read_old read_now : Option (List ℕ)) (at : Place D W) (rest : List ℕ) : Type 0 where
+    pub read : List ℕ
+    pub consumed : Consumes read_old read_now read
+    pub lines : List (List ℕ)
+    pub told : (more : List ℕ) → lines_of ((first ++ read) ++ more) ≡ lines ++ lines_of (rest ++ more)
+    pub reached : Reaches start lines at
+
+  -- the session stands there, and the rest is what its feed has not told
+  pub record Listens (start : Place D W) (first : List ℕ) (read_old read_now : Option (List ℕ)) (now : Hands D W) (skips : Bool) (unread : List ℕ) : Type 0 where
+    pub at : Place D W
+    pub rest : List ℕ
+    pub through : Through start first read_old read_now at rest
+    pub is_rest : IsRest skips unread rest
+    pub is_at : IsAt p at now
+
+  -- the rest begins with a line that said QUIT, and the session stands where its answer is told
+  pub record Leaves (start : Place D W) (first : List ℕ) (read_old read_now : Option (List ℕ)) (now : Hands D W) : Type 0 where
+    pub at : Place D W
+    pub rest : List ℕ
+    pub through : Through start first read_old read_now at rest
+    pub line : List ℕ
+    pub left : List ℕ
+    pub begins : BeginsWithLine rest line left
+    pub quits : session_read (without_cr line) ≡ Ok Quit
+    pub is_at : IsAt p (answered at at.desk Done) now
+
+  -- a session that is under way: it goes on, or it read QUIT
+  abbrev pub IsOpen : Place D W → List ℕ → Option (List ℕ) → Option (List ℕ) → Hands D W → Bool → Bool → List ℕ → Type 0
+  IsOpen start first read_old read_now now false skips unread = Listens start first read_old read_now now skips unread
+  IsOpen start first read_old read_now now true skips unread = Leaves start first read_old read_now now
+
+  -- a session that is over: it went through the lines of all that was there first and was read, to its end
+  pub record IsOver (start : Place D W) (first : List ℕ) (read_old read_new : Option (List ℕ)) (out : Outcome D W) : Type 0 where
+    pub input : Option InputEnd
+    pub read : List ℕ
+    pub consumed : Consumes read_old read_new read
+    pub served : Serves p read_new input start (lines_of (first ++ read)) out
+
+  -- what carrying out a line did that was read so: as ever, or it was QUIT and its answer is told
+  abbrev pub CarriesOut : Bool → Result Command BadLine → Place D W → Turned W → D → Version → List ℕ → Type 0
+  CarriesOut false reading at result desk version held = Carries p reading at result desk version held
+  CarriesOut true reading at result desk version held = (reading ≡ Ok Quit) × Comes p (λ after. after ≡ answered at at.desk Done) result desk version held
+
+  -- an open session that is under way, with its desk and its writer
+  abbrev pub Sitting : Place D W → List ℕ → Option (List ℕ) → Option (List ℕ) → D → W → OpenSession → Type 0
+  Sitting start first read_old read_now desk writer session =
+      IsOpen start first read_old read_now (hands desk writer session.version session.outbox) session.quits session.feed.skips (unread session.feed.lines)
+
+  -- what carrying out the lines in hand made of it
+  abbrev pub Carried : Turned W → Place D W → List ℕ → Option (List ℕ) → Option (List ℕ) → D → OpenSession → Type 0
+  Carried (On writer) start first read_old read_new desk session = Sitting start first read_old read_new desk writer session
+  Carried (Over end back) start first read_old read_new desk session = IsOver start first read_old read_new (record { end = end; desk = desk; back = back })
+
+  -- THE TURN: it is under way afterwards, or it is over
+  abbrev pub Sits : Turn W → Place D W → List ℕ → Option (List ℕ) → Option (List ℕ) → D → OpenSession → Type 0
+  Sits (turns.Again writer) start first read_old read_new desk session = Sitting start first read_old read_new desk writer session
+  Sits (turns.Waits writer) start first read_old read_new desk session = Sitting start first read_old read_new desk writer session
+  Sits (turns.Over end back) start first read_old read_new desk session = IsOver start first read_old read_new (record { end = end; desk = desk; back = back })
