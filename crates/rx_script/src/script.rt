@@ -327,7 +327,19 @@ fn let_go(outs: &mut Vec<Given, Heap>, heap: &Heap, spare: &mut Option<Text>)
     if ends_in_block(outs) && heap.asked() == 0 {
         keep_last(outs, spare);
     }
-    outs.clear();
+    clear(outs);
+}
+
+// Lets go of all notes. Mostly there is one, or none is left.
+#[inline(always)] // so that one note costs no call
+fn clear(outs: &mut Vec<Given, Heap>)
+    ensures { outs.new.items ≡ [] }
+{
+    match outs.len() {
+        0 => {}
+        1 => drop(outs.pop()),
+        _ => outs.clear(),
+    }
 }
 
 // Whether the last note is an item whose text stands in a block.
