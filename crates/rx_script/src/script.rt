@@ -26,6 +26,7 @@ use std::io::{Read, Write};
 /// each note that it gives. All that was answered is written and flushed before each read and at the end.
 ///
 /// `Memory` means that a hub could not be made; then nothing was read or written.
+#[inline(never)] // so that its loop has all registers to itself
 pub fn run_script<R: Read, W: Write>(
     alloc: Heap,
     config: Config,
