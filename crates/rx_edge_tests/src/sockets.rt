@@ -215,31 +215,28 @@ fn talk(rt: &impl Host, paths: &Paths, subscriber: &Subscriber) -> bool {
     first.is_right() && second.is_right()
 }
 
-fn round_trip(
-    rt: &(impl Host + Abort + Sync),
-    paths: &Paths,
-    subscriber: &Subscriber,
-    wanted: &str,
-) -> Result<(), Fail> {
-    write_config(rt, paths, b"connections = 2\n")?;
-    let (told, right) = join(
-        rt,
-        || -> Vec<u8> { serve(rt, paths) },
-        || -> bool { talk(rt, paths, subscriber) },
-    );
-    expect_served(rt, paths, told.as_slice(), right, wanted)
-}
-
 #[test]
 fn socket_round_trip(rt: HostRuntime) -> Result<(), Fail> {
+    write_config(&rt, &ONE, b"connections = 2\n")?;
+    let (told, right) = join(
+        &rt,
+        || -> Vec<u8> { serve(&rt, &ONE) },
+        || -> bool { talk(&rt, &ONE, &FIRST_VERSION) },
+    );
     let wanted = "0 s joins 1 refused 0\n|rxline: listening on rxline-one.sock\n";
-    round_trip(&rt, &ONE, &FIRST_VERSION, wanted)
+    expect_served(&rt, &ONE, told.as_slice(), right, wanted)
 }
 
 #[test]
 fn second_version_on_the_socket(rt: HostRuntime) -> Result<(), Fail> {
+    write_config(&rt, &TWO, b"connections = 2\n")?;
+    let (told, right) = join(
+        &rt,
+        || -> Vec<u8> { serve(&rt, &TWO) },
+        || -> bool { talk(&rt, &TWO, &SECOND_VERSION) },
+    );
     let wanted = "0 s joins 1 refused 0\n|rxline: listening on rxline-two.sock\n";
-    round_trip(&rt, &TWO, &SECOND_VERSION, wanted)
+    expect_served(&rt, &TWO, told.as_slice(), right, wanted)
 }
 
 // How many items are emitted beside one who never reads: more bytes than the buffer of a socket takes.
