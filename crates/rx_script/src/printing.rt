@@ -70,7 +70,7 @@ pub fn put_marked<W: Write>(
 // Pushes the digits of a number, for which there is room.
 #[inline] // once for each note; most numbers have one digit
 fn push_decimal(outbox: &mut Outbox, number: u32)
-    requires { length outbox.old + 10 ≤ 65536 }
+    requires { length outbox.old + 10 ≤ 8192 }
     ensures digits { outbox.new ≡ outbox.old ++ decimal number }
     ensures len { length outbox.new ≤ length outbox.old + 10 }
 {

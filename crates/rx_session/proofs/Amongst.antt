@@ -156,6 +156,8 @@ module _ {D W : Type 0} (p : Parties D W) where
       IsOpen-then start first read_old read_now read_new at rest desk desk_after writer session.version session.outbox session.quits session.feed.skips (unread session.feed.lines) s t
   Sits-then start first read_old read_now read_new at rest desk desk_after session (turns.Waits writer) s t =
       IsOpen-then start first read_old read_now read_new at rest desk desk_after writer session.version session.outbox session.quits session.feed.skips (unread session.feed.lines) s t
+  Sits-then start first read_old read_now read_new at rest desk desk_after session (turns.Stuck writer) s t =
+      IsOpen-then start first read_old read_now read_new at rest desk desk_after writer session.version session.outbox session.quits session.feed.skips (unread session.feed.lines) s t
   Sits-then start first read_old read_now read_new at rest desk desk_after session (turns.Over end back) s t =
       IsOver-then start first read_old read_now read_new at rest desk (record { end = end; desk = desk_after; back = back }) s t
 

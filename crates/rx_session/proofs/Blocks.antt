@@ -51,7 +51,7 @@ IsWindow-dropped block start searched end len w within =
     record { ordered = omega arith; within = omega (arith, w.ordered, w.within); room = w.room; passed = passed_dropped block start searched len w.ordered w.passed }
 
 -- the first LF of a window, where it was found behind what was searched before
-pub IsWindow-found : (block : List ℕ) (start searched end ahead : ℕ) → IsWindow block start searched end → length block ≡ 65536
+pub IsWindow-found : (block : List ℕ) (start searched end ahead : ℕ) → IsWindow block start searched end → length block ≡ 8192
     → HasLfAt (between searched end block) ahead → IsWindow block start (searched + ahead) end
 IsWindow-found block start searched end ahead w full at =
     let within : ahead < end - searched = omega (arith, at.within, length-between block searched end) in
@@ -63,7 +63,7 @@ IsWindow-found block start searched end ahead w full at =
           (HasNoLf-append _ _ w.passed (rw (between-front block searched end ahead (omega arith)) at.line.one));
     }
 
-pub HasLfAt-found : (block : List ℕ) (start searched end ahead : ℕ) → IsWindow block start searched end → length block ≡ 65536
+pub HasLfAt-found : (block : List ℕ) (start searched end ahead : ℕ) → IsWindow block start searched end → length block ≡ 8192
     → HasLfAt (between searched end block) ahead → HasLfAt (between start end block) (searched + ahead - start)
 HasLfAt-found block start searched end ahead w full at =
     let place : searched + ahead - start ≡ length (between start searched block) + ahead = omega (arith, w.ordered, length-between block start searched (omega (arith, w.within, w.room))) in
@@ -83,7 +83,7 @@ between_put xs ys a k i j low within =
     between_is (put_mid a k xs ys) i j ∙ ap (λ t. drop i t) (take-put_mid_below a k xs ys j low within) ∙ sym (between_is xs i j)
 
 -- a read behind the window
-pub IsWindow-filled : (block buf : List ℕ) (start searched end k n : ℕ) → IsWindow block start searched end → length block ≡ 65536 → n ≤ k → k ≡ 65536 - end → IsWindow (put_mid end k block buf) start searched (end + n)
+pub IsWindow-filled : (block buf : List ℕ) (start searched end k n : ℕ) → IsWindow block start searched end → length block ≡ 8192 → n ≤ k → k ≡ 8192 - end → IsWindow (put_mid end k block buf) start searched (end + n)
 IsWindow-filled block buf start searched end k n w full few room =
     record {
       ordered = w.ordered;
@@ -110,13 +110,13 @@ between-filled block buf start end k n low within few =
 -- a block with room for a read behind its window, which holds these bytes
 pub record IsReady (block : List ℕ) (start searched end : ℕ) (bytes : List ℕ) : Type 0 where
   pub window : IsWindow block start searched end
-  pub full : length block ≡ 65536
-  pub room : end < 65536
+  pub full : length block ≡ 8192
+  pub room : end < 8192
   pub holds : between start end block ≡ bytes
 
 -- there is room behind a window that was moved to the front, where it does not fill the block
 pub IsReady-moved : (i : Inside) (bytes moved : List ℕ)
-    → IsWindow i.block i.start i.searched i.end → length i.block ≡ 65536 → between i.start i.end i.block ≡ bytes → length bytes < 65536
+    → IsWindow i.block i.start i.searched i.end → length i.block ≡ 8192 → between i.start i.end i.block ≡ bytes → length bytes < 8192
     → moved ≡ copy_within i.block i.start i.end 0 → length moved ≡ length i.block → IsReady moved 0 (i.searched - i.start) (i.end - i.start) bytes
 IsReady-moved i bytes moved w full holds few after len =
     let size : length (between i.start i.end i.block) ≡ i.end - i.start = length-between i.block i.start i.end (omega (arith, w.room)) in
@@ -137,29 +137,29 @@ IsReady-moved i bytes moved w full holds few after len =
 
 -- what a read put behind the window
 pub IsReady-filled : (block : List ℕ) (start searched end : ℕ) (bytes buf : List ℕ) (n to : ℕ) → IsReady block start searched end bytes
-    → length buf ≡ length (between end 65536 block) → n ≤ length buf → to ≡ end + n
-    → IsWindow (put_mid end (65536 - end) block buf) start searched to × (between start to (put_mid end (65536 - end) block buf) ≡ bytes ++ take n buf)
+    → length buf ≡ length (between end 8192 block) → n ≤ length buf → to ≡ end + n
+    → IsWindow (put_mid end (8192 - end) block buf) start searched to × (between start to (put_mid end (8192 - end) block buf) ≡ bytes ++ take n buf)
 IsReady-filled block start searched end bytes buf n to ready size few place =
-    let P : ℕ → Type 0 = λ t. IsWindow (put_mid end (65536 - end) block buf) start searched t × (between start t (put_mid end (65536 - end) block buf) ≡ bytes ++ take n buf) in
-    let room : length buf ≡ 65536 - end = size ∙ length-between block end 65536 (omega (arith, ready.full)) in
+    let P : ℕ → Type 0 = λ t. IsWindow (put_mid end (8192 - end) block buf) start searched t × (between start t (put_mid end (8192 - end) block buf) ≡ bytes ++ take n buf) in
+    let room : length buf ≡ 8192 - end = size ∙ length-between block end 8192 (omega (arith, ready.full)) in
     let w = ready.window in
     subst P (sym place) (
-      IsWindow-filled block buf start searched end (65536 - end) n w ready.full (omega arith) (omega arith),
-      between-filled block buf start end (65536 - end) n (omega (arith, w.ordered, w.within)) (omega (arith, w.room, ready.full)) few ∙ ap (λ t. t ++ take n buf) ready.holds,
+      IsWindow-filled block buf start searched end (8192 - end) n w ready.full (omega arith) (omega arith),
+      between-filled block buf start end (8192 - end) n (omega (arith, w.ordered, w.within)) (omega (arith, w.room, ready.full)) few ∙ ap (λ t. t ++ take n buf) ready.holds,
     )
 
 -- a read behind the window has room
-pub IsReady-room : (block : List ℕ) (start searched end : ℕ) (bytes buf : List ℕ) → IsReady block start searched end bytes → length buf ≡ length (between end 65536 block) → 0 < length buf
+pub IsReady-room : (block : List ℕ) (start searched end : ℕ) (bytes buf : List ℕ) → IsReady block start searched end bytes → length buf ≡ length (between end 8192 block) → 0 < length buf
 IsReady-room block start searched end bytes buf ready size =
-    omega (arith, size, length-between block end 65536 (omega (arith, ready.full)), ready.room)
+    omega (arith, size, length-between block end 8192 (omega (arith, ready.full)), ready.room)
 
 -- what a read of any outcome put behind the window
 pub record IsRead {E : Type 0} (result : Result ℕ E) (old new : Option (List ℕ)) (block : List ℕ) (start searched end : ℕ) (bytes buf : List ℕ) : Type 0 where
-  pub window : IsWindow (put_mid end (65536 - end) block buf) start searched (end + count_of result)
-  pub fills : Fills result old new bytes (between start (end + count_of result) (put_mid end (65536 - end) block buf))
+  pub window : IsWindow (put_mid end (8192 - end) block buf) start searched (end + count_of result)
+  pub fills : Fills result old new bytes (between start (end + count_of result) (put_mid end (8192 - end) block buf))
 
 pub IsReady-read : {E : Type 0} (result : Result ℕ E) (old new : Option (List ℕ)) (block : List ℕ) (start searched end : ℕ) (bytes buf : List ℕ) → IsReady block start searched end bytes
-    → length buf ≡ length (between end 65536 block) → ReadsAtMost result buf → ReadConsumes old new result buf → IsRead result old new block start searched end bytes buf
+    → length buf ≡ length (between end 8192 block) → ReadsAtMost result buf → ReadConsumes old new result buf → IsRead result old new block start searched end bytes buf
 IsReady-read (Ok n) old new block start searched end bytes buf ready size bound told =
     let filled = IsReady-filled block start searched end bytes buf n (end + n) ready size bound.0 refl in
     record {

@@ -278,7 +278,8 @@ module _ {D W : Type 0} (p : Parties D W) where
       → Sits p result start first read_old read_now desk (record session { outbox = held_after })
   sent start first read_old read_now desk writer session held_after (turns.Again after) s sends =
       IsOpen-put start first read_old read_now desk writer after session.version session.outbox held_after session.quits session.feed.skips (unread session.feed.lines) s sends.2
-  sent start first read_old read_now desk writer session held_after (turns.Waits after) s sends =
+  sent start first read_old read_now desk writer session held_after (turns.Waits after) s sends = absurd sends
+  sent start first read_old read_now desk writer session held_after (turns.Stuck after) s sends =
       IsOpen-put start first read_old read_now desk writer after session.version session.outbox held_after session.quits session.feed.skips (unread session.feed.lines) s sends
   sent start first read_old read_now desk writer session held_after (turns.Over end back) s sends =
       let Goal : SessionEnd → Option W → Type 0 = λ e b. IsOver p start first read_old read_now (record { end = e; desk = desk; back = b }) in

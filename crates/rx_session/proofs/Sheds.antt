@@ -87,7 +87,7 @@ HasRead-read old mid new window after next left left_mid left_after is_long h no
 
 -- an LF behind the front of a long line
 pub HasRead-long : (old new : Option (List ℕ)) (window after now : List ℕ) (left left_after len : ℕ) (is_long : Bool) → HasRead old new window after left left_after is_long
-    → is_long ≡ true → now ≡ after → HasLfAt now len → length now ≤ 65536 → FindsNext (LongLf len) old new window now left left_after
+    → is_long ≡ true → now ≡ after → HasLfAt now len → length now ≤ 8192 → FindsNext (LongLf len) old new window now left left_after
 HasRead-long old new window after now left left_after len is_long h long same at few =
     let kind : 1101 < length h.gone = let P : Bool → Type 0 = λ b. IsGone b h.gone in subst P long h.kind in (
       h.gone,
@@ -100,7 +100,7 @@ HasRead-long old new window after now left left_after len is_long h long same at
 
 -- an LF of a line of which nothing was let go
 pub HasRead-short : (old new : Option (List ℕ)) (window after now : List ℕ) (left left_after len : ℕ) (is_long : Bool) → HasRead old new window after left left_after is_long
-    → is_long ≡ false → now ≡ after → HasLfAt now len → length now ≤ 65536 → FindsNext (Lf len) old new window now left left_after
+    → is_long ≡ false → now ≡ after → HasLfAt now len → length now ≤ 8192 → FindsNext (Lf len) old new window now left left_after
 HasRead-short old new window after now left left_after len is_long h short same at few =
     let kind : h.gone ≡ [] = let P : Bool → Type 0 = λ b. IsGone b h.gone in subst P short h.kind in
     let shed : Sheds old new window after [] = let P : List ℕ → Type 0 = Sheds old new window after in subst P kind h.shed in (

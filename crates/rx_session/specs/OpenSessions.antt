@@ -39,7 +39,8 @@ first_place desk writer = record { desk = desk; writer = writer; version = One; 
 -- waits; or the writer faulted
 abbrev pub Sends : {W : Type 0} → (W → Option (List ℕ)) → Turn W → Bool → W → List ℕ → List ℕ → Type 0
 Sends contents (turns.Again after) quits writer held held_after = (quits ≡ false) × (held_after ≡ []) × Holds held held_after (contents writer) (contents after) []
-Sends contents (turns.Waits after) quits writer held held_after = Holds held held_after (contents writer) (contents after) []
+Sends contents (turns.Waits after) quits writer held held_after = ⊥
+Sends contents (turns.Stuck after) quits writer held held_after = Holds held held_after (contents writer) (contents after) []
 Sends {W = W} contents (turns.Over end back) quits writer held held_after =
     (after : W) × (back ≡ Some after)
     × (((end ≡ ends.Quit) × (quits ≡ true) × (held_after ≡ []) × Holds held held_after (contents writer) (contents after) [])
@@ -110,4 +111,5 @@ module _ {D W : Type 0} (p : Parties D W) where
   abbrev pub Sits : Turn W → Place D W → List ℕ → Option (List ℕ) → Option (List ℕ) → D → OpenSession → Type 0
   Sits (turns.Again writer) start first read_old read_new desk session = Sitting start first read_old read_new desk writer session
   Sits (turns.Waits writer) start first read_old read_new desk session = Sitting start first read_old read_new desk writer session
+  Sits (turns.Stuck writer) start first read_old read_new desk session = Sitting start first read_old read_new desk writer session
   Sits (turns.Over end back) start first read_old read_new desk session = IsOver start first read_old read_new (record { end = end; desk = desk; back = back })

@@ -18,12 +18,12 @@ IsEnd TooManyReads new left = left ≡ 0
 
 -- how many bytes may still come: those of the window, and a block for each read that is left
 abbrev pub ahead : ℕ → List ℕ → ℕ
-ahead left window = left * 65536 + length window
+ahead left window = left * 8192 + length window
 
 -- some bytes came behind the window, or none yet, or an end
 abbrev pub ReadsOn : Came → Option (List ℕ) → Option (List ℕ) → List ℕ → List ℕ → ℕ → ℕ → Type 0
 ReadsOn came.Bytes old new window after left left_after =
-    (read : List ℕ) × Consumes old new read × (after ≡ window ++ read) × (left_after < left) × (length read ≤ 65536)
+    (read : List ℕ) × Consumes old new read × (after ≡ window ++ read) × (left_after < left) × (length read ≤ 8192)
 ReadsOn came.Nothing old new window after left left_after = Keeps old new × (after ≡ window) × (left_after ≤ left)
 ReadsOn (came.End end) old new window after left left_after = Keeps old new × (after ≡ window) × (left_after ≤ left) × IsEnd end new left_after
 
@@ -37,8 +37,8 @@ pub record Sheds (old new : Option (List ℕ)) (window after gone : List ℕ) : 
 -- an LF stands in the window, behind a front of its line that was let go if it is long; or an end came before an LF
 abbrev pub FindsNext : Found → Option (List ℕ) → Option (List ℕ) → List ℕ → List ℕ → ℕ → ℕ → Type 0
 FindsNext (Lf len) old new window after left left_after =
-    Sheds old new window after [] × HasLfAt after len × (ahead left_after after ≤ ahead left window) × (len < 65536)
+    Sheds old new window after [] × HasLfAt after len × (ahead left_after after ≤ ahead left window) × (len < 8192)
 FindsNext (LongLf len) old new window after left left_after =
-    (gone : List ℕ) × Sheds old new window after gone × (1101 < length gone) × HasLfAt after len × (ahead left_after after ≤ ahead left window) × (len < 65536)
+    (gone : List ℕ) × Sheds old new window after gone × (1101 < length gone) × HasLfAt after len × (ahead left_after after ≤ ahead left window) × (len < 8192)
 FindsNext (End end) old new window after left left_after =
     (gone : List ℕ) × Sheds old new window after gone × HasNoLf after × IsEnd end new left_after

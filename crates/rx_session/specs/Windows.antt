@@ -28,5 +28,5 @@ Fills result old new window after =
 pub record IsWindow (block : List ℕ) (start searched end : ℕ) : Type 0 where
   pub ordered : start ≤ searched
   pub within : searched ≤ end
-  pub room : end ≤ 65536
+  pub room : end ≤ 8192
   pub passed : HasNoLf (between start searched block)

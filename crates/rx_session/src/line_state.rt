@@ -114,7 +114,7 @@ impl LineState {
 
     /// One read, behind what is unread. Lets go of the line last told.
     pub(crate) fn come<R: Read>(&mut self, reader: &mut R) -> Came
-        requires { length (unread self.old) < 65536 }
+        requires { length (unread self.old) < 8192 }
         ensures comes { ReadsOn result (R.remaining reader.old) (R.remaining reader.new) (unread self.old) (unread self.new) self.old.reads self.new.reads }
         ensures end { self.new.end ≡ self.old.end }
     {
@@ -139,7 +139,7 @@ impl LineState {
     #[inline] // a part of `known`
     fn step_at(&mut self, len: usize) -> Step
         requires within { len < length self.old.window }
-        requires few { len < 65536 }
+        requires few { len < 8192 }
         ensures step { IsStepAt result len self.new.window }
         ensures taken { self.new.taken ≡ len + 1 }
         ensures window { self.new.window ≡ self.old.window }

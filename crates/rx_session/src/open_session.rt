@@ -1,4 +1,4 @@
-ghost use Rattle.std.specs.Prelude.{◌≡◌, ◌≤◌, ◌+◌, ℕ, List, [], IsTrue, Ok, Option, Some, false, length};
+ghost use Rattle.std.specs.Prelude.{◌≡◌, ◌≤◌, ◌+◌, ℕ, List, [], IsTrue, Ok, Option, Some, false, length, true};
 ghost use Rattle.rx_proto.specs.Reading.{session_read};
 ghost use Rattle.rx_proto.specs.declared.command.Command.TheVariants.{Quit};
 ghost use Rattle.rx_session.specs.Feeds.{IsLine, IsWhole};
@@ -62,13 +62,15 @@ impl OpenSession {
         writer: W,
         desk: &mut D,
     ) -> Turn<W>
-        ensures { (start : Place D W) (first : List ℕ) (read_old : Option (List ℕ))
+        ensures sits { (start : Place D W) (first : List ℕ) (read_old : Option (List ℕ))
             → Sitting (parties D.emits D.follows W.contents) start first read_old (R.remaining reader.old) desk.old writer self.old
             → Sits (parties D.emits D.follows W.contents) result start first read_old (R.remaining reader.new) desk.new self.new }
+        ensures quits { self.old.quits ≡ true → desk.new ≡ desk.old }
     {
         match send(&mut self.outbox, self.quits, writer) {
             Turn::Again(writer) => self.go_on(alloc, reader, writer, desk),
             Turn::Waits(writer) => Turn::Waits(writer),
+            Turn::Stuck(writer) => Turn::Stuck(writer),
             Turn::Over(end, back) => Turn::Over(end, back),
         }
     }
@@ -184,7 +186,7 @@ fn send<W: Write>(outbox: &mut Outbox, quits: bool, writer: W) -> Turn<W>
     match outbox.write_some(&mut held) {
         Ok(all) => {
             if !all {
-                return Turn::Waits(held);
+                return Turn::Stuck(held);
             }
             if quits {
                 return Turn::Over(SessionEnd::Quit, Some(held));

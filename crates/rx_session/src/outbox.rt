@@ -10,7 +10,7 @@ use std::io::{ErrorKind, Write};
 use std::marker::Model;
 
 /// The bytes that an outbox holds at most.
-pub const BLOCK: usize = 65536;
+pub const BLOCK: usize = 8192;
 
 // The room for any line that is written.
 const LINE_ROOM: usize = 2048;
@@ -30,7 +30,7 @@ impl Model for Outbox {
 
     ghost view = { λ o. take o.len o.block };
 
-    ghost invariant = { λ o. o.len ≤ 65536 };
+    ghost invariant = { λ o. o.len ≤ 8192 };
 }
 
 impl Outbox {
@@ -62,7 +62,7 @@ impl Outbox {
     #[inline] // once for each line, and there is mostly room
     pub fn ready<W: Write>(&mut self, writer: &mut W) -> Result<(), WriteFault>
         ensures puts { Puts result self.old self.new (W.contents writer.old) (W.contents writer.new) [] }
-        ensures room { OnOk result (length self.new + 2048 ≤ 65536) }
+        ensures room { OnOk result (length self.new + 2048 ≤ 8192) }
     {
         if self.has_room() {
             return Ok(());
@@ -73,7 +73,7 @@ impl Outbox {
     /// Holds these bytes too, for which there is room.
     #[inline] // so that a piece of fixed size is copied by that
     pub fn push(&mut self, bytes: &[u8])
-        requires { length self.old + length bytes.now ≤ 65536 }
+        requires { length self.old + length bytes.now ≤ 8192 }
         ensures { self.new ≡ self.old ++ bytes.now }
     {
         let len = self.len + bytes.len();
@@ -85,7 +85,7 @@ impl Outbox {
     /// of the bytes that count.
     #[inline] // so that the copy is one of fixed size
     pub fn push_padded<const N: usize>(&mut self, bytes: &[u8; N], len: usize)
-        requires room { length self.old + N ≤ 65536 }
+        requires room { length self.old + N ≤ 8192 }
         requires within { len ≤ N }
         ensures { self.new ≡ self.old ++ take len bytes.now }
     {
@@ -96,7 +96,7 @@ impl Outbox {
     /// Holds the line of a note in a version too, for which there is room.
     #[inline(always)] // once for each note that a script prints
     pub fn push_note(&mut self, note: &Note, version: Version)
-        requires { length self.old + 1062 ≤ 65536 }
+        requires { length self.old + 1062 ≤ 8192 }
         ensures { self.new ≡ self.old ++ note_line version note.now }
     {
         match version {
@@ -108,7 +108,7 @@ impl Outbox {
     // The same in the second version.
     #[inline(never)] // so that the first version pays for it with one test alone
     fn push_placed(&mut self, note: &Note)
-        requires { length self.old + 1062 ≤ 65536 }
+        requires { length self.old + 1062 ≤ 8192 }
         ensures { self.new ≡ self.old ++ note_line Version.Two note.now }
     {
         match note {
@@ -119,7 +119,7 @@ impl Outbox {
 
     // Holds the line of an item in the second version too.
     fn push_item(&mut self, item: &Item)
-        requires { length self.old + 1062 ≤ 65536 }
+        requires { length self.old + 1062 ≤ 8192 }
         ensures { self.new ≡ self.old ++ note_line Version.Two (Note.Next item.now) }
     {
         self.push(b"NEXT ");
@@ -131,7 +131,7 @@ impl Outbox {
     // Holds the line of a note in the first version too.
     #[inline(always)] // a part of `push_note`
     fn push_plain(&mut self, note: &Note)
-        requires { length self.old + 1040 ≤ 65536 }
+        requires { length self.old + 1040 ≤ 8192 }
         ensures { self.new ≡ self.old ++ note_line Version.One note.now }
     {
         match note {
@@ -168,7 +168,7 @@ impl Outbox {
     // Holds the line of a response too, for which there is room. By far the most are OK, which is copied by a fixed size.
     #[inline(always)] // a part of `put_reply`
     fn push_reply(&mut self, response: Response)
-        requires { length self.old + 2048 ≤ 65536 }
+        requires { length self.old + 2048 ≤ 8192 }
         ensures { self.new ≡ self.old ++ reply_line response }
     {
         if let Response::Done = response {
@@ -181,7 +181,7 @@ impl Outbox {
     #[cold]
     #[inline(never)] // so that an OK stays short
     fn push_other_reply(&mut self, response: Response)
-        requires { length self.old + 2048 ≤ 65536 }
+        requires { length self.old + 2048 ≤ 8192 }
         ensures { self.new ≡ self.old ++ reply_line response }
     {
         let line = reply_line(response);
@@ -225,7 +225,7 @@ impl Outbox {
     /// Whether it has room for 2,048 bytes more, which is more than any line that is written.
     #[inline] // a part of `ready`
     pub fn has_room(&self) -> bool
-        ensures { IsTrue result → length self.now + 2048 ≤ 65536 }
+        ensures { IsTrue result → length self.now + 2048 ≤ 8192 }
     {
         BLOCK - self.len >= LINE_ROOM
     }

@@ -47,7 +47,7 @@ pub fn next_lf<R: Read>(window: &mut Window, reads: &mut u64, reader: &mut R) ->
 
 /// One read. Where it was interrupted it is made again, and counts again.
 pub fn read_more<R: Read>(window: &mut Window, reads: &mut u64, reader: &mut R) -> Came
-    requires { length window.old < 65536 }
+    requires { length window.old < 8192 }
     ensures { ReadsOn result (R.remaining reader.old) (R.remaining reader.new) window.old window.new reads.old reads.new }
 {
     while *reads > 0 {

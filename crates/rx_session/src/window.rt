@@ -7,7 +7,7 @@ use std::io::Read;
 use std::marker::Model;
 
 /// The bytes that a window has room for.
-pub const BLOCK: usize = 65536;
+pub const BLOCK: usize = 8192;
 
 /// A window on the bytes of a reader: what was read and not yet let go. Contracts see a window as the list of those
 /// bytes.
@@ -50,7 +50,7 @@ impl Window {
     /// How many bytes it has.
     pub fn len(&self) -> usize
         ensures len { result ≡ length self.now }
-        ensures within { result ≤ 65536 }
+        ensures within { result ≤ 8192 }
     {
         self.end - self.start
     }
@@ -93,7 +93,7 @@ impl Window {
     pub fn find_lf(&mut self) -> Option<usize>
         ensures kept { self.new ≡ self.old }
         ensures found { FindsLf result self.new }
-        ensures within { length self.new ≤ 65536 }
+        ensures within { length self.new ≤ 8192 }
     {
         match first_lf(&self.block[self.searched..self.end]) {
             Some(ahead) => {
@@ -109,9 +109,9 @@ impl Window {
 
     /// One read, behind its bytes. How many bytes came: none only at the end of the input.
     pub fn read_from<R: Read>(&mut self, reader: &mut R) -> io::Result<usize>
-        requires { length self.old < 65536 }
+        requires { length self.old < 8192 }
         ensures fills { Fills result (R.remaining reader.old) (R.remaining reader.new) self.old self.new }
-        ensures within { length self.new ≤ 65536 }
+        ensures within { length self.new ≤ 8192 }
     {
         // What is left of a line goes to the front, so that the read has room for nearly a whole block.
         self.block.copy_within(self.start..self.end, 0);

@@ -226,7 +226,7 @@ fn told_by_turns(heap: &Heap, reader: &mut Halts, writer: Sips, takes: bool) -> 
     for _ in 0..100_000 {
         match session.turn(heap, reader, held, &mut scribe) {
             Turn::Again(writer) => held = writer,
-            Turn::Waits(writer) => held = writer,
+            Turn::Waits(writer) | Turn::Stuck(writer) => held = writer,
             Turn::Over(end, back) => return told_of(end, back, &scribe),
         }
     }
@@ -335,7 +335,8 @@ fn writer_faults_at_each_byte(rt: HostRuntime) {
     }
 }
 
-// What so many turns came to: `A` for one that goes on at once, `w` for one that waits, or the end.
+// What so many turns came to: `A` for one that goes on at once, `w` for one that waits for bytes, `s` for one whose answer
+// waits, or the end.
 fn told_turns(
     heap: &Heap,
     reader: &mut Halts,
@@ -356,6 +357,10 @@ fn told_turns(
                 told.put(b'w');
                 held = writer;
             }
+            Turn::Stuck(writer) => {
+                told.put(b's');
+                held = writer;
+            }
             Turn::Over(end, _back) => {
                 told.put(sign_of_end(end));
                 return told;
@@ -370,12 +375,12 @@ fn told_turns(
 const TURNS: [(&str, usize, &str, usize, u64, u64, u64, u32, &str, u64, u64); 9] = [
     ("", 0, "", 1, 9, 0, 0, 3, "www", 3, 0),
     ("", 0, "END s\n", 3, 1, 0, 0, 6, "wAwAwE", 6, 1),
-    ("END s\n", 100, "", 16, 0, 5, 0, 5, "wwwww", 1, 2),
-    ("END s\n", 100, "", 16, 0, 5, 0, 6, "wwwwww", 2, 5),
+    ("END s\n", 100, "", 16, 0, 5, 0, 5, "sssss", 1, 2),
+    ("END s\n", 100, "", 16, 0, 5, 0, 6, "ssssss", 2, 5),
     ("END s\n", 600, "", 65_536, 0, 0, 0, 3, "AAA", 1, 600),
     ("END s\n", 600, "", 65_536, 0, 0, 0, 4, "AAAE", 2, 600),
-    ("", 0, "QUIT\nEND s\n", 16, 0, 3, 0, 9, "wwwQ", 1, 0),
-    ("", 0, "QUIT\nEND s\n", 16, 0, 0, 2, 9, "wwQ", 1, 0),
+    ("", 0, "QUIT\nEND s\n", 16, 0, 3, 0, 9, "sssQ", 1, 0),
+    ("", 0, "QUIT\nEND s\n", 16, 0, 0, 2, 9, "ssQ", 1, 0),
     (
         "",
         0,
@@ -385,7 +390,7 @@ const TURNS: [(&str, usize, &str, usize, u64, u64, u64, u32, &str, u64, u64); 9]
         2,
         0,
         9,
-        "wwH",
+        "ssH",
         1,
         2,
     ),

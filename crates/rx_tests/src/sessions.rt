@@ -347,12 +347,12 @@ fn writes_of(size: usize, left: usize) -> Writes {
 
 // The bytes of a write, how many of them are left for the next line, and the least that a read is asked for.
 const WRITES: [(usize, usize, u64); 6] = [
-    (65_536, 0, 65_536),
-    (60_000, 0, 65_536),
-    (60_000, 1, 65_535),
-    (64_435, 1_101, 64_435),
-    (65_536, 1_102, 65_536),
-    (60_000, 30_000, 65_536),
+    (8_192, 0, 8_192),
+    (7_000, 0, 8_192),
+    (7_000, 1, 8_191),
+    (7_091, 1_101, 7_091),
+    (8_192, 1_102, 8_192),
+    (7_000, 3_000, 8_192),
 ];
 
 // Before a read what is left of a line goes to the front of its block: up to 1,101 bytes, and none of a longer one. So writes
