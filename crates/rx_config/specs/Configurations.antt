@@ -16,7 +16,7 @@ use Rattle.rx_config.specs.declared.fault.Fault.TheVariants as faults
 use Rattle.rx_config.specs.declared.pool.Pool.{Pool}
 use Rattle.rx_config.specs.declared.subject_config.SubjectConfig.{SubjectConfig}
 use Rattle.toml.specs.Parse.{parse_document}
-use Rattle.toml.specs.Data.{Data, Items, no_items, item, Members, no_members, member, get_member, as_str, as_integer, as_array, as_table}
+use Rattle.toml.specs.Data.{Data, Items, no_items, item, Members, no_members, member, get_member, as_str, as_integer, as_bool, as_array, as_table}
 
 -- WHAT IS READ
 
@@ -34,10 +34,10 @@ abbrev pub subject_of_config : SubjectConfig → Subject
 subject_of_config config = record { name = config.name; rules = config.rules }
 
 abbrev pub settings_of : Config → Settings
-settings_of config = record { subjects = map subject_of_config config.subjects.items; pool = record { drainers = config.drainers; workers = config.workers; window = config.window; connections = config.connections; stall = config.stall } }
+settings_of config = record { subjects = map subject_of_config config.subjects.items; pool = record { drainers = config.drainers; workers = config.workers; window = config.window; connections = config.connections; stall = config.stall; idle = config.idle; takeover = config.takeover } }
 
 abbrev pub standard_pool : Pool
-standard_pool = record { drainers = 1; workers = 4; window = 16; connections = 4294967295; stall = 60 }
+standard_pool = record { drainers = 1; workers = 4; window = 16; connections = 4294967295; stall = 60; idle = None; takeover = false }
 
 -- one Publish subject `s`, with the greatest limits
 abbrev pub standard_settings : Settings
@@ -85,12 +85,22 @@ bound_or most (Some value) = option_map Some (number_of most value)
 abbrev pub bound_at : List ℕ → ℕ → Members → Option (Option ℕ)
 bound_at key most members = bound_or most (get_member key members)
 
+-- FLAGS
+
+-- the flag that a key may have
+abbrev pub flag_or : Option Data → Option Bool
+flag_or None = Some false
+flag_or (Some value) = as_bool value
+
+abbrev pub flag_at : List ℕ → Members → Option Bool
+flag_at key members = flag_or (get_member key members)
+
 -- THE POOL
 
-abbrev pub pool_with : Option ℕ → Option ℕ → Option ℕ → Option ℕ → Option ℕ → Option Pool
-pool_with (Some drainers) (Some workers) (Some window) (Some connections) (Some stall) =
-    Some (record { drainers = drainers; workers = workers; window = window; connections = connections; stall = stall })
-pool_with _ _ _ _ _ = None
+abbrev pub pool_with : Option ℕ → Option ℕ → Option ℕ → Option ℕ → Option ℕ → Option (Option ℕ) → Option Bool → Option Pool
+pool_with (Some drainers) (Some workers) (Some window) (Some connections) (Some stall) (Some idle) (Some takeover) =
+    Some (record { drainers = drainers; workers = workers; window = window; connections = connections; stall = stall; idle = idle; takeover = takeover })
+pool_with _ _ _ _ _ _ _ = None
 
 -- the numbers are in their ranges
 pub record IsInRange (pool : Pool) : Type 0 where
@@ -101,13 +111,13 @@ pub record IsInRange (pool : Pool) : Type 0 where
   pub stall : (1 ≤ pool.stall) × (pool.stall ≤ 3600)
 
 abbrev pub pool_keys : List (List ℕ)
-pool_keys = codes "drainers" ∷ codes "workers" ∷ codes "window" ∷ codes "connections" ∷ codes "stall" ∷ []
+pool_keys = codes "drainers" ∷ codes "workers" ∷ codes "window" ∷ codes "connections" ∷ codes "stall" ∷ codes "idle" ∷ codes "takeover" ∷ []
 
 abbrev pub pool_in : Members → Option Pool
 pool_in members =
     if has_only pool_keys members
     then pool_with (number_at (codes "drainers") 8 1 members) (number_at (codes "workers") 32 4 members) (number_at (codes "window") 16 16 members) (number_at (codes "connections") 4294967295 4294967295 members)
-    (number_at (codes "stall") 3600 60 members)
+    (number_at (codes "stall") 3600 60 members) (bound_at (codes "idle") 86400 members) (flag_at (codes "takeover") members)
     else None
 
 -- the pool, which may be missing

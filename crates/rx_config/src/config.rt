@@ -20,6 +20,10 @@ pub struct Config {
     pub connections: u32,
     /// How long a peer may take no byte while some wait for it, 1 to 3,600 seconds.
     pub stall: u16,
+    /// How long a session may send nothing before it is ended, 1 to 86,400 seconds; as long as it likes, where there is none.
+    pub idle: Option<u64>,
+    /// Whether a socket at the path of the server on which nobody listens any more is removed.
+    pub takeover: bool,
     ghost subjects_in_range: { (1 ≤ vec_len subjects) × (vec_len subjects ≤ 16) },
     ghost drainers_in_range: { (1 ≤ drainers) × (drainers ≤ 8) },
     ghost workers_in_range: { (1 ≤ workers) × (workers ≤ 32) },
@@ -59,6 +63,8 @@ impl Config {
             window: 16,
             connections: u32::MAX,
             stall: 60,
+            idle: None,
+            takeover: false,
         })
     }
 }

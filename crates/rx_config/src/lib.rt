@@ -11,6 +11,7 @@ mod config;
 mod config_error;
 mod entry;
 mod fault;
+mod flags;
 mod keys;
 mod numbers;
 mod pool;

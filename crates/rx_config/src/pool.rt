@@ -1,7 +1,8 @@
 ghost use Rattle.std.specs.Prelude.{◌≡◌, IfSome};
 
 use crate::keys::{has_only, value_at};
-use crate::numbers::number_at;
+use crate::flags::flag_at;
+use crate::numbers::{bound_at, number_at};
 use toml::Table;
 
 /// What `pool` says: how many threads there are, and what they take on.
@@ -12,6 +13,8 @@ pub(crate) struct Pool {
     pub(crate) window: u8,
     pub(crate) connections: u32,
     pub(crate) stall: u16,
+    pub(crate) idle: Option<u64>,
+    pub(crate) takeover: bool,
 }
 
 impl Pool {
@@ -29,6 +32,8 @@ impl Pool {
             window: 16,
             connections: u32::MAX,
             stall: 60,
+            idle: None,
+            takeover: false,
         }
     }
 
@@ -53,7 +58,15 @@ impl Pool {
     {
         if !has_only(
             table,
-            &["drainers", "workers", "window", "connections", "stall"],
+            &[
+                "drainers",
+                "workers",
+                "window",
+                "connections",
+                "stall",
+                "idle",
+                "takeover",
+            ],
         ) {
             return None;
         }
@@ -62,12 +75,16 @@ impl Pool {
         let window = number_at(table, "window", 16, 16)?;
         let connections = number_at(table, "connections", u32::MAX, u32::MAX)?;
         let stall = number_at(table, "stall", 3_600, 60)?;
+        let idle = bound_at(table, "idle", 86_400)?;
+        let takeover = flag_at(table, "takeover")?;
         Some(Pool {
             drainers: drainers as u8,
             workers: workers as u8,
             window: window as u8,
             connections,
             stall: stall as u16,
+            idle,
+            takeover,
         })
     }
 }

@@ -50,6 +50,8 @@ fn config_in(alloc: Heap, table: &Table) -> Result<Config, ConfigError>
             window: pool.window,
             connections: pool.connections,
             stall: pool.stall,
+            idle: pool.idle,
+            takeover: pool.takeover,
         }),
     }
 }

@@ -187,17 +187,6 @@ fn stop_all(rt: &impl Host, paths: &Paths, peers: usize) -> Vec<Peer> {
     all
 }
 
-// The rest of a line.
-fn skip_line(peer: &mut Peer) {
-    for _ in 0..16 {
-        let mut byte = [0; 1];
-        peer.fills(&mut byte);
-        if byte == *b"\n" {
-            return;
-        }
-    }
-}
-
 // Emits all items, each of which a reader hears before the next is emitted, and then the end.
 fn emit_for(rt: &impl Host, paths: &Paths, reader: &mut Peer) -> bool {
     let mut producer = Peer::connected(rt, paths);
@@ -217,7 +206,7 @@ fn talk_beside_twenty(rt: &impl Host, paths: &Paths) -> bool {
     let never = stop_all(rt, paths, 20);
     let mut reader = stopped(rt, paths, b"BUFFER DELAY");
     reader.hears(b"JOINED ");
-    skip_line(&mut reader);
+    reader.skips_line();
     let emitted = emit_for(rt, paths, &mut reader);
     emitted && reader.is_right() && never.iter().all(Peer::is_right)
 }

@@ -154,6 +154,17 @@ impl Peer {
         }
     }
 
+    /// Whatever comes next up to an LF is passed over.
+    pub(crate) fn skips_line(&mut self) {
+        let mut byte = [0; 1];
+        for _ in 0..64 {
+            self.fills(&mut byte);
+            if byte == *b"\n" {
+                return;
+            }
+        }
+    }
+
     /// These bytes are to come next, and then nothing any more.
     pub(crate) fn hears_last(&mut self, wanted: &[u8]) {
         self.hears(wanted);

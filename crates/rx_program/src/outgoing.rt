@@ -1,7 +1,8 @@
+use crate::link::Link;
 use rx_heap::Heap;
 use std::io;
 use std::io::{ErrorKind, Write};
-use std::os::unix::net::UnixStream;
+use std::net::Shutdown;
 use std::time::{Clock, Duration};
 
 /// How many bytes wait for a peer at most: 64 notes of the greatest length, in the second version, a terminal, and the first
@@ -18,7 +19,7 @@ const MOST_WRITES: u32 = 1_000;
 /// write; a flush sends as much of it as the socket takes. Where that is not all it is `WouldBlock`, and the rest waits: a
 /// further flush goes on with it. Once the peer took no byte for too long a flush is `TimedOut`.
 pub struct Outgoing<C: Clock + Drop> {
-    stream: UnixStream,
+    link: Link,
     clock: C,
     waiting: Vec<u8, Heap>,
     // How long the peer may take no byte while some wait for it.
@@ -28,27 +29,30 @@ pub struct Outgoing<C: Clock + Drop> {
 }
 
 // What still waits is tried once more, and waits no longer: a drainer that leaves has flushed it for as long as any may wait.
+// Then the peer hears the end, though the reading half may still be watched.
 impl<C: Clock + Drop> Drop for Outgoing<C> {
     fn drop(self) {
         let Outgoing {
-            mut stream,
+            link,
             clock: _,
             waiting,
             stall: _,
             stuck_since: _,
         } = self;
-        if !waiting.is_empty() && stream.set_nonblocking(true).is_ok() {
+        if !waiting.is_empty() {
+            let mut stream = &*link;
             let _ = stream.write(waiting.as_slice());
         }
+        let _ = link.shutdown(Shutdown::Both);
     }
 }
 
 impl<C: Clock + Drop> Outgoing<C> {
     /// The writing half of a connection. What waits takes this memory. A flush has failed once the peer took no byte for so
     /// long while some waited for it.
-    pub fn new(stream: UnixStream, clock: C, alloc: Heap, stall: Duration) -> Outgoing<C> {
+    pub fn new(link: Link, clock: C, alloc: Heap, stall: Duration) -> Outgoing<C> {
         Outgoing {
-            stream,
+            link,
             clock,
             waiting: Vec::new(alloc),
             stall,
@@ -66,7 +70,8 @@ impl<C: Clock + Drop> Outgoing<C> {
             if rest.is_empty() {
                 return (sent, Ok(()));
             }
-            match self.stream.write(rest) {
+            let mut stream = &*self.link;
+            match stream.write(rest) {
                 Ok(0) => return (sent, Err(io::Error::from(ErrorKind::WriteZero))),
                 Ok(more) => sent = sent.saturating_add(more),
                 Err(fault) if fault.kind() == ErrorKind::Interrupted => {}
@@ -74,18 +79,6 @@ impl<C: Clock + Drop> Outgoing<C> {
             }
         }
         (sent, Err(io::Error::from(ErrorKind::WouldBlock)))
-    }
-
-    // Sees whether the peer is gone, where nothing waits for it: then a write of no bytes fails, and it doesn't where a peer
-    // only ended what it writes. While a session reads from the socket, which its writes then wait for, the session sees to that.
-    fn look(&mut self) -> io::Result<()> {
-        let Ok(None) = self.stream.write_timeout() else {
-            return Ok(());
-        };
-        match self.stream.write(&[]) {
-            Err(fault) if is_gone(fault.kind()) => Err(fault),
-            _ => Ok(()),
-        }
     }
 
     // The fault of a socket that takes no more bytes now: they wait, but not for ever where it takes none at all.
@@ -109,11 +102,13 @@ impl<C: Clock + Drop> Outgoing<C> {
 impl<C: Clock + Drop> Write for Outgoing<C> {
     fn write(&mut self, bytes: &[u8]) -> io::Result<usize> {
         if self.waiting.is_empty() && bytes.len() >= BLOCK {
-            return self.stream.write(bytes);
+            let mut stream = &*self.link;
+            return stream.write(bytes);
         }
         if self.waiting.len().saturating_add(bytes.len()) > MOST_WAITING {
             self.flush()?;
-            return self.stream.write(bytes);
+            let mut stream = &*self.link;
+            return stream.write(bytes);
         }
         match self.waiting.extend_from_slice(bytes) {
             Ok(()) => Ok(bytes.len()),
@@ -123,7 +118,7 @@ impl<C: Clock + Drop> Write for Outgoing<C> {
 
     fn flush(&mut self) -> io::Result<()> {
         if self.waiting.is_empty() {
-            return self.look();
+            return Ok(());
         }
         let (sent, ended) = self.send();
         self.waiting.drain(..sent.min(self.waiting.len()));
@@ -136,9 +131,4 @@ impl<C: Clock + Drop> Write for Outgoing<C> {
             }
         }
     }
-}
-
-// Whether nobody reads what is written any more.
-fn is_gone(kind: ErrorKind) -> bool {
-    matches!(kind, ErrorKind::BrokenPipe | ErrorKind::ConnectionReset)
 }

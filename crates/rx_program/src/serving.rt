@@ -13,7 +13,6 @@ use rx_proto::Name;
 use rx_server::{CloseFault, Report, ServeFault, SubjectReport};
 use rx_sink::LineRest;
 use std::io::Write;
-use std::time::Duration;
 
 /// Serves a configuration on a new Unix socket of this path, until as many connections have ended as it says. Once it listens
 /// it tells so on `faults`; at the end it writes the report, one line a subject, also after a fault of serving.
@@ -35,8 +34,7 @@ pub fn serve_on<F: Host, W: Write, E: Write>(
     let Ok(names) = Names::of(heap, &config) else {
         return Err(ProgramFault::Memory);
     };
-    let stall = Duration::from_secs(u64::from(config.stall));
-    let site = Site::at(rt, heap, path, stall)?;
+    let site = Site::at(rt, heap, path, &config)?;
     let ended = site.serve(rt, config, path, faults)?;
     let reported = told(&names, &ended.closed, writer);
     end_of(ended.served, reported, faults)

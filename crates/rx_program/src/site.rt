@@ -4,21 +4,25 @@ ghost use Rattle.rx_program.specs.Programs.{MayServe};
 use crate::clocked::Clocked;
 use crate::ended::Ended;
 use crate::host::Host;
+use crate::listening::listen;
 use crate::outgoing::Outgoing;
 use crate::program_fault::ProgramFault;
 use crate::socket::Socket;
+use crate::terms::Terms;
 use rx_config::Config;
 use rx_heap::Heap;
 use rx_server::start;
 use rx_sink::LineSink;
 use std::io::Write;
 use std::os::unix::net::UnixListener;
-use std::time::Duration;
 
-/// What a server is served by: the socket that it listens on, the clock of its moments, the memory for what its desks leave,
-/// and its own memory.
+/// What a server is served by: the socket that it listens on, the terms of its peers, the memory for what waits for them, the
+/// clock of its moments, the memory for what its desks leave, and its own memory.
 pub struct Site<F: Host> {
-    socket: Socket<F>,
+    listener: UnixListener,
+    host: F,
+    terms: Terms,
+    waiting: Heap,
     clock: F,
     heap: Heap,
     own: Heap,
@@ -28,7 +32,10 @@ pub struct Site<F: Host> {
 impl<F: Host> Drop for Site<F> {
     fn drop(self) {
         let Site {
-            socket: _,
+            listener: _,
+            host: _,
+            terms: _,
+            waiting: _,
             clock: _,
             heap: _,
             own: _,
@@ -37,15 +44,14 @@ impl<F: Host> Drop for Site<F> {
 }
 
 impl<F: Host> Site<F> {
-    /// A new Unix socket of this path, whose peers may take no byte for so long while some wait. Refused by `Memory` before
-    /// `Listen`.
-    pub fn at(rt: &F, heap: &Heap, path: &str, stall: Duration) -> Result<Site<F>, ProgramFault>
+    /// A new Unix socket of this path, by a configuration. Refused by `Memory` before `Listen`.
+    pub fn at(rt: &F, heap: &Heap, path: &str, config: &Config) -> Result<Site<F>, ProgramFault>
         ensures { MatchResult result (λ _. Unit {0}) MayServe }
     {
         let Ok(clock) = rt.clone() else {
             return Err(ProgramFault::Memory);
         };
-        let Ok(own_clock) = rt.clone() else {
+        let Ok(host) = rt.clone() else {
             return Err(ProgramFault::Memory);
         };
         let Ok(own) = heap.clone() else {
@@ -57,9 +63,12 @@ impl<F: Host> Site<F> {
         let Ok(heap) = heap.clone() else {
             return Err(ProgramFault::Memory);
         };
-        match UnixListener::bind(rt, path) {
+        match listen(rt, path, config.takeover) {
             Ok(listener) => Ok(Site {
-                socket: Socket::new(listener, own_clock, waiting, stall),
+                listener,
+                host,
+                terms: Terms::of(config),
+                waiting,
                 clock,
                 heap,
                 own,
@@ -82,7 +91,10 @@ impl<F: Host> Site<F> {
         ensures { MatchResult result (λ _. Unit {0}) MayServe }
     {
         let Site {
-            mut socket,
+            listener,
+            host,
+            terms,
+            waiting,
             clock,
             heap,
             own,
@@ -92,7 +104,9 @@ impl<F: Host> Site<F> {
             Err(fault) => return Err(ProgramFault::Start(fault)),
         };
         let _ = writeln!(faults, "rxline: listening on {path}");
+        let mut socket = Socket::new(listener, host, waiting, terms, faults);
         let served = server.serve(rt, &mut socket, Clocked::new(clock));
+        drop(socket);
         Ok(Ended {
             served,
             closed: server.close(rt, Vec::new(heap)),

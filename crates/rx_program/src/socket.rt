@@ -1,92 +1,143 @@
+use crate::host::Host;
 use crate::incoming::Incoming;
 use crate::outgoing::Outgoing;
+use crate::polling::{Polling, Ring};
+use crate::terms::Terms;
 use rx_heap::Heap;
-use rx_server::{AcceptFault, Listener};
-use std::io::ErrorKind;
+use rx_server::{AcceptFault, Listener, Watch, WatchFault};
+use std::io;
+use std::io::{ErrorKind, Write};
 use std::os::unix::net::{UnixListener, UnixStream};
-use std::time::{Clock, Duration};
+use std::sync::Arc;
+use std::thread;
+use std::time::Duration;
 
-/// How long an answer waits at most for a peer that doesn't read, in milliseconds: past it the write has failed.
-pub const MAX_WAIT: u64 = 250;
+// How long it pauses where there is no descriptor or no memory for a connection, in milliseconds.
+const PAUSE: u64 = 10;
 
-/// How often in a row a connection may be gone before it was accepted.
-const MAX_TRIES: u32 = 1_000;
-
-/// The connections of a Unix socket. What is written to one waits for its peer in this memory.
-pub struct Socket<C: Clock + Clone + Drop> {
+/// The connections of a Unix socket. What is written to one waits for its peer in this memory. A connection that can't be had
+/// is given up alone; where there are no descriptors or no memory for one, the first time is told on `faults`, and it waits for
+/// some.
+pub struct Socket<'a, F: Host, E: Write> {
     listener: UnixListener,
-    clock: C,
+    host: F,
     heap: Heap,
-    stall: Duration,
+    terms: Terms,
+    faults: &'a mut E,
+    is_told: bool,
 }
 
 // It stands here, and isn't derived, so that what lets go of a socket is one call that is proved once.
-impl<C: Clock + Clone + Drop> Drop for Socket<C> {
+impl<'a, F: Host, E: Write> Drop for Socket<'a, F, E> {
     fn drop(self) {
         let Socket {
             listener: _,
-            clock: _,
+            host: _,
             heap: _,
-            stall: _,
+            terms: _,
+            faults: _,
+            is_told: _,
         } = self;
     }
 }
 
-impl<C: Clock + Clone + Drop> Socket<C> {
-    /// The connections that come to this listener. A peer is given up once it took no byte for so long while some waited.
-    pub fn new(listener: UnixListener, clock: C, heap: Heap, stall: Duration) -> Socket<C> {
+impl<'a, F: Host, E: Write> Socket<'a, F, E> {
+    /// The connections that come to this listener, each on these terms.
+    pub fn new(
+        listener: UnixListener,
+        host: F,
+        heap: Heap,
+        terms: Terms,
+        faults: &'a mut E,
+    ) -> Socket<'a, F, E> {
         Socket {
             listener,
-            clock,
+            host,
             heap,
-            stall,
+            terms,
+            faults,
+            is_told: false,
         }
     }
 
-    // The half of a connection that is read, and the half that is written.
-    fn halves(&self, stream: UnixStream) -> Result<(Incoming, Outgoing<C>), AcceptFault> {
-        let Ok(clock) = self.clock.clone() else {
-            return Err(AcceptFault);
-        };
-        let Ok(heap) = self.heap.clone() else {
-            return Err(AcceptFault);
-        };
-        let Ok(()) = stream.set_write_timeout(Some(Duration::from_millis(MAX_WAIT))) else {
-            return Err(AcceptFault);
-        };
-        match stream.try_clone() {
-            Ok(reader) => {
-                let writer = Outgoing::new(stream, clock, heap, self.stall);
-                Ok((Incoming::new(reader), writer))
-            }
-            Err(_) => Err(AcceptFault),
+    // The half of a connection that is read, and the half that is written. Neither waits.
+    fn halves(&self, stream: UnixStream) -> io::Result<(Incoming<F>, Outgoing<F>)> {
+        stream.set_nonblocking(true)?;
+        let reading = self.host.clone()?;
+        let writing = self.host.clone()?;
+        let waiting = self.heap.clone()?;
+        let link = Arc::new(self.heap.clone()?, stream)?;
+        let other = Arc::try_clone(&link)?;
+        Ok((
+            Incoming::new(link, reading, self.terms.idle),
+            Outgoing::new(other, writing, waiting, self.terms.stall),
+        ))
+    }
+
+    // What one more worker waits by.
+    fn polled(&self) -> io::Result<Watch<Polling<F>, Ring>> {
+        let readiness = Polling::new(self.host.clone()?, &self.heap, self.terms.idle)?;
+        let bell = readiness.bell()?;
+        Ok(Watch { readiness, bell })
+    }
+
+    // Pauses, and tells why the first time.
+    fn pause(&mut self, fault: &io::Error) {
+        if !self.is_told {
+            self.is_told = true;
+            let _ = writeln!(self.faults, "rxline: connections wait: {fault}");
         }
+        thread::sleep(&self.host, Duration::from_millis(PAUSE));
     }
 }
 
-impl<C: Clock + Clone + Drop + Send + 'static> Listener for Socket<C> {
-    type Reader = Incoming;
+impl<'a, F: Host, E: Write> Listener for Socket<'a, F, E> {
+    type Reader = Incoming<F>;
 
-    type Writer = Outgoing<C>;
+    type Writer = Outgoing<F>;
+
+    type Readiness = Polling<F>;
+
+    type Bell = Ring;
 
     // What a socket did no contract tells.
     ghost accepts = { λ _ _ _. Unit {0} };
 
     ghost fails = { λ _ _. Unit {0} };
 
-    fn accept_one(&mut self) -> Result<(Incoming, Outgoing<C>), AcceptFault> {
-        for _ in 0..MAX_TRIES {
+    fn accept_one(&mut self) -> Result<(Incoming<F>, Outgoing<F>), AcceptFault> {
+        let Ok(host) = self.host.clone() else {
+            return Err(AcceptFault);
+        };
+        for _ in host.forever() {
             match self.listener.accept() {
-                Ok((stream, _)) => return self.halves(stream),
+                Ok((stream, _)) => {
+                    if let Ok(halves) = self.halves(stream) {
+                        return Ok(halves);
+                    }
+                }
                 Err(fault) if is_passing(fault.kind()) => {}
+                Err(fault) if is_shortage(&fault) => self.pause(&fault),
                 Err(_) => return Err(AcceptFault),
             }
         }
         Err(AcceptFault)
+    }
+
+    fn watch(&self) -> Result<Watch<Polling<F>, Ring>, WatchFault> {
+        match self.polled() {
+            Ok(watch) => Ok(watch),
+            Err(_) => Err(WatchFault),
+        }
     }
 }
 
 // Whether the next accept may do better: the call was interrupted, or the connection is gone.
 fn is_passing(kind: ErrorKind) -> bool {
     matches!(kind, ErrorKind::Interrupted | ErrorKind::ConnectionAborted)
+}
+
+// Whether it failed for want of memory (12, 105) or of descriptors (23, 24), as Linux numbers its errors.
+fn is_shortage(fault: &io::Error) -> bool {
+    matches!(fault.raw_os_error(), Some(12 | 23 | 24 | 105))
 }

@@ -28,8 +28,16 @@ fn told<W: Write>(out: &mut W, config: &Config) -> io::Result<()> {
         window,
         connections,
         stall,
+        idle,
+        takeover,
     } = config;
     write!(out, "{drainers} {workers} {window} {connections} {stall}")?;
+    if let Some(idle) = idle {
+        write!(out, " idle {idle}")?;
+    }
+    if *takeover {
+        out.write_all(b" takeover")?;
+    }
     for subject in subjects {
         tell_subject(out, subject)?;
     }
@@ -304,6 +312,29 @@ const EDGES: [(&str, &str, &str); 61] = [
     ),
     (POOL, "stall = 0\n", "pool is refused"),
     (POOL, "stall = 3601\n", "pool is refused"),
+    (
+        POOL,
+        "idle = 1\n",
+        "1 4 16 4294967295 60 idle 1; s 64 4294967295 4294967295 async",
+    ),
+    (
+        POOL,
+        "idle = 86400\n",
+        "1 4 16 4294967295 60 idle 86400; s 64 4294967295 4294967295 async",
+    ),
+    (POOL, "idle = 0\n", "pool is refused"),
+    (POOL, "idle = 86401\n", "pool is refused"),
+    (
+        POOL,
+        "takeover = true\n",
+        "1 4 16 4294967295 60 takeover; s 64 4294967295 4294967295 async",
+    ),
+    (
+        POOL,
+        "takeover = false\n",
+        "1 4 16 4294967295 60; s 64 4294967295 4294967295 async",
+    ),
+    (POOL, "takeover = 1\n", "pool is refused"),
 ];
 
 #[test]

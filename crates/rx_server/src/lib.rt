@@ -30,8 +30,9 @@ pub use report::{Report, SubjectReport};
 pub use rx_config::{Config, ConfigError, SubjectConfig, read_config};
 pub use rx_session::response_to;
 pub use rx_workers::{
-    AcceptFault, AcceptStop, Listener, MAX_READS, Moments, RunningWorker, ServeFault, SessionDesk,
-    SharedMoments, Worker, WorkerEnd, accept_all, serve_connections, serve_one, start_worker,
+    AcceptFault, AcceptStop, Aim, Bell, Joined, Listener, Moments, Readiness, Ready, RunningWorker,
+    ServeFault, SessionDesk, SharedMoments, Watch, WatchFault, Worker, WorkerEnd, accept_all,
+    serve_connections, start_worker,
 };
 pub use server::{Server, start};
 pub use start_fault::{Role, StartCause, StartFault};

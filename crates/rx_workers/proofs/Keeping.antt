@@ -1,5 +1,5 @@
 -- What each call of a session's desk keeps, a session keeps.
-use Rattle.std.proofs.Common.{◌≡◌, ℕ, List, [], ◌∷◌, Option, Result, Ok, Err, refl, sym, ap, subst, ◌∙◌, inl, inr}
+use Rattle.std.proofs.Common.{◌≡◌, ℕ, Bool, true, false, List, [], ◌∷◌, ◌++◌, Option, Result, Ok, Err, refl, sym, ap, subst, ◌∙◌, inl, inr}
 use Rattle.rx_note.specs.Choices.{Choice}
 use Rattle.rx_note.specs.declared.note.Note.{Note}
 use Rattle.rx_note.specs.declared.note.Note.TheVariants.{Next, Completed, Failed}
@@ -9,10 +9,17 @@ use Rattle.rx_proto.specs.declared.command.Command.TheVariants.{Pub, End, Fail, 
 use Rattle.rx_proto.specs.declared.line_error.BadLine.{BadLine}
 use Rattle.rx_proto.specs.declared.response.Response.{Response}
 use Rattle.rx_proto.specs.declared.version.Version.{Version}
+use Rattle.rx_session.specs.OpenSessions.{IsOpen, IsOver, Reaches, Sits}
 use Rattle.rx_session.specs.Sessions.{Parties, Place, Outcome, Emits, Lacks, Goes, Faults, Stops, RunsOut, Serves}
+use Rattle.rx_session.specs.Lines.{lines_of}
+use Rattle.rx_session.specs.Steps.{unread}
+use Rattle.rx_session.specs.Turns.{hands}
 use Rattle.rx_session.specs.declared.follow.Follow.{Follow}
 use Rattle.rx_session.specs.declared.follow.Follow.TheVariants.{Taken, Back}
 use Rattle.rx_session.specs.declared.input_end.InputEnd.{InputEnd}
+use Rattle.rx_session.specs.declared.open_session.OpenSession.{OpenSession}
+use Rattle.rx_session.specs.declared.turn.Turn.{Turn}
+use Rattle.rx_session.specs.declared.turn.Turn.TheVariants.{Again, Waits, Stuck, Over}
 
 module _ {D W : Type 0} (p : Parties D W) (P : D → Type 0)
     (by_emit : (d : D) (name : List ℕ) (note : Note) (r : Response) (e : D) → p.emits d name note r e → P d → P e)
@@ -68,3 +75,28 @@ module _ {D W : Type 0} (p : Parties D W) (P : D → Type 0)
   serves_keeps left input at (line ∷ lines) out (inl f) had = fault_keeps at out f had
   serves_keeps left input at (line ∷ lines) out (inr (inl s)) had = stop_keeps (session_read line) at out s had
   serves_keeps left input at (line ∷ lines) out (inr (inr g)) had = serves_keeps left input g.0 lines out g.2 (goes_keeps (session_read line) at g.0 g.1 had)
+
+  -- lines that it went through
+  reaches_keeps : (at : Place D W) (lines : List (List ℕ)) (last : Place D W) → Reaches p at lines last → P at.desk → P last.desk
+  reaches_keeps at [] last r had = subst P (sym (ap (λ (x : Place D W). x.desk) r)) had
+  reaches_keeps at (line ∷ lines) last r had = reaches_keeps r.0 lines last r.2 (goes_keeps (session_read line) at r.0 r.1 had)
+
+  -- a session that is under way
+  open_keeps : (start : Place D W) (first : List ℕ) (read_old read_now : Option (List ℕ)) (desk : D) (writer : W) (version : Version) (held : List ℕ) (quits skips : Bool) (bytes : List ℕ)
+      → IsOpen p start first read_old read_now (hands desk writer version held) quits skips bytes → P start.desk → P desk
+  open_keeps start first read_old read_now desk writer version held false skips bytes l had =
+      subst P l.is_at.desk_is (reaches_keeps start l.through.lines l.at l.through.reached had)
+  open_keeps start first read_old read_now desk writer version held true skips bytes l had =
+      subst P l.is_at.desk_is (reaches_keeps start l.through.lines l.at l.through.reached had)
+
+  -- a turn
+  pub sits_keeps : (result : Turn W) (start : Place D W) (first : List ℕ) (read_old read_new : Option (List ℕ)) (desk : D) (session : OpenSession)
+      → Sits p result start first read_old read_new desk session → P start.desk → P desk
+  sits_keeps (Again writer) start first read_old read_new desk session s had =
+      open_keeps start first read_old read_new desk writer session.version session.outbox session.quits session.feed.skips (unread session.feed.lines) s had
+  sits_keeps (Waits writer) start first read_old read_new desk session s had =
+      open_keeps start first read_old read_new desk writer session.version session.outbox session.quits session.feed.skips (unread session.feed.lines) s had
+  sits_keeps (Stuck writer) start first read_old read_new desk session s had =
+      open_keeps start first read_old read_new desk writer session.version session.outbox session.quits session.feed.skips (unread session.feed.lines) s had
+  sits_keeps (Over end back) start first read_old read_new desk session s had =
+      serves_keeps read_new s.input start (lines_of (first ++ s.read)) (record { end = end; desk = desk; back = back }) s.served had

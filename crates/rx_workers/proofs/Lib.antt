@@ -1,5 +1,6 @@
 pub mod Crews
 pub mod Dealing
 pub mod Keeping
+pub mod Places
 pub mod Sessions
 pub mod Working

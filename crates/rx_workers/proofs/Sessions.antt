@@ -1,22 +1,31 @@
 -- What a session keeps of its desk.
-use Rattle.std.proofs.Common.{◌≡◌, ℕ, List, [], Option, None, Some, MatchOption, refl, sym, subst, ◌∙◌}
+use Rattle.std.proofs.Common.{◌≡◌, ◌<◌, ℕ, Bool, true, false, List, [], ◌∷◌, ◌++◌, length, replicate, Option, None, Some, MatchOption, refl, sym, ap, subst, ◌∙◌, zero, suc, inl, inr, arith}
+use Rattle.std.proofs.KnownBytes.{Appends-nil}
+use Rattle.std.proofs.lemmas.Bool.{cases_Bool, true≢false}
+use Rattle.std.proofs.lemmas.List.{length-replicate}
+use Rattle.rx_proto.specs.LineFeeds.{HasNoLf}
 use Rattle.rx_note.specs.Choices.{Choice}
 use Rattle.rx_note.specs.declared.note.Note.{Note}
 use Rattle.rx_proto.specs.declared.response.Response.{Response}
 use Rattle.rx_proto.specs.declared.response.Response.TheVariants.{Refused}
 use Rattle.rx_proto.specs.declared.version.Version.{Version}
-use Rattle.rx_proto.specs.declared.version.Version.TheVariants.{One}
 use Rattle.rx_proto.specs.declared.word.Word.TheVariants as words
 use Rattle.rx_pump.specs.Desks.{DeskView, KeepsDesk}
-use Rattle.rx_session.specs.Lines.{lines_of}
-use Rattle.rx_session.specs.Sessions.{parties}
+use Rattle.rx_session.specs.Feeds.{IsRest}
+use Rattle.rx_session.specs.OpenSessions.{IsOpen}
+use Rattle.rx_session.specs.Sessions.{Place}
+use Rattle.rx_session.specs.Steps.{unread}
+use Rattle.rx_session.specs.Turns.{Hands, hands, IsAt}
 use Rattle.rx_session.specs.declared.follow.Follow.{Follow}
 use Rattle.rx_session.specs.declared.follow.Follow.TheVariants.{Back}
-use Rattle.rx_session.specs.declared.session_end.SessionEnd.{SessionEnd}
+use Rattle.rx_session.specs.declared.open_session.OpenSession.{OpenSession}
+use Rattle.rx_session.specs.declared.turn.Turn.{Turn}
+use Rattle.rx_session.proofs.ByTurns.{Through-begun}
 use Rattle.rx_sink.specs.declared.line_sink.LineSink.{LineSink}
-use Rattle.rx_workers.specs.Connections.{IsServed}
 use Rattle.rx_workers.specs.SessionDesks.{SessionView, KeepsSession, place_of, emits, follows, EmitsAt, FollowsAt}
-use Rattle.rx_workers.proofs.Keeping.{serves_keeps}
+use Rattle.rx_workers.specs.Working.{TakesTurn, calls}
+use Rattle.rx_workers.specs.declared.client.Talk.{Talk}
+use Rattle.rx_workers.proofs.Keeping.{sits_keeps}
 
 module _ {S : Type 0} where
   -- nothing happened to a desk
@@ -36,7 +45,7 @@ module _ {M S : Type 0} where
   keeps-then a b c p q = record { subjects = q.subjects ∙ p.subjects; window = q.window ∙ p.window; calls = desk_keeps-then a.calls b.calls c.calls p.calls q.calls }
 
   -- nothing changed
-  keeps-equal : (a b : SessionView M S) → b ≡ a → KeepsSession a b
+  pub keeps-equal : (a b : SessionView M S) → b ≡ a → KeepsSession a b
   keeps-equal a b e = subst (λ (x : SessionView M S). KeepsSession a x) (sym e) (keeps-same a)
 
 -- in both cases
@@ -58,12 +67,48 @@ module _ {M W : Type 0} (tells : M → ℕ → M → Type 0) where
       match_option (place_of name s.subjects) ((f ≡ Back (Refused words.Subject) writer) × (t ≡ s)) (FollowsAt tells s policy version writer f t) (KeepsSession s t)
       (λ x. keeps-equal s t x.1) (λ subject x. x.1.kept) e
 
-  -- a session keeps the desk
-  pub session_keeps : (contents : W → Option (List ℕ)) (read_old read_new : Option (List ℕ)) (before after : SessionView M (LineSink W)) (writer : W) (end : SessionEnd)
-      → IsServed tells contents read_old read_new before writer end after → KeepsSession before after
-  session_keeps contents read_old read_new before after writer end served =
-      serves_keeps (parties (emits tells) (follows tells) contents) (λ (s : SessionView M (LineSink W)). KeepsSession before s)
-      (λ d name note r e by had. keeps-then before d e had (emit_keeps d name note r e by))
-      (λ d name c v w f e by had. keeps-then before d e had (follow_keeps d name c v w f e by))
-      read_new served.0 (record { desk = before; writer = writer; version = One; told = [] }) (lines_of served.2.read)
-      (record { end = end; desk = after; back = served.1 }) served.2.served (keeps-same before)
+-- bytes that are no LF
+no_lfs : (count : ℕ) → HasNoLf (replicate count 120)
+no_lfs zero = tt
+no_lfs (suc count) = (λ (e : 120 ≡ 10). omega (arith, e), no_lfs count)
+
+-- whatever is unread, something was read and not told
+a_rest : (skips : Bool) (bytes : List ℕ) → (rest : List ℕ) × IsRest skips bytes rest
+a_rest true bytes =
+    let gone : List ℕ = replicate 1102 120 in
+    (gone ++ bytes, record { gone = gone; kind = omega (arith, length-replicate {A = ℕ} 1102 120); passed = no_lfs 1102; parts = refl })
+a_rest false bytes = (bytes, record { gone = []; kind = refl; passed = tt; parts = refl })
+
+module _ {M C W : Type 0} (tells : M → ℕ → M → Type 0) (remaining : C → Option (List ℕ)) (contents : W → Option (List ℕ)) where
+  -- a session that reads may stand anywhere
+  stands_open : (desk : SessionView M (LineSink W)) (writer : W) (version : Version) (held : List ℕ) (known : Option (List ℕ)) (quits skips : Bool) (bytes : List ℕ) → quits ≡ false
+      → (rest : List ℕ) × IsOpen (calls tells remaining contents) (record { desk = desk; writer = writer; version = version; told = held }) rest known known (hands desk writer version held) quits skips bytes
+  stands_open desk writer version held known true skips bytes is = absurd (true≢false is)
+  stands_open desk writer version held known false skips bytes is =
+      let at : Place (SessionView M (LineSink W)) W = record { desk = desk; writer = writer; version = version; told = held } in
+      let r = a_rest skips bytes in (
+        r.0,
+        record {
+          at = at;
+          rest = r.0;
+          through = Through-begun (calls tells remaining contents) at known r.0;
+          is_rest = r.1;
+          is_at = record { desk_is = refl; version_is = refl; written = []; since = Appends-nil (contents writer); parts = refl };
+        },
+      )
+
+  -- a turn keeps the desk
+  pub turn_keeps : (result : Turn W) (talk : Talk C W) (reader : C) (session_after : OpenSession) (before after : SessionView M (LineSink W))
+      → TakesTurn tells remaining contents result talk reader session_after before after → KeepsSession before after
+  turn_keeps result talk reader session_after before after turn = elim (cases_Bool talk.session.value.quits) [
+    | inl quits ↦ keeps-equal before after (turn.quits quits)
+    | inr reads ↦
+        let session = talk.session.value in
+        let known = remaining talk.reader in
+        let o = stands_open before talk.writer session.version session.outbox known session.quits session.feed.skips (unread session.feed.lines) reads in
+        let start : Place (SessionView M (LineSink W)) W = record { desk = before; writer = talk.writer; version = session.version; told = session.outbox } in
+        sits_keeps (calls tells remaining contents) (λ (s : SessionView M (LineSink W)). KeepsSession before s)
+        (λ d name note r e by had. keeps-then before d e had (emit_keeps tells d name note r e by))
+        (λ d name c v w f e by had. keeps-then before d e had (follow_keeps tells d name c v w f e by))
+        result start o.0 known (remaining reader) after session_after (turn.sits start o.0 known o.1) (keeps-same before)
+  ]

@@ -1,77 +1,273 @@
--- How far a worker has come.
-use Rattle.std.proofs.Common.{◌≡◌, ℕ, ◌+◌, ◌-◌, ◌^◌, min, List, [], ◌∷◌, ◌++◌, length, Option, refl, sym, ap, subst, ◌∙◌, append_assoc, append-nil}
+-- What a worker has done, deed by deed.
+use Rattle.std.proofs.Common.{◌≡◌, ◌≢◌, ◌⊎◌, ℕ, ◌+◌, ◌-◌, ◌^◌, min, List, [], ◌∷◌, ◌++◌, length, Option, None, Some, refl, sym, ap, subst, ◌∙◌, inl, inr, append_assoc}
+use Rattle.std.specs.List.{All}
+use Rattle.std.proofs.lemmas.Bool.{cases_eq}
 use Rattle.std.proofs.lemmas.List.{length-append}
-use Rattle.rx_mailbox.specs.Boxes.{Incoming, with_letter}
-use Rattle.rx_mailbox.specs.Letters.{letter}
-use Rattle.rx_mailbox.specs.declared.letter.Post.TheVariants.{Body}
+use Rattle.std.proofs.lemmas.List.Elements.{All-nil, All-push, All-weaker}
+use Rattle.rx_mailbox.specs.Boxes.{Incoming}
 use Rattle.rx_pump.specs.Desks.{DeskView}
 use Rattle.rx_pump.specs.Pumps.{counted}
 use Rattle.rx_pump.proofs.Pumping.{counted-more}
+use Rattle.rx_session.specs.Among.{among}
+use Rattle.rx_session.specs.OpenSessions.{Sitting, Sits, first_place}
+use Rattle.rx_session.specs.declared.open_session.OpenSession.{OpenSession}
+use Rattle.rx_session.specs.declared.turn.Turn.{Turn}
+use Rattle.rx_session.specs.declared.turn.Turn.TheVariants.{Again, Waits, Stuck, Over}
+use Rattle.rx_session.proofs.Amongst.{Sitting-then}
+use Rattle.rx_session.proofs.ByTurns.{IsOver-session, Sitting-new}
 use Rattle.rx_sink.specs.declared.line_sink.LineSink.{LineSink}
+use Rattle.rx_workers.specs.Clients.{AreSame, IsQuiet, IsTalk, Sets, client_at}
 use Rattle.rx_workers.specs.SessionDesks.{SessionView, KeepsSession}
 use Rattle.rx_config.specs.declared.subject_config.SubjectConfig.{SubjectConfig}
+use Rattle.rx_workers.specs.declared.client.Client.{Client}
+use Rattle.rx_workers.specs.declared.client.Client.TheVariants.{Talks, Follows}
+use Rattle.rx_workers.specs.declared.client.Talk.{Talk}
+use Rattle.rx_workers.specs.declared.joined.Joined.{Joined}
 use Rattle.rx_workers.specs.declared.worker_end.WorkerEnd.{WorkerEnd}
 use Rattle.rx_workers.specs.Workers.{view_of_end}
-use Rattle.rx_workers.specs.Working.{WorkerView, worker, HasStopped, ServesOne, Works, HasWorked}
-use Rattle.rx_workers.proofs.Sessions.{keeps-same, keeps-then}
+use Rattle.rx_workers.specs.Working.{WorkerView, worker, State, state, Deed, Admitted, GivenUp, Dismissed, Turned, Parted, admitted, Begins, IsTalkOf, Leaves, HasTurn, Does, Works, Goes, IsServed, HasWorked, calls}
+use Rattle.rx_workers.proofs.Sessions.{keeps-equal, keeps-same, keeps-then, turn_keeps}
+
+module _ {C W : Type 0} where
+  -- something that is said of a session, said of a client
+  abbrev OnTalk : (Talk C W → Type 0) → Option (Client C W) → Type 0
+  OnTalk Q None = Unit {0}
+  OnTalk Q (Some (Talks talk)) = Q talk
+  OnTalk Q (Some (Follows follower)) = Unit {0}
+
+  -- the session at a place is one session
+  one_talk : (Q : Talk C W → Type 0) (client : Option (Client C W)) (talk other : Talk C W) → client ≡ Some (Talks talk) → client ≡ Some (Talks other) → Q talk → Q other
+  one_talk Q client talk other is is_other had = subst (λ (c : Option (Client C W)). OnTalk Q c) (sym is ∙ is_other) had
+
+  -- where a session is under way nobody else is
+  no_talk : (client was : Option (Client C W)) (talk : Talk C W) → client ≡ was → ¬ IsTalk was → client ≡ Some (Talks talk) → ⊥
+  no_talk client was talk is none is_talk = none (subst (λ (c : Option (Client C W)). IsTalk c) (sym is_talk ∙ is) tt)
 
 module _ {M C W : Type 0} (tells : M → ℕ → M → Type 0) (remaining : C → Option (List ℕ)) (contents : W → Option (List ℕ)) where
-  -- some connections were served, and from here the worker goes on
-  pub record SoFar (start now : WorkerView M C W) (sessions : ℕ) : Type 0 where
-    pub done : List (C × W)
-    pub goes_on : (more : List (C × W)) (after : WorkerView M C W) → Works tells remaining contents now more after → Works tells remaining contents start (done ++ more) after
-    pub kept : KeepsSession start.session now.session
-    pub count : sessions ≡ counted (length done)
+  -- nothing was done
+  pub Goes-same : (s : State M C W) → Goes tells remaining contents s s
+  Goes-same s = ([], refl)
 
-  -- no connection was served yet
-  pub SoFar-begun : (start : WorkerView M C W) → SoFar start start 0
-  SoFar-begun start = record { done = []; goes_on = λ more after w. w; kept = keeps-same start.session; count = refl }
+  -- one deed
+  pub Goes-one : (deed : Deed (C × W)) (before after : State M C W) → Does tells remaining contents deed before after → Goes tells remaining contents before after
+  Goes-one deed before after does = (deed ∷ [], (before, refl, does))
 
-  -- one connection more
-  pub SoFar-one : (start now : WorkerView M C W) (sessions sessions_after from : ℕ) (connection : C × W) (next : SessionView M (LineSink W)) (inbox : Incoming (C × W))
-      → SoFar start now sessions → inbox ≡ with_letter now.inbox (letter from (Body connection)) → ServesOne tells remaining contents now.session connection next
-      → KeepsSession now.session next → sessions_after ≡ min (sessions + 1) (2 ^ 64 - 1) → SoFar start (worker next inbox) sessions_after
-  SoFar-one start now sessions sessions_after from connection next inbox so got one kept more_by_one =
-      let then : (i : Incoming (C × W)) → WorkerView M C W = λ i. worker next i in
-      let goes_on : (more : List (C × W)) (after : WorkerView M C W) → Works tells remaining contents (then inbox) more after → Works tells remaining contents start ((so.done ++ connection ∷ []) ++ more) after =
-      λ more after w.
-      subst (λ (cs : List (C × W)). Works tells remaining contents start cs after) (sym (append_assoc so.done (connection ∷ []) more))
-      (so.goes_on (connection ∷ more) after (from, next, one, subst (λ (i : Incoming (C × W)). Works tells remaining contents (then i) more after) got w)) in
-      let longer : length so.done + 1 ≡ length (so.done ++ connection ∷ []) = sym (length-append so.done (connection ∷ [])) in
+  -- deeds after deeds
+  works-then : (first more : List (Deed (C × W))) (a b c : State M C W) → Works tells remaining contents first a b → Works tells remaining contents more b c
+      → Works tells remaining contents (more ++ first) a c
+  works-then first [] a b c p q = subst (λ (s : State M C W). Works tells remaining contents first a s) (sym q) p
+  works-then first (deed ∷ more) a b c p q = (q.0, works-then first more a b q.0 p q.1, q.2)
+
+  pub Goes-then : (a b c : State M C W) → Goes tells remaining contents a b → Goes tells remaining contents b c → Goes tells remaining contents a c
+  Goes-then a b c p q = (q.0 ++ p.0, works-then p.0 q.0 a b c p.1 q.1)
+
+  -- WHAT A DEED KEEPS OF THE DESK
+  does_keeps : (deed : Deed (C × W)) (before after : State M C W) → Does tells remaining contents deed before after → KeepsSession before.session after.session
+  does_keeps (Admitted connection place) before after d = keeps-equal before.session after.session d.2
+  does_keeps (GivenUp connection) before after d = keeps-equal before.session after.session d.2
+  does_keeps Dismissed before after d = keeps-equal before.session after.session d.2
+  does_keeps (Turned place) before after d = turn_keeps tells remaining contents d.result d.talk d.reader d.session before.session after.session d.turn
+  does_keeps (Parted place) before after d = d.1.kept
+
+  works_keeps : (deeds : List (Deed (C × W))) (before after : State M C W) → Works tells remaining contents deeds before after → KeepsSession before.session after.session
+  works_keeps [] before after w = keeps-equal before.session after.session (ap (λ (s : State M C W). s.session) w)
+  works_keeps (deed ∷ deeds) before after w =
+      keeps-then before.session w.0.session after.session (works_keeps deeds before w.0 w.1) (does_keeps deed w.0 after w.2)
+
+  -- HOW MANY SESSIONS BEGAN
+  works_count : (deeds : List (Deed (C × W))) (before after : State M C W) → Works tells remaining contents deeds before after → before.sessions ≡ 0
+      → after.sessions ≡ counted (length (admitted deeds))
+  works_count [] before after w none = ap (λ (s : State M C W). s.sessions) w ∙ none
+  works_count (Admitted x place ∷ deeds) before after w none =
+      w.2.4 ∙ ap (λ n. min (n + 1) (2 ^ 64 - 1)) (works_count deeds before w.0 w.1 none) ∙ counted-more (length (admitted deeds))
+      ∙ ap counted (sym (length-append (admitted deeds) (x ∷ [])))
+  works_count (GivenUp x ∷ deeds) before after w none = w.2.4 ∙ works_count deeds before w.0 w.1 none
+  works_count (Dismissed ∷ deeds) before after w none = w.2.4 ∙ works_count deeds before w.0 w.1 none
+  works_count (Turned place ∷ deeds) before after w none = w.2.sessions ∙ works_count deeds before w.0 w.1 none
+  works_count (Parted place ∷ deeds) before after w none = w.2.4 ∙ works_count deeds before w.0 w.1 none
+
+  -- EACH CONNECTION HAS ITS SESSION
+
+  -- a session is under way that began with a connection, among others
+  pub record IsUnderWay (connection : C × W) (talk : Talk C W) : Type 0 where
+    pub begun : SessionView M (LineSink W)
+    pub now : SessionView M (LineSink W)
+    pub sitting : Sitting (among (calls tells remaining contents)) (first_place begun connection.1) [] (remaining connection.0) (remaining talk.reader) now talk.writer talk.session.value
+
+  -- it stands at a place
+  record StandsAt (clients : List (Option (Client C W))) (connection : C × W) : Type 0 where
+    pub place : ℕ
+    pub talk : Talk C W
+    pub there : client_at place clients ≡ Some (Talks talk)
+    pub under_way : IsUnderWay connection talk
+
+  -- it does, or the connection was served
+  abbrev IsKnown : List (Option (Client C W)) → C × W → Type 0
+  IsKnown clients connection = StandsAt clients connection ⊎ IsServed tells remaining contents connection
+
+  -- a connection that was given a place
+  known_new : (place : ℕ) (before after : List (Option (Client C W))) (connection : C × W) (talk : Talk C W) (desk : SessionView M (LineSink W))
+      → Begins connection talk → Sets place before after None (Some (Talks talk)) → IsKnown after connection
+  known_new place before after connection talk desk begins sets =
+      let p = among (calls tells remaining contents) in
+      let fresh = Sitting-new p talk.session.value desk talk.writer (remaining talk.reader) begins.is_new in
+      inl (record {
+        place = place;
+        talk = talk;
+        there = sets.is_there;
+        under_way = record {
+          begun = desk;
+          now = desk;
+          sitting =
+              subst (λ (w : W). Sitting p (first_place desk w) [] (remaining connection.0) (remaining talk.reader) desk talk.writer talk.session.value) begins.writer_is
+              (subst (λ (c : C). Sitting p (first_place desk talk.writer) [] (remaining c) (remaining talk.reader) desk talk.writer talk.session.value) begins.reader_is fresh);
+        };
+      })
+
+  -- it stands where it stood
+  known_there : (before after : List (Option (Client C W))) (connection : C × W) (s : StandsAt before connection) → client_at s.place after ≡ client_at s.place before → IsKnown after connection
+  known_there before after connection s same = inl (record { place = s.place; talk = s.talk; there = same ∙ s.there; under_way = s.under_way })
+
+  -- nobody went
+  known_same : (before after : List (Option (Client C W))) (connection : C × W) → AreSame before after → IsKnown before connection → IsKnown after connection
+  known_same before after connection same (inl s) = known_there before after connection s (same s.place)
+  known_same before after connection same (inr served) = inr served
+
+  -- where no session was another client is now, or none
+  known_beside : (place : ℕ) (before after : List (Option (Client C W))) (was is : Option (Client C W)) (connection : C × W)
+      → Sets place before after was is → ¬ IsTalk was → IsKnown before connection → IsKnown after connection
+  known_beside place before after was is connection sets none (inr served) = inr served
+  known_beside place before after was is connection sets none (inl s) = elim (cases_eq s.place place) [
+    | inl here ↦ absurd (no_talk (client_at place before) was s.talk sets.was_there none (subst (λ (n : ℕ). client_at n before ≡ Some (Talks s.talk)) here s.there))
+    | inr else ↦ known_there before after connection s (sets.others s.place else)
+  ]
+
+  -- a session that goes on
+  goes_on : (place : ℕ) (after : List (Option (Client C W))) (connection : C × W) (begun now : SessionView M (LineSink W)) (reader : C) (writer : W) (session : OpenSession) (left : Option (Client C W))
+      → (talk : Talk C W) × (left ≡ Some (Talks talk)) × IsTalkOf reader writer session talk → client_at place after ≡ left
+      → Sitting (among (calls tells remaining contents)) (first_place begun connection.1) [] (remaining connection.0) (remaining reader) now writer session → IsKnown after connection
+  goes_on place after connection begun now reader writer session left leaves there sitting =
+      let p = among (calls tells remaining contents) in
+      let start = first_place begun connection.1 in
+      let talk = leaves.0 in
+      let is = leaves.2 in
+      inl (record {
+        place = place;
+        talk = talk;
+        there = there ∙ leaves.1;
+        under_way = record {
+          begun = begun;
+          now = now;
+          sitting =
+              subst (λ (o : OpenSession). Sitting p start [] (remaining connection.0) (remaining talk.reader) now talk.writer o) (sym is.session_is)
+              (subst (λ (w : W). Sitting p start [] (remaining connection.0) (remaining talk.reader) now w session) (sym is.writer_is)
+              (subst (λ (c : C). Sitting p start [] (remaining connection.0) (remaining c) now writer session) (sym is.reader_is) sitting));
+        };
+      })
+
+  -- what a turn made of a session under way
+  known_turned : (result : Turn W) (place : ℕ) (after : List (Option (Client C W))) (connection : C × W) (begun now : SessionView M (LineSink W)) (reader : C) (session : OpenSession) (joined : Option Joined)
+      (left : Option (Client C W)) → Leaves result reader session joined left → client_at place after ≡ left
+      → Sits (among (calls tells remaining contents)) result (first_place begun connection.1) [] (remaining connection.0) (remaining reader) now session → IsKnown after connection
+  known_turned (Again writer) place after connection begun now reader session joined left leaves there sits = goes_on place after connection begun now reader writer session left leaves there sits
+  known_turned (Waits writer) place after connection begun now reader session joined left leaves there sits = goes_on place after connection begun now reader writer session left leaves there sits
+  known_turned (Stuck writer) place after connection begun now reader session joined left leaves there sits = goes_on place after connection begun now reader writer session left leaves there sits
+  known_turned (Over end back) place after connection begun now reader session joined left leaves there sits =
+      let over = IsOver-session (among (calls tells remaining contents)) begun connection.1 (remaining connection.0) (remaining reader) (record { end = end; desk = now; back = back }) sits in
+      inr (record { reader = reader; input = over.0; before = begun; after = now; end = end; back = back; session = over.1 })
+
+  -- the session at this place had a turn
+  known_turn : (place : ℕ) (before after : State M C W) (connection : C × W) → HasTurn tells remaining contents place before after
+      → IsKnown before.clients connection → IsKnown after.clients connection
+  known_turn place before after connection t (inr served) = inr served
+  known_turn place before after connection t (inl s) = elim (cases_eq s.place place) [
+    | inr else ↦ known_there before.clients after.clients connection s (t.sets.others s.place else)
+    | inl here ↦
+        let there : client_at place before.clients ≡ Some (Talks s.talk) = subst (λ (n : ℕ). client_at n before.clients ≡ Some (Talks s.talk)) here s.there in
+        let u : IsUnderWay connection t.talk = one_talk (IsUnderWay connection) (client_at place before.clients) s.talk t.talk there t.sets.was_there s.under_way in
+        let sat =
+        Sitting-then (calls tells remaining contents) (first_place u.begun connection.1) [] (remaining connection.0) (remaining t.talk.reader) (remaining t.reader) u.now before.session after.session
+        t.talk.writer t.talk.session.value t.session t.result u.sitting t.turn.sits in
+        known_turned t.result place after.clients connection u.begun sat.0 t.reader t.session after.session.joined t.left t.leaves t.sets.is_there sat.1
+  ]
+
+  -- one deed more
+  known_by : (deed : Deed (C × W)) (before after : State M C W) (connection : C × W) → Does tells remaining contents deed before after
+      → IsKnown before.clients connection → IsKnown after.clients connection
+  known_by (Admitted x place) before after connection d known = known_beside place before.clients after.clients None (Some (Talks d.1.0)) connection d.1.2 (λ no. no) known
+  known_by (GivenUp x) before after connection d known = known_same before.clients after.clients connection d.1 known
+  known_by Dismissed before after connection d known = known_same before.clients after.clients connection d.1 known
+  known_by (Turned place) before after connection d known = known_turn place before after connection d known
+  known_by (Parted place) before after connection d known = known_beside place before.clients after.clients (Some (Follows d.0)) None connection d.2 (λ no. no) known
+
+  -- so all
+  all_by : (deed : Deed (C × W)) (before after : State M C W) (connections : List (C × W)) → Does tells remaining contents deed before after
+      → All (IsKnown before.clients) connections → All (IsKnown after.clients) connections
+  all_by deed before after connections d known = All-weaker (IsKnown before.clients) (IsKnown after.clients) (λ c is. known_by deed before after c d is) connections known
+
+  -- each connection that was given a place is known
+  works_known : (deeds : List (Deed (C × W))) (before after : State M C W) → Works tells remaining contents deeds before after → All (IsKnown after.clients) (admitted deeds)
+  works_known [] before after w = All-nil (IsKnown after.clients)
+  works_known (Admitted x place ∷ deeds) before after w =
+      All-push (IsKnown after.clients) (admitted deeds) x (all_by (Admitted x place) w.0 after (admitted deeds) w.2 (works_known deeds before w.0 w.1))
+      (known_new place w.0.clients after.clients x w.2.1.0 w.0.session w.2.1.1 w.2.1.2)
+  works_known (GivenUp x ∷ deeds) before after w = all_by (GivenUp x) w.0 after (admitted deeds) w.2 (works_known deeds before w.0 w.1)
+  works_known (Dismissed ∷ deeds) before after w = all_by Dismissed w.0 after (admitted deeds) w.2 (works_known deeds before w.0 w.1)
+  works_known (Turned place ∷ deeds) before after w = all_by (Turned place) w.0 after (admitted deeds) w.2 (works_known deeds before w.0 w.1)
+  works_known (Parted place ∷ deeds) before after w = all_by (Parted place) w.0 after (admitted deeds) w.2 (works_known deeds before w.0 w.1)
+
+  -- where no session is under way a connection that is known was served
+  known_served : (clients : List (Option (Client C W))) (connection : C × W) → IsQuiet clients → IsKnown clients connection → IsServed tells remaining contents connection
+  known_served clients connection quiet (inr served) = served
+  known_served clients connection quiet (inl s) = absurd (no_talk (client_at s.place clients) (client_at s.place clients) s.talk refl (quiet s.place) s.there)
+
+  all_served : (clients : List (Option (Client C W))) (connections : List (C × W)) → IsQuiet clients → All (IsKnown clients) connections → All (IsServed tells remaining contents) connections
+  all_served clients connections quiet known = All-weaker (IsKnown clients) (IsServed tells remaining contents) (λ c is. known_served clients c quiet is) connections known
+
+  -- THE WHOLE
+  pub has_worked : (session : SessionView M (LineSink W)) (inbox : Incoming (C × W)) (after : State M C W) → Goes tells remaining contents (state session inbox [] 0) after → IsQuiet after.clients
+      → HasWorked tells remaining contents (worker session inbox) (worker after.session after.inbox) after.sessions
+  has_worked session inbox after goes quiet =
+      let before : State M C W = state session inbox [] 0 in
       record {
-        done = so.done ++ connection ∷ [];
-        goes_on = goes_on;
-        kept = keeps-then start.session now.session next so.kept kept;
-        count = more_by_one ∙ ap (λ n. min (n + 1) (2 ^ 64 - 1)) so.count ∙ counted-more (length so.done) ∙ ap counted longer;
-      }
-
-  -- no connection came any more
-  pub SoFar-over : (start now : WorkerView M C W) (sessions : ℕ) (inbox : Incoming (C × W)) → SoFar start now sessions → HasStopped now.inbox inbox
-      → HasWorked tells remaining contents start (worker now.session inbox) sessions
-  SoFar-over start now sessions inbox so stopped =
-      let last : WorkerView M C W = worker now.session inbox in
-      record {
-        connections = so.done;
-        works = subst (λ (cs : List (C × W)). Works tells remaining contents start cs last) (append-nil so.done) (so.goes_on [] last (refl, stopped));
-        kept = so.kept;
-        sessions_are = so.count;
+        deeds = goes.0;
+        clients = after.clients;
+        works = goes.1;
+        is_quiet = quiet;
+        served = all_served after.clients (admitted goes.0) quiet (works_known goes.0 before after goes.1);
+        kept = works_keeps goes.0 before after goes.1;
+        sessions_are = works_count goes.0 before after goes.1 refl;
       }
 
 -- a session's desk of which these parts are known
-session_is : {S : Type 0} (session : SessionView (Unit {0}) S) (subjects : List SubjectConfig) (window : ℕ) (calls : DeskView S)
-    → session.subjects ≡ subjects → session.window ≡ window → session.calls ≡ calls → session ≡ record { subjects = subjects; window = window; moments = tt; calls = calls }
-session_is session subjects window calls same_subjects same_window same_calls =
-    ap (λ s. record { subjects = s; window = session.window; moments = tt; calls = session.calls }) same_subjects
-    ∙ ap (λ w. record { subjects = subjects; window = w; moments = tt; calls = session.calls }) same_window
-    ∙ ap (λ c. record { subjects = subjects; window = window; moments = tt; calls = c }) same_calls
+session_is : {S : Type 0} (session : SessionView (Unit {0}) S) (subjects : List SubjectConfig) (window : ℕ) (desk : DeskView S)
+    → session.subjects ≡ subjects → session.window ≡ window → session.calls ≡ desk → session ≡ record { subjects = subjects; window = window; moments = tt; calls = desk; joined = session.joined }
+session_is session subjects window desk same_subjects same_window same_calls =
+    ap (λ s. record { subjects = s; window = session.window; moments = tt; calls = session.calls; joined = session.joined }) same_subjects
+    ∙ ap (λ w. record { subjects = subjects; window = w; moments = tt; calls = session.calls; joined = session.joined }) same_window
+    ∙ ap (λ c. record { subjects = subjects; window = window; moments = tt; calls = c; joined = session.joined }) same_calls
 
 module _ {C W : Type 0} (tells : Unit {0} → ℕ → Unit {0} → Type 0) (remaining : C → Option (List ℕ)) (contents : W → Option (List ℕ)) where
   -- a worker that has worked, by what it left
   pub worked-end : (before : WorkerView (Unit {0}) C W) (session after : SessionView (Unit {0}) (LineSink W)) (inbox : Incoming (C × W)) (end : WorkerEnd C W) (sessions : ℕ)
       → before ≡ worker session inbox → end.desk ≡ after.calls → HasWorked tells remaining contents (worker session inbox) (worker after end.inbox) sessions
-      → HasWorked tells remaining contents before (view_of_end before end) sessions
+      → (joined : Option Joined) × HasWorked tells remaining contents before (view_of_end before joined end) sessions
   worked-end before session after inbox end sessions begins desk worked =
       let H : WorkerView (Unit {0}) C W → Type 0 = λ w. HasWorked tells remaining contents w (worker after end.inbox) sessions in
       let from : H before = subst H (sym begins) worked in
-      let left : after ≡ (view_of_end before end).session = session_is after before.session.subjects before.session.window end.desk from.kept.subjects from.kept.window (sym desk) in
-      subst (λ (s : SessionView (Unit {0}) (LineSink W)). HasWorked tells remaining contents before (worker s end.inbox) sessions) left from
+      let left : after ≡ (view_of_end before after.joined end).session = session_is after before.session.subjects before.session.window end.desk from.kept.subjects from.kept.window (sym desk) in
+      (after.joined, subst (λ (s : SessionView (Unit {0}) (LineSink W)). HasWorked tells remaining contents before (worker s end.inbox) sessions) left from)
+
+  -- so a worker has that was at work
+  pub worker-ended : (before : WorkerView (Unit {0}) C W) (session : SessionView (Unit {0}) (LineSink W)) (inbox : Incoming (C × W)) (begun shift : State (Unit {0}) C W) (end : WorkerEnd C W)
+      → before ≡ worker session inbox → begun ≡ state session inbox [] 0 → Goes tells remaining contents begun shift → IsQuiet shift.clients
+      → end.desk ≡ shift.session.calls → end.inbox ≡ shift.inbox → end.sessions ≡ shift.sessions
+      → (joined : Option Joined) × HasWorked tells remaining contents before (view_of_end before joined end) end.sessions
+  worker-ended before session inbox begun shift end begins begun_is goes quiet desk inbox_is sessions_are =
+      let from : Goes tells remaining contents (state session inbox [] 0) shift = subst (λ (s : State (Unit {0}) C W). Goes tells remaining contents s shift) begun_is goes in
+      let all = has_worked tells remaining contents session inbox shift from quiet in
+      let counted_so : HasWorked tells remaining contents (worker session inbox) (worker shift.session shift.inbox) end.sessions =
+      subst (λ (n : ℕ). HasWorked tells remaining contents (worker session inbox) (worker shift.session shift.inbox) n) (sym sessions_are) all in
+      let left : HasWorked tells remaining contents (worker session inbox) (worker shift.session end.inbox) end.sessions =
+      subst (λ (i : Incoming (C × W)). HasWorked tells remaining contents (worker session inbox) (worker shift.session i) end.sessions) (sym inbox_is) counted_so in
+      worked-end before session shift.session inbox end end.sessions begins desk left

@@ -1,5 +1,5 @@
 pub mod Accepting
-pub mod Connections
+pub mod Clients
 pub mod Crews
 pub mod Responses
 pub mod SessionDesks

@@ -1,10 +1,13 @@
 -- What a session's desk does: it makes one call to the subject of a name, and answers by what came of it (this project's
 -- own rule).
-use Rattle.std.specs.Prelude.{◌≡◌, ℕ, true, false, List, Option, None, Some, MatchOption, Result, Err, position, if◌then◌else◌}
+use Rattle.std.specs.Prelude.{◌≡◌, ◌<◌, ◌≤◌, ℕ, true, false, List, length, Option, None, Some, MatchOption, Result, Ok, Err, position, if◌then◌else◌}
 use Rattle.rx_note.specs.Choices.{Choice}
+use Rattle.rx_note.specs.declared.answer.Answer.{Answer}
+use Rattle.rx_note.specs.declared.answer.Answer.TheVariants as answers
 use Rattle.rx_note.specs.declared.event.Event.{Event}
-use Rattle.rx_note.specs.declared.event.Event.TheVariants.{Emit, Join}
+use Rattle.rx_note.specs.declared.event.Event.TheVariants.{Emit, Join, Dispose}
 use Rattle.rx_note.specs.declared.note.Note.{Note}
+use Rattle.rx_note.specs.declared.refusal.Refusal.{Refusal}
 use Rattle.rx_proto.specs.Reading.{same_word}
 use Rattle.rx_proto.specs.declared.response.Response.{Response}
 use Rattle.rx_proto.specs.declared.response.Response.TheVariants.{Refused}
@@ -18,15 +21,17 @@ use Rattle.rx_session.specs.declared.follow.Follow.{Follow}
 use Rattle.rx_session.specs.declared.follow.Follow.TheVariants.{Taken, Back}
 use Rattle.rx_sink.specs.declared.line_sink.LineSink.{LineSink}
 use Rattle.rx_workers.specs.Responses.{response_of, has_joined, sink_in}
+use Rattle.rx_workers.specs.declared.joined.Joined.{Joined}
 use Rattle.rx_config.specs.declared.subject_config.SubjectConfig.{SubjectConfig}
 
 -- a session's desk: the subjects, by whose names it finds them, the first request of an observer, where its moments come
--- from, and the desk that makes its calls
+-- from, the desk that makes its calls, and whom its last Join made
 pub record SessionView (M S : Type 0) : Type 0 where
   pub subjects : List SubjectConfig
   pub window : ℕ
   pub moments : M
   pub calls : DeskView S
+  pub joined : Option Joined
 
 -- the place of the first subject of a name
 abbrev pub place_of : List ℕ → List SubjectConfig → Option ℕ
@@ -53,6 +58,19 @@ module _ {W : Type 0} where
   abbrev pub followed : Result (Reply (LineSink W)) (CallError (LineSink W)) → Follow W
   followed answered = if has_joined answered then Taken else back_with (response_of answered) (sink_in answered)
 
+-- whom an answer of the subject at this place made
+abbrev pub joined_in : ℕ → Result Answer Refusal → Option Joined
+joined_in subject (Ok answers.Admitted) = None
+joined_in subject (Ok (answers.Joined who)) = Some (record { subject = subject; who = who })
+joined_in subject (Ok answers.Asked) = None
+joined_in subject (Ok answers.Left) = None
+joined_in subject (Err refusal) = None
+
+-- whom a call to the subject at this place made
+abbrev pub joined_by : {S : Type 0} → ℕ → Result (Reply S) (CallError S) → Option Joined
+joined_by subject (Ok reply) = joined_in subject reply.result
+joined_by subject (Err error) = None
+
 module _ {M W : Type 0} (tells : M → ℕ → M → Type 0) where
   -- a moment was told, and one call made to a subject with the event at that moment; the rest is as it was
   pub record CallsOnce (before after : SessionView M (LineSink W)) (subject : ℕ) (event : ℕ → Event) (sink : Option (LineSink W)) (answered : Result (Reply (LineSink W)) (CallError (LineSink W))) : Type 0 where
@@ -66,7 +84,7 @@ module _ {M W : Type 0} (tells : M → ℕ → M → Type 0) where
   abbrev pub EmitsAt : SessionView M (LineSink W) → Note → Response → SessionView M (LineSink W) → ℕ → Type 0
   EmitsAt before note response after subject =
       (answered : Result (Reply (LineSink W)) (CallError (LineSink W))) × CallsOnce before after subject (λ at. Emit note at) None answered
-      × (response ≡ response_of answered)
+      × (response ≡ response_of answered) × (after.joined ≡ before.joined)
 
   -- an Emit at the subject of a name; without such a subject no call is made
   abbrev pub emits : SessionView M (LineSink W) → List ℕ → Note → Response → SessionView M (LineSink W) → Type 0
@@ -79,9 +97,18 @@ module _ {M W : Type 0} (tells : M → ℕ → M → Type 0) where
   FollowsAt before policy version writer result after subject =
       (answered : Result (Reply (LineSink W)) (CallError (LineSink W)))
       × CallsOnce before after subject (λ at. Join policy before.window at) (Some (line_sink version writer)) answered × (result ≡ followed answered)
+      × (after.joined ≡ joined_by subject answered)
 
   -- a Join at the subject of a name; without such a subject no call is made, and the writer comes back
   abbrev pub follows : SessionView M (LineSink W) → List ℕ → Choice → Version → W → Follow W → SessionView M (LineSink W) → Type 0
   follows before name policy version writer result after =
       MatchOption (place_of name before.subjects) ((result ≡ Back (Refused words.Subject) writer) × (after ≡ before))
       (FollowsAt before policy version writer result after)
+
+module _ {M W : Type 0} where
+  -- the observer was disposed of, by a call to its subject; without such a subject no call is made
+  pub record Disposes (before : SessionView M (LineSink W)) (observer : Joined) (after : SessionView M (LineSink W)) : Type 0 where
+    pub called : observer.subject < length before.subjects → (answered : Result (Reply (LineSink W)) (CallError (LineSink W))) × Called before.calls after.calls observer.subject (Dispose observer.who) None answered
+    pub none : length before.subjects ≤ observer.subject → after ≡ before
+    pub kept : KeepsSession before after
+    pub joined : after.joined ≡ before.joined

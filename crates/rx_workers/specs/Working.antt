@@ -1,13 +1,29 @@
--- What a worker does: it serves the connections that it receives, one after another (this project's own rule).
-use Rattle.std.specs.Prelude.{◌≡◌, ◌⊎◌, ℕ, List, [], ◌∷◌, length, Option}
+-- What a worker does: it serves the connections that it receives, each by a session that has its turns among those of the
+-- others (this project's own rule).
+use Rattle.std.specs.Prelude.{◌≡◌, ◌⊎◌, ◌+◌, ◌-◌, ◌^◌, min, ℕ, Bool, true, List, [], ◌∷◌, ◌++◌, length, Option, None, Some, MatchOption, option_map}
+use Rattle.std.specs.List.{All}
 use Rattle.rx_mailbox.specs.Boxes.{Incoming, with_letter}
 use Rattle.rx_mailbox.specs.Letters.{letter}
 use Rattle.rx_mailbox.specs.declared.letter.Post.TheVariants.{Body, Bye}
 use Rattle.rx_pump.specs.Pumps.{counted}
+use Rattle.rx_session.specs.Among.{among}
+use Rattle.rx_session.specs.OpenSessions.{IsNew, Sitting, Sits}
+use Rattle.rx_session.specs.Sessions.{Parties, Place, Session, parties}
+use Rattle.rx_session.specs.declared.input_end.InputEnd.{InputEnd}
+use Rattle.rx_session.specs.declared.open_session.OpenSession.{OpenSession}
 use Rattle.rx_session.specs.declared.session_end.SessionEnd.{SessionEnd}
+use Rattle.rx_session.specs.declared.session_end.SessionEnd.TheVariants as ends
+use Rattle.rx_session.specs.declared.turn.Turn.{Turn}
+use Rattle.rx_session.specs.declared.turn.Turn.TheVariants.{Again, Waits, Stuck, Over}
 use Rattle.rx_sink.specs.declared.line_sink.LineSink.{LineSink}
-use Rattle.rx_workers.specs.Connections.{IsServed}
-use Rattle.rx_workers.specs.SessionDesks.{SessionView, KeepsSession}
+use Rattle.rx_workers.specs.Clients.{AreSame, IsQuiet, Sets}
+use Rattle.rx_workers.specs.SessionDesks.{SessionView, KeepsSession, Disposes, emits, follows}
+use Rattle.rx_workers.specs.declared.client.Client.{Client}
+use Rattle.rx_workers.specs.declared.client.Client.TheVariants.{Talks, Follows}
+use Rattle.rx_workers.specs.declared.client.Follower.{Follower}
+use Rattle.rx_workers.specs.declared.client.Talk.{Talk}
+use Rattle.rx_workers.specs.declared.joined.Joined.{Joined}
+use Rattle.rx_workers.specs.declared.readiness.Aim.{Aim}
 
 -- a worker: the session's desk over which it serves, and the inbox of its connections, each a reader and a writer
 pub record WorkerView (M C W : Type 0) : Type 0 where
@@ -18,27 +34,150 @@ pub record WorkerView (M C W : Type 0) : Type 0 where
 abbrev pub worker : {M C W : Type 0} → SessionView M (LineSink W) → Incoming (C × W) → WorkerView M C W
 worker session inbox = record { session = session; inbox = inbox }
 
-module _ {B : Type 0} where
-  -- the Bye was received, or no letter came any more
-  abbrev pub HasStopped : Incoming B → Incoming B → Type 0
-  HasStopped before after = (after ≡ before) ⊎ ((from : ℕ) × (after ≡ with_letter before (letter from Bye)))
+-- a worker at work: the desk of its sessions, its inbox, its clients, and how many sessions it began
+pub record State (M C W : Type 0) : Type 0 where
+  pub session : SessionView M (LineSink W)
+  pub inbox : Incoming (C × W)
+  pub clients : List (Option (Client C W))
+  pub sessions : ℕ
+
+-- these four
+abbrev pub state : {M C W : Type 0} → SessionView M (LineSink W) → Incoming (C × W) → List (Option (Client C W)) → ℕ → State M C W
+state session inbox clients sessions = record { session = session; inbox = inbox; clients = clients; sessions = sessions }
+
+-- one thing that a worker does: a connection came, and was given a place, or was given up for want of memory; the Bye came; the
+-- session at a place had a turn; the follower at a place had hung up, and was parted with
+pub data Deed (X : Type 0) : Type 0 where
+  Admitted : X → ℕ → Deed X
+  GivenUp : X → Deed X
+  Dismissed : Deed X
+  Turned : ℕ → Deed X
+  Parted : ℕ → Deed X
+
+module _ {X : Type 0} where
+  -- the connections that were given a place, in their order; the latest deed stands first
+  abbrev pub admitted : List (Deed X) → List X
+  admitted [] = []
+  admitted (Admitted x place ∷ deeds) = admitted deeds ++ x ∷ []
+  admitted (GivenUp x ∷ deeds) = admitted deeds
+  admitted (Dismissed ∷ deeds) = admitted deeds
+  admitted (Turned place ∷ deeds) = admitted deeds
+  admitted (Parted place ∷ deeds) = admitted deeds
+
+module _ {C W : Type 0} where
+  -- a session that began with its connection
+  pub record Begins (connection : C × W) (talk : Talk C W) : Type 0 where
+    pub reader_is : talk.reader ≡ connection.0
+    pub writer_is : talk.writer ≡ connection.1
+    pub is_new : IsNew talk.session.value
+
+  -- a connection was given this place, which was vacant, or none
+  abbrev pub Admits : Option ℕ → C × W → List (Option (Client C W)) → List (Option (Client C W)) → Type 0
+  Admits None connection before after = AreSame before after
+  Admits (Some place) connection before after = (talk : Talk C W) × Begins connection talk × Sets place before after None (Some (Talks talk))
+
+  -- the halves and the session of a talk after a turn, whatever its connection is watched for
+  pub record IsTalkOf (reader : C) (writer : W) (session : OpenSession) (talk : Talk C W) : Type 0 where
+    pub reader_is : talk.reader ≡ reader
+    pub writer_is : talk.writer ≡ writer
+    pub session_is : talk.session.value ≡ session
+
+  -- a client whose session goes on with these
+  abbrev pub GoesOn : C → W → OpenSession → Option (Client C W) → Type 0
+  GoesOn reader writer session left = (talk : Talk C W) × (left ≡ Some (Talks talk)) × IsTalkOf reader writer session talk
+
+  -- the follower that a session leaves: of whom its last Join made
+  abbrev pub follower_of : C → Option Joined → Option (Client C W)
+  follower_of reader joined = option_map (λ observer. Follows (record { reader = reader; observer = observer })) joined
+
+  -- what a session that ended leaves: where it handed its writer over, a follower; else nobody
+  abbrev pub left_by : SessionEnd → C → Option Joined → Option (Client C W)
+  left_by ends.Quit reader joined = None
+  left_by ends.EndOfInput reader joined = None
+  left_by ends.HandedOver reader joined = follower_of reader joined
+  left_by ends.ReadFault reader joined = None
+  left_by ends.WriteFault reader joined = None
+  left_by ends.TooManyReads reader joined = None
+
+  -- what a turn leaves at its place: the session with its reader and the writer that the turn gave back, or what the session
+  -- leaves once it is over
+  abbrev pub Leaves : Turn W → C → OpenSession → Option Joined → Option (Client C W) → Type 0
+  Leaves (Again writer) reader session joined left = GoesOn reader writer session left
+  Leaves (Waits writer) reader session joined left = GoesOn reader writer session left
+  Leaves (Stuck writer) reader session joined left = GoesOn reader writer session left
+  Leaves (Over end back) reader session joined left = left ≡ left_by end reader joined
 
 module _ {M C W : Type 0} (tells : M → ℕ → M → Type 0) (remaining : C → Option (List ℕ)) (contents : W → Option (List ℕ)) where
-  -- one connection was served
-  abbrev pub ServesOne : SessionView M (LineSink W) → C × W → SessionView M (LineSink W) → Type 0
-  ServesOne before connection after =
-      (reader : C) × (end : SessionEnd) × IsServed tells contents (remaining connection.0) (remaining reader) before connection.1 end after
+  -- the desk of the sessions, and their writers
+  abbrev pub calls : Parties (SessionView M (LineSink W)) W
+  calls = parties (emits tells) (follows tells) contents
 
-  -- just these connections were received, each was served before the next, and then no more came
-  abbrev pub Works : WorkerView M C W → List (C × W) → WorkerView M C W → Type 0
-  Works before [] after = (after.session ≡ before.session) × HasStopped before.inbox after.inbox
-  Works before (connection ∷ more) after =
-      (from : ℕ) × (next : SessionView M (LineSink W)) × ServesOne before.session connection next
-      × Works (worker next (with_letter before.inbox (letter from (Body connection)))) more after
+  -- THE TURN of a session, from wherever it stood; one that had read QUIT asks nothing of the desk any more
+  pub record TakesTurn (result : Turn W) (talk : Talk C W) (reader : C) (session : OpenSession) (before after : SessionView M (LineSink W)) : Type 0 where
+    pub sits :
+        (start : Place (SessionView M (LineSink W)) W) (first : List ℕ) (read_old : Option (List ℕ))
+        → Sitting calls start first read_old (remaining talk.reader) before talk.writer talk.session.value
+        → Sits calls result start first read_old (remaining reader) after session
+    pub quits : talk.session.value.quits ≡ true → after ≡ before
 
-  -- a worker served some connections to their end, and counted them
+  -- the session at this place had one turn, and nobody else any
+  pub record HasTurn (place : ℕ) (before after : State M C W) : Type 0 where
+    pub talk : Talk C W
+    pub result : Turn W
+    pub reader : C
+    pub session : OpenSession
+    pub left : Option (Client C W)
+    pub turn : TakesTurn result talk reader session before.session after.session
+    pub leaves : Leaves result reader session after.session.joined left
+    pub sets : Sets place before.clients after.clients (Some (Talks talk)) left
+    pub inbox : after.inbox ≡ before.inbox
+    pub sessions : after.sessions ≡ before.sessions
+
+  -- ONE DEED
+  abbrev pub Does : Deed (C × W) → State M C W → State M C W → Type 0
+  Does (Admitted connection place) before after =
+      (from : ℕ) × Admits (Some place) connection before.clients after.clients
+      × (after.session ≡ before.session) × (after.inbox ≡ with_letter before.inbox (letter from (Body connection)))
+      × (after.sessions ≡ min (before.sessions + 1) (2 ^ 64 - 1))
+  Does (GivenUp connection) before after =
+      (from : ℕ) × Admits None connection before.clients after.clients
+      × (after.session ≡ before.session) × (after.inbox ≡ with_letter before.inbox (letter from (Body connection)))
+      × (after.sessions ≡ before.sessions)
+  Does Dismissed before after =
+      (from : ℕ) × AreSame before.clients after.clients
+      × (after.session ≡ before.session) × (after.inbox ≡ with_letter before.inbox (letter from Bye))
+      × (after.sessions ≡ before.sessions)
+  Does (Turned place) before after = HasTurn place before after
+  Does (Parted place) before after =
+      (follower : Follower C) × Disposes before.session follower.observer after.session
+      × Sets place before.clients after.clients (Some (Follows follower)) None × (after.inbox ≡ before.inbox)
+      × (after.sessions ≡ before.sessions)
+
+  -- THE DESK'S CALLS ARE THE TURNS' CALLS, in the order in which these were made: just these deeds, the latest first
+  abbrev pub Works : List (Deed (C × W)) → State M C W → State M C W → Type 0
+  Works [] before after = after ≡ before
+  Works (deed ∷ deeds) before after = (mid : State M C W) × Works deeds before mid × Does deed mid after
+
+  -- some deeds
+  abbrev pub Goes : State M C W → State M C W → Type 0
+  Goes before after = (deeds : List (Deed (C × W))) × Works deeds before after
+
+  -- a connection was served to its end by a session among others: each of its lines was asked of the desk as it then was
+  pub record IsServed (connection : C × W) : Type 0 where
+    pub reader : C
+    pub input : Option InputEnd
+    pub before : SessionView M (LineSink W)
+    pub after : SessionView M (LineSink W)
+    pub end : SessionEnd
+    pub back : Option W
+    pub session : Session (among calls) (remaining connection.0) (remaining reader) input before connection.1 (record { end = end; desk = after; back = back })
+
+  -- a worker served the connections that came, but those for which there was no memory, each to its end, and counted them
   pub record HasWorked (before after : WorkerView M C W) (sessions : ℕ) : Type 0 where
-    pub connections : List (C × W)
-    pub works : Works before connections after
+    pub deeds : List (Deed (C × W))
+    pub clients : List (Option (Client C W))
+    pub works : Works deeds (state before.session before.inbox [] 0) (state after.session after.inbox clients sessions)
+    pub is_quiet : IsQuiet clients
+    pub served : All IsServed (admitted deeds)
     pub kept : KeepsSession before.session after.session
-    pub sessions_are : sessions ≡ counted (length connections)
+    pub sessions_are : sessions ≡ counted (length (admitted deeds))

@@ -3,6 +3,7 @@ ghost use Rattle.std.specs.Prelude.{◌<◌, ◌≡◌, vec_len};
 ghost use Rattle.rx_workers.specs.Accepting.{AcceptsAll, AcceptsNext};
 
 use crate::listener::{AcceptFault, Listener};
+use crate::readiness::Bell;
 use rx_heap::Heap;
 use rx_mailbox::Port;
 use std::error::Error;
@@ -29,19 +30,20 @@ impl fmt::Display for AcceptStop {
 
 impl Error for AcceptStop {}
 
-/// Accepts so many connections, and sends each to its worker: connection i, from 0, to worker i modulo their number. `Err`
-/// where the listener fails or a worker is gone; those accepted before went to their workers.
+/// Accepts so many connections, and sends each to its worker: connection i, from 0, to worker i modulo their number, whose bell
+/// rings then. `Err` where the listener fails or a worker is gone; those accepted before went to their workers.
 pub fn accept_all<L: Listener, R: Wait>(
     rt: &R,
     listener: &mut L,
     ports: &mut Vec<Port<(L::Reader, L::Writer)>, Heap>,
+    bells: &Vec<L::Bell, Heap>,
     connections: u32,
 ) -> Result<(), AcceptStop>
     requires { 0 < vec_len ports.old }
     ensures { AcceptsAll L.accepts L.fails connections result listener.old listener.new ports.old.items ports.new.items }
 {
     for number in 0..connections {
-        accept_next(rt, listener, ports, number)?;
+        accept_next(rt, listener, ports, bells, number)?;
     }
     Ok(())
 }
@@ -51,6 +53,7 @@ fn accept_next<L: Listener, R: Wait>(
     rt: &R,
     listener: &mut L,
     ports: &mut Vec<Port<(L::Reader, L::Writer)>, Heap>,
+    bells: &Vec<L::Bell, Heap>,
     number: u32,
 ) -> Result<(), AcceptStop>
     requires { 0 < vec_len ports.old }
@@ -64,5 +67,13 @@ fn accept_next<L: Listener, R: Wait>(
     let Ok(()) = ports[place].send(rt, connection) else {
         return Err(AcceptStop::WorkerGone(place));
     };
+    ring_at(bells, place);
     Ok(())
+}
+
+// Rings the bell of the worker at this place.
+fn ring_at<B: Bell>(bells: &Vec<B, Heap>, place: usize) {
+    if let Some(bell) = bells.get(place) {
+        bell.ring();
+    }
 }

@@ -16,7 +16,6 @@ use rx_heap::{Heap, Memory};
 use rx_mailbox::Port;
 use rx_pump::{CallDesk, room};
 use rx_sink::LineSink;
-use std::io::{Read, Write};
 use std::sync::{Arc, Mutex, Wait};
 use std::thread::Threads;
 
@@ -46,40 +45,52 @@ pub fn serve_connections<
     if desks.is_empty() {
         return Err(ServeFault::NoDesk);
     }
-    let Ok(bench) = make_bench::<M, L::Reader, L::Writer>(heap, moments, desks.len()) else {
+    let Ok(bench) = make_bench::<M, L>(heap, moments, desks.len()) else {
         return Err(ServeFault::Memory);
     };
     let Bench {
         moments,
+        mut readiness,
+        mut bells,
         mut workers,
         mut ports,
     } = bench;
-    let served = match hire_all(rt, heap, config, &moments, desks, &mut workers, &mut ports) {
-        Ok(()) => accept(rt, listener, &mut ports, config.connections),
+    watch_all(listener, desks.len(), &mut readiness, &mut bells)?;
+    let served = match hire_all(
+        rt,
+        heap,
+        config,
+        &moments,
+        &mut readiness,
+        desks,
+        &mut workers,
+        &mut ports,
+    ) {
+        Ok(()) => accept(rt, listener, &mut ports, &bells, config.connections),
         Err(fault) => Err(fault),
     };
-    dismiss_all(rt, ports);
+    dismiss_all(rt, ports, bells);
     join_all(rt, workers, desks);
     served
 }
 
-// The moments of a crew, and room for its workers and for the ports to them.
+// The moments of a crew, and room for its workers, for what each waits by, and for the ports and the bells to them.
 #[derive(Drop)]
-struct Bench<
-    M: Moments + Drop + Send + 'static,
-    C: Read + Drop + Send + 'static,
-    W: Write + Drop + Send + 'static,
-> {
+struct Bench<M: Moments + Drop + Send + 'static, L: Listener> {
     moments: Arc<Mutex<M>, Heap>,
-    workers: Vec<RunningWorker<M, C, W>, Heap>,
-    ports: Vec<Port<(C, W)>, Heap>,
+    readiness: Vec<L::Readiness, Heap>,
+    bells: Vec<L::Bell, Heap>,
+    workers: Vec<RunningWorker<M, L::Reader, L::Writer, L::Readiness>, Heap>,
+    ports: Vec<Port<(L::Reader, L::Writer)>, Heap>,
 }
 
-fn make_bench<
-    M: Moments + Drop + Send + 'static,
-    C: Read + Drop + Send + 'static,
-    W: Write + Drop + Send + 'static,
->(heap: &Heap, moments: M, count: usize) -> Result<Bench<M, C, W>, Memory>
+fn make_bench<M: Moments + Drop + Send + 'static, L: Listener>(
+    heap: &Heap,
+    moments: M,
+    count: usize,
+) -> Result<Bench<M, L>, Memory>
+    ensures readiness { IfOk result (λ bench. (bench.readiness.items ≡ []) × (count ≤ vec_capacity bench.readiness)) }
+    ensures bells { IfOk result (λ bench. (bench.bells.items ≡ []) × (count ≤ vec_capacity bench.bells)) }
     ensures workers { IfOk result (λ bench. (bench.workers.items ≡ []) × (count ≤ vec_capacity bench.workers)) }
     ensures ports { IfOk result (λ bench. (bench.ports.items ≡ []) × (count ≤ vec_capacity bench.ports)) }
 {
@@ -88,9 +99,34 @@ fn make_bench<
     };
     Ok(Bench {
         moments,
+        readiness: room(heap, count)?,
+        bells: room(heap, count)?,
         workers: room(heap, count)?,
         ports: room(heap, count)?,
     })
+}
+
+// What so many workers wait by, each with its bell. `Thread` of the first that has none.
+fn watch_all<L: Listener>(
+    listener: &L,
+    count: usize,
+    readiness: &mut Vec<L::Readiness, Heap>,
+    bells: &mut Vec<L::Bell, Heap>,
+) -> Result<(), ServeFault>
+    requires none { readiness.old.items ≡ [] }
+    requires readiness { count ≤ vec_capacity readiness.old }
+    requires no_bell { bells.old.items ≡ [] }
+    requires bells { count ≤ vec_capacity bells.old }
+    ensures { OnOk result (vec_len readiness.new ≡ count) }
+{
+    for place in 0..count {
+        let Ok(watch) = listener.watch() else {
+            return Err(ServeFault::Thread(place));
+        };
+        readiness.push_reserved(watch.readiness);
+        bells.push_reserved(watch.bell);
+    }
+    Ok(())
 }
 
 // Accepts the connections for the workers, the last one of whom was hired for the first desk.
@@ -98,13 +134,14 @@ fn accept<L: Listener, R: Wait>(
     rt: &R,
     listener: &mut L,
     ports: &mut Vec<Port<(L::Reader, L::Writer)>, Heap>,
+    bells: &Vec<L::Bell, Heap>,
     connections: u32,
 ) -> Result<(), ServeFault>
     requires { 0 < vec_len ports.old }
     ensures { OnOk result (HasAcceptedAll L.accepts connections listener.old listener.new) }
 {
     ports.reverse();
-    match accept_all(rt, listener, ports, connections) {
+    match accept_all(rt, listener, ports, bells, connections) {
         Ok(()) => Ok(()),
         Err(AcceptStop::NoConnection) => Err(ServeFault::Accept),
         Err(AcceptStop::WorkerGone(place)) => Err(ServeFault::Thread(place)),

@@ -7,6 +7,7 @@ ghost use Rattle.rx_sink.specs.declared.line_sink.LineSink.{LineSink};
 ghost use Rattle.rx_workers.specs.Crews.{AreOut, IsFor, desk_of};
 
 use crate::moments::Moments;
+use crate::readiness::{Bell, Readiness};
 use crate::running_worker::{RunningWorker, dismiss, start_worker};
 use crate::serve_fault::ServeFault;
 use crate::worker::Worker;
@@ -26,6 +27,7 @@ pub const WORKER_BOX: usize = 16;
 #[derive(Drop)]
 struct Tools<M: Drop, C: Drop, W: Drop> {
     heap: Heap,
+    own: Heap,
     config: Arc<Config, Heap>,
     moments: Arc<Mutex<M>, Heap>,
     inbox: Inbox<(C, W)>,
@@ -42,6 +44,7 @@ fn make_tools<M: Drop, C: Drop, W: Drop>(
     let (inbox, port) = open_box(heap)?;
     Ok(Tools {
         heap: heap.clone()?,
+        own: heap.clone()?,
         config: Arc::try_clone(config)?,
         moments: Arc::try_clone(moments)?,
         inbox,
@@ -62,7 +65,7 @@ fn open_box<T: Drop>(heap: &Heap) -> Result<(Inbox<T>, Port<T>), Memory> {
     Ok((inbox, port))
 }
 
-// A desk for which no worker was hired, and whether there was no thread or no memory.
+// A desk for which no worker was hired, and whether there was memory for one.
 #[derive(Drop)]
 struct Unhired<W: Write + Drop> {
     desk: CallDesk<LineSink<W>>,
@@ -74,14 +77,16 @@ fn hire<
     M: Moments + Drop + Send + 'static,
     C: Read + Drop + Send + 'static,
     W: Write + Drop + Send + 'static,
+    P: Readiness<C> + Drop + Send + 'static,
     R: Threads + Wait + Clone + Drop + Send + 'static,
 >(
     rt: &R,
     heap: &Heap,
     config: &Arc<Config, Heap>,
     moments: &Arc<Mutex<M>, Heap>,
+    readiness: P,
     desk: CallDesk<LineSink<W>>,
-) -> Result<(RunningWorker<M, C, W>, Port<(C, W)>), Unhired<W>>
+) -> Result<(RunningWorker<M, C, W, P>, Port<(C, W)>), Unhired<W>>
     requires { IsFor (arc_value config.now) desk }
     ensures { MatchResult result (λ hired. desk_of hired.0 ≡ desk) (λ back. KeepsDesk desk back.desk) }
 {
@@ -93,12 +98,14 @@ fn hire<
     };
     let Tools {
         heap,
+        own,
         config,
         moments,
         inbox,
         port,
     } = tools;
-    match start_worker(rt, Worker::new(heap, config, moments, desk, inbox), port) {
+    let worker = Worker::new(heap, own, config, moments, desk, inbox, readiness);
+    match start_worker(rt, worker, port) {
         Ok(hired) => Ok(hired),
         Err(end) => Err(Unhired {
             desk: end.desk,
@@ -107,19 +114,21 @@ fn hire<
     }
 }
 
-// Hires a worker for each desk, the last one first.
+// Hires a worker for each desk, the last one first, each with what it waits by.
 pub fn hire_all<
     M: Moments + Drop + Send + 'static,
     C: Read + Drop + Send + 'static,
     W: Write + Drop + Send + 'static,
+    P: Readiness<C> + Drop + Send + 'static,
     R: Threads + Wait + Clone + Drop + Send + 'static,
 >(
     rt: &R,
     heap: &Heap,
     config: &Arc<Config, Heap>,
     moments: &Arc<Mutex<M>, Heap>,
+    readiness: &mut Vec<P, Heap>,
     desks: &mut Vec<CallDesk<LineSink<W>>, Heap>,
-    workers: &mut Vec<RunningWorker<M, C, W>, Heap>,
+    workers: &mut Vec<RunningWorker<M, C, W, P>, Heap>,
     ports: &mut Vec<Port<(C, W)>, Heap>,
 ) -> Result<(), ServeFault>
     requires fit { All (IsFor (arc_value config.now)) desks.old.items }
@@ -127,12 +136,16 @@ pub fn hire_all<
     requires no_port { ports.old.items ≡ [] }
     requires workers { vec_len desks.old ≤ vec_capacity workers.old }
     requires ports { vec_len desks.old ≤ vec_capacity ports.old }
+    requires readiness { vec_len desks.old ≡ vec_len readiness.old }
     ensures out { AreOut desks.old.items desks.new.items workers.new.items }
     ensures room { vec_len desks.new + vec_len workers.new ≤ vec_capacity desks.new }
     ensures ports { OnOk result (vec_len ports.new ≡ vec_len desks.old) }
 {
     while let Some(desk) = desks.pop() {
-        match hire(rt, heap, config, moments, desk) {
+        let Some(waits) = readiness.pop() else {
+            unreachable!()
+        };
+        match hire(rt, heap, config, moments, waits, desk) {
             Ok(hired) => {
                 let (worker, port) = hired;
                 workers.push_reserved(worker);
@@ -159,16 +172,29 @@ fn fault_of(has_memory: bool, place: usize) -> ServeFault {
 }
 
 // Tells each worker that no connection comes any more.
-pub fn dismiss_all<B: Drop, R: Wait>(rt: &R, ports: Vec<Port<B>, Heap>) {
+pub fn dismiss_all<X: Drop, B: Bell + Drop, R: Wait>(
+    rt: &R,
+    ports: Vec<Port<X>, Heap>,
+    bells: Vec<B, Heap>,
+) {
     for port in ports {
         dismiss(rt, port);
+    }
+    for bell in bells {
+        bell.ring();
     }
 }
 
 // Waits until each worker has ended, and puts its desk behind the others.
-pub fn join_all<M: Moments + Drop, C: Read + Drop, W: Write + Drop, R: Threads>(
+pub fn join_all<
+    M: Moments + Drop,
+    C: Read + Drop,
+    W: Write + Drop,
+    P: Readiness<C> + Drop,
+    R: Threads,
+>(
     rt: &R,
-    workers: Vec<RunningWorker<M, C, W>, Heap>,
+    workers: Vec<RunningWorker<M, C, W, P>, Heap>,
     desks: &mut Vec<CallDesk<LineSink<W>>, Heap>,
 )
     requires { vec_len desks.old + vec_len workers ≤ vec_capacity desks.old }

@@ -1,9 +1,9 @@
 //! Sessions over the subjects of a configuration, served by workers.
 //!
-//! A [`SessionDesk`] makes of each command of a session one call to its subject, and [`serve_one`] serves a connection by it. A
-//! [`Worker`] serves one connection after another by a desk; [`serve_connections`] has one for each desk, in a thread of its
-//! own, and deals the connections of a [`Listener`] to them. Nothing here makes a desk, a pump or a drainer, and nothing is
-//! said of when a connection or a reply comes.
+//! A [`SessionDesk`] makes of each command of a session one call to its subject. A [`Worker`] serves all connections that are
+//! dealt to it by one desk, each by a session that has its turns among those of the others, as its [`Readiness`] tells;
+//! [`serve_connections`] has a worker for each desk, in a thread of its own, and deals the connections of a [`Listener`] to
+//! them. Nothing here makes a desk, a pump or a drainer, and nothing is said of when a connection or a reply comes.
 //!
 //! The crate above rests on what a session's desk does (`specs/SessionDesks.antt`), what a worker leaves (`Workers.antt`) and
 //! where connections go (`Accepting.antt`), and on that [`serve_connections`] leaves the desks where they were, as their calls
@@ -11,27 +11,34 @@
 #![tactic(auto)]
 
 mod accepting;
+mod admitting;
+mod client;
+mod clients;
 mod dispatching;
 mod hiring;
+mod joined;
+mod leaving;
 mod listener;
 mod moments;
+mod readiness;
 mod responding;
 mod running_worker;
 mod serve_fault;
 mod serving;
-mod session;
 mod session_desk;
 mod shared_moments;
+mod shift;
 mod worker;
 mod worker_end;
 
 pub use accepting::{AcceptStop, accept_all};
 pub use dispatching::serve_connections;
-pub use listener::{AcceptFault, Listener};
+pub use joined::Joined;
+pub use listener::{AcceptFault, Listener, Watch};
 pub use moments::Moments;
+pub use readiness::{Aim, Bell, Readiness, Ready, WatchFault};
 pub use running_worker::{RunningWorker, start_worker};
 pub use serve_fault::ServeFault;
-pub use session::{MAX_READS, serve_one};
 pub use session_desk::SessionDesk;
 pub use shared_moments::SharedMoments;
 pub use worker::Worker;

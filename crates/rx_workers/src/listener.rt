@@ -1,5 +1,6 @@
 ghost use Rattle.std.specs.Prelude.{IfOk, OnErr};
 
+use crate::readiness::{Bell, Readiness, WatchFault};
 use std::error::Error;
 use std::fmt;
 use std::io::{Read, Write};
@@ -16,12 +17,25 @@ impl fmt::Display for AcceptFault {
 
 impl Error for AcceptFault {}
 
+/// What a worker waits by, and the bell that ends its wait.
+#[derive(Drop)]
+pub struct Watch<P: Drop, B: Drop> {
+    /// What the worker waits by.
+    pub readiness: P,
+    /// What ends its wait.
+    pub bell: B,
+}
+
 /// Where connections come from. Its relations say what a call answers and what it leaves of it.
 pub trait Listener {
     /// The half of a connection that is read.
     type Reader: Read + Drop + Send + 'static;
     /// The half of a connection that is written.
     type Writer: Write + Drop + Send + 'static;
+    /// What a worker waits by for its connections.
+    type Readiness: Readiness<Self::Reader> + Drop + Send + 'static;
+    /// What tells a worker that a connection came.
+    type Bell: Bell + Drop;
 
     ghost accepts: { Self → Self.Reader × Self.Writer → Self → Type 0 };
 
@@ -31,4 +45,7 @@ pub trait Listener {
     fn accept_one(&mut self) -> Result<(Self::Reader, Self::Writer), AcceptFault>
         ensures accepted { IfOk result (λ connection. accepts self.old connection self.new) }
         ensures failed { OnErr result (fails self.old self.new) };
+
+    /// What one more worker waits by.
+    fn watch(&self) -> Result<Watch<Self::Readiness, Self::Bell>, WatchFault>;
 }

@@ -3,6 +3,7 @@ ghost use Rattle.std.specs.Prelude.{◌≡◌, MatchResult};
 ghost use Rattle.rx_workers.specs.Workers.{HasEnded};
 
 use crate::moments::Moments;
+use crate::readiness::Readiness;
 use crate::worker::Worker;
 use crate::worker_end::WorkerEnd;
 use rx_mailbox::Port;
@@ -15,10 +16,10 @@ use std::thread::{Promise, PromisedHandle, Threads};
 
 /// What the thread of a worker answers is what `serve` promises of that worker.
 #[derive(Drop)]
-pub struct Worked<M: Drop, C: Drop, W: Write + Drop>(Snapshot<Worker<M, C, W>>);
+pub struct Worked<M: Drop, C: Drop, W: Write + Drop, P: Drop>(Snapshot<Worker<M, C, W, P>>);
 
-impl<M: Moments + Drop, C: Read + Drop, W: Write + Drop> Promise<WorkerEnd<C, W>>
-    for Worked<M, C, W> {
+impl<M: Moments + Drop, C: Read + Drop, W: Write + Drop, P: Drop> Promise<WorkerEnd<C, W>>
+    for Worked<M, C, W, P> {
     ghost use Rattle.rx_workers.specs.Workers.{HasEnded};
 
     ghost kept_by = { λ p end. HasEnded M.tells C.remaining W.contents p.0.value end };
@@ -26,12 +27,13 @@ impl<M: Moments + Drop, C: Read + Drop, W: Write + Drop> Promise<WorkerEnd<C, W>
 
 /// A worker that serves in a thread of its own. One that is let go without a `join` is not waited for. Contracts see the worker
 /// that was handed in.
-pub struct RunningWorker<M: Moments + Drop, C: Read + Drop, W: Write + Drop> {
-    handle: PromisedHandle<WorkerEnd<C, W>, Worked<M, C, W>>,
+pub struct RunningWorker<M: Moments + Drop, C: Read + Drop, W: Write + Drop, P: Drop> {
+    handle: PromisedHandle<WorkerEnd<C, W>, Worked<M, C, W, P>>,
 }
 
 // It stands here, and isn't derived, so that what lets go of a running worker is one call that is proved once.
-impl<M: Moments + Drop, C: Read + Drop, W: Write + Drop> Drop for RunningWorker<M, C, W> {
+impl<M: Moments + Drop, C: Read + Drop, W: Write + Drop, P: Drop> Drop
+    for RunningWorker<M, C, W, P> {
     fn drop(self) {
         let RunningWorker { handle: _ } = self;
     }
@@ -43,12 +45,13 @@ pub fn start_worker<
     M: Moments + Drop + Send + 'static,
     C: Read + Drop + Send + 'static,
     W: Write + Drop + Send + 'static,
+    P: Readiness<C> + Drop + Send + 'static,
     R: Threads + Wait + Clone + Drop + Send + 'static,
 >(
     rt: &R,
-    worker: Worker<M, C, W>,
+    worker: Worker<M, C, W, P>,
     port: Port<(C, W)>,
-) -> Result<(RunningWorker<M, C, W>, Port<(C, W)>), WorkerEnd<C, W>>
+) -> Result<(RunningWorker<M, C, W, P>, Port<(C, W)>), WorkerEnd<C, W>>
     ensures { MatchResult result
         (λ started. (started.0 ≡ worker) × (started.1 ≡ port))
         (λ end. HasEnded M.tells C.remaining W.contents worker end) }
@@ -67,7 +70,8 @@ pub fn start_worker<
     }
 }
 
-impl<M: Moments + Drop, C: Read + Drop, W: Write + Drop> Model for RunningWorker<M, C, W> {
+impl<M: Moments + Drop, C: Read + Drop, W: Write + Drop, P: Drop> Model
+    for RunningWorker<M, C, W, P> {
     ghost use Rattle.rx_workers.specs.Working.{WorkerView};
 
     ghost Value = { WorkerView (Unit {0}) C W };
@@ -80,7 +84,7 @@ pub(crate) fn dismiss<B: Drop, R: Wait>(rt: &R, port: Port<B>) {
     drop(port.finish(rt));
 }
 
-impl<M: Moments + Drop, C: Read + Drop, W: Write + Drop> RunningWorker<M, C, W> {
+impl<M: Moments + Drop, C: Read + Drop, W: Write + Drop, P: Drop> RunningWorker<M, C, W, P> {
     ghost use Rattle.rx_workers.specs.Workers.{HasEnded};
 
     /// Waits until the thread has ended. It answers what the worker left.

@@ -9,7 +9,7 @@ pub enum ServeFault {
     NoDesk,
     /// No connection could be accepted.
     Accept,
-    /// The worker of the desk at this place, from 0, has no thread, or is gone.
+    /// The worker of the desk at this place, from 0, has no thread or nothing to wait by, or is gone.
     Thread(usize),
     /// There was no memory for a worker.
     Memory,

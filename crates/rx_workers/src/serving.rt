@@ -1,49 +1,47 @@
-// The connections of a worker, one after another.
-ghost use Rattle.rx_workers.specs.SessionDesks.{KeepsSession};
-ghost use Rattle.rx_workers.specs.Working.{HasWorked, ServesOne, worker};
+// The connections of a worker, each served by a session among the others.
+ghost use Rattle.rx_workers.specs.Clients.{IsQuiet};
+ghost use Rattle.rx_workers.specs.Working.{Goes};
 
 use crate::moments::Moments;
-use crate::session::serve_one;
-use crate::session_desk::SessionDesk;
-use rx_heap::Heap;
-use rx_mailbox::{Inbox, Letter, Post};
+use crate::readiness::Readiness;
+use crate::shift::Shift;
 use std::io::{Read, Write};
 use std::sync::Wait;
 
-// Serves each connection that comes, until the Bye or until none comes any more, and answers how many there were.
-pub fn serve_all<'a, C: Read + Drop, R: Wait, M: Moments + Drop, W: Write + Drop>(
+// The clients that are served before it is asked again whether a connection came.
+const MOST_READY: u32 = 1_024;
+
+// Serves each connection that comes, until the Bye or until none comes any more, and then until no session is under way.
+pub fn serve_all<'a, R: Wait, M: Moments + Drop, C: Read + Drop, W: Write + Drop, P: Readiness<C>>(
     rt: &R,
-    heap: &Heap,
-    desk: &mut SessionDesk<'a, R, M, W>,
-    inbox: &mut Inbox<(C, W)>,
-) -> u64
-    ensures { HasWorked M.tells C.remaining W.contents (worker desk.old inbox.old) (worker desk.new inbox.new) result }
+    shift: &mut Shift<'a, R, M, C, W>,
+    readiness: &mut P,
+)
+    ensures goes { Goes M.tells C.remaining W.contents shift.old shift.new }
+    ensures quiet { IsQuiet shift.new.clients }
 {
-    let mut sessions = 0u64;
     for _ in rt.forever() {
-        let Ok(letter) = inbox.recv(rt) else {
-            return sessions;
-        };
-        let Letter { from: _, post } = letter;
-        let connection = match post {
-            Post::Body(connection) => connection,
-            Post::Bye => return sessions,
-        };
-        serve_connection(heap, connection, desk);
-        sessions = sessions.saturating_add(1);
+        shift.admit_all(rt, readiness);
+        if shift.is_over() {
+            return;
+        }
+        readiness.wait();
+        serve_ready(shift, readiness);
     }
     unreachable!()
 }
 
-// Serves one connection, and gives it up.
-fn serve_connection<'a, C: Read + Drop, R: Wait, M: Moments + Drop, W: Write + Drop>(
-    heap: &Heap,
-    connection: (C, W),
-    desk: &mut SessionDesk<'a, R, M, W>,
+// Serves the clients that are ready.
+fn serve_ready<'a, R: Wait, M: Moments + Drop, C: Read + Drop, W: Write + Drop, P: Readiness<C>>(
+    shift: &mut Shift<'a, R, M, C, W>,
+    readiness: &mut P,
 )
-    ensures served { ServesOne M.tells C.remaining W.contents desk.old connection desk.new }
-    ensures kept { KeepsSession desk.old desk.new }
+    ensures { Goes M.tells C.remaining W.contents shift.old shift.new }
 {
-    let (mut reader, writer) = connection;
-    serve_one(heap, &mut reader, writer, desk);
+    for _ in 0..MOST_READY {
+        let Some(ready) = readiness.next() else {
+            return;
+        };
+        shift.serve(ready, readiness);
+    }
 }

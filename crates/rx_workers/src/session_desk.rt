@@ -1,12 +1,13 @@
-ghost use Rattle.std.specs.Prelude.{◌≡◌, ◌+◌, length, vec_len};
+ghost use Rattle.std.specs.Prelude.{◌≡◌, ◌+◌, None, length, vec_len};
 ghost use Rattle.rx_proto.specs.Reading.{same_word};
-ghost use Rattle.rx_workers.specs.SessionDesks.{followed, place_of};
+ghost use Rattle.rx_workers.specs.SessionDesks.{followed, joined_by, place_of};
 
+use crate::joined::Joined;
 use crate::moments::Moments;
 use crate::responding::{has_joined, response_of, sink_in};
 use rx_config::{Config, SubjectConfig};
 use rx_heap::Heap;
-use rx_note::{Event, Note, Policy};
+use rx_note::{Answer, Event, Note, Policy};
 use rx_proto::{Name, Response, Version, Word};
 use rx_pump::{CallDesk, CallError, Reply};
 use rx_session::{Desk, Follow};
@@ -23,6 +24,8 @@ pub struct SessionDesk<'a, R, M: Drop, W: Write + Drop> {
     config: &'a Config,
     moments: M,
     calls: CallDesk<LineSink<W>>,
+    // Whom the last Join made.
+    joined: Option<Joined>,
 }
 
 impl<'a, R, M: Drop, W: Write + Drop> Model for SessionDesk<'a, R, M, W> {
@@ -32,7 +35,7 @@ impl<'a, R, M: Drop, W: Write + Drop> Model for SessionDesk<'a, R, M, W> {
 
     ghost Value = { SessionView M (LineSink W) };
 
-    ghost view = { λ d. record { subjects = d.config.now.subjects.items; window = d.config.now.window; moments = d.moments; calls = d.calls } };
+    ghost view = { λ d. record { subjects = d.config.now.subjects.items; window = d.config.now.window; moments = d.moments; calls = d.calls; joined = d.joined } };
 
     ghost invariant = { λ d. length d.calls.ports + length d.calls.ended ≡ vec_len d.config.now.subjects };
 }
@@ -48,13 +51,14 @@ impl<'a, R, M: Drop, W: Write + Drop> SessionDesk<'a, R, M, W> {
         moments: M,
     ) -> SessionDesk<'a, R, M, W>
         requires { length calls.ports + length calls.ended ≡ vec_len config.now.subjects }
-        ensures { result ≡ record { subjects = config.now.subjects.items; window = config.now.window; moments = moments; calls = calls } }
+        ensures { result ≡ record { subjects = config.now.subjects.items; window = config.now.window; moments = moments; calls = calls; joined = None } }
     {
         SessionDesk {
             rt,
             config,
             moments,
             calls,
+            joined: None,
         }
     }
 
@@ -66,11 +70,34 @@ impl<'a, R, M: Drop, W: Write + Drop> SessionDesk<'a, R, M, W> {
         self.calls
     }
 
+    /// Whom the last call made that a Join was sent by, if it made an observer.
+    pub fn joined(&self) -> Option<Joined>
+        ensures { result ≡ self.now.joined }
+    {
+        self.joined
+    }
+
     // The place of the first subject of this name.
     fn place_of(&self, name: &Name) -> Option<usize>
         ensures { result ≡ place_of name.now self.now.subjects }
     {
         place_in(&self.config.subjects, name)
+    }
+}
+
+impl<'a, R: Wait, M: Moments + Drop, W: Write + Drop> SessionDesk<'a, R, M, W> {
+    ghost use Rattle.rx_workers.specs.SessionDesks.{Disposes};
+
+    /// Disposes of an observer, by one call to its subject; one that has left by then is refused there. Nothing is done where
+    /// the configuration has no such subject.
+    pub fn dispose(&mut self, observer: Joined)
+        ensures { Disposes self.old observer self.new }
+    {
+        if observer.subject >= self.config.subjects.len() {
+            return;
+        }
+        let event = Event::Dispose { who: observer.who };
+        drop(self.calls.call(self.rt, observer.subject, event, None));
     }
 }
 
@@ -100,6 +127,7 @@ impl<'a, R: Wait, M: Moments + Drop, W: Write + Drop> Desk<W> for SessionDesk<'a
         let event = Event::Join { policy, first, at };
         let sink = LineSink::gathering(writer, version);
         let answered = self.calls.call(self.rt, place, event, Some(sink));
+        self.joined = joined_by(place, &answered);
         followed(answered)
     }
 }
@@ -115,6 +143,22 @@ fn is_named(subject: &SubjectConfig, name: &Name) -> bool
     ensures { result ≡ same_word subject.now.name name.now }
 {
     subject.name == *name
+}
+
+// Whom a call to the subject at this place made.
+fn joined_by<W: Write + Drop>(
+    subject: usize,
+    answered: &Result<Reply<LineSink<W>>, CallError<LineSink<W>>>,
+) -> Option<Joined>
+    ensures { result ≡ joined_by subject answered.now }
+{
+    match answered {
+        Ok(reply) => match reply.result {
+            Ok(Answer::Joined(who)) => Some(Joined { subject, who }),
+            _ => None,
+        },
+        Err(_) => None,
+    }
 }
 
 // What becomes of the writer, by the answer to the call of its sink.

@@ -1,10 +1,12 @@
-ghost use Rattle.std.specs.Prelude.{◌≡◌, ◌+◌, length, vec_len};
+ghost use Rattle.std.specs.Prelude.{◌≡◌, ◌+◌, None, length, vec_len};
 ghost use Rattle.std.specs.Arc.{arc_value};
 
 use crate::moments::Moments;
+use crate::readiness::Readiness;
 use crate::serving::serve_all;
 use crate::session_desk::SessionDesk;
 use crate::shared_moments::SharedMoments;
+use crate::shift::Shift;
 use crate::worker_end::WorkerEnd;
 use rx_config::Config;
 use rx_heap::Heap;
@@ -15,79 +17,98 @@ use std::io::{Read, Write};
 use std::marker::Model;
 use std::sync::{Arc, Mutex, Wait};
 
-/// Serves the connections that come to its inbox, one after another, by a desk of its own. The configuration and the moments
-/// are shared with other workers.
-pub struct Worker<M: Drop, C: Drop, W: Write + Drop> {
+/// Serves the connections that come to its inbox, each by a session that has its turns among those of the others, by a desk of
+/// its own. The configuration and the moments are shared with other workers.
+pub struct Worker<M: Drop, C: Drop, W: Write + Drop, P: Drop> {
     heap: Heap,
+    // The memory for the list of its clients.
+    own: Heap,
     config: Arc<Config, Heap>,
     moments: Arc<Mutex<M>, Heap>,
     desk: CallDesk<LineSink<W>>,
     inbox: Inbox<(C, W)>,
+    readiness: P,
 }
 
 // It stands here, and isn't derived, so that what lets go of a worker is one call that is proved once.
-impl<M: Drop, C: Drop, W: Write + Drop> Drop for Worker<M, C, W> {
+impl<M: Drop, C: Drop, W: Write + Drop, P: Drop> Drop for Worker<M, C, W, P> {
     fn drop(self) {
         let Worker {
             heap: _,
+            own: _,
             config: _,
             moments: _,
             desk: _,
             inbox: _,
+            readiness: _,
         } = self;
     }
 }
 
-impl<M: Drop, C: Drop, W: Write + Drop> Model for Worker<M, C, W> {
-    ghost use Rattle.std.specs.Prelude.{◌≡◌, ◌+◌, length, vec_len};
+impl<M: Drop, C: Drop, W: Write + Drop, P: Drop> Model for Worker<M, C, W, P> {
+    ghost use Rattle.std.specs.Prelude.{◌≡◌, ◌+◌, None, length, vec_len};
     ghost use Rattle.std.specs.Arc.{arc_value};
     ghost use Rattle.rx_workers.specs.Working.{WorkerView, worker};
 
     ghost Value = { WorkerView (Unit {0}) C W };
 
-    ghost view = { λ w. worker (record { subjects = (arc_value w.config).subjects.items; window = (arc_value w.config).window; moments = tt; calls = w.desk }) w.inbox };
+    ghost view = { λ w. worker (record { subjects = (arc_value w.config).subjects.items; window = (arc_value w.config).window; moments = tt; calls = w.desk; joined = None }) w.inbox };
 
     ghost invariant = { λ w. length w.desk.ports + length w.desk.ended ≡ vec_len (arc_value w.config).subjects };
 }
 
-impl<M: Moments + Drop, C: Read + Drop, W: Write + Drop> Worker<M, C, W> {
+impl<M: Moments + Drop, C: Read + Drop, W: Write + Drop, P: Readiness<C> + Drop> Worker<
+    M,
+    C,
+    W,
+    P,
+> {
     ghost use Rattle.rx_workers.specs.Working.{worker};
     ghost use Rattle.rx_workers.specs.Workers.{HasEnded};
 
-    /// A worker over a desk that has a port for each subject, in the order of the configuration.
+    /// A worker over a desk that has a port for each subject, in the order of the configuration. It waits for its inbox and its
+    /// connections by `readiness`, and the list of its clients takes the memory `own`.
     pub fn new(
         heap: Heap,
+        own: Heap,
         config: Arc<Config, Heap>,
         moments: Arc<Mutex<M>, Heap>,
         desk: CallDesk<LineSink<W>>,
         inbox: Inbox<(C, W)>,
-    ) -> Worker<M, C, W>
+        readiness: P,
+    ) -> Worker<M, C, W, P>
         requires { length desk.ports + length desk.ended ≡ vec_len (arc_value config).subjects }
-        ensures { result ≡ worker (record { subjects = (arc_value config).subjects.items; window = (arc_value config).window; moments = tt; calls = desk }) inbox }
+        ensures { result ≡ worker (record { subjects = (arc_value config).subjects.items; window = (arc_value config).window; moments = tt; calls = desk; joined = None }) inbox }
     {
         Worker {
             heap,
+            own,
             config,
             moments,
             desk,
             inbox,
+            readiness,
         }
     }
 
-    /// Serves each connection that comes, until the Bye or until none comes any more.
+    /// Serves each connection that comes, until the Bye or until none comes any more, and then until each session has ended.
     pub fn serve<R: Wait>(self, rt: &R) -> WorkerEnd<C, W>
         ensures { HasEnded M.tells C.remaining W.contents self result }
     {
         let Worker {
             heap,
+            own,
             config,
             moments,
             desk,
-            mut inbox,
+            inbox,
+            mut readiness,
         } = self;
         let shared = SharedMoments::new(rt, &moments);
-        let mut session = SessionDesk::new(rt, desk, &config, shared);
-        let sessions = serve_all(rt, &heap, &mut session, &mut inbox);
+        let session = SessionDesk::new(rt, desk, &config, shared);
+        let mut shift = Shift::new(&heap, own, session, inbox);
+        serve_all(rt, &mut shift, &mut readiness);
+        let (session, inbox, sessions) = shift.into_parts();
         WorkerEnd {
             desk: session.into_desk(),
             inbox,

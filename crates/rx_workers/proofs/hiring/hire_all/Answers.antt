@@ -1,8 +1,20 @@
-use Rattle.std.proofs.Common.{arith}
+use Rattle.std.proofs.Common.{Some, arith}
+use Rattle.std.proofs.lemmas.List.Elements.{All-pop}
 use Rattle.std.specs.Arc.{arc_value}
 use Rattle.rx_workers.specs.Crews.{IsFor}
 use Rattle.rx_workers.proofs.Crews.{All-first, split-one, split-back}
 use Rattle.rx_workers.proofs.hiring.hire_all.Goals as goal
+
+-- there is what waits for each desk
+pub unreachable-requires : goal.unreachable-requires
+unreachable-requires g c = omega (arith, c.loop-desk.invariant.waits, c.in-Some.ensures.cases, c.in_default-pop.ensures.cases)
+
+-- the last desk is one of the configuration
+pub hire-requires-after_bounds : goal.hire-requires-after_bounds
+hire-requires-after_bounds g c =
+    let P = IsFor (arc_value c.args.config.now) in
+    let fits : P c.in-Some.desk = (All-pop P c.loop-desk.desks.items c.pop.new.self.items (Some c.in-Some.desk) c.in-Some.ensures.items c.loop-desk.invariant.fit).1 in
+    λ _ _. fits
 
 -- one more was hired
 pub loop-desk-preserved : goal.loop-desk-preserved
@@ -18,6 +30,7 @@ loop-desk-preserved g c =
       workers = omega (arith, before.workers, c.in-Some.ensures.cases, c.push_reserved.ensures.len, c.push_reserved.ensures.capacity);
       ports = omega (arith, before.ports, c.in-Some.ensures.cases, c.push_reserved-in-Ok.ensures.len, c.push_reserved-in-Ok.ensures.capacity);
       count = omega (arith, before.count, c.in-Some.ensures.cases, c.push_reserved-in-Ok.ensures.len);
+      waits = omega (arith, before.waits, c.in-Some.ensures.cases, c.in-Some-pop.ensures.cases);
     }
 
 -- there is no worker for this one

@@ -14,6 +14,7 @@ invariant-loop-desk g l = record {
   workers : vec_len l.desks + vec_len l.workers ≤ vec_capacity l.workers;
   ports : vec_len l.desks + vec_len l.ports ≤ vec_capacity l.ports;
   count : vec_len l.desks + vec_len l.ports ≡ vec_len l.initial.desks;
+  waits : vec_len l.desks ≡ vec_len l.readiness;
 }
 
 abbrev pub decreases-loop-desk : goal.decreases-loop-desk

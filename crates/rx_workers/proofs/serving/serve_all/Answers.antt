@@ -1,30 +1,15 @@
-use Rattle.std.proofs.Common.{◌∙◌, ap, inl, inr}
-use Rattle.rx_mailbox.specs.Boxes.{with_letter}
-use Rattle.rx_mailbox.specs.Letters.{letter}
-use Rattle.rx_workers.specs.Working.{worker}
-use Rattle.rx_workers.proofs.Working.{SoFar-begun, SoFar-one, SoFar-over}
+use Rattle.rx_workers.proofs.Working.{Goes-same, Goes-then}
 use Rattle.rx_workers.proofs.serving.serve_all.Goals as goal
 
 pub loop-init : goal.loop-init
-loop-init g c = SoFar-begun g.M.Moments.tells g.C.Read.remaining g.W.Write.contents (worker c.args.desk.now c.args.inbox.now)
+loop-init g c = Goes-same g.M.Moments.tells g.C.Read.remaining g.W.Write.contents c.args.shift.now
 
--- no letter came any more
-pub returns-in_default : goal.returns-in_default
-returns-in_default g c =
-    SoFar-over g.M.Moments.tells g.C.Read.remaining g.W.Write.contents (worker c.args.desk.now c.args.inbox.now) (worker c.loop.desk c.loop.inbox) c.loop.sessions
-    c.recv.new.self c.loop.invariant (inl c.in_default.ensures.received)
+-- nobody comes any more, and no session is under way
+pub returns-then-is_over-clause-goes : goal.returns-then-is_over-clause-goes
+returns-then-is_over-clause-goes g c =
+    Goes-then g.M.Moments.tells g.C.Read.remaining g.W.Write.contents c.args.shift.now c.loop.shift c.admit_all.new.self c.loop.invariant c.admit_all.ensures
 
--- the Bye came
-pub returns-in-Bye : goal.returns-in-Bye
-returns-in-Bye g c =
-    SoFar-over g.M.Moments.tells g.C.Read.remaining g.W.Write.contents (worker c.args.desk.now c.args.inbox.now) (worker c.loop.desk c.loop.inbox) c.loop.sessions
-    c.recv.new.self c.loop.invariant
-    (inr (c.in-Ok.letter.from, c.in-Ok.ensures.received ∙ ap (λ post. with_letter c.loop.inbox (letter c.in-Ok.letter.from post)) c.in-Bye.is))
-
--- a connection came, and was served
 pub loop-preserved : goal.loop-preserved
 loop-preserved g c =
-    SoFar-one g.M.Moments.tells g.C.Read.remaining g.W.Write.contents (worker c.args.desk.now c.args.inbox.now) (worker c.loop.desk c.loop.inbox) c.loop.sessions
-    c.saturating_add-sessions.result c.in-Ok.letter.from c.in-Body.connection c.serve_connection.new.desk c.recv.new.self c.loop.invariant
-    (c.in-Ok.ensures.received ∙ ap (λ post. with_letter c.loop.inbox (letter c.in-Ok.letter.from post)) c.in-Body.is)
-    c.serve_connection.ensures.served c.serve_connection.ensures.kept c.saturating_add-sessions.ensures
+    let come = Goes-then g.M.Moments.tells g.C.Read.remaining g.W.Write.contents c.args.shift.now c.loop.shift c.admit_all.new.self c.loop.invariant c.admit_all.ensures in
+    Goes-then g.M.Moments.tells g.C.Read.remaining g.W.Write.contents c.args.shift.now c.admit_all.new.self c.serve_ready.new.shift come c.serve_ready.ensures

@@ -1,7 +1,6 @@
-use Rattle.rx_workers.specs.Working.{worker}
-use Rattle.rx_workers.proofs.Working.{SoFar}
+use Rattle.rx_workers.specs.Working.{Goes}
 use Rattle.rx_workers.proofs.serving.serve_all.Given as goal
 
--- the connections that came were served
+-- what was done so far
 abbrev pub invariant-loop : goal.invariant-loop
-invariant-loop g l = SoFar g.M.Moments.tells g.C.Read.remaining g.W.Write.contents (worker l.initial.desk l.initial.inbox) (worker l.desk l.inbox) l.sessions
+invariant-loop g l = Goes g.M.Moments.tells g.C.Read.remaining g.W.Write.contents l.initial.shift l.shift

@@ -6,4 +6,4 @@ pub returns : goal.returns
 returns g c =
     let call = rw (c.gathering-sink.ensures, c.from-first.ensures) at c.call-answered.ensures in
     rw (← c.in-Some.ensures)
-    (c.call-answered.result, rw (← c.self.view_is) (record { at = c.now-at.result; told = c.now-at.ensures; called = call.called; over = call.over; kept = record { subjects = refl; window = refl; calls = call.kept } }), c.followed.ensures)
+    (c.call-answered.result, rw (← c.self.view_is) (record { at = c.now-at.result; told = c.now-at.ensures; called = call.called; over = call.over; kept = record { subjects = refl; window = refl; calls = call.kept } }), c.followed.ensures, c.joined_by-self-inside.ensures)

@@ -1,11 +1,12 @@
-use Rattle.std.proofs.Common.{rules}
+use Rattle.std.proofs.Common.{◌∙◌, ap, rules}
 use Rattle.rx_workers.specs.Telling.{IsTold}
-use Rattle.rx_workers.proofs.Working.{worked-end}
+use Rattle.rx_workers.proofs.Working.{worker-ended}
 use Rattle.rx_workers.proofs.worker.Worker.serve.Goals as goal
 
 -- what it left is the desk of its sessions and its inbox
 pub returns : goal.returns
 returns g c =
-    worked-end (λ _ moment _. IsTold g.M.Moments.tells moment) g.C.Read.remaining g.W.Write.contents c.args.self c.new-session.result c.serve_all-sessions.new.desk c.self.inside.inbox
-    (record { desk = c.into_desk.result; inbox = c.serve_all-sessions.new.inbox; sessions = c.serve_all-sessions.result }) c.serve_all-sessions.result
-    (search rules) c.into_desk.ensures.calls c.serve_all-sessions.ensures
+    worker-ended (λ _ moment _. IsTold g.M.Moments.tells moment) g.C.Read.remaining g.W.Write.contents c.args.self c.new-session.result c.self.inside.inbox c.new-shift.result c.serve_all.new.shift
+    (record { desk = c.into_desk.result; inbox = c.into_parts-session.result.1; sessions = c.into_parts-session.result.2 })
+    (search rules) c.new-shift.ensures c.serve_all.ensures.goes c.serve_all.ensures.quiet
+    (c.into_desk.ensures.calls ∙ ap (λ s. s.calls) c.into_parts-session.ensures.desk) c.into_parts-session.ensures.inbox c.into_parts-session.ensures.sessions

@@ -1,0 +1,35 @@
+-- The places of a worker's clients.
+use Rattle.std.proofs.Common.{◌≡◌, ◌≢◌, ◌<◌, ℕ, zero, suc, Bool, true, false, List, [], ◌∷◌, ◌++◌, length, slice_set, Option, None, Some, refl, sym, ap, ◌∙◌, if◌then◌else◌}
+use Rattle.std.proofs.lemmas.List.{get_or-set_same, get_or-set_other}
+use Rattle.rx_workers.specs.Clients.{AreSame, Sets, client_at}
+use Rattle.rx_workers.specs.declared.client.Client.{Client}
+
+module _ {C W : Type 0} where
+  -- a vacant place more
+  client_at-more : (place : ℕ) (clients : List (Option (Client C W))) → client_at place (clients ++ None ∷ []) ≡ client_at place clients
+  client_at-more zero [] = refl
+  client_at-more (suc place) [] = refl
+  client_at-more zero (x ∷ xs) = refl
+  client_at-more (suc place) (x ∷ xs) = client_at-more place xs
+
+  -- or none more
+  pub client_at-pushed : (pushed : Bool) (before after : List (Option (Client C W))) → after ≡ (if pushed then before ++ None ∷ [] else before) → AreSame before after
+  client_at-pushed true before after is place = ap (λ (xs : List (Option (Client C W))). client_at place xs) is ∙ client_at-more place before
+  client_at-pushed false before after is place = ap (λ (xs : List (Option (Client C W))). client_at place xs) is
+
+  -- one place is set
+  pub Sets-set : (place : ℕ) (before after : List (Option (Client C W))) (client : Option (Client C W)) → place < length before → after ≡ slice_set before place client
+      → Sets place before after (client_at place before) client
+  Sets-set place before after client within is = record {
+    was_there = refl;
+    is_there = ap (λ (xs : List (Option (Client C W))). client_at place xs) is ∙ get_or-set_same before place client None within;
+    others = λ other apart. ap (λ (xs : List (Option (Client C W))). client_at other xs) is ∙ get_or-set_other before place other client None apart;
+  }
+
+  -- and then again
+  pub Sets-then : (place : ℕ) (a b c : List (Option (Client C W))) (x y z : Option (Client C W)) → Sets place a b x y → Sets place b c (client_at place b) z → Sets place a c x z
+  Sets-then place a b c x y z p q = record { was_there = p.was_there; is_there = q.is_there; others = λ other apart. q.others other apart ∙ p.others other apart }
+
+  -- a place that was vacant is set
+  pub Sets-vacant : (place : ℕ) (a b c : List (Option (Client C W))) (x : Option (Client C W)) → AreSame a b → client_at place b ≡ None → Sets place b c (client_at place b) x → Sets place a c None x
+  Sets-vacant place a b c x same vacant q = record { was_there = sym (same place) ∙ vacant; is_there = q.is_there; others = λ other apart. q.others other apart ∙ same other }

@@ -1,0 +1,9 @@
+use Rattle.rx_workers.proofs.Working.{Goes-same, Goes-then}
+use Rattle.rx_workers.proofs.serving.serve_ready.Goals as goal
+
+pub loop-init : goal.loop-init
+loop-init g c = Goes-same g.M.Moments.tells g.C.Read.remaining g.W.Write.contents c.args.shift.now
+
+pub loop-preserved : goal.loop-preserved
+loop-preserved g c =
+    Goes-then g.M.Moments.tells g.C.Read.remaining g.W.Write.contents c.args.shift.now c.loop.shift c.serve.new.self c.loop.invariant c.serve.ensures

@@ -1,0 +1,6 @@
+use Rattle.rx_workers.specs.Working.{Goes}
+use Rattle.rx_workers.proofs.shift.Shift.admit_all.Given as goal
+
+-- what was done so far
+abbrev pub invariant-loop : goal.invariant-loop
+invariant-loop g l = Goes g.M.Moments.tells g.C.Read.remaining g.W.Write.contents l.initial.self l.self

@@ -1,0 +1,29 @@
+-- The clients of a worker, each at a place of its own (this project's own rule).
+use Rattle.std.specs.Prelude.{◌≡◌, ◌≢◌, ℕ, List, Option, None, Some, slice_index_or}
+use Rattle.rx_workers.specs.declared.client.Client.{Client}
+use Rattle.rx_workers.specs.declared.client.Client.TheVariants.{Talks, Follows}
+
+module _ {C W : Type 0} where
+  -- who is at a place; at one that is vacant, or that there isn't, nobody
+  abbrev pub client_at : ℕ → List (Option (Client C W)) → Option (Client C W)
+  client_at place clients = slice_index_or clients place None
+
+  -- nobody came, went or changed
+  abbrev pub AreSame : List (Option (Client C W)) → List (Option (Client C W)) → Type 0
+  AreSame before after = (place : ℕ) → client_at place after ≡ client_at place before
+
+  -- at one place there is another client or none any more, and at all others who was there
+  pub record Sets (place : ℕ) (before after : List (Option (Client C W))) (was is : Option (Client C W)) : Type 0 where
+    pub was_there : client_at place before ≡ was
+    pub is_there : client_at place after ≡ is
+    pub others : (other : ℕ) → other ≢ place → client_at other after ≡ client_at other before
+
+  -- a session is under way
+  abbrev pub IsTalk : Option (Client C W) → Type 0
+  IsTalk None = ⊥
+  IsTalk (Some (Talks talk)) = Unit {0}
+  IsTalk (Some (Follows follower)) = ⊥
+
+  -- none is, at any place
+  abbrev pub IsQuiet : List (Option (Client C W)) → Type 0
+  IsQuiet clients = (place : ℕ) → ¬ IsTalk (client_at place clients)

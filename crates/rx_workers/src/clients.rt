@@ -1,0 +1,108 @@
+ghost use Rattle.std.specs.Prelude.{◌≡◌, ◌<◌, ◌↔◌, [], IfOk, IfSome, IsTrue, MatchOption, None, Some, length};
+ghost use Rattle.rx_workers.specs.Clients.{AreSame, IsQuiet, IsTalk, Sets, client_at};
+ghost use Rattle.rx_workers.specs.declared.client.Client.TheVariants.{Follows, Talks};
+
+use crate::client::{Client, Follower, Talk};
+use rx_heap::{Heap, Memory};
+use std::marker::Model;
+use std::mem;
+
+/// The clients of a worker, each at a place of its own, from 0. Contracts see the list of the places, each with its client or
+/// vacant.
+pub struct Clients<C: Drop, W: Drop> {
+    places: Vec<Option<Client<C, W>>, Heap>,
+}
+
+// It stands here, and isn't derived, so that what lets go of the clients is one call that is proved once.
+impl<C: Drop, W: Drop> Drop for Clients<C, W> {
+    fn drop(self) {
+        let Clients { places: _ } = self;
+    }
+}
+
+impl<C: Drop, W: Drop> Model for Clients<C, W> {
+    ghost use Rattle.std.specs.Prelude.{List, Option};
+    ghost use Rattle.rx_workers.specs.declared.client.Client.{Client};
+
+    ghost Value = { List (Option (Client C W)) };
+
+    ghost view = { λ c. c.places.items };
+}
+
+impl<C: Drop, W: Drop> Clients<C, W> {
+    /// No clients.
+    pub fn new(alloc: Heap) -> Clients<C, W>
+        ensures { result ≡ [] }
+    {
+        Clients {
+            places: Vec::new(alloc),
+        }
+    }
+
+    /// A place that is vacant.
+    pub fn vacancy(&mut self) -> Result<usize, Memory>
+        ensures vacant { IfOk result (λ place. client_at place self.new ≡ None) }
+        ensures within { IfOk result (λ place. place < length self.new) }
+        ensures same { AreSame self.old self.new }
+    {
+        if let Some(place) = self.places.iter().position(|slot| slot.is_none()) {
+            return Ok(place);
+        }
+        let place = self.places.len();
+        let Ok(()) = self.places.push(None) else {
+            return Err(Memory);
+        };
+        Ok(place)
+    }
+
+    /// Puts a client at a place, or leaves it vacant.
+    pub fn put(&mut self, place: usize, client: Option<Client<C, W>>)
+        requires { place < length self.old }
+        ensures { Sets place self.old self.new (client_at place self.old) client }
+    {
+        self.places[place] = client;
+    }
+
+    /// Takes the session under way at this place. It is vacant then.
+    pub fn take_talk(&mut self, place: usize) -> Option<Talk<C, W>>
+        ensures taken { MatchOption result (self.new ≡ self.old) (λ talk. Sets place self.old self.new (Some (Talks talk)) None) }
+        ensures within { IfSome result (λ _. place < length self.new) }
+    {
+        match self.places.get(place) {
+            Some(Some(Client::Talks(_))) => {}
+            _ => return None,
+        }
+        match mem::replace(&mut self.places[place], None) {
+            Some(Client::Talks(talk)) => Some(talk),
+            _ => unreachable!(),
+        }
+    }
+
+    /// Takes the follower at this place. It is vacant then.
+    pub fn take_follower(&mut self, place: usize) -> Option<Follower<C>>
+        ensures { MatchOption result (self.new ≡ self.old) (λ follower. Sets place self.old self.new (Some (Follows follower)) None) }
+    {
+        match self.places.get(place) {
+            Some(Some(Client::Follows(_))) => {}
+            _ => return None,
+        }
+        match mem::replace(&mut self.places[place], None) {
+            Some(Client::Follows(follower)) => Some(follower),
+            _ => unreachable!(),
+        }
+    }
+
+    /// Whether no session is under way.
+    pub fn is_quiet(&self) -> bool
+        ensures { IsTrue result → IsQuiet self.now }
+    {
+        self.places.iter().all(|slot| !is_talk(slot))
+    }
+}
+
+// Whether a session is under way there.
+fn is_talk<C: Drop, W: Drop>(slot: &Option<Client<C, W>>) -> bool
+    ensures { IsTrue result ↔ IsTalk slot.now }
+{
+    matches!(slot, Some(Client::Talks(_)))
+}

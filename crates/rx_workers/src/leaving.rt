@@ -1,0 +1,105 @@
+// What a turn of a session leaves at its place.
+ghost use Rattle.std.specs.Prelude.{◌≡◌};
+ghost use Rattle.rx_workers.specs.Working.{GoesOn, Leaves, left_by};
+
+use crate::client::{Client, Follower, Talk};
+use crate::joined::Joined;
+use crate::readiness::{Aim, Readiness};
+use rx_heap::Heap;
+use rx_session::{OpenSession, SessionEnd, Turn};
+
+/// Where a session pauses, and for what its connection was watched: after the last turn for now one that would go on at once
+/// is told as ready again.
+#[derive(Clone, Copy)]
+pub struct Pause {
+    /// The place of the session.
+    pub place: usize,
+    /// Whether it has no further turn now.
+    pub is_last: bool,
+    /// What its connection is watched for.
+    pub aim: Aim,
+}
+
+/// What is left by a turn that came to this: whether the session goes on at once, and who is at its place.
+pub fn leave<C: Drop, W: Drop, P: Readiness<C>>(
+    turned: Turn<W>,
+    reader: C,
+    session: Box<OpenSession, Heap>,
+    joined: Option<Joined>,
+    pause: Pause,
+    readiness: &mut P,
+) -> (bool, Option<Client<C, W>>)
+    ensures { Leaves turned reader session.value joined result.1 }
+{
+    match turned {
+        Turn::Again(writer) => {
+            let aim = again(&reader, pause, readiness);
+            (true, talks(reader, writer, session, aim))
+        }
+        Turn::Waits(writer) => {
+            let aim = watch(&reader, pause, Aim::Bytes, readiness);
+            (false, talks(reader, writer, session, aim))
+        }
+        Turn::Stuck(writer) => {
+            let aim = watch(&reader, pause, Aim::Both, readiness);
+            (false, talks(reader, writer, session, aim))
+        }
+        Turn::Over(end, _) => (false, end_at(end, reader, joined, pause.place, readiness)),
+    }
+}
+
+// A session that goes on.
+fn talks<C: Drop, W: Drop>(
+    reader: C,
+    writer: W,
+    session: Box<OpenSession, Heap>,
+    aim: Aim,
+) -> Option<Client<C, W>>
+    ensures { GoesOn reader writer session.value result }
+{
+    Some(Client::Talks(Talk {
+        reader,
+        writer,
+        session,
+        aim,
+    }))
+}
+
+// Has a connection told as ready again where its session has no further turn now.
+fn again<C, P: Readiness<C>>(reader: &C, pause: Pause, readiness: &mut P) -> Aim {
+    if !pause.is_last {
+        return pause.aim;
+    }
+    readiness.change(reader, pause.place, Aim::Both);
+    Aim::Both
+}
+
+// Has a connection watched for this.
+fn watch<C, P: Readiness<C>>(reader: &C, pause: Pause, aim: Aim, readiness: &mut P) -> Aim {
+    if pause.aim != aim {
+        readiness.change(reader, pause.place, aim);
+    }
+    aim
+}
+
+// What a session that ended so leaves at its place.
+fn end_at<C: Drop, W: Drop, P: Readiness<C>>(
+    end: SessionEnd,
+    reader: C,
+    joined: Option<Joined>,
+    place: usize,
+    readiness: &mut P,
+) -> Option<Client<C, W>>
+    ensures { result ≡ left_by end reader joined }
+{
+    match (end, joined) {
+        (SessionEnd::HandedOver, Some(observer)) => {
+            readiness.change(&reader, place, Aim::HangUp);
+            Some(Client::Follows(Follower { reader, observer }))
+        }
+        _ => {
+            readiness.forget(&reader);
+            None
+        }
+    }
+}

@@ -1,0 +1,60 @@
+use std::error::Error;
+use std::fmt;
+
+/// A connection can't be watched.
+#[derive(Clone, Copy, Debug, PartialEq, Eq)]
+pub struct WatchFault;
+
+impl fmt::Display for WatchFault {
+    fn fmt<W: fmt::Write>(&self, f: &mut fmt::Formatter<W>) -> fmt::Result {
+        f.write_str("the connection cannot be watched")
+    }
+}
+
+impl Error for WatchFault {}
+
+/// What a connection is watched for. Whatever that is, it is told where the peer hung up.
+#[derive(Clone, Copy, Debug, PartialEq, Eq)]
+pub enum Aim {
+    /// That bytes came.
+    Bytes,
+    /// That bytes came, or that it takes some.
+    Both,
+    /// That the peer hung up, and nothing else.
+    HangUp,
+}
+
+/// A connection that is ready.
+#[derive(Clone, Copy, Debug, PartialEq, Eq)]
+pub struct Ready {
+    /// The key by which it is watched.
+    pub key: usize,
+    /// Whether its peer hung up, so that nobody reads what is written to it.
+    pub is_gone: bool,
+}
+
+/// Waits for many connections at once. No clause says what it tells: a turn of a session is right whenever it is made, and one
+/// that is never made leaves the session as it is. So it may tell too much, and what it tells too little only waits longer.
+pub trait Readiness<C> {
+    /// Watches a connection for bytes, by this key. From then on each change of what it is watched for is told once; so is
+    /// what it is ready for already.
+    fn begin(&mut self, connection: &C, key: usize) -> Result<(), WatchFault>;
+
+    /// Watches it for something else, or anew for the same. What it is ready for by then is told.
+    fn change(&mut self, connection: &C, key: usize, aim: Aim);
+
+    /// Watches it no more.
+    fn forget(&mut self, connection: &C);
+
+    /// Waits until a connection is ready, or until the bell rings. It may come back without either.
+    fn wait(&mut self);
+
+    /// The next connection that was ready when `wait` came back, each once.
+    fn next(&mut self) -> Option<Ready>;
+}
+
+/// Ends the wait of a worker.
+pub trait Bell {
+    /// Ends the wait that is under way, or else the next one.
+    fn ring(&self);
+}
