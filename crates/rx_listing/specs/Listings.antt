@@ -1,0 +1,69 @@
+-- What is printed for a configuration that was accepted: a line for each subject, and one for the pool. The words are this
+-- project's own, mostly the keys of the configuration.
+use Rattle.std.specs.Prelude.{ℕ, List, [], ◌++◌, codes, decimal, Option, None, Some}
+use Rattle.std.specs.List.{flat_map}
+use Rattle.rx_note.specs.declared.kind.Kind.{Kind}
+use Rattle.rx_note.specs.declared.kind.Kind.TheVariants.{Publish, Behavior, Async, Replay}
+use Rattle.rx_note.specs.declared.limits.Limits.{Limits}
+use Rattle.rx_proto.specs.Printing.{line}
+use Rattle.rx_config.specs.Configurations.{Settings, Subject}
+
+-- the words of a key and its number
+abbrev pub number_words : List ℕ → ℕ → List ℕ
+number_words key number = key ++ decimal number
+
+-- the same of a bound, where there is one
+abbrev pub bound_words : List ℕ → Option ℕ → List ℕ
+bound_words key None = []
+bound_words key (Some bound) = number_words key bound
+
+-- the name of a kind, and the bounds of a Replay
+abbrev pub kind_words : Kind → List ℕ
+kind_words Publish = codes " publish"
+kind_words (Behavior seed) = codes " behavior"
+kind_words Async = codes " async"
+kind_words (Replay count age) = codes " replay" ++ (bound_words (codes " count ") count ++ bound_words (codes " age ") age)
+
+abbrev pub limit_words : Limits → List ℕ
+limit_words limits =
+    number_words (codes " observers ") limits.observers ++ (number_words (codes " joins ") limits.joins ++ number_words (codes " items ") limits.items)
+
+-- the seed, where there is one, to the end of its line
+abbrev pub seed_words : Kind → List ℕ
+seed_words Publish = []
+seed_words (Behavior None) = []
+seed_words (Behavior (Some seed)) = codes " seed " ++ seed
+seed_words Async = []
+seed_words (Replay count age) = []
+
+-- what is said of a subject
+abbrev pub subject_words : Subject → List ℕ
+subject_words subject =
+    codes "subject " ++ (subject.name ++ (kind_words subject.rules.kind ++ (limit_words subject.rules.limits ++ seed_words subject.rules.kind)))
+
+abbrev pub subject_line : Subject → List ℕ
+subject_line subject = line (subject_words subject)
+
+abbrev pub subject_lines : List Subject → List ℕ
+subject_lines subjects = flat_map subject_line subjects
+
+-- how many threads there are, and how far a sink is ahead
+abbrev pub crew_words : Settings → List ℕ
+crew_words settings =
+    number_words (codes " drainers ") settings.pool.drainers
+    ++ (number_words (codes " workers ") settings.pool.workers ++ number_words (codes " window ") settings.pool.window)
+
+-- how many connections are served, and how long a peer may take nothing
+abbrev pub service_words : Settings → List ℕ
+service_words settings = number_words (codes " connections ") settings.pool.connections ++ number_words (codes " stall ") settings.pool.stall
+
+-- what is said of the pool
+abbrev pub pool_words : Settings → List ℕ
+pool_words settings = codes "pool" ++ (crew_words settings ++ service_words settings)
+
+abbrev pub pool_line : Settings → List ℕ
+pool_line settings = line (pool_words settings)
+
+-- THE LINES OF A CONFIGURATION
+abbrev pub config_lines : Settings → List ℕ
+config_lines settings = subject_lines settings.subjects ++ pool_line settings
