@@ -1,6 +1,6 @@
 -- What is printed for a configuration that was accepted: a line for each subject, and one for the pool. The words are this
 -- project's own, mostly the keys of the configuration.
-use Rattle.std.specs.Prelude.{ℕ, List, [], ◌++◌, codes, decimal, Option, None, Some}
+use Rattle.std.specs.Prelude.{ℕ, Bool, true, false, List, [], ◌++◌, codes, decimal, Option, None, Some}
 use Rattle.std.specs.List.{flat_map}
 use Rattle.rx_note.specs.declared.kind.Kind.{Kind}
 use Rattle.rx_note.specs.declared.kind.Kind.TheVariants.{Publish, Behavior, Async, Replay}
@@ -53,9 +53,17 @@ crew_words settings =
     number_words (codes " drainers ") settings.pool.drainers
     ++ (number_words (codes " workers ") settings.pool.workers ++ number_words (codes " window ") settings.pool.window)
 
--- how many connections are served, and how long a peer may take nothing
+-- the word of a flag, where it is set
+abbrev pub flag_words : List ℕ → Bool → List ℕ
+flag_words key false = []
+flag_words key true = key
+
+-- how many connections are served, how long a peer may take nothing and send nothing, and whether a path is taken over
 abbrev pub service_words : Settings → List ℕ
-service_words settings = number_words (codes " connections ") settings.pool.connections ++ number_words (codes " stall ") settings.pool.stall
+service_words settings =
+    number_words (codes " connections ") settings.pool.connections
+    ++ (number_words (codes " stall ") settings.pool.stall
+    ++ (bound_words (codes " idle ") settings.pool.idle ++ flag_words (codes " takeover") settings.pool.takeover))
 
 -- what is said of the pool
 abbrev pub pool_words : Settings → List ℕ

@@ -13,6 +13,8 @@ pub(crate) enum Form {
     Text,
     /// A number from 1 to so many.
     Number(u64),
+    /// A flag.
+    Flag,
 }
 
 /// The rule of one key of a configuration.
@@ -66,6 +68,7 @@ impl Form {
                 Some(number) => is_within(number, most),
                 None => false,
             },
+            Form::Flag => value.as_bool().is_some(),
             Form::Name | Form::Kind | Form::Text => match value.as_str() {
                 Some(text) => self.takes_text(text),
                 None => false,
@@ -79,7 +82,7 @@ impl Form {
             Form::Name => Name::new(text.as_bytes()).is_some(),
             Form::Kind => matches!(text, "publish" | "behavior" | "async" | "replay"),
             Form::Text => text.len() <= MAX_TEXT && !text.as_bytes().contains(&b'\n'),
-            Form::Number(_) => false,
+            Form::Number(_) | Form::Flag => false,
         }
     }
 }

@@ -1,7 +1,7 @@
 //! The lines of a configuration that was accepted.
 ghost use Rattle.std.specs.Prelude.{◌≡◌, ◌++◌, IfOk, OnOk, decimal, map};
 ghost use Rattle.rx_config.specs.Configurations.{settings_of, subject_of_config};
-ghost use Rattle.rx_listing.specs.Listings.{bound_words, config_lines, crew_words, kind_words, limit_words, pool_line, seed_words, service_words, subject_line, subject_lines};
+ghost use Rattle.rx_listing.specs.Listings.{bound_words, config_lines, crew_words, flag_words, kind_words, limit_words, pool_line, seed_words, service_words, subject_line, subject_lines};
 
 use itoa::Buffer;
 use rx_config::{Config, SubjectConfig};
@@ -112,12 +112,24 @@ fn put_crew(lines: &mut Vec<u8, Heap>, config: &Config) -> Result<(), Memory>
     put_number(lines, b" window ", u64::from(config.window))
 }
 
-// Puts how many connections are served, and how long a peer may take nothing.
+// Puts how many connections are served, how long a peer may take nothing and send nothing, and whether a path is taken over.
 fn put_service(lines: &mut Vec<u8, Heap>, config: &Config) -> Result<(), Memory>
     ensures { OnOk result (lines.new.items ≡ lines.old.items ++ service_words (settings_of config.now)) }
 {
     put_number(lines, b" connections ", u64::from(config.connections))?;
-    put_number(lines, b" stall ", u64::from(config.stall))
+    put_number(lines, b" stall ", u64::from(config.stall))?;
+    put_bound(lines, b" idle ", config.idle)?;
+    put_flag(lines, b" takeover", config.takeover)
+}
+
+// Puts the word of a flag, where it is set.
+fn put_flag(lines: &mut Vec<u8, Heap>, key: &[u8], flag: bool) -> Result<(), Memory>
+    ensures { OnOk result (lines.new.items ≡ lines.old.items ++ flag_words key.now flag) }
+{
+    if flag {
+        return put(lines, key);
+    }
+    Ok(())
 }
 
 // Puts a key and its number.

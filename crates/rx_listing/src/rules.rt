@@ -58,7 +58,15 @@ pub(crate) fn subject_rule(key: &str) -> Option<KeyRule> {
 }
 
 /// The keys of the pool.
-pub(crate) const POOL: [&str; 5] = ["drainers", "workers", "window", "connections", "stall"];
+pub(crate) const POOL: [&str; 7] = [
+    "drainers",
+    "workers",
+    "window",
+    "connections",
+    "stall",
+    "idle",
+    "takeover",
+];
 
 /// The rule of a key of the pool. None: it has no such key.
 pub(crate) fn pool_rule(key: &str) -> Option<KeyRule> {
@@ -71,6 +79,11 @@ pub(crate) fn pool_rule(key: &str) -> Option<KeyRule> {
             "a number from 1 to 4294967295, as in: connections = 1000",
         ),
         "stall" => (3_600, "seconds from 1 to 3600, as in: stall = 60"),
+        "idle" => (86_400, "seconds from 1 to 86400, as in: idle = 600"),
+        "takeover" => {
+            let wants = "true or false, as in: takeover = true";
+            return Some(KeyRule::new(Form::Flag, wants));
+        }
         _ => return None,
     };
     Some(KeyRule::new(Form::Number(most), wants))
