@@ -42,7 +42,7 @@ fn expect_run(rt: &(impl Host + Abort), words: &[&str], wanted: &str) {
 }
 
 // Words, and what is told of the run by them.
-const STATUSES: [(&[&str], &str); 4] = [
+const STATUSES: [(&[&str], &str); 6] = [
     (&[], "0 OK 0\nOK\ns 0 NEXT a\nOK\n|"),
     (
         &["script", "no/such/file"],
@@ -52,6 +52,11 @@ const STATUSES: [(&[&str], &str); 4] = [
         &["audit", "no/such/file"],
         "1 |rxline: cannot read config\n",
     ),
+    (
+        &["check", "no/such/file"],
+        "1 |rxline: cannot read config\n",
+    ),
+    (&["--version"], "0 rxline 0.1.0\n|"),
     (
         &["serve", "no/such/file", "no/such/socket"],
         "1 |rxline: cannot read config\n",
@@ -80,7 +85,7 @@ fn told_over(rt: &impl Host, command: &str, config: &[u8]) -> io::Result<Vec<u8>
 }
 
 // Commands, the configurations in the file that each is given, and what is told.
-const FILES: [(&str, &str, &str); 4] = [
+const FILES: [(&str, &str, &str); 6] = [
     (
         "script",
         "[[subject]]\nname = \"s\"\nkind = \"replay\"\ncount = 0\n",
@@ -96,6 +101,16 @@ const FILES: [(&str, &str, &str); 4] = [
         "audit",
         "[[subject]]\nname = \"s\"\nkind = \"behavior\"\nseed = \"z\"\n",
         "0 OBSERVER s 0\nGIVEN NEXT z\nWAITING NEXT a\nWAITING NEXT b\n|",
+    ),
+    (
+        "check",
+        "[[subject]]\nname = \"s\"\nkind = \"replay\"\ncount = 16\n[pool]\nwindow = 1\n",
+        "0 subject s replay count 16 observers 64 joins 4294967295 items 4294967295\npool drainers 1 workers 4 window 1 connections 4294967295 stall 60\n|",
+    ),
+    (
+        "check",
+        "[[subject]]\nname = \"s\"\nkind = \"publish\"\nseed = \"z\"\n",
+        "1 |subject 0: seed is wrong: with kind = \"behavior\" alone, up to 1024 bytes without a line feed, as in: seed = \"none yet\"\nrxline: config: subject 0 is refused\n",
     ),
 ];
 
@@ -133,10 +148,24 @@ fn most_bytes_of_a_configuration(rt: HostRuntime) -> Result<(), Fail> {
 }
 
 // Words, and how what is told of the run by them begins and ends.
-const WRONG: [(&[&str], &str, &str); 3] = [
+const WRONG: [(&[&str], &str, &str); 5] = [
     (&["--help"], "0 Multicasts items", "|"),
-    (&["serve", "a"], "2 |error: ", "\n"),
-    (&["script"], "2 |error: ", "\n"),
+    (&["serve", "--help"], "0 Serves on a new Unix socket", "|"),
+    (
+        &["serve", "a"],
+        "2 |error: ",
+        "Usage: rxline serve <config> <socket>\n\nFor more information, try '--help'.\n",
+    ),
+    (
+        &["script"],
+        "2 |error: ",
+        "Usage: rxline script <config>\n\nFor more information, try '--help'.\n",
+    ),
+    (
+        &["check"],
+        "2 |error: ",
+        "Usage: rxline check <config>\n\nFor more information, try '--help'.\n",
+    ),
 ];
 
 #[test]

@@ -5,7 +5,7 @@ use Rattle.clap.specs.Words.{App, IsAmong, Row, Rule, Text, fault_of, first_of, 
 use Rattle.clap.specs.declared.error.kind.ErrorKind.{ErrorKind}
 use Rattle.clap.specs.declared.error.kind.ErrorKind.TheVariants.{DisplayHelp, DisplayVersion, InvalidSubcommand}
 use Rattle.rx_program.specs.declared.task.Task.{Task}
-use Rattle.rx_program.specs.declared.task.Task.TheVariants.{Script, Audit, Serve}
+use Rattle.rx_program.specs.declared.task.Task.TheVariants.{Script, Audit, Check, Serve}
 
 -- the path of a configuration, which a command needs
 abbrev pub path : Rule
@@ -21,16 +21,19 @@ script_app = with_rule (new_app (codes "script")) path
 abbrev pub audit_app : App
 audit_app = with_rule (new_app (codes "audit")) path
 
+abbrev pub check_app : App
+check_app = with_rule (new_app (codes "check")) path
+
 abbrev pub serve_app : App
 serve_app = with_rule (with_rule (new_app (codes "serve")) path) socket
 
--- the program, whose words come without its name
+-- the program, whose words come without its name, and which tells its version
 abbrev pub top_app : App
-top_app = on_top (λ s. record s { no_binary_name = true }) (new_app (codes "rxline"))
+top_app = on_top (λ s. record s { no_binary_name = true; has_version = true }) (new_app (codes "rxline"))
 
 -- the program with its commands
 abbrev pub line_app : App
-line_app = with_subcommand (with_subcommand (with_subcommand top_app script_app.top) audit_app.top) serve_app.top
+line_app = with_subcommand (with_subcommand (with_subcommand (with_subcommand top_app script_app.top) audit_app.top) check_app.top) serve_app.top
 
 -- a command of this name was named, with this path
 abbrev pub Named : List ℕ → List ℕ → Option (Text × List Row) → Type 0
@@ -47,6 +50,7 @@ abbrev pub IsNamedBy : Option (Text × List Row) → Task → Type 0
 IsNamedBy named (Script None) = named ≡ None
 IsNamedBy named (Script (Some file)) = Named (codes "script") file.now named
 IsNamedBy named (Audit file) = Named (codes "audit") file.now named
+IsNamedBy named (Check file) = Named (codes "check") file.now named
 IsNamedBy named (Serve file place) = NamedServe file.now place.now named
 
 -- the words ask for a task: `clap` states no fault of them, and they name its command

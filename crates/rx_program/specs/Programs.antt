@@ -9,6 +9,7 @@ use Rattle.rx_proto.specs.Bytes.{AppendsPrefix, Writes}
 use Rattle.rx_proto.specs.Printing.{line}
 use Rattle.rx_config.specs.Configurations.{IsRefused, Says, Settings, settings_of, standard_settings}
 use Rattle.rx_config.specs.declared.config.Config.{Config}
+use Rattle.rx_listing.specs.Listings.{config_lines}
 use Rattle.rx_session.specs.declared.session_end.SessionEnd.{SessionEnd}
 use Rattle.rx_session.specs.declared.session_end.SessionEnd.TheVariants as ends
 use Rattle.rx_script.specs.Audits.{Audits, BreaksOff}
@@ -18,7 +19,7 @@ use Rattle.rx_script.specs.Transcripts.{Subject}
 use Rattle.rx_program.specs.declared.program_fault.ProgramFault.{ProgramFault}
 use Rattle.rx_program.specs.declared.program_fault.ProgramFault.TheVariants as faults
 use Rattle.rx_program.specs.declared.task.Task.{Task}
-use Rattle.rx_program.specs.declared.task.Task.TheVariants.{Script, Audit, Serve}
+use Rattle.rx_program.specs.declared.task.Task.TheVariants.{Script, Audit, Check, Serve}
 
 -- the bytes that the reader has left and those that the writer has, where they are known
 pub record Streams : Type 0 where
@@ -135,30 +136,40 @@ MayServe faults.Accept = Unit {0}
 MayServe faults.Serve = Unit {0}
 MayServe (faults.Close fault) = Unit {0}
 
--- the subjects of the configuration of a path were served, or there is none; nothing was read
-abbrev pub Serves : Option (List ℕ) → Done → Streams → Streams → Type 0
-Serves path done old new =
-    (new.left ≡ old.left)
-    × (((config : Config) × Configures path (settings_of config) × MatchResult done (λ _. Unit {0}) MayServe)
-    ⊎ ((fault : ProgramFault) × (done ≡ Err fault) × LacksConfig path fault × (new.written ≡ old.written)))
+-- the subjects of the configuration of a path were served; or there is none, and nothing was written
+abbrev pub Serves : Option (List ℕ) → Done → Option (List ℕ) → Option (List ℕ) → Type 0
+Serves path done written_old written_new =
+    ((config : Config) × Configures path (settings_of config) × MatchResult done (λ _. Unit {0}) MayServe)
+    ⊎ ((fault : ProgramFault) × (done ≡ Err fault) × LacksConfig path fault × (written_new ≡ written_old))
 
--- a task was done; for a script and an audit nothing was told meanwhile
+-- a text is on the writer, or it could not be written
+abbrev pub IsShown : Done → Type 0
+IsShown done = (done ≡ Ok tt) ⊎ (done ≡ Err faults.Write)
+
+-- the lines of a configuration were written, all of them or, where the writer failed, a front of them
+abbrev pub Lists : Settings → Done → Option (List ℕ) → Option (List ℕ) → Type 0
+Lists settings done written_old written_new = IsShown done × Writes done written_old written_new (config_lines settings)
+
+-- the configuration of a path was told; or there is none, or no memory to tell it, and nothing was written
+abbrev pub Checks : Option (List ℕ) → Done → Option (List ℕ) → Option (List ℕ) → Type 0
+Checks path done written_old written_new =
+    ((config : Config) × Configures path (settings_of config) × Lists (settings_of config) done written_old written_new)
+    ⊎ ((fault : ProgramFault) × (done ≡ Err fault) × LacksConfig path fault × (written_new ≡ written_old))
+
+-- a task was done; for a script and an audit nothing was told meanwhile, and to check or to serve nothing was read
 abbrev pub Does : Task → Done → Streams → Streams → Option (List ℕ) → Option (List ℕ) → Type 0
 Does (Script path) done old new told_old told = Over (option_map (λ s. s.now) path) RunsScript done old new × (told ≡ told_old)
 Does (Audit path) done old new told_old told = Over (Some path.now) RunsAudit done old new × (told ≡ told_old)
-Does (Serve path socket) done old new told_old told = Serves (Some path.now) done old new
+Does (Check path) done old new told_old told = Checks (Some path.now) done old.written new.written × (new.left ≡ old.left)
+Does (Serve path socket) done old new told_old told = Serves (Some path.now) done old.written new.written × (new.left ≡ old.left)
 
 -- THE PROGRAM
-
--- help is on the writer, or it could not be written
-abbrev pub ShowsHelp : Done → Type 0
-ShowsHelp done = (done ≡ Ok tt) ⊎ (done ≡ Err faults.Write)
 
 -- what the words ask for was done, or there was no memory to read them
 abbrev pub Carries : List Text → Done → Streams → Streams → Option (List ℕ) → Option (List ℕ) → Type 0
 Carries words done old new told_old told =
     ((task : Task) × Asks words task × Does task done old new told_old told)
-    ⊎ ((kind : ErrorKind) × IsAgainst words kind × IsHelp kind × ShowsHelp done × (new.left ≡ old.left) × (told ≡ told_old))
+    ⊎ ((kind : ErrorKind) × IsAgainst words kind × IsHelp kind × IsShown done × (new.left ≡ old.left) × (told ≡ told_old))
     ⊎ ((done ≡ Err faults.Memory) × Untouched old new × (told ≡ told_old))
 
 -- the words are none that the program takes, and that is told
@@ -166,10 +177,10 @@ abbrev pub Refuses : List Text → Streams → Streams → Type 0
 Refuses words old new =
     ((kind : ErrorKind) × IsAgainst words kind × ¬ IsHelp kind × (kind ≢ OutOfMemory)) × Untouched old new
 
--- what was answered to words for which an error of this kind was found: help is shown, want of memory is told, or the error
+-- what was answered to words for which an error of this kind was found: help or the version is shown, want of memory is told, or the error
 abbrev pub Answers : ErrorKind → ℕ → Option (List ℕ) → Option (List ℕ) → Option (List ℕ) → Option (List ℕ) → Type 0
 Answers kind status written_old written_new told_old told_new =
-    (IsHelp kind × ((done : Done) × ShowsHelp done × EndsWith done status told_old told_new))
+    (IsHelp kind × ((done : Done) × IsShown done × EndsWith done status told_old told_new))
     ⊎ ((kind ≡ OutOfMemory) × (written_new ≡ written_old) × EndsWith (Err faults.Memory) status told_old told_new)
     ⊎ (¬ IsHelp kind × (kind ≢ OutOfMemory) × (status ≡ 2) × (written_new ≡ written_old))
 

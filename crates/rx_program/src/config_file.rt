@@ -39,8 +39,8 @@ pub fn config_at<F: Files + AllocGlobal>(
     }
 }
 
-// The bytes of the file of this path.
-fn read_file<F: Files>(rt: &F, heap: &Heap, path: &str) -> Result<Vec<u8, Heap>, ProgramFault>
+/// The bytes of the file of this path.
+pub fn read_file<F: Files>(rt: &F, heap: &Heap, path: &str) -> Result<Vec<u8, Heap>, ProgramFault>
     ensures within { IfOk result (λ bytes. length bytes.items ≤ 65536) }
     ensures fault { IfErr result (λ fault. (fault ≡ ProgramFault.NoConfig) ⊎ (fault ≡ ProgramFault.Memory)) }
 {

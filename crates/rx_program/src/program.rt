@@ -1,7 +1,8 @@
-ghost use Rattle.std.specs.Prelude.{◌≡◌, map};
+ghost use Rattle.std.specs.Prelude.{◌≡◌, Some, map, option_map};
 ghost use Rattle.clap.specs.Words.{kind_of};
-ghost use Rattle.rx_program.specs.Programs.{Answers, Does, EndsWith, Program, ShowsHelp, done_of};
+ghost use Rattle.rx_program.specs.Programs.{Answers, Does, EndsWith, IsShown, Over, Program, RunsAudit, RunsScript, Serves, done_of};
 
+use crate::checking::check_at;
 use crate::config_file::config_at;
 use crate::host::Host;
 use crate::program_fault::ProgramFault;
@@ -15,6 +16,7 @@ use rx_heap::{Heap, Memory};
 use rx_script::{run_audit, run_script};
 use rx_session::SessionEnd;
 use std::io::{Read, Write};
+use std::rt::Files;
 
 /// The most reads of one script.
 const MAX_READS: u64 = 4_294_967_296;
@@ -28,7 +30,7 @@ const WRONG_WORDS: u8 = 2;
 /// The program with its streams handed in: it does what the words behind its name ask for, tells faults on `faults`, and
 /// answers the exit status.
 ///
-/// 0: the run was finished, or help was asked for, which goes to `writer`. 1: a fault, told in one line. 2: the words are
+/// 0: the run was finished, or help or the version was asked for, which goes to `writer`. 1: a fault, told in one line. 2: the words are
 /// no command line, which is told with what would be one.
 pub fn run_words<'a, F: Host, R: Read, W: Write, E: Write>(
     rt: &F,
@@ -80,7 +82,7 @@ fn answer<W: Write, E: Write>(error: &Error, writer: &mut W, faults: &mut E) -> 
 
 // Shows the help that was asked for.
 fn show_help<W: Write>(error: &Error, writer: &mut W) -> Result<(), ProgramFault>
-    ensures { ShowsHelp result }
+    ensures { IsShown result }
 {
     if write!(writer, "{error}").is_err() || writer.flush().is_err() {
         return Err(ProgramFault::Write);
@@ -88,7 +90,7 @@ fn show_help<W: Write>(error: &Error, writer: &mut W) -> Result<(), ProgramFault
     Ok(())
 }
 
-// Runs or audits a script, or serves.
+// Does a task.
 fn run_task<F: Host, R: Read, W: Write, E: Write>(
     rt: &F,
     task: Task<'_>,
@@ -98,20 +100,60 @@ fn run_task<F: Host, R: Read, W: Write, E: Write>(
 ) -> Result<(), ProgramFault>
     ensures { Does task.entry result (record { left = R.remaining reader.old; written = W.contents writer.old }) (record { left = R.remaining reader.new; written = W.contents writer.new }) (E.contents faults.old) (E.contents faults.new) }
 {
-    let heap = Heap::unlimited(rt.alloc());
     match task {
-        Task::Script(path) => match config_at(rt, &heap, path) {
-            Ok(config) => done_of(run_script(heap, config, reader, writer, MAX_READS)),
-            Err(fault) => Err(fault),
-        },
-        Task::Audit(path) => match config_at(rt, &heap, Some(path)) {
-            Ok(config) => done_of(run_audit(heap, config, reader, writer, MAX_READS)),
-            Err(fault) => Err(fault),
-        },
-        Task::Serve(path, socket) => match config_at(rt, &heap, Some(path)) {
-            Ok(config) => serve_on(rt, &heap, config, socket, writer, faults),
-            Err(fault) => Err(fault),
-        },
+        Task::Script(path) => run_script_at(rt, path, reader, writer),
+        Task::Audit(path) => run_audit_at(rt, path, reader, writer),
+        Task::Check(path) => check_at(rt, path, writer, faults),
+        Task::Serve(path, socket) => serve_at(rt, path, socket, writer, faults),
+    }
+}
+
+// Runs a script over the configuration of a path.
+fn run_script_at<F: Files + AllocGlobal, R: Read, W: Write>(
+    rt: &F,
+    path: Option<&str>,
+    reader: &mut R,
+    writer: &mut W,
+) -> Result<(), ProgramFault>
+    ensures { Over (option_map (λ s. s.now) path.entry) RunsScript result (record { left = R.remaining reader.old; written = W.contents writer.old }) (record { left = R.remaining reader.new; written = W.contents writer.new }) }
+{
+    let heap = Heap::unlimited(rt.alloc());
+    match config_at(rt, &heap, path) {
+        Ok(config) => done_of(run_script(heap, config, reader, writer, MAX_READS)),
+        Err(fault) => Err(fault),
+    }
+}
+
+// Audits a script over the configuration of a path.
+fn run_audit_at<F: Files + AllocGlobal, R: Read, W: Write>(
+    rt: &F,
+    path: &str,
+    reader: &mut R,
+    writer: &mut W,
+) -> Result<(), ProgramFault>
+    ensures { Over (Some path.now) RunsAudit result (record { left = R.remaining reader.old; written = W.contents writer.old }) (record { left = R.remaining reader.new; written = W.contents writer.new }) }
+{
+    let heap = Heap::unlimited(rt.alloc());
+    match config_at(rt, &heap, Some(path)) {
+        Ok(config) => done_of(run_audit(heap, config, reader, writer, MAX_READS)),
+        Err(fault) => Err(fault),
+    }
+}
+
+// Serves the configuration of a path on a new socket.
+fn serve_at<F: Host, W: Write, E: Write>(
+    rt: &F,
+    path: &str,
+    socket: &str,
+    writer: &mut W,
+    faults: &mut E,
+) -> Result<(), ProgramFault>
+    ensures { Serves (Some path.now) result (W.contents writer.old) (W.contents writer.new) }
+{
+    let heap = Heap::unlimited(rt.alloc());
+    match config_at(rt, &heap, Some(path)) {
+        Ok(config) => serve_on(rt, &heap, config, socket, writer, faults),
+        Err(fault) => Err(fault),
     }
 }
 

@@ -1,8 +1,8 @@
 ghost use Rattle.std.specs.Prelude.{◌≡◌, ◌⊎◌, IfOk, MatchOption, MatchResult, Some, codes, false, map, option_map};
-ghost use Rattle.clap.specs.Words.{app_of, first_of, found_of, kind_of, rows_of, rule_of, subcommand_rows_of, with_rule, with_subcommand};
+ghost use Rattle.clap.specs.Words.{app_of, first_of, found_of, kind_of, new_app, rows_of, rule_of, subcommand_rows_of, with_rule, with_subcommand};
 ghost use Rattle.clap.specs.declared.Command.{out-Command};
 ghost use Rattle.clap.specs.declared.error.kind.ErrorKind.TheVariants.{OutOfMemory};
-ghost use Rattle.rx_program.specs.CommandLines.{Asks, IsAgainst, IsNamedBy, NamesNone, audit_app, line_app, path, script_app, serve_app, socket, top_app};
+ghost use Rattle.rx_program.specs.CommandLines.{Asks, IsAgainst, IsNamedBy, NamesNone, audit_app, check_app, line_app, path, script_app, serve_app, socket, top_app};
 
 use crate::task::Task;
 use clap::error::ErrorKind;
@@ -13,8 +13,11 @@ const CONFIG: &str = "config";
 
 const SOCKET: &str = "socket";
 
-// The commands that there are, as each usage line of the program names them.
-const COMMANDS: &str = "script <config> | audit <config> | serve <config> <socket>";
+const VERSION: &str = "0.1.0";
+
+// The commands that there are, as the usage line of the program names them.
+const COMMANDS: &str =
+    "script <config> | audit <config> | check <config> | serve <config> <socket>";
 
 const ABOUT: &str = "Multicasts items to observers by the lines of a script.";
 
@@ -38,7 +41,41 @@ prints
   OK
   s 0 NEXT hello
 
+A session on the socket of 'rxline serve' takes PUB, END, FAIL, HELLO and QUIT too, and
+  SUB s BUFFER DELAY        makes the connection an observer's, to which notes are sent
+A server ends once as many connections have ended as its configuration says, or by a
+signal. 'rxline serve --help' says more, with an example.
+
 The exit status is 0 after a finished run, 1 after a fault, and 2 after a wrong command line.";
+
+const SERVE_EXAMPLE: &str = "\
+A connection is a session. Its lines, and what they are answered:
+  PUB s hello               emits an item: OK
+  END s, FAIL s why         completes a subject, or fails it, for good: OK
+  SUB s BUFFER DELAY        makes the connection an observer's: JOINED and its number,
+                            then NEXT and an item each, at last DONE or FAILED and why
+  HELLO 2                   has a SUB behind it tell the place and port of items: OK
+  QUIT                      ends the session: OK
+What can't be is answered ERR and a word. For BUFFER may stand DROP:n, LATEST:n or
+BOUNDED:n, with room for n items, and for DELAY, by which an error waits behind the
+items, AHEAD.
+
+Example, in three terminals, with a configuration of one subject, s:
+  rxline serve server.toml hazoxe.sock
+  printf 'SUB s BUFFER DELAY\\n' | nc -U hazoxe.sock
+  printf 'PUB s hello\\nEND s\\nQUIT\\n' | nc -U hazoxe.sock
+of which the second prints
+  JOINED 0
+  NEXT hello
+  DONE
+
+The server ends once as many connections have ended as 'connections' in the pool says,
+and then writes the report; a signal, as by Ctrl-C, ends it at once, with none. The
+socket's file stays: remove it before the next start.";
+
+const CHECK_EXAMPLE: &str = "\
+What a configuration leaves out is told as it will be served. Of one that is refused
+the key is told on standard error, and what would be right there.";
 
 /// What these words ask for: those behind the program's name.
 ///
@@ -76,6 +113,9 @@ fn named<'a>(name: &'a str, found: &ArgMatches<'a>) -> Option<Task<'a>>
     if name == "audit" {
         return Some(Task::Audit(path));
     }
+    if name == "check" {
+        return Some(Task::Check(path));
+    }
     if name == "serve" {
         let socket = socket_in(found)?;
         return Some(Task::Serve(path, socket));
@@ -109,7 +149,7 @@ fn line<'a>(alloc: Global) -> Result<Command<'a>, AllocError>
     ensures app { IfOk result (λ c. app_of c ≡ line_app) }
 {
     let command = with_audit(alloc, with_script(alloc, top(alloc))?)?;
-    with_serve(alloc, command)
+    with_serve(alloc, with_check(alloc, command)?)
 }
 
 fn with_script<'a>(alloc: Global, command: Command<'a>) -> Result<Command<'a>, AllocError>
@@ -124,6 +164,12 @@ fn with_audit<'a>(alloc: Global, command: Command<'a>) -> Result<Command<'a>, Al
     command.subcommand(audit(alloc)?)
 }
 
+fn with_check<'a>(alloc: Global, command: Command<'a>) -> Result<Command<'a>, AllocError>
+    ensures app { IfOk result (λ c. app_of c ≡ with_subcommand (app_of command.entry) check_app.top) }
+{
+    command.subcommand(check(alloc)?)
+}
+
 fn with_serve<'a>(alloc: Global, command: Command<'a>) -> Result<Command<'a>, AllocError>
     ensures app { IfOk result (λ c. app_of c ≡ with_subcommand (app_of command.entry) serve_app.top) }
 {
@@ -135,6 +181,7 @@ fn top<'a>(alloc: Global) -> Command<'a>
 {
     Command::new(alloc, "rxline")
         .no_binary_name(true)
+        .version(VERSION)
         .about(ABOUT)
         .subcommand_value_name(COMMANDS)
         .after_help(EXAMPLE)
@@ -144,11 +191,11 @@ fn script<'a>(alloc: Global) -> Result<Command<'a>, AllocError>
     ensures app { IfOk result (λ c. app_of c ≡ script_app) }
     ensures local { IfOk result (λ c. (out-Command c).has_globals ≡ false) }
 {
+    let about =
+        "Runs a script: reads its lines from standard input, writes each answer and what observers are given to standard output";
     with_path(
         alloc,
-        Command::new(alloc, "script").about(
-            "Runs a script: reads its lines from standard input, writes each answer and what observers are given to standard output",
-        ),
+        new_command(alloc, "script", "rxline script <config>", about),
     )
 }
 
@@ -156,25 +203,49 @@ fn audit<'a>(alloc: Global) -> Result<Command<'a>, AllocError>
     ensures app { IfOk result (λ c. app_of c ≡ audit_app) }
     ensures local { IfOk result (λ c. (out-Command c).has_globals ≡ false) }
 {
+    let about =
+        "Audits a script: reads the same lines, and writes at the end what each observer was given and what waits for it";
     with_path(
         alloc,
-        Command::new(alloc, "audit").about(
-            "Audits a script: reads the same lines, and writes at the end what each observer was given and what waits for it",
-        ),
+        new_command(alloc, "audit", "rxline audit <config>", about),
     )
+}
+
+fn check<'a>(alloc: Global) -> Result<Command<'a>, AllocError>
+    ensures app { IfOk result (λ c. app_of c ≡ check_app) }
+    ensures local { IfOk result (λ c. (out-Command c).has_globals ≡ false) }
+{
+    let about =
+        "Checks a configuration: writes each subject with its rules, and the pool, to standard output";
+    let command = new_command(alloc, "check", "rxline check <config>", about);
+    with_path(alloc, with_help(command, CHECK_EXAMPLE))
 }
 
 fn serve<'a>(alloc: Global) -> Result<Command<'a>, AllocError>
     ensures app { IfOk result (λ c. app_of c ≡ serve_app) }
     ensures local { IfOk result (λ c. (out-Command c).has_globals ≡ false) }
 {
-    let command = with_path(
-        alloc,
-        Command::new(alloc, "serve").about(
-            "Serves on a new Unix socket until as many connections have ended as the configuration says, then writes the report to standard output",
-        ),
-    )?;
+    let about =
+        "Serves on a new Unix socket until as many connections have ended as the configuration says, then writes the report to standard output";
+    let command = new_command(alloc, "serve", "rxline serve <config> <socket>", about);
+    let command = with_path(alloc, with_help(command, SERVE_EXAMPLE))?;
     command.arg(socket_arg(alloc))
+}
+
+// A command that takes nothing yet, with what its help says. `clap` would leave out the program's name, which is no word here.
+fn new_command<'a>(alloc: Global, name: &'a str, usage: &'a str, about: &'a str) -> Command<'a>
+    ensures app { app_of result ≡ new_app name.entry.now }
+    ensures local { (out-Command result).has_globals ≡ false }
+{
+    Command::new(alloc, name).override_usage(usage).about(about)
+}
+
+// A command whose help ends with this.
+fn with_help<'a>(command: Command<'a>, example: &'a str) -> Command<'a>
+    ensures app { app_of result ≡ app_of command.entry }
+    ensures local { (out-Command result).has_globals ≡ (out-Command command.entry).has_globals }
+{
+    command.after_help(example)
 }
 
 fn with_path<'a>(alloc: Global, command: Command<'a>) -> Result<Command<'a>, AllocError>

@@ -1,5 +1,6 @@
 //! Tests of scripts, audits and configurations: worked runs, told as tables of scripts and what is written for them, readers
-//! and writers that fail midway, runs with each growth refused in its turn, and what a configuration says.
+//! and writers that fail midway, runs with each growth refused in its turn, what a configuration
+//! says and how it is told.
 //!
 //! There is no code here but tests, and nothing stands on it. It stands above all that it tests, so that none of those
 //! crates is proved a second time for tests of its own.
@@ -13,6 +14,8 @@ mod configurations;
 mod expecting;
 #[cfg(test)]
 mod kinds;
+#[cfg(test)]
+mod listings;
 #[cfg(test)]
 mod refusals;
 #[cfg(test)]

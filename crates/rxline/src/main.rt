@@ -6,8 +6,12 @@
 use rx_program::{ProgramFault, run_words, tell};
 use std::alloc::AllocError;
 use std::env;
-use std::io::{self, Write};
+use std::io::{self, IsTerminal, Write};
 use std::process::ExitCode;
+
+// What is told at a terminal, where else nothing would show that lines are waited for.
+const READS_A_SCRIPT: &str =
+    "rxline: reading a script from the terminal; QUIT ends it, and rxline --help tells its lines";
 
 fn main(rt: HostRuntime) -> ExitCode {
     let mut faults = rt.stderr();
@@ -23,6 +27,9 @@ fn main(rt: HostRuntime) -> ExitCode {
         return no_memory(&mut faults);
     };
     let mut reader = rt.stdin();
+    if words.is_empty() && reader.is_terminal() {
+        let _ = writeln!(faults, "{READS_A_SCRIPT}");
+    }
     let mut writer = rt.stdout();
     let status = run_words(&rt, words.as_slice(), &mut reader, &mut writer, &mut faults);
     ExitCode::from(status)

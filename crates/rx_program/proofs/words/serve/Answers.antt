@@ -1,18 +1,15 @@
 use Rattle.std.proofs.Common.{◌||◌, ap, ap₂, ◌∙◌}
 use Rattle.std.proofs.lemmas.Result.{IfOk-weaker}
-use Rattle.clap.specs.Simple.{app_of_fields}
 use Rattle.clap.specs.Words.{App, with_rule}
-use Rattle.clap.specs.declared.builder.command.Command.{Command}
-use Rattle.clap.specs.declared.builder.command.Command.TheOpen.{Command-F}
 use Rattle.rx_program.specs.CommandLines.{path}
 use Rattle.rx_program.proofs.words.serve.Goals as goal
 
 pub with_path-requires : goal.with_path-requires
-with_path-requires c = ap (λ (fields : Command-F Command). fields.has_globals) c.about.ensures ∙ c.new.ensures.local
+with_path-requires c = c.with_help.ensures.local ∙ c.new_command-command.ensures.local
 
 pub returns-clause-app : goal.returns-clause-app
 returns-clause-app c =
-    let named = ap app_of_fields c.about.ensures ∙ c.new.ensures.app in
+    let named = c.with_help.ensures.app ∙ c.new_command-command.ensures.app in
     let command = c.in_ok-command.ensures.app ∙ ap (λ (app : App). with_rule app path) named in
     IfOk-weaker c.arg.result _ _ (λ serve adds. adds.shape c.socket_arg.ensures.local ∙ ap₂ with_rule command c.socket_arg.ensures.rule) c.arg.ensures
 
