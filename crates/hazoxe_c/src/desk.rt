@@ -5,7 +5,7 @@ ghost use Rattle.rx_note.specs.declared.event.Event.TheVariants.{Emit, Request, 
 
 use crate::counts::Counts;
 use crate::fault::Fault;
-use crate::note_head::{NoteHead, text_of, write_text};
+use crate::note_head::{NoteHead, ToldNote, told_note, write_text};
 use crate::queue::Queue;
 use crate::subject_rules::{SubjectRules, check_text};
 use rx_heap::Heap;
@@ -140,7 +140,11 @@ impl Desk {
         let Some(given) = self.given.first() else {
             return Err(Fault::NothingGiven);
         };
-        *head = NoteHead::of(given);
+        let ToldNote {
+            head: told,
+            text: _,
+        } = told_note(given);
+        *head = told;
         Ok(())
     }
 
@@ -152,8 +156,9 @@ impl Desk {
         let Some(given) = self.given.first() else {
             return Err(Fault::NothingGiven);
         };
-        *head = NoteHead::of(given);
-        if !write_text(text_of(&given.note), buffer) {
+        let ToldNote { head: told, text } = told_note(given);
+        *head = told;
+        if !write_text(text, buffer) {
             return Err(Fault::BufferTooSmall);
         }
         self.given.pop();

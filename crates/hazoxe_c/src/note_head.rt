@@ -19,48 +19,52 @@ pub struct NoteHead {
     pub length: usize,
 }
 
-impl NoteHead {
-    /// What is told of this note.
-    #[inline(always)] // once for each note
-    pub fn of(given: &Given) -> NoteHead
-        ensures { result ≡ head_of given.now }
-    {
-        let observer = given.who;
-        match &given.note {
-            Note::Next(item) => NoteHead {
+/// A note as a program in C is told of it.
+pub struct ToldNote<'a> {
+    pub head: NoteHead,
+    pub text: &'a [u8],
+}
+
+/// What is told of a note that was given. A completion has a text of no bytes.
+#[inline(always)] // once for each note
+pub fn told_note(given: &Given) -> ToldNote<'_>
+    ensures head { result.head ≡ head_of given.now }
+    ensures text { result.text.now ≡ text_of given.now.note }
+{
+    let observer = given.who;
+    match &given.note {
+        Note::Next(item) => {
+            let text = item.text.as_bytes();
+            let head = NoteHead {
                 observer,
                 kind: 0,
                 port: item.from,
                 place: item.place,
-                length: item.text.as_bytes().len(),
-            },
-            Note::Completed => NoteHead {
+                length: text.len(),
+            };
+            ToldNote { head, text }
+        }
+        Note::Completed => {
+            let head = NoteHead {
                 observer,
                 kind: 1,
                 port: 0,
                 place: 0,
                 length: 0,
-            },
-            Note::Failed(text) => NoteHead {
+            };
+            ToldNote { head, text: b"" }
+        }
+        Note::Failed(text) => {
+            let text = text.as_bytes();
+            let head = NoteHead {
                 observer,
                 kind: 2,
                 port: 0,
                 place: 0,
-                length: text.as_bytes().len(),
-            },
+                length: text.len(),
+            };
+            ToldNote { head, text }
         }
-    }
-}
-
-/// The text of a note; a completion has none.
-#[inline(always)] // once for each note
-pub fn text_of(note: &Note) -> &[u8]
-    ensures { result.now ≡ text_of note.now }
-{
-    match note {
-        Note::Next(item) => item.text.as_bytes(),
-        Note::Completed => b"",
-        Note::Failed(text) => text.as_bytes(),
     }
 }
 
