@@ -1,0 +1,44 @@
+ghost use Rattle.hazoxe_c.specs.Asking.{Serves};
+ghost use Rattle.hazoxe_c.specs.Taking.{Peeks, TakesFirst};
+
+use crate::fault::{Fault, code};
+use crate::note_head::NoteHead;
+use crate::subject::Subject;
+use std::alloc::Global;
+
+/// Tells of the first note that was given and not taken yet, which stays. Refused in the order `NoSubject`, `NothingGiven`; then
+/// `note` stays as it was.
+#[unsafe(no_mangle)]
+pub extern "C" fn hazoxe_proved_peek(
+    alloc: Global,
+    subject: &mut Subject,
+    note: &mut NoteHead,
+) -> u32
+    ensures { Serves subject.old.handle.value subject.new.handle.value result (Peeks note.old note.new) }
+{
+    let Some(desk) = subject.take(alloc) else {
+        return code(Err(Fault::NoSubject));
+    };
+    let told = desk.peek(note);
+    subject.put(desk);
+    code(told)
+}
+
+/// Tells of the first note that was given and not taken yet, writes its text to the front of the buffer, and takes it. Refused
+/// in the order `NoSubject`, `NothingGiven`, `BufferTooSmall`: by this one the note is told of and stays, and the buffer too.
+#[unsafe(no_mangle)]
+pub extern "C" fn hazoxe_proved_take(
+    alloc: Global,
+    subject: &mut Subject,
+    note: &mut NoteHead,
+    buffer: &mut [u8],
+) -> u32
+    ensures { Serves subject.old.handle.value subject.new.handle.value result (TakesFirst note.old note.new buffer.old buffer.new) }
+{
+    let Some(mut desk) = subject.take(alloc) else {
+        return code(Err(Fault::NoSubject));
+    };
+    let told = desk.take(note, buffer);
+    subject.put(desk);
+    code(told)
+}
