@@ -15,7 +15,7 @@ const BUDGET: u64 = 4_096;
 // No hub admits as many items within the budget.
 const MAX_ITEMS: u32 = 1_000;
 
-/// A hub with one observer that grows by a budget, and what it gave. The budget bears what waits; the items that are
+/// A hub with one observer or two that grows by a budget, and what it gave. The budget bears what waits; the items that are
 /// emitted and the list of what is given are made by `free`.
 struct Waiting {
     free: Heap,
@@ -38,8 +38,8 @@ impl Waiting {
     // The hub grows by `tight`, the list of what it gives by `list`.
     fn new(rt: &impl Abort, free: Heap, tight: Heap, list: Heap) -> Waiting {
         let limits = Limits {
-            observers: 1,
-            joins: 1,
+            observers: 2,
+            joins: 2,
             items: u32::MAX,
         };
         let outs = Vec::new(list);
@@ -132,10 +132,12 @@ fn bytes_of(alloc: Global, notes: usize) -> Result<u64, Fail> {
     Ok(heap.used())
 }
 
-// Requests so many of 1,000 items that wait.
-fn request_some(rt: &impl Abort, free: &Heap, tight: &Heap, n: u32) {
+// The first of so many observers requests so many of 1,000 items that wait for each.
+fn request_some(rt: &impl Abort, free: &Heap, tight: &Heap, observers: u32, n: u32) {
     let mut waiting = Waiting::new(rt, copy(rt, free), copy(rt, free), copy(rt, tight));
-    expect_answer(rt, waiting.join(rt), Ok(Answer::Joined(0)));
+    for who in 0..observers {
+        expect_answer(rt, waiting.join(rt), Ok(Answer::Joined(who)));
+    }
     expect_that(
         rt,
         waiting.fill(rt, MAX_ITEMS) == None,
@@ -148,10 +150,10 @@ fn request_some(rt: &impl Abort, free: &Heap, tight: &Heap, n: u32) {
 // The list has a few places at the first emission, and gives them back once it has room for the request.
 #[test]
 fn a_request_holds_each_note_once(rt: HostRuntime) -> Result<(), Fail> {
-    for n in [1, MAX_ITEMS] {
+    for (observers, n) in [(1, 1), (1, MAX_ITEMS), (2, 1), (2, MAX_ITEMS)] {
         let bytes = bytes_of(rt.alloc(), n as usize + 8)?;
         let tight = Heap::with_budget(rt.alloc(), bytes)?;
-        request_some(&rt, &unlimited(&rt), &tight, n);
+        request_some(&rt, &unlimited(&rt), &tight, observers, n);
         expect_count(&rt, tight.used(), 0, "bytes that were not given back");
     }
     Ok(())
