@@ -15,22 +15,6 @@ use rx_note::{Given, Item};
 use rx_subject::Offer;
 use rx_tape::Tape;
 
-// Has room for so many more notes in `outs`, which is asked for only where it is not there.
-#[inline(always)] // on the path of every emission
-pub(crate) fn make_room(outs: &mut Vec<Given, Heap>, more: usize) -> Result<(), Memory>
-    ensures room { OnOk result (vec_len outs.new + more ≤ vec_capacity outs.new) }
-    ensures items { outs.new.items ≡ outs.old.items }
-    ensures len { vec_len outs.new ≡ vec_len outs.old }
-{
-    match outs.len().checked_add(more) {
-        Some(needed) if needed <= outs.capacity() => Ok(()),
-        _ => {
-            outs.reserve(more)?;
-            Ok(())
-        }
-    }
-}
-
 // Whether each observer is owed an item.
 #[inline(always)] // on the path of every emission
 pub(crate) fn are_owed(subscriptions: &Vec<Subscription, Heap>) -> bool

@@ -70,8 +70,9 @@ impl<B: Drop> NewBox<B> {
         ensures byes { self.new.byes.items ≡ self.old.byes.items }
         ensures port { IfOk result (λ port. port ≡ outgoing (box_of self.old.pass) number []) }
     {
-        let sender = self.sender.try_clone()?;
+        // The sender comes last, so that no way out has to let one go: that would be proved for itself.
         let bells = Arc::try_clone(&self.bells)?;
+        let sender = self.sender.try_clone()?;
         let own = sender.another::<SplitPort>(&mut self.pass);
         Ok(Port {
             number,

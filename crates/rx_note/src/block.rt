@@ -1,4 +1,4 @@
-ghost use Rattle.std.specs.Prelude.{◌≡◌, ◌≤◌, true, false, length, IfOk};
+ghost use Rattle.std.specs.Prelude.{◌≡◌, ◌≤◌, true, false, length, take, IfOk};
 ghost use Rattle.std.specs.Arc.{arc_value};
 
 use rx_heap::{Heap, Memory};
@@ -69,6 +69,15 @@ impl<const N: usize> Block<N> {
         };
         block.fill(bytes);
         true
+    }
+
+    /// Its bytes at the front of those that it has room for, and how many they are.
+    #[inline(always)] // a part of what a text does
+    pub(crate) fn padded(&self) -> (&[u8; N], usize)
+        ensures bytes { take result.1 result.0.now ≡ self.now }
+        ensures within { result.1 ≤ N }
+    {
+        (&self.bytes, self.len)
     }
 
     /// The same block, shared by one more.

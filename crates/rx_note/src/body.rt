@@ -1,6 +1,7 @@
 ghost use Rattle.std.specs.Prelude.{◌≡◌, ◌≤◌, true, false, length, IfOk};
 
 use crate::block::Block;
+use crate::front::Front;
 use crate::long_block::LongBlock;
 use rx_heap::{Heap, Memory};
 use std::sync::Arc;
@@ -49,6 +50,7 @@ fn let_go_long(block: LongBlock) {
 
 impl Body {
     ghost use Rattle.rx_note.specs.Bodies.{bytes_of, IsWithin};
+    ghost use Rattle.rx_note.specs.Fronts.{front_bytes, IsFront};
 
     /// The body of these bytes.
     #[inline(always)] // a short one is made in its place
@@ -126,6 +128,23 @@ impl Body {
             Body::Short { len, bytes } => &bytes[..*len as usize],
             Body::Medium(block) => block.as_bytes(),
             Body::Long(block) => block.as_bytes(),
+        }
+    }
+
+    /// The bytes, for one who copies them.
+    #[inline(always)] // a part of what a text does
+    pub(crate) fn front(&self) -> Front<'_>
+        requires { IsWithin self.now }
+        ensures bytes { front_bytes result ≡ bytes_of self.now }
+        ensures within { IsFront result }
+    {
+        match self {
+            Body::Short { len, bytes } => Front::UpTo20(bytes, *len as usize),
+            Body::Medium(block) => {
+                let (bytes, len) = block.padded();
+                Front::UpTo56(bytes, len)
+            }
+            Body::Long(block) => Front::Whole(block.as_bytes()),
         }
     }
 

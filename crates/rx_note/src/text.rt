@@ -2,9 +2,11 @@ ghost use Rattle.std.specs.Prelude.{◌≡◌, ◌<◌, ◌≤◌, ◌↔◌, le
 ghost use Rattle.std.specs.List.{list_any};
 ghost use Rattle.std.specs.Cmp.{partial_equiv_from_equiv};
 ghost use Rattle.std.specs.Cmp.Lexicographic.{nat_list_eq_equiv, pointwise};
+ghost use Rattle.rx_note.specs.Fronts.{front_bytes, IsFront};
 ghost use Rattle.rx_note.specs.Texts.{HasLf};
 
 use crate::body::Body;
+use crate::front::Front;
 use rx_heap::{Heap, Memory};
 use std::error::Error;
 use std::fmt;
@@ -127,6 +129,16 @@ impl Text {
         ensures no_lf { list_any (λ b. nat_eq b 10) self.now ≡ false }
     {
         self.body.as_bytes()
+    }
+
+    /// Its bytes, for one who copies them.
+    #[inline(always)] // once for each note that is printed
+    pub fn front(&self) -> Front<'_>
+        ensures bytes { front_bytes result ≡ self.now }
+        ensures within { IsFront result }
+        ensures most { length self.now ≤ 1024 }
+    {
+        self.body.front()
     }
 
     /// An equal text; a long one shares the bytes.

@@ -29,7 +29,7 @@ pub use line::Line;
 pub use line_error::{BadLine, LineError};
 pub use name::Name;
 pub use parsing::{parse_line, parse_line_without_lf, parse_script};
-pub use printing::{item_origin, reply_line};
+pub use printing::{item_origin, refusal_line, reply_line};
 pub use response::Response;
 pub use script_line::ScriptLine;
 pub use version::Version;

@@ -1,4 +1,4 @@
-ghost use Rattle.std.specs.Prelude.{◌≡◌, ◌≤◌, ◌+◌, ◌++◌, [], length, take};
+ghost use Rattle.std.specs.Prelude.{◌≡◌, ◌≤◌, ◌+◌, ◌++◌, [], length};
 
 use std::marker::Model;
 
@@ -35,15 +35,6 @@ impl<const N: usize> LineBytes<N> {
         ensures within { length self.now ≤ N }
     {
         &self.bytes[..self.len]
-    }
-
-    /// Its bytes at the front of a block of fixed size, and how many they are.
-    #[inline] // a part of what an outbox does
-    pub fn padded(&self) -> (&[u8; N], usize)
-        ensures bytes { take result.1 result.0.now ≡ self.now }
-        ensures within { result.1 ≤ N }
-    {
-        (&self.bytes, self.len)
     }
 
     // Puts these bytes behind those that it has.

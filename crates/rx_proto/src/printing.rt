@@ -36,29 +36,28 @@ pub fn reply_line(response: Response) -> LineBytes<REPLY_LINE>
             line.put(b"\n");
         }
         Response::Done => line.put(b"OK\n"),
-        Response::Refused(word) => put_refusal(&mut line, word),
+        Response::Refused(word) => line.put(refusal_line(word)),
     }
     line
 }
 
-// Puts the line of a refusal. Each of these has a fixed size, by which it is copied.
-fn put_refusal(line: &mut LineBytes<REPLY_LINE>, word: Word)
-    requires { line.old ≡ [] }
-    ensures { line.new ≡ reply_line (Response.Refused word) }
+/// The line of a refusal, with its LF.
+pub fn refusal_line(word: Word) -> &'static [u8]
+    ensures { result.now ≡ reply_line (Response.Refused word) }
 {
     match word {
-        Word::Long => line.put(b"ERR LONG\n"),
-        Word::Syntax => line.put(b"ERR SYNTAX\n"),
-        Word::Subject => line.put(b"ERR SUBJECT\n"),
-        Word::Ended => line.put(b"ERR ENDED\n"),
-        Word::Full => line.put(b"ERR FULL\n"),
-        Word::Spent => line.put(b"ERR SPENT\n"),
-        Word::Zero => line.put(b"ERR ZERO\n"),
-        Word::Observer => line.put(b"ERR OBSERVER\n"),
-        Word::TooMuch => line.put(b"ERR TOOMUCH\n"),
-        Word::Memory => line.put(b"ERR MEMORY\n"),
-        Word::Gone => line.put(b"ERR GONE\n"),
-        Word::Version => line.put(b"ERR VERSION\n"),
+        Word::Long => b"ERR LONG\n",
+        Word::Syntax => b"ERR SYNTAX\n",
+        Word::Subject => b"ERR SUBJECT\n",
+        Word::Ended => b"ERR ENDED\n",
+        Word::Full => b"ERR FULL\n",
+        Word::Spent => b"ERR SPENT\n",
+        Word::Zero => b"ERR ZERO\n",
+        Word::Observer => b"ERR OBSERVER\n",
+        Word::TooMuch => b"ERR TOOMUCH\n",
+        Word::Memory => b"ERR MEMORY\n",
+        Word::Gone => b"ERR GONE\n",
+        Word::Version => b"ERR VERSION\n",
     }
 }
 

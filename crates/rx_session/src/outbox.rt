@@ -4,8 +4,8 @@ ghost use Rattle.rx_proto.specs.Bytes.{Writes};
 ghost use Rattle.rx_proto.specs.Printing.{note_line, reply_line};
 ghost use Rattle.rx_session.specs.Bytes.{Puts};
 
-use rx_note::{Item, Note};
-use rx_proto::{Response, Version, WriteFault, item_origin, reply_line, write_bytes};
+use rx_note::{Front, Item, Note, Text};
+use rx_proto::{Response, Version, WriteFault, item_origin, refusal_line, reply_line, write_bytes};
 use std::io::{ErrorKind, Write};
 use std::marker::Model;
 
@@ -83,7 +83,7 @@ impl Outbox {
 
     /// Holds the first of these bytes too, so many, and has room for all of them: a copy of fixed size is quicker than one
     /// of the bytes that count.
-    #[inline] // so that the copy is one of fixed size
+    #[inline(always)] // so that the copy is one of fixed size
     pub fn push_padded<const N: usize>(&mut self, bytes: &[u8; N], len: usize)
         requires room { length self.old + N ≤ 8192 }
         requires within { len ≤ N }
@@ -124,7 +124,7 @@ impl Outbox {
     {
         self.push(b"NEXT ");
         self.push(item_origin(item).as_bytes());
-        self.push(item.text.as_bytes());
+        self.push_text(&item.text);
         self.push(b"\n");
     }
 
@@ -137,15 +137,29 @@ impl Outbox {
         match note {
             Note::Next(item) => {
                 self.push(b"NEXT ");
-                self.push(item.text.as_bytes());
+                self.push_text(&item.text);
             }
             Note::Completed => self.push(b"DONE"),
             Note::Failed(text) => {
                 self.push(b"FAILED ");
-                self.push(text.as_bytes());
+                self.push_text(text);
             }
         }
         self.push(b"\n");
+    }
+
+    // Holds the bytes of a text too, for which there is room.
+    #[inline(always)] // a part of `push_note`
+    fn push_text(&mut self, text: &Text)
+        requires { length self.old + 1024 ≤ 65536 }
+        ensures bytes { self.new ≡ self.old ++ text.now }
+        ensures len { length self.new ≤ length self.old + 1024 }
+    {
+        match text.front() {
+            Front::UpTo20(bytes, len) => self.push_padded(bytes, len),
+            Front::UpTo56(bytes, len) => self.push_padded(bytes, len),
+            Front::Whole(bytes) => self.push(bytes),
+        }
     }
 
     /// Holds the line of a response too, as `put` does.
@@ -184,9 +198,10 @@ impl Outbox {
         requires { length self.old + 2048 ≤ 8192 }
         ensures { self.new ≡ self.old ++ reply_line response }
     {
-        let line = reply_line(response);
-        let (bytes, len) = line.padded();
-        self.push_padded(bytes, len);
+        match response {
+            Response::Refused(word) => self.push(refusal_line(word)),
+            other => self.push(reply_line(other).as_bytes()),
+        }
     }
 
     /// Writes what it holds and flushes the writer. It holds nothing afterwards.

@@ -15,7 +15,7 @@ const BUDGET: u64 = 4_096;
 // No hub admits as many items within the budget.
 const MAX_ITEMS: u32 = 1_000;
 
-/// A hub with one observer that grows by a budget, and what it gave. The budget bears what waits; the items that are
+/// A hub with one observer or two that grows by a budget, and what it gave. The budget bears what waits; the items that are
 /// emitted and the list of what is given are made by `free`.
 struct Waiting {
     free: Heap,
@@ -38,8 +38,8 @@ impl Waiting {
     // The hub grows by `tight`, the list of what it gives by `list`.
     fn new(rt: &impl Abort, free: Heap, tight: Heap, list: Heap) -> Waiting {
         let limits = Limits {
-            observers: 1,
-            joins: 1,
+            observers: 2,
+            joins: 2,
             items: u32::MAX,
         };
         let outs = Vec::new(list);
@@ -80,19 +80,25 @@ impl Waiting {
     }
 }
 
-// Fills the budget, and how many items were admitted.
-fn fill_first(rt: &impl Abort, waiting: &mut Waiting, tight: &Heap) -> u32 {
+// Room for items doubles, from four on, and an item takes 32 bytes: beside an observer the budget has room for 64 items, and
+// not for 128.
+const WITHIN_BUDGET: u32 = 64;
+
+// Fills the budget.
+fn fill_first(rt: &impl Abort, waiting: &mut Waiting, tight: &Heap) {
     expect_answer(rt, waiting.join(rt), Ok(Answer::Joined(0)));
-    let first = waiting.fill(rt, MAX_ITEMS).unwrap_or(0);
-    expect_that(rt, first > 10, "more than ten items");
+    expect_that(
+        rt,
+        waiting.fill(rt, MAX_ITEMS) == Some(WITHIN_BUDGET),
+        "as many items as there is room for",
+    );
     expect_answer(rt, waiting.emit(rt), Err(Refusal::Memory));
     expect_count(rt, waiting.hub.misses(), 2, "misses");
     expect_that(rt, tight.used() <= BUDGET, "within the budget");
-    first
 }
 
 // Requests some of what waits, fills the budget again, and requests all.
-fn fill_again(rt: &impl Abort, waiting: &mut Waiting, first: u32) {
+fn fill_again(rt: &impl Abort, waiting: &mut Waiting) {
     expect_answer(rt, waiting.request(3), Ok(Answer::Asked));
     expect_that(
         rt,
@@ -101,14 +107,14 @@ fn fill_again(rt: &impl Abort, waiting: &mut Waiting, first: u32) {
     );
     expect_answer(rt, waiting.request(MAX_ITEMS), Ok(Answer::Asked));
     let given = waiting.outs.len() as u64;
-    expect_count(rt, given, u64::from(first).saturating_add(3), "given");
+    expect_count(rt, given, u64::from(WITHIN_BUDGET + 3), "given");
     expect_answer(rt, waiting.emit(rt), Ok(Answer::Admitted));
 }
 
 fn fill_twice(rt: &impl Abort, free: &Heap, tight: &Heap) {
     let mut waiting = Waiting::new(rt, copy(rt, free), copy(rt, tight), copy(rt, free));
-    let first = fill_first(rt, &mut waiting, tight);
-    fill_again(rt, &mut waiting, first);
+    fill_first(rt, &mut waiting, tight);
+    fill_again(rt, &mut waiting);
 }
 
 #[test]
@@ -126,25 +132,30 @@ fn bytes_of(alloc: Global, notes: usize) -> Result<u64, Fail> {
     Ok(heap.used())
 }
 
-fn request_all(rt: &impl Abort, free: &Heap, tight: &Heap) {
+// The first of so many observers requests so many of 1,000 items that wait for each.
+fn request_some(rt: &impl Abort, free: &Heap, tight: &Heap, observers: u32, n: u32) {
     let mut waiting = Waiting::new(rt, copy(rt, free), copy(rt, free), copy(rt, tight));
-    expect_answer(rt, waiting.join(rt), Ok(Answer::Joined(0)));
+    for who in 0..observers {
+        expect_answer(rt, waiting.join(rt), Ok(Answer::Joined(who)));
+    }
     expect_that(
         rt,
         waiting.fill(rt, MAX_ITEMS) == None,
         "no emission is refused",
     );
-    expect_answer(rt, waiting.request(MAX_ITEMS), Ok(Answer::Asked));
-    expect_count(rt, waiting.outs.len() as u64, u64::from(MAX_ITEMS), "given");
+    expect_answer(rt, waiting.request(n), Ok(Answer::Asked));
+    expect_count(rt, waiting.outs.len() as u64, u64::from(n), "given");
 }
 
 // The list has a few places at the first emission, and gives them back once it has room for the request.
 #[test]
 fn a_request_holds_each_note_once(rt: HostRuntime) -> Result<(), Fail> {
-    let bytes = bytes_of(rt.alloc(), MAX_ITEMS as usize + 8)?;
-    let tight = Heap::with_budget(rt.alloc(), bytes)?;
-    request_all(&rt, &unlimited(&rt), &tight);
-    expect_count(&rt, tight.used(), 0, "bytes that were not given back");
+    for (observers, n) in [(1, 1), (1, MAX_ITEMS), (2, 1), (2, MAX_ITEMS)] {
+        let bytes = bytes_of(rt.alloc(), n as usize + 8)?;
+        let tight = Heap::with_budget(rt.alloc(), bytes)?;
+        request_some(&rt, &unlimited(&rt), &tight, observers, n);
+        expect_count(&rt, tight.used(), 0, "bytes that were not given back");
+    }
     Ok(())
 }
 
@@ -173,15 +184,22 @@ fn a_large_request_gives_memory_back(rt: HostRuntime) -> Result<(), Fail> {
     Ok(())
 }
 
-// How many growths a text of so many bytes takes, and whether it is refused where there is no memory.
-fn growths_of(alloc: Global, len: usize) -> Result<(u64, bool), Fail> {
+// How many growths a text of so many bytes takes, whether it says that it stands in a block, and whether it is refused where
+// there is no memory.
+fn growths_of(alloc: Global, len: usize) -> Result<(u64, Option<bool>, bool), Fail> {
     let letters = [b'a'; MAX_TEXT];
     let bytes = &letters[..len.min(MAX_TEXT)];
     let ample = Heap::with_budget(alloc, BUDGET)?;
-    let made = Text::new(ample.clone()?, bytes).is_ok();
+    let in_block = stands_in_block(ample.clone()?, bytes);
     let tight = Heap::with_budget(alloc, 0)?;
     let refused = Text::new(tight, bytes).err() == Some(TextError::Memory);
-    Ok((ample.asked(), made && refused))
+    Ok((ample.asked(), in_block, refused))
+}
+
+// Whether a text of these bytes says that it stands in a block. None where it was not made.
+fn stands_in_block(heap: Heap, bytes: &[u8]) -> Option<bool> {
+    let text = Text::new(heap, bytes).ok()?;
+    Some(text.has_block())
 }
 
 // The bytes of a text, and its growths.
@@ -190,8 +208,9 @@ const GROWTHS: [(usize, u64); 6] = [(0, 0), (20, 0), (21, 1), (56, 1), (57, 1), 
 #[test]
 fn a_text_takes_few_growths(rt: HostRuntime) -> Result<(), Fail> {
     for (len, growths) in &GROWTHS {
-        let (asked, refused) = growths_of(rt.alloc(), *len)?;
+        let (asked, in_block, refused) = growths_of(rt.alloc(), *len)?;
         expect_count(&rt, asked, *growths, "growths of a text");
+        expect_that(&rt, in_block == Some(*growths > 0), "a text in a block");
         expect_that(&rt, refused == (*growths > 0), "a text without memory");
     }
     Ok(())

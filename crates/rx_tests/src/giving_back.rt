@@ -187,6 +187,30 @@ fn a_room_is_charged_to_its_hub(rt: HostRuntime) -> Result<(), Fail> {
     Ok(())
 }
 
+// A Replay of all items has four words of each on its tape and one for its stamp. Room for either doubles, and all else that a
+// hub holds is less than 1,000 bytes.
+fn expect_kept(rt: &impl Abort, free: &Heap, heap: &Heap, items: u32, room: u64) {
+    let kind = Kind::Replay {
+        count: None,
+        age: None,
+    };
+    let mut charged = Charged::new(rt, kind, heap, free, free);
+    for at in 0..items {
+        let answered = charged.emit(rt, 1, u64::from(at));
+        expect_answer(rt, answered, Ok(Answer::Admitted));
+    }
+    expect_that(rt, heap.used() < 40 * room + 1_000, "bytes of a Replay");
+}
+
+#[test]
+fn a_replay_keeps_an_item_and_a_stamp(rt: HostRuntime) -> Result<(), Fail> {
+    let heap = Heap::with_budget(rt.alloc(), 1 << 20)?;
+    for (items, room) in [(10, 16), (1_000, 1_024)] {
+        expect_kept(&rt, &unlimited(&rt), &heap, items, room);
+    }
+    Ok(())
+}
+
 // An item of Async is offered to nobody before the completion, which does need room for what it gives.
 #[test]
 fn an_item_kept_back_takes_no_room(rt: HostRuntime) -> Result<(), Fail> {

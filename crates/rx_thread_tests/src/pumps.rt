@@ -15,7 +15,7 @@ use rx_heap::Heap;
 use rx_hub::Hub;
 use rx_mailbox::{EndedPort, Inbox, Port, open};
 use rx_note::{Event, Kind, Limits, Strategy};
-use rx_pump::{Call, Out, Pump, PumpEnd, Reply};
+use rx_pump::{Call, Out, Pump, PumpEnd, PumpFault, PumpStop, Reply};
 use rx_signs::{Refusable, Seen, event_of, policy_of, refuse_in_turn};
 use std::process::Abort;
 use std::sync::Wait;
@@ -339,4 +339,93 @@ fn pump_with_each_growth_refused(rt: HostRuntime) -> Result<(), Fail> {
     expect_that(&rt, refusals.unmade >= 10, "pumps that were not made");
     expect_that(&rt, refusals.missed >= 2, "calls that were refused");
     Ok(())
+}
+
+/// What is gone before a pump serves.
+#[derive(Clone, Copy, PartialEq, Eq)]
+enum Lost {
+    Nothing,
+    Drainer,
+    Caller,
+    /// The ports of its calls, which have put no Bye.
+    Ports,
+}
+
+// What is gone, whether calls were sent before, how many turns the pump takes before it serves, and the fault at which it stops.
+const STOPS: [(Lost, bool, u32, Option<PumpFault>); 8] = [
+    (Lost::Nothing, true, 0, None),
+    (Lost::Nothing, true, 7, None),
+    (Lost::Drainer, true, 0, Some(PumpFault::DrainerGone(0))),
+    (Lost::Drainer, false, 0, Some(PumpFault::DrainerGone(0))),
+    (Lost::Caller, true, 0, Some(PumpFault::CallerGone(0))),
+    (Lost::Caller, false, 0, Some(PumpFault::CallerGone(0))),
+    (Lost::Ports, true, 0, Some(PumpFault::InboxGone)),
+    (Lost::Ports, false, 0, Some(PumpFault::InboxGone)),
+];
+
+fn fault_in(served: Result<PumpEnd<u8>, PumpStop<u8>>) -> Option<PumpFault> {
+    match served {
+        Ok(_) => None,
+        Err(stop) => Some(stop.fault),
+    }
+}
+
+// A value, or None where it is let go.
+fn kept_if<T: Drop>(is_kept: bool, value: T) -> Option<T> {
+    if is_kept { Some(value) } else { None }
+}
+
+// Takes so many turns and serves, with what it sends to gone or not. The fault at which it stops.
+fn fault_without(rt: &(impl Wait + Abort), fed: Fed, lost: Lost, turns: u32) -> Option<PumpFault> {
+    let Fed {
+        mut pump,
+        outs,
+        replies,
+    } = fed;
+    let outs = kept_if(lost != Lost::Drainer, outs);
+    let replies = kept_if(lost != Lost::Caller, replies);
+    for _ in 0..turns {
+        expect_that(rt, pump.turn(rt).is_ok(), "a turn");
+    }
+    let fault = fault_in(pump.serve(rt));
+    drop(outs);
+    drop(replies);
+    fault
+}
+
+// The two ports end, or are gone.
+fn end_unless(rt: &(impl Wait + Abort), lost: Lost, first: Port<Call<u8>>, second: Port<Call<u8>>) {
+    if lost != Lost::Ports {
+        drop(finish(rt, first));
+        drop(finish(rt, second));
+    }
+}
+
+// The fault at which a pump stops that is wired anew.
+fn fault_of(
+    rt: &(impl Wait + Abort),
+    heap: &Heap,
+    lost: Lost,
+    has_calls: bool,
+    turns: u32,
+) -> Option<PumpFault> {
+    let Wired {
+        fed,
+        mut first,
+        mut second,
+    } = wired_if(rt, heap, heap)?;
+    if has_calls {
+        send_calls(rt, heap, &mut first, &mut second);
+    }
+    end_unless(rt, lost, first, second);
+    fault_without(rt, fed, lost, turns)
+}
+
+#[test]
+fn pump_names_what_is_gone(rt: HostRuntime) {
+    let heap = unlimited(&rt);
+    for (row, (lost, has_calls, turns, wanted)) in STOPS.iter().enumerate() {
+        let fault = fault_of(&rt, &heap, *lost, *has_calls, *turns);
+        assert_eq!(rt; fault, *wanted, "row {row}");
+    }
 }

@@ -9,8 +9,8 @@ ghost use Rattle.rx_hub.specs.Emissions.{IsOpen, IsNext, StaysAs, Admits, delive
 use crate::audience::Audience;
 use crate::emission::Emission;
 use crate::passes::{
-    are_owed, feed_all, forget_all, give_item, give_owed, make_room, pass_all, pass_owed_all,
-    prepare_all, take_back,
+    are_owed, feed_all, forget_all, give_item, give_owed, pass_all, pass_owed_all, prepare_all,
+    take_back,
 };
 use rx_heap::{Heap, Memory};
 use rx_note::{Given, Item, Note};
@@ -70,7 +70,7 @@ impl Audience {
     {
         if subject.keeps_nothing() && are_owed(&self.subscriptions) {
             let before = outs.len();
-            make_room(outs, self.subscriptions.len())?;
+            outs.reserve(self.subscriptions.len())?;
             let Ok(()) = give_owed(&self.subscriptions, item, outs) else {
                 outs.truncate(before);
                 return Err(Memory);
@@ -120,7 +120,7 @@ impl Audience {
         ensures admits { OnOk result ((from place : ℕ) → Admits (delivery subject.old self.old outs.old.items) (delivery subject.new self.new outs.new.items) (of_item from place item at)) }
     {
         let before = outs.len();
-        make_room(outs, self.subscriptions.len())?;
+        outs.reserve(self.subscriptions.len())?;
         let Ok(fits) = give_item(&mut self.subscriptions, &item, outs) else {
             take_back(&mut self.subscriptions, before, outs);
             return Err(Memory);

@@ -38,7 +38,7 @@ returns-then-are_owed-clause-admits c =
     (subst (λ (v : AudienceState). subjects.StandsFor (subject_on v.items c.args.subject.now) rules H) (sym c.self.view_is) stands)) (
       fed.0,
       c.in-Ok.ensures.given
-          ∙ ap (λ os. os ++ gifts item (places_of a.subscriptions.items)) c.in_ok-make_room.ensures.items
+          ∙ ap (λ os. os ++ gifts item (places_of a.subscriptions.items)) c.in_ok-reserve.ensures.items
           ∙ ap (λ gs. before ++ gs) fed.1,
       subst (λ (os : List Observer). AllFed (Offered item ∷ []) os news fed.0) olds fed.2,
     )

@@ -35,8 +35,8 @@ invariant_of-self-2 c =
       c.pass_all.ensures.idle (c.in-Ok.ensures.aside c.if-not-fits.false (all_aside a.subscriptions.items c.self.invariant.3)),
     )
 
-pub returns-in_err-make_room-clause-err : goal.returns-in_err-make_room-clause-err
-returns-in_err-make_room-clause-err c = on_err_known c.from_residual.result (record { subject = refl; audience = refl; given = c.in_err-make_room.ensures.items })
+pub returns-in_err-reserve-clause-err : goal.returns-in_err-reserve-clause-err
+returns-in_err-reserve-clause-err c = on_err_known c.from_residual.result (record { subject = refl; audience = refl; given = c.in_err-reserve.ensures.items })
 
 pub invariant_of-self : goal.invariant_of-self
 invariant_of-self c =
@@ -54,9 +54,9 @@ returns-in_default-clause-err c =
           ∙ c.self.view_is;
       given =
           c.take_back.ensures.items
-          ∙ ap (λ (n : ℕ). take n c.give_item.new.outs.items) (c.len-before.ensures ∙ sym c.in_ok-make_room.ensures.len)
+          ∙ ap (λ (n : ℕ). take n c.give_item.new.outs.items) (c.len-before.ensures ∙ sym c.in_ok-reserve.ensures.len)
           ∙ c.in_default.ensures.front
-          ∙ c.in_ok-make_room.ensures.items;
+          ∙ c.in_ok-reserve.ensures.items;
     }
 
 pub admit_on-requires-clause-stamps : goal.admit_on-requires-clause-stamps
@@ -81,9 +81,9 @@ returns-in_default-admit_on-clause-err c =
           ∙ c.self.view_is;
       given =
           c.take_back-in_default-admit_on.ensures.items
-          ∙ ap (λ (n : ℕ). take n c.give_item.new.outs.items) (c.len-before.ensures ∙ sym c.in_ok-make_room.ensures.len)
+          ∙ ap (λ (n : ℕ). take n c.give_item.new.outs.items) (c.len-before.ensures ∙ sym c.in_ok-reserve.ensures.len)
           ∙ c.in-Ok.ensures.front
-          ∙ c.in_ok-make_room.ensures.items;
+          ∙ c.in_ok-reserve.ensures.items;
     }
 
 pub pass_all-requires-clause-on : goal.pass_all-requires-clause-on
@@ -117,7 +117,7 @@ returns-clause-admits c =
     (c.in-Ok-admit_on.ensures.stands from place rules H room (subst (λ (v : AudienceState). subjects.StandsFor (subject_on v.items c.args.subject.now) rules H) (sym c.self.view_is) stands))) (
       fed.0,
       c.in-Ok.ensures.given c.if-not-fits.false
-          ∙ ap (λ os. os ++ gifts item olds) c.in_ok-make_room.ensures.items
+          ∙ ap (λ os. os ++ gifts item olds) c.in_ok-reserve.ensures.items
           ∙ ap (λ gs. before ++ gs) (ap (gifts item) (sym c.in-Ok.ensures.places) ∙ fed.1),
       subst (λ (os : List Observer). AllFed (Offered item ∷ []) os news fed.0) were fed.2,
     )
@@ -142,9 +142,9 @@ returns-then-not-fits-clause-err c =
     let same = shown a.tape.items a.tape.items (places_of a.subscriptions.items) (places_of c.take_back-then-not-fits.new.subscriptions.items) refl (c.take_back-then-not-fits.ensures.places ∙ c.in-Ok.ensures.places) ∙ c.self.view_is in
     let outs =
     c.take_back-then-not-fits.ensures.items
-    ∙ ap (λ (n : ℕ). take n c.give_item.new.outs.items) (c.len-before.ensures ∙ sym c.in_ok-make_room.ensures.len)
+    ∙ ap (λ (n : ℕ). take n c.give_item.new.outs.items) (c.len-before.ensures ∙ sym c.in_ok-reserve.ensures.len)
     ∙ c.in-Ok.ensures.front
-    ∙ c.in_ok-make_room.ensures.items in
+    ∙ c.in_ok-reserve.ensures.items in
     on_err c.admit_offer.result (λ known. record { subject = known.subject; audience = known.audience ∙ same; given = known.given ∙ outs }) c.admit_offer.ensures.err
 
 pub returns-then-not-fits-clause-admits : goal.returns-then-not-fits-clause-admits
@@ -154,9 +154,9 @@ returns-then-not-fits-clause-admits c =
     let same = shown a.tape.items a.tape.items (places_of a.subscriptions.items) (places_of c.take_back-then-not-fits.new.subscriptions.items) refl (c.take_back-then-not-fits.ensures.places ∙ c.in-Ok.ensures.places) ∙ c.self.view_is in
     let outs =
     c.take_back-then-not-fits.ensures.items
-    ∙ ap (λ (n : ℕ). take n c.give_item.new.outs.items) (c.len-before.ensures ∙ sym c.in_ok-make_room.ensures.len)
+    ∙ ap (λ (n : ℕ). take n c.give_item.new.outs.items) (c.len-before.ensures ∙ sym c.in_ok-reserve.ensures.len)
     ∙ c.in-Ok.ensures.front
-    ∙ c.in_ok-make_room.ensures.items in
+    ∙ c.in_ok-reserve.ensures.items in
     let new = delivery c.admit_offer.new.subject c.admit_offer.new.self c.admit_offer.new.outs.items in
     let By : AudienceState → List Given → Type 0 = λ audience before. Admits (delivery c.args.subject.now audience before) new (of_item item.from item.place item c.args.at) in
     on_ok c.admit_offer.result
