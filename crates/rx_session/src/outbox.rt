@@ -151,7 +151,7 @@ impl Outbox {
     // Holds the bytes of a text too, for which there is room.
     #[inline(always)] // a part of `push_note`
     fn push_text(&mut self, text: &Text)
-        requires { length self.old + 1024 ≤ 65536 }
+        requires { length self.old + 1024 ≤ 8192 }
         ensures bytes { self.new ≡ self.old ++ text.now }
         ensures len { length self.new ≤ length self.old + 1024 }
     {
