@@ -20,3 +20,5 @@ mod slow_peers;
 mod sockets;
 #[cfg(test)]
 mod texts;
+#[cfg(test)]
+mod turns;

@@ -19,12 +19,21 @@ use std::thread::{Threads, join};
 use std::time::Clock;
 
 // What a server and its callers are handed.
-trait Host: AllocGlobal + Clock + Threads + Wait + Abort + Clone + Drop + Send + Sync + 'static {}
+pub(crate) trait Host: AllocGlobal
+    + Clock
+    + Threads
+    + Wait
+    + Abort
+    + Clone
+    + Drop
+    + Send
+    + Sync
+    + 'static {}
 
 impl<T: AllocGlobal + Clock + Threads + Wait + Abort + Clone + Drop + Send + Sync + 'static> Host
     for T {}
 
-fn copy(rt: &impl Abort, alloc: &Heap) -> Heap {
+pub(crate) fn copy(rt: &impl Abort, alloc: &Heap) -> Heap {
     alloc.clone().expect(rt, "a handle")
 }
 
@@ -40,7 +49,7 @@ const TWO_OF_EACH: &[u8] =
     b"[[subject]]\nname = \"s\"\nkind = \"publish\"\n[[subject]]\nname = \"t\"\nkind = \"publish\"\n[pool]\nworkers = 2\ndrainers = 2\n";
 
 // The configuration that this text says.
-fn config_of(rt: &impl Host, heap: &Heap, text: &[u8]) -> Config {
+pub(crate) fn config_of(rt: &impl Host, heap: &Heap, text: &[u8]) -> Config {
     match read_config(copy(rt, heap), rt.alloc(), text) {
         Ok(config) => config,
         Err(_) => panic!(rt; "a configuration that is refused"),
@@ -59,7 +68,7 @@ where
 }
 
 // The report of a server that is closed, whose desks have ended.
-fn closed<S: Sink + Send + 'static>(
+pub(crate) fn closed<S: Sink + Send + 'static>(
     rt: &impl Host,
     server: Server<S>,
     ended: Vec<EndedDesk<S>, Heap>,

@@ -58,16 +58,17 @@ abbrev pub flag_words : List ℕ → Bool → List ℕ
 flag_words key false = []
 flag_words key true = key
 
--- how many connections are served, how long a peer may take nothing and send nothing, and whether a path is taken over
+-- how many connections are served, and how long a peer may take nothing
 abbrev pub service_words : Settings → List ℕ
-service_words settings =
-    number_words (codes " connections ") settings.pool.connections
-    ++ (number_words (codes " stall ") settings.pool.stall
-    ++ (bound_words (codes " idle ") settings.pool.idle ++ flag_words (codes " takeover") settings.pool.takeover))
+service_words settings = number_words (codes " connections ") settings.pool.connections ++ number_words (codes " stall ") settings.pool.stall
+
+-- how long a session may send nothing, where that has an end, and whether a path is taken over
+abbrev pub option_words : Settings → List ℕ
+option_words settings = bound_words (codes " idle ") settings.pool.idle ++ flag_words (codes " takeover") settings.pool.takeover
 
 -- what is said of the pool
 abbrev pub pool_words : Settings → List ℕ
-pool_words settings = codes "pool" ++ (crew_words settings ++ service_words settings)
+pool_words settings = codes "pool" ++ (crew_words settings ++ (service_words settings ++ option_words settings))
 
 abbrev pub pool_line : Settings → List ℕ
 pool_line settings = line (pool_words settings)

@@ -1,7 +1,7 @@
 //! The lines of a configuration that was accepted.
 ghost use Rattle.std.specs.Prelude.{◌≡◌, ◌++◌, IfOk, OnOk, decimal, map};
 ghost use Rattle.rx_config.specs.Configurations.{settings_of, subject_of_config};
-ghost use Rattle.rx_listing.specs.Listings.{bound_words, config_lines, crew_words, flag_words, kind_words, limit_words, pool_line, seed_words, service_words, subject_line, subject_lines};
+ghost use Rattle.rx_listing.specs.Listings.{bound_words, config_lines, crew_words, flag_words, kind_words, limit_words, option_words, pool_line, seed_words, service_words, subject_line, subject_lines};
 
 use itoa::Buffer;
 use rx_config::{Config, SubjectConfig};
@@ -100,6 +100,7 @@ fn put_pool(lines: &mut Vec<u8, Heap>, config: &Config) -> Result<(), Memory>
     put(lines, b"pool")?;
     put_crew(lines, config)?;
     put_service(lines, config)?;
+    put_options(lines, config)?;
     put(lines, b"\n")
 }
 
@@ -112,12 +113,18 @@ fn put_crew(lines: &mut Vec<u8, Heap>, config: &Config) -> Result<(), Memory>
     put_number(lines, b" window ", u64::from(config.window))
 }
 
-// Puts how many connections are served, how long a peer may take nothing and send nothing, and whether a path is taken over.
+// Puts how many connections are served, and how long a peer may take nothing.
 fn put_service(lines: &mut Vec<u8, Heap>, config: &Config) -> Result<(), Memory>
     ensures { OnOk result (lines.new.items ≡ lines.old.items ++ service_words (settings_of config.now)) }
 {
     put_number(lines, b" connections ", u64::from(config.connections))?;
-    put_number(lines, b" stall ", u64::from(config.stall))?;
+    put_number(lines, b" stall ", u64::from(config.stall))
+}
+
+// Puts how long a session may send nothing, where that has an end, and whether a path is taken over.
+fn put_options(lines: &mut Vec<u8, Heap>, config: &Config) -> Result<(), Memory>
+    ensures { OnOk result (lines.new.items ≡ lines.old.items ++ option_words (settings_of config.now)) }
+{
     put_bound(lines, b" idle ", config.idle)?;
     put_flag(lines, b" takeover", config.takeover)
 }
