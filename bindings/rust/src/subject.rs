@@ -11,6 +11,21 @@ use std::mem::{self, MaybeUninit};
 ///
 /// Moments are milliseconds of the caller's own clock; only a Replay with an age looks at them. Ports are numbers of the
 /// caller's own, by which an item tells where it came from.
+///
+/// ```
+/// use hazoxe::{Kind, Rules, Subject};
+/// let mut subject = Subject::open(&Rules::of(Kind::Publish)).unwrap();
+/// let elsewhere = std::thread::spawn(move || {
+///     subject.next(0, 0, "a text that takes memory, which the other thread gives back").unwrap();
+///     subject
+/// });
+/// assert_eq!(elsewhere.join().unwrap().counts().given, 0);
+/// ```
+///
+/// ```compile_fail
+/// fn shares<T: Sync>() {}
+/// shares::<hazoxe::Subject>();
+/// ```
 pub struct Subject {
     raw: UnsafeCell<raw::Subject>,
 }

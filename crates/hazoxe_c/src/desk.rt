@@ -10,7 +10,7 @@ use crate::queue::Queue;
 use crate::subject_rules::{SubjectRules, check_text};
 use rx_heap::Heap;
 use rx_hub::Hub;
-use rx_note::{Answer, Event, Item, Note, Policy, Refusal, Text};
+use rx_note::{Answer, Event, Note, Policy, Refusal, Text};
 use std::alloc::Global;
 use std::marker::Model;
 

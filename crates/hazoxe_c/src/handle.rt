@@ -74,4 +74,5 @@ impl Handle {
     }
 }
 
+// A desk may go to another thread, and a handle owns nothing else: `proofs/handle/Handle/TheSendSync`.
 unsafe impl Send for Handle {}
