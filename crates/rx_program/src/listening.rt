@@ -1,11 +1,10 @@
 //! The path of a server's socket.
 
 use crate::host::Host;
-use std::fs;
-use std::io;
 use std::io::ErrorKind;
 use std::os::unix::fs::FileTypeExt;
 use std::os::unix::net::{UnixListener, UnixStream};
+use std::{fs, io};
 
 /// A new Unix socket at this path. With `takeover`, a socket that stands there and on which nobody listens is removed first.
 ///

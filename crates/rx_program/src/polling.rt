@@ -1,4 +1,3 @@
-use crate::host::Host;
 use crate::incoming::Incoming;
 use mio::unix::SourceFd;
 use mio::{Events, Interest, Poll, Token, Waker};
@@ -6,7 +5,8 @@ use rx_heap::Heap;
 use rx_server::{Aim, Bell, Readiness, Ready, WatchFault};
 use std::alloc::Global;
 use std::io;
-use std::time::Duration;
+use std::net::Net;
+use std::time::{Clock, Duration};
 
 // How many connections are told at a time at most.
 const MOST_READY: usize = 256;
@@ -19,12 +19,12 @@ const LOOK: u64 = 1;
 
 /// The readiness of the connections of a Unix socket, by the system's events. Where a peer may be idle only for so long, a
 /// connection is told too once nothing happened on it for as long, so that its session has a turn and finds that out.
-pub struct Polling<F: Host> {
+pub struct Polling<C: Clock + Drop> {
     poll: Poll,
     // It takes memory of the runtime, as `mio` has no other.
     events: Events<Global>,
     ready: Vec<Ready, Heap>,
-    host: F,
+    clock: C,
     idle: Option<Duration>,
     // By key, when a connection was told last.
     told: Vec<Duration, Heap>,
@@ -32,13 +32,13 @@ pub struct Polling<F: Host> {
 }
 
 // It stands here, and isn't derived, so that what lets go of it is one call that is proved once.
-impl<F: Host> Drop for Polling<F> {
+impl<C: Clock + Drop> Drop for Polling<C> {
     fn drop(self) {
         let Polling {
             poll: _,
             events: _,
             ready: _,
-            host: _,
+            clock: _,
             idle: _,
             told: _,
             looked: _,
@@ -46,18 +46,24 @@ impl<F: Host> Drop for Polling<F> {
     }
 }
 
-impl<F: Host> Polling<F> {
-    /// It watches nothing, and tells connections on which nothing happened for so long.
-    pub fn new(host: F, heap: &Heap, idle: Option<Duration>) -> io::Result<Polling<F>> {
-        let poll = Poll::new(&host)?;
-        let events = Events::with_capacity(host.alloc(), MOST_READY)?;
+impl<C: Clock + Drop> Polling<C> {
+    /// It watches nothing, and tells connections on which nothing happened for so long, by this clock.
+    pub fn new(
+        net: &impl Net,
+        runtime: Global,
+        clock: C,
+        heap: &Heap,
+        idle: Option<Duration>,
+    ) -> io::Result<Polling<C>> {
+        let poll = Poll::new(net)?;
+        let events = Events::with_capacity(runtime, MOST_READY)?;
         let mut ready = Vec::new(heap.clone()?);
         ready.reserve(MOST_READY)?;
         Ok(Polling {
             poll,
             events,
             ready,
-            host,
+            clock,
             idle,
             told: Vec::new(heap.clone()?),
             looked: Duration::ZERO,
@@ -72,7 +78,7 @@ impl<F: Host> Polling<F> {
     }
 
     fn now(&self) -> Duration {
-        self.host.monotonic().unwrap_or(Duration::ZERO)
+        self.clock.monotonic().unwrap_or(Duration::ZERO)
     }
 
     // Puts what the system told, all but the bell.
@@ -115,19 +121,23 @@ impl<F: Host> Polling<F> {
     }
 }
 
-impl<F: Host> Readiness<Incoming<F>> for Polling<F> {
-    fn begin(&mut self, connection: &Incoming<F>, key: usize) -> Result<(), WatchFault> {
+impl<C: Clock + Drop> Readiness<Incoming<C>> for Polling<C> {
+    fn begin(&mut self, connection: &Incoming<C>, key: usize) -> Result<(), WatchFault> {
         self.make_room(key)?;
         let descriptor = connection.descriptor();
         let mut source = SourceFd(&descriptor);
-        match self.poll.registry().register(&mut source, Token(key), Interest::READABLE) {
+        match self
+            .poll
+            .registry()
+            .register(&mut source, Token(key), Interest::READABLE)
+        {
             Ok(()) => Ok(()),
             Err(_) => Err(WatchFault),
         }
     }
 
     // The system refuses no change of what it watches already.
-    fn change(&mut self, connection: &Incoming<F>, key: usize, aim: Aim) {
+    fn change(&mut self, connection: &Incoming<C>, key: usize, aim: Aim) {
         let interest = match aim {
             Aim::Bytes => Interest::READABLE,
             Aim::Both => Interest::READABLE | Interest::WRITABLE,
@@ -135,10 +145,13 @@ impl<F: Host> Readiness<Incoming<F>> for Polling<F> {
         };
         let descriptor = connection.descriptor();
         let mut source = SourceFd(&descriptor);
-        let _ = self.poll.registry().reregister(&mut source, Token(key), interest);
+        let _ = self
+            .poll
+            .registry()
+            .reregister(&mut source, Token(key), interest);
     }
 
-    fn forget(&mut self, connection: &Incoming<F>) {
+    fn forget(&mut self, connection: &Incoming<C>) {
         let descriptor = connection.descriptor();
         let mut source = SourceFd(&descriptor);
         let _ = self.poll.registry().deregister(&mut source);

@@ -1,16 +1,15 @@
-use crate::host::Host;
 use crate::incoming::Incoming;
 use crate::outgoing::Outgoing;
 use crate::polling::{Polling, Ring};
 use crate::terms::Terms;
 use rx_heap::Heap;
 use rx_server::{AcceptFault, Listener, Watch, WatchFault};
-use std::io;
 use std::io::{ErrorKind, Write};
+use std::net::Net;
 use std::os::unix::net::{UnixListener, UnixStream};
-use std::sync::Arc;
-use std::thread;
-use std::time::Duration;
+use std::sync::{Arc, Wait};
+use std::time::{Clock, Duration};
+use std::{io, thread};
 
 // How long it pauses where there is no descriptor or no memory for a connection, in milliseconds.
 const PAUSE: u64 = 10;
@@ -18,7 +17,7 @@ const PAUSE: u64 = 10;
 /// The connections of a Unix socket. What is written to one waits for its peer in this memory. A connection that can't be had
 /// is given up alone; where there are no descriptors or no memory for one, the first time is told on `faults`, and it waits for
 /// some.
-pub struct Socket<'a, F: Host, E: Write> {
+pub struct Socket<'a, F: Clock + Drop, E: Write> {
     listener: UnixListener,
     host: F,
     heap: Heap,
@@ -28,7 +27,7 @@ pub struct Socket<'a, F: Host, E: Write> {
 }
 
 // It stands here, and isn't derived, so that what lets go of a socket is one call that is proved once.
-impl<'a, F: Host, E: Write> Drop for Socket<'a, F, E> {
+impl<'a, F: Clock + Drop, E: Write> Drop for Socket<'a, F, E> {
     fn drop(self) {
         let Socket {
             listener: _,
@@ -41,7 +40,7 @@ impl<'a, F: Host, E: Write> Drop for Socket<'a, F, E> {
     }
 }
 
-impl<'a, F: Host, E: Write> Socket<'a, F, E> {
+impl<'a, F: Clock + Drop, E: Write> Socket<'a, F, E> {
     /// The connections that come to this listener, each on these terms.
     pub fn new(
         listener: UnixListener,
@@ -60,27 +59,6 @@ impl<'a, F: Host, E: Write> Socket<'a, F, E> {
         }
     }
 
-    // The half of a connection that is read, and the half that is written. Neither waits.
-    fn halves(&self, stream: UnixStream) -> io::Result<(Incoming<F>, Outgoing<F>)> {
-        stream.set_nonblocking(true)?;
-        let reading = self.host.clone()?;
-        let writing = self.host.clone()?;
-        let waiting = self.heap.clone()?;
-        let link = Arc::new(self.heap.clone()?, stream)?;
-        let other = Arc::try_clone(&link)?;
-        Ok((
-            Incoming::new(link, reading, self.terms.idle),
-            Outgoing::new(other, writing, waiting, self.terms.stall),
-        ))
-    }
-
-    // What one more worker waits by.
-    fn polled(&self) -> io::Result<Watch<Polling<F>, Ring>> {
-        let readiness = Polling::new(self.host.clone()?, &self.heap, self.terms.idle)?;
-        let bell = readiness.bell()?;
-        Ok(Watch { readiness, bell })
-    }
-
     // Pauses, and tells why the first time.
     fn pause(&mut self, fault: &io::Error) {
         if !self.is_told {
@@ -91,7 +69,8 @@ impl<'a, F: Host, E: Write> Socket<'a, F, E> {
     }
 }
 
-impl<'a, F: Host, E: Write> Listener for Socket<'a, F, E> {
+impl<'a, F: AllocGlobal + Net + Clock + Wait + Clone + Drop + Send + 'static, E: Write> Listener
+    for Socket<'a, F, E> {
     type Reader = Incoming<F>;
 
     type Writer = Outgoing<F>;
@@ -112,7 +91,7 @@ impl<'a, F: Host, E: Write> Listener for Socket<'a, F, E> {
         for _ in host.forever() {
             match self.listener.accept() {
                 Ok((stream, _)) => {
-                    if let Ok(halves) = self.halves(stream) {
+                    if let Ok(halves) = halves(stream, &self.host, &self.heap, self.terms) {
                         return Ok(halves);
                     }
                 }
@@ -125,11 +104,41 @@ impl<'a, F: Host, E: Write> Listener for Socket<'a, F, E> {
     }
 
     fn watch(&self) -> Result<Watch<Polling<F>, Ring>, WatchFault> {
-        match self.polled() {
+        match polled(&self.host, &self.heap, self.terms) {
             Ok(watch) => Ok(watch),
             Err(_) => Err(WatchFault),
         }
     }
+}
+
+// What one more worker waits by.
+fn polled<F: AllocGlobal + Net + Clock + Clone + Drop>(
+    host: &F,
+    heap: &Heap,
+    terms: Terms,
+) -> io::Result<Watch<Polling<F>, Ring>> {
+    let readiness = Polling::new(host, host.alloc(), host.clone()?, heap, terms.idle)?;
+    let bell = readiness.bell()?;
+    Ok(Watch { readiness, bell })
+}
+
+// The half of a connection that is read, and the half that is written. Neither waits.
+fn halves<C: Clock + Clone + Drop>(
+    stream: UnixStream,
+    clock: &C,
+    heap: &Heap,
+    terms: Terms,
+) -> io::Result<(Incoming<C>, Outgoing<C>)> {
+    stream.set_nonblocking(true)?;
+    let reading = clock.clone()?;
+    let writing = clock.clone()?;
+    let waiting = heap.clone()?;
+    let link = Arc::new(heap.clone()?, stream)?;
+    let other = Arc::try_clone(&link)?;
+    Ok((
+        Incoming::new(link, reading, terms.idle),
+        Outgoing::new(other, writing, waiting, terms.stall),
+    ))
 }
 
 // Whether the next accept may do better: the call was interrupted, or the connection is gone.
