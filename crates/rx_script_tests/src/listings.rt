@@ -42,8 +42,8 @@ const ACCEPTED: [(&str, &str); 3] = [
         "subject s publish observers 64 joins 4294967295 items 4294967295\npool drainers 1 workers 4 window 16 connections 4294967295 stall 60\n",
     ),
     (
-        "[[subject]]\nname = \"r\"\nkind = \"replay\"\ncount = 16\nage = 60000\nobservers = 2\njoins = 30\nitems = 400\n[[subject]]\nname = \"a-1\"\nkind = \"async\"\n[pool]\ndrainers = 8\nworkers = 32\nwindow = 1\nconnections = 7\nstall = 9\n",
-        "subject r replay count 16 age 60000 observers 2 joins 30 items 400\nsubject a-1 async observers 64 joins 4294967295 items 4294967295\npool drainers 8 workers 32 window 1 connections 7 stall 9\n",
+        "[[subject]]\nname = \"r\"\nkind = \"replay\"\ncount = 16\nage = 60000\nobservers = 2\njoins = 30\nitems = 400\n[[subject]]\nname = \"a-1\"\nkind = \"async\"\n[pool]\ndrainers = 8\nworkers = 32\nwindow = 1\nconnections = 7\nstall = 9\nidle = 600\ntakeover = true\n",
+        "subject r replay count 16 age 60000 observers 2 joins 30 items 400\nsubject a-1 async observers 64 joins 4294967295 items 4294967295\npool drainers 8 workers 32 window 1 connections 7 stall 9 idle 600 takeover\n",
     ),
     (
         "[[subject]]\nname = \"b\"\nkind = \"behavior\"\nseed = \"none yet\"\n[[subject]]\nname = \"c\"\nkind = \"behavior\"\n[[subject]]\nname = \"d\"\nkind = \"replay\"\n",
@@ -57,7 +57,7 @@ fn lines_of_configurations(rt: HostRuntime) -> Result<(), Fail> {
 }
 
 // Texts that are refused, and what is told of the key.
-const REFUSED: [(&str, &str); 18] = [
+const REFUSED: [(&str, &str); 20] = [
     (
         "",
         "config has to have a subject at least, as in: [[subject]] and below it name = \"prices\" and kind = \"publish\"\n",
@@ -69,7 +69,7 @@ const REFUSED: [(&str, &str); 18] = [
     ("pool = 1\n", "pool has to be a table, as in: [pool]\n"),
     (
         "[pool]\nthreads = 1\n",
-        "pool: threads is no key: a pool has drainers, workers, window, connections and stall\n",
+        "pool: threads is no key: a pool has drainers, workers, window, connections, stall, idle and takeover\n",
     ),
     (
         "[pool]\ndrainers = 9\n",
@@ -90,6 +90,14 @@ const REFUSED: [(&str, &str); 18] = [
     (
         "[pool]\nstall = 3601\n",
         "pool: stall is wrong: seconds from 1 to 3600, as in: stall = 60\n",
+    ),
+    (
+        "[pool]\nidle = 86401\n",
+        "pool: idle is wrong: seconds from 1 to 86400, as in: idle = 600\n",
+    ),
+    (
+        "[pool]\ntakeover = 1\n",
+        "pool: takeover is wrong: true or false, as in: takeover = true\n",
     ),
     (
         "subject = [1]\n",
