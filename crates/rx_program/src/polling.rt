@@ -111,12 +111,14 @@ impl<C: Clock + Drop> Polling<C> {
     // Has room for what is told of this key.
     fn make_room(&mut self, key: usize) -> Result<(), WatchFault> {
         let now = self.now();
-        while self.told.len() <= key {
+        for _ in self.told.len()..=key {
             let Ok(()) = self.told.push(now) else {
                 return Err(WatchFault);
             };
         }
-        self.told[key] = now;
+        if let Some(told) = self.told.get_mut(key) {
+            *told = now;
+        }
         Ok(())
     }
 }

@@ -199,7 +199,8 @@ fn expect_kept(rt: &impl Abort, free: &Heap, heap: &Heap, items: u32, room: u64)
         let answered = charged.emit(rt, 1, u64::from(at));
         expect_answer(rt, answered, Ok(Answer::Admitted));
     }
-    expect_that(rt, heap.used() < 40 * room + 1_000, "bytes of a Replay");
+    let most = room.saturating_mul(40).saturating_add(1_000);
+    expect_that(rt, heap.used() < most, "bytes of a Replay");
 }
 
 #[test]
