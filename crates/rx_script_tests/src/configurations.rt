@@ -146,7 +146,7 @@ fn example_of_two_subjects(rt: HostRuntime) -> Result<(), Fail> {
 
 // Each key at its least and its greatest value, one below, one above, and of another type: what stands before it, its
 // line, and what is told.
-const EDGES: [(&str, &str, &str); 61] = [
+const EDGES: [(&str, &str, &str); 68] = [
     (
         FIRST,
         "observers = 1\n",
