@@ -178,6 +178,24 @@ impl<R: Host> Drop for Peers<R> {
     }
 }
 
+impl<R: Host> Peers<R> {
+    // The halves of the connection at this place, whose peer sends these bytes.
+    fn halves(&self, at: usize, bytes: &'static [u8]) -> Option<(Halting, Sipping<R>)> {
+        let page = Arc::try_clone(self.pages.get(at)?).ok()?;
+        let rt = self.rt.clone().ok()?;
+        let reader = Halting {
+            bytes,
+            blocks: false,
+        };
+        let writer = Sipping {
+            rt,
+            page,
+            blocks: false,
+        };
+        Some((reader, writer))
+    }
+}
+
 impl<R: Host> Listener for Peers<R> {
     type Reader = Halting;
 
@@ -192,24 +210,12 @@ impl<R: Host> Listener for Peers<R> {
     ghost fails = { λ _ _. Unit {0} };
 
     fn accept_one(&mut self) -> Result<(Halting, Sipping<R>), AcceptFault> {
-        let (Some(bytes), Some(page)) = (SENT.get(self.accepted), self.pages.get(self.accepted))
-        else {
-            return Err(AcceptFault);
-        };
-        self.accepted = self.accepted.saturating_add(1);
-        let (Ok(rt), Ok(page)) = (self.rt.clone(), Arc::try_clone(page)) else {
-            return Err(AcceptFault);
-        };
-        let reader = Halting {
-            bytes,
-            blocks: false,
-        };
-        let writer = Sipping {
-            rt,
-            page,
-            blocks: false,
-        };
-        Ok((reader, writer))
+        let at = self.accepted;
+        self.accepted = at.saturating_add(1);
+        match SENT.get(at) {
+            Some(bytes) => self.halves(at, bytes).ok_or(AcceptFault),
+            None => Err(AcceptFault),
+        }
     }
 
     fn watch(&self) -> Result<Watch<Everyone, Silent>, WatchFault> {
