@@ -224,6 +224,13 @@ fn serve_one(rt: &(impl Host + Sync), paths: &Paths) -> (Vec<u8>, bool) {
     )
 }
 
+// Puts a file where a socket stands.
+fn put_file(rt: &impl Host, paths: &Paths) -> io::Result<()> {
+    fs::remove_file(rt, paths.socket)?;
+    drop(File::create(rt, paths.socket)?);
+    Ok(())
+}
+
 // A path where a socket was left is taken over where the pool says so, and else refused; so is one where a file stands, which
 // stays.
 #[test]
@@ -238,8 +245,7 @@ fn a_path_is_taken_over(rt: HostRuntime) -> Result<(), Fail> {
     let (told, right) = serve_one(&rt, &AGAIN);
     expect_that(&rt, right, "a path taken over");
     expect_told(&rt, told.as_slice(), LISTENED, "a path taken over");
-    fs::remove_file(&rt, AGAIN.socket)?;
-    drop(File::create(&rt, AGAIN.socket)?);
+    put_file(&rt, &AGAIN)?;
     let told = serve(&rt, &AGAIN);
     expect_served(&rt, &AGAIN, told.as_slice(), true, REFUSED)
 }
