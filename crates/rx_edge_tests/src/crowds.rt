@@ -215,15 +215,6 @@ const LISTENED: &str = "0 s joins 0 refused 0\n|rxline: listening on rxline-agai
 
 const REFUSED: &str = "1 |rxline: cannot listen\n";
 
-// A server for one peer that comes.
-fn serve_one(rt: &(impl Host + Sync), paths: &Paths) -> (Vec<u8>, bool) {
-    join(
-        rt,
-        || -> Vec<u8> { serve(rt, paths) },
-        || -> bool { is_answered(rt, paths) },
-    )
-}
-
 // Puts a file where a socket stands.
 fn put_file(rt: &impl Host, paths: &Paths) -> io::Result<()> {
     fs::remove_file(rt, paths.socket)?;
@@ -236,13 +227,21 @@ fn put_file(rt: &impl Host, paths: &Paths) -> io::Result<()> {
 #[test]
 fn a_path_is_taken_over(rt: HostRuntime) -> Result<(), Fail> {
     write_config(&rt, &AGAIN, b"connections = 1\n")?;
-    let (told, right) = serve_one(&rt, &AGAIN);
+    let (told, right) = join(
+        &rt,
+        || -> Vec<u8> { serve(&rt, &AGAIN) },
+        || -> bool { is_answered(&rt, &AGAIN) },
+    );
     expect_that(&rt, right, "a new path");
     expect_told(&rt, told.as_slice(), LISTENED, "a new path");
     let told = serve(&rt, &AGAIN);
     expect_told(&rt, told.as_slice(), REFUSED, "a path that is left");
     write_config(&rt, &AGAIN, b"connections = 1\ntakeover = true\n")?;
-    let (told, right) = serve_one(&rt, &AGAIN);
+    let (told, right) = join(
+        &rt,
+        || -> Vec<u8> { serve(&rt, &AGAIN) },
+        || -> bool { is_answered(&rt, &AGAIN) },
+    );
     expect_that(&rt, right, "a path taken over");
     expect_told(&rt, told.as_slice(), LISTENED, "a path taken over");
     put_file(&rt, &AGAIN)?;

@@ -178,22 +178,24 @@ impl<R: Host> Drop for Peers<R> {
     }
 }
 
-impl<R: Host> Peers<R> {
-    // The halves of the connection at this place, whose peer sends these bytes.
-    fn halves(&self, at: usize, bytes: &'static [u8]) -> Option<(Halting, Sipping<R>)> {
-        let page = Arc::try_clone(self.pages.get(at)?).ok()?;
-        let rt = self.rt.clone().ok()?;
-        let reader = Halting {
-            bytes,
-            blocks: false,
-        };
-        let writer = Sipping {
-            rt,
-            page,
-            blocks: false,
-        };
-        Some((reader, writer))
-    }
+// The halves of a connection whose peer sends these bytes, and is answered on this page.
+fn halves<R: Wait + Clone + Drop>(
+    rt: &R,
+    page: &Page,
+    bytes: &'static [u8],
+) -> Option<(Halting, Sipping<R>)> {
+    let page = Arc::try_clone(page).ok()?;
+    let rt = rt.clone().ok()?;
+    let reader = Halting {
+        bytes,
+        blocks: false,
+    };
+    let writer = Sipping {
+        rt,
+        page,
+        blocks: false,
+    };
+    Some((reader, writer))
 }
 
 impl<R: Host> Listener for Peers<R> {
@@ -212,9 +214,9 @@ impl<R: Host> Listener for Peers<R> {
     fn accept_one(&mut self) -> Result<(Halting, Sipping<R>), AcceptFault> {
         let at = self.accepted;
         self.accepted = at.saturating_add(1);
-        match SENT.get(at) {
-            Some(bytes) => self.halves(at, bytes).ok_or(AcceptFault),
-            None => Err(AcceptFault),
+        match (SENT.get(at), self.pages.get(at)) {
+            (Some(bytes), Some(page)) => halves(&self.rt, page, bytes).ok_or(AcceptFault),
+            _ => Err(AcceptFault),
         }
     }
 
