@@ -1,134 +1,45 @@
+use crate::gathering::Gathering;
 use crate::link::Link;
-use rx_heap::Heap;
+use rx_heap::{Heap, Memory};
 use std::io;
-use std::io::{ErrorKind, Write};
-use std::net::Shutdown;
+use std::io::Write;
 use std::time::{Clock, Duration};
-
-/// How many bytes wait for a peer at most: 64 notes of the greatest length, in the second version, a terminal, and the first
-/// line.
-pub const MOST_WAITING: usize = 68_378;
-
-/// From so many bytes on, what is written goes out at once where nothing waits before it.
-const BLOCK: usize = 4_096;
-
-// How often a flush writes at most.
-const MOST_WRITES: u32 = 1_000;
 
 /// The half of a connection that is written. What is written waits until it is flushed, so that many lines go out by one
 /// write; a flush sends as much of it as the socket takes. Where that is not all it is `WouldBlock`, and the rest waits: a
 /// further flush goes on with it. Once the peer took no byte for too long a flush is `TimedOut`.
+///
+/// What it holds stands in a box, so that a sink over it is small: it goes from thread to thread in a letter, and each letter of
+/// its kind has room for one.
 pub struct Outgoing<C: Clock + Drop> {
-    link: Link,
-    clock: C,
-    waiting: Vec<u8, Heap>,
-    // How long the peer may take no byte while some wait for it.
-    stall: Duration,
-    // Since when it has taken none, by the clock.
-    stuck_since: Option<Duration>,
+    held: Box<Gathering<C>, Heap>,
 }
 
-// What still waits is tried once more, and waits no longer: a drainer that leaves has flushed it for as long as any may wait.
-// Then the peer hears the end, though the reading half may still be watched.
+// It stands here, and isn't derived, so that what lets go of it is one call that is proved once.
 impl<C: Clock + Drop> Drop for Outgoing<C> {
     fn drop(self) {
-        let Outgoing {
-            link,
-            clock: _,
-            waiting,
-            stall: _,
-            stuck_since: _,
-        } = self;
-        if !waiting.is_empty() {
-            let mut stream = &*link;
-            let _ = stream.write(waiting.as_slice());
-        }
-        let _ = link.shutdown(Shutdown::Both);
+        let Outgoing { held: _ } = self;
     }
 }
 
 impl<C: Clock + Drop> Outgoing<C> {
-    /// The writing half of a connection. What waits takes this memory. A flush has failed once the peer took no byte for so
-    /// long while some waited for it.
-    pub fn new(link: Link, clock: C, alloc: Heap, stall: Duration) -> Outgoing<C> {
-        Outgoing {
-            link,
-            clock,
-            waiting: Vec::new(alloc),
-            stall,
-            stuck_since: None,
-        }
-    }
-
-    // Sends what waits, as far as the socket takes it, and says how many bytes that were and what stopped it.
-    fn send(&mut self) -> (usize, io::Result<()>) {
-        let mut sent = 0;
-        for _ in 0..MOST_WRITES {
-            let Some(rest) = self.waiting.as_slice().get(sent..) else {
-                return (sent, Ok(()));
-            };
-            if rest.is_empty() {
-                return (sent, Ok(()));
-            }
-            let mut stream = &*self.link;
-            match stream.write(rest) {
-                Ok(0) => return (sent, Err(io::Error::from(ErrorKind::WriteZero))),
-                Ok(more) => sent = sent.saturating_add(more),
-                Err(fault) if fault.kind() == ErrorKind::Interrupted => {}
-                Err(fault) => return (sent, Err(fault)),
-            }
-        }
-        (sent, Err(io::Error::from(ErrorKind::WouldBlock)))
-    }
-
-    // The fault of a socket that takes no more bytes now: they wait, but not for ever where it takes none at all.
-    fn stuck(&mut self, sent: usize) -> io::Error {
-        let Ok(now) = self.clock.monotonic() else {
-            return io::Error::from(ErrorKind::WouldBlock);
-        };
-        let since = match self.stuck_since {
-            Some(since) if sent == 0 => since,
-            _ => now,
-        };
-        self.stuck_since = Some(since);
-        if now.saturating_sub(since) >= self.stall {
-            io::Error::from(ErrorKind::TimedOut)
-        } else {
-            io::Error::from(ErrorKind::WouldBlock)
+    /// The writing half of a connection. It and what waits take this memory. A flush has failed once the peer took no byte for
+    /// so long while some waited for it.
+    pub fn new(link: Link, clock: C, alloc: &Heap, stall: Duration) -> Result<Outgoing<C>, Memory> {
+        let gathering = Gathering::new(link, clock, alloc.clone()?, stall);
+        match Box::new(alloc.clone()?, gathering) {
+            Ok(held) => Ok(Outgoing { held }),
+            Err(_) => Err(Memory),
         }
     }
 }
 
 impl<C: Clock + Drop> Write for Outgoing<C> {
     fn write(&mut self, bytes: &[u8]) -> io::Result<usize> {
-        if self.waiting.is_empty() && bytes.len() >= BLOCK {
-            let mut stream = &*self.link;
-            return stream.write(bytes);
-        }
-        if self.waiting.len().saturating_add(bytes.len()) > MOST_WAITING {
-            self.flush()?;
-            let mut stream = &*self.link;
-            return stream.write(bytes);
-        }
-        match self.waiting.extend_from_slice(bytes) {
-            Ok(()) => Ok(bytes.len()),
-            Err(_) => Err(io::Error::from(ErrorKind::OutOfMemory)),
-        }
+        self.held.write(bytes)
     }
 
     fn flush(&mut self) -> io::Result<()> {
-        if self.waiting.is_empty() {
-            return Ok(());
-        }
-        let (sent, ended) = self.send();
-        self.waiting.drain(..sent.min(self.waiting.len()));
-        match ended {
-            Err(fault) if fault.kind() == ErrorKind::WouldBlock => Err(self.stuck(sent)),
-            Err(fault) => Err(fault),
-            Ok(()) => {
-                self.stuck_since = None;
-                Ok(())
-            }
-        }
+        self.held.flush()
     }
 }

@@ -132,13 +132,12 @@ fn halves<C: Clock + Clone + Drop>(
     stream.set_nonblocking(true)?;
     let reading = clock.clone()?;
     let writing = clock.clone()?;
-    let waiting = heap.clone()?;
     let link = Arc::new(heap.clone()?, stream)?;
     let other = Arc::try_clone(&link)?;
-    Ok((
-        Incoming::new(link, reading, terms.idle),
-        Outgoing::new(other, writing, waiting, terms.stall),
-    ))
+    let Ok(outgoing) = Outgoing::new(other, writing, heap, terms.stall) else {
+        return Err(io::Error::from(ErrorKind::OutOfMemory));
+    };
+    Ok((Incoming::new(link, reading, terms.idle), outgoing))
 }
 
 // Whether the next accept may do better: the call was interrupted, or the connection is gone.

@@ -69,8 +69,9 @@ pub fn serve_connections<
         Ok(()) => accept(rt, listener, &mut ports, &bells, config.connections),
         Err(fault) => Err(fault),
     };
-    dismiss_all(rt, ports, bells);
+    dismiss_all(rt, ports, &bells);
     join_all(rt, workers, desks);
+    drop(bells);
     served
 }
 

@@ -171,11 +171,11 @@ fn fault_of(has_memory: bool, place: usize) -> ServeFault {
     }
 }
 
-// Tells each worker that no connection comes any more.
-pub fn dismiss_all<X: Drop, B: Bell + Drop, R: Wait>(
+// Tells each worker that no connection comes any more. Its bell has to stay until it has heard that.
+pub fn dismiss_all<X: Drop, B: Bell, R: Wait>(
     rt: &R,
     ports: Vec<Port<X>, Heap>,
-    bells: Vec<B, Heap>,
+    bells: &Vec<B, Heap>,
 ) {
     for port in ports {
         dismiss(rt, port);

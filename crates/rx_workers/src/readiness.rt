@@ -53,7 +53,7 @@ pub trait Readiness<C> {
     fn next(&mut self) -> Option<Ready>;
 }
 
-/// Ends the wait of a worker.
+/// Ends the wait of a worker. It is let go once the worker has ended.
 pub trait Bell {
     /// Ends the wait that is under way, or else the next one.
     fn ring(&self);
