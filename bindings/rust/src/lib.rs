@@ -32,6 +32,7 @@
 //! This crate is not proved: it hands on what it is told, and its types keep what the library's header asks of a caller. The
 //! library takes its memory from `malloc`.
 
+mod block;
 mod error;
 mod heap;
 mod note;

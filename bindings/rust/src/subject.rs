@@ -1,11 +1,13 @@
+use crate::block::Block;
 use crate::error::Error;
-use crate::note::{Note, SHORT};
+use crate::note::Note;
 use crate::policy::Policy;
 use crate::raw;
 use crate::rules::Rules;
 use std::cell::UnsafeCell;
 use std::iter::FusedIterator;
-use std::mem::{self, MaybeUninit};
+use std::mem;
+use std::slice;
 
 /// A subject. It may be moved to another thread, and is used by one thread at a time.
 ///
@@ -28,6 +30,8 @@ use std::mem::{self, MaybeUninit};
 /// ```
 pub struct Subject {
     raw: UnsafeCell<raw::Subject>,
+    /// What was taken of the library and not yielded yet.
+    block: Block,
 }
 
 // The library's desk for a subject holds plain data and atomic counts, which it proves of its own handle; no call keeps
@@ -60,7 +64,7 @@ impl Subject {
         let mut raw = raw::Subject::EMPTY;
         let number = unsafe { raw::hazoxe_proved_open(&mut raw, &asked, seed.as_ptr(), seed.len()) };
         Error::check(number)?;
-        Ok(Subject { raw: UnsafeCell::new(raw) })
+        Ok(Subject { raw: UnsafeCell::new(raw), block: Block::default() })
     }
 
     /// A producer emits an item of this text, by a port, at a moment.
@@ -128,7 +132,9 @@ impl Subject {
     /// The notes that were given and not taken yet, in their order. Each that the iterator yields is taken, and the others
     /// wait on.
     pub fn given(&mut self) -> Given<'_> {
-        Given { subject: self }
+        self.block.fill(self.raw.get_mut());
+        let (heads, texts, left) = self.block.parts();
+        Given { heads: heads.iter(), texts, left }
     }
 
     /// How many notes wait for an observer to request them, the terminal included.
@@ -148,27 +154,7 @@ impl Subject {
         let number = unsafe { raw::hazoxe_proved_count(self.raw.get(), &mut counts) };
         debug_assert_eq!(number, raw::OK);
         let raw::Counts { observers, joins, given, misses } = counts;
-        Counts { observers, joins, given, misses }
-    }
-
-    #[inline]
-    fn take(&mut self) -> Option<Note> {
-        let mut note = Note { head: raw::Note::EMPTY, short: MaybeUninit::uninit(), long: None };
-        match unsafe { raw::hazoxe_proved_take(self.raw.get(), &mut note.head, note.short.as_mut_ptr().cast(), SHORT) } {
-            raw::OK => {}
-            raw::BUFFER_TOO_SMALL => note.long = Some(self.take_long(&mut note.head)),
-            _ => return None,
-        }
-        Some(note)
-    }
-
-    // Takes the first note, whose length is told.
-    #[cold]
-    fn take_long(&mut self, head: &mut raw::Note) -> Box<[u8]> {
-        let mut bytes = vec![0; head.length].into_boxed_slice();
-        let number = unsafe { raw::hazoxe_proved_take(self.raw.get(), head, bytes.as_mut_ptr(), bytes.len()) };
-        debug_assert_eq!(number, raw::OK);
-        bytes
+        Counts { observers, joins, given: given + self.block.len(), misses }
     }
 }
 
@@ -180,17 +166,30 @@ impl Drop for Subject {
 
 /// The notes that a subject gave ([`Subject::given`]).
 pub struct Given<'a> {
-    subject: &'a mut Subject,
+    heads: slice::Iter<'a, raw::Note>,
+    texts: &'a [u8],
+    left: &'a mut raw::Taken,
 }
 
-impl Iterator for Given<'_> {
-    type Item = Note;
+impl<'a> Iterator for Given<'a> {
+    type Item = Note<'a>;
 
     #[inline]
-    fn next(&mut self) -> Option<Note> {
-        self.subject.take()
+    fn next(&mut self) -> Option<Note<'a>> {
+        let head = self.heads.next()?;
+        let (text, texts) = self.texts.split_at(head.length);
+        self.texts = texts;
+        self.left.notes -= 1;
+        self.left.bytes -= head.length;
+        Some(Note { head, text })
+    }
+
+    fn size_hint(&self) -> (usize, Option<usize>) {
+        self.heads.size_hint()
     }
 }
+
+impl ExactSizeIterator for Given<'_> {}
 
 impl FusedIterator for Given<'_> {}
 
