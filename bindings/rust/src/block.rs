@@ -1,4 +1,7 @@
+use crate::note::Note;
 use crate::raw;
+use std::iter::FusedIterator;
+use std::slice;
 
 /// No text has more bytes.
 const MAX_TEXT: usize = 1024;
@@ -7,27 +10,33 @@ const MAX_TEXT: usize = 1024;
 const NOTES: usize = 65;
 const BYTES: usize = 2 * MAX_TEXT;
 
-/// Notes that were taken of the library, in their order. The last of them are still to be yielded.
+/// And for so many times as much at most once all are yielded.
+const KEPT: usize = 16;
+
+/// Notes that were taken of the library, in their order.
 #[derive(Default)]
 pub(crate) struct Block {
     heads: Vec<raw::Note>,
     /// Their texts, one behind the other.
     texts: Vec<u8>,
-    left: raw::Taken,
+    /// So many of them, the last, are still to be yielded,
+    notes_left: usize,
+    /// and their texts have so many bytes.
+    bytes_left: usize,
 }
 
 impl Block {
-    /// How many notes are still to be yielded.
+    /// How many are still to be yielded.
     pub(crate) fn len(&self) -> usize {
-        self.left.notes
+        self.notes_left
     }
 
-    /// Those notes, with their texts, and where to say how many are left of them.
+    /// Those notes, with their texts, to be yielded.
     #[inline]
-    pub(crate) fn parts(&mut self) -> (&[raw::Note], &[u8], &mut raw::Taken) {
-        let heads = &self.heads[self.heads.len() - self.left.notes..];
-        let texts = &self.texts[self.texts.len() - self.left.bytes..];
-        (heads, texts, &mut self.left)
+    pub(crate) fn given(&mut self) -> Given<'_> {
+        let heads = &self.heads[self.heads.len() - self.notes_left..];
+        let texts = &self.texts[self.texts.len() - self.bytes_left..];
+        Given { heads: heads.iter(), texts, notes_left: &mut self.notes_left, bytes_left: &mut self.bytes_left }
     }
 
     /// Takes all notes of a subject, and puts them behind its own.
@@ -57,21 +66,56 @@ impl Block {
             self.heads.set_len(notes + taken.notes);
             self.texts.set_len(bytes + taken.bytes);
         }
-        self.left.notes += taken.notes;
-        self.left.bytes += taken.bytes;
+        self.notes_left += taken.notes;
+        self.bytes_left += taken.bytes;
         taken.notes == most || room - taken.bytes < MAX_TEXT
     }
 
     /// Lets go of the notes that were yielded, where they are half of all, so that each is moved once at most.
     #[inline]
     fn let_go(&mut self) {
-        let yielded = self.heads.len() - self.left.notes;
-        if self.left.notes == 0 {
+        let yielded = self.heads.len() - self.notes_left;
+        if self.notes_left == 0 {
             self.heads.clear();
             self.texts.clear();
-        } else if yielded >= self.left.notes {
+            if self.heads.capacity() > KEPT * NOTES || self.texts.capacity() > KEPT * BYTES {
+                *self = Block::default();
+            }
+        } else if yielded >= self.notes_left {
             self.heads.drain(..yielded);
-            self.texts.drain(..self.texts.len() - self.left.bytes);
+            self.texts.drain(..self.texts.len() - self.bytes_left);
         }
     }
 }
+
+/// The notes that a subject gave ([`Subject::given`](crate::Subject::given)).
+pub struct Given<'a> {
+    heads: slice::Iter<'a, raw::Note>,
+    texts: &'a [u8],
+    notes_left: &'a mut usize,
+    bytes_left: &'a mut usize,
+}
+
+impl<'a> Iterator for Given<'a> {
+    type Item = Note<'a>;
+
+    #[inline]
+    fn next(&mut self) -> Option<Note<'a>> {
+        let head = self.heads.next()?;
+        // The heads tell of these texts.
+        let (text, texts) = unsafe { self.texts.split_at_unchecked(head.length) };
+        self.texts = texts;
+        *self.notes_left -= 1;
+        *self.bytes_left -= head.length;
+        Some(Note { head, text })
+    }
+
+    #[inline]
+    fn size_hint(&self) -> (usize, Option<usize>) {
+        self.heads.size_hint()
+    }
+}
+
+impl ExactSizeIterator for Given<'_> {}
+
+impl FusedIterator for Given<'_> {}

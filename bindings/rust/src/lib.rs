@@ -41,8 +41,9 @@ mod raw;
 mod rules;
 mod subject;
 
+pub use block::Given;
 pub use error::Error;
 pub use note::{Note, Signal};
 pub use policy::{Errors, Policy, Strategy};
 pub use rules::{Kind, Rules};
-pub use subject::{Counts, Given, Subject};
+pub use subject::{Counts, Subject};

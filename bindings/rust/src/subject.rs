@@ -1,13 +1,10 @@
-use crate::block::Block;
+use crate::block::{Block, Given};
 use crate::error::Error;
-use crate::note::Note;
 use crate::policy::Policy;
 use crate::raw;
 use crate::rules::Rules;
 use std::cell::UnsafeCell;
-use std::iter::FusedIterator;
 use std::mem;
-use std::slice;
 
 /// A subject. It may be moved to another thread, and is used by one thread at a time.
 ///
@@ -131,10 +128,34 @@ impl Subject {
 
     /// The notes that were given and not taken yet, in their order. Each that the iterator yields is taken, and the others
     /// wait on.
+    ///
+    /// All of them go at once from the library to memory of the subject's own, where they are read in place, so it may be that
+    /// a budget has more bytes left after this call, though nothing was yielded yet.
+    ///
+    /// ```
+    /// use hazoxe::{Errors, Kind, Policy, Rules, Strategy, Subject};
+    /// # fn main() -> Result<(), hazoxe::Error> {
+    /// let mut subject = Subject::open(&Rules::of(Kind::Publish))?;
+    /// subject.join(Policy { strategy: Strategy::Buffer, errors: Errors::Delay }, u32::MAX, 0)?;
+    /// let texts: Vec<String> = (0..400).map(|n| n.to_string().repeat(1 + n % 300)).collect();
+    /// let mut taken = Vec::new();
+    /// for part in texts.chunks(40) {
+    ///     for text in part {
+    ///         subject.next(0, 0, text)?;
+    ///     }
+    ///     taken.extend(subject.given().take(7).map(|note| note.text().to_vec())); // the others wait on
+    /// }
+    /// assert_eq!(subject.counts().given, 400 - 10 * 7);
+    /// while let Some(note) = subject.given().nth(0) {
+    ///     taken.push(note.text().to_vec());
+    /// }
+    /// assert_eq!(taken, texts.iter().map(|text| text.as_bytes().to_vec()).collect::<Vec<_>>());
+    /// # Ok(())
+    /// # }
+    /// ```
     pub fn given(&mut self) -> Given<'_> {
         self.block.fill(self.raw.get_mut());
-        let (heads, texts, left) = self.block.parts();
-        Given { heads: heads.iter(), texts, left }
+        self.block.given()
     }
 
     /// How many notes wait for an observer to request them, the terminal included.
@@ -163,35 +184,6 @@ impl Drop for Subject {
         unsafe { raw::hazoxe_proved_close(self.raw.get()) };
     }
 }
-
-/// The notes that a subject gave ([`Subject::given`]).
-pub struct Given<'a> {
-    heads: slice::Iter<'a, raw::Note>,
-    texts: &'a [u8],
-    left: &'a mut raw::Taken,
-}
-
-impl<'a> Iterator for Given<'a> {
-    type Item = Note<'a>;
-
-    #[inline]
-    fn next(&mut self) -> Option<Note<'a>> {
-        let head = self.heads.next()?;
-        let (text, texts) = self.texts.split_at(head.length);
-        self.texts = texts;
-        self.left.notes -= 1;
-        self.left.bytes -= head.length;
-        Some(Note { head, text })
-    }
-
-    fn size_hint(&self) -> (usize, Option<usize>) {
-        self.heads.size_hint()
-    }
-}
-
-impl ExactSizeIterator for Given<'_> {}
-
-impl FusedIterator for Given<'_> {}
 
 // A subject of another layout than the header's would be no subject.
 const _: () = assert!(mem::size_of::<raw::Subject>() == 16 && mem::size_of::<raw::Rules>() == 40);
