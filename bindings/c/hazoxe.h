@@ -108,6 +108,12 @@ typedef struct {
     size_t length;     /* how many bytes its text has: 0 to 1,024, of a completion 0 */
 } hazoxe_note;
 
+/* What was taken by one call. */
+typedef struct {
+    size_t notes; /* how many */
+    size_t bytes; /* how many bytes their texts have */
+} hazoxe_taken;
+
 /* What can be counted of a subject. */
 typedef struct {
     uint32_t observers; /* how many are held */
@@ -128,6 +134,8 @@ uint32_t hazoxe_proved_request(hazoxe_subject *subject, uint32_t who, uint32_t n
 uint32_t hazoxe_proved_dispose(hazoxe_subject *subject, uint32_t who);
 uint32_t hazoxe_proved_peek(hazoxe_subject *subject, hazoxe_note *note);
 uint32_t hazoxe_proved_take(hazoxe_subject *subject, hazoxe_note *note, uint8_t *buffer, size_t room);
+uint32_t hazoxe_proved_take_many(hazoxe_subject *subject, hazoxe_note *notes, size_t most, uint8_t *buffer, size_t room,
+                                 hazoxe_taken *taken);
 uint32_t hazoxe_proved_waiting(hazoxe_subject *subject, uint32_t who, size_t *count);
 uint32_t hazoxe_proved_count(hazoxe_subject *subject, hazoxe_counts *counts);
 
@@ -200,6 +208,20 @@ static inline uint32_t hazoxe_take(hazoxe_subject *subject, hazoxe_note *note, v
     uint8_t none[1];
     if (subject == NULL || note == NULL || (buffer == NULL && room > 0)) return HAZOXE_NULL;
     return hazoxe_proved_take(subject, note, buffer == NULL ? none : (uint8_t *)buffer, room);
+}
+
+/* Takes the first notes that wait to be taken, as many as there are structs and bytes for: tells of each in one of `most`
+ * structs, writes their texts, without a NUL, to the front of a buffer of `room` bytes, each behind the one before it, and to
+ * *taken how many they are. That is none where no note waits, or where there is no struct, or too few bytes for the first text: so
+ * with a struct and 1,024 bytes, none says that no note waits. The other notes wait on, and the structs behind those that were
+ * filled stay; what then stands in the buffer behind the texts means nothing. NO_SUBJECT; then nothing is written. */
+static inline uint32_t hazoxe_take_many(hazoxe_subject *subject, hazoxe_note *notes, size_t most, void *buffer, size_t room,
+                                        hazoxe_taken *taken) {
+    hazoxe_note no_note[1];
+    uint8_t none[1];
+    if (subject == NULL || taken == NULL || (notes == NULL && most > 0) || (buffer == NULL && room > 0)) return HAZOXE_NULL;
+    return hazoxe_proved_take_many(subject, notes == NULL ? no_note : notes, most, buffer == NULL ? none : (uint8_t *)buffer, room,
+                                   taken);
 }
 
 /* Writes to *count how many notes wait for an observer to request them, the terminal included. NO_SUBJECT, NO_OBSERVER; then

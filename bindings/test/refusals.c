@@ -101,6 +101,53 @@ static void calls_refuse(void) {
     expect("close again", hazoxe_close(&subject), HAZOXE_NO_SUBJECT);
 }
 
+/* What many notes are taken by, of "ab", "", "cde" and a completion, by room for so many notes and bytes. */
+static void takes_as_many_as_there_is_room_for(void) {
+    static const struct {
+        size_t most, room, notes, bytes;
+    } rows[] = {{0, 9, 0, 0}, {9, 0, 0, 0}, {9, 1, 0, 0}, {1, 9, 1, 2}, {9, 2, 2, 2}, {9, 4, 2, 2}, {3, 5, 3, 5}, {9, 5, 4, 5}, {4, 9, 4, 5}};
+    hazoxe_rules rules = {.kind = HAZOXE_PUBLISH, .observers = 1, .joins = 1, .items = 9};
+    hazoxe_taken none = {7, 7};
+    hazoxe_subject no_subject = HAZOXE_EMPTY;
+    expect("take many of none", hazoxe_take_many(&no_subject, NULL, 0, NULL, 0, &none), HAZOXE_NO_SUBJECT);
+    expect("no place for notes", hazoxe_take_many(&no_subject, NULL, 1, NULL, 0, &none), HAZOXE_NULL);
+    expect("no place for bytes", hazoxe_take_many(&no_subject, NULL, 0, NULL, 1, &none), HAZOXE_NULL);
+    expect("no place for their number", hazoxe_take_many(&no_subject, NULL, 0, NULL, 0, NULL), HAZOXE_NULL);
+    expect("it stays", none.notes == 7 && none.bytes == 7, 1);
+    for (size_t row = 0; row < sizeof rows / sizeof rows[0]; row++) {
+        hazoxe_subject subject = HAZOXE_EMPTY;
+        hazoxe_note notes[9], note;
+        hazoxe_taken taken;
+        hazoxe_counts counts;
+        char texts[10] = ".........";
+        uint32_t who;
+        memset(notes, 0xa5, sizeof notes);
+        expect("open", hazoxe_open(&subject, &rules, NULL, 0), HAZOXE_OK);
+        hazoxe_join(&subject, HAZOXE_BUFFER, 0, HAZOXE_DELAY, 9, 0, &who);
+        hazoxe_next(&subject, 3, 0, "ab", 2);
+        hazoxe_next(&subject, 4, 0, NULL, 0);
+        hazoxe_next(&subject, 5, 0, "cde", 3);
+        hazoxe_complete(&subject, 0, 0);
+        expect("take many", hazoxe_take_many(&subject, notes, rows[row].most, texts, rows[row].room, &taken), HAZOXE_OK);
+        expect("so many notes", taken.notes, rows[row].notes);
+        expect("so many bytes", taken.bytes, rows[row].bytes);
+        expect("their texts", memcmp(texts, "abcde", taken.bytes), 0);
+        expect("the bytes behind the room", texts[rows[row].room], rows[row].room == 9 ? 0 : '.');
+        for (uint32_t place = 0; place < taken.notes; place++) {
+            expect("a kind", notes[place].kind, place == 3 ? HAZOXE_COMPLETED : HAZOXE_NEXT);
+            expect("a port", notes[place].port, place == 3 ? 0 : place + 3);
+            expect("a place", notes[place].place, place == 3 ? 0 : place);
+            expect("a length", notes[place].length, (size_t[]){2, 0, 3, 0}[place]);
+        }
+        if (taken.notes < 9) expect("the struct behind them", notes[taken.notes].kind, 0xa5a5a5a5);
+        hazoxe_count(&subject, &counts);
+        expect("the others wait", counts.given, 4 - rows[row].notes);
+        expect("the next", hazoxe_peek(&subject, &note), rows[row].notes == 4 ? HAZOXE_NOTHING_GIVEN : HAZOXE_OK);
+        if (rows[row].notes < 3) expect("its place", note.place, rows[row].notes);
+        hazoxe_close(&subject);
+    }
+}
+
 /* A budget runs out, nothing is lost by it, and what goes gives its bytes back. */
 static void budget_is_kept(void) {
     static char text[1024];
@@ -130,6 +177,7 @@ int main(int count, char **words) {
     (void)words;
     open_refuses();
     calls_refuse();
+    takes_as_many_as_there_is_room_for();
     if (count < 2) budget_is_kept(); /* the count of a budget is never given back, so valgrind runs without it */
     return wrong;
 }

@@ -50,22 +50,42 @@ static void answer(char *line) {
     else if (!is_told) printf("OK\n");
 }
 
-/* Takes each note: a buffer that is one byte too small first, which is to leave it. */
-static void print_given(void) {
+static void print(const hazoxe_note *note, const char *text) {
+    printf("s %" PRIu32, note->observer);
+    if (note->kind == HAZOXE_COMPLETED) printf(" DONE");
+    if (note->kind == HAZOXE_FAILED) printf(" FAILED ");
+    if (note->kind == HAZOXE_NEXT && note->place == HAZOXE_SEED) printf(" NEXT - - ");
+    if (note->kind == HAZOXE_NEXT && note->place != HAZOXE_SEED) printf(" NEXT %" PRIu32 " %" PRIu32 " ", note->place, note->port);
+    fwrite(text, 1, note->length, stdout);
+    printf("\n");
+}
+
+/* Takes the first note, where there is one: a buffer that is one byte too small first, which is to leave it. */
+static void print_one(void) {
     hazoxe_note note;
     char text[1024];
-    while (hazoxe_peek(&subject, &note) == HAZOXE_OK) {
-        size_t length = note.length;
-        if (length > 0 && hazoxe_take(&subject, &note, text, length - 1) != HAZOXE_BUFFER_TOO_SMALL) abort();
-        if (hazoxe_take(&subject, &note, text, length) != HAZOXE_OK || note.length != length) abort();
-        printf("s %" PRIu32, note.observer);
-        if (note.kind == HAZOXE_COMPLETED) printf(" DONE");
-        if (note.kind == HAZOXE_FAILED) printf(" FAILED ");
-        if (note.kind == HAZOXE_NEXT && note.place == HAZOXE_SEED) printf(" NEXT - - ");
-        if (note.kind == HAZOXE_NEXT && note.place != HAZOXE_SEED) printf(" NEXT %" PRIu32 " %" PRIu32 " ", note.place, note.port);
-        fwrite(text, 1, length, stdout);
-        printf("\n");
-    }
+    if (hazoxe_peek(&subject, &note) != HAZOXE_OK) return;
+    size_t length = note.length;
+    if (length > 0 && hazoxe_take(&subject, &note, text, length - 1) != HAZOXE_BUFFER_TOO_SMALL) abort();
+    if (hazoxe_take(&subject, &note, text, length) != HAZOXE_OK || note.length != length) abort();
+    print(&note, text);
+}
+
+/* Takes one note alone and then up to three at a time, until none waits. */
+static void print_given(void) {
+    hazoxe_note notes[3];
+    char texts[1040];
+    hazoxe_taken taken;
+    print_one();
+    do {
+        char *text = texts;
+        if (hazoxe_take_many(&subject, notes, 3, texts, sizeof texts, &taken) != HAZOXE_OK) abort();
+        for (size_t place = 0; place < taken.notes; place++) {
+            print(&notes[place], text);
+            text += notes[place].length;
+        }
+        if (text != texts + taken.bytes) abort();
+    } while (taken.notes > 0);
 }
 
 int main(int count, char **words) {

@@ -68,7 +68,7 @@ fn word_of(error: Error) -> &'static str {
     }
 }
 
-fn print(out: &mut impl Write, note: &Note) -> io::Result<()> {
+fn print(out: &mut impl Write, note: Note<'_>) -> io::Result<()> {
     write!(out, "s {} ", note.observer())?;
     match note.signal() {
         Signal::Next { .. } if note.is_seed() => out.write_all(b"NEXT - - ")?,
@@ -92,7 +92,7 @@ fn main() -> io::Result<()> {
             Err(error) => writeln!(out, "ERR {}", word_of(error))?,
         }
         for note in subject.given() {
-            print(&mut out, &note)?;
+            print(&mut out, note)?;
         }
     }
     out.flush()

@@ -32,6 +32,7 @@
 //! This crate is not proved: it hands on what it is told, and its types keep what the library's header asks of a caller. The
 //! library takes its memory from `malloc`.
 
+mod block;
 mod error;
 mod heap;
 mod note;
@@ -40,8 +41,9 @@ mod raw;
 mod rules;
 mod subject;
 
+pub use block::Given;
 pub use error::Error;
 pub use note::{Note, Signal};
 pub use policy::{Errors, Policy, Strategy};
 pub use rules::{Kind, Rules};
-pub use subject::{Counts, Given, Subject};
+pub use subject::{Counts, Subject};

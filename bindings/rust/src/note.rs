@@ -1,19 +1,15 @@
 use crate::raw;
 use std::fmt;
-use std::mem::MaybeUninit;
-use std::slice;
 
 /// The place and port of an item that is a seed.
 const SEED: u32 = u32::MAX;
 
-/// So many bytes of text a note has in its own place.
-pub(crate) const SHORT: usize = 32;
-
-/// A note that was given to an observer. A text of up to 32 bytes stands in it, and a longer one in a block of its own.
-pub struct Note {
-    pub(crate) head: raw::Note,
-    pub(crate) short: MaybeUninit<[u8; SHORT]>,
-    pub(crate) long: Option<Box<[u8]>>,
+/// A note that was given to an observer. It is read where the subject keeps it, so what is to outlast the next call for the
+/// subject is copied.
+#[derive(Clone, Copy)]
+pub struct Note<'a> {
+    pub(crate) head: &'a raw::Note,
+    pub(crate) text: &'a [u8],
 }
 
 /// What an observer is given: an item, or a terminal, after which nothing comes.
@@ -27,7 +23,7 @@ pub enum Signal<'a> {
     Failed(&'a [u8]),
 }
 
-impl Note {
+impl<'a> Note<'a> {
     /// The number of the observer.
     #[inline]
     pub fn observer(&self) -> u32 {
@@ -36,22 +32,18 @@ impl Note {
 
     /// What it was given.
     #[inline]
-    pub fn signal(&self) -> Signal<'_> {
+    pub fn signal(&self) -> Signal<'a> {
         match self.head.kind {
-            0 => Signal::Next { port: self.head.port, place: self.head.place, text: self.text() },
+            0 => Signal::Next { port: self.head.port, place: self.head.place, text: self.text },
             1 => Signal::Completed,
-            _ => Signal::Failed(self.text()),
+            _ => Signal::Failed(self.text),
         }
     }
 
     /// The text; a completion has none.
     #[inline]
-    pub fn text(&self) -> &[u8] {
-        match &self.long {
-            Some(bytes) => bytes,
-            // The library wrote so many bytes there, 32 at most.
-            None => unsafe { slice::from_raw_parts(self.short.as_ptr().cast(), self.head.length) },
-        }
+    pub fn text(&self) -> &'a [u8] {
+        self.text
     }
 
     /// Whether it is the seed of a subject, which came by no port and has no place.
@@ -60,16 +52,16 @@ impl Note {
     }
 }
 
-impl fmt::Debug for Note {
+impl fmt::Debug for Note<'_> {
     fn fmt(&self, f: &mut fmt::Formatter<'_>) -> fmt::Result {
         f.debug_struct("Note").field("observer", &self.observer()).field("signal", &self.signal()).finish()
     }
 }
 
-impl PartialEq for Note {
-    fn eq(&self, other: &Note) -> bool {
+impl PartialEq for Note<'_> {
+    fn eq(&self, other: &Note<'_>) -> bool {
         self.observer() == other.observer() && self.signal() == other.signal()
     }
 }
 
-impl Eq for Note {}
+impl Eq for Note<'_> {}

@@ -27,6 +27,7 @@ pub struct Rules {
 }
 
 #[repr(C)]
+#[derive(Clone, Copy)]
 pub struct Note {
     pub observer: u32,
     pub kind: u32,
@@ -35,9 +36,12 @@ pub struct Note {
     pub length: usize,
 }
 
-impl Note {
-    /// One that tells of none yet.
-    pub const EMPTY: Note = Note { observer: 0, kind: 0, port: 0, place: 0, length: 0 };
+/// Notes, and the bytes of their texts.
+#[repr(C)]
+#[derive(Default)]
+pub struct Taken {
+    pub notes: usize,
+    pub bytes: usize,
 }
 
 #[repr(C)]
@@ -50,7 +54,6 @@ pub struct Counts {
 }
 
 pub const OK: u32 = 0;
-pub const BUFFER_TOO_SMALL: u32 = 21;
 
 extern "C" {
     pub fn hazoxe_proved_open(subject: *mut Subject, rules: *const Rules, seed: *const u8, length: usize) -> u32;
@@ -69,7 +72,14 @@ extern "C" {
     ) -> u32;
     pub fn hazoxe_proved_request(subject: *mut Subject, who: u32, n: u32) -> u32;
     pub fn hazoxe_proved_dispose(subject: *mut Subject, who: u32) -> u32;
-    pub fn hazoxe_proved_take(subject: *mut Subject, note: *mut Note, buffer: *mut u8, room: usize) -> u32;
+    pub fn hazoxe_proved_take_many(
+        subject: *mut Subject,
+        notes: *mut Note,
+        most: usize,
+        buffer: *mut u8,
+        room: usize,
+        taken: *mut Taken,
+    ) -> u32;
     pub fn hazoxe_proved_waiting(subject: *mut Subject, who: u32, count: *mut usize) -> u32;
     pub fn hazoxe_proved_count(subject: *mut Subject, counts: *mut Counts) -> u32;
 }

@@ -1,11 +1,10 @@
+use crate::block::{Block, Given};
 use crate::error::Error;
-use crate::note::{Note, SHORT};
 use crate::policy::Policy;
 use crate::raw;
 use crate::rules::Rules;
 use std::cell::UnsafeCell;
-use std::iter::FusedIterator;
-use std::mem::{self, MaybeUninit};
+use std::mem;
 
 /// A subject. It may be moved to another thread, and is used by one thread at a time.
 ///
@@ -28,6 +27,8 @@ use std::mem::{self, MaybeUninit};
 /// ```
 pub struct Subject {
     raw: UnsafeCell<raw::Subject>,
+    /// What was taken of the library and not yielded yet.
+    block: Block,
 }
 
 // The library's desk for a subject holds plain data and atomic counts, which it proves of its own handle; no call keeps
@@ -60,7 +61,7 @@ impl Subject {
         let mut raw = raw::Subject::EMPTY;
         let number = unsafe { raw::hazoxe_proved_open(&mut raw, &asked, seed.as_ptr(), seed.len()) };
         Error::check(number)?;
-        Ok(Subject { raw: UnsafeCell::new(raw) })
+        Ok(Subject { raw: UnsafeCell::new(raw), block: Block::default() })
     }
 
     /// A producer emits an item of this text, by a port, at a moment.
@@ -127,8 +128,34 @@ impl Subject {
 
     /// The notes that were given and not taken yet, in their order. Each that the iterator yields is taken, and the others
     /// wait on.
+    ///
+    /// All of them go at once from the library to memory of the subject's own, where they are read in place, so it may be that
+    /// a budget has more bytes left after this call, though nothing was yielded yet.
+    ///
+    /// ```
+    /// use hazoxe::{Errors, Kind, Policy, Rules, Strategy, Subject};
+    /// # fn main() -> Result<(), hazoxe::Error> {
+    /// let mut subject = Subject::open(&Rules::of(Kind::Publish))?;
+    /// subject.join(Policy { strategy: Strategy::Buffer, errors: Errors::Delay }, u32::MAX, 0)?;
+    /// let texts: Vec<String> = (0..400).map(|n| n.to_string().repeat(1 + n % 300)).collect();
+    /// let mut taken = Vec::new();
+    /// for part in texts.chunks(40) {
+    ///     for text in part {
+    ///         subject.next(0, 0, text)?;
+    ///     }
+    ///     taken.extend(subject.given().take(7).map(|note| note.text().to_vec())); // the others wait on
+    /// }
+    /// assert_eq!(subject.counts().given, 400 - 10 * 7);
+    /// while let Some(note) = subject.given().nth(0) {
+    ///     taken.push(note.text().to_vec());
+    /// }
+    /// assert_eq!(taken, texts.iter().map(|text| text.as_bytes().to_vec()).collect::<Vec<_>>());
+    /// # Ok(())
+    /// # }
+    /// ```
     pub fn given(&mut self) -> Given<'_> {
-        Given { subject: self }
+        self.block.fill(self.raw.get_mut());
+        self.block.given()
     }
 
     /// How many notes wait for an observer to request them, the terminal included.
@@ -148,27 +175,7 @@ impl Subject {
         let number = unsafe { raw::hazoxe_proved_count(self.raw.get(), &mut counts) };
         debug_assert_eq!(number, raw::OK);
         let raw::Counts { observers, joins, given, misses } = counts;
-        Counts { observers, joins, given, misses }
-    }
-
-    #[inline]
-    fn take(&mut self) -> Option<Note> {
-        let mut note = Note { head: raw::Note::EMPTY, short: MaybeUninit::uninit(), long: None };
-        match unsafe { raw::hazoxe_proved_take(self.raw.get(), &mut note.head, note.short.as_mut_ptr().cast(), SHORT) } {
-            raw::OK => {}
-            raw::BUFFER_TOO_SMALL => note.long = Some(self.take_long(&mut note.head)),
-            _ => return None,
-        }
-        Some(note)
-    }
-
-    // Takes the first note, whose length is told.
-    #[cold]
-    fn take_long(&mut self, head: &mut raw::Note) -> Box<[u8]> {
-        let mut bytes = vec![0; head.length].into_boxed_slice();
-        let number = unsafe { raw::hazoxe_proved_take(self.raw.get(), head, bytes.as_mut_ptr(), bytes.len()) };
-        debug_assert_eq!(number, raw::OK);
-        bytes
+        Counts { observers, joins, given: given + self.block.len(), misses }
     }
 }
 
@@ -177,22 +184,6 @@ impl Drop for Subject {
         unsafe { raw::hazoxe_proved_close(self.raw.get()) };
     }
 }
-
-/// The notes that a subject gave ([`Subject::given`]).
-pub struct Given<'a> {
-    subject: &'a mut Subject,
-}
-
-impl Iterator for Given<'_> {
-    type Item = Note;
-
-    #[inline]
-    fn next(&mut self) -> Option<Note> {
-        self.subject.take()
-    }
-}
-
-impl FusedIterator for Given<'_> {}
 
 // A subject of another layout than the header's would be no subject.
 const _: () = assert!(mem::size_of::<raw::Subject>() == 16 && mem::size_of::<raw::Rules>() == 40);

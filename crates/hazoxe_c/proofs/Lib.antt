@@ -1,2 +1,3 @@
+mod Batches
 mod Handles
 mod Values

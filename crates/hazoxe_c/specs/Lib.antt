@@ -4,4 +4,5 @@ pub mod Desks
 pub mod Asking
 pub mod Opening
 pub mod Taking
+pub mod Batches
 pub mod Held

@@ -3,11 +3,13 @@ ghost use Rattle.hazoxe_c.specs.Desks.{IsTextOf};
 ghost use Rattle.rx_note.specs.declared.note.Note.TheVariants.{Completed, Failed};
 ghost use Rattle.rx_note.specs.declared.event.Event.TheVariants.{Emit, Request, Dispose};
 
+use crate::batch::tell_all;
 use crate::counts::Counts;
 use crate::fault::Fault;
 use crate::note_head::{NoteHead, ToldNote, told_note, write_text};
 use crate::queue::Queue;
 use crate::subject_rules::{SubjectRules, check_text};
+use crate::taken::Taken;
 use rx_heap::Heap;
 use rx_hub::Hub;
 use rx_note::{Answer, Event, Note, Policy, Refusal, Text};
@@ -35,6 +37,7 @@ impl Desk {
     ghost use Rattle.hazoxe_c.specs.Steps.{Told};
     ghost use Rattle.hazoxe_c.specs.Asking.{HasJoined};
     ghost use Rattle.hazoxe_c.specs.Opening.{Made, IsMade, rules_fault};
+    ghost use Rattle.hazoxe_c.specs.Batches.{TakesMany};
     ghost use Rattle.hazoxe_c.specs.Taking.{Peeked, Takes, Waits, counts_of, first_of};
 
     /// A desk of the subject that is asked for. Refused in the order of `SubjectRules::check`, `Memory`.
@@ -162,6 +165,22 @@ impl Desk {
             return Err(Fault::BufferTooSmall);
         }
         self.given.pop();
+        Ok(())
+    }
+
+    /// Tells of the first notes that were given and not taken yet, of as many as there are heads for and bytes for the texts,
+    /// writes to `taken` how many they are, and takes them.
+    pub fn take_many(
+        &mut self,
+        heads: &mut [NoteHead],
+        buffer: &mut [u8],
+        taken: &mut Taken,
+    ) -> Result<(), Fault>
+        ensures { TakesMany taken.new heads.old heads.new buffer.old buffer.new self.old self.new result }
+    {
+        let told = tell_all(self.given.notes(), heads, buffer);
+        self.given.pop_many(told.notes);
+        *taken = told;
         Ok(())
     }
 

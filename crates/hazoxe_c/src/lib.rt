@@ -5,6 +5,7 @@
 //! holds no subject is told by it, and each call that does something to a subject makes one step of a hub.
 #![tactic(auto)]
 
+mod batch;
 mod counts;
 mod desk;
 mod events;
@@ -17,6 +18,7 @@ mod policies;
 mod queue;
 mod subject;
 mod subject_rules;
+mod taken;
 mod taking;
 mod telling;
 
@@ -24,3 +26,4 @@ pub use counts::Counts;
 pub use note_head::NoteHead;
 pub use subject::Subject;
 pub use subject_rules::SubjectRules;
+pub use taken::Taken;

@@ -30,6 +30,7 @@ pub struct ToldNote<'a> {
 pub fn told_note(given: &Given) -> ToldNote<'_>
     ensures head { result.head ≡ head_of given.now }
     ensures text { result.text.now ≡ text_of given.now.note }
+    ensures length { result.head.length ≡ length (text_of given.now.note) }
 {
     let observer = given.who;
     match &given.note {

@@ -56,6 +56,27 @@ impl Queue {
         self.notes.get(self.taken)
     }
 
+    /// All of them.
+    #[inline] // once for each call that takes many
+    pub fn notes(&self) -> &[Given]
+        ensures { result.now ≡ self.now }
+    {
+        let first = self.taken.min(self.notes.len());
+        &self.notes[first..]
+    }
+
+    /// Lets the first `count` go.
+    #[inline] // once for each call that takes many
+    pub fn pop_many(&mut self, count: usize)
+        requires { count ≤ length self.old }
+        ensures { self.new ≡ drop count self.old }
+    {
+        self.taken += count;
+        if self.taken == self.notes.len() {
+            self.taken = let_go(&mut self.notes, self.taken);
+        }
+    }
+
     /// Lets the first go, where there is one.
     #[inline] // once for each note
     pub fn pop(&mut self)
