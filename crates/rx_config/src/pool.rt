@@ -1,7 +1,7 @@
 ghost use Rattle.std.specs.Prelude.{◌≡◌, IfSome};
 
-use crate::keys::{has_only, value_at};
 use crate::flags::flag_at;
+use crate::keys::{has_only, value_at};
 use crate::numbers::{bound_at, number_at};
 use toml::Table;
 

@@ -14,7 +14,8 @@ const TOP_KEYS: &str = "there are subject, as in: [[subject]], and pool, as in: 
 const SUBJECT_KEYS: &str =
     "a subject has name, kind, observers, joins and items, a behavior also seed, a replay also count and age";
 
-const POOL_KEYS: &str = "a pool has drainers, workers, window, connections, stall, idle and takeover";
+const POOL_KEYS: &str =
+    "a pool has drainers, workers, window, connections, stall, idle and takeover";
 
 /// Writes why the configuration that these bytes say is refused by this cause: the place and the key, what is right there, and
 /// an example; for bytes that are no TOML, the line and the column. Nothing is written where there is no more to say than the
