@@ -186,7 +186,7 @@ fn talk_beside_one_idle(rt: &impl Host, paths: &Paths) -> bool {
     subscriber.hears(b"JOINED 0\n");
     let mut idle = Peer::connected(rt, paths);
     let mut busy = Peer::connected(rt, paths);
-    for _ in 0..8 {
+    for _ in 0..12 {
         busy.sends(b"PUB s a\n");
         busy.hears(b"OK\n");
         subscriber.hears(b"NEXT a\n");
@@ -201,7 +201,7 @@ fn talk_beside_one_idle(rt: &impl Host, paths: &Paths) -> bool {
 
 #[test]
 fn a_session_that_is_idle_ends(rt: HostRuntime) -> Result<(), Fail> {
-    write_config(&rt, &IDLE, b"connections = 3\nworkers = 1\nidle = 1\n")?;
+    write_config(&rt, &IDLE, b"connections = 3\nworkers = 1\nidle = 3\n")?;
     let (told, right) = join(
         &rt,
         || -> Vec<u8> { serve(&rt, &IDLE) },
