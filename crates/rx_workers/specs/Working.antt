@@ -45,8 +45,8 @@ pub record State (M C W : Type 0) : Type 0 where
 abbrev pub state : {M C W : Type 0} → SessionView M (LineSink W) → Incoming (C × W) → List (Option (Client C W)) → ℕ → State M C W
 state session inbox clients sessions = record { session = session; inbox = inbox; clients = clients; sessions = sessions }
 
--- one thing that a worker does: a connection came, and was given a place, or was given up for want of memory; the Bye came; the
--- session at a place had a turn; the follower at a place had hung up, and was parted with
+-- one thing that a worker does: a connection came, and was given a place, or was given up; the Bye came; the session at a place
+-- had a turn; the follower at a place was parted with. Why it does so no definition says
 pub data Deed (X : Type 0) : Type 0 where
   Admitted : X → ℕ → Deed X
   GivenUp : X → Deed X
@@ -172,7 +172,7 @@ module _ {M C W : Type 0} (tells : M → ℕ → M → Type 0) (remaining : C �
     pub back : Option W
     pub session : Session (among calls) (remaining connection.0) (remaining reader) input before connection.1 (record { end = end; desk = after; back = back })
 
-  -- a worker served the connections that came, but those for which there was no memory, each to its end, and counted them
+  -- a worker served the connections that came, but those that were given up, each to its end, and counted them
   pub record HasWorked (before after : WorkerView M C W) (sessions : ℕ) : Type 0 where
     pub deeds : List (Deed (C × W))
     pub clients : List (Option (Client C W))
