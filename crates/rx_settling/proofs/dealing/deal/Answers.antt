@@ -1,0 +1,32 @@
+use Rattle.std.proofs.Common.{◌≡◌, ◌∙◌, ◌<◌, sym, ap, List, [], ◌∷◌, ◌++◌, append_assoc, get_or, length, length-append, slice_set, arith}
+use Rattle.std.specs.Vec.Iter.{into_iter_items}
+use Rattle.rx_settling.specs.Parts.{PartsView, dealt, with_port}
+use Rattle.rx_settling.proofs.Rows.{dealt-behind, dealt-count, dealt-more}
+use Rattle.rx_settling.proofs.dealing.deal.Goals as goal
+
+pub index_mut-requires : goal.index_mut-requires
+index_mut-requires g c =
+    let before = c.loop-port.invariant in
+    let boxes = ap length before.boxes ∙ dealt-count c.loop-port.yielded c.args.boxes.now.items in
+    omega (arith, boxes, before.place, c.requires, ap length before.ports, length-append c.loop-port.yielded (into_iter_items c.loop-port.port-iterator), ap length c.in-Some.ensures.steps.0, c.loop-port.boxes.ok)
+
+pub loop-port-preserved : goal.loop-port-preserved
+loop-port-preserved g c =
+    let before = c.loop-port.invariant in
+    let old = c.args.boxes.now.items in
+    let within : length c.loop-port.yielded < length old =
+    omega (arith, c.requires, ap length before.ports, length-append c.loop-port.yielded (into_iter_items c.loop-port.port-iterator), ap length c.in-Some.ensures.steps.0) in
+    let is : c.index_mut.result.now ≡ get_or old (length c.loop-port.yielded) c.index_mut.result.now =
+    c.index_mut.ensures.value ∙ ap (λ (l : List (PartsView _)). get_or l c.loop-port.place c.index_mut.result.now) before.boxes
+    ∙ ap (λ n. get_or (dealt c.loop-port.yielded old) n c.index_mut.result.now) before.place ∙ dealt-behind c.loop-port.yielded old c.index_mut.result.now in
+    record {
+      ports =
+          append_assoc c.loop-port.yielded (c.in-Some.port ∷ []) (into_iter_items c.next.new.self)
+          ∙ ap (λ (l : List _). c.loop-port.yielded ++ l) (sym c.in-Some.ensures.steps.0) ∙ before.ports;
+      boxes =
+          ap (λ (parts : PartsView _). slice_set c.loop-port.boxes.items c.loop-port.place parts) (c.put_port.ensures.put c.if-not-put_port.false ∙ ap (with_port c.in-Some.port) is)
+          ∙ ap (λ (l : List (PartsView _)). slice_set l c.loop-port.place (with_port c.in-Some.port (get_or old (length c.loop-port.yielded) c.index_mut.result.now))) before.boxes
+          ∙ ap (λ n. slice_set (dealt c.loop-port.yielded old) n (with_port c.in-Some.port (get_or old (length c.loop-port.yielded) c.index_mut.result.now))) before.place
+          ∙ dealt-more c.loop-port.yielded c.in-Some.port old c.index_mut.result.now within;
+      place = omega (arith, before.place, length-append c.loop-port.yielded (c.in-Some.port ∷ []));
+    }

@@ -1,0 +1,79 @@
+-- What came back of boxes that end, and when they settle (this project's own rule).
+use Rattle.std.specs.Prelude.{◌≡◌, ◌≤◌, ℕ, zero, suc, List, [], ◌∷◌, ◌++◌, take, Option, None, Some, slice_get}
+use Rattle.std.specs.List.{All, AllZip}
+use Rattle.rx_mailbox.specs.declared.letter.Letter.{Letter}
+use Rattle.rx_mailbox.specs.Boxes.{AreOf, HasEachBye, Incoming, Outgoing, incoming}
+use Rattle.rx_mailbox.specs.Settling.{GotAll, IsEachOnce}
+
+-- of a box: its inbox, where that came back, the ended ports that came back, and for how many there is room
+pub record PartsView (B : Type 0) : Type 0 where
+  pub inbox : Option (Incoming B)
+  pub ports : List (Outgoing B)
+  pub room : ℕ
+
+module _ {B : Type 0} where
+  -- nothing came back yet, and there is room for so many ports
+  pub record IsEmpty (senders : ℕ) (parts : PartsView B) : Type 0 where
+    pub no_inbox : parts.inbox ≡ None
+    pub no_ports : parts.ports ≡ []
+    pub fits : senders ≤ parts.room
+
+  -- its inbox came back
+  abbrev pub with_inbox : Incoming B → PartsView B → PartsView B
+  with_inbox inbox parts = record { inbox = Some inbox; ports = parts.ports; room = parts.room }
+
+  -- one port more came back
+  abbrev pub with_port : Outgoing B → PartsView B → PartsView B
+  with_port port parts = record { inbox = parts.inbox; ports = parts.ports ++ port ∷ []; room = parts.room }
+
+  -- a row of ports came back, one of each box
+  abbrev pub dealt : List (Outgoing B) → List (PartsView B) → List (PartsView B)
+  dealt [] boxes = boxes
+  dealt (port ∷ ports) [] = []
+  dealt (port ∷ ports) (parts ∷ boxes) = with_port port parts ∷ dealt ports boxes
+
+  -- the inbox of the box at this place came back
+  abbrev pub placed : ℕ → Incoming B → List (PartsView B) → List (PartsView B)
+  placed place inbox [] = []
+  placed zero inbox (parts ∷ boxes) = with_inbox inbox parts ∷ boxes
+  placed (suc place) inbox (parts ∷ boxes) = parts ∷ placed place inbox boxes
+
+  -- the inbox of the box at this place had not come back
+  abbrev pub LacksInbox : ℕ → List (PartsView B) → Type 0
+  LacksInbox place boxes = (parts : PartsView B) → slice_get boxes place ≡ Some parts → parts.inbox ≡ None
+
+  -- RECEIVING
+
+  -- letters more were received, but none where the Bye of each port had been
+  pub record Receives (before after : Incoming B) : Type 0 where
+    pub more : List (Letter B)
+    pub received : after ≡ incoming before.box before.ports (before.received ++ more)
+    pub only_missing : HasEachBye before → more ≡ []
+
+  -- SETTLING
+
+  -- its inbox and ports belong to one box
+  abbrev pub AreOfOneBox : PartsView B → Type 0
+  AreOfOneBox parts = (inbox : Incoming B) → parts.inbox ≡ Some inbox → AreOf inbox parts.ports
+
+  -- it settled: each port came back once, each Bye was received, and so all that the ports put
+  pub record Settles (parts : PartsView B) (settled : Incoming B) : Type 0 where
+    pub inbox : Incoming B
+    pub came : parts.inbox ≡ Some inbox
+    pub received : Receives inbox settled
+    pub each_once : IsEachOnce settled.ports parts.ports
+    pub each_bye : HasEachBye settled
+    pub got : All (GotAll settled) parts.ports
+
+  -- its inbox did not come back; or, with what it received then, not each port came back once, or a Bye is missing
+  abbrev pub CannotSettle : PartsView B → Type 0
+  CannotSettle parts =
+      (inbox : Incoming B) → parts.inbox ≡ Some inbox
+      → (after : Incoming B) × Receives inbox after × ¬ (IsEachOnce after.ports parts.ports × HasEachBye after)
+
+  -- the one at this place is the first that cannot settle
+  pub record FirstUnsettled (boxes : List (PartsView B)) (settled : List (Incoming B)) (place : ℕ) : Type 0 where
+    pub before : AllZip Settles (take place boxes) settled
+    pub parts : PartsView B
+    pub stood : slice_get boxes place ≡ Some parts
+    pub cannot : CannotSettle parts

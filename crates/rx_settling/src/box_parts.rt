@@ -1,0 +1,102 @@
+ghost use Rattle.std.specs.Prelude.{◌≡◌, ◌<◌, ◌≢◌, ◌≤◌, [], true, false, None, length, IfOk, MatchOption, MatchResult};
+ghost use Rattle.rx_mailbox.specs.Boxes.{HasEachBye};
+ghost use Rattle.rx_settling.specs.Parts.{AreOfOneBox, CannotSettle, Receives, Settles, with_inbox, with_port};
+
+use rx_heap::{Heap, Memory};
+use rx_mailbox::{EndedPort, Gone, Inbox, Settled, settle};
+use std::marker::Model;
+use std::sync::Wait;
+
+/// What came back of one box so far: its inbox, and the ports of it that have ended.
+pub struct BoxParts<B: Drop> {
+    pub(crate) inbox: Option<Inbox<B>>,
+    pub(crate) ports: Vec<EndedPort<B>, Heap>,
+}
+
+// It stands here, and isn't derived, so that what lets go of the parts of a box is one call that is proved once.
+impl<B: Drop> Drop for BoxParts<B> {
+    fn drop(self) {
+        let BoxParts { inbox: _, ports: _ } = self;
+    }
+}
+
+impl<B: Drop> Model for BoxParts<B> {
+    ghost use Rattle.std.specs.Prelude.{vec_capacity};
+    ghost use Rattle.rx_settling.specs.Parts.{PartsView};
+
+    ghost Value = { PartsView B };
+
+    ghost view = { λ p. record { inbox = p.inbox; ports = p.ports.items; room = vec_capacity p.ports } };
+}
+
+impl<B: Drop> BoxParts<B> {
+    /// Nothing came back yet; there is room for as many ports as the box has.
+    pub fn new(alloc: &Heap, senders: usize) -> Result<BoxParts<B>, Memory>
+        ensures inbox { IfOk result (λ parts. parts.inbox ≡ None) }
+        ensures ports { IfOk result (λ parts. parts.ports ≡ []) }
+        ensures room { IfOk result (λ parts. senders ≤ parts.room) }
+    {
+        Ok(BoxParts {
+            inbox: None,
+            ports: Vec::with_capacity(alloc.clone()?, senders)?,
+        })
+    }
+
+    /// Whether its inbox came back.
+    pub fn has_inbox(&self) -> bool
+        ensures came { result ≡ true → self.now.inbox ≢ None }
+        ensures missing { result ≡ false → self.now.inbox ≡ None }
+    {
+        self.inbox.is_some()
+    }
+
+    /// Its inbox came back.
+    pub fn put_inbox(&mut self, inbox: Inbox<B>)
+        ensures { self.new ≡ with_inbox inbox self.old }
+    {
+        self.inbox = Some(inbox);
+    }
+
+    /// One of its ports came back. False where all that it has came back before: then nothing changed.
+    pub fn put_port(&mut self, port: EndedPort<B>) -> bool
+        ensures put { result ≡ true → self.new ≡ with_port port self.old }
+        ensures full { result ≡ false → self.new ≡ self.old }
+    {
+        if self.ports.len() == self.ports.capacity() {
+            return false;
+        }
+        self.ports.push_reserved(port);
+        true
+    }
+
+    // The box, settled, once the Byes that are left were received. None where its inbox didn't come back, or not each of its
+    // ports once, or a Bye is missing and no letter will come any more.
+    pub(crate) fn settle<R: Wait>(self, rt: &R) -> Option<Settled<B>>
+        requires { AreOfOneBox self }
+        ensures { MatchOption result (CannotSettle self) (Settles self) }
+    {
+        let BoxParts { inbox, ports } = self;
+        let mut inbox = inbox?;
+        let Ok(()) = receive_byes(rt, &mut inbox) else {
+            return None;
+        };
+        let Ok(settled) = settle(inbox, ports) else {
+            return None;
+        };
+        Some(settled)
+    }
+}
+
+// Receives until the Bye of each port was received. `Err` where one is missing, and no letter will come any more.
+fn receive_byes<B: Drop, R: Wait>(rt: &R, inbox: &mut Inbox<B>) -> Result<(), Gone>
+    ensures received { Receives inbox.old inbox.new }
+    ensures byes { MatchResult result (λ _. HasEachBye inbox.new) (λ _. ¬ HasEachBye inbox.new) }
+{
+    for _ in rt.forever() {
+        if inbox.has_each_bye() {
+            return Ok(());
+        }
+        inbox.recv(rt)?;
+    }
+    unreachable!()
+}
