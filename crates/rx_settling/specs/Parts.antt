@@ -32,6 +32,17 @@ module _ {B : Type 0} where
   dealt (port ∷ ports) [] = []
   dealt (port ∷ ports) (parts ∷ boxes) = with_port port parts ∷ dealt ports boxes
 
+  -- rows of ports came back, one after another
+  abbrev pub dealt_each : List (List (Outgoing B)) → List (PartsView B) → List (PartsView B)
+  dealt_each [] boxes = boxes
+  dealt_each (ports ∷ rows) boxes = dealt_each rows (dealt ports boxes)
+
+  -- the inboxes of the first boxes came back
+  abbrev pub given : List (Incoming B) → List (PartsView B) → List (PartsView B)
+  given [] boxes = boxes
+  given (inbox ∷ inboxes) [] = []
+  given (inbox ∷ inboxes) (parts ∷ boxes) = with_inbox inbox parts ∷ given inboxes boxes
+
   -- the inbox of the box at this place came back
   abbrev pub placed : ℕ → Incoming B → List (PartsView B) → List (PartsView B)
   placed place inbox [] = []
