@@ -1,33 +1,81 @@
 -- What is left, thread by thread.
-use Rattle.std.proofs.Common.{◌≡◌, refl, sym, subst, Option, Some, None, Result, Ok, Err, List, [], ◌∷◌, ◌++◌, length, length-append, map, arith, MatchOption, MatchResult}
+use Rattle.std.proofs.Common.{◌≡◌, ◌∙◌, ◌<◌, ◌≤◌, refl, ap, sym, subst, ℕ, Option, Some, None, Result, Ok, Err, List, [], ◌∷◌, ◌++◌, length, length-append, map, take, slice_get, arith, MatchOption, MatchResult}
+use Rattle.std.proofs.Math.Seq.{take-append_seam}
+use Rattle.std.proofs.lemmas.List.{take-append-le}
+use Rattle.std.proofs.lemmas.Option.{slice_get_within}
 use Rattle.std.proofs.lemmas.Slice.Zip.{all_zipped_more, AllZip-long}
 use Rattle.std.specs.List.{AllZip}
+use Rattle.rx_pump.proofs.Placing.{slice_get-append_left}
+use Rattle.rx_server.specs.declared.close_fault.CloseCause.TheVariants.{Ended}
 use Rattle.rx_server.specs.declared.close_fault.CloseFault.{CloseFault}
 use Rattle.rx_server.specs.declared.start_fault.Role.{Role}
-use Rattle.rx_server.specs.Ends.{Keeps}
-use Rattle.rx_server.specs.Servers.{IsOf}
+use Rattle.rx_server.specs.Ends.{AreOver, FirstStopped, Keeps, NamesFirst}
 use Rattle.rx_server.proofs.Starting.{Started, started-one}
 
-module _ {A B : Type 0} (R : A → B → Type 0) (role : Role) where
-  -- each of these threads left what it promises, or this is the fault of one of them
+-- the item behind the first ones
+seam : {X : Type 0} (xs : List X) (x : X) → slice_get (xs ++ x ∷ []) (length xs) ≡ Some x
+seam [] x = refl
+seam (y ∷ xs) x = seam xs x
+
+module _ {A B F : Type 0} (R : A → B → Type 0) (Q : A → F → Type 0) (role : Role) where
+  -- each of these threads left what it promises, or this is the fault of the first that did not
   abbrev pub HaveJoined : List A → List B → Option CloseFault → Type 0
-  HaveJoined threads ends fault = MatchOption fault (AllZip R threads ends) (IsOf role (length threads))
+  HaveJoined threads ends fault = MatchOption fault (AllZip R threads ends) (NamesFirst R Q role threads)
+
+  -- those that served ended
+  served-ended : (xs : List A) (ys : List B) → AllZip R xs ys → AllZip (λ x one. MatchResult one (R x) (Q x)) xs (map Ok ys)
+  served-ended [] [] all = tt
+  served-ended [] (y ∷ ys) all = absurd all
+  served-ended (x ∷ xs) [] all = absurd all
+  served-ended (x ∷ xs) (y ∷ ys) all = (all.0, served-ended xs ys all.1)
+
+  pub all-ended : (xs : List A) (ys : List B) → AllZip R xs ys → AreOver R Q xs
+  all-ended xs ys all = (map Ok ys, served-ended xs ys all)
+
+  one-ended : (xs : List A) (x : A) (joined : Result B F) → MatchResult joined (R x) (Q x) → AreOver R Q xs → AreOver R Q (xs ++ x ∷ [])
+  one-ended xs x joined left all = (all.0 ++ joined ∷ [], all_zipped_more (λ x one. MatchResult one (R x) (Q x)) xs all.0 x joined all.1 left)
+
+  -- one thread more, behind the first that stopped
+  later : (xs : List A) (x : A) (joined : Result B F) (place : ℕ) → MatchResult joined (R x) (Q x) → FirstStopped R Q xs place → FirstStopped R Q (xs ++ x ∷ []) place
+  later xs x joined place left first =
+      let within : place < length xs = slice_get_within xs place first.thread first.stood in
+      let front : take place (xs ++ x ∷ []) ≡ take place xs = take-append-le place xs (x ∷ []) (omega arith) in
+      record {
+        ends = first.ends;
+        before = subst (λ (l : List A). AllZip R l first.ends) (sym front) first.before;
+        thread = first.thread;
+        stood = slice_get-append_left xs (x ∷ []) place first.thread first.stood;
+        stop = first.stop;
+        left = first.left;
+        all = one-ended xs x joined left first.all;
+      }
+
+  -- the first that stopped
+  now : (xs : List A) (ys : List B) (x : A) (cause : F) → AllZip R xs ys → Q x cause → FirstStopped R Q (xs ++ x ∷ []) (length ys)
+  now xs ys x cause all stop =
+      let long : length ys ≡ length xs = AllZip-long R xs ys all in
+      record {
+        ends = ys;
+        before = subst (λ (l : List A). AllZip R l ys) (sym (take-append_seam xs (x ∷ [])) ∙ ap (λ n. take n (xs ++ x ∷ [])) (sym long)) all;
+        thread = x;
+        stood = ap (slice_get (xs ++ x ∷ [])) long ∙ seam xs x;
+        stop = cause;
+        left = stop;
+        all = one-ended xs x (Err cause) stop (all-ended xs ys all);
+      }
 
   -- one more was joined
-  pub joined-one : {F : Type 0} (Q : F → Type 0) (xs : List A) (ys after : List B) (x : A) (joined : Result B F) (before fault : Option CloseFault)
-      → MatchResult joined (λ y. R x y) Q → Keeps role joined ys before after fault → HaveJoined xs ys before → HaveJoined (xs ++ x ∷ []) after fault
-  joined-one Q xs ys after x joined (Some first) fault left kept all =
-      let more = length-append xs (x ∷ []) in
-      let late : HaveJoined (xs ++ x ∷ []) after (Some first) = (all.0, omega (arith, all.1, more)) in
+  pub joined-one : (xs : List A) (ys after : List B) (x : A) (joined : Result B F) (before fault : Option CloseFault)
+      → MatchResult joined (R x) (Q x) → Keeps role joined ys before after fault → HaveJoined xs ys before → HaveJoined (xs ++ x ∷ []) after fault
+  joined-one xs ys after x joined (Some first) fault left kept all =
+      let late : HaveJoined (xs ++ x ∷ []) after (Some first) = record { thread = all.thread; cause = all.cause; first = later xs x joined first.index left all.first } in
       subst (λ (f : Option CloseFault). HaveJoined (xs ++ x ∷ []) after f) (sym kept.1) late
-  joined-one Q xs ys after x (Ok end) None fault left kept all =
+  joined-one xs ys after x (Ok end) None fault left kept all =
       let ended : HaveJoined (xs ++ x ∷ []) after None = subst (λ (l : List B). AllZip R (xs ++ x ∷ []) l) (sym kept.0) (all_zipped_more R xs ys x end all left) in
       subst (λ (f : Option CloseFault). HaveJoined (xs ++ x ∷ []) after f) (sym kept.1) ended
-  joined-one Q xs ys after x (Err cause) None fault left kept all =
-      let long = AllZip-long R xs ys all in
-      let more = length-append xs (x ∷ []) in
-      let first : HaveJoined (xs ++ x ∷ []) after (Some kept.1.0) = (kept.1.2, omega (arith, kept.1.3, long, more)) in
-      subst (λ (f : Option CloseFault). HaveJoined (xs ++ x ∷ []) after f) (sym kept.1.1) first
+  joined-one xs ys after x (Err cause) None fault left kept all =
+      let first : HaveJoined (xs ++ x ∷ []) after (Some (record { thread = role; index = length ys; cause = Ended })) = record { thread = refl; cause = refl; first = now xs ys x cause all left } in
+      subst (λ (f : Option CloseFault). HaveJoined (xs ++ x ∷ []) after f) (sym kept.1) first
 
   -- of these threads, the first one last, some were joined, and the others are left
   pub record JoinedSome (turned left : List A) (ends : List B) (fault : Option CloseFault) : Type 0 where
@@ -38,12 +86,12 @@ module _ {A B : Type 0} (R : A → B → Type 0) (role : Role) where
   pub joined-none : (turned : List A) (ends : List B) → ends ≡ [] → JoinedSome turned turned ends None
   joined-none turned ends none = record { done = []; so_far = refl; joined = subst (λ (l : List B). AllZip R [] l) (sym none) tt }
 
-  pub joined-next : {F : Type 0} (Q : F → Type 0) (turned left rest : List A) (ys after : List B) (x : A) (joined : Result B F) (before fault : Option CloseFault)
-      → left ≡ rest ++ x ∷ [] → MatchResult joined (λ y. R x y) Q → Keeps role joined ys before after fault → JoinedSome turned left ys before → JoinedSome turned rest after fault
-  joined-next Q turned left rest ys after x joined before fault took ended kept some = record {
+  pub joined-next : (turned left rest : List A) (ys after : List B) (x : A) (joined : Result B F) (before fault : Option CloseFault)
+      → left ≡ rest ++ x ∷ [] → MatchResult joined (R x) (Q x) → Keeps role joined ys before after fault → JoinedSome turned left ys before → JoinedSome turned rest after fault
+  joined-next turned left rest ys after x joined before fault took ended kept some = record {
     done = some.done ++ x ∷ [];
     so_far = started-one turned some.done (some.done ++ x ∷ []) left rest x x took refl refl some.so_far;
-    joined = joined-one Q some.done ys after x joined before fault ended kept some.joined;
+    joined = joined-one some.done ys after x joined before fault ended kept some.joined;
   }
 
 -- what holds of what the threads stand for
@@ -52,3 +100,9 @@ zip-stands R f [] [] all = tt
 zip-stands R f [] (y ∷ ys) all = absurd all
 zip-stands R f (x ∷ xs) [] all = absurd all
 zip-stands R f (x ∷ xs) (y ∷ ys) all = (all.0, zip-stands R f xs ys all.1)
+
+pub zip-items : {A B X : Type 0} (R : A → B → Type 0) (f : X → A) (xs : List X) (ys : List B) → AllZip R (map f xs) ys → AllZip (λ x y. R (f x) y) xs ys
+zip-items R f [] [] all = tt
+zip-items R f [] (y ∷ ys) all = absurd all
+zip-items R f (x ∷ xs) [] all = absurd all
+zip-items R f (x ∷ xs) (y ∷ ys) all = (all.0, zip-items R f xs ys all.1)

@@ -1,52 +1,117 @@
 -- A server, and what it leaves when it is closed (this project's own rule).
-use Rattle.std.specs.Prelude.{◌≡◌, ◌<◌, ◌⊎◌, ℕ, List, ◌∷◌, ◌++◌, length, map}
-use Rattle.std.specs.List.{AllZip, sum_by}
+use Rattle.std.specs.Prelude.{◌≡◌, ◌<◌, ◌⊎◌, ℕ, List, [], ◌∷◌, ◌++◌, length, map, Some, slice_get}
+use Rattle.std.specs.List.{All, AllZip, sum_by, zip}
 use Rattle.rx_hub.specs.Hubs.{HubView}
-use Rattle.rx_mailbox.specs.Boxes.{Outgoing}
+use Rattle.rx_mailbox.specs.Boxes.{Incoming, Outgoing}
+use Rattle.rx_mailbox.specs.Settling.{GotAll}
+use Rattle.rx_pump.specs.declared.ended_desk.EndedDesk.{EndedDesk}
 use Rattle.rx_pump.specs.declared.out.Out.{Out}
 use Rattle.rx_pump.specs.declared.pump_end.PumpEnd.{PumpEnd}
-use Rattle.rx_pump.specs.Pumps.{PumpView, counted}
+use Rattle.rx_pump.specs.declared.reply.Reply.{Reply}
+use Rattle.rx_pump.specs.Marks.{Marked}
+use Rattle.rx_pump.specs.Pumps.{AreSame, PumpView, counted}
+use Rattle.rx_pump.specs.Sends.{with_bye}
 use Rattle.rx_pump.specs.Serving as pump_serving
-use Rattle.rx_pump.specs.Desks.{DeskView}
+use Rattle.rx_pump.specs.Desks.{DeskView, KeepsDesk}
 use Rattle.rx_sink.specs.Acts.{Acts}
 use Rattle.rx_drain.specs.declared.drain_end.DrainEnd.{DrainEnd}
 use Rattle.rx_drain.specs.Drainers.{DrainerView}
 use Rattle.rx_drain.specs.Serving as drainer_serving
+use Rattle.rx_settling.specs.Parts.{Receives}
+use Rattle.rx_server.specs.declared.close_fault.CloseCause.TheVariants.{Ended, Unsettled}
 use Rattle.rx_server.specs.declared.close_fault.CloseFault.{CloseFault}
 use Rattle.rx_config.specs.declared.config.Config.{Config}
 use Rattle.rx_server.specs.declared.report.SubjectReport.{SubjectReport}
 use Rattle.rx_server.specs.declared.report.Report.{Report}
+use Rattle.rx_server.specs.declared.settled_boxes.SettledBoxes.{SettledBoxes}
 use Rattle.rx_server.specs.declared.start_fault.Role.{Role}
-use Rattle.rx_server.specs.declared.start_fault.Role.TheVariants.{Drainer, Pump}
+use Rattle.rx_server.specs.declared.start_fault.Role.TheVariants.{Drainer, Pump, Worker}
+use Rattle.rx_server.specs.Ends.{FirstStopped, AreOver}
 use Rattle.rx_server.specs.Wirings.{Wiring, IsWired}
 
 -- a server: its configuration, its pumps and drainers as they were before their first turn, the ports by which the drainers are
--- told to leave, and the desks that were not handed out
+-- told to leave, all desks that it made, those of them that were not handed out, and those of its workers, ended
 pub record ServerView (S Rest : Type 0) : Type 0 where
   pub config : Config
   pub pumps : List (PumpView S)
   pub drainers : List (DrainerView S Rest)
   pub leaves : List (Outgoing (Out S))
+  pub made : List (DeskView S)
   pub desks : List (DeskView S)
+  pub kept : List (EndedDesk S)
+
+-- DESKS
+
+module _ {S : Type 0} where
+  -- the desk is one of these, as its calls left it: no port of it has ended
+  pub record IsDeskOf (made : List (DeskView S)) (desk : DeskView S) : Type 0 where
+    pub number : ℕ
+    pub one : DeskView S
+    pub stood : slice_get made number ≡ Some one
+    pub as_made : KeepsDesk one desk
+    pub none_ended : desk.ended ≡ []
+
+  -- what a desk left is of one of these: its ports and its inbox are those of that desk
+  pub record IsEndOf (made : List (DeskView S)) (end : EndedDesk S) : Type 0 where
+    pub number : ℕ
+    pub one : DeskView S
+    pub stood : slice_get made number ≡ Some one
+    pub ports : AreSame one.ports end.ports.items
+    pub box : end.inbox.box ≡ one.inbox.box
+    pub count : end.inbox.ports ≡ one.inbox.ports
+
+  -- some of these desks ended, and what they left stands behind what others left
+  abbrev pub EndsMore : List (DeskView S) → List (EndedDesk S) → List (EndedDesk S) → Type 0
+  EndsMore made before after = (more : List (EndedDesk S)) × (after ≡ before ++ more) × All (IsEndOf made) more
 
 module _ {S Rest : Type 0} where
-  -- the server before its first desk was handed out
+  -- the server of these parts
+  abbrev pub server_of : Config → List (PumpView S) → List (DrainerView S Rest) → List (Outgoing (Out S)) → List (DeskView S) → List (DeskView S) → List (EndedDesk S) → ServerView S Rest
+  server_of config pumps drainers leaves made desks kept = record {
+    config = config;
+    pumps = pumps;
+    drainers = drainers;
+    leaves = leaves;
+    made = made;
+    desks = desks;
+    kept = kept;
+  }
+
+  -- a server at every moment: it is wired as its configuration says, the desks that were handed out are the first that it made,
+  -- and those that it keeps are its own
+  pub record IsWhole (server : ServerView S Rest) : Type 0 where
+    pub wiring : Wiring S
+    pub hubs : List HubView
+    pub wired : IsWired server.config wiring hubs server.pumps server.drainers server.leaves server.made
+    pub handed : List (DeskView S)
+    pub parts : server.made ≡ handed ++ server.desks
+    pub ended : All (IsEndOf server.made) server.kept
+    pub some : 0 < length server.config.subjects.items
+
+  -- the server before its next desk was handed out
   abbrev pub with_desk : DeskView S → ServerView S Rest → ServerView S Rest
-  with_desk desk server = record { config = server.config; pumps = server.pumps; drainers = server.drainers; leaves = server.leaves; desks = desk ∷ server.desks }
+  with_desk desk server = server_of server.config server.pumps server.drainers server.leaves server.made (desk ∷ server.desks) server.kept
 
-  -- a new server of a configuration, with these boxes and hubs
-  abbrev pub IsServerOf : Config → Wiring S → List HubView → ServerView S Rest → Type 0
-  IsServerOf config w hubs server =
-      (server.config ≡ config) × IsWired config w hubs server.pumps server.drainers server.leaves server.desks
+  -- a new server of a configuration, with these boxes and hubs: no desk was handed out
+  pub record IsServerOf (config : Config) (w : Wiring S) (hubs : List HubView) (server : ServerView S Rest) : Type 0 where
+    pub config_is : server.config ≡ config
+    pub wired : IsWired config w hubs server.pumps server.drainers server.leaves server.made
+    pub desks_are : server.desks ≡ server.made
+    pub none_kept : server.kept ≡ []
 
-  -- the same configuration, pumps, drainers and leave ports; of the desks some more may have been handed out
+  -- the same configuration, pumps, drainers, leave ports and desks; some more desks may have been handed out, and some more that
+  -- have ended may be kept
   pub record RunsOn (before after : ServerView S Rest) : Type 0 where
     pub config : after.config ≡ before.config
     pub pumps : after.pumps ≡ before.pumps
     pub drainers : after.drainers ≡ before.drainers
     pub leaves : after.leaves ≡ before.leaves
+    pub made : after.made ≡ before.made
     pub handed : List (DeskView S)
     pub desks : before.desks ≡ handed ++ after.desks
+    pub more : List (EndedDesk S)
+    pub kept : after.kept ≡ before.kept ++ more
+    pub ended : All (IsEndOf before.made) more
 
 -- WHAT IS REPORTED
 
@@ -56,18 +121,63 @@ report_of end = record { calls = end.calls; refused = end.refused; joins = end.h
 
 module _ {S Rest : Type 0} where
   -- the report tells the counts of the pumps and of the drainers, and what their sinks left, drainer by drainer
-  pub record Reports (report : Report Rest) (pump_ends : List (PumpEnd S)) (drain_ends : List (DrainEnd S Rest)) : Type 0 where
+  pub record Reports (report : Report S Rest) (pump_ends : List (PumpEnd S)) (drain_ends : List (DrainEnd S Rest)) : Type 0 where
     pub subjects : report.subjects.items ≡ map report_of pump_ends
     pub taken : report.taken ≡ counted (sum_by (λ end. end.taken) drain_ends)
     pub put_away : map (λ list. list.items) report.put_away.items ≡ map (λ end. end.put_away.items) drain_ends
 
+-- WHAT HAS SETTLED
+
+module _ {B : Type 0} where
+  -- of the port at each place the box at that place received all that it put
+  abbrev pub GotEach : List (Incoming B) → List (Outgoing B) → Type 0
+  GotEach boxes ports = AllZip GotAll boxes ports
+
+module _ {S : Type 0} where
+  -- the box of the replies to a desk settled: it is that of the desk's number, which its ports have, and received beside what the
+  -- desk had received only what was still on its way
+  pub record AreRepliesOf (boxes : List (Incoming (Reply S))) (desk : EndedDesk S) : Type 0 where
+    pub number : ℕ
+    pub ports : All (λ port. port.number ≡ number) desk.ports.items
+    pub box : Incoming (Reply S)
+    pub stood : slice_get boxes number ≡ Some box
+    pub received : Receives desk.inbox box
+
+module _ {S Rest : Type 0} where
+  -- the boxes of all subjects, of all drainers and of the replies to all desks have settled: what each port put is what its box
+  -- received, and nothing else came
+  pub record HaveSettled (boxes : SettledBoxes S) (leaves : List (Outgoing (Out S))) (desks : List (EndedDesk S)) (pumps : List (PumpEnd S)) (drainers : List (DrainEnd S Rest)) : Type 0 where
+    -- the box of a subject is the one that its pump had, the box of a drainer that which the drainer had
+    pub of_pumps : AllZip (λ end box. box ≡ end.inbox) pumps boxes.subjects.items
+    pub of_drainers : AllZip (λ end box. box ≡ end.inbox) drainers boxes.drainers.items
+    pub of_desks : All (AreRepliesOf boxes.replies.items) desks
+
+    -- to the subjects sent the desks and the drainers
+    pub by_desks : All (λ desk. GotEach boxes.subjects.items desk.ports.items) desks
+    pub by_drainers : All (λ end. GotEach boxes.subjects.items end.ports.items) drainers
+
+    -- to the drainers sent the pumps, and the one that told them to leave put its Bye alone
+    pub to_drainers : All (λ end. GotEach boxes.drainers.items end.drainers.items) pumps
+    pub to_leave : GotEach boxes.drainers.items (map with_bye leaves)
+
+    -- to the desks sent the pumps
+    pub to_desks : All (λ end. GotEach boxes.replies.items end.replies.items) pumps
+
 module _ {S Rest : Type 0} (acts : Acts S Rest) where
-  -- each pump and each drainer served to its end, and the report tells of it
-  pub record Closes (server : ServerView S Rest) (report : Report Rest) : Type 0 where
+  -- each pump and each drainer served to its end, all boxes have settled, and the report tells of it. There is one choice of
+  -- marks for the letters of each subject
+  pub record Closes (server : ServerView S Rest) (ended : List (EndedDesk S)) (report : Report S Rest) : Type 0 where
+    pub marks : List (Marked S)
     pub pump_ends : List (PumpEnd S)
     pub drain_ends : List (DrainEnd S Rest)
-    pub pumped : AllZip pump_serving.HasServed server.pumps pump_ends
+
+    -- what the desks left that were not handed out
+    pub finished : List (EndedDesk S)
+    pub pumped : AllZip (λ pump x. pump_serving.Serves pump x.0 x.1) server.pumps (zip pump_ends marks)
+    pub each_marked : length marks ≡ length pump_ends
     pub drained : AllZip (drainer_serving.HasServed acts) server.drainers drain_ends
+    pub of_server : All (IsEndOf server.made) finished
+    pub settled : HaveSettled report.boxes server.leaves (ended ++ server.kept ++ finished) pump_ends drain_ends
     pub reports : Reports report pump_ends drain_ends
 
 -- WHY NOTHING IS REPORTED
@@ -76,6 +186,31 @@ module _ {S Rest : Type 0} (acts : Acts S Rest) where
 abbrev pub IsOf : Role → ℕ → CloseFault → Type 0
 IsOf role count fault = (fault.thread ≡ role) × (fault.index < count)
 
--- the fault is that of a pump or of a drainer of the server
-abbrev pub NamesOne : {S Rest : Type 0} → ServerView S Rest → CloseFault → Type 0
-NamesOne server fault = IsOf Pump (length server.pumps) fault ⊎ IsOf Drainer (length server.drainers) fault
+-- the fault is that of the box of one of so many pumps, drainers and workers, which did not settle
+abbrev pub NamesBox : ℕ → ℕ → ℕ → CloseFault → Type 0
+NamesBox pumps drainers workers fault =
+    (fault.cause ≡ Unsettled) × (IsOf Pump pumps fault ⊎ IsOf Drainer drainers fault ⊎ IsOf Worker workers fault)
+
+module _ {S Rest : Type 0} (acts : Acts S Rest) where
+  -- each pump served to its end
+  abbrev pub HavePumped : List (PumpView S) → Type 0
+  HavePumped pumps = (ends : List (PumpEnd S)) × AllZip pump_serving.HasServed pumps ends
+
+  -- and each drainer
+  abbrev pub HaveDrained : List (DrainerView S Rest) → Type 0
+  HaveDrained drainers = (ends : List (DrainEnd S Rest)) × AllZip (drainer_serving.HasServed acts) drainers ends
+
+  -- the thread is the first that stopped at a fault of its own, pumps before drainers; all threads are over
+  abbrev pub IsFirst : List (PumpView S) → List (DrainerView S Rest) → Role → ℕ → Type 0
+  IsFirst pumps drainers Pump index =
+      FirstStopped pump_serving.HasServed pump_serving.HasStopped pumps index
+      × AreOver (drainer_serving.HasServed acts) (drainer_serving.HasStopped acts) drainers
+  IsFirst pumps drainers Drainer index =
+      HavePumped pumps × FirstStopped (drainer_serving.HasServed acts) (drainer_serving.HasStopped acts) drainers index
+  IsFirst pumps drainers Worker index = ⊥
+
+  -- a thread stopped at a fault of its own, or all served to their end and a box did not settle
+  abbrev pub Fails : ServerView S Rest → CloseFault → Type 0
+  Fails server fault =
+      ((fault.cause ≡ Ended) × IsFirst server.pumps server.drainers fault.thread fault.index)
+      ⊎ (HavePumped server.pumps × HaveDrained server.drainers × NamesBox (length server.pumps) (length server.drainers) (length server.made) fault)

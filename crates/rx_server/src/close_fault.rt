@@ -9,10 +9,13 @@ use std::fmt;
 pub enum CloseCause {
     /// The thread ended by a fault of its own.
     Ended,
+    /// All threads ended well, but a box did not settle: not each port of it came back once, or a Bye is missing. The box of a
+    /// subject counts as its pump, the box of a drainer as that drainer, and the box of replies to a desk as that worker.
+    Unsettled,
 }
 
-/// Why a server that was closed has no report: the first such thread, pumps before drainers, by its number among those of
-/// its role.
+/// Why a server that was closed has no report: first a thread that ended by a fault of its own, pumps before drainers, each by
+/// its number among those of its role; then a box that did not settle, of pumps, drainers and workers in that order.
 #[derive(Clone, Copy, Debug, PartialEq, Eq)]
 pub struct CloseFault {
     pub thread: Role,
@@ -23,13 +26,23 @@ pub struct CloseFault {
 impl CloseFault {
     // This thread ended by a fault of its own.
     pub(crate) fn ended(thread: Role, index: usize) -> CloseFault
-        ensures thread { result.thread ≡ thread }
-        ensures index { result.index ≡ index }
+        ensures { result ≡ record { thread = thread; index = index; cause = CloseCause.Ended } }
     {
         CloseFault {
             thread,
             index,
             cause: CloseCause::Ended,
+        }
+    }
+
+    // The box that counts as this thread did not settle.
+    pub(crate) fn unsettled(thread: Role, index: usize) -> CloseFault
+        ensures { result ≡ record { thread = thread; index = index; cause = CloseCause.Unsettled } }
+    {
+        CloseFault {
+            thread,
+            index,
+            cause: CloseCause::Unsettled,
         }
     }
 }

@@ -18,10 +18,12 @@ mod making;
 mod opened;
 mod port_row;
 mod report;
+mod returned;
 mod rooms;
 mod running;
 mod running_pump;
 mod server;
+mod settled_boxes;
 mod start_fault;
 mod wiring;
 

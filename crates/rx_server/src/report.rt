@@ -1,5 +1,6 @@
+use crate::settled_boxes::SettledBoxes;
 use rx_heap::Heap;
-use rx_sink::PutAway;
+use rx_sink::{PutAway, Sink};
 
 /// What became of one subject.
 #[derive(Clone, Copy, Debug, PartialEq, Eq)]
@@ -12,13 +13,26 @@ pub struct SubjectReport {
     pub joins: u32,
 }
 
-/// What a server did that was closed. `R` is what a sink leaves.
-#[derive(Drop)]
-pub struct Report<R: Drop> {
+/// What a server did that was closed: each box that it made has settled, and is empty. Contracts still see what each box
+/// received.
+pub struct Report<S: Sink> {
     /// In the order of the subjects.
     pub subjects: Vec<SubjectReport, Heap>,
     /// How many notes the sinks took, up to the greatest `u64`.
     pub taken: u64,
     /// Of each drainer what its sinks left, in the order in which they were put away.
-    pub put_away: Vec<Vec<PutAway<R>, Heap>, Heap>,
+    pub put_away: Vec<Vec<PutAway<S::Rest>, Heap>, Heap>,
+    pub(crate) boxes: SettledBoxes<S>,
+}
+
+// It stands here, and isn't derived, so that what lets go of a report is one call that is proved once.
+impl<S: Sink> Drop for Report<S> {
+    fn drop(self) {
+        let Report {
+            subjects: _,
+            taken: _,
+            put_away: _,
+            boxes: _,
+        } = self;
+    }
 }

@@ -1,14 +1,20 @@
 // Room for what is left when a server is closed.
-ghost use Rattle.std.specs.Prelude.{◌≡◌, ◌≤◌, [], vec_len, vec_capacity, IfOk};
-ghost use Rattle.rx_server.specs.Servers.{Reports};
+ghost use Rattle.std.specs.Prelude.{◌+◌, ◌++◌, ◌^◌, ◌<◌, length, IfErr, IfOk};
+ghost use Rattle.rx_server.specs.Servers.{HaveSettled, NamesBox, Reports};
+ghost use Rattle.rx_server.specs.Wirings.{Wiring};
 
-use crate::closing::{list_rests, report_subjects};
+use crate::close_fault::CloseFault;
 use crate::report::{Report, SubjectReport};
+use crate::returned::{Returned, return_desks, return_drainers, return_pumps};
+use crate::settled_boxes::SettledBoxes;
+use crate::start_fault::Role;
 use rx_drain::DrainEnd;
 use rx_heap::{Heap, Memory};
 use rx_mailbox::EndedPort;
 use rx_pump::{EndedDesk, Out, PumpEnd, room};
+use rx_settling::deal;
 use rx_sink::{PutAway, Sink};
+use std::sync::Wait;
 
 // It is taken when the server starts, so that its close finds it.
 pub(crate) struct Rooms<S: Sink> {
@@ -19,6 +25,8 @@ pub(crate) struct Rooms<S: Sink> {
     pub(crate) drainers: Vec<DrainEnd<S>, Heap>,
     pub(crate) subjects: Vec<SubjectReport, Heap>,
     pub(crate) put_away: Vec<Vec<PutAway<S::Rest>, Heap>, Heap>,
+    pub(crate) returned: Returned<S>,
+    pub(crate) settled: SettledBoxes<S>,
 }
 
 // It stands here, and isn't derived, so that what lets go of the rooms of a server is one call that is proved once.
@@ -31,11 +39,14 @@ impl<S: Sink> Drop for Rooms<S> {
             drainers: _,
             subjects: _,
             put_away: _,
+            returned: _,
+            settled: _,
         } = self;
     }
 }
 
 impl<S: Sink> Rooms<S> {
+    ghost use Rattle.rx_server.specs.Leaving.{HasLeft};
     ghost use Rattle.rx_server.specs.Rooms.{AreRooms};
 
     // Room for what so many pumps, drainers and desks leave.
@@ -45,7 +56,8 @@ impl<S: Sink> Rooms<S> {
         drainers: usize,
         desks: usize,
     ) -> Result<Rooms<S>, Memory>
-        ensures { IfOk result (AreRooms pumps drainers desks) }
+        requires { (desks + drainers < 2 ^ 64) × (pumps + 1 < 2 ^ 64) }
+        ensures { IfOk result (AreRooms pumps drainers desks desks) }
     {
         Ok(Rooms {
             desks: room(alloc, desks)?,
@@ -54,30 +66,56 @@ impl<S: Sink> Rooms<S> {
             drainers: room(alloc, drainers)?,
             subjects: room(alloc, pumps)?,
             put_away: room(alloc, drainers)?,
+            returned: Returned::room(alloc, pumps, drainers, desks)?,
+            settled: SettledBoxes::room(alloc, pumps, drainers, desks)?,
         })
     }
 
-    // The report of what pumps and drainers left.
-    pub(crate) fn into_report(self) -> Report<S::Rest>
-        requires subjects { self.subjects.items ≡ [] }
-        requires subjects_fit { vec_len self.pumps ≤ vec_capacity self.subjects }
-        requires put_away { self.put_away.items ≡ [] }
-        requires put_away_fits { vec_len self.drainers ≤ vec_capacity self.put_away }
-        ensures { Reports result self.pumps.items self.drainers.items }
+    // Settles each box, and reports. Handed in are the desks that were handed out, each ended.
+    pub(crate) fn settle<R: Wait>(
+        self,
+        rt: &R,
+        ended: Vec<EndedDesk<S>, Heap>,
+    ) -> Result<Report<S>, CloseFault>
+        requires { (w : Wiring S) × HasLeft w self ended.items }
+        ensures settled { IfOk result (λ report. HaveSettled report.boxes self.leaves.items (ended.items ++ self.desks.items) self.pumps.items self.drainers.items) }
+        ensures reports { IfOk result (λ report. Reports report self.pumps.items self.drainers.items) }
+        ensures fault { IfErr result (NamesBox (length self.returned.subjects.items) (length self.returned.drainers.items) (length self.returned.replies.items)) }
     {
         let Rooms {
-            desks: _,
-            leaves: _,
+            desks,
+            leaves,
             pumps,
             drainers,
             subjects,
             put_away,
+            mut returned,
+            settled,
         } = self;
-        let (taken, put_away) = list_rests(drainers, put_away);
-        Report {
-            subjects: report_subjects(&pumps, subjects),
+        let subjects = return_pumps(
+            pumps,
+            subjects,
+            &mut returned.subjects,
+            &mut returned.drainers,
+            &mut returned.replies,
+        )?;
+        let (taken, put_away) = return_drainers(
+            drainers,
+            put_away,
+            &mut returned.subjects,
+            &mut returned.drainers,
+        )?;
+        if let Err(place) = deal(leaves, &mut returned.drainers) {
+            return Err(CloseFault::unsettled(Role::Drainer, place));
+        }
+        return_desks(ended, &mut returned.subjects, &mut returned.replies)?;
+        return_desks(desks, &mut returned.subjects, &mut returned.replies)?;
+        let boxes = returned.settle(rt, settled)?;
+        Ok(Report {
+            subjects,
             taken,
             put_away,
-        }
+            boxes,
+        })
     }
 }

@@ -1,11 +1,12 @@
 // What runs of a server.
-ghost use Rattle.std.specs.Prelude.{◌≡◌, ◌≤◌, ◌⊎◌, [], IfErr, IfOk, OnOk, length, map, vec_len, vec_capacity};
+ghost use Rattle.std.specs.Prelude.{◌≡◌, ◌≤◌, [], IfErr, IfOk, OnOk, length, map, vec_len, vec_capacity};
 ghost use Rattle.std.specs.List.{AllZip};
 ghost use Rattle.rx_pump.specs.Serving as pump_serving;
 ghost use Rattle.rx_drain.specs.Serving as drainer_serving;
-ghost use Rattle.rx_server.specs.Servers.{IsOf};
+ghost use Rattle.rx_server.specs.Rooms.{KeepsRooms};
+ghost use Rattle.rx_server.specs.Servers.{IsFirst};
 
-use crate::close_fault::CloseFault;
+use crate::close_fault::{CloseCause, CloseFault};
 use crate::closing::{join_drainers, join_pumps};
 use crate::rooms::Rooms;
 use crate::running_pump::{RunningPump, start_pump};
@@ -57,9 +58,10 @@ impl<S: Sink> Running<S> {
         requires pumps { vec_len self.pumps ≤ vec_capacity rooms.old.pumps }
         requires drainers { vec_len self.drainers ≤ vec_capacity rooms.old.drainers }
         ensures pumped { OnOk result (AllZip pump_serving.HasServed self.pumps.items rooms.new.pumps.items) }
-        ensures drained { OnOk result (AllZip (λ drainer end. drainer_serving.HasServed S.acts drainer.handle.promise.0.value end) self.drainers.items rooms.new.drainers.items) }
-        ensures failed { IfErr result (λ fault. IsOf Role.Pump (length self.pumps.items) fault ⊎ IsOf Role.Drainer (length self.drainers.items) fault) }
-        ensures others { (rooms.new.subjects ≡ rooms.old.subjects) × (rooms.new.put_away ≡ rooms.old.put_away) }
+        ensures drained { OnOk result (AllZip (drainer_serving.HasServed S.acts) (map (λ drainer. drainer.handle.promise.0.value) self.drainers.items) rooms.new.drainers.items) }
+        ensures failed { IfErr result (λ fault. (fault.cause ≡ CloseCause.Ended)
+            × IsFirst S.acts self.pumps.items (map (λ drainer. drainer.handle.promise.0.value) self.drainers.items) fault.thread fault.index) }
+        ensures others { KeepsRooms rooms.old rooms.new }
     {
         let mut running = self;
         let pumped = join_pumps(rt, &mut running.pumps, &mut rooms.pumps);

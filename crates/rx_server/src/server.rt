@@ -15,6 +15,7 @@ use rx_mailbox::Port;
 use rx_pump::{CallDesk, Out};
 use rx_sink::Sink;
 use std::marker::Model;
+use std::snapshot::Snapshot;
 use std::sync::{Arc, Wait};
 use std::thread::Threads;
 use std::vec::IntoIter;
@@ -26,6 +27,8 @@ pub struct Server<S: Sink> {
     // The ports by which the drainers are told to leave.
     leaves: Vec<Port<Out<S>>, Heap>,
     pub(crate) desks: IntoIter<CallDesk<S>, Heap>,
+    // All desks, as they were made: contracts alone see them.
+    made: Snapshot<Vec<CallDesk<S>, Heap>>,
     pub(crate) rooms: Rooms<S>,
     // What its workers are made of.
     pub(crate) heap: Heap,
@@ -39,6 +42,7 @@ impl<S: Sink> Drop for Server<S> {
             running: _,
             leaves: _,
             desks: _,
+            made: _,
             rooms: _,
             heap: _,
             config: _,
@@ -47,20 +51,20 @@ impl<S: Sink> Drop for Server<S> {
 }
 
 impl<S: Sink> Model for Server<S> {
-    ghost use Rattle.std.specs.Prelude.{◌≡◌, ◌<◌, length, map, vec_len};
+    ghost use Rattle.std.specs.Prelude.{◌≡◌, length, map, vec_len};
     ghost use Rattle.std.specs.Vec.Iter.{into_iter_items};
     ghost use Rattle.std.specs.Arc.{arc_value};
-    ghost use Rattle.std.specs.List.{All};
-    ghost use Rattle.rx_workers.specs.Crews.{IsFor};
-    ghost use Rattle.rx_server.specs.Servers.{ServerView};
+    ghost use Rattle.rx_server.specs.Servers.{IsWhole, ServerView, server_of};
     ghost use Rattle.rx_server.specs.Rooms.{AreRooms};
 
     ghost Value = { ServerView S S.Rest };
 
-    ghost view = { λ s. record { config = arc_value s.config; pumps = s.running.pumps.items; drainers = map (λ drainer. drainer.handle.promise.0.value) s.running.drainers.items; leaves = s.leaves.items; desks = into_iter_items s.desks } };
+    ghost view = { λ s. server_of (arc_value s.config) s.running.pumps.items (map (λ drainer. drainer.handle.promise.0.value) s.running.drainers.items) s.leaves.items
+        s.made.value.items (into_iter_items s.desks) s.rooms.desks.items };
 
-    ghost invariant = { λ s. AreRooms (vec_len s.running.pumps) (vec_len s.running.drainers) (length (into_iter_items s.desks)) s.rooms × (vec_len s.leaves ≡ vec_len s.running.drainers)
-        × All (IsFor (arc_value s.config)) (into_iter_items s.desks) × (0 < vec_len (arc_value s.config).subjects) };
+    ghost invariant = { λ s. IsWhole (server_of (arc_value s.config) s.running.pumps.items (map (λ drainer. drainer.handle.promise.0.value) s.running.drainers.items) s.leaves.items
+        s.made.value.items (into_iter_items s.desks) s.rooms.desks.items)
+        × AreRooms (vec_len s.running.pumps) (vec_len s.running.drainers) (vec_len s.made.value) (length (into_iter_items s.desks)) s.rooms };
 }
 
 impl<S: Sink> Server<S> {
@@ -74,6 +78,9 @@ impl<S: Sink> Server<S> {
         ensures next { MatchOption result ((self.old.desks ≡ []) × (self.new ≡ self.old)) (λ desk. self.old ≡ with_desk desk self.new) }
         ensures ports { IfSome result (IsFor self.old.config) }
         ensures some { IfSome result (λ desk. 0 < length desk.ports + length desk.ended) }
+
+        // It is one of the server's own: `close` asks for that of each desk that is handed in.
+        ensures own { IfSome result (IsDeskOf self.old.made) }
     {
         self.desks.next()
     }
@@ -88,15 +95,19 @@ impl<S: Sink> Server<S> {
         IntoIter<CallDesk<S>, Heap>,
         Rooms<S>,
     )
+        ensures whole { IsWhole self }
         ensures pumps { result.0.pumps.items ≡ self.pumps }
         ensures drainers { map (λ drainer. drainer.handle.promise.0.value) result.0.drainers.items ≡ self.drainers }
-        ensures leaves { vec_len result.1 ≡ vec_len result.0.drainers }
-        ensures rooms { AreRooms (vec_len result.0.pumps) (vec_len result.0.drainers) (length (into_iter_items result.2)) result.3 }
+        ensures leaves { result.1.items ≡ self.leaves }
+        ensures desks { into_iter_items result.2 ≡ self.desks }
+        ensures kept { result.3.desks.items ≡ self.kept }
+        ensures rooms { AreRooms (length self.pumps) (length self.drainers) (length self.made) (length self.desks) result.3 }
     {
         let Server {
             running,
             leaves,
             desks,
+            made: _,
             rooms,
             heap: _,
             config: _,
@@ -124,11 +135,13 @@ where
         return Err(StartFault::memory(Role::Worker, 0));
     };
     let running = wired.run(rt, &alloc)?;
+    let made = Snapshot::of(&wired.desks);
     let (leaves, desks) = wired.into_ends();
     Ok(Server {
         running,
         leaves,
         desks,
+        made,
         rooms,
         heap,
         config,
