@@ -1,28 +1,27 @@
 -- What a drainer stands for after flushes of its sinks.
-use Rattle.std.proofs.Common.{◌≡◌, ◌∙◌, sym, refl, ap, subst, ℕ, zero, suc, ◌≤◌, Bool, true, false, List, [], ◌∷◌, ◌++◌, append_assoc, length, drop, Option, Some, None, slice_get, is_some, arith}
-use Rattle.std.proofs.lemmas.List.{map-append}
+use Rattle.std.proofs.Common.{◌≡◌, ◌∙◌, sym, refl, ap, subst, ℕ, zero, suc, ◌≤◌, Bool, true, false, List, [], ◌∷◌, ◌++◌, append_assoc, length, drop, Option, Some, None, slice_get, is_some, inl, inr, arith}
 use Rattle.std.specs.List.{AllByRecursion, AllZip}
 use Rattle.rx_mailbox.specs.declared.letter.Letter.{Letter}
 use Rattle.rx_mailbox.specs.declared.letter.Post.TheVariants.{Body, Bye}
 use Rattle.rx_mailbox.specs.Letters.{letter}
 use Rattle.rx_mailbox.specs.Boxes.{Outgoing}
+use Rattle.rx_note.specs.declared.event.Event.{Event}
 use Rattle.rx_pump.specs.declared.call.Call.{Call}
 use Rattle.rx_pump.specs.declared.out.Out.{Out}
 use Rattle.rx_pump.specs.Pumps.{AreSame}
-use Rattle.rx_pump.specs.Sends.{posts}
 use Rattle.rx_pump.proofs.Pumping.{AreSame-length}
 use Rattle.rx_sink.specs.declared.kept.Kept.{Kept}
 use Rattle.rx_sink.specs.Acts.{Acts}
 use Rattle.rx_sink.specs.Attachments.{Attachment, Why, closed}
-use Rattle.rx_sink.specs.Stands.{IsKept, Stand}
+use Rattle.rx_sink.specs.Stands.{IsKept, Stand, addressed}
 use Rattle.rx_drain.specs.declared.drain_fault.DrainFault.{DrainFault}
 use Rattle.rx_drain.specs.declared.drain_fault.DrainFault.TheVariants.{InboxGone, SubjectGone}
-use Rattle.rx_drain.specs.Calls.{calls_to, partings_of}
+use Rattle.rx_drain.specs.Calls.{partings_of}
 use Rattle.rx_drain.specs.Credit.{AreAllPaid, IsPaid}
-use Rattle.rx_drain.specs.Logs.{Log, Next, Flush, letters, kept_in, owed}
-use Rattle.rx_drain.specs.Drainers.{DrainerView, is_cut, IsOfSubject, NamesSubject, HaveSent, Stands, Handles, FlushesAt, FlushesAll}
+use Rattle.rx_drain.specs.Logs.{Log, Next, Flush, letters, kept_in, sent_in}
+use Rattle.rx_drain.specs.Drainers.{DrainerView, IsOfSubject, SentUpTo, Stands, Handles, FlushesAt, FlushesAll}
 use Rattle.rx_drain.proofs.Crediting.{paid_by_flush, paid_without}
-use Rattle.rx_drain.proofs.Standing.{handles_next, names_of, stands_left}
+use Rattle.rx_drain.proofs.Standing.{handles_next, stands_left}
 
 zip_length : {A B : Type 0} (R : A → B → Type 0) (xs : List A) (ys : List B) → AllZip R xs ys → length xs ≡ length ys
 zip_length R [] [] zip = refl
@@ -94,7 +93,7 @@ module _ {S Rest : Type 0} (acts : Acts S Rest) where
   -- all were
   pub Flushing-all : (before now : DrainerView S Rest) → now.fault ≡ None → Flushing 0 before now → FlushesAll acts before now
   Flushing-all before now whole f = record {
-    fault = subst (λ (o : Option DrainFault). IsOfSubject o (length before.ports)) (sym whole) tt;
+    fault = subst IsOfSubject (sym whole) tt;
     stands = λ log s. (let g = f.stands log s in (g.0, g.1, g.2, λ none. g.3));
   }
 
@@ -104,7 +103,7 @@ module _ {S Rest : Type 0} (acts : Acts S Rest) where
   Flushing-fault place next before now after place_is same at some f =
       let g = Flushing-more place next before now after place_is same at f in
       record {
-        fault = subst (λ (m : ℕ). IsOfSubject after.fault m) (AreSame-length before.ports now.ports same) at.fault;
+        fault = at.fault;
         stands = λ log s. (let h = g.stands log s in (h.0, h.1, h.2, λ none. absurd (some_fault after.fault some none)));
       }
 
@@ -122,7 +121,7 @@ module _ {S Rest : Type 0} (acts : Acts S Rest) where
   flushes_again before now after same comes flushes =
       let count : length now.ports ≡ length before.ports = AreSame-length before.ports now.ports same in
       record {
-        fault = subst (λ (m : ℕ). IsOfSubject after.fault m) count flushes.fault;
+        fault = flushes.fault;
         stands = λ log s.
             (let c = comes log s in
             let f = flushes.stands c.0 (subst (λ (m : ℕ). Stands acts m c.0 now) (sym count) c.2) in
@@ -145,41 +144,41 @@ module _ {S Rest : Type 0} (acts : Acts S Rest) where
   handles_flushed x before mid after same flushes handles =
       let n = length before.ports in
       let count : length mid.ports ≡ n = AreSame-length before.ports mid.ports same in (
-        subst (λ (m : ℕ). NamesSubject after.fault m) count handles.0,
+        handles.0,
         λ log s.
             (let f = flushes.stands log s in
             let h = handles.1 f.0 (subst (λ (m : ℕ). Stands acts m f.0 mid) (sym count) f.2) in
             (h.0, h.1 ∙ f.1, h.2, subst (λ (m : ℕ). Stands acts m (Next h.0 x h.2) after) count h.3)),
       )
 
-  -- what is cut short is cut short of more, and of a Bye
-  cut_left : (fault : Option DrainFault) (all more : ℕ → List (Call S)) (ports : List (Outgoing (Call S))) → is_some fault ≡ true → IsOfSubject fault (length ports)
-      → HaveSent (is_cut fault) false all ports → HaveSent (is_cut fault) true (λ d. all d ++ more d) ports
+  -- what stopped is stopped where more would follow, and a Bye
+  cut_left : (fault : Option DrainFault) (all more : List (ℕ × Event)) (ports : List (Outgoing (Call S))) → is_some fault ≡ true → IsOfSubject fault
+      → SentUpTo fault false all ports → SentUpTo fault true (all ++ more) ports
   cut_left None all more ports some is have = cc
   cut_left (Some InboxGone) all more ports some is have = absurd is
-  cut_left (Some (SubjectGone place)) all more ports some is have = λ d port at.
-      let p = have d port at in
-      let bye = letter port.number Bye ∷ [] in (
-        (p.0 ++ posts port.number (more d)) ++ bye,
-        sym (append_assoc port.own (p.0 ++ posts port.number (more d)) bye)
-            ∙ ap (λ (l : List (Letter (Call S))). l ++ bye)
-            (sym (append_assoc port.own p.0 (posts port.number (more d))) ∙ ap (λ (l : List (Letter (Call S))). l ++ posts port.number (more d)) p.1
-            ∙ sym (map-append (λ (call : Call S). letter port.number (Body call)) (all d) (more d))),
-      )
+  cut_left (Some (SubjectGone place)) all more ports some is (inl stopped) = inl (record {
+    named = stopped.named;
+    done = stopped.done;
+    next = stopped.next;
+    rest = stopped.rest ++ more;
+    parts = sym (append_assoc stopped.done ((place, stopped.next) ∷ stopped.rest) more) ∙ ap (λ l. l ++ more) stopped.parts;
+    sent = stopped.sent;
+  })
+  cut_left (Some (SubjectGone place)) all more ports some is (inr ended) = (let both = ended.is_left in cc)
 
   -- the Bye of the leave port, where a subject is gone
   pub handles_cut : (from : ℕ) (before after : DrainerView S Rest) → from ≡ length before.ports → before.left ≡ false → after.left ≡ true → after.kept ≡ []
       → after.misses ≡ before.misses → after.taken ≡ before.taken → after.ports ≡ before.ports → after.fault ≡ before.fault
-      → is_some before.fault ≡ true → IsOfSubject before.fault (length before.ports)
+      → is_some before.fault ≡ true → IsOfSubject before.fault
       → ((held : List (Attachment S)) (gone : List (Attachment S × Why)) → Stand acts held gone before.kept before.away → Stand acts [] (gone ++ closed held) after.kept after.away)
       → Handles acts (letter from Bye) before after
   handles_cut from before after from_is left_is left_after empty same_misses same_taken same_ports same_fault some is closes =
       handles_next acts (letter from Bye) before after (
-        subst (λ (f : Option DrainFault). NamesSubject f (length before.ports)) (sym same_fault) (names_of before.fault (length before.ports) is),
+        subst IsOfSubject (sym same_fault) is,
         λ log s. stands_left acts (length before.ports) log from before after from_is left_is left_after empty same_misses same_taken closes
             (λ have.
-            subst (λ (f : Option DrainFault). HaveSent (is_cut f) true (λ d. owed (length before.ports) log d ++ calls_to d (partings_of before.kept)) after.ports) (sym same_fault)
-            (subst (HaveSent (is_cut before.fault) true (λ d. owed (length before.ports) log d ++ calls_to d (partings_of before.kept))) (sym same_ports)
-            (cut_left before.fault (owed (length before.ports) log) (λ d. calls_to d (partings_of before.kept)) before.ports some is
-            (subst (λ (l : Bool). HaveSent (is_cut before.fault) l (owed (length before.ports) log) before.ports) left_is have)))) s,
+            subst (λ (f : Option DrainFault). SentUpTo f true (addressed (sent_in (length before.ports) log) ++ partings_of before.kept) after.ports) (sym same_fault)
+            (subst (SentUpTo before.fault true (addressed (sent_in (length before.ports) log) ++ partings_of before.kept)) (sym same_ports)
+            (cut_left before.fault (addressed (sent_in (length before.ports) log)) (partings_of before.kept) before.ports some is
+            (subst (λ (l : Bool). SentUpTo before.fault l (addressed (sent_in (length before.ports) log)) before.ports) left_is have)))) s,
       )

@@ -17,16 +17,15 @@ use Rattle.rx_sink.specs.declared.kept.Kept.{Kept}
 use Rattle.rx_sink.specs.declared.put_away.PutAway.{PutAway}
 use Rattle.rx_sink.specs.Acts.{Acts}
 use Rattle.rx_sink.specs.Attachments.{Attachment, Mark, flushed, kept_for}
-use Rattle.rx_sink.specs.Stands.{IsKept, IsPutAway}
+use Rattle.rx_sink.specs.Stands.{IsKept, IsPutAway, addressed}
 use Rattle.rx_drain.specs.declared.drain_end.DrainEnd.{DrainEnd}
 use Rattle.rx_drain.specs.declared.drain_fault.DrainFault.{DrainFault}
 use Rattle.rx_drain.specs.declared.drain_fault.DrainFault.TheVariants.{InboxGone}
 use Rattle.rx_drain.specs.declared.drain_stop.DrainStop.{DrainStop}
-use Rattle.rx_drain.specs.Logs.{Log, NoLetters, Next, Flush, letters, has_left, letter_change, post_change, kept_in, owed}
+use Rattle.rx_drain.specs.Logs.{Log, NoLetters, Next, Flush, letters, has_left, letter_change, post_change, kept_in, sent_in}
 use Rattle.rx_drain.specs.Credit.{IsPaid, AreAllPaid}
-use Rattle.rx_drain.specs.Drainers.{DrainerView, is_cut, NamesSubject, HaveSent, Stands, Drains, IsDrained, Handles, FlushesAll, Goes, Pays, KeepsPlaces, TakesMore, TakesOne, with_letters, view_of}
+use Rattle.rx_drain.specs.Drainers.{DrainerView, HaveSent, SentUpTo, Stands, Drains, IsDrained, Handles, FlushesAll, Goes, Pays, KeepsPlaces, TakesMore, TakesOne, with_letters, view_of}
 use Rattle.rx_drain.specs.Serving.{HasServed, HasStopped}
-use Rattle.rx_drain.proofs.Standing.{names_of}
 
 pub bool_cases : (b : Bool) → (b ≡ true) ⊎ (b ≡ false)
 bool_cases true = inl refl
@@ -76,12 +75,12 @@ module _ {S Rest : Type 0} (acts : Acts S Rest) where
       received = received;
       stands = record {
         left = left;
-        sent = subst (λ (l : Bool). HaveSent (is_cut view.fault) l (λ d. []) view.ports) (sym left) (HavePut-fresh (is_cut view.fault) view.ports (ap is_cut whole) fresh);
+        sent = subst (λ (f : Option DrainFault). SentUpTo f view.left [] view.ports) (sym whole)
+            (subst (λ (l : Bool). HaveSent l (λ d. []) view.ports) (sym left) (HavePut-fresh view.ports fresh));
         sinks = record { kept_are = subst (AllZip (IsKept acts) []) (sym kept) tt; away_are = subst (AllZip (IsPutAway acts) []) (sym away) tt; apart = tt };
         missed = misses;
         took = taken;
       };
-      fault = subst (λ (f : Option DrainFault). NamesSubject f (length view.ports)) (sym whole) tt;
     },
     λ none. tt,
   )
@@ -102,12 +101,11 @@ module _ {S Rest : Type 0} (acts : Acts S Rest) where
           received = d.received;
           stands = record {
             left = d.stands.left;
-            sent = subst (λ (k : Bool). HaveSent k before.left (owed (length before.ports) log) before.ports) (ap is_cut whole) d.stands.sent;
+            sent = subst (λ (f : Option DrainFault). SentUpTo f before.left (addressed (sent_in (length before.ports) log)) before.ports) whole d.stands.sent;
             sinks = d.stands.sinks;
             missed = d.stands.missed;
             took = d.stands.took;
           };
-          fault = tt;
         },
         λ none. cc,
       )
@@ -120,7 +118,7 @@ module _ {S Rest : Type 0} (acts : Acts S Rest) where
       let P : DrainerView S Rest → Type 0 = λ v. Stands acts (length v.ports) log v in
       let base : P (record before { inbox = mid.inbox; fault = None }) = record {
         left = d.stands.left;
-        sent = subst (λ (k : Bool). HaveSent k before.left (owed (length before.ports) log) before.ports) (ap is_cut whole) d.stands.sent;
+        sent = subst (λ (f : Option DrainFault). SentUpTo f before.left (addressed (sent_in (length before.ports) log)) before.ports) whole d.stands.sent;
         sinks = d.stands.sinks;
         missed = d.stands.missed;
         took = d.stands.took;
@@ -131,7 +129,6 @@ module _ {S Rest : Type 0} (acts : Acts S Rest) where
         record {
           received = ap (λ (i : Incoming (Out S)). i.received) (kept ∙ received) ∙ ap (λ (l : List (Letter (Out S))). l ++ x ∷ []) (d.received ∙ sym next.1);
           stands = subst (λ (n : ℕ). Stands acts n (Next next.0 x next.2) after) count next.3;
-          fault = subst (λ (n : ℕ). NamesSubject after.fault n) count handles.0;
         },
       )
 
@@ -152,10 +149,16 @@ module _ {S Rest : Type 0} (acts : Acts S Rest) where
         record {
           received = ap (λ (i : Incoming (Out S)). i.received) kept ∙ d.received ∙ sym f.1;
           stands = subst (λ (n : ℕ). Stands acts n f.0 after) count f.2;
-          fault = subst (λ (n : ℕ). NamesSubject after.fault n) count (names_of after.fault (length before.ports) flushes.fault);
         },
         λ none. subst (λ (n : ℕ). AreAllPaid n f.0) count (f.3 none),
       )
+
+  -- before the drainer left, and without a fault
+  pub pays_open : (view : Bool → Option DrainFault → DrainerView S Rest) (after : DrainerView S Rest) (left : Bool) (fault : Option DrainFault)
+      → left ≡ false → is_some fault ≡ false → Pays acts (view false None) after → Pays acts (view left fault) after
+  pays_open view after false None open_yet whole pays = pays
+  pays_open view after false (Some fault) open_yet whole pays = cc
+  pays_open view after true fault open_yet whole pays = cc
 
   -- no sink is kept any more
   pub pays_left : (view : DrainerView S Rest) → view.left ≡ true → Pays acts view view
@@ -241,6 +244,7 @@ module _ {S Rest : Type 0} (acts : Acts S Rest) where
           drains = subst (λ i. P i end.put_away.items end.places.misses end.taken) (sym inbox) (subst (λ w. P view.inbox w end.places.misses end.taken) (sym away)
               (subst (λ m. P view.inbox view.away m end.taken) (sym misses) (subst (λ t. P view.inbox view.away view.misses t) (sym taken) drains)));
           each_bye = subst (λ (i : Incoming (Out S)). HasEachBye i) (sym inbox) each;
+          over = λ _. inbox;
           places = record {
             box = ap (λ (i : Incoming (Out S)). i.box) inbox;
             count = ap (λ (i : Incoming (Out S)). i.ports) inbox;
@@ -249,20 +253,30 @@ module _ {S Rest : Type 0} (acts : Acts S Rest) where
         },
       )
 
+  -- where the Bye of each port had come before, nothing was taken
+  abbrev pub TakesNone : DrainerView S Rest → DrainerView S Rest → Type 0
+  TakesNone before after = HasEachBye before.inbox → after.inbox ≡ before.inbox
+
+  over_before : (before after : DrainerView S Rest) (inbox : Incoming (Out S)) → TakesNone before after → (HasEachBye after.inbox → inbox ≡ after.inbox) → HasEachBye before.inbox
+      → inbox ≡ before.inbox
+  over_before before after inbox none over each = over (subst (λ (i : Incoming (Out S)). HasEachBye i) (sym (none each)) each) ∙ none each
+
   -- what a drainer leaves after some turns is what it leaves before them
-  pub served_kept : (before after : DrainerView S Rest) (end : DrainEnd S Rest) → KeepsPlaces before after → HasServed acts after end → HasServed acts before end
-  served_kept before after end kept (log, s) = (
+  pub served_kept : (before after : DrainerView S Rest) (end : DrainEnd S Rest) → KeepsPlaces before after → TakesNone before after → HasServed acts after end → HasServed acts before end
+  served_kept before after end kept none (log, s) = (
     log,
     record {
       drains = s.drains;
       each_bye = s.each_bye;
+      over = λ each. over_before before after end.inbox none s.over each;
       places = record { box = s.places.box ∙ kept.box; count = s.places.count ∙ kept.count; ports = s.places.ports ∙ kept.ports };
     },
   )
 
   -- the same of a drainer that stops
-  pub stopped_kept : (before after : DrainerView S Rest) (stop : DrainStop S Rest) → KeepsPlaces before after → HasStopped acts after stop → HasStopped acts before stop
-  stopped_kept before after stop kept (log, s) =
+  pub stopped_kept : (before after : DrainerView S Rest) (stop : DrainStop S Rest) → KeepsPlaces before after
+      → (stop.fault ≡ InboxGone → before.fault ≡ None → ¬ HasEachBye stop.left.parts.inbox) → HasStopped acts after stop → HasStopped acts before stop
+  stopped_kept before after stop kept waited (log, s) =
       let count : length after.ports ≡ length before.ports = AreSame-length before.ports after.ports kept.ports in (
         log,
         record {
@@ -270,5 +284,6 @@ module _ {S Rest : Type 0} (acts : Acts S Rest) where
           places =
               let p = subst (λ (n : ℕ). KeepsPlaces after (view_of stop.left (has_left n log) (Some stop.fault))) count s.places in
               record { box = p.box ∙ kept.box; count = p.count ∙ kept.count; ports = p.ports ∙ kept.ports };
+          waited = waited;
         },
       )

@@ -1,6 +1,7 @@
 -- What a drainer stands for after one letter more.
-use Rattle.std.proofs.Common.{◌≡◌, ◌∙◌, sym, refl, ap, subst, ℕ, zero, suc, zero-add, ◌+◌, ◌-◌, ◌^◌, ◌<◌, ◌==◌, ◌||◌, ◌&&◌, ◌⊎◌, inl, inr, min, Bool, true, false, List, [], ◌∷◌, ◌++◌, append_assoc, append-nil, length, length-append, map, replicate, Option, Some, None, is_some, slice_get, eq-eqb, arith}
+use Rattle.std.proofs.Common.{◌≡◌, ◌∙◌, sym, refl, ap, subst, ℕ, zero, suc, zero-add, ◌+◌, ◌-◌, ◌^◌, ◌<◌, ◌≤◌, ◌==◌, ◌||◌, ◌&&◌, ◌⊎◌, inl, inr, min, Bool, true, false, List, [], ◌∷◌, ◌++◌, append_assoc, append-nil, length, length-append, map, replicate, Option, Some, None, is_some, slice_get, eq-eqb, arith}
 use Rattle.std.proofs.lemmas.List.{map-append, length-map}
+use Rattle.std.proofs.lemmas.Option.{slice_get_within}
 use Rattle.std.specs.List.{AllZip}
 use Rattle.rx_mailbox.specs.declared.letter.Letter.{Letter}
 use Rattle.rx_mailbox.specs.declared.letter.Post.{Post}
@@ -13,10 +14,10 @@ use Rattle.rx_note.specs.declared.note.Note.{Note}
 use Rattle.rx_pump.specs.declared.call.Call.{Call}
 use Rattle.rx_pump.specs.declared.out.Out.{Out}
 use Rattle.rx_pump.specs.declared.out.Out.TheVariants.{Attach, Give, Detach}
-use Rattle.rx_pump.specs.Pumps.{IsPut, AreSame, place_of}
-use Rattle.rx_pump.specs.Sends.{with_bye, EndsSome}
-use Rattle.rx_pump.proofs.Pumping.{HavePut-puts, HavePut-cut, HavePut-same, AreSame-puts}
-use Rattle.rx_pump.proofs.Leaving.{AreSame-byes, HaveEnded-byes, HaveStopped-some, EndsSome-first}
+use Rattle.rx_pump.specs.Pumps.{AreSame, place_of}
+use Rattle.rx_pump.specs.Sends.{Puts, with_bye, EndsSome}
+use Rattle.rx_pump.proofs.Pumping.{HavePut-puts, HavePut-same, AreSame-puts}
+use Rattle.rx_pump.proofs.Leaving.{AreSame-byes, HaveEnded-byes, HaveEndedSome-some, EndsSome-first}
 use Rattle.rx_sink.specs.declared.flow.Flow.TheVariants.{Clear}
 use Rattle.rx_sink.specs.declared.kept.Kept.{Kept}
 use Rattle.rx_sink.specs.declared.put_away.PutAway.{PutAway}
@@ -26,8 +27,8 @@ use Rattle.rx_sink.specs.Stands.{Stand, Did, FlushesOne, IsKept, IsPutAway, addr
 use Rattle.rx_drain.specs.declared.drain_fault.DrainFault.{DrainFault}
 use Rattle.rx_drain.specs.declared.drain_fault.DrainFault.TheVariants.{InboxGone, SubjectGone}
 use Rattle.rx_drain.specs.Calls.{calls_to, parting_of, partings_of, SendsAll}
-use Rattle.rx_drain.specs.Logs.{Log, Next, Flush, letters, has_left, brought, out_change, post_change, letter_change, kept_in, change, flush_change, gone_in, sent_in, missed_in, taken_in, owed, put_by}
-use Rattle.rx_drain.specs.Drainers.{DrainerView, is_cut, NamesSubject, IsOfSubject, HaveSent, Stands, ServesOut, Handles}
+use Rattle.rx_drain.specs.Logs.{Log, Next, Flush, letters, has_left, brought, out_change, out_unserved, post_change, letter_change, kept_in, change, flush_change, gone_in, sent_in, missed_in, taken_in, put_by}
+use Rattle.rx_drain.specs.Drainers.{DrainerView, IsOfSubject, HaveSent, SentUpTo, Stands, ServesOut, Handles}
 use Rattle.rx_drain.proofs.Events.{calls_to-append}
 
 -- MISSES
@@ -153,21 +154,15 @@ counted-more m n k is (inr one) = ap (counted m) one ∙ (let e : raised m ≡ m
 module _ {S Rest : Type 0} (acts : Acts S Rest) where
   -- what came is this
   pub serves_so : (place subject : ℕ) (o out : Out S) (held : List (Attachment S)) (gone : List (Attachment S × Why)) (kept : List (Kept S)) (away : List (PutAway Rest))
-      (misses misses_after taken taken_after : ℕ) (events : List (ℕ × Event)) → out ≡ o
+      (misses misses_after taken taken_after : ℕ) (events : List (ℕ × Event)) (back : Option S) → out ≡ o
       → (mark : Mark) → Did acts (out_change place subject o mark held) gone kept away events → misses_after ≡ counted misses (out_change place subject o mark held).missed
-      → taken_after ≡ counted taken (out_change place subject o mark held).took
+      → taken_after ≡ counted taken (out_change place subject o mark held).took → back ≡ out_unserved subject o mark held
       → (m : Mark) × Did acts (out_change place subject out m held) gone kept away events × (misses_after ≡ counted misses (out_change place subject out m held).missed)
-      × (taken_after ≡ counted taken (out_change place subject out m held).took)
-  serves_so place subject o out held gone kept away misses misses_after taken taken_after events is mark did missed took =
+      × (taken_after ≡ counted taken (out_change place subject out m held).took) × (back ≡ out_unserved subject out m held)
+  serves_so place subject o out held gone kept away misses misses_after taken taken_after events back is mark did missed took unserved =
       subst (λ (u : Out S). (m : Mark) × Did acts (out_change place subject u m held) gone kept away events × (misses_after ≡ counted misses (out_change place subject u m held).missed)
-      × (taken_after ≡ counted taken (out_change place subject u m held).took))
-      (sym is) (mark, did, missed, took)
-
--- a fault of a subject names it
-pub names_of : (fault : Option DrainFault) (subjects : ℕ) → IsOfSubject fault subjects → NamesSubject fault subjects
-names_of None subjects is = tt
-names_of (Some InboxGone) subjects is = tt
-names_of (Some (SubjectGone place)) subjects is = is
+      × (taken_after ≡ counted taken (out_change place subject u m held).took) × (back ≡ out_unserved subject u m held))
+      (sym is) (mark, did, missed, took, unserved)
 
 -- WHAT THE PORTS HAVE PUT
 
@@ -183,42 +178,36 @@ split_place (y ∷ xs) ys (suc i) x is =
     ]
 
 module _ {S : Type 0} where
-  -- the same calls
-  have_same : (cut left : Bool) (first second : ℕ → List (Call S)) (ports : List (Outgoing (Call S)))
-      → ((d : ℕ) → first d ≡ second d) → HaveSent cut left first ports → HaveSent cut left second ports
-  have_same cut left first second ports same have d port is =
-      subst (λ (calls : List (Call S)). IsPut cut port.own (put_by left port.number calls)) (same d) (have d port is)
+  -- the same events
+  sent_same : (fault : Option DrainFault) (left : Bool) (first second : List (ℕ × Event)) (ports : List (Outgoing (Call S)))
+      → first ≡ second → SentUpTo fault left first ports → SentUpTo fault left second ports
+  sent_same fault left first second ports same have = subst (λ (events : List (ℕ × Event)). SentUpTo fault left events ports) same have
 
-  -- events were sent, or the first of them
-  have_more : (fault : Option DrainFault) (all : ℕ → List (Call S)) (events : List (ℕ × Event)) (a b : List (Outgoing (Call S)))
-      → HaveSent false false all a → SendsAll fault events a b → HaveSent (is_cut fault) false (λ d. all d ++ calls_to d events) b
-  have_more None all events a b have p = HavePut-puts all (λ d. calls_to d events) a b have p
+  -- without a fault, before the drainer left and in other words all were sent
+  pub sent_whole : (fault : Option DrainFault) (left : Bool) (events : List (ℕ × Event)) (ports : List (Outgoing (Call S)))
+      → fault ≡ None → left ≡ false → SentUpTo fault left events ports → HaveSent false (λ d. calls_to d events) ports
+  sent_whole fault left events ports whole open_yet have =
+      subst (λ (l : Bool). HaveSent l (λ d. calls_to d events) ports) open_yet (subst (λ (f : Option DrainFault). SentUpTo f left events ports) whole have)
+
+  -- some events more were sent
+  puts_more : (all events : List (ℕ × Event)) (a b : List (Outgoing (Call S)))
+      → HaveSent false (λ d. calls_to d all) a → Puts (λ d. calls_to d events) a b → HaveSent false (λ d. calls_to d (all ++ events)) b
+  puts_more all events a b have put =
+      HavePut-same _ _ b (λ d. sym (calls_to-append d all events)) (HavePut-puts (λ d. calls_to d all) (λ d. calls_to d events) a b have put)
+
+  -- or the first of them
+  have_more : (fault : Option DrainFault) (all events : List (ℕ × Event)) (a b : List (Outgoing (Call S)))
+      → HaveSent false (λ d. calls_to d all) a → SendsAll fault events a b → SentUpTo fault false (all ++ events) b
+  have_more None all events a b have p = puts_more all events a b have p
   have_more (Some InboxGone) all events a b have p = absurd p
-  have_more (Some (SubjectGone place)) all events a b have p =
-      HavePut-same true _ (λ d. all d ++ calls_to d events) b
-      (λ d. ap (λ l. all d ++ l) (sym (calls_to-append d p.done p.rest) ∙ ap (calls_to d) p.parts))
-      (HavePut-cut all (λ d. calls_to d p.done) (λ d. calls_to d p.rest) a b have p.put)
-
-  -- what is cut short is cut short of a Bye too
-  short_of_bye : (all : ℕ → List (Call S)) (ports : List (Outgoing (Call S))) → HaveSent true false all ports → HaveSent true true all ports
-  short_of_bye all ports have d port is =
-      let p = have d port is in (
-        p.0 ++ letter port.number Bye ∷ [],
-        sym (append_assoc port.own p.0 (letter port.number Bye ∷ [])) ∙ ap (λ (l : List (Letter (Call S))). l ++ letter port.number Bye ∷ []) p.1,
-      )
-
-  -- what is whole is cut short by nothing
-  whole_is_first : (all : ℕ → List (Call S)) (ports : List (Outgoing (Call S))) → HaveSent false true all ports → HaveSent true true all ports
-  whole_is_first all ports have d port is = ([], append-nil port.own ∙ have d port is)
-
-  -- the first ports and the others
-  joined_ports : (all : ℕ → List (Call S)) (ended rest : List (Outgoing (Call S)))
-      → HaveSent true true all ended → HaveSent true true (λ d. all (length ended + d)) rest → HaveSent true true all (ended ++ rest)
-  joined_ports all ended rest first second d port is =
-      elim (split_place ended rest d port is) [
-        | inl here ↦ first d port here
-        | inr there ↦ subst (λ (n : ℕ). IsPut true port.own (put_by true port.number (all n))) (sym there.1) (second there.0 port there.2)
-      ]
+  have_more (Some (SubjectGone place)) all events a b have p = inl (record {
+    named = subst (λ (n : ℕ). place < n) (sym p.put.count) p.named;
+    done = all ++ p.done;
+    next = p.next;
+    rest = p.rest;
+    parts = append_assoc all p.done ((place, p.next) ∷ p.rest) ∙ ap (λ l. all ++ l) p.parts;
+    sent = puts_more all p.done a b have p.put;
+  })
 
   -- the ports are those before
   pub same_sent : (fault : Option DrainFault) (events : List (ℕ × Event)) (ended a b : List (Outgoing (Call S))) → SendsAll fault events a b → AreSame (ended ++ a) (ended ++ b)
@@ -228,17 +217,11 @@ module _ {S : Type 0} where
   same_sent (Some (SubjectGone place)) events ended a b p =
       map-append place_of ended b ∙ ap (λ l. map place_of ended ++ l) (AreSame-puts (λ d. calls_to d p.done) a b p.put) ∙ sym (map-append place_of ended a)
 
-  -- a fault names one of them
-  pub named_sent : (fault : Option DrainFault) (events : List (ℕ × Event)) (ended a b : List (Outgoing (Call S))) → SendsAll fault events a b → NamesSubject fault (length (ended ++ a))
-  named_sent None events ended a b p = tt
-  named_sent (Some InboxGone) events ended a b p = tt
-  named_sent (Some (SubjectGone place)) events ended a b p = omega (arith, length-append ended a, p.named)
-
-  -- it is that of one of them
-  pub of_sent : (fault : Option DrainFault) (events : List (ℕ × Event)) (ended a b : List (Outgoing (Call S))) → SendsAll fault events a b → IsOfSubject fault (length (ended ++ a))
-  of_sent None events ended a b p = tt
-  of_sent (Some InboxGone) events ended a b p = absurd p
-  of_sent (Some (SubjectGone place)) events ended a b p = omega (arith, length-append ended a, p.named)
+  -- a fault at that is that of a subject
+  pub of_sent : (fault : Option DrainFault) (events : List (ℕ × Event)) (a b : List (Outgoing (Call S))) → SendsAll fault events a b → IsOfSubject fault
+  of_sent None events a b p = tt
+  of_sent (Some InboxGone) events a b p = absurd p
+  of_sent (Some (SubjectGone place)) events a b p = tt
 
   -- ENDING
 
@@ -265,61 +248,64 @@ module _ {S : Type 0} where
       ∙ ap (λ l. l ++ map place_of rest) (AreSame-byes ends.done) ∙ sym (map-append place_of ends.done rest) ∙ ap (map place_of) ends.parts
       ∙ AreSame-puts (λ d. calls_to d events) a mid put ∙ sym (ap (map place_of) (all_open ended a none))
 
-  pub named_half : (place : ℕ) (events : List (ℕ × Event)) (ended a mid ended_after rest : List (Outgoing (Call S)))
-      → ended ≡ [] → SendsAll None events a mid → EndsSome mid rest ended ended_after → place ≡ length ended_after → place < length (ended ++ a)
-  named_half place events ended a mid ended_after rest none put ends0 place_is =
-      let ends = EndsSome-first mid rest ended ended_after none ends0 in
-      let done : length ended_after ≡ length ends.done = ap length ends.ended ∙ length-map ends.done with_bye in
-      let all : length ends.done + length rest ≡ length mid = sym (length-append ends.done rest) ∙ ap length ends.parts in
-      let same : length (ended ++ a) ≡ length mid = ap length (all_open ended a none) ∙ sym put.count in
-      omega (arith, place_is, done, all, same, ends.some)
+  -- what stopped is stopped once the drainer leaves
+  pub still_stopped : (fault : DrainFault) (events : List (ℕ × Event)) (ports : List (Outgoing (Call S))) → SentUpTo (Some fault) false events ports → IsOfSubject (Some fault)
+      → SentUpTo (Some fault) true events ports
+  still_stopped InboxGone events ports have is = absurd is
+  still_stopped (SubjectGone place) events ports (inl stopped) is = inl stopped
+  still_stopped (SubjectGone place) events ports (inr ended) is = (let both = ended.is_left in cc)
 
-  -- the first disposals were sent, and no port ended
-  sent_stopped : (fault : DrainFault) (all : ℕ → List (Call S)) (events : List (ℕ × Event)) (ended a b : List (Outgoing (Call S)))
-      → ended ≡ [] → HaveSent false false all (ended ++ a) → SendsAll (Some fault) events a b
-      → HaveSent (is_cut (Some fault)) true (λ d. all d ++ calls_to d events) (ended ++ b)
-  sent_stopped InboxGone all events ended a b none have p = absurd p
-  sent_stopped (SubjectGone place) all events ended a b none have p =
-      subst (HaveSent true true (λ d. all d ++ calls_to d events)) (sym (all_open ended b none))
-      (short_of_bye _ b (have_more (Some (SubjectGone place)) all events a b (subst (HaveSent false false all) (all_open ended a none) have) p))
-
-  pub sent_in_part : (fault : Option DrainFault) (all : ℕ → List (Call S)) (events : List (ℕ × Event)) (ended a b : List (Outgoing (Call S)))
-      → is_some fault ≡ true → ended ≡ [] → HaveSent false false all (ended ++ a) → SendsAll fault events a b
-      → HaveSent (is_cut fault) true (λ d. all d ++ calls_to d events) (ended ++ b)
+  -- the first events were sent, and no port ended
+  pub sent_in_part : (fault : Option DrainFault) (all events : List (ℕ × Event)) (ended a b : List (Outgoing (Call S)))
+      → is_some fault ≡ true → ended ≡ [] → HaveSent false (λ d. calls_to d all) (ended ++ a) → SendsAll fault events a b
+      → SentUpTo fault true (all ++ events) (ended ++ b)
   sent_in_part None all events ended a b some none have p = cc
-  sent_in_part (Some fault) all events ended a b some none have p = sent_stopped fault all events ended a b none have p
+  sent_in_part (Some fault) all events ended a b some none have p =
+      subst (SentUpTo (Some fault) true (all ++ events)) (sym (all_open ended b none))
+      (still_stopped fault (all ++ events) b (have_more (Some fault) all events a b (subst (HaveSent false (λ d. calls_to d all)) (all_open ended a none) have) p) (of_sent (Some fault) events a b p))
 
   -- all were sent, and all ports have ended
-  pub sent_ended : (all : ℕ → List (Call S)) (events : List (ℕ × Event)) (ended a mid ended_after rest : List (Outgoing (Call S)))
-      → ended ≡ [] → HaveSent false false all (ended ++ a) → SendsAll None events a mid → ended_after ≡ ended ++ map with_bye mid → rest ≡ []
-      → HaveSent false true (λ d. all d ++ calls_to d events) (ended_after ++ rest)
+  pub sent_ended : (all events : List (ℕ × Event)) (ended a mid ended_after rest : List (Outgoing (Call S)))
+      → ended ≡ [] → HaveSent false (λ d. calls_to d all) (ended ++ a) → SendsAll None events a mid → ended_after ≡ ended ++ map with_bye mid → rest ≡ []
+      → SentUpTo None true (all ++ events) (ended_after ++ rest)
   sent_ended all events ended a mid ended_after rest none have put after_is empty =
-      subst (HaveSent false true (λ d. all d ++ calls_to d events)) (sym (all_ended ended mid ended_after rest none after_is empty))
-      (HaveEnded-byes _ mid (have_more None all events a mid (subst (HaveSent false false all) (all_open ended a none) have) put))
+      subst (HaveSent true (λ d. calls_to d (all ++ events))) (sym (all_ended ended mid ended_after rest none after_is empty))
+      (HaveEnded-byes _ mid (puts_more all events a mid (subst (HaveSent false (λ d. calls_to d all)) (all_open ended a none) have) put))
 
   -- all were sent, and some ports have ended
-  pub sent_half : (all : ℕ → List (Call S)) (events : List (ℕ × Event)) (ended a mid ended_after rest : List (Outgoing (Call S)))
-      → ended ≡ [] → HaveSent false false all (ended ++ a) → SendsAll None events a mid → EndsSome mid rest ended ended_after
-      → HaveSent true true (λ d. all d ++ calls_to d events) (ended_after ++ rest)
-  sent_half all events ended a mid ended_after rest none have put ends0 =
-      let stopped = HaveStopped-some (λ d. all d ++ calls_to d events) mid rest ended_after
-      (have_more None all events a mid (subst (HaveSent false false all) (all_open ended a none) have) put)
-      (EndsSome-first mid rest ended ended_after none ends0) in
-      joined_ports _ ended_after rest (whole_is_first _ ended_after stopped.whole) (short_of_bye _ rest stopped.cut)
+  pub sent_half : (place : ℕ) (all events : List (ℕ × Event)) (ended a mid ended_after rest : List (Outgoing (Call S)))
+      → ended ≡ [] → HaveSent false (λ d. calls_to d all) (ended ++ a) → SendsAll None events a mid → EndsSome mid rest ended ended_after → place ≡ length ended_after
+      → SentUpTo (Some (SubjectGone place)) true (all ++ events) (ended_after ++ rest)
+  sent_half place all events ended a mid ended_after rest none have put ends0 place_is =
+      let ends = EndsSome-first mid rest ended ended_after none ends0 in
+      let some = HaveEndedSome-some (λ d. calls_to d (all ++ events)) mid rest ended_after
+      (puts_more all events a mid (subst (HaveSent false (λ d. calls_to d all)) (all_open ended a none) have) put) ends in
+      inr (record {
+        named = omega (arith, place_is, length-append ended_after rest, ends.some);
+        is_left = refl;
+        ended = λ d port before is.
+            elim (split_place ended_after rest d port is) as (λ _. port.own ≡ put_by true port.number (calls_to d (all ++ events))) [
+              | inl here ↦ some.first d port here
+              | inr there ↦ absurd (let at = there.1 in omega (arith, at, place_is, before))
+            ];
+        others = λ d port from is.
+            elim (split_place ended_after rest d port is) as (λ _. port.own ≡ put_by false port.number (calls_to d (all ++ events))) [
+              | inl here ↦ absurd (let within = slice_get_within ended_after d port here in omega (arith, within, place_is, from))
+              | inr there ↦ subst (λ (n : ℕ). port.own ≡ put_by false port.number (calls_to n (all ++ events))) (sym there.1) (some.others there.0 port there.2)
+            ];
+      })
 
-  -- the calls with those of a letter more
-  owed_next : (leave : ℕ) (log : Log S) (x : Letter (Out S)) (mark : Mark) (d : ℕ)
-      → owed leave log d ++ calls_to d (addressed (change leave log x mark).sends) ≡ owed leave (Next log x mark) d
-  owed_next leave log x mark d =
-      sym (ap (calls_to d) (map-append _ (sent_in leave log) (change leave log x mark).sends)
-      ∙ calls_to-append d (addressed (sent_in leave log)) (addressed (change leave log x mark).sends))
+  -- the events with those of a letter more
+  sent_next : (leave : ℕ) (log : Log S) (x : Letter (Out S)) (mark : Mark)
+      → addressed (sent_in leave log) ++ addressed (change leave log x mark).sends ≡ addressed (sent_in leave (Next log x mark))
+  sent_next leave log x mark = sym (map-append _ (sent_in leave log) (change leave log x mark).sends)
 
 -- ONE LETTER MORE
 
 module _ {S Rest : Type 0} (acts : Acts S Rest) where
   -- the sinks and the ports of a drainer after a change
   record Changed (leave : ℕ) (log : Log S) (after : DrainerView S Rest) (c : Change S) : Type 0 where
-    pub sent : HaveSent (is_cut after.fault) after.left (λ d. owed leave log d ++ calls_to d (addressed c.sends)) after.ports
+    pub sent : SentUpTo after.fault after.left (addressed (sent_in leave log) ++ addressed c.sends) after.ports
     pub sinks : Stand acts c.kept (gone_in leave log ++ c.gone) after.kept after.away
     pub missed : after.misses ≡ min (missed_in leave log + c.missed) (2 ^ 64 - 1)
     pub took : after.taken ≡ min (taken_in leave log + c.took) (2 ^ 64 - 1)
@@ -330,7 +316,7 @@ module _ {S Rest : Type 0} (acts : Acts S Rest) where
       let now = subst (Changed leave log after) (sym is) changed in
       record {
         left = left_is;
-        sent = have_same (is_cut after.fault) after.left _ _ after.ports (owed_next leave log x mark) now.sent;
+        sent = sent_same after.fault after.left _ _ after.ports (sent_next leave log x mark) now.sent;
         sinks = now.sinks;
         missed = now.missed;
         took = now.took;
@@ -339,7 +325,7 @@ module _ {S Rest : Type 0} (acts : Acts S Rest) where
   -- nothing changes
   idle : (leave : ℕ) (log : Log S) (view : DrainerView S Rest) → Stands acts leave log view → Changed leave log view (unchanged (kept_in leave log))
   idle leave log view s = record {
-    sent = have_same (is_cut view.fault) view.left _ _ view.ports (λ d. sym (append-nil (owed leave log d))) s.sent;
+    sent = sent_same view.fault view.left _ _ view.ports (sym (append-nil (addressed (sent_in leave log)))) s.sent;
     sinks = record {
       kept_are = s.sinks.kept_are;
       away_are = subst (λ (l : List (Attachment S × Why)). AllZip (IsPutAway acts) l view.away) (sym (append-nil (gone_in leave log))) s.sinks.away_are;
@@ -377,31 +363,29 @@ module _ {S Rest : Type 0} (acts : Acts S Rest) where
       (left_is ∙ sym (ap (λ b. b || (from == leave && true)) was ∙ ap (λ b. b && true) test)) (idle leave log view s)
 
   -- a letter of a subject before that
-  pub stands_served : (leave : ℕ) (log : Log S) (from : ℕ) (out : Out S) (before after : DrainerView S Rest) (ended a b : List (Outgoing (Call S))) (events : List Event)
+  pub stands_served : (leave : ℕ) (log : Log S) (from : ℕ) (out : Out S) (before after : DrainerView S Rest) (ended a b : List (Outgoing (Call S))) (events : List Event) (back : Option S)
       → ended ≡ [] → before.ports ≡ ended ++ a → after.ports ≡ ended ++ b → before.left ≡ false → after.left ≡ false → before.fault ≡ None → (from == leave) ≡ false
-      → ServesOut acts from out before.kept after.kept before.away after.away before.misses after.misses before.taken after.taken events
+      → ServesOut acts from out before.kept after.kept before.away after.away before.misses after.misses before.taken after.taken events back
       → SendsAll after.fault (map (λ event. (from, event)) events) a b
       → Stands acts leave log before → (mark : Mark) × Stands acts leave (Next log (letter from (Body out)) mark) after
-  stands_served leave log from out before after ended a b events none before_ports after_ports left_is left_after whole test serves sends s =
+  stands_served leave log from out before after ended a b events back none before_ports after_ports left_is left_after whole test serves sends s =
       let was : has_left leave log ≡ false = sym s.left ∙ left_is in
       let place = length (letters log) in
       let did = serves place (kept_in leave log) (gone_in leave log) s.sinks in
       let mark = did.0 in
       let c = out_change place from out mark (kept_in leave log) in
-      let cut : is_cut before.fault ≡ false = ap is_cut whole in
-      let have : HaveSent false false (owed leave log) a =
-      subst (λ (k : Bool). HaveSent k false (owed leave log) a) cut
-      (subst (λ (l : Bool). HaveSent (is_cut before.fault) l (owed leave log) a) left_is
-      (subst (HaveSent (is_cut before.fault) before.left (owed leave log)) (before_ports ∙ all_open ended a none) s.sent)) in
-      let have_now : HaveSent (is_cut after.fault) false (λ d. owed leave log d ++ calls_to d (addressed c.sends)) b =
-      have_same (is_cut after.fault) false _ _ b (λ d. ap (λ (l : List (ℕ × Event)). owed leave log d ++ calls_to d l) did.1.sends) (have_more after.fault (owed leave log) _ a b have sends) in (
+      let sent = addressed (sent_in leave log) in
+      let have : HaveSent false (λ d. calls_to d sent) a =
+      subst (HaveSent false (λ d. calls_to d sent)) (before_ports ∙ all_open ended a none) (sent_whole before.fault before.left sent before.ports whole left_is s.sent) in
+      let have_now : SentUpTo after.fault false (sent ++ addressed c.sends) b =
+      sent_same after.fault false _ _ b (ap (λ (l : List (ℕ × Event)). sent ++ l) did.1.sends) (have_more after.fault sent _ a b have sends) in (
         mark,
         stands_next leave log (letter from (Body out)) mark after c
             (ap (λ k. letter_change k leave place (letter from (Body out)) mark (kept_in leave log)) was ∙ ap (λ k. post_change k place from (Body out) mark (kept_in leave log)) test)
             (left_after ∙ sym (ap (λ k. k || (from == leave && false)) was ∙ ap (λ k. k && false) test))
             (record {
-              sent = subst (λ (l : Bool). HaveSent (is_cut after.fault) l (λ d. owed leave log d ++ calls_to d (addressed c.sends)) after.ports) (sym left_after)
-                  (subst (HaveSent (is_cut after.fault) false (λ d. owed leave log d ++ calls_to d (addressed c.sends))) (sym (after_ports ∙ all_open ended b none)) have_now);
+              sent = subst (λ (l : Bool). SentUpTo after.fault l (sent ++ addressed c.sends) after.ports) (sym left_after)
+                  (subst (SentUpTo after.fault false (sent ++ addressed c.sends)) (sym (after_ports ∙ all_open ended b none)) have_now);
               sinks = did.1.stand;
               missed = did.2 ∙ counted-more before.misses (missed_in leave log) c.missed s.missed (missed_out place from out mark (kept_in leave log));
               took = did.3 ∙ counted-more before.taken (taken_in leave log) c.took s.took (took_out place from out mark (kept_in leave log));
@@ -421,21 +405,18 @@ module _ {S Rest : Type 0} (acts : Acts S Rest) where
       let c = flush_change leave log subject who mark in
       let no_miss : c.missed ≡ 0 = missed_flushed mark subject who (kept_for subject who (kept_in leave log)) (kept_in leave log) in
       let none_taken : c.took ≡ 0 = took_flushed mark subject who (kept_for subject who (kept_in leave log)) (kept_in leave log) in
-      let cut : is_cut before.fault ≡ false = ap is_cut whole in
-      let have : HaveSent false false (owed leave log) a =
-      subst (λ (k : Bool). HaveSent k false (owed leave log) a) cut
-      (subst (λ (l : Bool). HaveSent (is_cut before.fault) l (owed leave log) a) left_is
-      (subst (HaveSent (is_cut before.fault) before.left (owed leave log)) (before_ports ∙ all_open ended a none) s.sent)) in
-      let have_now : HaveSent (is_cut after.fault) false (λ d. owed leave log d ++ calls_to d (addressed c.sends)) b =
-      have_same (is_cut after.fault) false _ _ b (λ d. ap (λ (l : List (ℕ × Event)). owed leave log d ++ calls_to d l) did.1.sends) (have_more after.fault (owed leave log) _ a b have sends) in
-      let owed_now : (d : ℕ) → owed leave log d ++ calls_to d (addressed c.sends) ≡ owed leave (Flush log subject who mark) d =
-      λ d. sym (ap (calls_to d) (map-append _ (sent_in leave log) c.sends) ∙ calls_to-append d (addressed (sent_in leave log)) (addressed c.sends)) in (
+      let sent = addressed (sent_in leave log) in
+      let have : HaveSent false (λ d. calls_to d sent) a =
+      subst (HaveSent false (λ d. calls_to d sent)) (before_ports ∙ all_open ended a none) (sent_whole before.fault before.left sent before.ports whole left_is s.sent) in
+      let have_now : SentUpTo after.fault false (sent ++ addressed c.sends) b =
+      sent_same after.fault false _ _ b (ap (λ (l : List (ℕ × Event)). sent ++ l) did.1.sends) (have_more after.fault sent _ a b have sends) in
+      let sent_now : sent ++ addressed c.sends ≡ addressed (sent_in leave (Flush log subject who mark)) = sym (map-append _ (sent_in leave log) c.sends) in (
         mark,
         record {
           left = left_after ∙ sym left_is ∙ s.left;
-          sent = have_same (is_cut after.fault) after.left _ _ after.ports owed_now
-              (subst (λ (l : Bool). HaveSent (is_cut after.fault) l (λ d. owed leave log d ++ calls_to d (addressed c.sends)) after.ports) (sym left_after)
-              (subst (HaveSent (is_cut after.fault) false (λ d. owed leave log d ++ calls_to d (addressed c.sends))) (sym (after_ports ∙ all_open ended b none)) have_now));
+          sent = sent_same after.fault after.left _ _ after.ports sent_now
+              (subst (λ (l : Bool). SentUpTo after.fault l (sent ++ addressed c.sends) after.ports) (sym left_after)
+              (subst (SentUpTo after.fault false (sent ++ addressed c.sends)) (sym (after_ports ∙ all_open ended b none)) have_now));
           sinks = did.1.stand;
           missed = omega (arith, same_misses, s.missed, no_miss);
           took = omega (arith, same_taken, s.took, none_taken);
@@ -470,8 +451,8 @@ module _ {S Rest : Type 0} (acts : Acts S Rest) where
   pub stands_left : (leave : ℕ) (log : Log S) (from : ℕ) (before after : DrainerView S Rest)
       → from ≡ leave → before.left ≡ false → after.left ≡ true → after.kept ≡ [] → after.misses ≡ before.misses → after.taken ≡ before.taken
       → ((held : List (Attachment S)) (gone : List (Attachment S × Why)) → Stand acts held gone before.kept before.away → Stand acts [] (gone ++ closed held) after.kept after.away)
-      → (HaveSent (is_cut before.fault) before.left (owed leave log) before.ports
-      → HaveSent (is_cut after.fault) true (λ d. owed leave log d ++ calls_to d (partings_of before.kept)) after.ports)
+      → (SentUpTo before.fault before.left (addressed (sent_in leave log)) before.ports
+      → SentUpTo after.fault true (addressed (sent_in leave log) ++ partings_of before.kept) after.ports)
       → Stands acts leave log before → (mark : Mark) × Stands acts leave (Next log (letter from Bye) mark) after
   stands_left leave log from before after from_is left_is left_after empty same_misses same_taken closes sends s =
       let was : has_left leave log ≡ false = sym s.left ∙ left_is in
@@ -483,8 +464,8 @@ module _ {S Rest : Type 0} (acts : Acts S Rest) where
             (ap (λ k. letter_change k leave (length (letters log)) (letter from Bye) (Fine Clear) (kept_in leave log)) was ∙ ap (λ k. post_change k (length (letters log)) from Bye (Fine Clear) (kept_in leave log)) test)
             (left_after ∙ sym (ap (λ k. k || (from == leave && true)) was ∙ ap (λ k. k && true) test))
             (record {
-              sent = subst (λ (l : Bool). HaveSent (is_cut after.fault) l (λ d. owed leave log d ++ calls_to d (addressed c.sends)) after.ports) (sym left_after)
-                  (have_same (is_cut after.fault) true _ _ after.ports (λ d. ap (λ (l : List (ℕ × Event)). owed leave log d ++ calls_to d l) events) (sends s.sent));
+              sent = subst (λ (l : Bool). SentUpTo after.fault l (addressed (sent_in leave log) ++ addressed c.sends) after.ports) (sym left_after)
+                  (sent_same after.fault true _ _ after.ports (ap (λ (l : List (ℕ × Event)). addressed (sent_in leave log) ++ l) events) (sends s.sent));
               sinks = closes (kept_in leave log) (gone_in leave log) s.sinks;
               missed = omega (arith, same_misses, s.missed);
               took = omega (arith, same_taken, s.took);
@@ -495,7 +476,7 @@ module _ {S Rest : Type 0} (acts : Acts S Rest) where
 
   -- no sink was flushed before it
   pub handles_next : (x : Letter (Out S)) (before after : DrainerView S Rest)
-      → NamesSubject after.fault (length before.ports)
+      → IsOfSubject after.fault
       × ((log : Log S) → Stands acts (length before.ports) log before → (mark : Mark) × Stands acts (length before.ports) (Next log x mark) after)
       → Handles acts x before after
   handles_next x before after h = (h.0, λ log s. (let next = h.1 log s in (log, refl, next.0, next.1)))

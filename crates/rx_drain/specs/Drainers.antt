@@ -1,22 +1,23 @@
 -- A drainer, and what it has done with the letters that it received (this project's own rule).
-use Rattle.std.specs.Prelude.{◌≡◌, ◌+◌, ◌-◌, ◌^◌, ◌<◌, ◌≤◌, min, ℕ, Bool, true, false, List, [], ◌∷◌, ◌++◌, length, map, Option, Some, None, slice_get, vec_len, vec_capacity}
+use Rattle.std.specs.Prelude.{◌≡◌, ◌+◌, ◌-◌, ◌^◌, ◌<◌, ◌≤◌, ◌⊎◌, min, ℕ, Bool, true, false, List, [], ◌∷◌, ◌++◌, length, map, Option, Some, None, slice_get, vec_len, vec_capacity}
 use Rattle.std.specs.List.{list_any}
 use Rattle.rx_mailbox.specs.declared.letter.Letter.{Letter}
 use Rattle.rx_mailbox.specs.Boxes.{Outgoing, Incoming, incoming}
 use Rattle.rx_note.specs.declared.event.Event.{Event}
 use Rattle.rx_pump.specs.declared.call.Call.{Call}
 use Rattle.rx_pump.specs.declared.out.Out.{Out}
-use Rattle.rx_pump.specs.Pumps.{IsPut, AreSame}
+use Rattle.rx_pump.specs.Pumps.{AreSame}
 use Rattle.rx_sink.specs.declared.kept.Kept.{Kept}
 use Rattle.rx_sink.specs.declared.put_away.PutAway.{PutAway}
 use Rattle.rx_sink.specs.Acts.{Acts}
 use Rattle.rx_sink.specs.Attachments.{Attachment, Why, Mark}
-use Rattle.rx_sink.specs.Stands.{Stand, Did, counted}
+use Rattle.rx_sink.specs.Stands.{Stand, Did, addressed, counted}
 use Rattle.rx_drain.specs.declared.drain_fault.DrainFault.{DrainFault}
 use Rattle.rx_drain.specs.declared.drain_fault.DrainFault.TheVariants.{InboxGone, SubjectGone}
 use Rattle.rx_drain.specs.declared.drainer_left.DrainerLeft.{DrainerLeft}
 use Rattle.rx_drain.specs.Credit.{AreAllPaid}
-use Rattle.rx_drain.specs.Logs.{Log, Next, Flush, letters, has_left, out_change, kept_in, gone_in, missed_in, taken_in, owed, put_by}
+use Rattle.rx_drain.specs.Calls.{calls_to}
+use Rattle.rx_drain.specs.Logs.{Log, Next, Flush, letters, has_left, out_change, out_unserved, kept_in, gone_in, sent_in, missed_in, taken_in, put_by}
 
 -- a drainer: its inbox, its ports to subjects in their order, ended or not, the sinks that it keeps, what those left that it
 -- put away, how many sinks found no memory, how many notes they took, whether it was told to leave, and the fault that it
@@ -31,23 +32,11 @@ pub record DrainerView (S Rest : Type 0) : Type 0 where
   pub left : Bool
   pub fault : Option DrainFault
 
--- at a fault of a port the lists of the ports are cut short
-abbrev pub is_cut : Option DrainFault → Bool
-is_cut None = false
-is_cut (Some InboxGone) = false
-is_cut (Some (SubjectGone place)) = true
-
--- a fault is that of one of the ports
-abbrev pub IsOfSubject : Option DrainFault → ℕ → Type 0
-IsOfSubject None subjects = Unit {0}
-IsOfSubject (Some InboxGone) subjects = ⊥
-IsOfSubject (Some (SubjectGone place)) subjects = place < subjects
-
--- a fault names one of the ports
-abbrev pub NamesSubject : Option DrainFault → ℕ → Type 0
-NamesSubject None subjects = Unit {0}
-NamesSubject (Some InboxGone) subjects = Unit {0}
-NamesSubject (Some (SubjectGone place)) subjects = place < subjects
+-- there is no fault, or that of a subject
+abbrev pub IsOfSubject : Option DrainFault → Type 0
+IsOfSubject None = Unit {0}
+IsOfSubject (Some InboxGone) = ⊥
+IsOfSubject (Some (SubjectGone place)) = Unit {0}
 
 module _ {S Rest : Type 0} where
   -- the drainer with these parts
@@ -73,10 +62,33 @@ module _ {S Rest : Type 0} where
     pub ended_ports : left ≡ true → fault ≡ None → hands.parts.subjects.items ≡ []
 
 module _ {S : Type 0} where
-  -- the own list of the port at each place is its calls, and once the drainer left a Bye; cut short, the first of that
-  abbrev pub HaveSent : Bool → Bool → (ℕ → List (Call S)) → List (Outgoing (Call S)) → Type 0
-  HaveSent cut left calls ports =
-      (d : ℕ) (port : Outgoing (Call S)) → slice_get ports d ≡ Some port → IsPut cut port.own (put_by left port.number (calls d))
+  -- the own list of the port at each place is its calls, and once the drainer left a Bye
+  abbrev pub HaveSent : Bool → (ℕ → List (Call S)) → List (Outgoing (Call S)) → Type 0
+  HaveSent left calls ports =
+      (d : ℕ) (port : Outgoing (Call S)) → slice_get ports d ≡ Some port → port.own ≡ put_by left port.number (calls d)
+
+  -- the subject at this place is gone: of the events those were sent that come before one for it, and nothing from there on
+  pub record StoppedAtEvent (place : ℕ) (events : List (ℕ × Event)) (ports : List (Outgoing (Call S))) : Type 0 where
+    pub named : place < length ports
+    pub done : List (ℕ × Event)
+    pub next : Event
+    pub rest : List (ℕ × Event)
+    pub parts : done ++ (place, next) ∷ rest ≡ events
+    pub sent : HaveSent false (λ d. calls_to d done) ports
+
+  -- the subject at this place is gone: all events were sent, and of the ports those before it have ended
+  pub record StoppedAtBye (place : ℕ) (left : Bool) (events : List (ℕ × Event)) (ports : List (Outgoing (Call S))) : Type 0 where
+    pub named : place < length ports
+    pub is_left : left ≡ true
+    pub ended : (d : ℕ) (port : Outgoing (Call S)) → d < place → slice_get ports d ≡ Some port → port.own ≡ put_by true port.number (calls_to d events)
+    pub others : (d : ℕ) (port : Outgoing (Call S)) → place ≤ d → slice_get ports d ≡ Some port → port.own ≡ put_by false port.number (calls_to d events)
+
+  -- the events were sent, each to its subject, and once the drainer left all ports have ended; or at the fault of a subject what
+  -- comes before that
+  abbrev pub SentUpTo : Option DrainFault → Bool → List (ℕ × Event) → List (Outgoing (Call S)) → Type 0
+  SentUpTo None left events ports = HaveSent left (λ d. calls_to d events) ports
+  SentUpTo (Some InboxGone) left events ports = HaveSent left (λ d. calls_to d events) ports
+  SentUpTo (Some (SubjectGone place)) left events ports = StoppedAtEvent place events ports ⊎ StoppedAtBye place left events ports
 
   -- these letters more were received
   abbrev pub with_letters : Incoming (Out S) → List (Letter (Out S)) → Incoming (Out S)
@@ -98,7 +110,7 @@ module _ {S Rest : Type 0} (acts : Acts S Rest) where
   -- the sinks and the ports of a drainer are what marked letters mean, where this is the number of the leave port
   pub record Stands (leave : ℕ) (log : Log S) (view : DrainerView S Rest) : Type 0 where
     pub left : view.left ≡ has_left leave log
-    pub sent : HaveSent (is_cut view.fault) view.left (owed leave log) view.ports
+    pub sent : SentUpTo view.fault view.left (addressed (sent_in leave log)) view.ports
     pub sinks : Stand acts (kept_in leave log) (gone_in leave log) view.kept view.away
     pub missed : view.misses ≡ min (missed_in leave log) (2 ^ 64 - 1)
     pub took : view.taken ≡ min (taken_in leave log) (2 ^ 64 - 1)
@@ -107,7 +119,6 @@ module _ {S Rest : Type 0} (acts : Acts S Rest) where
   pub record Drains (view : DrainerView S Rest) (log : Log S) : Type 0 where
     pub received : view.inbox.received ≡ letters log
     pub stands : Stands (length view.ports) log view
-    pub fault : NamesSubject view.fault (length view.ports)
 
   -- there are such marks, and without a fault only stuck sinks are left unpaid
   abbrev pub IsDrained : DrainerView S Rest → Type 0
@@ -115,18 +126,26 @@ module _ {S Rest : Type 0} (acts : Acts S Rest) where
 
   -- ONE LETTER
 
-  -- a letter of a subject came to the sinks
-  abbrev pub ServesOut : ℕ → Out S → List (Kept S) → List (Kept S) → List (PutAway Rest) → List (PutAway Rest) → ℕ → ℕ → ℕ → ℕ → List Event → Type 0
-  ServesOut subject out kept kept_after away away_after misses misses_after taken taken_after events =
+  -- a letter of a subject came to the sinks, and a sink that it leaves unserved came back
+  abbrev pub ServesOut : ℕ → Out S → List (Kept S) → List (Kept S) → List (PutAway Rest) → List (PutAway Rest) → ℕ → ℕ → ℕ → ℕ → List Event → Option S → Type 0
+  ServesOut subject out kept kept_after away away_after misses misses_after taken taken_after events back =
       (place : ℕ) (held : List (Attachment S)) (gone : List (Attachment S × Why)) → Stand acts held gone kept away
       → (mark : Mark) × Did acts (out_change place subject out mark held) gone kept_after away_after (map (λ event. (subject, event)) events)
       × (misses_after ≡ counted misses (out_change place subject out mark held).missed)
       × (taken_after ≡ counted taken (out_change place subject out mark held).took)
+      × (back ≡ out_unserved subject out mark held)
+
+  -- a sink, if there is one, was finished, and this is what it left
+  abbrev pub Finishes : Option S → Option Rest → Type 0
+  Finishes None None = Unit {0}
+  Finishes None (Some rest) = ⊥
+  Finishes (Some sink) None = ⊥
+  Finishes (Some sink) (Some rest) = acts.finished sink rest
 
   -- a letter was handled: with a mark it is the next, after some flushes, of all for which the drainer stood
   abbrev pub Handles : Letter (Out S) → DrainerView S Rest → DrainerView S Rest → Type 0
   Handles x before after =
-      NamesSubject after.fault (length before.ports)
+      IsOfSubject after.fault
       × ((log : Log S) → Stands (length before.ports) log before
       → (more : Log S) × (letters more ≡ letters log) × (mark : Mark) × Stands (length before.ports) (Next more x mark) after)
 
@@ -142,13 +161,13 @@ module _ {S Rest : Type 0} (acts : Acts S Rest) where
   pub record FlushesAt (place : ℕ) (before after : DrainerView S Rest) : Type 0 where
     pub one : Kept S
     pub stood : slice_get before.kept place ≡ Some one
-    pub fault : IsOfSubject after.fault (length before.ports)
+    pub fault : IsOfSubject after.fault
     pub stands : (log : Log S) → Stands (length before.ports) log before → (mark : Mark) × Stands (length before.ports) (Flush log one.subject one.who mark) after
 
   -- sinks were flushed: with some flushes more it stands for the same letters, and unless a subject is gone only stuck sinks
   -- are left unpaid
   pub record FlushesAll (before after : DrainerView S Rest) : Type 0 where
-    pub fault : IsOfSubject after.fault (length before.ports)
+    pub fault : IsOfSubject after.fault
     pub stands : (log : Log S) → Stands (length before.ports) log before
         → (more : Log S) × (letters more ≡ letters log) × Stands (length before.ports) more after × (after.fault ≡ None → AreAllPaid (length before.ports) more)
 

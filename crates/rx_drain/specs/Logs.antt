@@ -1,7 +1,7 @@
 -- What the letters that a drainer received mean: which sinks are attached, what each took, why it was put away, and what is
 -- owed to each subject. Between letters the drainer flushes sinks. Each letter and each flush is marked, how it went with it
 -- (this project's own rule).
-use Rattle.std.specs.Prelude.{◌==◌, ◌+◌, ◌||◌, ◌&&◌, ℕ, Bool, true, false, List, [], ◌∷◌, ◌++◌, length, None}
+use Rattle.std.specs.Prelude.{◌==◌, ◌+◌, ◌||◌, ◌&&◌, ℕ, Bool, true, false, List, [], ◌∷◌, ◌++◌, length, Option, Some, None}
 use Rattle.rx_mailbox.specs.declared.letter.Letter.{Letter}
 use Rattle.rx_mailbox.specs.declared.letter.Post.{Post}
 use Rattle.rx_mailbox.specs.declared.letter.Post.TheVariants.{Body, Bye}
@@ -10,7 +10,7 @@ use Rattle.rx_pump.specs.declared.call.Call.{Call}
 use Rattle.rx_pump.specs.declared.out.Out.{Out}
 use Rattle.rx_pump.specs.declared.out.Out.TheVariants.{Attach, Give, Detach}
 use Rattle.rx_pump.specs.Sends.{posts}
-use Rattle.rx_sink.specs.Attachments.{Attachment, Why, Mark, Sent, Change, kept_for, attached, given, flushed, detached, left, unchanged}
+use Rattle.rx_sink.specs.Attachments.{Attachment, Why, Mark, Sent, Change, kept_for, unserved, attached, given, flushed, detached, left, unchanged}
 use Rattle.rx_sink.specs.Stands.{addressed}
 use Rattle.rx_drain.specs.Calls.{calls_to}
 
@@ -35,6 +35,12 @@ module _ {S : Type 0} where
 
   -- ONE LETTER
 
+  -- the sink that comes, if one does
+  abbrev pub sink_in : Out S → Option S
+  sink_in (Attach who sink) = Some sink
+  sink_in (Give who note) = None
+  sink_in (Detach who) = None
+
   -- the attachment that an Attach at this place makes
   abbrev pub brought : ℕ → ℕ → ℕ → S → Attachment S
   brought place subject who sink = record { place = place; subject = subject; who = who; sink = sink; taken = []; due = 0; over = false; last = None }
@@ -44,6 +50,12 @@ module _ {S : Type 0} where
   out_change place subject (Attach who sink) mark kept = attached mark (brought place subject who sink) (kept_for subject who kept) kept
   out_change place subject (Give who note) mark kept = given mark subject who note (kept_for subject who kept) kept
   out_change place subject (Detach who) mark kept = detached subject who (kept_for subject who kept) kept
+
+  -- the sink that this leaves unserved
+  abbrev pub out_unserved : ℕ → Out S → Mark → List (Attachment S) → Option S
+  out_unserved subject (Attach who sink) mark kept = unserved mark sink (kept_for subject who kept)
+  out_unserved subject (Give who note) mark kept = None
+  out_unserved subject (Detach who) mark kept = None
 
   -- a post, of the leave port or of a subject: of the leave port only the Bye counts, of a subject all but that
   abbrev pub post_change : Bool → ℕ → ℕ → Post (Out S) → Mark → List (Attachment S) → Change S

@@ -1,8 +1,9 @@
 -- What a drainer leaves that has served to its end, or to a fault (this project's own rule).
-use Rattle.std.specs.Prelude.{true, [], length, Some, None}
+use Rattle.std.specs.Prelude.{◌≡◌, true, [], length, Some, None}
 use Rattle.rx_mailbox.specs.Boxes.{HasEachBye}
 use Rattle.rx_sink.specs.Acts.{Acts}
 use Rattle.rx_drain.specs.declared.drain_end.DrainEnd.{DrainEnd}
+use Rattle.rx_drain.specs.declared.drain_fault.DrainFault.TheVariants.{InboxGone}
 use Rattle.rx_drain.specs.declared.drain_stop.DrainStop.{DrainStop}
 use Rattle.rx_drain.specs.Logs.{Log, has_left}
 use Rattle.rx_drain.specs.Drainers.{DrainerView, Drains, KeepsPlaces, view_of}
@@ -26,17 +27,19 @@ module _ {S Rest : Type 0} (acts : Acts S Rest) where
   pub record Serves (drainer : DrainerView S Rest) (end : DrainEnd S Rest) (log : Log S) : Type 0 where
     pub drains : Drains acts (view_of_end end) log
     pub each_bye : HasEachBye end.inbox
+    pub over : HasEachBye drainer.inbox → end.inbox ≡ drainer.inbox
     pub places : KeepsPlaces drainer (view_of_end end)
 
   -- there are such marks
   abbrev pub HasServed : DrainerView S Rest → DrainEnd S Rest → Type 0
   HasServed drainer end = (log : Log S) × Serves drainer end log
 
-  -- the drainer handed in stopped at a fault: what it left is what the marked letters mean, but that a port may lack the last
-  -- of its letters
+  -- the drainer handed in stopped at its fault: what it left is what the marked letters mean, or at the fault of a subject what
+  -- comes before that
   pub record Stops (drainer : DrainerView S Rest) (stop : DrainStop S Rest) (log : Log S) : Type 0 where
     pub drains : Drains acts (view_of stop.left (has_left (length drainer.ports) log) (Some stop.fault)) log
     pub places : KeepsPlaces drainer (view_of stop.left (has_left (length drainer.ports) log) (Some stop.fault))
+    pub waited : stop.fault ≡ InboxGone → drainer.fault ≡ None → ¬ HasEachBye stop.left.parts.inbox
 
   -- there are such marks
   abbrev pub HasStopped : DrainerView S Rest → DrainStop S Rest → Type 0

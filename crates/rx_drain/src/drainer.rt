@@ -116,6 +116,7 @@ impl<S: Sink> Drainer<S> {
         ensures fault { MatchResult result (λ _. self.new.fault ≡ None) (λ fault. self.new.fault ≡ Some fault) }
         ensures took { OnOk result (TakesMore self.old.inbox self.new.inbox) }
         ensures takes_one { OnOk result (any_may_wait self.old.kept ≡ false → TakesOne self.old.inbox self.new.inbox) }
+        ensures gone { result ≡ Err DrainFault.InboxGone → self.new.inbox ≡ self.old.inbox }
         ensures kept { KeepsPlaces self.old self.new }
         ensures over { IfSome self.old.fault (λ fault. (result ≡ Err fault) × (self.new ≡ self.old)) }
     {
@@ -128,6 +129,7 @@ impl<S: Sink> Drainer<S> {
         ensures fault { MatchResult result (λ _. self.new.fault ≡ None) (λ fault. self.new.fault ≡ Some fault) }
         ensures took { OnOk result (TakesMore self.old.inbox self.new.inbox) }
         ensures takes_one { OnOk result (looks ≡ false → any_may_wait self.old.kept ≡ false → TakesOne self.old.inbox self.new.inbox) }
+        ensures gone { result ≡ Err DrainFault.InboxGone → self.new.inbox ≡ self.old.inbox }
         ensures kept { KeepsPlaces self.old self.new }
         ensures over { IfSome self.old.fault (λ fault. (result ≡ Err fault) × (self.new ≡ self.old)) }
     {
@@ -176,6 +178,8 @@ impl<S: Sink> Drainer<S> {
     fn take_all<R: Wait>(&mut self, rt: &R) -> Result<(), DrainFault>
         ensures fault { MatchResult result (λ _. self.new.fault ≡ None) (λ fault. self.new.fault ≡ Some fault) }
         ensures each_bye { OnOk result (HasEachBye self.new.inbox) }
+        ensures none { HasEachBye self.old.inbox → self.new.inbox ≡ self.old.inbox }
+        ensures waited { result ≡ Err DrainFault.InboxGone → self.old.fault ≡ None → ¬ HasEachBye self.new.inbox }
         ensures kept { KeepsPlaces self.old self.new }
     {
         if let Some(fault) = self.fault {
@@ -225,7 +229,9 @@ impl<S: Sink> Drainer<S> {
     // What is left at a fault of a turn.
     fn stop(self, fault: DrainFault) -> DrainStop<S>
         requires { self.fault ≡ Some fault }
-        ensures { HasStopped S.acts self result }
+        ensures stopped { HasStopped S.acts self result }
+        ensures fault { result.fault ≡ fault }
+        ensures inbox { result.left.parts.inbox ≡ self.inbox }
     {
         let Drainer {
             hands: left,

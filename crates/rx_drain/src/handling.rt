@@ -3,11 +3,11 @@ ghost use Rattle.std.specs.Prelude.{◌≡◌, true, false, None, IfOk, OnOk, On
 ghost use Rattle.rx_mailbox.specs.declared.letter.Post.TheVariants.{Bye};
 ghost use Rattle.rx_mailbox.specs.Letters as letters;
 ghost use Rattle.rx_pump.specs.Pumps.{AreSame};
-ghost use Rattle.rx_drain.specs.Drainers.{Fits, Goes, Handles, Pays, TakesMore, TakesOne, any_may_wait, view_of};
+ghost use Rattle.rx_drain.specs.Drainers.{Fits, Goes, Handles, IsOfSubject, Pays, TakesMore, TakesOne, any_may_wait, view_of};
 
 use crate::flushing::{flush_all, flush_last, look_after, may_wait};
 use crate::sending::{part_all, send_asks, wake, wake_all};
-use crate::serving_out::{pass_over, serve_out};
+use crate::serving_out::{finish_unserved, into_sink, serve_out};
 use crate::{DrainFault, DrainerLeft};
 use rx_mailbox::{Gone, Letter, Post, TryRecvFault};
 use rx_pump::{Out, finish_all};
@@ -53,10 +53,10 @@ pub fn handle<S: Sink, R: Wait>(
         Post::Body(out) => out,
     };
     if left || from as usize == leave {
-        pass_over(out);
+        let _rest = finish_unserved(into_sink(out));
         return Handled { left, fault: None };
     }
-    let asks = serve_out(
+    let (asks, unserved) = serve_out(
         &mut hands.kept,
         &mut hands.put_away,
         &mut hands.places,
@@ -64,6 +64,7 @@ pub fn handle<S: Sink, R: Wait>(
         from,
         out,
     );
+    let _rest = finish_unserved(unserved);
     let fault = send_asks(rt, &mut hands.parts.subjects, from, asks);
     wake(&hands.parts.subjects, from);
     Handled { left, fault }
@@ -83,6 +84,7 @@ pub fn handle_first<S: Sink, R: Wait>(
     ensures gone { OnErr result (hands.new ≡ hands.old) }
     ensures fits { IfOk result (λ now. Fits leave now.left now.fault hands.new) }
     ensures inbox { OnOk result (TakesMore hands.old.parts.inbox hands.new.parts.inbox) }
+    ensures of_subject { IfOk result (λ now. IsOfSubject now.fault) }
     ensures takes_one { OnOk result (looks ≡ false → any_may_wait hands.old.kept.items ≡ false → TakesOne hands.old.parts.inbox hands.new.parts.inbox) }
     ensures ports { IfOk result (λ now. AreSame (view_of hands.old left None).ports (view_of hands.new now.left now.fault).ports) }
     ensures goes { IfOk result (λ now. Goes S.acts (view_of hands.old left None) (view_of hands.new now.left now.fault)) }
@@ -125,6 +127,7 @@ fn handle_none<S: Sink, R: Wait>(
 ) -> Handled
     requires { Fits leave false None hands.old }
     ensures left { result.left ≡ false }
+    ensures of_subject { IsOfSubject result.fault }
     ensures fits { Fits leave false result.fault hands.new }
     ensures inbox { hands.new.parts.inbox ≡ hands.old.parts.inbox }
     ensures ports { AreSame (view_of hands.old false None).ports (view_of hands.new false result.fault).ports }
@@ -147,8 +150,10 @@ pub fn handle_more<S: Sink, R: Wait>(
     leave: usize,
     handled: Handled,
 ) -> Handled
-    requires { Fits leave handled.left handled.fault hands.old }
+    requires fits { Fits leave handled.left handled.fault hands.old }
+    requires of_subject { IsOfSubject handled.fault }
     ensures fits { Fits leave result.left result.fault hands.new }
+    ensures of_subject { IsOfSubject result.fault }
     ensures inbox { TakesMore hands.old.parts.inbox hands.new.parts.inbox }
     ensures ports { AreSame (view_of hands.old handled.left handled.fault).ports (view_of hands.new result.left result.fault).ports }
     ensures goes { Goes S.acts (view_of hands.old handled.left handled.fault) (view_of hands.new result.left result.fault) }
@@ -173,8 +178,10 @@ pub fn handle_rest<S: Sink, R: Wait>(
     leave: usize,
     handled: Handled,
 ) -> Handled
-    requires { Fits leave handled.left handled.fault hands.old }
+    requires fits { Fits leave handled.left handled.fault hands.old }
+    requires of_subject { IsOfSubject handled.fault }
     ensures fits { Fits leave result.left result.fault hands.new }
+    ensures of_subject { IsOfSubject result.fault }
     ensures inbox { hands.new.parts.inbox ≡ hands.old.parts.inbox }
     ensures ports { AreSame (view_of hands.old handled.left handled.fault).ports (view_of hands.new result.left result.fault).ports }
     ensures pays { Pays S.acts (view_of hands.old handled.left handled.fault) (view_of hands.new result.left result.fault) }

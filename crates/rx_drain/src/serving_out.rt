@@ -1,13 +1,15 @@
 // What a letter of a subject does to the sinks.
-ghost use Rattle.std.specs.Prelude.{◌+◌, ◌≤◌, vec_len, vec_capacity};
+ghost use Rattle.std.specs.Prelude.{◌≡◌, ◌+◌, ◌≤◌, vec_len, vec_capacity};
 ghost use Rattle.rx_sink.specs.Stands.{events_of};
-ghost use Rattle.rx_drain.specs.Drainers.{ServesOut};
+ghost use Rattle.rx_drain.specs.Drainers.{Finishes, ServesOut};
+ghost use Rattle.rx_drain.specs.Logs.{sink_in};
 
 use rx_heap::Heap;
 use rx_pump::Out;
 use rx_sink::{Asks, Kept, Places, PutAway, Sink, attach, detach, give};
 
-// A sink, a note or the leaving of an observer comes from a subject. It answers what the subject is to be asked.
+// A sink, a note or the leaving of an observer comes from a subject. It answers what the subject is to be asked, and a sink that
+// is left unserved, as it came.
 pub fn serve_out<S: Sink>(
     kept: &mut Vec<Kept<S>, Heap>,
     away: &mut Vec<PutAway<S::Rest>, Heap>,
@@ -15,21 +17,34 @@ pub fn serve_out<S: Sink>(
     taken: &mut u64,
     subject: u32,
     out: Out<S>,
-) -> Asks
+) -> (Asks, Option<S>)
     requires room { vec_len away.old + vec_len kept.old ≤ vec_capacity away.old }
     ensures room { vec_len away.new + vec_len kept.new ≤ vec_capacity away.new }
-    ensures serves { ServesOut S.acts subject out kept.old.items kept.new.items away.old.items away.new.items places.old.misses places.new.misses taken.old taken.new (events_of result) }
+    ensures serves { ServesOut S.acts subject out kept.old.items kept.new.items away.old.items away.new.items places.old.misses places.new.misses taken.old taken.new (events_of result.0) result.1 }
 {
     match out {
         Out::Attach { who, sink } => attach(kept, away, places, subject, who, sink),
-        Out::Give { who, note } => give(kept, away, taken, subject, who, note),
-        Out::Detach { who } => detach(kept, away, subject, who),
+        Out::Give { who, note } => (give(kept, away, taken, subject, who, note), None),
+        Out::Detach { who } => (detach(kept, away, subject, who), None),
     }
 }
 
-// Finishes a sink that is left unserved.
-pub fn pass_over<S: Sink>(out: Out<S>) {
-    if let Out::Attach { who: _, sink } = out {
-        let _rest = sink.finish();
+// The sink that comes by a letter, if one does.
+pub fn into_sink<S: Drop>(out: Out<S>) -> Option<S>
+    ensures { result ≡ sink_in out }
+{
+    match out {
+        Out::Attach { who: _, sink } => Some(sink),
+        _ => None,
+    }
+}
+
+// Finishes a sink that is left unserved, as it came. It answers what the sink left.
+pub fn finish_unserved<S: Sink>(unserved: Option<S>) -> Option<S::Rest>
+    ensures { Finishes S.acts unserved result }
+{
+    match unserved {
+        Some(sink) => Some(sink.finish()),
+        None => None,
     }
 }

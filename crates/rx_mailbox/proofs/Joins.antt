@@ -13,7 +13,7 @@ use Rattle.rx_mailbox.specs.Letters.{share, has_bye, NothingAfterBye}
 use Rattle.rx_mailbox.specs.Boxes.{Outgoing, Incoming, HasBye, HasEachBye}
 use Rattle.rx_mailbox.specs.Steps.{noted, Shows}
 use Rattle.rx_mailbox.specs.Passes.{own_of, made_of, taken_of, notes_of, IsPort, IsReader, IsNoted, LeavesEmpty}
-use Rattle.rx_mailbox.specs.Settling.{IsEachOnce, GotAll, CanHold}
+use Rattle.rx_mailbox.specs.Settling.{IsEachOnce, GotAll}
 use Rattle.rx_mailbox.proofs.Steps.{shows}
 use Rattle.rx_mailbox.proofs.Letters.{end_is_nil, no_letters, nothing_after}
 
@@ -61,8 +61,15 @@ module _ {B : Type 0} where
       absurd (omega arith))
       (named ports number)
 
-  -- where all was received that the ports of a box put, the queue can hold nothing
-  pub nothing_left : (inbox : Incoming B) (ports : List (Outgoing B)) → IsEachOnce inbox.ports ports → All (GotAll inbox) ports → (queue : List (Letter B)) → CanHold inbox ports queue → queue ≡ []
+  -- a queue beside this inbox and these ports: of each port, what was received followed by what the queue holds is all that it
+  -- put, and there is no letter of a number that the box does not have
+  abbrev CanHold : Incoming B → List (Outgoing B) → List (Letter B) → Type 0
+  CanHold inbox ports queue =
+      All (λ port. share port.number (inbox.received ++ queue) ≡ port.own) ports
+      × ((number : ℕ) → inbox.ports ≤ number → share number (inbox.received ++ queue) ≡ [])
+
+  -- where all was received that the ports of a box put, the queue holds nothing
+  nothing_left : (inbox : Incoming B) (ports : List (Outgoing B)) → IsEachOnce inbox.ports ports → All (GotAll inbox) ports → (queue : List (Letter B)) → CanHold inbox ports queue → queue ≡ []
   nothing_left inbox ports once got queue holds = no_letters queue (λ number. ⊎_elim
       (λ below.
       let t = found ports number (once.1 number below) in

@@ -12,6 +12,14 @@ use Rattle.rx_mailbox.specs.Rule.{KeepsShares}
 use Rattle.rx_mailbox.specs.Settling.{counted}
 use Rattle.rx_mailbox.specs.Boxes.{Box, Outgoing, outgoing, Incoming, incoming}
 
+-- a settled box: which it is, how many ports it has, the letters that its inbox received, and what the inbox's pass knows, into
+-- which that of each port was joined
+pub record SettledView (B : Type 0) : Type 0 where
+  pub box : Box B
+  pub ports : ℕ
+  pub received : List (Letter B)
+  pub knows : View B
+
 module _ {B : Type 0} where
   -- the letters that a port's view has
   abbrev pub own_of : View B → List (Letter B)
@@ -49,6 +57,14 @@ module _ {B : Type 0} where
   abbrev pub inbox_of : Pass (Letter B) (View B) → Incoming B
   inbox_of pass = incoming (box_of pass) (made_of (view pass)) (taken_of (view pass))
 
+  -- the settled box that a pass is kept for
+  abbrev pub settled_of : Pass (Letter B) (View B) → SettledView B
+  settled_of pass = record { box = box_of pass; ports = made_of (view pass); received = taken_of (view pass); knows = view pass }
+
+  -- the inbox that a settled box had
+  abbrev pub inbox_in : SettledView B → Incoming B
+  inbox_in settled = incoming settled.box settled.ports settled.received
+
   -- the view is that of the port with this number, which put its Bye or did not
   pub record IsPort (number : ℕ) (ended : Bool) (v : View B) : Type 0 where
     pub view_is : v ≡ Sends number (own_of v)
@@ -71,6 +87,12 @@ module _ {B : Type 0} where
   -- wherever the rule holds and a pass has this view, the queue is empty
   abbrev pub LeavesEmpty : View B → Type 0
   LeavesEmpty v = (queue : List (Letter B)) (views : List (View B)) (pass : ℕ) → KeepsShares queue views → get_elem? views pass ≡ some v → queue ≡ []
+
+  -- nothing is in a settled box, nor will be: its pass knows of the ports made and the letters received, and wherever the rule
+  -- holds and a pass knows this, the queue is empty
+  pub record IsEmptied (settled : SettledView B) : Type 0 where
+    pub knows_both : settled.knows ≡ Receives settled.ports settled.received (notes_of settled.knows)
+    pub queue : LeavesEmpty settled.knows
 
   -- what the inbox keeps beside its view: whose Byes came, and how many letters
   pub record IsTally (byes : List Bool) (letters : ℕ) (v : View B) : Type 0 where

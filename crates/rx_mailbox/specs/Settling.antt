@@ -1,5 +1,5 @@
 -- When a box settles, and what it has then received (this project's own rule).
-use Rattle.std.specs.Prelude.{◌≡◌, ◌==◌, ◌<◌, ◌≤◌, ◌^◌, ◌-◌, min, ℕ, List, [], ◌++◌, length}
+use Rattle.std.specs.Prelude.{◌≡◌, ◌==◌, ◌<◌, ◌^◌, ◌-◌, min, ℕ, List, length}
 use Rattle.std.specs.List.{All, count_by}
 use Rattle.rx_mailbox.specs.declared.letter.Letter.{Letter}
 use Rattle.rx_mailbox.specs.declared.settle_cause.SettleCause.{SettleCause}
@@ -16,13 +16,6 @@ module _ {B : Type 0} where
   -- what was received of the port is all that it put, in its order
   abbrev pub GotAll : Incoming B → Outgoing B → Type 0
   GotAll inbox port = share port.number inbox.received ≡ port.own
-
-  -- what the rule lets the queue hold beside this inbox and these ports: of each port, what was received followed by what
-  -- the queue holds is all that it put, and there is no letter of a number that the box does not have
-  abbrev pub CanHold : Incoming B → List (Outgoing B) → List (Letter B) → Type 0
-  CanHold inbox ports queue =
-      All (λ port. share port.number (inbox.received ++ queue) ≡ port.own) ports
-      × ((number : ℕ) → inbox.ports ≤ number → share number (inbox.received ++ queue) ≡ [])
 
   -- why an inbox and ports did not settle
   abbrev pub IsCause : Incoming B → List (Outgoing B) → SettleCause → Type 0

@@ -5,7 +5,7 @@ use crate::channel::BoxPass;
 use std::marker::Model;
 
 /// A box that has settled: nothing is left in it, and nothing comes any more. Contracts still see the letters that its
-/// inbox received, in their order.
+/// inbox received, in their order, and what the inbox's pass knows, by which the box is empty.
 #[derive(Drop)]
 pub struct Settled<B: Drop> {
     // The inbox's pass, into which each port's was joined. By the rule, what it knows leaves the queue empty for good.
@@ -16,15 +16,14 @@ pub struct Settled<B: Drop> {
 impl<B: Drop> Model for Settled<B> {
     ghost use Rattle.std.specs.Prelude.{◌≡◌};
     ghost use Rattle.crossbeam_channel.specs.Claims.{view as pass_view};
-    ghost use Rattle.rx_mailbox.specs.Boxes.{Incoming};
-    ghost use Rattle.rx_mailbox.specs.Passes.{inbox_of, taken_of, LeavesEmpty};
+    ghost use Rattle.rx_mailbox.specs.Passes.{SettledView, settled_of, taken_of, IsEmptied};
     ghost use Rattle.rx_mailbox.specs.Settling.{counted};
 
-    ghost Value = { Incoming B };
+    ghost Value = { SettledView B };
 
-    ghost view = { λ s. inbox_of s.pass };
+    ghost view = { λ s. settled_of s.pass };
 
-    ghost invariant = { λ s. LeavesEmpty (pass_view s.pass) × (s.letters ≡ counted (taken_of (pass_view s.pass))) };
+    ghost invariant = { λ s. IsEmptied (settled_of s.pass) × (s.letters ≡ counted (taken_of (pass_view s.pass))) };
 }
 
 impl<B: Drop> Settled<B> {

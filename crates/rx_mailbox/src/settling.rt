@@ -1,10 +1,9 @@
-ghost use Rattle.std.specs.Prelude.{◌≡◌, ◌==◌, ◌<◌, ◌↔◌, ℕ, List, [], IsTrue, IfOk, IfErr};
+ghost use Rattle.std.specs.Prelude.{◌≡◌, ◌==◌, ◌<◌, ◌↔◌, ℕ, [], IsTrue, IfOk, IfErr};
 ghost use Rattle.std.specs.List.{All, count_by};
 ghost use Rattle.crossbeam_channel.specs.Claims.{view};
-ghost use Rattle.rx_mailbox.specs.declared.letter.Letter.{Letter};
 ghost use Rattle.rx_mailbox.specs.Boxes.{AreOf, HasBye, HasEachBye};
-ghost use Rattle.rx_mailbox.specs.Passes.{inbox_of, IsReader, IsNoted};
-ghost use Rattle.rx_mailbox.specs.Settling.{IsEachOnce, GotAll, CanHold, IsCause};
+ghost use Rattle.rx_mailbox.specs.Passes.{inbox_in, inbox_of, IsEmptied, IsNoted, IsReader};
+ghost use Rattle.rx_mailbox.specs.Settling.{IsEachOnce, GotAll, IsCause};
 
 use crate::channel::BoxPass;
 use crate::ended_port::EndedPort;
@@ -22,10 +21,11 @@ pub fn settle<B: Drop>(
     ports: Vec<EndedPort<B>, Heap>,
 ) -> Result<Settled<B>, Unsettled<B>>
     requires { AreOf inbox ports.items }
-    ensures received { IfOk result (λ settled. settled ≡ inbox) }
+    ensures received { IfOk result (λ settled. inbox_in settled ≡ inbox) }
     ensures complete { IfOk result (λ settled. IsEachOnce inbox.ports ports.items × HasEachBye inbox) }
     ensures shares { IfOk result (λ settled. All (GotAll inbox) ports.items) }
-    ensures empty { IfOk result (λ settled. (queue : List (Letter B)) → CanHold inbox ports.items queue → queue ≡ []) }
+    ensures joined { IfOk result (λ settled. All (IsNoted settled.knows) ports.items) }
+    ensures empty { IfOk result IsEmptied }
 
     // On an error all parts come back.
     ensures back { IfErr result (λ back. (back.inbox ≡ inbox) × (back.ports.items ≡ ports.items)) }

@@ -8,3 +8,4 @@ pub mod Ending
 pub mod Leaving
 pub mod Desking
 pub mod Replied
+pub mod Answering

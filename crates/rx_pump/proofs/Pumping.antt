@@ -1,10 +1,12 @@
 -- What a pump did with the letters so far, and with one letter more.
-use Rattle.std.proofs.Common.{◌≡◌, ◌∙◌, sym, refl, ap, subst, ℕ, ◌+◌, ◌-◌, ◌^◌, ◌<◌, ◌%◌, ◌==◌, min, Bool, true, false, List, [], ◌∷◌, ◌++◌, append_assoc, append-nil, length, map, Option, Some, None, slice_get, arith}
+use Rattle.std.proofs.Common.{◌≡◌, ◌∙◌, sym, refl, ap, subst, ℕ, ◌+◌, ◌-◌, ◌^◌, ◌<◌, ◌%◌, ◌==◌, min, Bool, true, false, List, [], ◌∷◌, ◌++◌, append_assoc, append-nil, length, map, Option, Some, None, slice_get, inl, inr, arith}
+use Rattle.std.proofs.lemmas.Bool.Decides.{eqb_tells}
 use Rattle.std.proofs.lemmas.List.{map-append, length-map}
 use Rattle.std.proofs.lemmas.List.Elements.{filter-append}
 use Rattle.std.proofs.lemmas.Option.{slice_get_within, get_or_from_slice_get, slice_get-map}
 use Rattle.std.specs.List.{All}
 use Rattle.std.specs.Option.{option_map}
+use Rattle.rx_note.specs.declared.rules.Rules.{Rules}
 use Rattle.rx_mailbox.specs.declared.letter.Post.TheVariants.{Body}
 use Rattle.rx_mailbox.specs.Letters.{letter}
 use Rattle.rx_mailbox.specs.Boxes.{Outgoing}
@@ -12,12 +14,11 @@ use Rattle.rx_pump.specs.declared.out.Out.{Out}
 use Rattle.rx_pump.specs.declared.pump_fault.PumpFault.{PumpFault}
 use Rattle.rx_pump.specs.declared.pump_fault.PumpFault.TheVariants.{InboxGone, DrainerGone, CallerGone}
 use Rattle.rx_pump.specs.declared.reply.Reply.{Reply}
-use Rattle.rx_pump.specs.Marks.{for_drainer, who_of, to_port}
-use Rattle.rx_pump.specs.Sends.{posts, with_bodies, Puts}
+use Rattle.rx_pump.specs.Marks.{Marked, sent, replies, for_drainer, who_of, to_port}
+use Rattle.rx_pump.specs.Sends.{posts, with_bodies, Puts, PutsFor}
 use Rattle.rx_pump.specs.Turns.{Ports, Sends}
-use Rattle.rx_pump.specs.Pumps.{counted, IsPut, HavePut, IsFresh, place_of, AreSame, is_cut, NamesPort}
+use Rattle.rx_pump.specs.Pumps.{counted, HavePut, IsFresh, place_of, AreSame, before_last, PutAll, HavePutUpTo}
 use Rattle.rx_pump.proofs.Placing.{same_by_place}
-use Rattle.rx_pump.proofs.Putting.{Puts-none}
 
 -- what a map gave it gave of something
 pub option_map_some : {A B : Type 0} (f : A → B) (o : Option A) (y : B) → option_map f o ≡ Some y → (x : A) × (o ≡ Some x) × (f x ≡ y)
@@ -30,13 +31,12 @@ option_map-after f g (Some x) same = ap Some (same x)
 
 module _ {X : Type 0} where
   -- a port that put nothing has nothing in its list
-  pub HavePut-fresh : (cut : Bool) (ports : List (Outgoing X)) → cut ≡ false → All IsFresh ports → HavePut cut (λ _. []) ports
-  HavePut-fresh true ports whole fresh d port is = cc
-  HavePut-fresh false ports whole fresh d port is =
+  pub HavePut-fresh : (ports : List (Outgoing X)) → All IsFresh ports → HavePut (λ _. []) ports
+  HavePut-fresh ports fresh d port is =
       ap (λ (p : Outgoing X). p.own) (sym (get_or_from_slice_get ports d port port is)) ∙ fresh d port (slice_get_within ports d port is)
 
   -- the ports put more
-  pub HavePut-puts : (all more : ℕ → List X) (before after : List (Outgoing X)) → HavePut false all before → Puts more before after → HavePut false (λ d. all d ++ more d) after
+  pub HavePut-puts : (all more : ℕ → List X) (before after : List (Outgoing X)) → HavePut all before → Puts more before after → HavePut (λ d. all d ++ more d) after
   HavePut-puts all more before after have put d port is =
       let old = option_map_some (with_bodies (more d)) (slice_get before d) port (sym (put.at d) ∙ is) in
       let number : old.0.number ≡ port.number = ap (λ (p : Outgoing X). p.number) old.2 in
@@ -45,27 +45,9 @@ module _ {X : Type 0} where
       ∙ sym (map-append (λ body. letter old.0.number (Body body)) (all d) (more d))
       ∙ ap (λ n. posts n (all d ++ more d)) number
 
-  -- the ports put some of what more there is
-  pub HavePut-cut : (all some rest : ℕ → List X) (before after : List (Outgoing X))
-      → HavePut false all before → Puts some before after → HavePut true (λ d. all d ++ (some d ++ rest d)) after
-  HavePut-cut all some rest before after have put d port is = (
-    posts port.number (rest d),
-    ap (λ own. own ++ posts port.number (rest d)) (HavePut-puts all some before after have put d port is)
-        ∙ sym (map-append (λ body. letter port.number (Body body)) (all d ++ some d) (rest d))
-        ∙ ap (posts port.number) (append_assoc (all d) (some d) (rest d)),
-  )
-
   -- the same bodies
-  pub HavePut-same : (cut : Bool) (first second : ℕ → List X) (ports : List (Outgoing X)) → ((d : ℕ) → first d ≡ second d) → HavePut cut first ports → HavePut cut second ports
-  HavePut-same cut first second ports same have d port is = subst (λ (bodies : List X). IsPut cut port.own (posts port.number bodies)) (same d) (have d port is)
-
-  -- what is whole is not cut, and what was put is the first of what is to be put
-  pub HavePut-stays : (all more : ℕ → List X) (ports : List (Outgoing X)) → HavePut false all ports → HavePut true (λ d. all d ++ more d) ports
-  HavePut-stays all more ports have = HavePut-cut all (λ _. []) more ports ports have (Puts-none ports)
-
-  -- what is whole is cut short by nothing
-  pub HavePut-whole : (all : ℕ → List X) (ports : List (Outgoing X)) → HavePut false all ports → HavePut true all ports
-  HavePut-whole all ports have d port is = ([], append-nil port.own ∙ have d port is)
+  pub HavePut-same : (first second : ℕ → List X) (ports : List (Outgoing X)) → ((d : ℕ) → first d ≡ second d) → HavePut first ports → HavePut second ports
+  HavePut-same first second ports same have d port is = have d port is ∙ ap (posts port.number) (same d)
 
   -- ports that put bodies are the same ports
   pub AreSame-puts : (bodies : ℕ → List X) (before after : List (Outgoing X)) → Puts bodies before after → AreSame before after
@@ -75,6 +57,10 @@ module _ {X : Type 0} where
   -- there are as many
   pub AreSame-length : (before after : List (Outgoing X)) → AreSame before after → length after ≡ length before
   AreSame-length before after same = sym (length-map after place_of) ∙ ap length same ∙ length-map before place_of
+
+-- what comes by a port is told to this port
+to_port-own : {X : Type 0} (port p : ℕ) (x : X) → p ≡ port → to_port port p x ≡ x ∷ []
+to_port-own port p x same = elim (eqb_tells port p) [ inl (test, is) ↦ rw test refl | inr (test, other) ↦ absurd (other (sym same)) ]
 
 -- COUNTS
 
@@ -87,49 +73,72 @@ counted-plus before n = omega arith
 module _ {S : Type 0} where
   -- WHAT THE PORTS PUT
 
-  -- what the ports have put once they put the outs and the reply, or stopped there
-  pub record HaveSent (fault : Option PumpFault) (outs : List (Out S)) (port : ℕ) (reply : Reply S) (sent_before : List (Out S)) (replied_before : ℕ → List (Reply S)) (before after : Ports S) : Type 0 where
-    pub routed : HavePut (is_cut fault) (λ d. for_drainer (length before.drainers) d (sent_before ++ outs)) after.drainers
-    pub replied : HavePut (is_cut fault) (λ p. replied_before p ++ to_port port p reply) after.replies
+  -- one letter more is among the marked ones, and sends these outs and this reply
+  pub record IsMore (rules : Rules) (B more : Marked S) (outs : List (Out S)) (port : ℕ) (reply : Reply S) : Type 0 where
+    pub before : before_last more ≡ B
+    pub sends : sent rules B ++ outs ≡ sent rules more
+    pub replies_are : (p : ℕ) → replies rules p B ++ to_port port p reply ≡ replies rules p more
+
+  -- the same ports, which have put what one letter more sends, or stopped there
+  pub record HaveSent (fault : Option PumpFault) (rules : Rules) (more : Marked S) (before after : Ports S) : Type 0 where
+    pub put : HavePutUpTo fault rules more after.drainers after.replies
     pub drainers : AreSame before.drainers after.drainers
     pub callers : AreSame before.replies after.replies
-    pub named : NamesPort fault (length before.drainers) (length before.replies)
 
   for_drainer-append : (n d : ℕ) (first second : List (Out S)) → for_drainer n d first ++ for_drainer n d second ≡ for_drainer n d (first ++ second)
   for_drainer-append n d first second = sym (filter-append (λ out. who_of out % n == d) first second)
 
-  pub HaveSent-of : (fault : Option PumpFault) (outs : List (Out S)) (port : ℕ) (reply : Reply S) (sent_before : List (Out S)) (replied_before : ℕ → List (Reply S)) (before after : Ports S)
-      → 0 < length before.drainers
-      → HavePut false (λ d. for_drainer (length before.drainers) d sent_before) before.drainers → HavePut false replied_before before.replies
-      → Sends fault outs port reply before after → HaveSent fault outs port reply sent_before replied_before before after
-  HaveSent-of None outs port reply sent_before replied_before before after some routed replied sends =
-      let n = length before.drainers in
-      record {
-        routed = HavePut-same false _ _ after.drainers (λ d. for_drainer-append n d sent_before outs) (HavePut-puts _ _ before.drainers after.drainers routed sends.0);
-        replied = HavePut-puts replied_before _ before.replies after.replies replied sends.1;
-        drainers = AreSame-puts _ before.drainers after.drainers sends.0;
-        callers = AreSame-puts _ before.replies after.replies sends.1;
-        named = tt;
-      }
-  HaveSent-of (Some InboxGone) outs port reply sent_before replied_before before after some routed replied sends = absurd sends
-  HaveSent-of (Some (DrainerGone place)) outs port reply sent_before replied_before before after some routed replied sends =
-      let n = length before.drainers in
+  -- the drainers were sent some outs more
+  routed-more : (outs more all : List (Out S)) (before after : List (Outgoing (Out S))) → outs ++ more ≡ all
+      → HavePut (λ d. for_drainer (length before) d outs) before → PutsFor more before after → HavePut (λ d. for_drainer (length after) d all) after
+  routed-more outs more all before after all_are have put =
+      HavePut-same _ _ after
+      (λ d. for_drainer-append (length before) d outs more ∙ ap (for_drainer (length before) d) all_are ∙ ap (λ n. for_drainer n d all) (sym put.count))
+      (HavePut-puts _ _ before after have put)
+
+  pub HaveSent-of : (fault : Option PumpFault) (rules : Rules) (B more : Marked S) (outs : List (Out S)) (port : ℕ) (reply : Reply S) (before after : Ports S)
+      → 0 < length before.drainers → IsMore rules B more outs port reply → PutAll rules B before.drainers before.replies
+      → Sends fault outs port reply before after → HaveSent fault rules more before after
+  HaveSent-of None rules B more outs port reply before after some is put sends = record {
+    put = record {
+      routed = routed-more (sent rules B) outs (sent rules more) before.drainers after.drainers is.sends put.routed sends.0;
+      replied = HavePut-same _ _ after.replies is.replies_are (HavePut-puts _ _ before.replies after.replies put.replied sends.1);
+    };
+    drainers = AreSame-puts _ before.drainers after.drainers sends.0;
+    callers = AreSame-puts _ before.replies after.replies sends.1;
+  }
+  HaveSent-of (Some InboxGone) rules B more outs port reply before after some is put sends = absurd sends
+  HaveSent-of (Some (DrainerGone place)) rules B more outs port reply before after some is put sends =
       let stop = sends.0 in
+      let count : length after.drainers ≡ length before.drainers = stop.put.count in
+      let gone : who_of stop.next % length after.drainers ≡ place = ap (λ n. who_of stop.next % n) count ∙ stop.gone in
       record {
-        routed = HavePut-same true _ _ after.drainers
-            (λ d. ap (λ l. for_drainer n d sent_before ++ l) (for_drainer-append n d stop.done (stop.next ∷ stop.rest) ∙ ap (for_drainer n d) stop.parts) ∙ for_drainer-append n d sent_before outs)
-            (HavePut-cut (λ d. for_drainer n d sent_before) (λ d. for_drainer n d stop.done) (λ d. for_drainer n d (stop.next ∷ stop.rest)) before.drainers after.drainers routed stop.put);
-        replied = subst (HavePut true (λ p. replied_before p ++ to_port port p reply)) (sym sends.1) (HavePut-stays replied_before (λ p. to_port port p reply) before.replies replied);
+        put = record {
+          named = subst (λ (k : ℕ). k < length after.drainers) gone (omega (arith, some, count));
+          done = stop.done;
+          next = stop.next;
+          rest = stop.rest;
+          parts = ap (λ (first : Marked S). sent rules first ++ stop.done ++ stop.next ∷ stop.rest) is.before ∙ append_assoc (sent rules B) stop.done (stop.next ∷ stop.rest)
+              ∙ ap (λ l. sent rules B ++ l) stop.parts ∙ is.sends;
+          gone = gone;
+          routed = routed-more (sent rules B) stop.done (sent rules (before_last more) ++ stop.done) before.drainers after.drainers
+              (ap (λ (first : Marked S). sent rules first ++ stop.done) (sym is.before)) put.routed stop.put;
+          replied = subst (HavePut (λ p. replies rules p (before_last more))) (sym sends.1)
+              (HavePut-same _ _ before.replies (λ p. ap (λ (first : Marked S). replies rules p first) (sym is.before)) put.replied);
+        };
         drainers = AreSame-puts _ before.drainers after.drainers stop.put;
         callers = ap (map place_of) sends.1;
-        named = subst (λ (k : ℕ). k < n) stop.gone (omega arith);
       }
-  HaveSent-of (Some (CallerGone place)) outs port reply sent_before replied_before before after some routed replied sends =
-      let n = length before.drainers in
-      record {
-        routed = HavePut-whole _ after.drainers (HavePut-same false _ _ after.drainers (λ d. for_drainer-append n d sent_before outs) (HavePut-puts _ _ before.drainers after.drainers routed sends.0));
-        replied = subst (HavePut true (λ p. replied_before p ++ to_port port p reply)) (sym sends.1) (HavePut-stays replied_before (λ p. to_port port p reply) before.replies replied);
-        drainers = AreSame-puts _ before.drainers after.drainers sends.0;
-        callers = ap (map place_of) sends.1;
-        named = subst (λ (k : ℕ). k < length before.replies) (sym sends.2) sends.3;
-      }
+  HaveSent-of (Some (CallerGone place)) rules B more outs port reply before after some is put sends = record {
+    put = record {
+      named = subst (λ (callers : List (Outgoing (Reply S))). place < length callers) (sym sends.1) (subst (λ (k : ℕ). k < length before.replies) (sym sends.2) sends.3);
+      next = reply;
+      gone = ap (λ (first : Marked S). replies rules place first ++ reply ∷ []) is.before
+          ∙ ap (λ l. replies rules place B ++ l) (sym (to_port-own port place reply sends.2)) ∙ is.replies_are place;
+      routed = routed-more (sent rules B) outs (sent rules more) before.drainers after.drainers is.sends put.routed sends.0;
+      replied = subst (HavePut (λ p. replies rules p (before_last more))) (sym sends.1)
+          (HavePut-same _ _ before.replies (λ p. ap (λ (first : Marked S). replies rules p first) (sym is.before)) put.replied);
+    };
+    drainers = AreSame-puts _ before.drainers after.drainers sends.0;
+    callers = ap (map place_of) sends.1;
+  }

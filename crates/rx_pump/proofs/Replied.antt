@@ -12,10 +12,10 @@ use Rattle.rx_mailbox.specs.Letters.{letter, share}
 use Rattle.rx_pump.specs.declared.call.Call.{Call}
 use Rattle.rx_pump.specs.declared.reply.Reply.{Reply}
 use Rattle.rx_pump.specs.Marks.{Marked, NoLetters, Made, Refused, Ended, letters_of, history_of, replies, reply_to, to_port}
-use Rattle.rx_pump.specs.Replying.{ticket_in, tickets_in}
+use Rattle.rx_pump.specs.Desks.{ticket_in, tickets_in}
 
 module _ {S : Type 0} where
-  tickets_in-append : (xs ys : List (Letter (Call S))) → tickets_in (xs ++ ys) ≡ tickets_in xs ++ tickets_in ys
+  pub tickets_in-append : (xs ys : List (Letter (Call S))) → tickets_in (xs ++ ys) ≡ tickets_in xs ++ tickets_in ys
   tickets_in-append [] ys = refl
   tickets_in-append (x ∷ xs) ys = ap (λ l. ticket_in x.post ++ l) (tickets_in-append xs ys) ∙ sym (append_assoc (ticket_in x.post) (tickets_in xs) (tickets_in ys))
 

@@ -1,6 +1,6 @@
 -- A desk, and what its calls do (this project's own rule).
-use Rattle.std.specs.Prelude.{◌≡◌, ◌≢◌, ◌+◌, ◌-◌, ◌^◌, ◌≤◌, ◌⊎◌, ℕ, Bool, true, false, List, [], Option, None, Result, Ok, Err}
-use Rattle.std.specs.List.{All}
+use Rattle.std.specs.Prelude.{◌≡◌, ◌≢◌, ◌+◌, ◌-◌, ◌^◌, ◌<◌, ◌≤◌, ◌⊎◌, ℕ, Bool, true, false, List, [], ◌∷◌, ◌++◌, Option, None, Result, Ok, Err}
+use Rattle.std.specs.List.{All, AllPairs}
 use Rattle.rx_note.specs.declared.event.Event.{Event}
 use Rattle.rx_mailbox.specs.declared.letter.Letter.{Letter}
 use Rattle.rx_mailbox.specs.declared.letter.Post.{Post}
@@ -24,6 +24,10 @@ pub record DeskView (S : Type 0) : Type 0 where
   pub tickets : ℕ
   pub is_over : Bool
 
+-- each number is below all later ones
+abbrev pub Rise : List ℕ → Type 0
+Rise numbers = AllPairs (λ n m. n < m) numbers
+
 module _ {S : Type 0} where
   -- a desk before its first call
   abbrev pub fresh_desk : List (Outgoing (Call S)) → Incoming (Reply S) → DeskView S
@@ -39,6 +43,20 @@ module _ {S : Type 0} where
   -- no letter that the ports put has a ticket above this one
   abbrev pub AreUpTo : ℕ → List (Outgoing (Call S)) → Type 0
   AreUpTo ticket ports = All (λ port. All (λ x. IsUpTo ticket x.post) port.own) ports
+
+  -- the ticket of a post, where it is a call
+  abbrev pub ticket_in : Post (Call S) → List ℕ
+  ticket_in (Body call) = call.ticket ∷ []
+  ticket_in Bye = []
+
+  -- the tickets of the calls among several letters
+  abbrev pub tickets_in : List (Letter (Call S)) → List ℕ
+  tickets_in [] = []
+  tickets_in (x ∷ xs) = ticket_in x.post ++ tickets_in xs
+
+  -- the tickets of what each port put rise
+  abbrev pub TicketsRise : List (Outgoing (Call S)) → Type 0
+  TicketsRise ports = All (λ port. Rise (tickets_in port.own)) ports
 
   -- a post has another ticket
   abbrev pub HasOther : ℕ → Post (Call S) → Type 0

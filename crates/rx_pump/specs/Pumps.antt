@@ -1,5 +1,5 @@
 -- A pump, and what it has done with the letters that it received (this project's own rule).
-use Rattle.std.specs.Prelude.{◌≡◌, ◌+◌, ◌-◌, ◌^◌, ◌<◌, min, ℕ, Bool, true, false, List, [], ◌++◌, length, map, Option, Some, None, slice_get}
+use Rattle.std.specs.Prelude.{◌≡◌, ◌+◌, ◌-◌, ◌^◌, ◌<◌, ◌%◌, min, ℕ, List, [], ◌∷◌, ◌++◌, length, map, Option, Some, None, slice_get}
 use Rattle.std.specs.List.{All}
 use Rattle.rx_history.specs.Histories.{NoEvents}
 use Rattle.rx_hub.specs.Hubs.{HubView, StandsFor}
@@ -11,7 +11,8 @@ use Rattle.rx_pump.specs.declared.pump_fault.PumpFault.{PumpFault}
 use Rattle.rx_pump.specs.declared.pump_fault.PumpFault.TheVariants.{InboxGone, DrainerGone, CallerGone}
 use Rattle.rx_pump.specs.declared.pump_parts.PumpParts.{PumpParts}
 use Rattle.rx_pump.specs.declared.reply.Reply.{Reply}
-use Rattle.rx_pump.specs.Marks.{Marked, letters_of, bodies_in, refused_in, history_of, AreAcceptable, route, replies}
+use Rattle.rx_note.specs.declared.rules.Rules.{Rules}
+use Rattle.rx_pump.specs.Marks.{Marked, NoLetters, Made, Refused, Ended, letters_of, bodies_in, refused_in, history_of, AreAcceptable, sent, who_of, for_drainer, route, replies}
 use Rattle.rx_pump.specs.Sends.{posts}
 
 -- a count of a pump, up to the greatest `u64`
@@ -30,33 +31,12 @@ pub record PumpView (S : Type 0) : Type 0 where
   pub misses_before : ℕ
   pub fault : Option PumpFault
 
--- FAULTS
-
--- at a fault of a port the lists of the ports are cut short
-abbrev pub is_cut : Option PumpFault → Bool
-is_cut None = false
-is_cut (Some InboxGone) = false
-is_cut (Some (DrainerGone place)) = true
-is_cut (Some (CallerGone place)) = true
-
--- a fault names one of the ports
-abbrev pub NamesPort : Option PumpFault → ℕ → ℕ → Type 0
-NamesPort None drainers callers = Unit {0}
-NamesPort (Some InboxGone) drainers callers = Unit {0}
-NamesPort (Some (DrainerGone place)) drainers callers = place < drainers
-NamesPort (Some (CallerGone place)) drainers callers = place < callers
-
 -- PORTS
 
 module _ {X : Type 0} where
-  -- these letters are all that is to be put or, cut short, the first of it
-  abbrev pub IsPut : Bool → List (Letter X) → List (Letter X) → Type 0
-  IsPut false own all = own ≡ all
-  IsPut true own all = (rest : List (Letter X)) × (own ++ rest ≡ all)
-
-  -- the own list of the port at each place is its bodies or, cut short, the first of them
-  abbrev pub HavePut : Bool → (ℕ → List X) → List (Outgoing X) → Type 0
-  HavePut cut bodies ports = (d : ℕ) (port : Outgoing X) → slice_get ports d ≡ Some port → IsPut cut port.own (posts port.number (bodies d))
+  -- the own list of the port at each place is just its bodies
+  abbrev pub HavePut : (ℕ → List X) → List (Outgoing X) → Type 0
+  HavePut bodies ports = (d : ℕ) (port : Outgoing X) → slice_get ports d ≡ Some port → port.own ≡ posts port.number (bodies d)
 
   -- a port has put nothing
   abbrev pub IsFresh : Outgoing X → Type 0
@@ -70,6 +50,48 @@ module _ {X : Type 0} where
   abbrev pub AreSame : List (Outgoing X) → List (Outgoing X) → Type 0
   AreSame before after = map place_of after ≡ map place_of before
 
+-- WHAT THE PORTS HAVE PUT
+
+module _ {S : Type 0} where
+  -- marked letters without the last one
+  abbrev pub before_last : Marked S → Marked S
+  before_last NoLetters = NoLetters
+  before_last (Made B port call) = B
+  before_last (Refused B port call) = B
+  before_last (Ended B port) = B
+
+  -- all: the list of each drainer's port is the drainer's route, and the list of each reply port its replies
+  pub record PutAll (rules : Rules) (B : Marked S) (drainers : List (Outgoing (Out S))) (callers : List (Outgoing (Reply S))) : Type 0 where
+    pub routed : HavePut (λ d. route rules (length drainers) d B) drainers
+    pub replied : HavePut (λ p. replies rules p B) callers
+
+  -- the drainer at this place is gone: of what the last letter sends all was put that comes before the first out for it, and
+  -- nothing from there on
+  pub record StoppedAtDrainer (place : ℕ) (rules : Rules) (B : Marked S) (drainers : List (Outgoing (Out S))) (callers : List (Outgoing (Reply S))) : Type 0 where
+    pub named : place < length drainers
+    pub done : List (Out S)
+    pub next : Out S
+    pub rest : List (Out S)
+    pub parts : sent rules (before_last B) ++ done ++ next ∷ rest ≡ sent rules B
+    pub gone : who_of next % length drainers ≡ place
+    pub routed : HavePut (λ d. for_drainer (length drainers) d (sent rules (before_last B) ++ done)) drainers
+    pub replied : HavePut (λ p. replies rules p (before_last B)) callers
+
+  -- the caller at this place is gone: all was put but the reply to the last letter, which is for it
+  pub record StoppedAtCaller (place : ℕ) (rules : Rules) (B : Marked S) (drainers : List (Outgoing (Out S))) (callers : List (Outgoing (Reply S))) : Type 0 where
+    pub named : place < length callers
+    pub next : Reply S
+    pub gone : replies rules place (before_last B) ++ next ∷ [] ≡ replies rules place B
+    pub routed : HavePut (λ d. route rules (length drainers) d B) drainers
+    pub replied : HavePut (λ p. replies rules p (before_last B)) callers
+
+  -- all, or at the fault of a port what comes before that
+  abbrev pub HavePutUpTo : Option PumpFault → Rules → Marked S → List (Outgoing (Out S)) → List (Outgoing (Reply S)) → Type 0
+  HavePutUpTo None rules B drainers callers = PutAll rules B drainers callers
+  HavePutUpTo (Some InboxGone) rules B drainers callers = PutAll rules B drainers callers
+  HavePutUpTo (Some (DrainerGone place)) rules B drainers callers = StoppedAtDrainer place rules B drainers callers
+  HavePutUpTo (Some (CallerGone place)) rules B drainers callers = StoppedAtCaller place rules B drainers callers
+
 module _ {S : Type 0} where
   -- THE PUMP'S HISTORY
 
@@ -81,15 +103,12 @@ module _ {S : Type 0} where
     pub misses : hub.misses ≡ counted (misses_before + refused_in B)
     pub acceptable : AreAcceptable hub.state.rules B
 
-  -- what a pump did is what its marked letters mean: the list of each drainer's port is the drainer's route, and the list
-  -- of each reply port its replies
+  -- what a pump did is what its marked letters mean, or at the fault of a port what comes before that
   pub record Pumps (pump : PumpView S) (B : Marked S) : Type 0 where
     pub accounts : Accounts pump.hub pump.inbox pump.misses_before B
     pub calls : pump.calls ≡ counted (bodies_in B)
     pub refused : pump.refused ≡ counted (refused_in B)
-    pub routed : HavePut (is_cut pump.fault) (λ d. route pump.hub.state.rules (length pump.drainers) d B) pump.drainers
-    pub replied : HavePut (is_cut pump.fault) (λ p. replies pump.hub.state.rules p B) pump.replies
-    pub fault : NamesPort pump.fault (length pump.drainers) (length pump.replies)
+    pub put : HavePutUpTo pump.fault pump.hub.state.rules B pump.drainers pump.replies
 
   -- there are such marks
   abbrev pub IsPumped : PumpView S → Type 0

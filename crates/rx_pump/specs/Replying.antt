@@ -1,25 +1,56 @@
 -- How the replies to a port go with its calls, for all marked letters (this project's own rule).
-use Rattle.std.specs.Prelude.{◌≡◌, ℕ, List, [], ◌∷◌, ◌++◌, map}
+use Rattle.std.specs.Prelude.{◌≡◌, ◌⊎◌, ℕ, List, [], ◌∷◌, ◌++◌, map, Option, Some, Ok, Err, slice_get}
+use Rattle.std.specs.List.{Contains}
+use Rattle.rx_note.specs.declared.event.Event.{Event}
+use Rattle.rx_note.specs.declared.refusal.Refusal.TheVariants.{Memory}
 use Rattle.rx_note.specs.declared.rules.Rules.{Rules}
+use Rattle.rx_history.specs.Histories.{answer}
 use Rattle.rx_mailbox.specs.declared.letter.Letter.{Letter}
-use Rattle.rx_mailbox.specs.declared.letter.Post.{Post}
 use Rattle.rx_mailbox.specs.declared.letter.Post.TheVariants.{Body, Bye}
-use Rattle.rx_mailbox.specs.Letters.{share}
+use Rattle.rx_mailbox.specs.Letters.{letter, share}
+use Rattle.rx_mailbox.specs.Boxes.{Outgoing}
 use Rattle.rx_pump.specs.declared.call.Call.{Call}
-use Rattle.rx_pump.specs.Marks.{Marked, letters_of, replies}
-
-module _ {S : Type 0} where
-  -- the ticket of a post, where it is a call
-  abbrev pub ticket_in : Post (Call S) → List ℕ
-  ticket_in (Body call) = call.ticket ∷ []
-  ticket_in Bye = []
-
-  -- the tickets of the calls among several letters
-  abbrev pub tickets_in : List (Letter (Call S)) → List ℕ
-  tickets_in [] = []
-  tickets_in (x ∷ xs) = ticket_in x.post ++ tickets_in xs
+use Rattle.rx_pump.specs.declared.reply.Reply.{Reply}
+use Rattle.rx_pump.specs.Marks.{Marked, NoLetters, Made, Refused, Ended, letters_of, history_of, replies, reply_to}
+use Rattle.rx_pump.specs.Sends.{posts}
+use Rattle.rx_pump.specs.Desks.{DeskView, Called, next_call, tickets_in, Rise}
 
 -- the replies to a port have the tickets of its calls, in their order: each call is replied to once
 abbrev pub EachCallIsReplied : Type 0 → Type 0
 EachCallIsReplied S =
     (rules : Rules) (p : ℕ) (B : Marked S) → map (λ reply. reply.ticket) (replies rules p B) ≡ tickets_in (share p (letters_of B))
+
+module _ {S : Type 0} where
+  -- the call stands among the marked letters of a port, and this is the reply to it: it has what the subject answered there, or
+  -- that it was refused for want of memory
+  abbrev pub IsReplyTo : Rules → ℕ → Marked S → Call S → Reply S → Type 0
+  IsReplyTo rules p NoLetters call reply = ⊥
+  IsReplyTo rules p (Made B port made) call reply =
+      ((port ≡ p) × (made ≡ call) × (reply ≡ reply_to made (answer rules (history_of B) made.event))) ⊎ IsReplyTo rules p B call reply
+  IsReplyTo rules p (Refused B port refused) call reply =
+      ((port ≡ p) × (refused ≡ call) × (reply ≡ reply_to refused (Err Memory))) ⊎ IsReplyTo rules p B call reply
+  IsReplyTo rules p (Ended B port) call reply = IsReplyTo rules p B call reply
+
+-- where the tickets of a port's calls rise, the reply that has the ticket of a call is the reply to just that call
+abbrev pub EachReplyIsToItsCall : Type 0 → Type 0
+EachReplyIsToItsCall S =
+    (rules : Rules) (p : ℕ) (B : Marked S) (call : Call S) (reply : Reply S) → Rise (tickets_in (share p (letters_of B)))
+    → Contains (share p (letters_of B)) (letter p (Body call)) → Contains (replies rules p B) reply → reply.ticket ≡ call.ticket
+    → IsReplyTo rules p B call reply
+
+module _ {S : Type 0} where
+  -- a desk met the pump of a subject, after a call: the pump received all that the desk's port had put, and more later, and the
+  -- desk received of the subject the first of what the pump replied to that port, and then its Bye
+  pub record Meets (rules : Rules) (B : Marked S) (subject : ℕ) (desk : DeskView S) (port : Outgoing (Call S)) : Type 0 where
+    pub at : slice_get desk.ports subject ≡ Some port
+    pub later : List (Letter (Call S))
+    pub calls : share port.number (letters_of B) ≡ port.own ++ later
+    pub rise : Rise (tickets_in (share port.number (letters_of B)))
+    pub more : List (Letter (Reply S))
+    pub came : share subject desk.inbox.received ++ more ≡ posts subject (replies rules port.number B) ++ letter subject Bye ∷ []
+
+-- what a call of a desk was answered is the reply to just that call, where the desk met the subject's pump
+abbrev pub EachCallHasItsAnswer : Type 0 → Type 0
+EachCallHasItsAnswer S =
+    (rules : Rules) (B : Marked S) (before after : DeskView S) (subject : ℕ) (event : Event) (sink : Option S) (reply : Reply S) (port : Outgoing (Call S))
+    → Called before after subject event sink (Ok reply) → Meets rules B subject after port → IsReplyTo rules port.number B (next_call before event sink) reply

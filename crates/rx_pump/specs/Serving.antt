@@ -1,13 +1,15 @@
 -- What a pump leaves that has served to its end, or to a fault (this project's own rule).
-use Rattle.std.specs.Prelude.{◌≡◌, ◌+◌, ℕ, true, List, [], ◌∷◌, ◌++◌, length, Some, slice_get}
+use Rattle.std.specs.Prelude.{◌≡◌, ◌+◌, ◌<◌, ◌⊎◌, ℕ, List, [], ◌∷◌, ◌++◌, length, Some, None, slice_get}
 use Rattle.rx_mailbox.specs.declared.letter.Post.TheVariants.{Bye}
 use Rattle.rx_mailbox.specs.Letters.{letter}
 use Rattle.rx_mailbox.specs.Boxes.{Outgoing, HasEachBye}
 use Rattle.rx_pump.specs.declared.pump_end.PumpEnd.{PumpEnd}
+use Rattle.rx_pump.specs.declared.pump_fault.PumpFault.{PumpFault}
+use Rattle.rx_pump.specs.declared.pump_fault.PumpFault.TheVariants.{InboxGone, DrainerGone, CallerGone}
 use Rattle.rx_pump.specs.declared.pump_stop.PumpStop.{PumpStop}
 use Rattle.rx_pump.specs.Marks.{Marked, bodies_in, refused_in, route, replies}
 use Rattle.rx_pump.specs.Sends.{posts}
-use Rattle.rx_pump.specs.Pumps.{counted, HavePut, AreSame, Accounts, PumpView}
+use Rattle.rx_pump.specs.Pumps.{counted, HavePut, HavePutUpTo, AreSame, Accounts, PumpView}
 
 module _ {X : Type 0} where
   -- the own list of the port at each place is its bodies and a Bye
@@ -15,17 +17,17 @@ module _ {X : Type 0} where
   HaveEnded bodies ports =
       (d : ℕ) (port : Outgoing X) → slice_get ports d ≡ Some port → port.own ≡ posts port.number (bodies d) ++ letter port.number Bye ∷ []
 
-  -- of the ports the first have ended, and the others have put their bodies or the first of them
-  pub record HaveStopped (bodies : ℕ → List X) (ports ended left : List (Outgoing X)) : Type 0 where
-    pub same : AreSame ports (ended ++ left)
-    pub whole : HaveEnded bodies ended
-    pub cut : HavePut true (λ d. bodies (length ended + d)) left
+  -- of ports that put all their bodies the first have ended
+  pub record HaveEndedSome (bodies : ℕ → List X) (ended left : List (Outgoing X)) : Type 0 where
+    pub first : HaveEnded bodies ended
+    pub others : HavePut (λ d. bodies (length ended + d)) left
 
 module _ {S : Type 0} where
   -- the pump handed in took all letters of its ports and ended its own: what it left is what the marked letters mean
   pub record Serves (pump : PumpView S) (left : PumpEnd S) (B : Marked S) : Type 0 where
     pub accounts : Accounts left.hub left.inbox pump.misses_before B
     pub each_bye : HasEachBye left.inbox
+    pub over : HasEachBye pump.inbox → left.inbox ≡ pump.inbox
     pub calls : left.calls ≡ counted (bodies_in B)
     pub refused : left.refused ≡ counted (refused_in B)
     pub routed : HaveEnded (λ d. route pump.hub.state.rules (length pump.drainers) d B) left.drainers.items
@@ -40,14 +42,37 @@ module _ {S : Type 0} where
   abbrev pub HasServed : PumpView S → PumpEnd S → Type 0
   HasServed pump left = (B : Marked S) × Serves pump left B
 
-  -- the pump handed in stopped at a fault: what it left is the first of what the marked letters mean
+  -- a turn stopped, and no port has ended
+  pub record StopsInTurn (pump : PumpView S) (stop : PumpStop S) (B : Marked S) : Type 0 where
+    pub no_drainers : stop.ended_drainers.items ≡ []
+    pub no_callers : stop.ended_replies.items ≡ []
+    pub put : HavePutUpTo (Some stop.fault) pump.hub.state.rules B stop.parts.drainers.items stop.parts.replies.items
+    pub waited : stop.fault ≡ InboxGone → pump.fault ≡ None → ¬ HasEachBye stop.parts.inbox
+
+  -- the fault names the first port that has not ended: of those to drainers, or once these have ended of those for replies
+  abbrev pub IsNextToEnd : PumpFault → PumpStop S → Type 0
+  IsNextToEnd InboxGone stop = ⊥
+  IsNextToEnd (DrainerGone place) stop = (place ≡ length stop.ended_drainers.items) × (0 < length stop.parts.drainers.items) × (stop.ended_replies.items ≡ [])
+  IsNextToEnd (CallerGone place) stop = (place ≡ length stop.ended_replies.items) × (0 < length stop.parts.replies.items) × (stop.parts.drainers.items ≡ [])
+
+  -- the Bye of each port came and all was put; then the ports were to end in their order, and one was gone
+  pub record StopsAtEnd (pump : PumpView S) (stop : PumpStop S) (B : Marked S) : Type 0 where
+    pub each_bye : HasEachBye stop.parts.inbox
+    pub over : HasEachBye pump.inbox → stop.parts.inbox ≡ pump.inbox
+    pub routed : HaveEndedSome (λ d. route pump.hub.state.rules (length pump.drainers) d B) stop.ended_drainers.items stop.parts.drainers.items
+    pub replied : HaveEndedSome (λ p. replies pump.hub.state.rules p B) stop.ended_replies.items stop.parts.replies.items
+    pub next : IsNextToEnd stop.fault stop
+
+  -- the pump handed in stopped at its fault, in a turn or at its end: what it left is what the marked letters mean, or what
+  -- comes before the fault
   pub record Stops (pump : PumpView S) (stop : PumpStop S) (B : Marked S) : Type 0 where
     pub accounts : Accounts stop.parts.hub stop.parts.inbox pump.misses_before B
-    pub routed : HaveStopped (λ d. route pump.hub.state.rules (length pump.drainers) d B) pump.drainers stop.ended_drainers.items stop.parts.drainers.items
-    pub replied : HaveStopped (λ p. replies pump.hub.state.rules p B) pump.replies stop.ended_replies.items stop.parts.replies.items
+    pub came : StopsInTurn pump stop B ⊎ StopsAtEnd pump stop B
     pub rules : stop.parts.hub.state.rules ≡ pump.hub.state.rules
     pub box : stop.parts.inbox.box ≡ pump.inbox.box
     pub ports : stop.parts.inbox.ports ≡ pump.inbox.ports
+    pub drainers : AreSame pump.drainers (stop.ended_drainers.items ++ stop.parts.drainers.items)
+    pub callers : AreSame pump.replies (stop.ended_replies.items ++ stop.parts.replies.items)
 
   -- there are such marks
   abbrev pub HasStopped : PumpView S → PumpStop S → Type 0

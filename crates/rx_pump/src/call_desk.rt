@@ -1,4 +1,4 @@
-ghost use Rattle.std.specs.Prelude.{◌≡◌, ◌+◌, ◌<◌, [], ◌++◌, true, map, length, Err, MatchResult};
+ghost use Rattle.std.specs.Prelude.{◌≡◌, ◌+◌, ◌<◌, [], ◌++◌, true, map, length, Err, IfOk, MatchResult};
 ghost use Rattle.std.specs.List.{All};
 ghost use Rattle.rx_pump.specs.Pumps.{IsFresh};
 ghost use Rattle.rx_pump.specs.Sends.{with_bye, EndsSome};
@@ -44,19 +44,19 @@ impl<S: Drop> Drop for CallDesk<S> {
 
 impl<S: Drop> Model for CallDesk<S> {
     ghost use Rattle.std.specs.Prelude.{◌+◌, ◌≤◌, ◌≡◌, [], false, vec_len, vec_capacity};
-    ghost use Rattle.rx_pump.specs.Desks.{DeskView, AreUpTo};
+    ghost use Rattle.rx_pump.specs.Desks.{DeskView, AreUpTo, TicketsRise};
 
     ghost Value = { DeskView S };
 
     ghost view = { λ d. record { ports = d.ports.items; inbox = d.inbox; ended = d.ended.items; tickets = d.tickets; is_over = d.is_over } };
 
-    ghost invariant = { λ d. AreUpTo d.tickets d.ports.items
+    ghost invariant = { λ d. AreUpTo d.tickets d.ports.items × TicketsRise d.ports.items × TicketsRise d.ended.items
         × (d.is_over ≡ false → d.ended.items ≡ [])
         × (vec_len d.ended + vec_len d.ports ≤ vec_capacity d.ended) };
 }
 
 impl<S: Drop> CallDesk<S> {
-    ghost use Rattle.rx_pump.specs.Desks.{Called, IsOver, KeepsDesk, fresh_desk};
+    ghost use Rattle.rx_pump.specs.Desks.{Called, IsOver, KeepsDesk, TicketsRise, fresh_desk};
 
     /// A desk of new ports, one to each subject, and the inbox of their replies. `Err` gives them back where there was no
     /// memory for it.
@@ -81,6 +81,13 @@ impl<S: Drop> CallDesk<S> {
             tickets: 0,
             is_over: false,
         })
+    }
+
+    /// How many subjects it has a port to, ended or not. A call is to one of them, by a number from 0.
+    pub fn subjects(&self) -> usize
+        ensures { result ≡ length self.now.ports + length self.now.ended }
+    {
+        self.ports.len() + self.ended.len()
     }
 
     /// Sends a call to a subject, and waits for its reply. Refused in the order `SubjectGone`, `Strange`. After `Strange`,
@@ -117,9 +124,10 @@ impl<S: Drop> CallDesk<S> {
     }
 
     /// Ends the ports in their order. `Err` gives the desk back where a subject is gone: from then on each call is
-    /// `SubjectGone`, and a second `finish` goes on where this one stopped.
+    /// `SubjectGone`, and a second `finish` goes on where this one stopped. The tickets of what a port put rise.
     pub fn finish<R: Wait>(self, rt: &R) -> Result<EndedDesk<S>, CallDesk<S>>
-        ensures { MatchResult result
+        ensures tickets { IfOk result (λ ended. TicketsRise ended.ports.items) }
+        ensures ended { MatchResult result
             (λ ended. (ended.ports.items ≡ self.ended ++ map with_bye self.ports) × (ended.inbox ≡ self.inbox))
             (λ back. EndsSome self.ports back.ports self.ended back.ended
             × (back.inbox ≡ self.inbox) × (back.tickets ≡ self.tickets) × (back.is_over ≡ true)) }

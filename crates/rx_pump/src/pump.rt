@@ -117,6 +117,7 @@ impl<S: Drop> Pump<S> {
         ensures pumped { IsPumped self.new }
         ensures fault { MatchResult result (λ _. self.new.fault ≡ None) (λ fault. self.new.fault ≡ Some fault) }
         ensures took { OnOk result (TakesOne self.old.inbox self.new.inbox) }
+        ensures gone { result ≡ Err PumpFault.InboxGone → self.new.inbox ≡ self.old.inbox }
         ensures kept { KeepsPlaces self.old self.new }
         ensures over { IfSome self.old.fault (λ fault. (result ≡ Err fault) × (self.new ≡ self.old)) }
     {
@@ -176,6 +177,8 @@ impl<S: Drop> Pump<S> {
     fn take_all<R: Wait>(&mut self, rt: &R) -> Result<(), PumpFault>
         ensures fault { MatchResult result (λ _. self.new.fault ≡ None) (λ fault. self.new.fault ≡ Some fault) }
         ensures each_bye { OnOk result (HasEachBye self.new.inbox) }
+        ensures none { HasEachBye self.old.inbox → self.new.inbox ≡ self.old.inbox }
+        ensures waited { result ≡ Err PumpFault.InboxGone → self.old.fault ≡ None → ¬ HasEachBye self.new.inbox }
         ensures kept { KeepsPlaces self.old self.new }
     {
         if let Some(fault) = self.fault {
@@ -235,7 +238,10 @@ impl<S: Drop> Pump<S> {
 
     // What is left at a fault of a turn.
     fn stop(self, fault: PumpFault) -> PumpStop<S>
-        ensures { HasStopped self result }
+        requires { self.fault ≡ Some fault }
+        ensures stopped { HasStopped self result }
+        ensures fault { result.fault ≡ fault }
+        ensures inbox { result.parts.inbox ≡ self.inbox }
     {
         let Pump {
             parts,

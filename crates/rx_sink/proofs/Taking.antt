@@ -11,7 +11,7 @@ use Rattle.rx_sink.specs.declared.flow.Flow.{Flow}
 use Rattle.rx_sink.specs.Acts.{Acts, Step, Takes, Flushes, notes_by, Makes, Took, raised}
 use Rattle.rx_sink.specs.Attachments.{Attachment, Why, TookLast, Detached, Closed, FailedAtStart, FailedAt, FailedAtFlush}
 use Rattle.rx_sink.specs.Stands.{Last}
-use Rattle.rx_sink.specs.Taken.{has_failed, lines_of, KeepsNotes, WritesLines, CountsNotes}
+use Rattle.rx_sink.specs.Taken.{has_failed, lines_of, KeepsNotes, WritesLines, CountsNotes, TellsFaults}
 
 module _ {S Rest : Type 0} (acts : Acts S Rest) where
   -- NOTES THAT ARE KEPT
@@ -188,3 +188,13 @@ module _ {S Rest : Type 0} (acts : Acts S Rest) where
       let c = k.flush_faulted was.0 last was.2 in
       let f = k.finished last rest finished in
       (f.0 ∙ c.0 ∙ before.0, told_some (faults last) (failed rest) FailedAtFlush refl (c.1 ∙ ap raised before.1) f.1)
+
+  -- FAULTS THAT ARE COUNTED
+
+  pub tells_faults : TellsFaults acts
+  tells_faults a TookLast last was = was.faultless
+  tells_faults a Detached last was = was.faultless
+  tells_faults a Closed last was = was.faultless
+  tells_faults a FailedAtStart last was = was.2
+  tells_faults a (FailedAt note) last was = was.3 ∙ ap raised was.1.faultless
+  tells_faults a FailedAtFlush last was = was.3 ∙ ap raised was.1.faultless

@@ -16,7 +16,7 @@ use Rattle.rx_sink.specs.declared.put_away.PutAway.{PutAway}
 use Rattle.rx_sink.specs.declared.sink.SinkFault.{SinkFault}
 use Rattle.rx_sink.specs.Acts.{Acts, Step, Takes, Flushes, notes_by, last_by, Makes, Took, raised}
 use Rattle.rx_sink.specs.Attachments.{Attachment, Why, TookLast, Detached, Closed, FailedAtStart, FailedAt, FailedAtFlush, Mark, Fine, Fault, NoMemory, Sent, Change, is_clear, is_held_back, is_last, may_wait, kept_for, given, settled, answered, served, served_yet, flushed, written, attached, detached, let_go, unchanged, with_note, with_flush, paid, request, requests, dispose, parting, without, replaced, closed}
-use Rattle.rx_sink.specs.Stands.{IsKept, Last, IsPutAway, Stand, Did, Pushes, Parts, MayPart, EndsAct, Settles, TakesNote, Flushed, addressed, counted, events_of}
+use Rattle.rx_sink.specs.Stands.{IsKept, Last, IsPutAway, Stand, Did, Pushes, Parts, MayPart, EndsAct, Settles, TakesNote, FaultedAt, FaultedAtFlush, Flushed, addressed, counted, events_of}
 use Rattle.rx_sink.proofs.Apartness.{apart_but, apart_push, apart_with}
 use Rattle.rx_sink.proofs.Finding.{AllZip-more, Found, remove-set, set-same, slice_get-set}
 
@@ -37,26 +37,30 @@ module _ {S Rest : Type 0} (acts : Acts S Rest) where
 
   -- a sink took one note more
   pub Took-more : (sink : S) (who : ℕ) (notes : List Note) (last : Option Step) (before now : S) (note : Note) (flow : Flow)
-      → Took acts sink who notes last before → acts.took before note flow now → Took acts sink who (notes ++ note ∷ []) (Some (Takes note flow)) now
-  Took-more sink who notes last before now note flow took more = record {
+      → Took acts sink who notes last before → acts.took before note flow now → acts.faults now ≡ acts.faults before
+      → Took acts sink who (notes ++ note ∷ []) (Some (Takes note flow)) now
+  Took-more sink who notes last before now note flow took more same = record {
     begun = took.begun;
     start = took.start;
     steps = took.steps ++ Takes note flow ∷ [];
     notes_are = notes_more took.steps (Takes note flow) ∙ ap (λ (l : List Note). l ++ note ∷ []) took.notes_are;
     last_is = last_more None took.steps (Takes note flow);
     made = FoldsTo-push (Makes acts) took.begun took.steps before (Takes note flow) now took.made more;
+    faultless = same ∙ took.faultless;
   }
 
   -- it was flushed
   pub Took-flush : (sink : S) (who : ℕ) (notes : List Note) (last : Option Step) (before now : S) (flow : Flow)
-      → Took acts sink who notes last before → acts.flushed before flow now → Took acts sink who notes (Some (Flushes flow)) now
-  Took-flush sink who notes last before now flow took more = record {
+      → Took acts sink who notes last before → acts.flushed before flow now → acts.faults now ≡ acts.faults before
+      → Took acts sink who notes (Some (Flushes flow)) now
+  Took-flush sink who notes last before now flow took more same = record {
     begun = took.begun;
     start = took.start;
     steps = took.steps ++ Flushes flow ∷ [];
     notes_are = notes_more took.steps (Flushes flow) ∙ append-nil (notes_by took.steps) ∙ took.notes_are;
     last_is = last_more None took.steps (Flushes flow);
     made = FoldsTo-push (Makes acts) took.begun took.steps before (Flushes flow) now took.made more;
+    faultless = same ∙ took.faultless;
   }
 
   -- one more was put away
@@ -243,27 +247,27 @@ module _ {S Rest : Type 0} (acts : Acts S Rest) where
     due_more : (flow : Flow) (m n : ℕ) (now : Kept S) (asks : Asks) → m ≡ n → Settles flow m now asks → Settles flow n now asks
     due_more flow m n now asks is settles = subst (λ (k : ℕ). Settles flow k now asks) is settles
 
-    noted : (l : Bool) (note : Note) (flow : Flow) (now : Kept S) (asks : Asks) → f.one.over ≡ false → acts.took f.one.sink note flow now.sink
+    noted : (l : Bool) (note : Note) (flow : Flow) (now : Kept S) (asks : Asks) → f.one.over ≡ false → acts.took f.one.sink note flow now.sink → acts.faults now.sink ≡ acts.faults f.one.sink
         → now.subject ≡ f.one.subject → now.who ≡ f.one.who → now.over ≡ l → now.may_wait ≡ true → Settles flow (if l then f.one.due else f.one.due + 1) now asks
         → Answers flow (with_note l note flow f.a) now asks
-    noted true note flow now asks open_yet took same_subject same_who over waits settles = record {
+    noted true note flow now asks open_yet took faultless same_subject same_who over waits settles = record {
       of_subject = f.key.0;
       of_who = f.key.1;
       same_subject = same_subject ∙ f.tie.subject;
       same_who = same_who ∙ f.tie.who;
       same_over = over;
       same_may_wait = waits;
-      took = Took-more f.a.sink f.a.who f.a.taken f.a.last f.one.sink now.sink note flow f.tie.took took;
+      took = Took-more f.a.sink f.a.who f.a.taken f.a.last f.one.sink now.sink note flow f.tie.took took faultless;
       settles = due_more flow f.one.due f.a.due now asks f.tie.due settles;
     }
-    noted false note flow now asks open_yet took same_subject same_who over waits settles = record {
+    noted false note flow now asks open_yet took faultless same_subject same_who over waits settles = record {
       of_subject = f.key.0;
       of_who = f.key.1;
       same_subject = same_subject ∙ f.tie.subject;
       same_who = same_who ∙ f.tie.who;
       same_over = over ∙ sym open_yet ∙ f.tie.over;
       same_may_wait = waits;
-      took = Took-more f.a.sink f.a.who f.a.taken f.a.last f.one.sink now.sink note flow f.tie.took took;
+      took = Took-more f.a.sink f.a.who f.a.taken f.a.last f.one.sink now.sink note flow f.tie.took took faultless;
       settles = due_more flow (f.one.due + 1) (f.a.due + 1) now asks (ap (λ (n : ℕ). n + 1) f.tie.due) settles;
     }
 
@@ -273,12 +277,12 @@ module _ {S Rest : Type 0} (acts : Acts S Rest) where
 
     -- the sink took it, or that was a fault
     pub given_one : (r : Result Asks SinkFault) (n : ℕ) (note : Note) (now : Kept S) (asks : Asks) (kept_after : List (Kept S)) (away_after : List (PutAway Rest)) → f.one.over ≡ false
-        → MatchResult r (λ said. TakesNote acts note f.one now said) (λ _. acts.take_faulted f.one.sink note now.sink × (now.due ≡ f.one.due))
+        → MatchResult r (λ said. TakesNote acts note f.one now said) (λ _. FaultedAt acts note f.one now)
         → now.subject ≡ f.one.subject → now.who ≡ f.one.who → EndsAct acts place r (set kept place now) kept_after away away_after asks
         → (mark : Mark) × Did acts (given mark subject who note (kept_for subject who held) held) gone kept_after away_after (map (λ event. (subject, event)) (events_of asks))
         × ((if is_ok r then raised n else n) ≡ counted n (given mark subject who note (kept_for subject who held) held).took)
     given_one (Ok said) n note now asks kept_after away_after open_yet did same_subject same_who ends =
-        let is = noted (is_last note) note did.flow now said open_yet did.took same_subject same_who did.over did.may_wait did.settles in
+        let is = noted (is_last note) note did.flow now said open_yet did.took did.faultless same_subject same_who did.over did.may_wait did.settles in
         let same = to_given (Fine did.flow) note open_yet in
         let b = with_note (is_last note) note did.flow f.a in (
           Fine did.flow,
@@ -290,7 +294,7 @@ module _ {S Rest : Type 0} (acts : Acts S Rest) where
         let same = to_given Fault note open_yet in (
           Fault,
           subst (λ (c : Change S). Did acts c gone kept_after away_after (map (λ event. (subject, event)) (events_of asks))) same
-              (parted kept_after away_after now (FailedAt note) asks same_subject same_who did.1 (f.one.sink, f.tie.took, did.0) ends),
+              (parted kept_after away_after now (FailedAt note) asks same_subject same_who did.due (f.one.sink, f.tie.took, did.faulted, did.rose) ends),
           subst (λ (c : Change S). n ≡ counted n c.took) same refl,
         )
 
@@ -312,7 +316,7 @@ module _ {S Rest : Type 0} (acts : Acts S Rest) where
     to_flushed mark = sym (ap (λ o. flushed mark subject who o held) f.found)
 
     pub flushed_one : (r : Result Asks SinkFault) (now : Kept S) (asks : Asks) (kept_after : List (Kept S)) (away_after : List (PutAway Rest))
-        → MatchResult r (λ said. Flushed acts f.one now said) (λ _. acts.flush_faulted f.one.sink now.sink × (now.due ≡ f.one.due))
+        → MatchResult r (λ said. Flushed acts f.one now said) (λ _. FaultedAtFlush acts f.one now)
         → now.subject ≡ f.one.subject → now.who ≡ f.one.who → EndsAct acts place r (set kept place now) kept_after away away_after asks
         → (mark : Mark) × Did acts (flushed mark subject who (kept_for subject who held) held) gone kept_after away_after (map (λ event. (subject, event)) (events_of asks))
     flushed_one (Ok said) now asks kept_after away_after did same_subject same_who ends = (
@@ -325,14 +329,14 @@ module _ {S Rest : Type 0} (acts : Acts S Rest) where
             same_who = same_who ∙ f.tie.who;
             same_over = did.over ∙ f.tie.over;
             same_may_wait = did.may_wait;
-            took = Took-flush f.a.sink f.a.who f.a.taken f.a.last f.one.sink now.sink did.flow f.tie.took did.did;
+            took = Took-flush f.a.sink f.a.who f.a.taken f.a.last f.one.sink now.sink did.flow f.tie.took did.did did.faultless;
             settles = due_more did.flow f.one.due f.a.due now said f.tie.due did.settles;
           }) ends),
     )
     flushed_one (Err fault) now asks kept_after away_after did same_subject same_who ends = (
       Fault,
       subst (λ (c : Change S). Did acts c gone kept_after away_after (map (λ event. (subject, event)) (events_of asks))) (to_flushed Fault)
-          (parted kept_after away_after now FailedAtFlush asks same_subject same_who did.1 (f.one.sink, f.tie.took, did.0) ends),
+          (parted kept_after away_after now FailedAtFlush asks same_subject same_who did.due (f.one.sink, f.tie.took, did.faulted, did.rose) ends),
     )
 
     -- AN OBSERVER LEFT
@@ -396,16 +400,16 @@ module _ {S Rest : Type 0} (acts : Acts S Rest) where
       subst P (sym (ap (λ o. attached mark (brought place subject who sink) o held) f.found)) (unchanged_stands held gone kept away stand)
 
   pub attached_fine : (place subject who : ℕ) (sink now : S) (held : List (Attachment S)) (gone : List (Attachment S × Why)) (kept kept_after : List (Kept S)) (away away_after : List (PutAway Rest))
-      → Stand acts held gone kept away → kept_for subject who held ≡ None → acts.started sink who now
+      → Stand acts held gone kept away → kept_for subject who held ≡ None → acts.started sink who now → acts.faults now ≡ acts.faults sink
       → kept_after ≡ kept ++ record { subject = subject; who = who; sink = now; due = 0; over = false; may_wait = true } ∷ [] → away_after ≡ away
       → Did acts (attached (Fine Clear) (brought place subject who sink) (kept_for subject who held) held) gone kept_after away_after []
-  attached_fine place subject who sink now held gone kept kept_after away away_after stand none started kept_is away_is =
+  attached_fine place subject who sink now held gone kept kept_after away away_after stand none started same kept_is away_is =
       let P : Change S → Type 0 = λ change. Did acts change gone kept_after away_after [] in
       let a = brought place subject who sink in
       subst P (sym (ap (λ o. attached (Fine Clear) a o held) none)) (record {
         stand = record {
           kept_are = subst (AllZip (IsKept acts) (held ++ a ∷ [])) (sym kept_is)
-              (AllZip-more (IsKept acts) held kept a _ stand.kept_are (record { subject = refl; who = refl; due = refl; over = refl; waits = refl; took = record { begun = now; start = started; steps = []; notes_are = refl; last_is = refl; made = refl } }));
+              (AllZip-more (IsKept acts) held kept a _ stand.kept_are (record { subject = refl; who = refl; due = refl; over = refl; waits = refl; took = record { begun = now; start = started; steps = []; notes_are = refl; last_is = refl; made = refl; faultless = same } }));
           away_are = subst (λ (l : List (PutAway Rest)). AllZip (IsPutAway acts) (gone ++ []) l) (sym away_is)
               (subst (λ (l : List (Attachment S × Why)). AllZip (IsPutAway acts) l away) (sym (append-nil gone)) stand.away_are);
           apart = apart_push held a none stand.apart;
@@ -414,17 +418,17 @@ module _ {S Rest : Type 0} (acts : Acts S Rest) where
       })
 
   pub attached_fault : (place subject who : ℕ) (sink now : S) (held : List (Attachment S)) (gone : List (Attachment S × Why)) (kept kept_after : List (Kept S)) (away away_after : List (PutAway Rest)) (rest : Rest)
-      → Stand acts held gone kept away → kept_for subject who held ≡ None → acts.start_faulted sink who now → acts.finished now rest
+      → Stand acts held gone kept away → kept_for subject who held ≡ None → acts.start_faulted sink who now → acts.faults now ≡ raised (acts.faults sink) → acts.finished now rest
       → kept_after ≡ kept → away_after ≡ away ++ record { subject = subject; who = who; rest = rest } ∷ []
       → Did acts (attached Fault (brought place subject who sink) (kept_for subject who held) held) gone kept_after away_after ((subject, Dispose who) ∷ [])
-  attached_fault place subject who sink now held gone kept kept_after away away_after rest stand none faulted finished kept_is away_is =
+  attached_fault place subject who sink now held gone kept kept_after away away_after rest stand none faulted rose finished kept_is away_is =
       let P : Change S → Type 0 = λ change. Did acts change gone kept_after away_after ((subject, Dispose who) ∷ []) in
       let a = brought place subject who sink in
       subst P (sym (ap (λ o. attached Fault a o held) none)) (record {
         stand = record {
           kept_are = subst (AllZip (IsKept acts) held) (sym kept_is) stand.kept_are;
           away_are = subst (AllZip (IsPutAway acts) (gone ++ (a, FailedAtStart) ∷ [])) (sym away_is)
-              (AllZip-more (IsPutAway acts) gone away (a, FailedAtStart) _ stand.away_are (record { subject = refl; who = refl; last = now; was = (refl, faulted); rest = finished }));
+              (AllZip-more (IsPutAway acts) gone away (a, FailedAtStart) _ stand.away_are (record { subject = refl; who = refl; last = now; was = (refl, faulted, rose); rest = finished }));
           apart = stand.apart;
         };
         sends = refl;

@@ -44,7 +44,7 @@ module _ {S Rest : Type 0} (acts : Acts S Rest) where
   Makes before (Flushes flow) after = acts.flushed before flow after
 
   -- the sink was started for this observer, then took these notes, one after another, and was flushed between them, and this
-  -- was its last step
+  -- was its last step; it had no fault at that
   pub record Took (sink : S) (who : ℕ) (notes : List Note) (last : Option Step) (now : S) : Type 0 where
     pub begun : S
     pub start : acts.started sink who begun
@@ -52,3 +52,4 @@ module _ {S Rest : Type 0} (acts : Acts S Rest) where
     pub notes_are : notes_by steps ≡ notes
     pub last_is : last_by None steps ≡ last
     pub made : FoldsTo Makes begun steps now
+    pub faultless : acts.faults now ≡ acts.faults sink

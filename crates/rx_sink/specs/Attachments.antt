@@ -158,6 +158,13 @@ module _ {S : Type 0} where
   attached mark a (Some other) kept = unchanged kept
   attached mark a None kept = joined mark a kept
 
+  -- the sink that is left unserved: one that comes while one is kept for its observer, or for which there was no memory
+  abbrev pub unserved : Mark → S → Option (Attachment S) → Option S
+  unserved mark sink (Some other) = Some sink
+  unserved (Fine flow) sink None = None
+  unserved Fault sink None = None
+  unserved NoMemory sink None = Some sink
+
   -- it is put away, its subject asked for what is due, and its observer disposed of, with as many notes as its sink took at that
   abbrev pub ended : Attachment S → Why → ℕ → List (Attachment S) → Change S
   ended a why took kept = record { kept = kept; gone = (paid a, why) ∷ []; sends = parting a; missed = 0; took = took }

@@ -1,5 +1,5 @@
 -- What the sinks that are kept and those that were put away stand for: lists of attachments (this project's own rule).
-use Rattle.std.specs.Prelude.{◌≡◌, ◌+◌, ◌&&◌, if◌then◌else◌, ℕ, zero, suc, Bool, true, false, not, List, [], ◌∷◌, ◌++◌, map, replicate, Some, None, slice_get, Result, Ok, Err}
+use Rattle.std.specs.Prelude.{◌≡◌, ◌+◌, ◌&&◌, if◌then◌else◌, ℕ, zero, suc, Bool, true, false, not, List, [], ◌∷◌, ◌++◌, map, replicate, Option, Some, None, slice_get, Result, Ok, Err}
 use Rattle.std.specs.List.{AllZip, remove}
 use Rattle.rx_note.specs.declared.event.Event.{Event}
 use Rattle.rx_note.specs.declared.event.Event.TheVariants.{Request, Dispose}
@@ -10,7 +10,7 @@ use Rattle.rx_sink.specs.declared.kept.Kept.{Kept}
 use Rattle.rx_sink.specs.declared.put_away.PutAway.{PutAway}
 use Rattle.rx_sink.specs.declared.sink.SinkFault.{SinkFault}
 use Rattle.rx_sink.specs.Acts.{Acts, Took, raised}
-use Rattle.rx_sink.specs.Attachments.{Attachment, Why, TookLast, Detached, Closed, FailedAtStart, FailedAt, FailedAtFlush, Mark, Sent, Change, Apart, is_clear, is_for, is_held_back, is_last, may_wait, kept_for, attached, given, flushed, detached}
+use Rattle.rx_sink.specs.Attachments.{Attachment, Why, TookLast, Detached, Closed, FailedAtStart, FailedAt, FailedAtFlush, Mark, Sent, Change, Apart, is_clear, is_for, is_held_back, is_last, may_wait, kept_for, unserved, attached, given, flushed, detached}
 
 -- the events that were sent, each with its subject
 abbrev pub addressed : List Sent → List (ℕ × Event)
@@ -50,9 +50,11 @@ module _ {S Rest : Type 0} (acts : Acts S Rest) where
   Last a TookLast now = Took acts a.sink a.who a.taken a.last now
   Last a Detached now = Took acts a.sink a.who a.taken a.last now
   Last a Closed now = Took acts a.sink a.who a.taken a.last now
-  Last a FailedAtStart now = (a.taken ≡ []) × acts.start_faulted a.sink a.who now
-  Last a (FailedAt note) now = (before : S) × Took acts a.sink a.who a.taken a.last before × acts.take_faulted before note now
-  Last a FailedAtFlush now = (before : S) × Took acts a.sink a.who a.taken a.last before × acts.flush_faulted before now
+  Last a FailedAtStart now = (a.taken ≡ []) × acts.start_faulted a.sink a.who now × (acts.faults now ≡ raised (acts.faults a.sink))
+  Last a (FailedAt note) now =
+      (before : S) × Took acts a.sink a.who a.taken a.last before × acts.take_faulted before note now × (acts.faults now ≡ raised (acts.faults before))
+  Last a FailedAtFlush now =
+      (before : S) × Took acts a.sink a.who a.taken a.last before × acts.flush_faulted before now × (acts.faults now ≡ raised (acts.faults before))
 
   -- what was put away is what the sink of the attachment left
   pub record IsPutAway (end : Attachment S × Why) (away : PutAway Rest) : Type 0 where
@@ -75,12 +77,14 @@ module _ {S Rest : Type 0} (acts : Acts S Rest) where
 
   -- WHAT THE CALLS DO
 
-  -- a sink came: for all attachments for which the lists stood there is a mark, such that they were changed by its rule
-  abbrev pub Attaches : ℕ → ℕ → S → List (Kept S) → List (Kept S) → List (PutAway Rest) → List (PutAway Rest) → ℕ → ℕ → List Event → Type 0
-  Attaches subject who sink kept kept_after away away_after misses misses_after events =
+  -- a sink came: for all attachments for which the lists stood there is a mark, such that they were changed by its rule, and a
+  -- sink that it leaves unserved came back
+  abbrev pub Attaches : ℕ → ℕ → S → List (Kept S) → List (Kept S) → List (PutAway Rest) → List (PutAway Rest) → ℕ → ℕ → List Event → Option S → Type 0
+  Attaches subject who sink kept kept_after away away_after misses misses_after events back =
       (place : ℕ) (held : List (Attachment S)) (gone : List (Attachment S × Why)) → Stand held gone kept away
       → (mark : Mark) × (let change = attached mark (record { place = place; subject = subject; who = who; sink = sink; taken = []; due = 0; over = false; last = None }) (kept_for subject who held) held in
       Did change gone kept_after away_after (map (λ event. (subject, event)) events) × (misses_after ≡ counted misses change.missed))
+      × (back ≡ unserved mark sink (kept_for subject who held))
 
   -- a note came
   abbrev pub Gives : ℕ → ℕ → Note → List (Kept S) → List (Kept S) → List (PutAway Rest) → List (PutAway Rest) → ℕ → ℕ → List Event → Type 0
@@ -107,14 +111,28 @@ module _ {S Rest : Type 0} (acts : Acts S Rest) where
   pub record TakesNote (note : Note) (before after : Kept S) (asks : Asks) : Type 0 where
     pub flow : Flow
     pub took : acts.took before.sink note flow after.sink
+    pub faultless : acts.faults after.sink ≡ acts.faults before.sink
     pub over : after.over ≡ is_last note
     pub may_wait : after.may_wait ≡ true
     pub settles : Settles flow (if is_last note then before.due else before.due + 1) after asks
+
+  -- a kept sink had a fault at a note
+  pub record FaultedAt (note : Note) (before after : Kept S) : Type 0 where
+    pub faulted : acts.take_faulted before.sink note after.sink
+    pub rose : acts.faults after.sink ≡ raised (acts.faults before.sink)
+    pub due : after.due ≡ before.due
+
+  -- a kept sink had a fault at a flush
+  pub record FaultedAtFlush (before after : Kept S) : Type 0 where
+    pub faulted : acts.flush_faulted before.sink after.sink
+    pub rose : acts.faults after.sink ≡ raised (acts.faults before.sink)
+    pub due : after.due ≡ before.due
 
   -- a kept sink was flushed
   pub record Flushed (before after : Kept S) (asks : Asks) : Type 0 where
     pub flow : Flow
     pub did : acts.flushed before.sink flow after.sink
+    pub faultless : acts.faults after.sink ≡ acts.faults before.sink
     pub over : after.over ≡ before.over
     pub may_wait : after.may_wait ≡ not (is_clear flow)
     pub settles : Settles flow before.due after asks

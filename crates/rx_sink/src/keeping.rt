@@ -9,9 +9,10 @@ use crate::{Asks, Kept, Places, PutAway, Sink, SinkFault};
 use rx_heap::Heap;
 use rx_note::Note;
 
-/// The sink of an observer comes. Where one is kept for that observer it is finished unserved. Else a place is made for it,
-/// and it is started. It answers what its subject is to be asked: the observer is disposed of where there was no memory for
-/// the place, and where the start was a fault.
+/// The sink of an observer comes. Where one is kept for that observer it is left unserved. Else a place is made for it, and it is
+/// started; where there is no memory for the place it is left unserved too. It answers what its subject is to be asked, the
+/// observer being disposed of where there was no memory and where the start was a fault; and the sink that is left unserved, as
+/// it came: that is still to be finished.
 pub fn attach<S: Sink>(
     kept: &mut Vec<Kept<S>, Heap>,
     away: &mut Vec<PutAway<S::Rest>, Heap>,
@@ -19,18 +20,16 @@ pub fn attach<S: Sink>(
     subject: u32,
     who: u32,
     sink: S,
-) -> Asks
+) -> (Asks, Option<S>)
     requires room { vec_len away.old + vec_len kept.old ≤ vec_capacity away.old }
     ensures room { vec_len away.new + vec_len kept.new ≤ vec_capacity away.new }
-    ensures attaches { Attaches S.acts subject who sink kept.old.items kept.new.items away.old.items away.new.items places.old.misses places.new.misses (events_of result) }
+    ensures attaches { Attaches S.acts subject who sink kept.old.items kept.new.items away.old.items away.new.items places.old.misses places.new.misses (events_of result.0) result.1 }
 {
     if let Some(_place) = find(kept.as_slice(), who as usize, subject, who) {
-        let _rest = sink.finish();
-        return Asks::nothing(who);
+        return (Asks::nothing(who), Some(sink));
     }
     let Ok(()) = places.grow(kept, away) else {
-        let _rest = sink.finish();
-        return Asks::leave(who);
+        return (Asks::leave(who), Some(sink));
     };
     let mut one = sink;
     match one.start(who) {
@@ -43,12 +42,12 @@ pub fn attach<S: Sink>(
                 over: false,
                 may_wait: true,
             });
-            Asks::nothing(who)
+            (Asks::nothing(who), None)
         }
         Err(_) => {
             let rest = one.finish();
             away.push_reserved(PutAway { subject, who, rest });
-            Asks::leave(who)
+            (Asks::leave(who), None)
         }
     }
 }

@@ -1,6 +1,6 @@
 ghost use Rattle.std.specs.Prelude.{◌≡◌, ◌+◌, ◌≤◌, ◌^◌, if◌then◌else◌, true, false, MatchResult};
 ghost use Rattle.rx_sink.specs.Attachments.{is_clear, is_held_back, is_last};
-ghost use Rattle.rx_sink.specs.Stands.{Settles, TakesNote, Flushed};
+ghost use Rattle.rx_sink.specs.Stands.{FaultedAt, FaultedAtFlush, Flushed, Settles, TakesNote};
 
 use crate::{Asks, Flow, Sink, SinkFault};
 use rx_note::Note;
@@ -27,7 +27,7 @@ impl<S: Sink> Kept<S> {
     pub(crate) fn take(&mut self, note: Note) -> Result<Asks, SinkFault>
         ensures took { MatchResult result
             (λ asks. TakesNote S.acts note self.old self.new asks)
-            (λ _. S.acts.take_faulted self.old.sink note self.new.sink × (self.new.due ≡ self.old.due)) }
+            (λ _. FaultedAt S.acts note self.old self.new) }
         ensures subject { self.new.subject ≡ self.old.subject }
         ensures who { self.new.who ≡ self.old.who }
     {
@@ -43,7 +43,7 @@ impl<S: Sink> Kept<S> {
     pub(crate) fn flush(&mut self) -> Result<Asks, SinkFault>
         ensures flushed { MatchResult result
             (λ asks. Flushed S.acts self.old self.new asks)
-            (λ _. S.acts.flush_faulted self.old.sink self.new.sink × (self.new.due ≡ self.old.due)) }
+            (λ _. FaultedAtFlush S.acts self.old self.new) }
         ensures subject { self.new.subject ≡ self.old.subject }
         ensures who { self.new.who ≡ self.old.who }
     {

@@ -1,6 +1,6 @@
 //! What the sinks of this crate have taken once they are put away, and when something waits in them. The functions do nothing:
 //! their clauses are the laws.
-ghost use Rattle.rx_sink.specs.Taken.{CountsNotes, KeepsNotes, WritesLines};
+ghost use Rattle.rx_sink.specs.Taken.{CountsNotes, KeepsNotes, TellsFaults, WritesLines};
 ghost use Rattle.rx_sink.specs.Waiting.{NeverWaits, WaitsOnlyWhere};
 
 use crate::{LineSink, MemorySink, Sink};
@@ -20,6 +20,12 @@ pub fn line_sinks_write<W: Write + Drop>()
 /// The rest of a line sink tells how many notes it took, and whether it had a fault.
 pub fn line_sinks_count<W: Write + Drop>()
     ensures { CountsNotes ⟦<LineSink<W> as Sink>⟧.acts (λ s. s.notes) (λ s. s.faults) (λ rest. rest.notes) (λ rest. rest.failed) }
+{}
+
+/// Each kind of sink tells by its count of faults whether it had one: at a fault the count rises by one, up to the greatest
+/// `u64`, and else it stays. So where it stayed, the sink took all that it was to be served.
+pub fn counts_tell_faults<S: Sink>()
+    ensures { TellsFaults S.acts }
 {}
 
 /// Nothing ever waits in a memory sink.

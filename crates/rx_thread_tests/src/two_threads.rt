@@ -2,6 +2,7 @@
 
 ghost use Rattle.std.specs.Prelude.{◌≡◌, []};
 ghost use Rattle.rx_mailbox.specs.Letters.{share};
+ghost use Rattle.rx_mailbox.specs.Passes.{inbox_in};
 ghost use Rattle.rx_mailbox.specs.Settling.{GotAll};
 ghost use Rattle.rx_thread_tests.specs.Bodies.{all_of, after_all};
 
@@ -103,8 +104,8 @@ fn settle_two(
 ) -> Settled<u32>
     requires first { first.box ≡ inbox.box }
     requires second { second.box ≡ inbox.box }
-    ensures first { GotAll result first }
-    ensures second { GotAll result second }
+    ensures first { GotAll (inbox_in result) first }
+    ensures second { GotAll (inbox_in result) second }
 {
     let ports = vec![in alloc; first, second].expect(rt, "memory");
     match settle(inbox, ports) {

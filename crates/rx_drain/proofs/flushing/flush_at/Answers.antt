@@ -17,7 +17,7 @@ returns-clause-flushes g c =
     record {
       one = one;
       stood = slice_get-get_or c.args.hands.now.kept.items c.args.place one (omega (arith, c.requires.within, c.args.hands.now.kept.ok.0)) ∙ ap Some (sym c.index-one.ensures);
-      fault = of_sent c.send_asks.result (map (λ event. (one.subject, event)) (events_of c.flush_one-asks.result)) ended a b c.send_asks.ensures;
+      fault = of_sent c.send_asks.result (map (λ event. (one.subject, event)) (events_of c.flush_one-asks.result)) a b c.send_asks.ensures;
       stands = λ log s. stands_flushed g.S.Sink.acts (length (ended ++ a)) log one.subject one.who _ _ ended a b (events_of c.flush_one-asks.result)
           (c.requires.fits.open_ports refl) refl refl refl refl refl refl refl c.flush_one-asks.ensures.flushes c.send_asks.ensures s;
     }

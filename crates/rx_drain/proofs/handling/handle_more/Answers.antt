@@ -12,7 +12,8 @@ none_of (Some fault) none = cc
 
 pub loop-init : goal.loop-init
 loop-init g c = record {
-  fits = c.requires;
+  fits = c.requires.fits;
+  of_subject = c.requires.of_subject;
   inbox = takes_none g.S.Sink.acts c.args.hands.now.parts.inbox;
   same = refl;
   goes = goes_nowhere g.S.Sink.acts (view_of c.args.hands.now c.args.handled.left c.args.handled.fault);
@@ -50,6 +51,7 @@ loop-preserved g c =
     let whole = none_of c.loop.now.fault (sym c.is_some.ensures ∙ c.if-is_some.false) in
     record {
       fits = c.handle-now.ensures.fits;
+      of_subject = c.handle-now.ensures.handles.0;
       inbox = takes_then g.S.Sink.acts c.args.hands.now.parts.inbox c.loop.hands.parts.inbox c.try_recv.new.self c.handle-now.new.hands.parts.inbox c.in-Ok.letter
           inv.inbox c.in-Ok.ensures.received c.handle-now.ensures.inbox;
       same = c.handle-now.ensures.ports ∙ inv.same;

@@ -1,13 +1,12 @@
 -- The Bye of the leave port is the first one where the drainer has not left.
-use Rattle.std.proofs.Common.{◌≡◌, ◌∙◌, sym, refl, subst, ℕ, ◌++◌, ◌==◌, Bool, true, false, length, length-append, None, arith}
+use Rattle.std.proofs.Common.{◌≡◌, ◌∙◌, sym, refl, subst, ◌++◌, ◌==◌, Bool, true, false, length, length-append, None, arith}
 use Rattle.std.proofs.lemmas.Bool.{ne_eqb}
 use Rattle.rx_mailbox.specs.declared.letter.Post.TheVariants.{Bye}
 use Rattle.rx_mailbox.specs.Letters.{letter}
-use Rattle.rx_pump.proofs.Pumping.{AreSame-length}
 use Rattle.rx_sink.specs.declared.flow.Flow.TheVariants.{Clear}
 use Rattle.rx_sink.specs.Attachments.{Fine}
 use Rattle.rx_drain.specs.declared.drainer_left.DrainerLeft.{DrainerLeft}
-use Rattle.rx_drain.specs.Drainers.{IsOfSubject, Handles, view_of}
+use Rattle.rx_drain.specs.Drainers.{Handles, view_of}
 use Rattle.rx_drain.proofs.Clearing.{handles_cut, handles_flushed}
 use Rattle.rx_drain.proofs.Standing.{stands_idle_left, stands_idle_bye, handles_next}
 use Rattle.rx_drain.proofs.handling.hear_bye.Goals as goal
@@ -39,10 +38,9 @@ returns-then-is_some-clause-handles g c =
     let x = letter c.args.from Bye in
     let flushes = c.flush_last-fault.ensures.flushes in
     let same = c.flush_last-fault.ensures.ports in
-    let count : length mid.ports ≡ length before.ports = AreSame-length before.ports mid.ports same in
     let from_is : c.args.from ≡ length mid.ports =
     omega (arith, c.if-from-leave.false, c.flush_last-fault.ensures.fits.leave_is, length-append hands.ended.items hands.parts.subjects.items) in
     subst (λ (l : Bool). Handles g.S.Sink.acts x (view_of c.args.hands.now l None) after) (sym c.if-left.false)
     (handles_flushed g.S.Sink.acts x before mid after same flushes
     (handles_cut g.S.Sink.acts c.args.from mid after from_is refl refl c.put_all_away.ensures.kept refl refl refl refl (sym c.is_some.ensures ∙ c.if-is_some.true)
-    (subst (λ (m : ℕ). IsOfSubject fault m) (sym count) flushes.fault) c.put_all_away.ensures.closes))
+    flushes.fault c.put_all_away.ensures.closes))

@@ -4,10 +4,11 @@ use Rattle.rx_mailbox.specs.Boxes.{Outgoing}
 use Rattle.rx_pump.specs.Sends.{with_bye, EndsSome}
 use Rattle.rx_pump.proofs.Pumping.{AreSame-length}
 use Rattle.rx_sink.specs.declared.kept.Kept.{Kept}
+use Rattle.rx_sink.specs.Stands.{addressed}
 use Rattle.rx_drain.specs.Calls.{SendsAll, partings_of}
-use Rattle.rx_drain.specs.Logs.{owed}
+use Rattle.rx_drain.specs.Logs.{sent_in}
 use Rattle.rx_drain.proofs.Events.{sent_none}
-use Rattle.rx_drain.proofs.Standing.{same_sent, named_sent, same_ended, same_half, named_half, sent_in_part, sent_ended, sent_half, stands_left, handles_next}
+use Rattle.rx_drain.proofs.Standing.{same_sent, of_sent, same_ended, same_half, sent_in_part, sent_ended, sent_half, stands_left, handles_next}
 use Rattle.rx_drain.proofs.handling.leave_all.Goals as goal
 
 -- as many ports, in other lists
@@ -101,9 +102,9 @@ returns-then-is_some-clause-handles g c =
     let leave_is : c.args.leave ≡ length (ended ++ a) = omega (arith, c.requires.leave_is, length-append ended a) in
     let sends = subst (λ (kept : List (Kept _)). SendsAll c.part_all-fault.result (partings_of kept) a c.part_all-fault.new.subjects.items) c.as_slice.ensures.value c.part_all-fault.ensures in
     handles_next g.S.Sink.acts _ _ _ (
-      named_sent c.part_all-fault.result (partings_of c.args.hands.now.kept.items) ended a c.part_all-fault.new.subjects.items sends,
+      of_sent c.part_all-fault.result (partings_of c.args.hands.now.kept.items) a c.part_all-fault.new.subjects.items sends,
       λ log s. stands_left g.S.Sink.acts (length (ended ++ a)) log c.args.leave _ _ leave_is refl refl c.put_all_away.ensures.kept refl refl c.put_all_away.ensures.closes
-          (λ have. sent_in_part c.part_all-fault.result (owed (length (ended ++ a)) log) (partings_of c.args.hands.now.kept.items) ended a c.part_all-fault.new.subjects.items
+          (λ have. sent_in_part c.part_all-fault.result (addressed (sent_in (length (ended ++ a)) log)) (partings_of c.args.hands.now.kept.items) ended a c.part_all-fault.new.subjects.items
           (sym c.is_some.ensures ∙ c.if-is_some.true) (c.requires.open_ports refl) have sends) s,
     )
 
@@ -123,7 +124,7 @@ returns-in-Ok-clause-handles g c =
     handles_next g.S.Sink.acts _ _ _ (
       tt,
       λ log s. stands_left g.S.Sink.acts (length (ended ++ a)) log c.args.leave _ _ leave_is refl refl c.put_all_away.ensures.kept refl refl c.put_all_away.ensures.closes
-          (λ have. sent_ended (owed (length (ended ++ a)) log) (partings_of c.args.hands.now.kept.items) ended a c.part_all-fault.new.subjects.items c.finish_all.new.ended.items c.finish_all.new.ports.items
+          (λ have. sent_ended (addressed (sent_in (length (ended ++ a)) log)) (partings_of c.args.hands.now.kept.items) ended a c.part_all-fault.new.subjects.items c.finish_all.new.ended.items c.finish_all.new.ports.items
           (c.requires.open_ports refl) have fine c.in-Ok.ensures.ended.0 c.in-Ok.ensures.ended.1) s,
     )
 
@@ -142,9 +143,8 @@ returns-in-Err-clause-handles g c =
     let fine = sent_none c.part_all-fault.result (partings_of c.args.hands.now.kept.items) a c.part_all-fault.new.subjects.items (sym c.is_some.ensures ∙ c.if-is_some.false) sends in
     let place_is : c.in-Err.place ≡ length c.finish_all.new.ended.items = omega (arith, c.in-Err.ensures.ended.1) in
     handles_next g.S.Sink.acts _ _ _ (
-      named_half c.in-Err.place (partings_of c.args.hands.now.kept.items) ended a c.part_all-fault.new.subjects.items c.finish_all.new.ended.items c.finish_all.new.ports.items
-          (c.requires.open_ports refl) fine c.in-Err.ensures.ended.0 place_is,
+      tt,
       λ log s. stands_left g.S.Sink.acts (length (ended ++ a)) log c.args.leave _ _ leave_is refl refl c.put_all_away.ensures.kept refl refl c.put_all_away.ensures.closes
-          (λ have. sent_half (owed (length (ended ++ a)) log) (partings_of c.args.hands.now.kept.items) ended a c.part_all-fault.new.subjects.items c.finish_all.new.ended.items c.finish_all.new.ports.items
-          (c.requires.open_ports refl) have fine c.in-Err.ensures.ended.0) s,
+          (λ have. sent_half c.in-Err.place (addressed (sent_in (length (ended ++ a)) log)) (partings_of c.args.hands.now.kept.items) ended a c.part_all-fault.new.subjects.items c.finish_all.new.ended.items c.finish_all.new.ports.items
+          (c.requires.open_ports refl) have fine c.in-Err.ensures.ended.0 place_is) s,
     )

@@ -2,9 +2,10 @@ use Rattle.std.proofs.Common.{◌≡◌, ◌∙◌, true, sym, refl, subst, rule
 use Rattle.std.specs.List.{All}
 use Rattle.crossbeam_channel.specs.Claims.{view}
 use Rattle.rx_mailbox.specs.Boxes.{Outgoing, Incoming, HasBye}
-use Rattle.rx_mailbox.specs.Passes.{inbox_of}
+use Rattle.rx_mailbox.specs.Passes.{inbox_of, settled_of, IsEmptied}
 use Rattle.rx_mailbox.specs.Settling.{GotAll}
-use Rattle.rx_mailbox.proofs.Joins.{nothing_left, byes_of_all, leaves_empty}
+use Rattle.rx_mailbox.proofs.Joins.{byes_of_all, leaves_empty}
+use Rattle.rx_mailbox.proofs.settling.settle.Given as given
 use Rattle.rx_mailbox.proofs.settling.settle.Goals as goal
 
 pub returns-then-not-has_each_bye-clause-cause : goal.returns-then-not-has_each_bye-clause-cause
@@ -23,17 +24,21 @@ pub returns-clause-complete : goal.returns-clause-complete
 returns-clause-complete g c =
     (c.is_each_once.ensures.0 c.if-not-is_each_once.false, c.has_each_bye.ensures.0 c.if-not-has_each_bye.false)
 
-pub returns-clause-empty : goal.returns-clause-empty
-returns-clause-empty g c =
-    let ports = c.args.ports.items in
-    let once = c.is_each_once.ensures.0 c.if-not-is_each_once.false in
-    nothing_left c.args.inbox ports once (subst (λ (inbox : Incoming _). All (GotAll inbox) ports) c.into_pass-pass.ensures.pass c.join_all.ensures.got)
-
-pub invariant_of-result : goal.invariant_of-result
-invariant_of-result g c =
+-- by what the pass knows the box is empty
+is_emptied : (g : given.Over) (c : goal.After-join_all g) → IsEmptied (settled_of c.join_all.new.pass)
+is_emptied g c =
     let ports = c.args.ports.items in
     let pass = c.join_all.new.pass in
     let once = c.is_each_once.ensures.0 c.if-not-is_each_once.false in
     let got = subst (λ (inbox : Incoming _). All (GotAll inbox) ports) c.into_pass-pass.ensures.pass c.join_all.ensures.got in
     let same = c.join_all.ensures.same ∙ c.into_pass-pass.ensures.pass in
-    (leaves_empty (view pass) c.args.inbox (inbox_of pass) ports c.join_all.ensures.reader same refl refl c.join_all.ensures.noted once got, search rules)
+    record {
+      knows_both = c.join_all.ensures.reader.view_is;
+      queue = leaves_empty (view pass) c.args.inbox (inbox_of pass) ports c.join_all.ensures.reader same refl refl c.join_all.ensures.noted once got;
+    }
+
+pub returns-clause-empty : goal.returns-clause-empty
+returns-clause-empty g c = is_emptied g c
+
+pub invariant_of-result : goal.invariant_of-result
+invariant_of-result g c = (is_emptied g c, search rules)

@@ -1,8 +1,8 @@
-use Rattle.std.proofs.Common.{◌∙◌, sym, ap, subst, ◌≡◌, MatchResult}
+use Rattle.std.proofs.Common.{◌∙◌, sym, ap, subst, MatchResult}
 use Rattle.std.specs.List.{position}
 use Rattle.rx_sink.specs.declared.kept.Kept.{Kept}
 use Rattle.rx_sink.specs.Attachments.{is_for}
-use Rattle.rx_sink.specs.Stands.{IsKeptAt, Flushed}
+use Rattle.rx_sink.specs.Stands.{IsKeptAt, FaultedAtFlush, Flushed}
 use Rattle.rx_sink.proofs.Finding.{located, missing}
 use Rattle.rx_sink.proofs.Tending.{flushed_one, flushed_nobody, same_one}
 use Rattle.rx_sink.proofs.keeping.flush_one.Goals as goal
@@ -20,7 +20,7 @@ returns-clause-flushes g c = λ held gone stand.
     let same = same_one c.args.kept.now.items c.in-Some.place f.one c.index_mut.result.now f.at c.index_mut.ensures.value in
     flushed_one g.S.Sink.acts c.args.subject c.args.who c.in-Some.place held gone c.args.kept.now.items c.args.away.now.items stand f
     c.flush-flushed.result c.flush-flushed.new.self c.end_act.result c.end_act.new.kept.items c.end_act.new.away.items
-    (subst (λ (k : Kept _). MatchResult c.flush-flushed.result (λ said. Flushed g.S.Sink.acts k c.flush-flushed.new.self said) (λ _. g.S.Sink.acts.flush_faulted k.sink c.flush-flushed.new.self.sink × (c.flush-flushed.new.self.due ≡ k.due)))
+    (subst (λ (k : Kept _). MatchResult c.flush-flushed.result (λ said. Flushed g.S.Sink.acts k c.flush-flushed.new.self said) (λ _. FaultedAtFlush g.S.Sink.acts k c.flush-flushed.new.self))
     (sym same) c.flush-flushed.ensures.flushed)
     (c.flush-flushed.ensures.subject ∙ ap (λ (k : Kept _). k.subject) (sym same)) (c.flush-flushed.ensures.who ∙ ap (λ (k : Kept _). k.who) (sym same))
     c.end_act.ensures.ends

@@ -1,9 +1,9 @@
-use Rattle.std.proofs.Common.{◌∙◌, sym, ap, subst, ◌≡◌, if◌then◌else◌, MatchResult}
+use Rattle.std.proofs.Common.{◌∙◌, sym, ap, subst, if◌then◌else◌, MatchResult}
 use Rattle.std.specs.List.{position}
 use Rattle.rx_sink.specs.declared.kept.Kept.{Kept}
 use Rattle.rx_sink.specs.Acts.{raised}
 use Rattle.rx_sink.specs.Attachments.{Fault, is_for}
-use Rattle.rx_sink.specs.Stands.{IsKeptAt, TakesNote}
+use Rattle.rx_sink.specs.Stands.{IsKeptAt, TakesNote, FaultedAt}
 use Rattle.rx_sink.proofs.Finding.{located, missing}
 use Rattle.rx_sink.proofs.Tending.{given_one, given_over, given_nobody, same_one}
 use Rattle.rx_sink.proofs.keeping.give.Goals as goal
@@ -35,7 +35,7 @@ returns-clause-gives g c = λ held gone stand.
     let did = given_one g.S.Sink.acts c.args.subject c.args.who c.in-Some.place held gone c.args.kept.now.items c.args.away.now.items stand f
     c.take-took.result c.args.taken.now c.args.note c.take-took.new.self c.end_act.result c.end_act.new.kept.items c.end_act.new.away.items
     (ap (λ (k : Kept _). k.over) read ∙ c.if-index.false)
-    (subst (λ (k : Kept _). MatchResult c.take-took.result (λ said. TakesNote g.S.Sink.acts c.args.note k c.take-took.new.self said) (λ _. g.S.Sink.acts.take_faulted k.sink c.args.note c.take-took.new.self.sink × (c.take-took.new.self.due ≡ k.due)))
+    (subst (λ (k : Kept _). MatchResult c.take-took.result (λ said. TakesNote g.S.Sink.acts c.args.note k c.take-took.new.self said) (λ _. FaultedAt g.S.Sink.acts c.args.note k c.take-took.new.self))
     (sym same) c.take-took.ensures.took)
     (c.take-took.ensures.subject ∙ ap (λ (k : Kept _). k.subject) (sym same)) (c.take-took.ensures.who ∙ ap (λ (k : Kept _). k.who) (sym same))
     c.end_act.ensures.ends in (

@@ -1,10 +1,10 @@
-use Rattle.std.proofs.Common.{◌≡◌, false, Some, Option, OnOk, Result, Ok, Err, sym, refl, ap, subst, ◌∙◌}
+use Rattle.std.proofs.Common.{◌≡◌, false, None, Some, Option, OnOk, MatchResult, Result, Ok, Err, sym, refl, ap, subst, ◌∙◌}
 use Rattle.rx_mailbox.specs.Boxes.{Incoming}
 use Rattle.rx_pump.specs.Pumps.{AreSame}
 use Rattle.rx_drain.specs.declared.drain_fault.DrainFault.{DrainFault}
-use Rattle.rx_drain.specs.declared.drain_fault.DrainFault.TheVariants.{InboxGone}
+use Rattle.rx_drain.specs.declared.drain_fault.DrainFault.TheVariants.{InboxGone, SubjectGone}
 use Rattle.rx_drain.specs.declared.drainer_left.DrainerLeft.{DrainerLeft}
-use Rattle.rx_drain.specs.Drainers.{DrainerView, Fits, Goes, IsDrained, KeepsPlaces, TakesMore, TakesOne, any_may_wait, view_of}
+use Rattle.rx_drain.specs.Drainers.{DrainerView, Fits, Goes, IsDrained, IsOfSubject, KeepsPlaces, TakesMore, TakesOne, any_may_wait, view_of}
 use Rattle.rx_drain.proofs.Ending.{drained_gone, drained_turn, goes_further, takes_both, takes_one_and}
 use Rattle.rx_drain.proofs.drainer.Drainer.turn_by.Given as given
 use Rattle.rx_drain.proofs.drainer.Drainer.turn_by.Goals as goal
@@ -127,3 +127,18 @@ returns-clause-kept g c =
     let after = view_of c.handle_rest-rest.new.hands c.handle_rest-rest.result.left c.handle_rest-rest.result.fault in
     subst (λ (v : DrainerView _ _). KeepsPlaces v after) c.self.view_is
     (keeps before after (took g c) (c.handle_rest-rest.ensures.ports ∙ c.handle_more-more.ensures.ports ∙ c.in-Ok.ensures.ports))
+
+-- a fault of a subject is not that of the inbox
+not_gone : (result : Result (Unit {0}) DrainFault) (fault : Option DrainFault) → MatchResult result (λ _. fault ≡ None) (λ met. fault ≡ Some met) → IsOfSubject fault
+    → result ≡ Err InboxGone → ⊥
+not_gone (Ok _) fault is of is_gone = cc
+not_gone (Err met) None is of is_gone = cc
+not_gone (Err met) (Some InboxGone) is of is_gone = absurd of
+not_gone (Err met) (Some (SubjectGone place)) is of is_gone = cc
+
+pub returns-clause-gone : goal.returns-clause-gone
+returns-clause-gone g c = λ is_gone. absurd (not_gone c.outcome.result c.handle_rest-rest.result.fault c.outcome.ensures c.handle_rest-rest.ensures.of_subject is_gone)
+
+pub returns-in_default-handle_first-clause-gone : goal.returns-in_default-handle_first-clause-gone
+returns-in_default-handle_first-clause-gone g c = λ is_gone.
+    ap (λ (hands : DrainerLeft _ _). hands.parts.inbox) c.in_default-handle_first.ensures.gone ∙ ap (λ (v : DrainerView _ _). v.inbox) c.self.view_is

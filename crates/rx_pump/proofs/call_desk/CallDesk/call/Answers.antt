@@ -1,13 +1,15 @@
 use Rattle.std.proofs.Common.{◌+◌, refl, subst, arith}
 use Rattle.rx_pump.specs.Desks.{DeskView, KeepsDesk}
-use Rattle.rx_pump.proofs.Desking.{AreUpTo-sent, KeepsDesk-call}
+use Rattle.rx_pump.proofs.Desking.{AreUpTo-sent, TicketsRise-sent, KeepsDesk-call}
 use Rattle.rx_pump.proofs.call_desk.CallDesk.call.Goals as goal
 
 pub invariant_of-self-2 : goal.invariant_of-self-2
 invariant_of-self-2 g c = (
   AreUpTo-sent c.self.inside.tickets c.args.subject _ c.self.inside.ports.items c.send_call.new.ports.items refl c.in_default.ensures c.self.invariant.0,
-  λ _. c.self.invariant.1 c.if-self.false,
-  omega (arith, c.self.invariant.2, c.in_default.ensures.count),
+  TicketsRise-sent c.self.inside.tickets c.args.subject _ c.self.inside.ports.items c.send_call.new.ports.items refl c.in_default.ensures c.self.invariant.0 c.self.invariant.1,
+  c.self.invariant.2,
+  λ _. c.self.invariant.3 c.if-self.false,
+  omega (arith, c.self.invariant.4, c.in_default.ensures.count),
 )
 
 pub returns-clause-kept : goal.returns-clause-kept

@@ -1,6 +1,6 @@
 use Rattle.std.proofs.Common.{◌≡◌, ◌+◌, ap, length, length-append, arith}
 use Rattle.std.proofs.lemmas.List.{length-map}
-use Rattle.rx_pump.proofs.Desking.{AreUpTo-left}
+use Rattle.rx_pump.proofs.Desking.{AreUpTo-left, TicketsRise-left, TicketsRise-all, TicketsRise-ended}
 use Rattle.rx_pump.proofs.call_desk.CallDesk.finish.Goals as goal
 
 pub invariant_of-result : goal.invariant_of-result
@@ -10,6 +10,13 @@ invariant_of-result g c =
     let ports : length ends.done + length c.finish_all.new.ports.items ≡ length inside.ports.items = simp length-append at (ap length ends.parts) in
     let ended : length c.finish_all.new.ended.items ≡ length inside.ended.items + length ends.done = simp (length-append, length-map) at (ap length ends.ended) in (
       AreUpTo-left inside.tickets inside.ports.items c.finish_all.new.ports.items inside.ended.items c.finish_all.new.ended.items ends c.self.invariant.0,
+      TicketsRise-left inside.ports.items c.finish_all.new.ports.items inside.ended.items c.finish_all.new.ended.items ends c.self.invariant.1,
+      TicketsRise-ended inside.ports.items c.finish_all.new.ports.items inside.ended.items c.finish_all.new.ended.items ends c.self.invariant.1 c.self.invariant.2,
       λ wrong. cc,
-      omega (arith, c.self.invariant.2, c.in-Err.ensures.capacity, ports, ended),
+      omega (arith, c.self.invariant.4, c.in-Err.ensures.capacity, ports, ended),
     )
+
+pub returns-in-Ok-clause-tickets : goal.returns-in-Ok-clause-tickets
+returns-in-Ok-clause-tickets g c =
+    let inside = c.self.inside in
+    TicketsRise-all inside.ports.items inside.ended.items c.finish_all.new.ended.items c.in-Ok.ensures.ended.0 c.self.invariant.1 c.self.invariant.2

@@ -1,4 +1,4 @@
-use Rattle.std.proofs.Common.{◌∙◌, refl, sym, ap, subst, ◌++◌, map}
+use Rattle.std.proofs.Common.{◌∙◌, refl, sym, ap, subst, ◌++◌, map, arith}
 use Rattle.rx_mailbox.specs.Boxes.{HasEachBye}
 use Rattle.rx_pump.specs.declared.pump_end.PumpEnd.{PumpEnd}
 use Rattle.rx_pump.specs.declared.pump_fault.PumpFault.TheVariants.{DrainerGone, CallerGone}
@@ -20,9 +20,11 @@ returns-in-Err g c =
       ended_replies = inside.ended_replies;
     } in
     subst (λ (p : PumpView _). HasStopped p stop) c.self.view_is
-    (HasStopped-drainers pump stop refl refl
+    (HasStopped-drainers pump stop c.in-Err.place refl refl
     (EndsSome-first inside.parts.drainers.items c.finish_all.new.ports.items inside.ended_drainers.items c.finish_all.new.ended.items c.self.invariant.2 c.in-Err.ensures.ended.0)
-    refl c.self.invariant.4 (ap (λ (p : PumpView _). p.fault) c.self.view_is ∙ c.requires.whole) c.self.invariant.0)
+    refl c.self.invariant.4 refl (omega (arith, c.in-Err.ensures.ended.1, c.finish_all.new.ended.ok.0))
+    (subst (λ (p : PumpView _). HasEachBye p.inbox) (sym c.self.view_is) c.requires.each_bye)
+    (ap (λ (p : PumpView _). p.fault) c.self.view_is ∙ c.requires.whole) c.self.invariant.0)
 
 pub returns-in-Err-finish_all : goal.returns-in-Err-finish_all
 returns-in-Err-finish_all g c =
@@ -36,8 +38,10 @@ returns-in-Err-finish_all g c =
       ended_replies = c.finish_all-2.new.ended;
     } in
     subst (λ (p : PumpView _). HasStopped p stop) c.self.view_is
-    (HasStopped-replies pump stop refl refl ended.1 (ended.0 ∙ ap (λ first. first ++ map with_bye inside.parts.drainers.items) c.self.invariant.2)
+    (HasStopped-replies pump stop c.in-Err-finish_all.place refl refl ended.1 (ended.0 ∙ ap (λ first. first ++ map with_bye inside.parts.drainers.items) c.self.invariant.2)
     (EndsSome-first inside.parts.replies.items c.finish_all-2.new.ports.items inside.ended_replies.items c.finish_all-2.new.ended.items c.self.invariant.4 c.in-Err-finish_all.ensures.ended.0)
+    refl (omega (arith, c.in-Err-finish_all.ensures.ended.1, c.finish_all-2.new.ended.ok.0))
+    (subst (λ (p : PumpView _). HasEachBye p.inbox) (sym c.self.view_is) c.requires.each_bye)
     (ap (λ (p : PumpView _). p.fault) c.self.view_is ∙ c.requires.whole) c.self.invariant.0)
 
 pub returns : goal.returns

@@ -3,11 +3,14 @@ use Rattle.rx_mailbox.specs.Boxes.{with_letter}
 use Rattle.rx_mailbox.specs.Letters.{letter}
 use Rattle.rx_mailbox.specs.declared.letter.Letter.{Letter}
 use Rattle.rx_pump.specs.declared.call.Call.{Call}
-use Rattle.rx_pump.specs.Pumps.{PumpView, pump_of, KeepsPlaces}
+use Rattle.rx_pump.specs.Pumps.{PumpView, pump_of, IsPumped, KeepsPlaces}
 use Rattle.rx_pump.proofs.Pumping.{AreSame-length}
 use Rattle.rx_pump.proofs.Turning.{IsPumped-gone, IsPumped-bye, IsPumped-call, KeepsPlaces-call, TakesCall}
 use Rattle.rx_pump.proofs.pump.Pump.turn.Given as given
 use Rattle.rx_pump.proofs.pump.Pump.turn.Goals as goal
+
+pub returns-in-Some-clause-pumped : goal.returns-in-Some-clause-pumped
+returns-in-Some-clause-pumped g c = subst (λ (p : PumpView _). IsPumped p) c.self.view_is c.self.invariant.0
 
 pub invariant_of-self : goal.invariant_of-self
 invariant_of-self g c =
@@ -26,7 +29,7 @@ returns-in_default-recv-clause-pumped g c = (invariant_of-self g c).0
 pub invariant_of-self-in-Bye : goal.invariant_of-self-in-Bye
 invariant_of-self-in-Bye g c =
     let before = pump_of c.self.inside.parts c.self.inside.calls c.self.inside.refused c.self.inside.misses_before c.self.inside.fault in (
-      IsPumped-bye before _ c.in-Ok.letter c.in-Bye.is (ap (λ inbox. record before { inbox = inbox }) c.in-Ok.ensures.received) c.self.invariant.0,
+      IsPumped-bye before _ c.in-Ok.letter c.in_default.is c.in-Bye.is (ap (λ inbox. record before { inbox = inbox }) c.in-Ok.ensures.received) c.self.invariant.0,
       c.self.invariant.1,
       c.self.invariant.2,
       c.self.invariant.3,
