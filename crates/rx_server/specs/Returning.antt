@@ -29,6 +29,6 @@ module _ {S : Type 0} where
       LacksInbox (number_of desk.ports.items) before × (after ≡ placed (number_of desk.ports.items) desk.inbox before)
 
   -- desks came back, one after another: their ports to the boxes of the subjects, and their inboxes
-  pub record HaveReturned (desks : List (EndedDesk S)) (subjects subjects_after : List (PartsView (Call S))) (replies replies_after : List (PartsView (Reply S))) : Type 0 where
-    pub subjects : subjects_after ≡ dealt_each (map (λ desk. desk.ports.items) desks) subjects
-    pub replies : FoldsTo ReturnsInbox replies desks replies_after
+  pub record HaveReturned (desks : List (EndedDesk S)) (calls calls_after : List (PartsView (Call S))) (answers answers_after : List (PartsView (Reply S))) : Type 0 where
+    pub ports : calls_after ≡ dealt_each (map (λ desk. desk.ports.items) desks) calls
+    pub inboxes : FoldsTo ReturnsInbox answers desks answers_after

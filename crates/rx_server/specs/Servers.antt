@@ -2,7 +2,8 @@
 use Rattle.std.specs.Prelude.{◌≡◌, ◌<◌, ◌⊎◌, ℕ, List, [], ◌∷◌, ◌++◌, length, map, Some, slice_get}
 use Rattle.std.specs.List.{All, AllZip, sum_by, zip}
 use Rattle.rx_hub.specs.Hubs.{HubView}
-use Rattle.rx_mailbox.specs.Boxes.{Incoming, Outgoing}
+use Rattle.rx_mailbox.specs.Boxes.{Outgoing}
+use Rattle.rx_mailbox.specs.Passes.{IsEmptied, SettledView, inbox_in}
 use Rattle.rx_mailbox.specs.Settling.{GotAll}
 use Rattle.rx_pump.specs.declared.ended_desk.EndedDesk.{EndedDesk}
 use Rattle.rx_pump.specs.declared.out.Out.{Out}
@@ -130,27 +131,32 @@ module _ {S Rest : Type 0} where
 
 module _ {B : Type 0} where
   -- of the port at each place the box at that place received all that it put
-  abbrev pub GotEach : List (Incoming B) → List (Outgoing B) → Type 0
-  GotEach boxes ports = AllZip GotAll boxes ports
+  abbrev pub GotEach : List (SettledView B) → List (Outgoing B) → Type 0
+  GotEach boxes ports = AllZip (λ box port. GotAll (inbox_in box) port) boxes ports
 
 module _ {S : Type 0} where
   -- the box of the replies to a desk settled: it is that of the desk's number, which its ports have, and received beside what the
   -- desk had received only what was still on its way
-  pub record AreRepliesOf (boxes : List (Incoming (Reply S))) (desk : EndedDesk S) : Type 0 where
+  pub record AreRepliesOf (boxes : List (SettledView (Reply S))) (desk : EndedDesk S) : Type 0 where
     pub number : ℕ
     pub ports : All (λ port. port.number ≡ number) desk.ports.items
-    pub box : Incoming (Reply S)
+    pub box : SettledView (Reply S)
     pub stood : slice_get boxes number ≡ Some box
-    pub received : Receives desk.inbox box
+    pub received : Receives desk.inbox (inbox_in box)
 
 module _ {S Rest : Type 0} where
   -- the boxes of all subjects, of all drainers and of the replies to all desks have settled: what each port put is what its box
   -- received, and nothing else came
   pub record HaveSettled (boxes : SettledBoxes S) (leaves : List (Outgoing (Out S))) (desks : List (EndedDesk S)) (pumps : List (PumpEnd S)) (drainers : List (DrainEnd S Rest)) : Type 0 where
     -- the box of a subject is the one that its pump had, the box of a drainer that which the drainer had
-    pub of_pumps : AllZip (λ end box. box ≡ end.inbox) pumps boxes.subjects.items
-    pub of_drainers : AllZip (λ end box. box ≡ end.inbox) drainers boxes.drainers.items
+    pub of_pumps : AllZip (λ end box. inbox_in box ≡ end.inbox) pumps boxes.subjects.items
+    pub of_drainers : AllZip (λ end box. inbox_in box ≡ end.inbox) drainers boxes.drainers.items
     pub of_desks : All (AreRepliesOf boxes.replies.items) desks
+
+    -- each is empty
+    pub subjects_empty : All IsEmptied boxes.subjects.items
+    pub drainers_empty : All IsEmptied boxes.drainers.items
+    pub replies_empty : All IsEmptied boxes.replies.items
 
     -- to the subjects sent the desks and the drainers
     pub by_desks : All (λ desk. GotEach boxes.subjects.items desk.ports.items) desks

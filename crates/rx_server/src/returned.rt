@@ -2,7 +2,7 @@
 ghost use Rattle.std.specs.Prelude.{◌≡◌, ◌+◌, ◌^◌, ◌<◌, ◌≤◌, [], length, map, vec_capacity, vec_len, IfErr, IfOk, MatchResult, OnOk};
 ghost use Rattle.std.specs.List.{All, AllZip, sum_by};
 ghost use Rattle.rx_pump.specs.Pumps.{counted};
-ghost use Rattle.rx_server.specs.Returning.{HaveReturned, number_of, row_of};
+ghost use Rattle.rx_server.specs.Returning.{HaveReturned, number_of};
 ghost use Rattle.rx_server.specs.Servers.{NamesBox, report_of};
 ghost use Rattle.rx_settling.specs.Parts.{AreOfOneBox, Settles, dealt_each, given};
 

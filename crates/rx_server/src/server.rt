@@ -70,7 +70,7 @@ impl<S: Sink> Model for Server<S> {
 impl<S: Sink> Server<S> {
     ghost use Rattle.rx_workers.specs.Crews.{IsFor};
     ghost use Rattle.rx_server.specs.Rooms.{AreRooms};
-    ghost use Rattle.rx_server.specs.Servers.{with_desk};
+    ghost use Rattle.rx_server.specs.Servers.{IsDeskOf, IsWhole, with_desk};
 
     /// The next desk, in their order, each once, or None where all were handed out. It has a port for each subject, of which
     /// there is one at least.

@@ -6,6 +6,7 @@ use Rattle.std.specs.List.{AllZip}
 use Rattle.rx_mailbox.specs.declared.settle_cause.SettleCause.{SettleCause}
 use Rattle.rx_mailbox.specs.declared.settle_cause.SettleCause.TheVariants.{MissingBye, Stranger}
 use Rattle.rx_mailbox.specs.Boxes.{HasEachBye, Incoming, Outgoing}
+use Rattle.rx_mailbox.specs.Passes.{SettledView}
 use Rattle.rx_mailbox.specs.Settling.{IsCause, IsEachOnce}
 use Rattle.rx_settling.specs.Parts.{CannotSettle, FirstUnsettled, PartsView, Receives, Settles}
 
@@ -32,7 +33,7 @@ module _ {B : Type 0} where
       (after, subst (λ (i : Incoming B). Receives i after) same received, never)
 
   -- behind those that settled stands one that cannot
-  pub first-unsettled : (boxes done rest : List (PartsView B)) (parts : PartsView B) (settled : List (Incoming B)) → done ++ parts ∷ rest ≡ boxes
+  pub first-unsettled : (boxes done rest : List (PartsView B)) (parts : PartsView B) (settled : List (SettledView B)) → done ++ parts ∷ rest ≡ boxes
       → AllZip Settles done settled → CannotSettle parts → FirstUnsettled boxes settled (length settled)
   first-unsettled boxes done rest parts settled are before never =
       let count : length settled ≡ length done = AllZip-long Settles done settled before in

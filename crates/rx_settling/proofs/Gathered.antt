@@ -4,6 +4,7 @@ use Rattle.std.proofs.lemmas.List.Elements.{All-cons, All-head, All-nil, All-pop
 use Rattle.std.specs.List.{All, AllZip}
 use Rattle.rx_mailbox.specs.Boxes.{Box, HasEachBye, Incoming, Outgoing, incoming}
 use Rattle.rx_mailbox.specs.declared.letter.Letter.{Letter}
+use Rattle.rx_mailbox.specs.Passes.{IsEmptied, SettledView, inbox_in}
 use Rattle.rx_mailbox.specs.Settling.{GotAll}
 use Rattle.rx_settling.specs.Parts.{AreOfOneBox, IsEmpty, PartsView, Receives, Settles, dealt, dealt_each, given, placed, with_inbox}
 use Rattle.rx_settling.proofs.Rows.{dealt-count}
@@ -183,10 +184,10 @@ module _ {B : Type 0} where
 
   -- BOXES THAT SETTLED
 
-  settled-one : (parts : PartsView B) (inbox box : Incoming B) → Settles parts box → parts.inbox ≡ Some inbox → Receives inbox box
+  settled-one : (parts : PartsView B) (inbox : Incoming B) (box : SettledView B) → Settles parts box → parts.inbox ≡ Some inbox → Receives inbox (inbox_in box)
   settled-one parts inbox box settles is =
       let same : settles.inbox ≡ inbox = let both : Some settles.inbox ≡ Some inbox = sym settles.came ∙ is in cc in
-      subst (λ (i : Incoming B). Receives i box) same settles.received
+      subst (λ (i : Incoming B). Receives i (inbox_in box)) same settles.received
 
   -- where the Bye of each port was received, nothing more is
   pub received-none : (inbox box : Incoming B) → HasEachBye inbox → Receives inbox box → box ≡ inbox
@@ -195,15 +196,15 @@ module _ {B : Type 0} where
       ∙ ap (incoming inbox.box inbox.ports) (append-nil inbox.received)
 
   -- each box received all that its ports put
-  pub settled-got : (boxes : List (PartsView B)) (settled : List (Incoming B)) → AllZip Settles boxes settled → AllPorts GotAll settled boxes
+  pub settled-got : (boxes : List (PartsView B)) (settled : List (SettledView B)) → AllZip Settles boxes settled → AllPorts (λ box. GotAll (inbox_in box)) settled boxes
   settled-got [] [] all = tt
   settled-got [] (box ∷ settled) all = absurd all
   settled-got (parts ∷ boxes) [] all = absurd all
   settled-got (parts ∷ boxes) (box ∷ settled) all = (all.0.got, settled-got boxes settled all.1)
 
   -- and each is the box of its inbox, with the Byes that were left
-  pub settled-came : (boxes : List (PartsView B)) (inboxes settled : List (Incoming B)) → AllZip Settles boxes settled → inboxes_of boxes ≡ map Some inboxes
-      → AllZip Receives inboxes settled
+  pub settled-came : (boxes : List (PartsView B)) (inboxes : List (Incoming B)) (settled : List (SettledView B)) → AllZip Settles boxes settled → inboxes_of boxes ≡ map Some inboxes
+      → AllZip (λ inbox box. Receives inbox (inbox_in box)) inboxes settled
   settled-came [] [] [] all are = tt
   settled-came [] [] (box ∷ settled) all are = absurd all
   settled-came [] (inbox ∷ inboxes) settled all are = cc
@@ -214,9 +215,15 @@ module _ {B : Type 0} where
       let tail : inboxes_of boxes ≡ map Some inboxes = cc in
       (settled-one parts inbox box all.0 head, settled-came boxes inboxes settled all.1 tail)
 
-  pub settled-at : (boxes : List (PartsView B)) (settled : List (Incoming B)) (place : ℕ) (inbox : Incoming B) → AllZip Settles boxes settled
-      → slice_get (inboxes_of boxes) place ≡ Some (Some inbox) → (box : Incoming B) × (slice_get settled place ≡ Some box) × Receives inbox box
+  pub settled-at : (boxes : List (PartsView B)) (settled : List (SettledView B)) (place : ℕ) (inbox : Incoming B) → AllZip Settles boxes settled
+      → slice_get (inboxes_of boxes) place ≡ Some (Some inbox) → (box : SettledView B) × (slice_get settled place ≡ Some box) × Receives inbox (inbox_in box)
   settled-at [] settled place inbox all at = cc
   settled-at (parts ∷ boxes) [] place inbox all at = absurd all
   settled-at (parts ∷ boxes) (box ∷ settled) zero inbox all at = let head : parts.inbox ≡ Some inbox = cc in (box, refl, settled-one parts inbox box all.0 head)
   settled-at (parts ∷ boxes) (box ∷ settled) (suc place) inbox all at = settled-at boxes settled place inbox all.1 at
+
+  pub settled-empty : (boxes : List (PartsView B)) (settled : List (SettledView B)) → AllZip Settles boxes settled → All IsEmptied settled
+  settled-empty [] [] all = All-nil IsEmptied
+  settled-empty [] (box ∷ settled) all = absurd all
+  settled-empty (parts ∷ boxes) [] all = absurd all
+  settled-empty (parts ∷ boxes) (box ∷ settled) all = All-cons IsEmptied box settled all.0.emptied (settled-empty boxes settled all.1)

@@ -3,6 +3,7 @@ use Rattle.std.specs.Prelude.{◌≡◌, ◌≤◌, ℕ, zero, suc, List, [], �
 use Rattle.std.specs.List.{All, AllZip}
 use Rattle.rx_mailbox.specs.declared.letter.Letter.{Letter}
 use Rattle.rx_mailbox.specs.Boxes.{AreOf, HasEachBye, Incoming, Outgoing, incoming}
+use Rattle.rx_mailbox.specs.Passes.{IsEmptied, SettledView, inbox_in}
 use Rattle.rx_mailbox.specs.Settling.{GotAll, IsEachOnce}
 
 -- of a box: its inbox, where that came back, the ended ports that came back, and for how many there is room
@@ -67,14 +68,15 @@ module _ {B : Type 0} where
   abbrev pub AreOfOneBox : PartsView B → Type 0
   AreOfOneBox parts = (inbox : Incoming B) → parts.inbox ≡ Some inbox → AreOf inbox parts.ports
 
-  -- it settled: each port came back once, each Bye was received, and so all that the ports put
-  pub record Settles (parts : PartsView B) (settled : Incoming B) : Type 0 where
+  -- it settled: each port came back once, each Bye was received, and so all that the ports put; it is empty
+  pub record Settles (parts : PartsView B) (settled : SettledView B) : Type 0 where
     pub inbox : Incoming B
     pub came : parts.inbox ≡ Some inbox
-    pub received : Receives inbox settled
+    pub received : Receives inbox (inbox_in settled)
     pub each_once : IsEachOnce settled.ports parts.ports
-    pub each_bye : HasEachBye settled
-    pub got : All (GotAll settled) parts.ports
+    pub each_bye : HasEachBye (inbox_in settled)
+    pub got : All (GotAll (inbox_in settled)) parts.ports
+    pub emptied : IsEmptied settled
 
   -- its inbox did not come back; or, with what it received then, not each port came back once, or a Bye is missing
   abbrev pub CannotSettle : PartsView B → Type 0
@@ -83,7 +85,7 @@ module _ {B : Type 0} where
       → (after : Incoming B) × Receives inbox after × ¬ (IsEachOnce after.ports parts.ports × HasEachBye after)
 
   -- the one at this place is the first that cannot settle
-  pub record FirstUnsettled (boxes : List (PartsView B)) (settled : List (Incoming B)) (place : ℕ) : Type 0 where
+  pub record FirstUnsettled (boxes : List (PartsView B)) (settled : List (SettledView B)) (place : ℕ) : Type 0 where
     pub before : AllZip Settles (take place boxes) settled
     pub parts : PartsView B
     pub stood : slice_get boxes place ≡ Some parts

@@ -1,6 +1,7 @@
 use Rattle.std.proofs.Common.{◌≡◌, ◌∙◌, sym, ap, subst, List, Some}
 use Rattle.std.specs.List.{All}
 use Rattle.rx_mailbox.specs.Boxes.{AreOf, HasEachBye, Incoming}
+use Rattle.rx_mailbox.specs.Passes.{inbox_in}
 use Rattle.rx_mailbox.specs.Settling.{GotAll, IsEachOnce}
 use Rattle.rx_settling.specs.Parts.{PartsView, Receives}
 use Rattle.rx_settling.proofs.Causes.{cannot, not-both}
@@ -35,5 +36,6 @@ returns g c =
       received = subst (Receives c.in_ok-inbox.inbox) is c.receive_byes.ensures.received;
       each_once = subst (IsEachOnce c.in-Ok-settle.settled.ports) (sym ports) (subst (λ (i : Incoming _). IsEachOnce i.ports c.self.inside.ports.items) is settled.complete.0);
       each_bye = subst HasEachBye is settled.complete.1;
-      got = subst (All (GotAll c.in-Ok-settle.settled)) (sym ports) (subst (λ (i : Incoming _). All (GotAll i) c.self.inside.ports.items) is settled.shares);
+      got = subst (All (GotAll (inbox_in c.in-Ok-settle.settled))) (sym ports) (subst (λ (i : Incoming _). All (GotAll i) c.self.inside.ports.items) is settled.shares);
+      emptied = settled.empty;
     }
