@@ -162,9 +162,9 @@ module _ {S Rest : Type 0} where
     pub by_desks : All (λ desk. GotEach boxes.subjects.items desk.ports.items) desks
     pub by_drainers : All (λ end. GotEach boxes.subjects.items end.ports.items) drainers
 
-    -- to the drainers sent the pumps, and the one that told them to leave put its Bye alone
+    -- to the drainers sent the pumps, and the one that told them to leave
     pub to_drainers : All (λ end. GotEach boxes.drainers.items end.drainers.items) pumps
-    pub to_leave : GotEach boxes.drainers.items (map with_bye leaves)
+    pub to_leave : GotEach boxes.drainers.items leaves
 
     -- to the desks sent the pumps
     pub to_desks : All (λ end. GotEach boxes.replies.items end.replies.items) pumps
@@ -183,7 +183,7 @@ module _ {S Rest : Type 0} (acts : Acts S Rest) where
     pub each_marked : length marks ≡ length pump_ends
     pub drained : AllZip (drainer_serving.HasServed acts) server.drainers drain_ends
     pub of_server : All (IsEndOf server.made) finished
-    pub settled : HaveSettled report.boxes server.leaves (ended ++ server.kept ++ finished) pump_ends drain_ends
+    pub settled : HaveSettled report.boxes (map with_bye server.leaves) (ended ++ server.kept ++ finished) pump_ends drain_ends
     pub reports : Reports report pump_ends drain_ends
 
 -- WHY NOTHING IS REPORTED

@@ -111,10 +111,10 @@ pub(crate) fn return_desks<S: Drop>(
         if let Err(place) = deal(ports, subjects) {
             return Err(CloseFault::unsettled(Role::Pump, place));
         }
-        if put_inbox(inbox, number, replies).is_err() {
+        let Ok(()) = put_inbox(inbox, number, replies) else {
             // The desk came back twice, so the box of each subject has its port twice: the first is told.
             return Err(CloseFault::unsettled(Role::Pump, 0));
-        }
+        };
     }
     Ok(())
 }
@@ -159,9 +159,9 @@ pub(crate) fn return_pumps<S: Sink>(
             replies: answers,
             ..
         } = end;
-        if put_inbox(inbox, place, subjects).is_err() {
+        let Ok(()) = put_inbox(inbox, place, subjects) else {
             return Err(CloseFault::unsettled(Role::Pump, place));
-        }
+        };
         if let Err(place) = deal(outs, drainers) {
             return Err(CloseFault::unsettled(Role::Drainer, place));
         }
@@ -214,9 +214,9 @@ pub(crate) fn return_drainers<S: Sink>(
         } = end;
         taken = taken.saturating_add(more);
         lists.push_reserved(put_away);
-        if put_inbox(inbox, place, drainers).is_err() {
+        let Ok(()) = put_inbox(inbox, place, drainers) else {
             return Err(CloseFault::unsettled(Role::Drainer, place));
-        }
+        };
         if let Err(place) = deal(ports, subjects) {
             return Err(CloseFault::unsettled(Role::Pump, place));
         }

@@ -1,0 +1,74 @@
+use Rattle.std.proofs.Common.{◌≡◌, ◌∙◌, ◌+◌, ◌<◌, ◌≤◌, [], ◌∷◌, ◌++◌, sym, ap, subst, length, length-append, map, append_assoc, List, arith}
+use Rattle.std.proofs.lemmas.List.{length-map, map_push}
+use Rattle.std.proofs.lemmas.List.Sums.{sum_by_push}
+use Rattle.std.specs.List.{All}
+use Rattle.std.specs.Vec.Iter.{into_iter_items}
+use Rattle.rx_mailbox.specs.Boxes.{Incoming}
+use Rattle.rx_drain.specs.declared.drain_end.DrainEnd.{DrainEnd}
+use Rattle.rx_settling.specs.Parts.{dealt, dealt_each, given, placed}
+use Rattle.rx_settling.proofs.Gathered.{dealt_each-count, dealt_each-more, given-count, given-more}
+use Rattle.rx_server.proofs.Returning.{All-here, names-drainer, names-pump}
+use Rattle.rx_server.proofs.returned.return_drainers.Goals as goal
+
+pub put_inbox-requires : goal.put_inbox-requires
+put_inbox-requires g c =
+    let before = c.loop-end.invariant in
+    let lists = length-map c.loop-end.lists.items (λ list. list.items) in
+    let listed = ap length before.listed ∙ length-map c.loop-end.yielded (λ end. end.put_away.items) in
+    let all = ap length before.ends in
+    let parts = length-append c.loop-end.yielded (into_iter_items c.loop-end.end-iterator) in
+    let drainers = ap length before.inboxes ∙ given-count (map (λ end. end.inbox) c.loop-end.yielded) c.args.drainers.now.items in
+    omega (arith, lists, listed, all, parts, drainers, c.requires.count, c.len-place.ensures, c.loop-end.lists.ok, ap length c.in-Some.ensures.steps.0)
+
+pub deal-requires : goal.deal-requires
+deal-requires g c =
+    let before = c.loop-end.invariant in
+    let parts = ap (λ (l : List _). c.loop-end.yielded ++ l) (sym c.in-Some.ensures.steps.0) ∙ before.ends in
+    let P = λ (end : DrainEnd _ _). length end.ports.items ≡ length c.args.subjects.now.items in
+    All-here P c.loop-end.yielded c.in-Some.end (into_iter_items c.next.new.self) (subst (λ (l : List _). All P l) (sym parts) c.requires.ports)
+    ∙ sym (ap length before.calls ∙ dealt_each-count (map (λ end. end.ports.items) c.loop-end.yielded) c.args.subjects.now.items)
+
+pub returns-in_default-clause-fault : goal.returns-in_default-clause-fault
+returns-in_default-clause-fault g c =
+    let before = c.loop-end.invariant in
+    let lists = length-map c.loop-end.lists.items (λ list. list.items) in
+    let listed = ap length before.listed ∙ length-map c.loop-end.yielded (λ end. end.put_away.items) in
+    let all = ap length before.ends in
+    let parts = length-append c.loop-end.yielded (into_iter_items c.loop-end.end-iterator) in
+    names-drainer (length c.args.subjects.now.items) (length c.args.drainers.now.items) 0 c.len-place.result _ c.unsettled.ensures
+    (omega (arith, lists, listed, all, parts, c.requires.count, c.len-place.ensures, c.loop-end.lists.ok, ap length c.in-Some.ensures.steps.0))
+
+pub returns-in-Err-clause-fault : goal.returns-in-Err-clause-fault
+returns-in-Err-clause-fault g c =
+    let before = c.loop-end.invariant in
+    let count = ap length before.calls ∙ dealt_each-count (map (λ end. end.ports.items) c.loop-end.yielded) c.args.subjects.now.items in
+    names-pump (length c.args.subjects.now.items) (length c.args.drainers.now.items) 0 c.in-Err.place _ c.unsettled-in-Err.ensures (omega (arith, c.in-Err.ensures, count))
+
+pub loop-end-preserved : goal.loop-end-preserved
+loop-end-preserved g c =
+    let before = c.loop-end.invariant in
+    let lists = length-map c.loop-end.lists.items (λ list. list.items) in
+    let listed = ap length before.listed ∙ length-map c.loop-end.yielded (λ end. end.put_away.items) in
+    let place : c.len-place.result ≡ length (map (λ (end : DrainEnd _ _). end.inbox) c.loop-end.yielded) =
+    omega (arith, lists, listed, c.len-place.ensures, c.loop-end.lists.ok, length-map c.loop-end.yielded (λ (end : DrainEnd _ _). end.inbox)) in
+    record {
+      ends =
+          append_assoc c.loop-end.yielded (c.in-Some.end ∷ []) (into_iter_items c.next.new.self)
+          ∙ ap (λ (l : List _). c.loop-end.yielded ++ l) (sym c.in-Some.ensures.steps.0) ∙ before.ends;
+      taken = omega (arith, before.taken, c.saturating_add-taken.ensures, sum_by_push (λ (end : DrainEnd _ _). end.taken) c.loop-end.yielded c.in-Some.end);
+      listed =
+          ap (map (λ list. list.items)) c.push_reserved.ensures.items
+          ∙ map_push (λ list. list.items) c.loop-end.lists.items c.in-Some.end.put_away
+          ∙ ap (λ (l : List (List _)). l ++ c.in-Some.end.put_away.items ∷ []) before.listed
+          ∙ sym (map_push (λ (end : DrainEnd _ _). end.put_away.items) c.loop-end.yielded c.in-Some.end);
+      room = omega (arith, before.room, c.push_reserved.ensures.capacity, c.push_reserved.ensures.len, ap length c.in-Some.ensures.steps.0);
+      inboxes =
+          c.in-Ok.ensures.put ∙ ap (λ n. placed n c.in-Some.end.inbox c.loop-end.drainers.items) place
+          ∙ ap (placed (length (map (λ (end : DrainEnd _ _). end.inbox) c.loop-end.yielded)) c.in-Some.end.inbox) before.inboxes
+          ∙ given-more (map (λ (end : DrainEnd _ _). end.inbox) c.loop-end.yielded) c.in-Some.end.inbox c.args.drainers.now.items
+          ∙ ap (λ (l : List (Incoming _)). given l c.args.drainers.now.items) (sym (map_push (λ (end : DrainEnd _ _). end.inbox) c.loop-end.yielded c.in-Some.end));
+      calls =
+          c.in_default-deal.ensures ∙ ap (dealt c.in-Some.end.ports.items) before.calls
+          ∙ sym (dealt_each-more (map (λ (end : DrainEnd _ _). end.ports.items) c.loop-end.yielded) c.in-Some.end.ports.items c.args.subjects.now.items)
+          ∙ ap (λ (rows : List (List _)). dealt_each rows c.args.subjects.now.items) (sym (map_push (λ (end : DrainEnd _ _). end.ports.items) c.loop-end.yielded c.in-Some.end));
+    }
