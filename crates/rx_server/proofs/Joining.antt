@@ -239,9 +239,10 @@ module _ {S Rest : Type 0} where
       ∙ sym (made-count {D = DrainerView S Rest} (drainer_of w) w.drainers drainers drainers_are)
 
   -- room for the same numbers
-  pub Rooms-as : (pumps pumps2 drainers drainers2 desks desks2 : ℕ) (rooms : Rooms S Rest)
-      → pumps ≡ pumps2 → drainers ≡ drainers2 → desks ≡ desks2 → AreRooms pumps drainers desks rooms → AreRooms pumps2 drainers2 desks2 rooms
-  Rooms-as pumps pumps2 drainers drainers2 desks desks2 rooms pumps_are drainers_are desks_are fit =
-      subst (λ (n : ℕ). AreRooms pumps2 drainers2 n rooms) desks_are
-      (subst (λ (n : ℕ). AreRooms pumps2 n desks rooms) drainers_are
-      (subst (λ (n : ℕ). AreRooms n drainers desks rooms) pumps_are fit))
+  pub Rooms-as : (pumps pumps2 drainers drainers2 desks desks2 to_end to_end2 : ℕ) (rooms : Rooms S Rest)
+      → pumps ≡ pumps2 → drainers ≡ drainers2 → desks ≡ desks2 → to_end ≡ to_end2 → AreRooms pumps drainers desks to_end rooms → AreRooms pumps2 drainers2 desks2 to_end2 rooms
+  Rooms-as pumps pumps2 drainers drainers2 desks desks2 to_end to_end2 rooms pumps_are drainers_are desks_are left fit =
+      subst (λ (n : ℕ). AreRooms pumps2 drainers2 desks2 n rooms) left
+      (subst (λ (n : ℕ). AreRooms pumps2 drainers2 n to_end rooms) desks_are
+      (subst (λ (n : ℕ). AreRooms pumps2 n desks to_end rooms) drainers_are
+      (subst (λ (n : ℕ). AreRooms n drainers desks to_end rooms) pumps_are fit)))

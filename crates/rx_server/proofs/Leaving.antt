@@ -1,7 +1,7 @@
 -- What is left, thread by thread.
-use Rattle.std.proofs.Common.{◌≡◌, ◌∙◌, ◌<◌, ◌≤◌, refl, ap, sym, subst, ℕ, Option, Some, None, Result, Ok, Err, List, [], ◌∷◌, ◌++◌, length, length-append, map, take, slice_get, arith, MatchOption, MatchResult}
+use Rattle.std.proofs.Common.{◌≡◌, ◌∙◌, ◌<◌, ◌≤◌, refl, ap, sym, subst, ℕ, Option, Some, None, Result, Ok, Err, List, [], ◌∷◌, ◌++◌, length, length-append, map, reverse, take, slice_get, arith, IfErr, MatchOption, MatchResult}
 use Rattle.std.proofs.Math.Seq.{take-append_seam}
-use Rattle.std.proofs.lemmas.List.{take-append-le}
+use Rattle.std.proofs.lemmas.List.{map_push, reverse-append, take-append-le}
 use Rattle.std.proofs.lemmas.Option.{slice_get_within}
 use Rattle.std.proofs.lemmas.Slice.Zip.{all_zipped_more, AllZip-long}
 use Rattle.std.specs.List.{AllZip}
@@ -9,8 +9,17 @@ use Rattle.rx_pump.proofs.Placing.{slice_get-append_left}
 use Rattle.rx_server.specs.declared.close_fault.CloseCause.TheVariants.{Ended}
 use Rattle.rx_server.specs.declared.close_fault.CloseFault.{CloseFault}
 use Rattle.rx_server.specs.declared.start_fault.Role.{Role}
+use Rattle.rx_server.specs.declared.start_fault.Role.TheVariants.{Drainer, Pump}
+use Rattle.rx_pump.specs.declared.pump_end.PumpEnd.{PumpEnd}
+use Rattle.rx_pump.specs.Pumps.{PumpView}
+use Rattle.rx_pump.specs.Serving as pump_serving
+use Rattle.rx_sink.specs.Acts.{Acts}
+use Rattle.rx_drain.specs.declared.drain_end.DrainEnd.{DrainEnd}
+use Rattle.rx_drain.specs.Drainers.{DrainerView}
+use Rattle.rx_drain.specs.Serving as drainer_serving
+use Rattle.rx_server.specs.Servers.{IsFirst}
 use Rattle.rx_server.specs.Ends.{AreOver, FirstStopped, Keeps, NamesFirst}
-use Rattle.rx_server.proofs.Starting.{Started, started-one}
+use Rattle.rx_server.proofs.Starting.{Started, started-all, started-one}
 
 -- the item behind the first ones
 seam : {X : Type 0} (xs : List X) (x : X) → slice_get (xs ++ x ∷ []) (length xs) ≡ Some x
@@ -94,6 +103,17 @@ module _ {A B F : Type 0} (R : A → B → Type 0) (Q : A → F → Type 0) (rol
     joined = joined-one some.done ys after x joined before fault ended kept some.joined;
   }
 
+  -- once none is left, all have joined
+  pub joined-all : (all turned left : List A) (ends : List B) (fault : Option CloseFault) → turned ≡ reverse all → left ≡ [] → JoinedSome turned left ends fault → HaveJoined all ends fault
+  joined-all all turned left ends fault is none some =
+      subst (λ (l : List A). HaveJoined l ends fault) (started-all all turned some.done left is none some.so_far) some.joined
+
+-- what is made of a list turned round
+pub map_reverse : {X Y : Type 0} (f : X → Y) (xs : List X) → map f (reverse xs) ≡ reverse (map f xs)
+map_reverse f [] = refl
+map_reverse {Y = Y} f (x ∷ xs) =
+    ap (map f) (reverse-append (x ∷ []) xs) ∙ map_push f (reverse xs) x ∙ ap (λ (l : List Y). l ++ f x ∷ []) (map_reverse f xs) ∙ sym (reverse-append (f x ∷ []) (map f xs))
+
 -- what holds of what the threads stand for
 pub zip-stands : {A B X : Type 0} (R : A → B → Type 0) (f : X → A) (xs : List X) (ys : List B) → AllZip (λ x y. R (f x) y) xs ys → AllZip R (map f xs) ys
 zip-stands R f [] [] all = tt
@@ -106,3 +126,29 @@ zip-items R f [] [] all = tt
 zip-items R f [] (y ∷ ys) all = absurd all
 zip-items R f (x ∷ xs) [] all = absurd all
 zip-items R f (x ∷ xs) (y ∷ ys) all = (all.0, zip-items R f xs ys all.1)
+
+-- FAULTS
+
+module _ {S Rest : Type 0} (acts : Acts S Rest) (pumps : List (PumpView S)) (drainers : List (DrainerView S Rest)) where
+  -- how joining the drainers ended
+  abbrev JoinedDrainers : List (DrainEnd S Rest) → Result (Unit {0}) CloseFault → Type 0
+  JoinedDrainers ends drained =
+      MatchResult drained (λ _. AllZip (drainer_serving.HasServed acts) drainers ends) (NamesFirst (drainer_serving.HasServed acts) (drainer_serving.HasStopped acts) Drainer drainers)
+
+  -- either way they are over
+  drainers-over : (ends : List (DrainEnd S Rest)) (drained : Result (Unit {0}) CloseFault) → JoinedDrainers ends drained → AreOver (drainer_serving.HasServed acts) (drainer_serving.HasStopped acts) drainers
+  drainers-over ends (Ok _) joined = all-ended (drainer_serving.HasServed acts) (drainer_serving.HasStopped acts) Drainer drainers ends joined
+  drainers-over ends (Err fault) joined = joined.first.all
+
+  -- a pump is the first
+  pub pump-first : (ends : List (DrainEnd S Rest)) (drained : Result (Unit {0}) CloseFault) (fault : CloseFault) → JoinedDrainers ends drained
+      → NamesFirst pump_serving.HasServed pump_serving.HasStopped Pump pumps fault → (fault.cause ≡ Ended) × IsFirst acts pumps drainers fault.thread fault.index
+  pump-first ends drained fault joined names =
+      (names.cause, subst (λ (role : Role). IsFirst acts pumps drainers role fault.index) (sym names.thread) (names.first, drainers-over ends drained joined))
+
+  -- or a drainer, where all pumps served
+  pub drainer-first : (pump_ends : List (PumpEnd S)) (ends : List (DrainEnd S Rest)) (drained : Result (Unit {0}) CloseFault) → AllZip pump_serving.HasServed pumps pump_ends → JoinedDrainers ends drained
+      → IfErr drained (λ fault. (fault.cause ≡ Ended) × IsFirst acts pumps drainers fault.thread fault.index)
+  drainer-first pump_ends ends (Ok _) pumped joined = tt
+  drainer-first pump_ends ends (Err fault) pumped joined =
+      (joined.cause, subst (λ (role : Role). IsFirst acts pumps drainers role fault.index) (sym joined.thread) ((pump_ends, pumped), joined.first))
