@@ -183,7 +183,7 @@ module _ {S Rest : Type 0} (acts : Acts S Rest) where
     pub each_marked : length marks ≡ length pump_ends
     pub drained : AllZip (drainer_serving.HasServed acts) server.drainers drain_ends
     pub of_server : All (IsEndOf server.made) finished
-    pub settled : HaveSettled report.boxes (map with_bye server.leaves) (ended ++ server.kept ++ finished) pump_ends drain_ends
+    pub settled : HaveSettled report.boxes (map with_bye server.leaves) (ended ++ (server.kept ++ finished)) pump_ends drain_ends
     pub reports : Reports report pump_ends drain_ends
 
 -- WHY NOTHING IS REPORTED
