@@ -22,7 +22,8 @@ pub fn each_sink_once<S: Drop>()
 
 /// Each attachment's calls: its subject is sent, for each attachment, a request for one item more for each item that its sink
 /// took, but for those that are due while it is kept, and then at its end one disposal, but where its observer had left.
-/// Nothing else is sent, but the disposal of an observer whose sink found no memory.
+/// For an Attach whose sink found no memory just the disposal of its observer is sent, so often as sinks were missed; and for no
+/// other letter anything, so nothing for a sink that was left unserved.
 pub fn each_is_sent_for<S: Drop>()
     ensures { EachIsSentFor S }
 {}
