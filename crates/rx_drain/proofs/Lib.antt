@@ -8,3 +8,4 @@ mod Tallying
 pub mod Crediting
 pub mod Clearing
 pub mod Paying
+mod Faultless

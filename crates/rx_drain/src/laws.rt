@@ -3,7 +3,7 @@
 ghost use Rattle.rx_drain.specs.Once.{EachSinkOnce};
 ghost use Rattle.rx_drain.specs.Paying.{NothingWaits, OwesNothing};
 ghost use Rattle.rx_drain.specs.Sent.{EachIsSentFor};
-ghost use Rattle.rx_drain.specs.Served.{EachSinkTook};
+ghost use Rattle.rx_drain.specs.Served.{EachSinkTook, FaultlessSinksTookAll};
 ghost use Rattle.rx_drain.specs.Tallies.{EachNoteCounts};
 
 use rx_sink::Sink;
@@ -13,6 +13,12 @@ use rx_sink::Sink;
 /// what comes before the note at which it came, and at a fault of a flush the first of it.
 pub fn each_sink_took<S: Drop>()
     ensures { EachSinkTook S }
+{}
+
+/// What each sink's own count of faults tells: a sink that was put away with the count that it had when it came, below the
+/// greatest `u64`, took all that it was to be served.
+pub fn faultless_sinks_took_all<S: Sink>()
+    ensures { FaultlessSinksTookAll S.acts }
 {}
 
 /// Each sink that came and found its place is kept or was put away, and none twice.
