@@ -1,4 +1,5 @@
 pub mod Events
+pub mod Changing
 pub mod Standing
 pub mod Ending
 pub mod Taking

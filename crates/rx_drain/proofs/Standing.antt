@@ -27,7 +27,8 @@ use Rattle.rx_sink.specs.Stands.{Stand, Did, FlushesOne, IsKept, IsPutAway, addr
 use Rattle.rx_drain.specs.declared.drain_fault.DrainFault.{DrainFault}
 use Rattle.rx_drain.specs.declared.drain_fault.DrainFault.TheVariants.{InboxGone, SubjectGone}
 use Rattle.rx_drain.specs.Calls.{calls_to, parting_of, partings_of, SendsAll}
-use Rattle.rx_drain.specs.Logs.{Log, Next, Flush, letters, has_left, brought, out_change, out_unserved, post_change, letter_change, kept_in, change, flush_change, gone_in, sent_in, missed_in, taken_in, put_by}
+use Rattle.rx_drain.specs.Logs.{Log, Next, Flush, letters, has_left, brought, out_change, out_unserved, letter_change, kept_in, change, flush_change, gone_in, sent_in, missed_in, taken_in, put_by}
+use Rattle.rx_drain.proofs.Changing.{post_change}
 use Rattle.rx_drain.specs.Drainers.{DrainerView, IsOfSubject, HaveSent, SentUpTo, Stands, ServesOut, Handles}
 use Rattle.rx_drain.proofs.Events.{calls_to-append}
 
