@@ -10,9 +10,11 @@ use Rattle.rx_pump.specs.declared.out.Out.{Out}
 use Rattle.rx_pump.specs.declared.out.Out.TheVariants.{Attach, Give, Detach}
 use Rattle.rx_sink.specs.declared.flow.Flow.{Flow}
 use Rattle.rx_sink.specs.Attachments.{Attachment, Why, Mark, Fine, Fault, NoMemory, Change, is_clear, is_held_back, is_last, is_of, kept_for, without, replaced, with_note, with_flush, paid, attached, given, settled, served, served_yet, flushed, written, detached, let_go, closed}
-use Rattle.rx_drain.specs.Logs.{Log, NoLetters, Next, Flush, letters, has_left, brought, post_change, letter_change, kept_in, change, flush_change, gone_in}
-use Rattle.rx_drain.specs.Once.{times, place_found, post_found, letter_found, found_in, EachOnce}
+use Rattle.rx_drain.specs.Logs.{Log, NoLetters, Next, Flush, letters, has_left, brought, letter_change, kept_in, change, flush_change, gone_in, missed_in}
+use Rattle.rx_drain.proofs.Changing.{post_change}
+use Rattle.rx_drain.specs.Once.{times, found_by, missed_by, place_by, post_by, letter_by, places_by, found_in, missed_at, EachOnce}
 use Rattle.rx_drain.proofs.Taking.{some_split}
+use Rattle.rx_drain.proofs.Standing.{missed_given, missed_flushed, missed_detached}
 
 pub times-append : (n : ℕ) (xs ys : List ℕ) → times n (xs ++ ys) ≡ times n xs + times n ys
 times-append n [] ys = (let e : times n ys ≡ 0 + times n ys = omega arith in e)
@@ -48,51 +50,143 @@ once_by n place before one few single fresh other (inr apart) = (let none = othe
 same_or : (m n : ℕ) → (m ≡ n) ⊎ (m ≢ n)
 same_or m n = elim (eqb_tells m n) [ inl (test, same) ↦ inl same | inr (test, apart) ↦ inr apart ]
 
+found_single : (mark : Mark) (place : ℕ) → (found_by mark place ≡ []) ⊎ (found_by mark place ≡ place ∷ [])
+found_single (Fine flow) place = inr refl
+found_single Fault place = inr refl
+found_single NoMemory place = inl refl
+
+both_single : (mark : Mark) (place : ℕ) → (found_by mark place ++ missed_by mark place ≡ []) ⊎ (found_by mark place ++ missed_by mark place ≡ place ∷ [])
+both_single (Fine flow) place = inr refl
+both_single Fault place = inr refl
+both_single NoMemory place = inr refl
+
+-- found or missed
+abbrev both_by : Mark → ℕ → List ℕ
+both_by mark place = found_by mark place ++ missed_by mark place
+
 module _ {S : Type 0} where
   -- WHICH PLACES
 
-  found_cases : (mark : Mark) (place : ℕ) (o : Option (Attachment S)) → (place_found mark place o ≡ []) ⊎ (place_found mark place o ≡ place ∷ [])
-  found_cases mark place (Some other) = inl refl
-  found_cases (Fine flow) place None = inr refl
-  found_cases Fault place None = inr refl
-  found_cases NoMemory place None = inl refl
+  module _ (by : Mark → ℕ → List ℕ) (single : (mark : Mark) (place : ℕ) → (by mark place ≡ []) ⊎ (by mark place ≡ place ∷ [])) where
+    place_cases : (mark : Mark) (place : ℕ) (o : Option (Attachment S)) → (place_by by mark place o ≡ []) ⊎ (place_by by mark place o ≡ place ∷ [])
+    place_cases mark place (Some other) = inl refl
+    place_cases mark place None = single mark place
 
-  post_cases : (b : Bool) (place from : ℕ) (post : Post (Out S)) (mark : Mark) (kept : List (Attachment S))
-      → (post_found b place from post mark kept ≡ []) ⊎ (post_found b place from post mark kept ≡ place ∷ [])
-  post_cases true place from post mark kept = inl refl
-  post_cases false place from (Body (Attach who sink)) mark kept = found_cases mark place (kept_for from who kept)
-  post_cases false place from (Body (Give who note)) mark kept = inl refl
-  post_cases false place from (Body (Detach who)) mark kept = inl refl
-  post_cases false place from Bye mark kept = inl refl
+    post_cases : (b : Bool) (place from : ℕ) (post : Post (Out S)) (mark : Mark) (kept : List (Attachment S))
+        → (post_by by b place from post mark kept ≡ []) ⊎ (post_by by b place from post mark kept ≡ place ∷ [])
+    post_cases true place from post mark kept = inl refl
+    post_cases false place from (Body (Attach who sink)) mark kept = place_cases mark place (kept_for from who kept)
+    post_cases false place from (Body (Give who note)) mark kept = inl refl
+    post_cases false place from (Body (Detach who)) mark kept = inl refl
+    post_cases false place from Bye mark kept = inl refl
 
-  letter_cases : (b : Bool) (leave place : ℕ) (x : Letter (Out S)) (mark : Mark) (kept : List (Attachment S))
-      → (letter_found b leave place x mark kept ≡ []) ⊎ (letter_found b leave place x mark kept ≡ place ∷ [])
-  letter_cases true leave place x mark kept = inl refl
-  letter_cases false leave place x mark kept = post_cases (x.from == leave) place x.from x.post mark kept
+    letter_cases : (b : Bool) (leave place : ℕ) (x : Letter (Out S)) (mark : Mark) (kept : List (Attachment S))
+        → (letter_by by b leave place x mark kept ≡ []) ⊎ (letter_by by b leave place x mark kept ≡ place ∷ [])
+    letter_cases true leave place x mark kept = inl refl
+    letter_cases false leave place x mark kept = post_cases (x.from == leave) place x.from x.post mark kept
+
+    -- the places so far are below the length
+    below_by : (leave : ℕ) (log : Log S) (n : ℕ) → length (letters log) ≤ n → times n (places_by by leave log) ≡ 0
+    below_by leave NoLetters n past = refl
+    below_by leave (Flush log s w mark) n past = below_by leave log n past
+    below_by leave (Next log x mark) n past =
+        let found = letter_by by (has_left leave log) leave (length (letters log)) x mark (kept_in leave log) in
+        let count = length-append (letters log) (x ∷ []) in
+        let later : length (letters log) ≤ n = omega (arith, past, count) in
+        let apart : length (letters log) ≢ n = λ same. omega (arith, past, count, same) in
+        let first = below_by leave log n later in
+        let second = none_other n (length (letters log)) found apart (letter_cases (has_left leave log) leave (length (letters log)) x mark (kept_in leave log)) in
+        times-append n (places_by by leave log) found ∙ (let e : times n (places_by by leave log) + times n found ≡ 0 = omega (arith, first, second) in e)
+
+    -- and no two are the same
+    once_each : (leave : ℕ) (log : Log S) (n : ℕ) → times n (places_by by leave log) ≤ 1
+    once_each leave NoLetters n = omega arith
+    once_each leave (Flush log s w mark) n = once_each leave log n
+    once_each leave (Next log x mark) n =
+        let place = length (letters log) in
+        let found = letter_by by (has_left leave log) leave place x mark (kept_in leave log) in
+        let cases = letter_cases (has_left leave log) leave place x mark (kept_in leave log) in
+        let both = once_by n place (times n (places_by by leave log)) (times n found) (once_each leave log n) (one_at_most n place found cases)
+        (below_by leave log n) (λ apart. none_other n place found apart cases) (same_or place n) in
+        omega (arith, times-append n (places_by by leave log) found, both)
 
   -- the places found so far are below the length
   pub below : (leave : ℕ) (log : Log S) (n : ℕ) → length (letters log) ≤ n → times n (found_in leave log) ≡ 0
-  below leave NoLetters n past = refl
-  below leave (Flush log s w mark) n past = below leave log n past
-  below leave (Next log x mark) n past =
-      let found = letter_found (has_left leave log) leave (length (letters log)) x mark (kept_in leave log) in
-      let count = length-append (letters log) (x ∷ []) in
-      let later : length (letters log) ≤ n = omega (arith, past, count) in
-      let apart : length (letters log) ≢ n = λ same. omega (arith, past, count, same) in
-      let first = below leave log n later in
-      let second = none_other n (length (letters log)) found apart (letter_cases (has_left leave log) leave (length (letters log)) x mark (kept_in leave log)) in
-      times-append n (found_in leave log) found ∙ (let e : times n (found_in leave log) + times n found ≡ 0 = omega (arith, first, second) in e)
+  below leave log n past = below_by found_by found_single leave log n past
 
   pub once : (leave : ℕ) (log : Log S) (n : ℕ) → times n (found_in leave log) ≤ 1
-  once leave NoLetters n = omega arith
-  once leave (Flush log s w mark) n = once leave log n
-  once leave (Next log x mark) n =
+  once leave log n = once_each found_by found_single leave log n
+
+  -- FOUND OR MISSED
+
+  place_both : (mark : Mark) (place : ℕ) (o : Option (Attachment S)) (n : ℕ)
+      → times n (place_by both_by mark place o) ≡ times n (place_by found_by mark place o) + times n (place_by missed_by mark place o)
+  place_both mark place (Some other) n = refl
+  place_both mark place None n = times-append n (found_by mark place) (missed_by mark place)
+
+  post_both : (b : Bool) (place from : ℕ) (post : Post (Out S)) (mark : Mark) (kept : List (Attachment S)) (n : ℕ)
+      → times n (post_by both_by b place from post mark kept) ≡ times n (post_by found_by b place from post mark kept) + times n (post_by missed_by b place from post mark kept)
+  post_both true place from post mark kept n = refl
+  post_both false place from (Body (Attach who sink)) mark kept n = place_both mark place (kept_for from who kept) n
+  post_both false place from (Body (Give who note)) mark kept n = refl
+  post_both false place from (Body (Detach who)) mark kept n = refl
+  post_both false place from Bye mark kept n = refl
+
+  letter_both : (b : Bool) (leave place : ℕ) (x : Letter (Out S)) (mark : Mark) (kept : List (Attachment S)) (n : ℕ)
+      → times n (letter_by both_by b leave place x mark kept) ≡ times n (letter_by found_by b leave place x mark kept) + times n (letter_by missed_by b leave place x mark kept)
+  letter_both true leave place x mark kept n = refl
+  letter_both false leave place x mark kept n = post_both (x.from == leave) place x.from x.post mark kept n
+
+  all_both : (leave : ℕ) (log : Log S) (n : ℕ) → times n (places_by both_by leave log) ≡ times n (found_in leave log) + times n (missed_at leave log)
+  all_both leave NoLetters n = refl
+  all_both leave (Flush log s w mark) n = all_both leave log n
+  all_both leave (Next log x mark) n =
       let place = length (letters log) in
-      let found = letter_found (has_left leave log) leave place x mark (kept_in leave log) in
-      let cases = letter_cases (has_left leave log) leave place x mark (kept_in leave log) in
-      let both = once_by n place (times n (found_in leave log)) (times n found) (once leave log n) (one_at_most n place found cases)
-      (below leave log n) (λ apart. none_other n place found apart cases) (same_or place n) in
-      omega (arith, times-append n (found_in leave log) found, both)
+      let kept = kept_in leave log in
+      let left = has_left leave log in
+      omega (
+        arith,
+        all_both leave log n,
+        letter_both left leave place x mark kept n,
+        times-append n (places_by both_by leave log) (letter_by both_by left leave place x mark kept),
+        times-append n (found_in leave log) (letter_by found_by left leave place x mark kept),
+        times-append n (missed_at leave log) (letter_by missed_by left leave place x mark kept),
+      )
+
+  -- no place is found and missed, and none twice
+  pub once_in_all : (leave : ℕ) (log : Log S) (n : ℕ) → times n (found_in leave log) + times n (missed_at leave log) ≤ 1
+  once_in_all leave log n = (let one = once_each both_by both_single leave log n in omega (arith, one, all_both leave log n))
+
+  -- as many were missed as are counted
+  place_misses : (mark : Mark) (place : ℕ) (a : Attachment S) (o : Option (Attachment S)) (kept : List (Attachment S))
+      → length (place_by missed_by mark place o) ≡ (attached mark a o kept).missed
+  place_misses mark place a (Some other) kept = refl
+  place_misses (Fine flow) place a None kept = refl
+  place_misses Fault place a None kept = refl
+  place_misses NoMemory place a None kept = refl
+
+  post_misses : (b : Bool) (place from : ℕ) (post : Post (Out S)) (mark : Mark) (kept : List (Attachment S))
+      → length (post_by missed_by b place from post mark kept) ≡ (post_change b place from post mark kept).missed
+  post_misses true place from (Body out) mark kept = refl
+  post_misses true place from Bye mark kept = refl
+  post_misses false place from (Body (Attach who sink)) mark kept = place_misses mark place (brought place from who sink) (kept_for from who kept) kept
+  post_misses false place from (Body (Give who note)) mark kept = sym (missed_given mark from who note (kept_for from who kept) kept)
+  post_misses false place from (Body (Detach who)) mark kept = sym (missed_detached from who (kept_for from who kept) kept)
+  post_misses false place from Bye mark kept = refl
+
+  letter_misses : (b : Bool) (leave place : ℕ) (x : Letter (Out S)) (mark : Mark) (kept : List (Attachment S))
+      → length (letter_by missed_by b leave place x mark kept) ≡ (letter_change b leave place x mark kept).missed
+  letter_misses true leave place x mark kept = refl
+  letter_misses false leave place x mark kept = post_misses (x.from == leave) place x.from x.post mark kept
+
+  pub misses : (leave : ℕ) (log : Log S) → length (missed_at leave log) ≡ missed_in leave log
+  misses leave NoLetters = refl
+  misses leave (Flush log s w mark) =
+      let none = missed_flushed mark s w (kept_for s w (kept_in leave log)) (kept_in leave log) in
+      omega (arith, misses leave log, none)
+  misses leave (Next log x mark) =
+      let now = letter_by missed_by (has_left leave log) leave (length (letters log)) x mark (kept_in leave log) in
+      omega (arith, misses leave log, letter_misses (has_left leave log) leave (length (letters log)) x mark (kept_in leave log), length-append (missed_at leave log) now)
 
   -- KEPT OR ENDED
 
@@ -147,7 +241,7 @@ module _ {S : Type 0} where
   Moves n kept found c = times n (kept_places c.kept) + times n (gone_places c.gone) ≡ times n (kept_places kept) + times n found
 
   moves_attach : (n place : ℕ) (mark : Mark) (a : Attachment S) (o : Option (Attachment S)) (kept : List (Attachment S)) → a.place ≡ place
-      → Moves n kept (place_found mark place o) (attached mark a o kept)
+      → Moves n kept (place_by found_by mark place o) (attached mark a o kept)
   moves_attach n place mark a (Some other) kept is = refl
   moves_attach n place (Fine flow) a None kept is =
       let added = ap (times n) (map-append (λ (b : Attachment S). b.place) kept (a ∷ [])) ∙ times-append n (kept_places kept) (a.place ∷ []) in
@@ -203,7 +297,7 @@ module _ {S : Type 0} where
   moves_detach n s w (Some a) kept is = moves_let_go n s w a.over a kept is
 
   moves_post : (n : ℕ) (b : Bool) (place from : ℕ) (post : Post (Out S)) (mark : Mark) (kept : List (Attachment S))
-      → Moves n kept (post_found b place from post mark kept) (post_change b place from post mark kept)
+      → Moves n kept (post_by found_by b place from post mark kept) (post_change b place from post mark kept)
   moves_post n true place from (Body out) mark kept = refl
   moves_post n true place from Bye mark kept = (let e : times n (gone_places (closed kept)) ≡ times n (kept_places kept) = ap (times n) (closed_places kept) in omega (arith, e))
   moves_post n false place from (Body (Attach who sink)) mark kept = moves_attach n place mark (brought place from who sink) (kept_for from who kept) kept refl
@@ -212,7 +306,7 @@ module _ {S : Type 0} where
   moves_post n false place from Bye mark kept = refl
 
   pub moves_letter : (n : ℕ) (b : Bool) (leave place : ℕ) (x : Letter (Out S)) (mark : Mark) (kept : List (Attachment S))
-      → Moves n kept (letter_found b leave place x mark kept) (letter_change b leave place x mark kept)
+      → Moves n kept (letter_by found_by b leave place x mark kept) (letter_change b leave place x mark kept)
   moves_letter n true leave place x mark kept = refl
   moves_letter n false leave place x mark kept = moves_post n (x.from == leave) place x.from x.post mark kept
 
@@ -223,7 +317,7 @@ module _ {S : Type 0} where
       let before = same leave log n in
       let step = moves_letter n (has_left leave log) leave (length (letters log)) x mark (kept_in leave log) in
       let gone = ap (times n) (map-append (λ (end : Attachment S × Why). end.0.place) (gone_in leave log) c.gone) ∙ times-append n (gone_places (gone_in leave log)) (gone_places c.gone) in
-      let found = times-append n (found_in leave log) (letter_found (has_left leave log) leave (length (letters log)) x mark (kept_in leave log)) in
+      let found = times-append n (found_in leave log) (letter_by found_by (has_left leave log) leave (length (letters log)) x mark (kept_in leave log)) in
       omega (arith, before, step, gone, found)
   same leave (Flush log s w mark) n =
       let c = flush_change leave log s w mark in

@@ -14,7 +14,8 @@ use Rattle.rx_sink.specs.Acts.{Acts, Step, Takes, Flushes}
 use Rattle.rx_sink.specs.Attachments.{Attachment, Mark, Fine, Fault, NoMemory, Apart, is_clear, is_held_back, is_last, may_wait, is_of, kept_for, without, replaced, with_note, with_flush, paid, attached, given, settled, served, served_yet, flushed, written, detached, let_go}
 use Rattle.rx_sink.specs.Stands.{IsKept}
 use Rattle.rx_drain.specs.Credit.{IsPaid}
-use Rattle.rx_drain.specs.Logs.{Log, NoLetters, Next, Flush, letters, has_left, brought, post_change, letter_change, kept_in}
+use Rattle.rx_drain.specs.Logs.{Log, NoLetters, Next, Flush, letters, has_left, brought, letter_change, kept_in}
+use Rattle.rx_drain.proofs.Changing.{post_change}
 use Rattle.rx_sink.proofs.Apartness.{key_is}
 use Rattle.rx_drain.proofs.Taking.{all_append, all_but, all_with, apart_in}
 

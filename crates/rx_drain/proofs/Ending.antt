@@ -22,7 +22,8 @@ use Rattle.rx_drain.specs.declared.drain_end.DrainEnd.{DrainEnd}
 use Rattle.rx_drain.specs.declared.drain_fault.DrainFault.{DrainFault}
 use Rattle.rx_drain.specs.declared.drain_fault.DrainFault.TheVariants.{InboxGone}
 use Rattle.rx_drain.specs.declared.drain_stop.DrainStop.{DrainStop}
-use Rattle.rx_drain.specs.Logs.{Log, NoLetters, Next, Flush, letters, has_left, letter_change, post_change, kept_in, sent_in}
+use Rattle.rx_drain.specs.Logs.{Log, NoLetters, Next, Flush, letters, has_left, letter_change, kept_in, sent_in}
+use Rattle.rx_drain.proofs.Changing.{post_change}
 use Rattle.rx_drain.specs.Credit.{IsPaid, AreAllPaid}
 use Rattle.rx_drain.specs.Drainers.{DrainerView, HaveSent, SentUpTo, Stands, Drains, IsDrained, Handles, FlushesAll, Goes, Pays, KeepsPlaces, TakesMore, TakesOne, with_letters, view_of}
 use Rattle.rx_drain.specs.Serving.{HasServed, HasStopped}

@@ -1,4 +1,5 @@
 pub mod Events
+pub mod Changing
 pub mod Standing
 pub mod Ending
 pub mod Taking
@@ -8,3 +9,4 @@ mod Tallying
 pub mod Crediting
 pub mod Clearing
 pub mod Paying
+mod Faultless

@@ -15,11 +15,12 @@ use Rattle.rx_pump.specs.declared.out.Out.TheVariants.{Attach, Give, Detach}
 use Rattle.rx_pump.proofs.Placing.{slice_get-append_left, slice_get-append_right}
 use Rattle.rx_sink.specs.declared.flow.Flow.{Flow}
 use Rattle.rx_sink.specs.Attachments.{Attachment, Why, TookLast, Detached, FailedAtStart, FailedAt, FailedAtFlush, Mark, Fine, Fault, NoMemory, Sent, Change, is_clear, is_held_back, is_last, is_of, kept_for, without, replaced, with_note, with_flush, paid, request, requests, dispose, parting, partings, attached, given, settled, served, served_yet, flushed, written, detached, let_go, closed}
-use Rattle.rx_drain.specs.Logs.{Log, NoLetters, Next, Flush, letters, has_left, brought, post_change, letter_change, kept_in, change, flush_change, gone_in, sent_in}
-use Rattle.rx_drain.specs.Once.{times, letter_found, found_in}
+use Rattle.rx_drain.specs.Logs.{Log, NoLetters, Next, Flush, letters, has_left, brought, letter_change, kept_in, change, flush_change, gone_in, sent_in}
+use Rattle.rx_drain.proofs.Changing.{post_change}
+use Rattle.rx_drain.specs.Once.{times, found_by, missed_by, place_by, post_by, letter_by, found_in, missed_at}
 use Rattle.rx_drain.specs.Served.{StandsAt}
 use Rattle.rx_drain.specs.Sent.{asks, at_end, sent_for, to_subject, asked, dues, asked_in_all, IsSentForEach}
-use Rattle.rx_drain.proofs.Counting.{times-append, kept_places, gone_places, below, without_places, same, once}
+use Rattle.rx_drain.proofs.Counting.{times-append, kept_places, gone_places, below, without_places, same, once, once_in_all, misses}
 use Rattle.rx_drain.proofs.Taking.{all_append, some_split}
 
 -- EVENTS OF A PLACE
@@ -213,10 +214,11 @@ module _ {S : Type 0} where
   abbrev Few : List (Attachment S) → List (Attachment S × Why) → Type 0
   Few kept gone = (n : ℕ) → times n (kept_places kept) + times n (gone_places gone) ≤ 1
 
-  -- nothing was sent for the place, or the disposal of an observer whose sink found no memory
-  abbrev Other : List Sent → List (Letter (Out S)) → ℕ → Type 0
-  Other xs received n =
-      (sent_for n xs ≡ []) ⊎ ((a : Attachment S) × (a.place ≡ n) × StandsAt received a × (sent_for n xs ≡ to_subject a (Dispose a.who ∷ [])))
+  -- nothing was sent for the place, or just where a sink found no memory there the disposal of its observer
+  abbrev Other : List ℕ → List Sent → List (Letter (Out S)) → ℕ → Type 0
+  Other missed xs received n =
+      ((times n missed ≡ 0) × (sent_for n xs ≡ []))
+      ⊎ ((times n missed ≡ 1) × (a : Attachment S) × (a.place ≡ n) × StandsAt received a × (sent_for n xs ≡ to_subject a (Dispose a.who ∷ [])))
 
   record Told (xs : List Sent) (gone : List (Attachment S × Why)) (c : Change S) : Type 0 where
     pub still : Asked (xs ++ c.sends) c.kept
@@ -431,24 +433,32 @@ module _ {S : Type 0} where
 
   -- OTHER PLACES
 
-  -- what a letter sends for a place at which no attachment stands: nothing, or a disposal where its sink found no memory
-  abbrev Quiet : ℕ → ℕ → Letter (Out S) → Change S → Type 0
-  Quiet n place x c =
-      (sent_for n c.sends ≡ [])
-      ⊎ ((from : ℕ) × (w : ℕ) × (sink : S) × (place ≡ n) × (x ≡ letter from (Body (Attach w sink))) × (sent_for n c.sends ≡ (from, Dispose w) ∷ []))
+  -- what a letter sends for a place at which no attachment stands: nothing, or just where its sink found no memory a disposal
+  abbrev Quiet : ℕ → ℕ → List ℕ → Letter (Out S) → Change S → Type 0
+  Quiet n place missed x c =
+      ((times n missed ≡ 0) × (sent_for n c.sends ≡ []))
+      ⊎ ((times n missed ≡ 1) × (from : ℕ) × (w : ℕ) × (sink : S) × (place ≡ n) × (x ≡ letter from (Body (Attach w sink))) × (sent_for n c.sends ≡ (from, Dispose w) ∷ []))
 
   module _ (n : ℕ) (kept : List (Attachment S)) (apart : AllByRecursion (λ a. a.place ≢ n) kept) where
     quiet_attach : (place from w : ℕ) (sink : S) (mark : Mark) (o : Option (Attachment S))
         → times n (gone_places (attached mark (brought place from w sink) o kept).gone) ≡ 0
-        → Quiet n place (letter from (Body (Attach w sink))) (attached mark (brought place from w sink) o kept)
-    quiet_attach place from w sink mark (Some other) none = inl refl
-    quiet_attach place from w sink (Fine flow) None none = inl refl
+        → Quiet n place (place_by missed_by mark place o) (letter from (Body (Attach w sink))) (attached mark (brought place from w sink) o kept)
+    quiet_attach place from w sink mark (Some other) none = inl (refl, refl)
+    quiet_attach place from w sink (Fine flow) None none = inl (refl, refl)
     quiet_attach place from w sink Fault None none =
-        inl (sent_other n (dispose (brought place from w sink)) (λ same. (let a = none_gone n ((brought place from w sink, FailedAtStart) ∷ []) none in a.0 (sym same))))
+        inl (refl, sent_other n (dispose (brought place from w sink)) (λ same. (let a = none_gone n ((brought place from w sink, FailedAtStart) ∷ []) none in a.0 (sym same))))
     quiet_attach place from w sink NoMemory None none =
         elim (eqb_tells place n) [
-          | inl (test, same) ↦ inr (from, w, sink, same, refl, subst (λ (m : ℕ). sent_for m (dispose (brought place from w sink) ∷ []) ≡ (from, Dispose w) ∷ []) same (sent_here (dispose (brought place from w sink))))
-          | inr (test, other) ↦ inl (sent_other n (dispose (brought place from w sink)) (λ same. other (sym same)))
+          | inl (test, same) ↦ inr (
+            ap (λ t. (if t then 1 else 0) + 0) test,
+            from,
+            w,
+            sink,
+            same,
+            refl,
+            subst (λ (m : ℕ). sent_for m (dispose (brought place from w sink) ∷ []) ≡ (from, Dispose w) ∷ []) same (sent_here (dispose (brought place from w sink))),
+          )
+          | inr (test, other) ↦ inl (ap (λ t. (if t then 1 else 0) + 0) test, sent_other n (dispose (brought place from w sink)) (λ same. other (sym same)))
         ]
 
     quiet_settle : (s w : ℕ) (leaves held_back : Bool) (b : Attachment S) (took : ℕ) → b.place ≢ n → sent_for n (settled leaves held_back s w b took kept).sends ≡ []
@@ -493,46 +503,54 @@ module _ {S : Type 0} where
     quiet_detach s w (Some a) is = quiet_let_go s w a.over a (found_has (λ (d : Attachment S). d.place ≢ n) s w a kept is apart)
 
     quiet_post : (b : Bool) (place from : ℕ) (post : Post (Out S)) (mark : Mark) → times n (gone_places (post_change b place from post mark kept).gone) ≡ 0
-        → Quiet n place (letter from post) (post_change b place from post mark kept)
-    quiet_post true place from (Body out) mark none = inl refl
-    quiet_post true place from Bye mark none = inl (none_sent n kept apart)
-    quiet_post false place from Bye mark none = inl refl
+        → Quiet n place (post_by missed_by b place from post mark kept) (letter from post) (post_change b place from post mark kept)
+    quiet_post true place from (Body out) mark none = inl (refl, refl)
+    quiet_post true place from Bye mark none = inl (refl, none_sent n kept apart)
+    quiet_post false place from Bye mark none = inl (refl, refl)
     quiet_post false place from (Body (Attach w sink)) mark none = quiet_attach place from w sink mark (kept_for from w kept) none
-    quiet_post false place from (Body (Give w note)) mark none = inl (quiet_give from w note mark (kept_for from w kept) refl)
-    quiet_post false place from (Body (Detach w)) mark none = inl (quiet_detach from w (kept_for from w kept) refl)
+    quiet_post false place from (Body (Give w note)) mark none = inl (refl, quiet_give from w note mark (kept_for from w kept) refl)
+    quiet_post false place from (Body (Detach w)) mark none = inl (refl, quiet_detach from w (kept_for from w kept) refl)
 
     quiet_letter : (b : Bool) (leave place : ℕ) (x : Letter (Out S)) (mark : Mark) → times n (gone_places (letter_change b leave place x mark kept).gone) ≡ 0
-        → Quiet n place x (letter_change b leave place x mark kept)
-    quiet_letter true leave place x mark none = inl refl
+        → Quiet n place (letter_by missed_by b leave place x mark kept) x (letter_change b leave place x mark kept)
+    quiet_letter true leave place x mark none = inl (refl, refl)
     quiet_letter false leave place x mark none = quiet_post (x.from == leave) place x.from x.post mark none
 
-  -- nothing was sent for a place to come
-  fresh_place : (xs : List Sent) (received : List (Letter (Out S))) → Other xs received (length received) → sent_for (length received) xs ≡ []
-  fresh_place xs received (inl none) = none
-  fresh_place xs received (inr (a, place, stands, is)) =
+  -- nothing was sent for a place to come, and no sink missed there
+  fresh_place : (missed : List ℕ) (xs : List Sent) (received : List (Letter (Out S))) → Other missed xs received (length received)
+      → (times (length received) missed ≡ 0) × (sent_for (length received) xs ≡ [])
+  fresh_place missed xs received (inl none) = none
+  fresh_place missed xs received (inr (one, a, place, stands, is)) =
       absurd (past received _ (subst (λ (n : ℕ). slice_get received n ≡ Some (letter a.subject (Body (Attach a.who a.sink)))) place stands))
 
-  other_stays : (xs ys : List Sent) (received : List (Letter (Out S))) (x : Letter (Out S)) (n : ℕ) → sent_for n ys ≡ [] → Other xs received n → Other (xs ++ ys) (received ++ x ∷ []) n
-  other_stays xs ys received x n none (inl is) = inl (keep n xs ys [] none is)
-  other_stays xs ys received x n none (inr (a, place, stands, is)) =
-      inr (a, place, slice_get-append_left received (x ∷ []) a.place _ stands, keep n xs ys (to_subject a (Dispose a.who ∷ [])) none is)
+  other_stays : (missed more : List ℕ) (xs ys : List Sent) (received : List (Letter (Out S))) (x : Letter (Out S)) (n : ℕ) → times n more ≡ 0 → sent_for n ys ≡ []
+      → Other missed xs received n → Other (missed ++ more) (xs ++ ys) (received ++ x ∷ []) n
+  other_stays missed more xs ys received x n no_more none (inl (zero_yet, is)) = inl (omega (arith, zero_yet, no_more, times-append n missed more), keep n xs ys [] none is)
+  other_stays missed more xs ys received x n no_more none (inr (one, a, place, stands, is)) = inr (
+    omega (arith, one, no_more, times-append n missed more),
+    a,
+    place,
+    slice_get-append_left received (x ∷ []) a.place _ stands,
+    keep n xs ys (to_subject a (Dispose a.who ∷ [])) none is,
+  )
 
-  other_keeps : (xs ys : List Sent) (received : List (Letter (Out S))) (n : ℕ) → sent_for n ys ≡ [] → Other xs received n → Other (xs ++ ys) received n
-  other_keeps xs ys received n none (inl is) = inl (keep n xs ys [] none is)
-  other_keeps xs ys received n none (inr (a, place, stands, is)) = inr (a, place, stands, keep n xs ys (to_subject a (Dispose a.who ∷ [])) none is)
+  other_keeps : (missed : List ℕ) (xs ys : List Sent) (received : List (Letter (Out S))) (n : ℕ) → sent_for n ys ≡ [] → Other missed xs received n → Other missed (xs ++ ys) received n
+  other_keeps missed xs ys received n none (inl (zero_yet, is)) = inl (zero_yet, keep n xs ys [] none is)
+  other_keeps missed xs ys received n none (inr (one, a, place, stands, is)) = inr (one, a, place, stands, keep n xs ys (to_subject a (Dispose a.who ∷ [])) none is)
 
-  other_next : (xs : List Sent) (received : List (Letter (Out S))) (x : Letter (Out S)) (n : ℕ) (c : Change S) → Quiet n (length received) x c
-      → Other xs received n → Other xs received (length received) → Other (xs ++ c.sends) (received ++ x ∷ []) n
-  other_next xs received x n c (inl none) other fresh = other_stays xs c.sends received x n none other
-  other_next xs received x n c (inr (from, w, sink, place, is, one)) other fresh =
-      let before : sent_for n xs ≡ [] = subst (λ (m : ℕ). sent_for m xs ≡ []) place (fresh_place xs received fresh) in
+  other_next : (missed more : List ℕ) (xs : List Sent) (received : List (Letter (Out S))) (x : Letter (Out S)) (n : ℕ) (c : Change S) → Quiet n (length received) more x c
+      → Other missed xs received n → Other missed xs received (length received) → Other (missed ++ more) (xs ++ c.sends) (received ++ x ∷ []) n
+  other_next missed more xs received x n c (inl (no_more, none)) other fresh = other_stays missed more xs c.sends received x n no_more none other
+  other_next missed more xs received x n c (inr (one_more, from, w, sink, place, is, one)) other fresh =
+      let before = subst (λ (m : ℕ). (times m missed ≡ 0) × (sent_for m xs ≡ [])) place (fresh_place missed xs received fresh) in
       let at : slice_get (received ++ x ∷ []) (length received) ≡ Some x =
       ap (slice_get (received ++ x ∷ [])) (let e : length received ≡ length received + 0 = omega arith in e) ∙ slice_get-append_right received (x ∷ []) 0 in
       inr (
+        omega (arith, before.0, one_more, times-append n missed more),
         brought (length received) from w sink,
         place,
         at ∙ ap (λ (y : Letter (Out S)). Some y) is,
-        sent_append n xs c.sends ∙ ap (λ l. l ++ sent_for n c.sends) before ∙ one,
+        sent_append n xs c.sends ∙ ap (λ l. l ++ sent_for n c.sends) before.1 ∙ one,
       )
 
 -- ALL LETTERS
@@ -541,7 +559,8 @@ module _ {S : Type 0} (leave : ℕ) where
   record Holds (log : Log S) : Type 0 where
     pub kept : Asked (sent_in leave log) (kept_in leave log)
     pub gone : AskedAll (sent_in leave log) (gone_in leave log)
-    pub others : (n : ℕ) → times n (kept_places (kept_in leave log)) + times n (gone_places (gone_in leave log)) ≡ 0 → Other (sent_in leave log) (letters log) n
+    pub others : (n : ℕ) → times n (kept_places (kept_in leave log)) + times n (gone_places (gone_in leave log)) ≡ 0
+        → Other (missed_at leave log) (sent_in leave log) (letters log) n
 
   few_in : (log : Log S) → Few (kept_in leave log) (gone_in leave log)
   few_in log n = omega (arith, same leave log n, once leave log n)
@@ -551,34 +570,34 @@ module _ {S : Type 0} (leave : ℕ) where
 
   holds_others : (log : Log S) (x : Letter (Out S)) (mark : Mark) → Holds log → (n : ℕ)
       → times n (kept_places (kept_in leave (Next log x mark))) + times n (gone_places (gone_in leave (Next log x mark))) ≡ 0
-      → Other (sent_in leave (Next log x mark)) (letters (Next log x mark)) n
+      → Other (missed_at leave (Next log x mark)) (sent_in leave (Next log x mark)) (letters (Next log x mark)) n
   holds_others log x mark h n none =
       let c = change leave log x mark in
       let after = same leave (Next log x mark) n in
       let before = same leave log n in
-      let found = times-append n (found_in leave log) (letter_found (has_left leave log) leave (length (letters log)) x mark (kept_in leave log)) in
+      let found = times-append n (found_in leave log) (letter_by found_by (has_left leave log) leave (length (letters log)) x mark (kept_in leave log)) in
       let gone = ap (times n) (map-append (λ (end : Attachment S × Why). end.0.place) (gone_in leave log) c.gone) ∙ times-append n (gone_places (gone_in leave log)) (gone_places c.gone) in
       let was : times n (kept_places (kept_in leave log)) + times n (gone_places (gone_in leave log)) ≡ 0 = omega (arith, none, after, before, found) in
       let quiet = quiet_letter n (kept_in leave log) (none_kept n (kept_in leave log) (omega (arith, was))) (has_left leave log) leave (length (letters log)) x mark (omega (arith, none, gone)) in
-      other_next (sent_in leave log) (letters log) x n c quiet (h.others n was) (h.others (length (letters log)) (none_yet log))
+      other_next (missed_at leave log) (letter_by missed_by (has_left leave log) leave (length (letters log)) x mark (kept_in leave log)) (sent_in leave log) (letters log) x n c quiet (h.others n was) (h.others (length (letters log)) (none_yet log))
 
   -- a flush sends for the attachments that are kept alone
   other_flush : (log : Log S) (s w : ℕ) (mark : Mark) → Holds log → (n : ℕ)
       → times n (kept_places (kept_in leave (Flush log s w mark))) + times n (gone_places (gone_in leave (Flush log s w mark))) ≡ 0
-      → Other (sent_in leave (Flush log s w mark)) (letters log) n
+      → Other (missed_at leave log) (sent_in leave (Flush log s w mark)) (letters log) n
   other_flush log s w mark h n none =
       let c = flush_change leave log s w mark in
       let after = same leave (Flush log s w mark) n in
       let before = same leave log n in
       let was : times n (kept_places (kept_in leave log)) + times n (gone_places (gone_in leave log)) ≡ 0 = omega (arith, none, after, before) in
       let quiet = quiet_flush n (kept_in leave log) (none_kept n (kept_in leave log) (omega (arith, was))) s w mark (kept_for s w (kept_in leave log)) refl in
-      other_keeps (sent_in leave log) c.sends (letters log) n quiet (h.others n was)
+      other_keeps (missed_at leave log) (sent_in leave log) c.sends (letters log) n quiet (h.others n was)
 
   holds : (log : Log S) → Holds log
-  holds NoLetters = record { kept = tt; gone = tt; others = λ n none. inl refl }
+  holds NoLetters = record { kept = tt; gone = tt; others = λ n none. inl (refl, refl) }
   holds (Next log x mark) =
       let h = holds log in
-      let fresh = fresh_place (sent_in leave log) (letters log) (h.others (length (letters log)) (none_yet log)) in
+      let fresh = (fresh_place (missed_at leave log) (sent_in leave log) (letters log) (h.others (length (letters log)) (none_yet log))).1 in
       let none = none_yet log in
       let t = told_letter (sent_in leave log) (kept_in leave log) (gone_in leave log) (few_in log) h.kept h.gone (has_left leave log) leave (length (letters log)) x mark fresh
       (omega (arith, none)) (omega (arith, none)) in
@@ -588,11 +607,27 @@ module _ {S : Type 0} (leave : ℕ) where
       let t = told_flush (sent_in leave log) (kept_in leave log) (gone_in leave log) (few_in log) h.kept h.gone s w mark (kept_for s w (kept_in leave log)) refl in
       record { kept = t.still; gone = t.ended; others = other_flush log s w mark h }
 
+-- a place that was missed, or was not
+module _ {S : Type 0} where
+  was_missed : (missed : List ℕ) (xs : List Sent) (received : List (Letter (Out S))) (n : ℕ) → times n missed ≡ 1 → Other missed xs received n
+      → (a : Attachment S) × (a.place ≡ n) × StandsAt received a × (sent_for n xs ≡ to_subject a (Dispose a.who ∷ []))
+  was_missed missed xs received n one (inl (none, is)) = absurd (omega (arith, one, none))
+  was_missed missed xs received n one (inr (_, a, place, stands, is)) = (a, place, stands, is)
+
+  was_not : (missed : List ℕ) (xs : List Sent) (received : List (Letter (Out S))) (n : ℕ) → times n missed ≡ 0 → Other missed xs received n → sent_for n xs ≡ []
+  was_not missed xs received n none (inl (_, is)) = is
+  was_not missed xs received n none (inr (one, a, place, stands, is)) = absurd (omega (arith, one, none))
+
 pub each_is_sent_for : {S : Type 0} (leave : ℕ) (log : Log S) → IsSentForEach leave log
 each_is_sent_for leave log =
     let h = holds leave log in
+    let places = λ (n : ℕ). times-append n (kept_places (kept_in leave log)) (gone_places (gone_in leave log)) in
     record {
       kept = h.kept;
       gone = h.gone;
-      others = λ n none. h.others n (omega (arith, none, times-append n (kept_places (kept_in leave log)) (gone_places (gone_in leave log))));
+      missed = λ n one. was_missed (missed_at leave log) (sent_in leave log) (letters log) n one (h.others n (omega (arith, one, once_in_all leave log n, same leave log n)));
+      others = λ n none.
+          (let all = places n in was_not (missed_at leave log) (sent_in leave log) (letters log) n (omega (arith, none)) (h.others n (omega (arith, none, all))));
+      once = λ n. (let all = places n in omega (arith, all, once_in_all leave log n, same leave log n));
+      misses = misses leave log;
     }

@@ -23,11 +23,12 @@ use Rattle.rx_sink.specs.declared.kept.Kept.{Kept}
 use Rattle.rx_sink.specs.declared.put_away.PutAway.{PutAway}
 use Rattle.rx_sink.specs.Acts.{Acts, raised}
 use Rattle.rx_sink.specs.Attachments.{Attachment, Why, Mark, Fine, Fault, NoMemory, Change, is_clear, is_held_back, kept_for, with_note, with_flush, attached, given, settled, served, served_yet, flushed, written, detached, let_go, unchanged, left, closed, dispose, requests, parting, partings, request, is_last}
-use Rattle.rx_sink.specs.Stands.{Stand, Did, FlushesOne, IsKept, IsPutAway, addressed, counted}
+use Rattle.rx_sink.specs.Stands.{Stand, Did, FlushesOne, IsKept, IsPutAway, addressed, tallied}
 use Rattle.rx_drain.specs.declared.drain_fault.DrainFault.{DrainFault}
 use Rattle.rx_drain.specs.declared.drain_fault.DrainFault.TheVariants.{InboxGone, SubjectGone}
 use Rattle.rx_drain.specs.Calls.{calls_to, parting_of, partings_of, SendsAll}
-use Rattle.rx_drain.specs.Logs.{Log, Next, Flush, letters, has_left, brought, out_change, out_unserved, post_change, letter_change, kept_in, change, flush_change, gone_in, sent_in, missed_in, taken_in, put_by}
+use Rattle.rx_drain.specs.Logs.{Log, Next, Flush, letters, has_left, brought, out_change, out_unserved, letter_change, kept_in, change, flush_change, gone_in, sent_in, missed_in, taken_in, put_by}
+use Rattle.rx_drain.proofs.Changing.{post_change}
 use Rattle.rx_drain.specs.Drainers.{DrainerView, IsOfSubject, HaveSent, SentUpTo, Stands, ServesOut, Handles}
 use Rattle.rx_drain.proofs.Events.{calls_to-append}
 
@@ -147,21 +148,21 @@ module _ {S : Type 0} where
   took_out place subject (Give who note) mark kept = took_given mark subject who note (kept_for subject who kept) kept
   took_out place subject (Detach who) mark kept = inl (took_detached subject who (kept_for subject who kept) kept)
 
-counted-more : (m n k : ℕ) → m ≡ min n (2 ^ 64 - 1) → (k ≡ 0) ⊎ (k ≡ 1) → counted m k ≡ min (n + k) (2 ^ 64 - 1)
-counted-more m n k is (inl none) = ap (counted m) none ∙ (let e : m ≡ min (n + k) (2 ^ 64 - 1) = omega (arith, is, none) in e)
-counted-more m n k is (inr one) = ap (counted m) one ∙ (let e : raised m ≡ min (n + k) (2 ^ 64 - 1) = omega (arith, is, one) in e)
+tallied-more : (m n k : ℕ) → m ≡ min n (2 ^ 64 - 1) → (k ≡ 0) ⊎ (k ≡ 1) → tallied m k ≡ min (n + k) (2 ^ 64 - 1)
+tallied-more m n k is (inl none) = ap (tallied m) none ∙ (let e : m ≡ min (n + k) (2 ^ 64 - 1) = omega (arith, is, none) in e)
+tallied-more m n k is (inr one) = ap (tallied m) one ∙ (let e : raised m ≡ min (n + k) (2 ^ 64 - 1) = omega (arith, is, one) in e)
 
 module _ {S Rest : Type 0} (acts : Acts S Rest) where
   -- what came is this
   pub serves_so : (place subject : ℕ) (o out : Out S) (held : List (Attachment S)) (gone : List (Attachment S × Why)) (kept : List (Kept S)) (away : List (PutAway Rest))
       (misses misses_after taken taken_after : ℕ) (events : List (ℕ × Event)) (back : Option S) → out ≡ o
-      → (mark : Mark) → Did acts (out_change place subject o mark held) gone kept away events → misses_after ≡ counted misses (out_change place subject o mark held).missed
-      → taken_after ≡ counted taken (out_change place subject o mark held).took → back ≡ out_unserved subject o mark held
-      → (m : Mark) × Did acts (out_change place subject out m held) gone kept away events × (misses_after ≡ counted misses (out_change place subject out m held).missed)
-      × (taken_after ≡ counted taken (out_change place subject out m held).took) × (back ≡ out_unserved subject out m held)
+      → (mark : Mark) → Did acts (out_change place subject o mark held) gone kept away events → misses_after ≡ tallied misses (out_change place subject o mark held).missed
+      → taken_after ≡ tallied taken (out_change place subject o mark held).took → back ≡ out_unserved subject o mark held
+      → (m : Mark) × Did acts (out_change place subject out m held) gone kept away events × (misses_after ≡ tallied misses (out_change place subject out m held).missed)
+      × (taken_after ≡ tallied taken (out_change place subject out m held).took) × (back ≡ out_unserved subject out m held)
   serves_so place subject o out held gone kept away misses misses_after taken taken_after events back is mark did missed took unserved =
-      subst (λ (u : Out S). (m : Mark) × Did acts (out_change place subject u m held) gone kept away events × (misses_after ≡ counted misses (out_change place subject u m held).missed)
-      × (taken_after ≡ counted taken (out_change place subject u m held).took) × (back ≡ out_unserved subject u m held))
+      subst (λ (u : Out S). (m : Mark) × Did acts (out_change place subject u m held) gone kept away events × (misses_after ≡ tallied misses (out_change place subject u m held).missed)
+      × (taken_after ≡ tallied taken (out_change place subject u m held).took) × (back ≡ out_unserved subject u m held))
       (sym is) (mark, did, missed, took, unserved)
 
 -- WHAT THE PORTS HAVE PUT
@@ -387,8 +388,8 @@ module _ {S Rest : Type 0} (acts : Acts S Rest) where
               sent = subst (λ (l : Bool). SentUpTo after.fault l (sent ++ addressed c.sends) after.ports) (sym left_after)
                   (subst (SentUpTo after.fault false (sent ++ addressed c.sends)) (sym (after_ports ∙ all_open ended b none)) have_now);
               sinks = did.1.stand;
-              missed = did.2 ∙ counted-more before.misses (missed_in leave log) c.missed s.missed (missed_out place from out mark (kept_in leave log));
-              took = did.3 ∙ counted-more before.taken (taken_in leave log) c.took s.took (took_out place from out mark (kept_in leave log));
+              missed = did.2 ∙ tallied-more before.misses (missed_in leave log) c.missed s.missed (missed_out place from out mark (kept_in leave log));
+              took = did.3 ∙ tallied-more before.taken (taken_in leave log) c.took s.took (took_out place from out mark (kept_in leave log));
             }),
       )
 

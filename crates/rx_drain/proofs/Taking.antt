@@ -12,8 +12,9 @@ use Rattle.rx_pump.specs.declared.out.Out.TheVariants.{Attach, Give, Detach}
 use Rattle.rx_pump.proofs.Placing.{slice_get-append_left, slice_get-append_right}
 use Rattle.rx_sink.specs.declared.flow.Flow.{Flow}
 use Rattle.rx_sink.specs.Attachments.{Attachment, Why, TookLast, Detached, Closed, FailedAtStart, FailedAt, FailedAtFlush, Mark, Fine, Fault, NoMemory, Change, Apart, is_clear, is_held_back, is_last, is_of, kept_for, without, replaced, with_note, with_flush, paid, attached, given, settled, served as serve_note, served_yet, flushed, written, detached, let_go, closed}
-use Rattle.rx_drain.specs.Logs.{Log, NoLetters, Next, Flush, letters, has_left, brought, post_change, letter_change, kept_in, change, flush_change, gone_in}
-use Rattle.rx_drain.specs.Served.{Bearing, Bears, Stops, Passes, post_bearing, bearing, notes_in, TookOf, bearings, served, StandsAt, SinksTook}
+use Rattle.rx_drain.specs.Logs.{Log, NoLetters, Next, Flush, letters, has_left, brought, letter_change, kept_in, change, flush_change, gone_in}
+use Rattle.rx_drain.proofs.Changing.{post_change}
+use Rattle.rx_drain.specs.Served.{Bearing, Bears, Stops, Passes, from_leave, from_subject, bearing, notes_in, TookOf, bearings, served, StandsAt, SinksTook}
 use Rattle.rx_sink.proofs.Apartness.{apart_but, apart_push, apart_with, both_true, key_is, none_replaced, none_split, none_without}
 use Rattle.rx_drain.proofs.Ending.{bool_cases, kept_none}
 
@@ -360,6 +361,10 @@ module _ {S : Type 0} (leave s w : ℕ) (xs : List (Letter (Out S))) (x : Letter
   found_in (c ∷ kept) a others is apart all = found_step c a kept others is apart all (λ later. found_in kept a others later apart.1 all.1)
 
 -- WHAT A LETTER IS
+
+-- what a post is to the sink of an observer, where it is of the leave port or not, and of the observer's subject or not
+abbrev post_bearing : {S : Type 0} → Bool → Bool → ℕ → Post (Out S) → Bearing
+post_bearing leaves ours who post = if leaves then from_leave post else (if ours then from_subject who post else Passes)
 
 passes_give : (S : Type 0) (b ours : Bool) (who w : ℕ) (note : Note) → b ≡ false → (ours && (who == w)) ≡ false → post_bearing {S = S} b ours who (Body (Give w note)) ≡ Passes
 passes_give S true ours who w note other test = cc

@@ -11,7 +11,7 @@ use Rattle.rx_sink.specs.declared.kept.Kept.{Kept}
 use Rattle.rx_sink.specs.declared.put_away.PutAway.{PutAway}
 use Rattle.rx_sink.specs.Acts.{Acts}
 use Rattle.rx_sink.specs.Attachments.{Attachment, Why, Mark}
-use Rattle.rx_sink.specs.Stands.{Stand, Did, addressed, counted}
+use Rattle.rx_sink.specs.Stands.{Stand, Did, addressed, tallied}
 use Rattle.rx_drain.specs.declared.drain_fault.DrainFault.{DrainFault}
 use Rattle.rx_drain.specs.declared.drain_fault.DrainFault.TheVariants.{InboxGone, SubjectGone}
 use Rattle.rx_drain.specs.declared.drainer_left.DrainerLeft.{DrainerLeft}
@@ -131,8 +131,8 @@ module _ {S Rest : Type 0} (acts : Acts S Rest) where
   ServesOut subject out kept kept_after away away_after misses misses_after taken taken_after events back =
       (place : ℕ) (held : List (Attachment S)) (gone : List (Attachment S × Why)) → Stand acts held gone kept away
       → (mark : Mark) × Did acts (out_change place subject out mark held) gone kept_after away_after (map (λ event. (subject, event)) events)
-      × (misses_after ≡ counted misses (out_change place subject out mark held).missed)
-      × (taken_after ≡ counted taken (out_change place subject out mark held).took)
+      × (misses_after ≡ tallied misses (out_change place subject out mark held).missed)
+      × (taken_after ≡ tallied taken (out_change place subject out mark held).took)
       × (back ≡ out_unserved subject out mark held)
 
   -- a sink, if there is one, was finished, and this is what it left

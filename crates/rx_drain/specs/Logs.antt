@@ -1,7 +1,7 @@
 -- What the letters that a drainer received mean: which sinks are attached, what each took, why it was put away, and what is
 -- owed to each subject. Between letters the drainer flushes sinks. Each letter and each flush is marked, how it went with it
 -- (this project's own rule).
-use Rattle.std.specs.Prelude.{◌==◌, ◌+◌, ◌||◌, ◌&&◌, ℕ, Bool, true, false, List, [], ◌∷◌, ◌++◌, length, Option, Some, None}
+use Rattle.std.specs.Prelude.{◌==◌, ◌+◌, ◌||◌, ◌&&◌, if◌then◌else◌, ℕ, Bool, true, false, List, [], ◌∷◌, ◌++◌, length, Option, Some, None}
 use Rattle.rx_mailbox.specs.declared.letter.Letter.{Letter}
 use Rattle.rx_mailbox.specs.declared.letter.Post.{Post}
 use Rattle.rx_mailbox.specs.declared.letter.Post.TheVariants.{Body, Bye}
@@ -57,17 +57,20 @@ module _ {S : Type 0} where
   out_unserved subject (Give who note) mark kept = None
   out_unserved subject (Detach who) mark kept = None
 
-  -- a post, of the leave port or of a subject: of the leave port only the Bye counts, of a subject all but that
-  abbrev pub post_change : Bool → ℕ → ℕ → Post (Out S) → Mark → List (Attachment S) → Change S
-  post_change true place from (Body out) mark kept = unchanged kept
-  post_change true place from Bye mark kept = left kept
-  post_change false place from (Body out) mark kept = out_change place from out mark kept
-  post_change false place from Bye mark kept = unchanged kept
+  -- what the leave port sends: only its Bye counts
+  abbrev pub leave_change : Post (Out S) → List (Attachment S) → Change S
+  leave_change (Body out) kept = unchanged kept
+  leave_change Bye kept = left kept
 
-  -- a letter, after the Bye of the leave port or before it: after it nothing happens any more
+  -- what a subject sends: all but its Bye does
+  abbrev pub subject_change : ℕ → ℕ → Post (Out S) → Mark → List (Attachment S) → Change S
+  subject_change place subject (Body out) mark kept = out_change place subject out mark kept
+  subject_change place subject Bye mark kept = unchanged kept
+
+  -- a letter, by its port; once the Bye of the leave port has come nothing happens any more
   abbrev pub letter_change : Bool → ℕ → ℕ → Letter (Out S) → Mark → List (Attachment S) → Change S
-  letter_change true leave place x mark kept = unchanged kept
-  letter_change false leave place x mark kept = post_change (x.from == leave) place x.from x.post mark kept
+  letter_change left_before leave place x mark kept =
+      if left_before then unchanged kept else (if x.from == leave then leave_change x.post kept else subject_change place x.from x.post mark kept)
 
   -- ALL LETTERS
 

@@ -13,36 +13,55 @@ abbrev pub times : ℕ → List ℕ → ℕ
 times n [] = 0
 times n (m ∷ ms) = (if m == n then 1 else 0) + times n ms
 
-module _ {S : Type 0} where
-  -- the place of a sink that comes, if it finds one: none is kept for its observer, and there is memory
-  abbrev pub place_found : Mark → ℕ → Option (Attachment S) → List ℕ
-  place_found mark place (Some other) = []
-  place_found (Fine flow) place None = place ∷ []
-  place_found Fault place None = place ∷ []
-  place_found NoMemory place None = []
+-- by the mark of an Attach whose sink finds its place, that place; and of one whose sink finds no memory
+abbrev pub found_by : Mark → ℕ → List ℕ
+found_by (Fine flow) place = place ∷ []
+found_by Fault place = place ∷ []
+found_by NoMemory place = []
+
+abbrev pub missed_by : Mark → ℕ → List ℕ
+missed_by (Fine flow) place = []
+missed_by Fault place = []
+missed_by NoMemory place = place ∷ []
+
+-- places of sinks that come to an observer for whom none is kept, of a subject and before the leave port's Bye, by their marks
+module _ {S : Type 0} (by : Mark → ℕ → List ℕ) where
+  -- by an Attach
+  abbrev pub place_by : Mark → ℕ → Option (Attachment S) → List ℕ
+  place_by mark place (Some other) = []
+  place_by mark place None = by mark place
 
   -- by what a subject sends
-  abbrev pub out_found : ℕ → ℕ → Out S → Mark → List (Attachment S) → List ℕ
-  out_found place subject (Attach who sink) mark kept = place_found mark place (kept_for subject who kept)
-  out_found place subject (Give who note) mark kept = []
-  out_found place subject (Detach who) mark kept = []
+  abbrev pub out_by : ℕ → ℕ → Out S → Mark → List (Attachment S) → List ℕ
+  out_by place subject (Attach who sink) mark kept = place_by mark place (kept_for subject who kept)
+  out_by place subject (Give who note) mark kept = []
+  out_by place subject (Detach who) mark kept = []
 
   -- by a post, of the leave port or of a subject
-  abbrev pub post_found : Bool → ℕ → ℕ → Post (Out S) → Mark → List (Attachment S) → List ℕ
-  post_found true place from post mark kept = []
-  post_found false place from (Body out) mark kept = out_found place from out mark kept
-  post_found false place from Bye mark kept = []
+  abbrev pub post_by : Bool → ℕ → ℕ → Post (Out S) → Mark → List (Attachment S) → List ℕ
+  post_by true place from post mark kept = []
+  post_by false place from (Body out) mark kept = out_by place from out mark kept
+  post_by false place from Bye mark kept = []
 
   -- by a letter, after the Bye of the leave port or before it
-  abbrev pub letter_found : Bool → ℕ → ℕ → Letter (Out S) → Mark → List (Attachment S) → List ℕ
-  letter_found true leave place x mark kept = []
-  letter_found false leave place x mark kept = post_found (x.from == leave) place x.from x.post mark kept
+  abbrev pub letter_by : Bool → ℕ → ℕ → Letter (Out S) → Mark → List (Attachment S) → List ℕ
+  letter_by true leave place x mark kept = []
+  letter_by false leave place x mark kept = post_by (x.from == leave) place x.from x.post mark kept
 
+  -- by all letters
+  abbrev pub places_by : ℕ → Log S → List ℕ
+  places_by leave NoLetters = []
+  places_by leave (Next log x mark) = places_by leave log ++ letter_by (has_left leave log) leave (length (letters log)) x mark (kept_in leave log)
+  places_by leave (Flush log subject who mark) = places_by leave log
+
+module _ {S : Type 0} where
   -- the places of all Attaches whose sinks found theirs
   abbrev pub found_in : ℕ → Log S → List ℕ
-  found_in leave NoLetters = []
-  found_in leave (Next log x mark) = found_in leave log ++ letter_found (has_left leave log) leave (length (letters log)) x mark (kept_in leave log)
-  found_in leave (Flush log subject who mark) = found_in leave log
+  found_in leave log = places_by found_by leave log
+
+  -- the places of all Attaches whose sinks found no memory
+  abbrev pub missed_at : ℕ → Log S → List ℕ
+  missed_at leave log = places_by missed_by leave log
 
   -- the places of the attachments that are kept and of those that have ended
   abbrev pub places_of : List (Attachment S) → List (Attachment S × Why) → List ℕ

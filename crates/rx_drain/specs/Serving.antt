@@ -27,6 +27,7 @@ module _ {S Rest : Type 0} (acts : Acts S Rest) where
   pub record Serves (drainer : DrainerView S Rest) (end : DrainEnd S Rest) (log : Log S) : Type 0 where
     pub drains : Drains acts (view_of_end end) log
     pub each_bye : HasEachBye end.inbox
+    -- where each Bye had come before, no letter was waited for
     pub over : HasEachBye drainer.inbox → end.inbox ≡ drainer.inbox
     pub places : KeepsPlaces drainer (view_of_end end)
 
@@ -39,6 +40,7 @@ module _ {S Rest : Type 0} (acts : Acts S Rest) where
   pub record Stops (drainer : DrainerView S Rest) (stop : DrainStop S Rest) (log : Log S) : Type 0 where
     pub drains : Drains acts (view_of stop.left (has_left (length drainer.ports) log) (Some stop.fault)) log
     pub places : KeepsPlaces drainer (view_of stop.left (has_left (length drainer.ports) log) (Some stop.fault))
+    -- that no letter comes is a fault only while a Bye has not come
     pub waited : stop.fault ≡ InboxGone → drainer.fault ≡ None → ¬ HasEachBye stop.left.parts.inbox
 
   -- there are such marks

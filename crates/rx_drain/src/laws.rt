@@ -3,7 +3,7 @@
 ghost use Rattle.rx_drain.specs.Once.{EachSinkOnce};
 ghost use Rattle.rx_drain.specs.Paying.{NothingWaits, OwesNothing};
 ghost use Rattle.rx_drain.specs.Sent.{EachIsSentFor};
-ghost use Rattle.rx_drain.specs.Served.{EachSinkTook};
+ghost use Rattle.rx_drain.specs.Served.{EachSinkTook, FaultlessSinksTookAll};
 ghost use Rattle.rx_drain.specs.Tallies.{EachNoteCounts};
 
 use rx_sink::Sink;
@@ -15,6 +15,12 @@ pub fn each_sink_took<S: Drop>()
     ensures { EachSinkTook S }
 {}
 
+/// What each sink's own count of faults tells: a sink that was put away with the count that it had when it came, below the
+/// greatest `u64`, took all that it was to be served.
+pub fn faultless_sinks_took_all<S: Sink>()
+    ensures { FaultlessSinksTookAll S.acts }
+{}
+
 /// Each sink that came and found its place is kept or was put away, and none twice.
 pub fn each_sink_once<S: Drop>()
     ensures { EachSinkOnce S }
@@ -22,7 +28,8 @@ pub fn each_sink_once<S: Drop>()
 
 /// Each attachment's calls: its subject is sent, for each attachment, a request for one item more for each item that its sink
 /// took, but for those that are due while it is kept, and then at its end one disposal, but where its observer had left.
-/// Nothing else is sent, but the disposal of an observer whose sink found no memory.
+/// For an Attach whose sink found no memory just the disposal of its observer is sent, so often as sinks were missed; and for no
+/// other letter anything, so nothing for a sink that was left unserved.
 pub fn each_is_sent_for<S: Drop>()
     ensures { EachIsSentFor S }
 {}

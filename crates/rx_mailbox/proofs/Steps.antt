@@ -2,6 +2,7 @@
 use Rattle.std.proofs.Common.{◌≡◌, ◌≢◌, ◌+◌, ◌<◌, ◌≤◌, ℕ, Bool, false, Option, Some, None, List, [], ◌∷◌, ◌++◌, length, set, refl, sym, ap, ◌∙◌, subst, append_assoc, ⊎_elim, arith}
 use Rattle.std.proofs.lemmas.Bool.{cases_Bool, cases_eq, cases_lt}
 use Rattle.std.proofs.lemmas.List.Elements.{All-nil, All-push, All-weaker}
+use Rattle.std.specs.List.{All}
 use mathlib.Core.Option.{some}
 use lib.ListN.{get_elem?}
 use Rattle.atomic_table.proofs.Lists.{at_set}
@@ -10,7 +11,7 @@ use Rattle.rx_mailbox.specs.declared.letter.Letter.{Letter}
 use Rattle.rx_mailbox.specs.declared.rule.View.{View}
 use Rattle.rx_mailbox.specs.declared.rule.View.TheVariants.{Sends, Receives, Spent}
 use Rattle.rx_mailbox.specs.Letters.{share, has_bye, NothingAfterBye}
-use Rattle.rx_mailbox.specs.Rule.{IsUnmade, FitsNote, Fits, Keeps, KeepsShares}
+use Rattle.rx_mailbox.specs.Rule.{KeepsShares}
 use Rattle.rx_mailbox.specs.Steps.{one_more, new_port, Puts, Takes, noted, Shows}
 use Rattle.rx_mailbox.specs.Passes.{own_of, made_of, taken_of, notes_of, IsPort, IsReader}
 use Rattle.rx_mailbox.proofs.Letters.{end_is_nil, share-own, share-other, share-middle, NothingAfterBye-push, nothing_after}
@@ -19,6 +20,57 @@ use Rattle.rx_mailbox.proofs.Passes.{put, put-here, put-else, Each, Each-set, Ea
 -- a port that has no pass still has none
 still_none : (seat : ℕ → Option ℕ) (port q : ℕ) → seat q ≡ None → put port None seat q ≡ None
 still_none seat port q none = ⊎_elim (λ same. put-here port q None seat same) (λ apart. put-else port q None seat apart ∙ none) (cases_eq q port)
+
+-- THE RULE BY PASSES
+-- `all` are the letters that were ever put, in order, and `seat` gives the unspent pass of each port
+
+module _ {B : Type 0} (all : List (Letter B)) (seat : ℕ → Option ℕ) where
+  -- a port that was not made has no pass and put nothing
+  abbrev IsUnmade : ℕ → Type 0
+  IsUnmade port = (seat port ≡ None) × (share port all ≡ [])
+
+  -- a joined port has no pass any more, and put the letters that its note has
+  abbrev FitsNote : ℕ → ℕ × List (Letter B) → Type 0
+  FitsNote made note = (seat note.0 ≡ None) × (share note.0 all ≡ note.1) × (note.0 < made)
+
+  -- what a pass knows is so, where `reader` is the inbox's pass and `received` what it took
+  abbrev Fits : ℕ → List (Letter B) → ℕ → View B → Type 0
+  Fits reader received pass (Sends port own) = (seat port ≡ Some pass) × (share port all ≡ own)
+  Fits reader received pass (Receives made taken notes) =
+      (pass ≡ reader) × (taken ≡ received) × ((port : ℕ) → made ≤ port → IsUnmade port) × All (FitsNote made) notes
+  Fits reader received pass Spent = Unit {0}
+
+  -- no port goes on after its Bye, and what each pass knows is so
+  record Keeps (reader : ℕ) (received : List (Letter B)) (views : List (View B)) : Type 0 where
+    pub ended : (port : ℕ) → NothingAfterBye (share port all)
+    pub known : (pass : ℕ) (v : View B) → get_elem? views pass ≡ some v → Fits reader received pass v
+
+module _ {B : Type 0} where
+  -- the rule, told pass by pass
+  abbrev ByPasses : List (Letter B) → List (View B) → Type 0
+  ByPasses queue views = (seat : ℕ → Option ℕ) × (reader : ℕ) × (received : List (Letter B)) × Keeps (received ++ queue) seat reader received views
+
+  fits_by : (queue : List (Letter B)) (views : List (View B)) (h : KeepsShares queue views) (pass : ℕ) (v : View B) → get_elem? views pass ≡ some v
+      → Fits (h.received ++ queue) h.seat h.reader h.received pass v
+  fits_by queue views h pass (Sends port own) at = h.sends pass port own at
+  fits_by queue views h pass (Receives made taken notes) at =
+      let is = h.receives pass made taken notes at in (is.0, is.1, h.unmade pass made taken notes at, h.noted pass made taken notes at)
+  fits_by queue views h pass Spent at = tt
+
+  by_passes : (queue : List (Letter B)) (views : List (View B)) → KeepsShares queue views → ByPasses queue views
+  by_passes queue views h = (h.seat, h.reader, h.received, record { ended = h.one_bye; known = fits_by queue views h })
+
+  from_passes : (queue : List (Letter B)) (views : List (View B)) → ByPasses queue views → KeepsShares queue views
+  from_passes queue views k = record {
+    reader = k.1;
+    received = k.2;
+    seat = k.0;
+    sends = λ pass port own at. k.3.known pass (Sends port own) at;
+    receives = λ pass made taken notes at. (let is = k.3.known pass (Receives made taken notes) at in (is.0, is.1));
+    unmade = λ pass made taken notes at. (let is = k.3.known pass (Receives made taken notes) at in is.2);
+    noted = λ pass made taken notes at. (let is = k.3.known pass (Receives made taken notes) at in is.3);
+    one_bye = k.3.ended;
+  }
 
 module _ {B : Type 0} where
   -- the pass of a port, which is not the inbox's, still fits where its port's seat and share stay
@@ -46,7 +98,7 @@ module _ {B : Type 0} where
 
   -- an empty box, and the inbox's pass
   pub begins : KeepsShares {B = B} [] (Receives 0 [] [] ∷ [])
-  begins = (
+  begins = from_passes [] (Receives 0 [] [] ∷ []) (
     (λ _. None),
     0,
     [],
@@ -58,7 +110,8 @@ module _ {B : Type 0} where
 
   -- a letter is put by a port that has not ended
   pub puts : (n pass port : ℕ) (own : List (Letter B)) (x : Letter B) → x.from ≡ port → has_bye own ≡ false → Pushes KeepsShares n pass (Sends port own) x (Puts (Sends port own) x)
-  puts n pass port own x from open_yet queue views room h at =
+  puts n pass port own x from open_yet queue views room rule at =
+      let h = by_passes queue views rule in
       let all = h.2 ++ queue in
       let mine = h.3.known pass (Sends port own) at in
       let after : View B = Sends port (own ++ x ∷ []) in
@@ -72,7 +125,7 @@ module _ {B : Type 0} where
             (mine.0, share-own port x all from ∙ ap (λ l. l ++ x ∷ []) mine.1)
             (λ j u apart e. others_fit all (all ++ x ∷ []) h.0 h.1 h.2 port pass j u (λ q other. share-other q x all (λ same. other (sym same ∙ from))) mine.0 apart (h.3.known j u e));
       } in
-      (after, (h.0, h.1, h.2, subst (λ l. Keeps l h.0 h.1 h.2 (set views pass after)) (append_assoc h.2 queue (x ∷ [])) grown), refl)
+      (after, from_passes (queue ++ x ∷ []) (set views pass after) (h.0, h.1, h.2, subst (λ l. Keeps l h.0 h.1 h.2 (set views pass after)) (append_assoc h.2 queue (x ∷ [])) grown), refl)
 
   -- a letter of the queue comes from a port that was made
   made_one : (all : List (Letter B)) (seat : ℕ → Option ℕ) (made : ℕ) (x : Letter B) (before after : List (Letter B)) → all ≡ before ++ x ∷ after → ((port : ℕ) → made ≤ port → IsUnmade all seat port) → x.from < made
@@ -90,7 +143,8 @@ module _ {B : Type 0} where
 
   -- the inbox takes the front letter
   pub takes : (pass made : ℕ) (taken : List (Letter B)) (notes : List (ℕ × List (Letter B))) → Pops KeepsShares pass (Receives made taken notes) (Takes (Receives made taken notes))
-  takes pass made taken notes x queue views h at =
+  takes pass made taken notes x queue views rule at =
+      let h = by_passes (x ∷ queue) views rule in
       let mine = h.3.known pass (Receives made taken notes) at in
       let after : View B = Receives made (taken ++ x ∷ []) notes in
       let all = h.2 ++ x ∷ queue in
@@ -102,7 +156,7 @@ module _ {B : Type 0} where
             (λ j u apart e. port_fits all all h.0 h.0 h.1 pass h.2 received j u (λ q s. (s, refl)) (λ is. apart (is ∙ sym mine.0)) (h.3.known j u e));
       } in (
         after,
-        (h.0, pass, received, subst (λ l. Keeps l h.0 pass received (set views pass after)) (sym (append_assoc h.2 (x ∷ []) queue)) kept),
+        from_passes queue (set views pass after) (h.0, pass, received, subst (λ l. Keeps l h.0 pass received (set views pass after)) (sym (append_assoc h.2 (x ∷ []) queue)) kept),
         (
           refl,
           made_one all h.0 made x h.2 queue refl mine.2,
@@ -112,14 +166,16 @@ module _ {B : Type 0} where
 
   -- a port is made
   pub forks : (pass made : ℕ) (taken : List (Letter B)) (notes : List (ℕ × List (Letter B))) → Forks KeepsShares pass (Receives made taken notes) (Receives (made + 1) taken notes) (Sends made [])
-  forks pass made taken notes queue views h at =
+  forks pass made taken notes queue views rule at =
+      let h = by_passes queue views rule in
       let mine = h.3.known pass (Receives made taken notes) at in
       let left : View B = Receives (made + 1) taken notes in
       let all = h.2 ++ queue in
       let views_left = set views pass left in
       let seat = put made (Some (length views_left)) h.0 in
       let here = mine.2 made (omega arith) in
-      let elsewhere : (q : ℕ) → q ≢ made → seat q ≡ h.0 q = λ q other. put-else made q (Some (length views_left)) h.0 other in (
+      let elsewhere : (q : ℕ) → q ≢ made → seat q ≡ h.0 q = λ q other. put-else made q (Some (length views_left)) h.0 other in
+      from_passes queue (views_left ++ Sends made [] ∷ []) (
         seat,
         h.1,
         h.2,
@@ -142,7 +198,8 @@ module _ {B : Type 0} where
   -- an ended port is joined
   pub merges : (pass made : ℕ) (taken : List (Letter B)) (notes : List (ℕ × List (Letter B))) (other port : ℕ) (own : List (Letter B))
       → Merges KeepsShares pass (Receives made taken notes) other (Sends port own) (Receives made taken (notes ++ (port, own) ∷ [])) Spent
-  merges pass made taken notes other port own queue views h at apart at_other =
+  merges pass made taken notes other port own queue views rule at apart at_other =
+      let h = by_passes queue views rule in
       let mine = h.3.known pass (Receives made taken notes) at in
       let both : View B = Receives made taken (notes ++ (port, own) ∷ []) in
       let all = h.2 ++ queue in
@@ -162,7 +219,8 @@ module _ {B : Type 0} where
       ))
       (λ j u not_mine e not_theirs. port_fits all all h.0 seat h.1 h.1 h.2 h.2 j u
       (λ q s. (put-else port q None h.0 (λ same. not_theirs (let e2 : Some j ≡ Some other = sym s ∙ ap h.0 same ∙ theirs.0 in cc)) ∙ s, refl))
-      (λ is. not_mine (is ∙ sym mine.0)) (h.3.known j u e)) in (
+      (λ is. not_mine (is ∙ sym mine.0)) (h.3.known j u e)) in
+      from_passes queue (set views_both other Spent) (
         seat,
         h.1,
         h.2,
@@ -171,7 +229,8 @@ module _ {B : Type 0} where
 
   -- the rule is read by the inbox's pass
   pub shows : (pass made : ℕ) (taken : List (Letter B)) (notes : List (ℕ × List (Letter B))) → Learns KeepsShares pass (Receives made taken notes) (Shows (Receives made taken notes))
-  shows pass made taken notes queue views h at =
+  shows pass made taken notes queue views rule at =
+      let h = by_passes queue views rule in
       let mine = h.3.known pass (Receives made taken notes) at in
       let all = h.2 ++ queue in
       subst (λ l. Shows (Receives made l notes) queue) (sym mine.1) (

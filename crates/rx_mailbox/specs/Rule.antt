@@ -6,33 +6,30 @@ use mathlib.Core.Option.{some}
 use lib.ListN.{get_elem?}
 use Rattle.rx_mailbox.specs.declared.letter.Letter.{Letter}
 use Rattle.rx_mailbox.specs.declared.rule.View.{View}
-use Rattle.rx_mailbox.specs.declared.rule.View.TheVariants.{Sends, Receives, Spent}
+use Rattle.rx_mailbox.specs.declared.rule.View.TheVariants.{Sends, Receives}
 use Rattle.rx_mailbox.specs.Letters.{share, NothingAfterBye}
 
--- `all` are the letters that were ever put, in order, and `seat` gives the unspent pass of each port
-module _ {B : Type 0} (all : List (Letter B)) (seat : ℕ → Option ℕ) where
-  -- a port that was not made has no pass and put nothing
-  abbrev pub IsUnmade : ℕ → Type 0
-  IsUnmade port = (seat port ≡ None) × (share port all ≡ [])
+module _ {B : Type 0} where
+  -- a pass has this view
+  abbrev pub Knows : List (View B) → ℕ → View B → Type 0
+  Knows views pass v = get_elem? views pass ≡ some v
 
-  -- a joined port has no pass any more, and put the letters that its note has
-  abbrev pub FitsNote : ℕ → ℕ × List (Letter B) → Type 0
-  FitsNote made note = (seat note.0 ≡ None) × (share note.0 all ≡ note.1) × (note.0 < made)
-
-  -- what a pass knows is so, where `reader` is the inbox's pass and `received` what it took
-  abbrev pub Fits : ℕ → List (Letter B) → ℕ → View B → Type 0
-  Fits reader received pass (Sends port own) = (seat port ≡ Some pass) × (share port all ≡ own)
-  Fits reader received pass (Receives made taken notes) =
-      (pass ≡ reader) × (taken ≡ received) × ((port : ℕ) → made ≤ port → IsUnmade port) × All (FitsNote made) notes
-  Fits reader received pass Spent = Unit {0}
-
-  -- no port goes on after its Bye, and what each pass knows is so
-  pub record Keeps (reader : ℕ) (received : List (Letter B)) (views : List (View B)) : Type 0 where
-    pub ended : (port : ℕ) → NothingAfterBye (share port all)
-    pub known : (pass : ℕ) (v : View B) → get_elem? views pass ≡ some v → Fits reader received pass v
-
--- The rule: the letters received, followed by those in the queue, are all that were ever put. So of each port whose pass
--- is not spent, the received letters followed by those in the queue are the port's own list, whole and in its order
-abbrev pub KeepsShares : {B : Type 0} → List (Letter B) → List (View B) → Type 0
-KeepsShares {B} queue views =
-    (seat : ℕ → Option ℕ) × (reader : ℕ) × (received : List (Letter B)) × Keeps (received ++ queue) seat reader received views
+  -- The rule: the letters received, followed by those in the queue, are all that were ever put. So of each port whose pass is not
+  -- spent, the received letters followed by those in the queue are the port's own list, whole and in its order
+  pub record KeepsShares (queue : List (Letter B)) (views : List (View B)) : Type 0 where
+    -- the pass of the inbox, the letters that it received, and the unspent pass of each port that has one
+    pub reader : ℕ
+    pub received : List (Letter B)
+    pub seat : ℕ → Option ℕ
+    -- a port has put just what the owner of its pass knows
+    pub sends : (pass port : ℕ) (own : List (Letter B)) → Knows views pass (Sends port own) → (seat port ≡ Some pass) × (share port (received ++ queue) ≡ own)
+    -- the inbox has received just what the owner of its pass knows, which is the only one of its kind
+    pub receives : (pass made : ℕ) (taken : List (Letter B)) (notes : List (ℕ × List (Letter B))) → Knows views pass (Receives made taken notes) → (pass ≡ reader) × (taken ≡ received)
+    -- a port that was not made has no pass and put nothing
+    pub unmade : (pass made : ℕ) (taken : List (Letter B)) (notes : List (ℕ × List (Letter B))) → Knows views pass (Receives made taken notes)
+        → (port : ℕ) → made ≤ port → (seat port ≡ None) × (share port (received ++ queue) ≡ [])
+    -- a joined port has no pass any more, and put the letters that its note has
+    pub noted : (pass made : ℕ) (taken : List (Letter B)) (notes : List (ℕ × List (Letter B))) → Knows views pass (Receives made taken notes)
+        → All (λ note. (seat note.0 ≡ None) × (share note.0 (received ++ queue) ≡ note.1) × (note.0 < made)) notes
+    -- no port goes on after its Bye
+    pub one_bye : (port : ℕ) → NothingAfterBye (share port (received ++ queue))

@@ -65,7 +65,7 @@ module _ {S : Type 0} where
     pub routed : HavePut (λ d. route rules (length drainers) d B) drainers
     pub replied : HavePut (λ p. replies rules p B) callers
 
-  -- the drainer at this place is gone: of what the last letter sends all was put that comes before the first out for it, and
+  -- the drainer at this place is gone: of what the last letter sends all was put that comes before an out for it, and
   -- nothing from there on
   pub record StoppedAtDrainer (place : ℕ) (rules : Rules) (B : Marked S) (drainers : List (Outgoing (Out S))) (callers : List (Outgoing (Reply S))) : Type 0 where
     pub named : place < length drainers

@@ -27,6 +27,7 @@ module _ {S : Type 0} where
   pub record Serves (pump : PumpView S) (left : PumpEnd S) (B : Marked S) : Type 0 where
     pub accounts : Accounts left.hub left.inbox pump.misses_before B
     pub each_bye : HasEachBye left.inbox
+    -- where each Bye had come before, no letter was waited for
     pub over : HasEachBye pump.inbox → left.inbox ≡ pump.inbox
     pub calls : left.calls ≡ counted (bodies_in B)
     pub refused : left.refused ≡ counted (refused_in B)
@@ -47,6 +48,7 @@ module _ {S : Type 0} where
     pub no_drainers : stop.ended_drainers.items ≡ []
     pub no_callers : stop.ended_replies.items ≡ []
     pub put : HavePutUpTo (Some stop.fault) pump.hub.state.rules B stop.parts.drainers.items stop.parts.replies.items
+    -- that no letter comes is a fault only while a Bye has not come
     pub waited : stop.fault ≡ InboxGone → pump.fault ≡ None → ¬ HasEachBye stop.parts.inbox
 
   -- the fault names the first port that has not ended: of those to drainers, or once these have ended of those for replies

@@ -16,7 +16,7 @@ use Rattle.rx_sink.specs.declared.put_away.PutAway.{PutAway}
 use Rattle.rx_sink.specs.declared.sink.SinkFault.{SinkFault}
 use Rattle.rx_sink.specs.Acts.{Acts, Step, Takes, Flushes, notes_by, last_by, Makes, Took, raised}
 use Rattle.rx_sink.specs.Attachments.{Attachment, Why, TookLast, Detached, Closed, FailedAtStart, FailedAt, FailedAtFlush, Mark, Fine, Fault, NoMemory, Sent, Change, is_clear, is_held_back, is_last, may_wait, kept_for, given, settled, answered, served, served_yet, flushed, written, attached, detached, let_go, unchanged, with_note, with_flush, paid, request, requests, dispose, parting, without, replaced, closed}
-use Rattle.rx_sink.specs.Stands.{IsKept, Last, IsPutAway, Stand, Did, Pushes, Parts, MayPart, EndsAct, Settles, TakesNote, FaultedAt, FaultedAtFlush, Flushed, addressed, counted, events_of}
+use Rattle.rx_sink.specs.Stands.{IsKept, Last, IsPutAway, Stand, Did, Pushes, Parts, MayPart, EndsAct, Settles, TakesNote, FaultedAt, FaultedAtFlush, Flushed, addressed, tallied, events_of}
 use Rattle.rx_sink.proofs.Apartness.{apart_but, apart_push, apart_with}
 use Rattle.rx_sink.proofs.Finding.{AllZip-more, Found, remove-set, set-same, slice_get-set}
 
@@ -114,7 +114,7 @@ module _ {S Rest : Type 0} (acts : Acts S Rest) where
   clear_pays Stuck false due is = cc
 
   settled_counts : (leaves held_back : Bool) (n subject who : ℕ) (a : Attachment S) (kept : List (Attachment S))
-      → raised n ≡ counted n (settled leaves held_back subject who a 1 kept).took
+      → raised n ≡ tallied n (settled leaves held_back subject who a 1 kept).took
   settled_counts true held_back n subject who a kept = refl
   settled_counts false true n subject who a kept = refl
   settled_counts false false n subject who a kept = refl
@@ -280,7 +280,7 @@ module _ {S Rest : Type 0} (acts : Acts S Rest) where
         → MatchResult r (λ said. TakesNote acts note f.one now said) (λ _. FaultedAt acts note f.one now)
         → now.subject ≡ f.one.subject → now.who ≡ f.one.who → EndsAct acts place r (set kept place now) kept_after away away_after asks
         → (mark : Mark) × Did acts (given mark subject who note (kept_for subject who held) held) gone kept_after away_after (map (λ event. (subject, event)) (events_of asks))
-        × ((if is_ok r then raised n else n) ≡ counted n (given mark subject who note (kept_for subject who held) held).took)
+        × ((if is_ok r then raised n else n) ≡ tallied n (given mark subject who note (kept_for subject who held) held).took)
     given_one (Ok said) n note now asks kept_after away_after open_yet did same_subject same_who ends =
         let is = noted (is_last note) note did.flow now said open_yet did.took did.faultless same_subject same_who did.over did.may_wait did.settles in
         let same = to_given (Fine did.flow) note open_yet in
@@ -288,26 +288,26 @@ module _ {S Rest : Type 0} (acts : Acts S Rest) where
           Fine did.flow,
           subst (λ (c : Change S). Did acts c gone kept_after away_after (map (λ event. (subject, event)) (events_of asks))) same
               (answered_did did.flow b now said asks 1 kept_after away_after is ends),
-          subst (λ (c : Change S). raised n ≡ counted n c.took) same (settled_counts (b.over && is_clear did.flow) (is_held_back did.flow b.due) n subject who b held),
+          subst (λ (c : Change S). raised n ≡ tallied n c.took) same (settled_counts (b.over && is_clear did.flow) (is_held_back did.flow b.due) n subject who b held),
         )
     given_one (Err fault) n note now asks kept_after away_after open_yet did same_subject same_who ends =
         let same = to_given Fault note open_yet in (
           Fault,
           subst (λ (c : Change S). Did acts c gone kept_after away_after (map (λ event. (subject, event)) (events_of asks))) same
               (parted kept_after away_after now (FailedAt note) asks same_subject same_who did.due (f.one.sink, f.tie.took, did.faulted, did.rose) ends),
-          subst (λ (c : Change S). n ≡ counted n c.took) same refl,
+          subst (λ (c : Change S). n ≡ tallied n c.took) same refl,
         )
 
     -- it took a terminal before
     pub given_over : (n : ℕ) (note : Note) (asks : Asks) → f.one.over ≡ true → asks ≡ record { who = who; items = 0; leaves = false }
         → Did acts (given Fault subject who note (kept_for subject who held) held) gone kept away (map (λ event. (subject, event)) (events_of asks))
-        × (n ≡ counted n (given Fault subject who note (kept_for subject who held) held).took)
+        × (n ≡ tallied n (given Fault subject who note (kept_for subject who held) held).took)
     given_over n note asks over none =
         let same : unchanged held ≡ given Fault subject who note (kept_for subject who held) held =
         sym (ap (λ o. given Fault subject who note o held) f.found ∙ ap (λ b. served_yet b Fault subject who note f.a held) (sym f.tie.over ∙ over)) in (
           subst (λ (e : Asks). Did acts (given Fault subject who note (kept_for subject who held) held) gone kept away (map (λ event. (subject, event)) (events_of e))) (sym none)
               (subst (λ (c : Change S). Did acts c gone kept away []) same (unchanged_stands held gone kept away stand)),
-          subst (λ (c : Change S). n ≡ counted n c.took) same refl,
+          subst (λ (c : Change S). n ≡ tallied n c.took) same refl,
         )
 
     -- A FLUSH
@@ -367,10 +367,10 @@ module _ {S Rest : Type 0} (acts : Acts S Rest) where
   pub given_nobody : (n subject who : ℕ) (held : List (Attachment S)) (gone : List (Attachment S × Why)) (kept : List (Kept S)) (away : List (PutAway Rest)) (note : Note) (asks : Asks)
       → Stand acts held gone kept away → kept_for subject who held ≡ None → asks ≡ record { who = who; items = 0; leaves = false }
       → Did acts (given Fault subject who note (kept_for subject who held) held) gone kept away (map (λ event. (subject, event)) (events_of asks))
-      × (n ≡ counted n (given Fault subject who note (kept_for subject who held) held).took)
+      × (n ≡ tallied n (given Fault subject who note (kept_for subject who held) held).took)
   given_nobody n subject who held gone kept away note asks stand none empty = (
     nothing_there held gone kept away subject who asks _ stand empty (ap (λ o. given Fault subject who note o held) none),
-    sym (ap (λ o. counted n (given Fault subject who note o held).took) none),
+    sym (ap (λ o. tallied n (given Fault subject who note o held).took) none),
   )
 
   pub flushed_nobody : (subject who : ℕ) (held : List (Attachment S)) (gone : List (Attachment S × Why)) (kept : List (Kept S)) (away : List (PutAway Rest)) (asks : Asks)

@@ -17,9 +17,9 @@ abbrev pub addressed : List Sent → List (ℕ × Event)
 addressed sends = map (λ s. (s.subject, s.event)) sends
 
 -- a count of misses, or of notes taken, with those of one letter or flush more
-abbrev pub counted : ℕ → ℕ → ℕ
-counted n zero = n
-counted n (suc _) = raised n
+abbrev pub tallied : ℕ → ℕ → ℕ
+tallied n zero = n
+tallied n (suc _) = raised n
 
 -- what is asked for an observer: so many items, one by one, and then that it be let go
 abbrev pub events_of : Asks → List Event
@@ -83,7 +83,7 @@ module _ {S Rest : Type 0} (acts : Acts S Rest) where
   Attaches subject who sink kept kept_after away away_after misses misses_after events back =
       (place : ℕ) (held : List (Attachment S)) (gone : List (Attachment S × Why)) → Stand held gone kept away
       → (mark : Mark) × (let change = attached mark (record { place = place; subject = subject; who = who; sink = sink; taken = []; due = 0; over = false; last = None }) (kept_for subject who held) held in
-      Did change gone kept_after away_after (map (λ event. (subject, event)) events) × (misses_after ≡ counted misses change.missed))
+      Did change gone kept_after away_after (map (λ event. (subject, event)) events) × (misses_after ≡ tallied misses change.missed))
       × (back ≡ unserved mark sink (kept_for subject who held))
 
   -- a note came
@@ -91,7 +91,7 @@ module _ {S Rest : Type 0} (acts : Acts S Rest) where
   Gives subject who note kept kept_after away away_after taken taken_after events =
       (held : List (Attachment S)) (gone : List (Attachment S × Why)) → Stand held gone kept away
       → (mark : Mark) × (let change = given mark subject who note (kept_for subject who held) held in
-      Did change gone kept_after away_after (map (λ event. (subject, event)) events) × (taken_after ≡ counted taken change.took))
+      Did change gone kept_after away_after (map (λ event. (subject, event)) events) × (taken_after ≡ tallied taken change.took))
 
   -- the sink of an observer was flushed
   abbrev pub FlushesOne : ℕ → ℕ → List (Kept S) → List (Kept S) → List (PutAway Rest) → List (PutAway Rest) → List Event → Type 0

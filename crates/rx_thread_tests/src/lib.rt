@@ -26,4 +26,6 @@ mod texts;
 #[cfg(test)]
 mod two_threads;
 #[cfg(test)]
+mod unserved;
+#[cfg(test)]
 mod wakes;
