@@ -15,6 +15,8 @@ mod admitting;
 mod client;
 mod clients;
 mod dispatching;
+mod ending;
+mod hired;
 mod hiring;
 mod joined;
 mod leaving;
