@@ -222,6 +222,16 @@ module _ {C W : Type 0} where
       let is : desk_of one ≡ desk = ap (λ (s : SessionView (Unit {0}) (LineSink W)). s.calls) new.session in
       record { session = new.session ∙ ap (λ d. session_over config d None) (sym is); inbox = new.inbox; room = new.room }
 
+  -- the port of one worker more
+  pub ports_more : (workers workers_after : List (WorkerView (Unit {0}) C W)) (ports ports_after : List (Outgoing (C × W))) (one : WorkerView (Unit {0}) C W) (port : Outgoing (C × W))
+      → ports ≡ map port_to workers → port ≡ port_to one → workers_after ≡ workers ++ one ∷ [] → ports_after ≡ ports ++ port ∷ [] → ports_after ≡ map port_to workers_after
+  ports_more workers workers_after ports ports_after one port are is put put_port =
+      put_port
+      ∙ ap (λ (ps : List (Outgoing (C × W))). ps ++ port ∷ []) are
+      ∙ ap (λ (p : Outgoing (C × W)). map port_to workers ++ p ∷ []) is
+      ∙ sym (map-append port_to workers (one ∷ []))
+      ∙ sym (ap (map port_to) put)
+
   -- ports by which what was dealt was sent are those of the workers
   dealt_ports : (n d : ℕ) (xs : List (C × W)) (workers : List (WorkerView (Unit {0}) C W)) → AllZip IsPortOf workers (dealt_by n d xs (map port_to workers))
   dealt_ports n d xs [] = tt

@@ -1,13 +1,11 @@
-use Rattle.std.proofs.Common.{◌∙◌, sym, ap, List, [], ◌∷◌, ◌++◌, map, Some, arith}
-use Rattle.std.proofs.lemmas.List.{map_push}
+use Rattle.std.proofs.Common.{ap, [], ◌∷◌, ◌++◌, Some, arith}
 use Rattle.std.proofs.lemmas.List.Elements.{All-pop, All-push, All-same}
 use Rattle.std.specs.Arc.{arc_value}
-use Rattle.rx_mailbox.specs.Boxes.{Outgoing}
 use Rattle.rx_workers.specs.Crews.{IsFor, desk_of}
-use Rattle.rx_workers.specs.Service.{IsNewOver, port_to}
+use Rattle.rx_workers.specs.Service.{IsNewOver}
 use Rattle.rx_workers.specs.SessionDesks.{SessionView}
 use Rattle.rx_workers.specs.Working.{WorkerView}
-use Rattle.rx_workers.proofs.Service.{new_own}
+use Rattle.rx_workers.proofs.Service.{new_own, ports_more}
 use Rattle.rx_workers.proofs.Crews.{All-first, split-one, split-back}
 use Rattle.rx_workers.proofs.hiring.hire_all.Goals as goal
 
@@ -42,10 +40,8 @@ loop-desk-preserved g c =
           All-same Q c.push_reserved.new.self.items (c.loop-desk.workers.items ++ c.in-Ok.hired.0 ∷ []) c.push_reserved.ensures.items
           (All-push Q c.loop-desk.workers.items c.in-Ok.hired.0 before.new (new_own (arc_value c.args.config.now) c.in-Some.desk c.in-Ok.hired.0 c.in-Ok.ensures.0));
       ports_are =
-          c.push_reserved-in-Ok.ensures.items
-          ∙ ap (λ (ps : List (Outgoing _)). ps ++ c.in-Ok.hired.1 ∷ []) before.ports_are
-          ∙ ap (λ (p : Outgoing _). map port_to c.loop-desk.workers.items ++ p ∷ []) c.in-Ok.ensures.1
-          ∙ sym (ap (map port_to) c.push_reserved.ensures.items ∙ map_push port_to c.loop-desk.workers.items c.in-Ok.hired.0);
+          ports_more c.loop-desk.workers.items c.push_reserved.new.self.items c.loop-desk.ports.items c.push_reserved-in-Ok.new.self.items c.in-Ok.hired.0 c.in-Ok.hired.1
+          before.ports_are c.in-Ok.ensures.1 c.push_reserved.ensures.items c.push_reserved-in-Ok.ensures.items;
     }
 
 -- there is no worker for this one
