@@ -5,6 +5,8 @@
 #![tactic(auto)]
 
 #[cfg(test)]
+mod crews;
+#[cfg(test)]
 mod crowds;
 #[cfg(test)]
 mod expecting;

@@ -57,7 +57,7 @@ pub(crate) fn config_of(rt: &impl Host, heap: &Heap, text: &[u8]) -> Config {
 }
 
 // A server of the configuration that this text says.
-fn started<S: Sink + Send + 'static>(rt: &impl Host, heap: &Heap, text: &[u8]) -> Server<S>
+pub(crate) fn started<S: Sink + Send + 'static>(rt: &impl Host, heap: &Heap, text: &[u8]) -> Server<S>
 where
     S::Rest: Send + 'static,
 {
@@ -84,13 +84,13 @@ where
 
 /// A desk with a port at least.
 #[derive(Drop)]
-struct Caller<S: Drop> {
+pub(crate) struct Caller<S: Drop> {
     desk: CallDesk<S>,
     ghost has_port: { 0 < length desk.ports + length desk.ended },
 }
 
 // The next desk of a server.
-fn caller_of<S: Sink>(rt: &impl Abort, server: &mut Server<S>) -> Caller<S> {
+pub(crate) fn caller_of<S: Sink>(rt: &impl Abort, server: &mut Server<S>) -> Caller<S> {
     let desk = server.desk().expect(rt, "a desk");
     Caller { desk }
 }
@@ -110,7 +110,12 @@ impl<S: Drop> Caller<S> {
     }
 
     // Joins an observer with this first request, whose notes go to the sink.
-    fn join(&mut self, rt: &(impl Wait + Abort), first: u32, sink: S) -> Result<Answer, Refusal> {
+    pub(crate) fn join(
+        &mut self,
+        rt: &(impl Wait + Abort),
+        first: u32,
+        sink: S,
+    ) -> Result<Answer, Refusal> {
         let policy = Policy::new(Strategy::Buffer, Errors::Delay).expect(rt, "a policy");
         let event = Event::Join {
             policy,
@@ -135,7 +140,7 @@ impl<S: Drop> Caller<S> {
     }
 
     // The list of this one desk, ended.
-    fn finish_alone(self, rt: &(impl Wait + Abort), heap: &Heap) -> Vec<EndedDesk<S>, Heap> {
+    pub(crate) fn finish_alone(self, rt: &(impl Wait + Abort), heap: &Heap) -> Vec<EndedDesk<S>, Heap> {
         vec![in copy(rt, heap); self.finish(rt)].expect(rt, "memory")
     }
 }

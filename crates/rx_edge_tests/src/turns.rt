@@ -6,7 +6,8 @@ use crate::servers::{Host, closed, config_of, copy};
 use rx_drain::LineSink;
 use rx_heap::Heap;
 use rx_server::{
-    AcceptFault, Aim, Bell, Listener, Moments, Readiness, Ready, Server, Watch, WatchFault, start,
+    AcceptFault, Aim, Bell, Listener, Moments, Readiness, Ready, ServeFault, Server, Watch,
+    WatchFault, start,
 };
 use rx_signs::Told;
 use std::alloc::Global;
@@ -36,6 +37,15 @@ const GIVEN_UP: [&[u8]; 5] = [
     b"M|||",
     b"!",
 ];
+
+// How serving ended: by no sign, `M` for want of memory, or `?` for another fault.
+fn put_fault(told: &mut Told, served: Result<(), ServeFault>) {
+    match served {
+        Ok(()) => {}
+        Err(ServeFault::Memory) => told.put(b'M'),
+        Err(_) => told.put(b'?'),
+    }
+}
 
 /// Sends its bytes, three at a time, each behind a read that would block.
 struct Halting {
@@ -104,9 +114,19 @@ impl<R: Wait + Drop> Write for Sipping<R> {
 }
 
 /// Tells each connection that is watched as ready, whenever it is asked.
-struct Everyone {
+pub(crate) struct Everyone {
     keys: Vec<usize>,
     at: usize,
+}
+
+impl Everyone {
+    /// It watches nobody yet.
+    pub(crate) fn new(alloc: Global) -> Everyone {
+        Everyone {
+            keys: Vec::new(alloc),
+            at: 0,
+        }
+    }
 }
 
 impl Drop for Everyone {
@@ -143,7 +163,7 @@ impl<C> Readiness<C> for Everyone {
 
 /// Nobody sleeps who would have to be woken.
 #[derive(Drop)]
-struct Silent;
+pub(crate) struct Silent;
 
 impl Bell for Silent {
     fn ring(&self) {}
@@ -151,7 +171,7 @@ impl Bell for Silent {
 
 /// Time stands still.
 #[derive(Drop)]
-struct Still;
+pub(crate) struct Still;
 
 impl Moments for Still {
     ghost tells = { λ _ _ _. Unit {0} };
@@ -221,10 +241,7 @@ impl<R: Host> Listener for Peers<R> {
     }
 
     fn watch(&self) -> Result<Watch<Everyone, Silent>, WatchFault> {
-        let readiness = Everyone {
-            keys: Vec::new(self.rt.alloc()),
-            at: 0,
-        };
+        let readiness = Everyone::new(self.rt.alloc());
         let bell = Silent;
         Ok(Watch { readiness, bell })
     }
@@ -245,7 +262,7 @@ fn serve_peers<R: Host>(
     free: &Heap,
     server: Server<LineSink<Sipping<R>>>,
     pages: &[Page; 3],
-) -> bool {
+) -> Result<(), ServeFault> {
     let mut server = server;
     let [first, second, third] = pages;
     let mut peers = Peers {
@@ -255,7 +272,7 @@ fn serve_peers<R: Host>(
     };
     let served = server.serve(rt, &mut peers, Still);
     drop(closed(rt, server, Vec::new(copy(rt, free))));
-    served.is_ok()
+    served
 }
 
 // What all peers of a server were answered that grows by `tight`: `!` where it was not started, `M` where none was accepted.
@@ -266,9 +283,7 @@ fn told_of<R: Host>(rt: &R, free: &Heap, tight: &Heap) -> Told {
         return told;
     };
     let pages = [page_of(rt), page_of(rt), page_of(rt)];
-    if !serve_peers(rt, free, server, &pages) {
-        told.put(b'M');
-    }
+    put_fault(&mut told, serve_peers(rt, free, server, &pages));
     for page in &pages {
         told.put_all(page.lock(rt).as_bytes());
         told.put(b'|');

@@ -1,5 +1,5 @@
 // How a server serves: by a crew of workers, one for each desk that was not handed out.
-ghost use Rattle.std.specs.Prelude.{◌≡◌, ◌+◌, ◌≤◌, ◌++◌, [], Err, OnOk, length, vec_len, vec_capacity};
+ghost use Rattle.std.specs.Prelude.{◌≡◌, ◌↔◌, ◌+◌, ◌≤◌, ◌++◌, List, [], Err, OnOk, length, vec_len, vec_capacity};
 ghost use Rattle.std.specs.Vec.Iter.{into_iter_items};
 
 use crate::closing::finish_desks;
@@ -14,7 +14,9 @@ use std::thread::Threads;
 use std::vec::IntoIter;
 
 impl<W: Write + Drop + Send + 'static> Server<LineSink<W>> {
-    ghost use Rattle.rx_workers.specs.Crews.{HasAcceptedAll};
+    ghost use Rattle.rx_pump.specs.Desks.{DeskView};
+    ghost use Rattle.rx_sink.specs.declared.line_sink.LineSink.{LineSink};
+    ghost use Rattle.rx_workers.specs.Service.{ServesUntil};
     ghost use Rattle.rx_server.specs.Servers.{RunsOn};
 
     /// Serves each connection that comes by a session, until as many have ended as the configuration says. A worker serves for
@@ -23,16 +25,20 @@ impl<W: Write + Drop + Send + 'static> Server<LineSink<W>> {
     ///
     /// # Errors
     ///
-    /// `NoDesk`: each desk was handed out. `Memory`: there was none for the workers. `Thread`: a worker has no thread, or is
-    /// gone. `Accept`: the listener failed. The server can be closed after each.
+    /// `NoDesk`: each desk was handed out. `Memory`: there was none for the workers. `Thread`: a worker has no thread or nothing to
+    /// wait by, or is gone. `Accept`: the listener failed, and each connection before was served. The server can be closed after
+    /// each.
     pub fn serve<
         L: Listener<Writer = W>,
         M: Moments + Drop + Send + 'static,
         R: Threads + Wait + Clone + Drop + Send + 'static,
     >(&mut self, rt: &R, listener: &mut L, moments: M) -> Result<(), ServeFault>
-        ensures no_desk { self.old.desks ≡ [] → (result ≡ Err ServeFault.NoDesk) × (self.new ≡ self.old) }
-        ensures served { OnOk result (self.new.desks ≡ []) }
-        ensures accepted { OnOk result (HasAcceptedAll L.accepts self.old.config.connections listener.old listener.new) }
+        ensures no_desk { (result ≡ Err ServeFault.NoDesk) ↔ (self.old.desks ≡ []) }
+        ensures untouched { self.old.desks ≡ [] → self.new ≡ self.old }
+        ensures taken { OnOk result (self.new.desks ≡ []) }
+
+        // By its desks, which were left so.
+        ensures served { (after : List (DeskView (LineSink W))) × ServesUntil L.accepts L.fails M.tells L.Reader.remaining W.contents self.old.config result listener.old listener.new self.old.desks after }
         ensures same { RunsOn self.old self.new }
     {
         let count = self.desks.len();

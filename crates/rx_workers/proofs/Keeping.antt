@@ -9,7 +9,7 @@ use Rattle.rx_proto.specs.declared.command.Command.TheVariants.{Pub, End, Fail, 
 use Rattle.rx_proto.specs.declared.line_error.BadLine.{BadLine}
 use Rattle.rx_proto.specs.declared.response.Response.{Response}
 use Rattle.rx_proto.specs.declared.version.Version.{Version}
-use Rattle.rx_session.specs.OpenSessions.{IsOpen, IsOver, Reaches, Sits}
+use Rattle.rx_session.specs.OpenSessions.{IsOpen, Reaches, Sits}
 use Rattle.rx_session.specs.Sessions.{Parties, Place, Outcome, Emits, Lacks, Goes, Faults, Stops, RunsOut, Serves}
 use Rattle.rx_session.specs.Lines.{lines_of}
 use Rattle.rx_session.specs.Steps.{unread}

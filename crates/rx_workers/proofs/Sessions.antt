@@ -1,5 +1,5 @@
 -- What a session keeps of its desk.
-use Rattle.std.proofs.Common.{◌≡◌, ◌<◌, ℕ, Bool, true, false, List, [], ◌∷◌, ◌++◌, length, replicate, Option, None, Some, MatchOption, refl, sym, ap, subst, ◌∙◌, zero, suc, inl, inr, arith}
+use Rattle.std.proofs.Common.{◌≡◌, ℕ, Bool, true, false, List, [], ◌++◌, replicate, Option, None, Some, MatchOption, refl, sym, subst, ◌∙◌, zero, suc, inl, inr, arith}
 use Rattle.std.proofs.KnownBytes.{Appends-nil}
 use Rattle.std.proofs.lemmas.Bool.{cases_Bool, true≢false}
 use Rattle.std.proofs.lemmas.List.{length-replicate}
@@ -15,7 +15,7 @@ use Rattle.rx_session.specs.Feeds.{IsRest}
 use Rattle.rx_session.specs.OpenSessions.{IsOpen}
 use Rattle.rx_session.specs.Sessions.{Place}
 use Rattle.rx_session.specs.Steps.{unread}
-use Rattle.rx_session.specs.Turns.{Hands, hands, IsAt}
+use Rattle.rx_session.specs.Turns.{hands}
 use Rattle.rx_session.specs.declared.follow.Follow.{Follow}
 use Rattle.rx_session.specs.declared.follow.Follow.TheVariants.{Back}
 use Rattle.rx_session.specs.declared.open_session.OpenSession.{OpenSession}

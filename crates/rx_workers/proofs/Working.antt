@@ -1,9 +1,9 @@
 -- What a worker has done, deed by deed.
-use Rattle.std.proofs.Common.{◌≡◌, ◌≢◌, ◌⊎◌, ℕ, ◌+◌, ◌-◌, ◌^◌, min, List, [], ◌∷◌, ◌++◌, length, Option, None, Some, refl, sym, ap, subst, ◌∙◌, inl, inr, append_assoc}
-use Rattle.std.specs.List.{All}
+use Rattle.std.proofs.Common.{◌≡◌, ◌⊎◌, ℕ, ◌+◌, ◌-◌, ◌^◌, min, Bool, true, false, List, [], ◌∷◌, ◌++◌, length, Option, None, Some, refl, sym, ap, subst, ◌∙◌, inl, inr, true≢false, arith}
+use Rattle.std.specs.List.{All, Contains}
 use Rattle.std.proofs.lemmas.Bool.{cases_eq}
 use Rattle.std.proofs.lemmas.List.{length-append}
-use Rattle.std.proofs.lemmas.List.Elements.{All-nil, All-push, All-weaker}
+use Rattle.std.proofs.lemmas.List.Elements.{All-nil, All-push, All-weaker, Contains-append_right}
 use Rattle.rx_mailbox.specs.Boxes.{Incoming}
 use Rattle.rx_pump.specs.Desks.{DeskView}
 use Rattle.rx_pump.specs.Pumps.{counted}
@@ -25,8 +25,8 @@ use Rattle.rx_workers.specs.declared.client.Talk.{Talk}
 use Rattle.rx_workers.specs.declared.joined.Joined.{Joined}
 use Rattle.rx_workers.specs.declared.worker_end.WorkerEnd.{WorkerEnd}
 use Rattle.rx_workers.specs.Workers.{view_of_end}
-use Rattle.rx_workers.specs.Working.{WorkerView, worker, State, state, Deed, Admitted, GivenUp, Dismissed, Turned, Parted, admitted, Begins, IsTalkOf, Leaves, HasTurn, Does, Works, Goes, IsServed, HasWorked, calls}
-use Rattle.rx_workers.proofs.Sessions.{keeps-equal, keeps-same, keeps-then, turn_keeps}
+use Rattle.rx_workers.specs.Working.{WorkerView, worker, State, state, Deed, Admitted, GivenUp, Dismissed, Abandoned, Turned, Parted, admitted, Begins, IsTalkOf, Leaves, HasTurn, Does, Works, Goes, IsServed, HasWorked, calls}
+use Rattle.rx_workers.proofs.Sessions.{keeps-equal, keeps-then, turn_keeps}
 
 module _ {C W : Type 0} where
   -- something that is said of a session, said of a client
@@ -63,9 +63,10 @@ module _ {M C W : Type 0} (tells : M → ℕ → M → Type 0) (remaining : C �
 
   -- WHAT A DEED KEEPS OF THE DESK
   does_keeps : (deed : Deed (C × W)) (before after : State M C W) → Does tells remaining contents deed before after → KeepsSession before.session after.session
-  does_keeps (Admitted connection place) before after d = keeps-equal before.session after.session d.2
-  does_keeps (GivenUp connection) before after d = keeps-equal before.session after.session d.2
-  does_keeps Dismissed before after d = keeps-equal before.session after.session d.2
+  does_keeps (Admitted connection place) before after d = keeps-equal before.session after.session d.0.session
+  does_keeps (GivenUp connection) before after d = keeps-equal before.session after.session d.0.session
+  does_keeps Dismissed before after d = keeps-equal before.session after.session d.0.session
+  does_keeps Abandoned before after d = keeps-equal before.session after.session (ap (λ (s : State M C W). s.session) d)
   does_keeps (Turned place) before after d = turn_keeps tells remaining contents d.result d.talk d.reader d.session before.session after.session d.turn
   does_keeps (Parted place) before after d = d.1.kept
 
@@ -79,10 +80,11 @@ module _ {M C W : Type 0} (tells : M → ℕ → M → Type 0) (remaining : C �
       → after.sessions ≡ counted (length (admitted deeds))
   works_count [] before after w none = ap (λ (s : State M C W). s.sessions) w ∙ none
   works_count (Admitted x place ∷ deeds) before after w none =
-      w.2.4 ∙ ap (λ n. min (n + 1) (2 ^ 64 - 1)) (works_count deeds before w.0 w.1 none) ∙ counted-more (length (admitted deeds))
+      w.2.2 ∙ ap (λ n. min (n + 1) (2 ^ 64 - 1)) (works_count deeds before w.0 w.1 none) ∙ counted-more (length (admitted deeds))
       ∙ ap counted (sym (length-append (admitted deeds) (x ∷ [])))
-  works_count (GivenUp x ∷ deeds) before after w none = w.2.4 ∙ works_count deeds before w.0 w.1 none
-  works_count (Dismissed ∷ deeds) before after w none = w.2.4 ∙ works_count deeds before w.0 w.1 none
+  works_count (GivenUp x ∷ deeds) before after w none = w.2.2 ∙ works_count deeds before w.0 w.1 none
+  works_count (Dismissed ∷ deeds) before after w none = w.2.2 ∙ works_count deeds before w.0 w.1 none
+  works_count (Abandoned ∷ deeds) before after w none = ap (λ (s : State M C W). s.sessions) w.2 ∙ works_count deeds before w.0 w.1 none
   works_count (Turned place ∷ deeds) before after w none = w.2.sessions ∙ works_count deeds before w.0 w.1 none
   works_count (Parted place ∷ deeds) before after w none = w.2.4 ∙ works_count deeds before w.0 w.1 none
 
@@ -197,6 +199,8 @@ module _ {M C W : Type 0} (tells : M → ℕ → M → Type 0) (remaining : C �
   known_by (Admitted x place) before after connection d known = known_beside place before.clients after.clients None (Some (Talks d.1.0)) connection d.1.2 (λ no. no) known
   known_by (GivenUp x) before after connection d known = known_same before.clients after.clients connection d.1 known
   known_by Dismissed before after connection d known = known_same before.clients after.clients connection d.1 known
+  known_by Abandoned before after connection d known =
+      known_same before.clients after.clients connection (λ place. ap (λ (s : State M C W). client_at place s.clients) d) known
   known_by (Turned place) before after connection d known = known_turn place before after connection d known
   known_by (Parted place) before after connection d known = known_beside place before.clients after.clients (Some (Follows d.0)) None connection d.2 (λ no. no) known
 
@@ -213,6 +217,7 @@ module _ {M C W : Type 0} (tells : M → ℕ → M → Type 0) (remaining : C �
       (known_new place w.0.clients after.clients x w.2.1.0 w.0.session w.2.1.1 w.2.1.2)
   works_known (GivenUp x ∷ deeds) before after w = all_by (GivenUp x) w.0 after (admitted deeds) w.2 (works_known deeds before w.0 w.1)
   works_known (Dismissed ∷ deeds) before after w = all_by Dismissed w.0 after (admitted deeds) w.2 (works_known deeds before w.0 w.1)
+  works_known (Abandoned ∷ deeds) before after w = all_by Abandoned w.0 after (admitted deeds) w.2 (works_known deeds before w.0 w.1)
   works_known (Turned place ∷ deeds) before after w = all_by (Turned place) w.0 after (admitted deeds) w.2 (works_known deeds before w.0 w.1)
   works_known (Parted place ∷ deeds) before after w = all_by (Parted place) w.0 after (admitted deeds) w.2 (works_known deeds before w.0 w.1)
 
@@ -224,15 +229,41 @@ module _ {M C W : Type 0} (tells : M → ℕ → M → Type 0) (remaining : C �
   all_served : (clients : List (Option (Client C W))) (connections : List (C × W)) → IsQuiet clients → All (IsKnown clients) connections → All (IsServed tells remaining contents) connections
   all_served clients connections quiet known = All-weaker (IsKnown clients) (IsServed tells remaining contents) (λ c is. known_served clients c quiet is) connections known
 
+  -- ONCE CLOSED, BY ONE OF TWO DEEDS
+
+  -- a deed before the latest one
+  earlier : (deed : Deed (C × W)) (deeds : List (Deed (C × W))) → Contains deeds Dismissed ⊎ Contains deeds Abandoned
+      → Contains (deed ∷ deeds) Dismissed ⊎ Contains (deed ∷ deeds) Abandoned
+  earlier deed deeds (inl found) = inl (Contains-append_right (deed ∷ []) deeds Dismissed found)
+  earlier deed deeds (inr found) = inr (Contains-append_right (deed ∷ []) deeds Abandoned found)
+
+  -- where a worker is closed to connections that was open before
+  works_over : (deeds : List (Deed (C × W))) (before after : State M C W) → Works tells remaining contents deeds before after → before.is_open ≡ true → after.is_open ≡ false
+      → Contains deeds Dismissed ⊎ Contains deeds Abandoned
+  works_over [] before after w was is = absurd (true≢false (sym was ∙ sym (ap (λ (s : State M C W). s.is_open) w) ∙ is))
+  works_over (Admitted x place ∷ deeds) before after w was is = earlier (Admitted x place) deeds (works_over deeds before w.0 w.1 was (sym w.2.3 ∙ is))
+  works_over (GivenUp x ∷ deeds) before after w was is = earlier (GivenUp x) deeds (works_over deeds before w.0 w.1 was (sym w.2.3 ∙ is))
+  works_over (Dismissed ∷ deeds) before after w was is = inl (0, omega arith, refl)
+  works_over (Abandoned ∷ deeds) before after w was is = inr (0, omega arith, refl)
+  works_over (Turned place ∷ deeds) before after w was is = earlier (Turned place) deeds (works_over deeds before w.0 w.1 was (sym w.2.is_open ∙ is))
+  works_over (Parted place ∷ deeds) before after w was is = earlier (Parted place) deeds (works_over deeds before w.0 w.1 was (sym w.2.5 ∙ is))
+
   -- THE WHOLE
-  pub has_worked : (session : SessionView M (LineSink W)) (inbox : Incoming (C × W)) (after : State M C W) → Goes tells remaining contents (state session inbox [] 0) after → IsQuiet after.clients
+
+  -- a state that is closed
+  state_closed : (s : State M C W) → s.is_open ≡ false → s ≡ state s.session s.inbox s.clients s.sessions false
+  state_closed s closed = ap (λ (b : Bool). state s.session s.inbox s.clients s.sessions b) closed
+
+  pub has_worked : (session : SessionView M (LineSink W)) (inbox : Incoming (C × W)) (after : State M C W) → Goes tells remaining contents (state session inbox [] 0 true) after
+      → after.is_open ≡ false → IsQuiet after.clients
       → HasWorked tells remaining contents (worker session inbox) (worker after.session after.inbox) after.sessions
-  has_worked session inbox after goes quiet =
-      let before : State M C W = state session inbox [] 0 in
+  has_worked session inbox after goes closed quiet =
+      let before : State M C W = state session inbox [] 0 true in
       record {
         deeds = goes.0;
         clients = after.clients;
-        works = goes.1;
+        works = subst (λ (s : State M C W). Works tells remaining contents goes.0 before s) (state_closed after closed) goes.1;
+        is_over = works_over goes.0 before after goes.1 refl closed;
         is_quiet = quiet;
         served = all_served after.clients (admitted goes.0) quiet (works_known goes.0 before after goes.1);
         kept = works_keeps goes.0 before after goes.1;
@@ -260,12 +291,12 @@ module _ {C W : Type 0} (tells : Unit {0} → ℕ → Unit {0} → Type 0) (rema
 
   -- so a worker has that was at work
   pub worker-ended : (before : WorkerView (Unit {0}) C W) (session : SessionView (Unit {0}) (LineSink W)) (inbox : Incoming (C × W)) (begun shift : State (Unit {0}) C W) (end : WorkerEnd C W)
-      → before ≡ worker session inbox → begun ≡ state session inbox [] 0 → Goes tells remaining contents begun shift → IsQuiet shift.clients
+      → before ≡ worker session inbox → begun ≡ state session inbox [] 0 true → Goes tells remaining contents begun shift → shift.is_open ≡ false → IsQuiet shift.clients
       → end.desk ≡ shift.session.calls → end.inbox ≡ shift.inbox → end.sessions ≡ shift.sessions
       → (joined : Option Joined) × HasWorked tells remaining contents before (view_of_end before joined end) end.sessions
-  worker-ended before session inbox begun shift end begins begun_is goes quiet desk inbox_is sessions_are =
-      let from : Goes tells remaining contents (state session inbox [] 0) shift = subst (λ (s : State (Unit {0}) C W). Goes tells remaining contents s shift) begun_is goes in
-      let all = has_worked tells remaining contents session inbox shift from quiet in
+  worker-ended before session inbox begun shift end begins begun_is goes closed quiet desk inbox_is sessions_are =
+      let from : Goes tells remaining contents (state session inbox [] 0 true) shift = subst (λ (s : State (Unit {0}) C W). Goes tells remaining contents s shift) begun_is goes in
+      let all = has_worked tells remaining contents session inbox shift from closed quiet in
       let counted_so : HasWorked tells remaining contents (worker session inbox) (worker shift.session shift.inbox) end.sessions =
       subst (λ (n : ℕ). HasWorked tells remaining contents (worker session inbox) (worker shift.session shift.inbox) n) (sym sessions_are) all in
       let left : HasWorked tells remaining contents (worker session inbox) (worker shift.session end.inbox) end.sessions =

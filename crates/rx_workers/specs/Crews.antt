@@ -1,10 +1,12 @@
 -- The desks of a crew: those that are here, and those that its workers have (this project's own rule).
-use Rattle.std.specs.Prelude.{◌≡◌, ◌+◌, ℕ, List, ◌++◌, length, map, reverse}
+use Rattle.std.specs.Prelude.{◌≡◌, ◌+◌, ◌<◌, ℕ, Bool, true, false, List, ◌++◌, length, map, reverse, Option, None, Some}
+use Rattle.rx_mailbox.specs.Boxes.{Outgoing}
 use Rattle.std.specs.List.{AllZip}
 use Rattle.rx_pump.specs.Desks.{DeskView, KeepsDesk}
 use Rattle.rx_sink.specs.declared.line_sink.LineSink.{LineSink}
-use Rattle.rx_workers.specs.Accepting.{Accepts}
 use Rattle.rx_workers.specs.Working.{WorkerView}
+use Rattle.rx_workers.specs.declared.serve_fault.ServeFault.{ServeFault}
+use Rattle.rx_workers.specs.declared.serve_fault.ServeFault.TheVariants.{NoDesk, Accept, Thread, Memory}
 use Rattle.rx_config.specs.declared.config.Config.{Config}
 
 -- a desk has a port for each subject of a configuration
@@ -23,6 +25,19 @@ module _ {M C W : Type 0} where
     pub parts : kept ++ map desk_of (reverse workers) ≡ desks
     pub same : AllZip KeepsDesk kept here
 
--- so many connections were accepted, one after another
-abbrev pub HasAcceptedAll : {L X : Type 0} → (L → X → L → Type 0) → ℕ → L → L → Type 0
-HasAcceptedAll {X = X} accepts count before after = (xs : List X) × (length xs ≡ count) × Accepts accepts before xs after
+  -- a port to the inbox of a worker
+  abbrev pub IsPortOf : WorkerView M C W → Outgoing (C × W) → Type 0
+  IsPortOf worker port = port.box ≡ worker.inbox.box
+
+-- the first place that was lost, with one more of which it is known whether it has all
+abbrev pub first_lost : Option ℕ → ℕ → Bool → Option ℕ
+first_lost (Some first) place has_all = Some first
+first_lost None place true = None
+first_lost None place false = Some place
+
+-- no worker was hired for the last of so many desks: there was no memory for it, or it has no thread
+abbrev pub NamesLast : ℕ → ServeFault → Type 0
+NamesLast count NoDesk = ⊥
+NamesLast count Accept = ⊥
+NamesLast count (Thread place) = place + 1 ≡ count
+NamesLast count Memory = 0 < count

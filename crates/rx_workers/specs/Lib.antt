@@ -2,6 +2,7 @@ pub mod Accepting
 pub mod Clients
 pub mod Crews
 pub mod Responses
+pub mod Service
 pub mod SessionDesks
 pub mod Telling
 pub mod Workers

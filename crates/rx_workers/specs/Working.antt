@@ -1,9 +1,10 @@
 -- What a worker does: it serves the connections that it receives, each by a session that has its turns among those of the
 -- others (this project's own rule).
-use Rattle.std.specs.Prelude.{◌≡◌, ◌⊎◌, ◌+◌, ◌-◌, ◌^◌, min, ℕ, Bool, true, List, [], ◌∷◌, ◌++◌, length, Option, None, Some, MatchOption, option_map}
-use Rattle.std.specs.List.{All}
+use Rattle.std.specs.Prelude.{◌≡◌, ◌⊎◌, ◌+◌, ◌-◌, ◌^◌, ◌<◌, min, ℕ, Bool, true, false, List, [], ◌∷◌, ◌++◌, length, Option, None, Some, option_map}
+use Rattle.std.specs.List.{All, Contains}
 use Rattle.rx_mailbox.specs.Boxes.{Incoming, with_letter}
 use Rattle.rx_mailbox.specs.Letters.{letter}
+use Rattle.rx_mailbox.specs.declared.letter.Post.{Post}
 use Rattle.rx_mailbox.specs.declared.letter.Post.TheVariants.{Body, Bye}
 use Rattle.rx_pump.specs.Pumps.{counted}
 use Rattle.rx_session.specs.Among.{among}
@@ -23,7 +24,6 @@ use Rattle.rx_workers.specs.declared.client.Client.TheVariants.{Talks, Follows}
 use Rattle.rx_workers.specs.declared.client.Follower.{Follower}
 use Rattle.rx_workers.specs.declared.client.Talk.{Talk}
 use Rattle.rx_workers.specs.declared.joined.Joined.{Joined}
-use Rattle.rx_workers.specs.declared.readiness.Aim.{Aim}
 
 -- a worker: the session's desk over which it serves, and the inbox of its connections, each a reader and a writer
 pub record WorkerView (M C W : Type 0) : Type 0 where
@@ -34,33 +34,48 @@ pub record WorkerView (M C W : Type 0) : Type 0 where
 abbrev pub worker : {M C W : Type 0} → SessionView M (LineSink W) → Incoming (C × W) → WorkerView M C W
 worker session inbox = record { session = session; inbox = inbox }
 
--- a worker at work: the desk of its sessions, its inbox, its clients, and how many sessions it began
+-- a worker at work: the desk of its sessions, its inbox, its clients, how many sessions it began, and whether a connection may
+-- still come
 pub record State (M C W : Type 0) : Type 0 where
   pub session : SessionView M (LineSink W)
   pub inbox : Incoming (C × W)
   pub clients : List (Option (Client C W))
   pub sessions : ℕ
+  pub is_open : Bool
 
--- these four
-abbrev pub state : {M C W : Type 0} → SessionView M (LineSink W) → Incoming (C × W) → List (Option (Client C W)) → ℕ → State M C W
-state session inbox clients sessions = record { session = session; inbox = inbox; clients = clients; sessions = sessions }
+-- these five
+abbrev pub state : {M C W : Type 0} → SessionView M (LineSink W) → Incoming (C × W) → List (Option (Client C W)) → ℕ → Bool → State M C W
+state session inbox clients sessions is_open = record { session = session; inbox = inbox; clients = clients; sessions = sessions; is_open = is_open }
 
--- one thing that a worker does: a connection came, and was given a place, or was given up; the Bye came; the session at a place
--- had a turn; the follower at a place was parted with. Why it does so no definition says
+-- one thing that a worker does: a connection came, and was given a place, or was given up; the Bye came; the inbox told that no
+-- letter comes any more; the session at a place had a turn; the follower at a place was parted with. Why it does so no definition
+-- says
 pub data Deed (X : Type 0) : Type 0 where
   Admitted : X → ℕ → Deed X
   GivenUp : X → Deed X
   Dismissed : Deed X
+  Abandoned : Deed X
   Turned : ℕ → Deed X
   Parted : ℕ → Deed X
 
 module _ {X : Type 0} where
-  -- the connections that were given a place, in their order; the latest deed stands first
+  -- the connections that came, in their order; the latest deed stands first
+  abbrev pub came : List (Deed X) → List X
+  came [] = []
+  came (Admitted x place ∷ deeds) = came deeds ++ x ∷ []
+  came (GivenUp x ∷ deeds) = came deeds ++ x ∷ []
+  came (Dismissed ∷ deeds) = came deeds
+  came (Abandoned ∷ deeds) = came deeds
+  came (Turned place ∷ deeds) = came deeds
+  came (Parted place ∷ deeds) = came deeds
+
+  -- those of them that were given a place
   abbrev pub admitted : List (Deed X) → List X
   admitted [] = []
   admitted (Admitted x place ∷ deeds) = admitted deeds ++ x ∷ []
   admitted (GivenUp x ∷ deeds) = admitted deeds
   admitted (Dismissed ∷ deeds) = admitted deeds
+  admitted (Abandoned ∷ deeds) = admitted deeds
   admitted (Turned place ∷ deeds) = admitted deeds
   admitted (Parted place ∷ deeds) = admitted deeds
 
@@ -132,26 +147,32 @@ module _ {M C W : Type 0} (tells : M → ℕ → M → Type 0) (remaining : C �
     pub sets : Sets place before.clients after.clients (Some (Talks talk)) left
     pub inbox : after.inbox ≡ before.inbox
     pub sessions : after.sessions ≡ before.sessions
+    pub is_open : after.is_open ≡ before.is_open
 
-  -- ONE DEED
+  -- a letter came by a port of the box, and the desk made no call
+  pub record Receives (post : Post (C × W)) (before after : State M C W) : Type 0 where
+    pub from : ℕ
+    pub of_box : from < before.inbox.ports
+    pub inbox : after.inbox ≡ with_letter before.inbox (letter from post)
+    pub session : after.session ≡ before.session
+
+  -- ONE DEED. Behind the Bye, and where none comes any more, the worker is closed to connections
   abbrev pub Does : Deed (C × W) → State M C W → State M C W → Type 0
   Does (Admitted connection place) before after =
-      (from : ℕ) × Admits (Some place) connection before.clients after.clients
-      × (after.session ≡ before.session) × (after.inbox ≡ with_letter before.inbox (letter from (Body connection)))
-      × (after.sessions ≡ min (before.sessions + 1) (2 ^ 64 - 1))
+      Receives (Body connection) before after × Admits (Some place) connection before.clients after.clients
+      × (after.sessions ≡ min (before.sessions + 1) (2 ^ 64 - 1)) × (after.is_open ≡ before.is_open)
   Does (GivenUp connection) before after =
-      (from : ℕ) × Admits None connection before.clients after.clients
-      × (after.session ≡ before.session) × (after.inbox ≡ with_letter before.inbox (letter from (Body connection)))
-      × (after.sessions ≡ before.sessions)
+      Receives (Body connection) before after × Admits None connection before.clients after.clients
+      × (after.sessions ≡ before.sessions) × (after.is_open ≡ before.is_open)
   Does Dismissed before after =
-      (from : ℕ) × AreSame before.clients after.clients
-      × (after.session ≡ before.session) × (after.inbox ≡ with_letter before.inbox (letter from Bye))
-      × (after.sessions ≡ before.sessions)
+      Receives Bye before after × AreSame before.clients after.clients
+      × (after.sessions ≡ before.sessions) × (after.is_open ≡ false)
+  Does Abandoned before after = after ≡ state before.session before.inbox before.clients before.sessions false
   Does (Turned place) before after = HasTurn place before after
   Does (Parted place) before after =
       (follower : Follower C) × Disposes before.session follower.observer after.session
       × Sets place before.clients after.clients (Some (Follows follower)) None × (after.inbox ≡ before.inbox)
-      × (after.sessions ≡ before.sessions)
+      × (after.sessions ≡ before.sessions) × (after.is_open ≡ before.is_open)
 
   -- THE DESK'S CALLS ARE THE TURNS' CALLS, in the order in which these were made: just these deeds, the latest first
   abbrev pub Works : List (Deed (C × W)) → State M C W → State M C W → Type 0
@@ -172,11 +193,13 @@ module _ {M C W : Type 0} (tells : M → ℕ → M → Type 0) (remaining : C �
     pub back : Option W
     pub session : Session (among calls) (remaining connection.0) (remaining reader) input before connection.1 (record { end = end; desk = after; back = back })
 
-  -- a worker served the connections that came, but those that were given up, each to its end, and counted them
+  -- a worker served the connections that came, but those that were given up, each to its end, and counted them; it ended once no
+  -- connection could come any more
   pub record HasWorked (before after : WorkerView M C W) (sessions : ℕ) : Type 0 where
     pub deeds : List (Deed (C × W))
     pub clients : List (Option (Client C W))
-    pub works : Works deeds (state before.session before.inbox [] 0) (state after.session after.inbox clients sessions)
+    pub works : Works deeds (state before.session before.inbox [] 0 true) (state after.session after.inbox clients sessions false)
+    pub is_over : Contains deeds Dismissed ⊎ Contains deeds Abandoned
     pub is_quiet : IsQuiet clients
     pub served : All IsServed (admitted deeds)
     pub kept : KeepsSession before.session after.session

@@ -71,8 +71,8 @@ fn accept_next<L: Listener, R: Wait>(
     Ok(())
 }
 
-// Rings the bell of the worker at this place.
-fn ring_at<B: Bell>(bells: &Vec<B, Heap>, place: usize) {
+/// Rings the bell of the worker at this place.
+pub(crate) fn ring_at<B: Bell>(bells: &Vec<B, Heap>, place: usize) {
     if let Some(bell) = bells.get(place) {
         bell.ring();
     }

@@ -1,15 +1,18 @@
 // The connections of a listener, served by a crew of workers.
-ghost use Rattle.std.specs.Prelude.{◌≡◌, ◌≤◌, ◌<◌, [], OnOk, IfOk, vec_len, vec_capacity};
+ghost use Rattle.std.specs.Prelude.{◌≡◌, ◌↔◌, ◌+◌, ◌≤◌, ◌<◌, ℕ, [], Err, OnOk, IfErr, IfOk, map, reverse, vec_len, vec_capacity};
 ghost use Rattle.std.specs.Arc.{arc_value};
 ghost use Rattle.std.specs.List.{All, AllZip};
 ghost use Rattle.rx_pump.specs.Desks.{KeepsDesk};
-ghost use Rattle.rx_workers.specs.Crews.{IsFor, HasAcceptedAll};
+ghost use Rattle.rx_workers.specs.Accepting.{AcceptsAll};
+ghost use Rattle.rx_workers.specs.Crews.{AreOut, IsFor, IsPortOf, desk_of};
+ghost use Rattle.rx_workers.specs.Service.{DealsUntil, IsNewOver, ServesUntil, fault_in, port_to, with_lost};
 
 use crate::accepting::{AcceptStop, accept_all};
-use crate::hiring::{dismiss_all, hire_all, join_all};
+use crate::ending::end_all;
+use crate::hired::Hired;
+use crate::hiring::hire_all;
 use crate::listener::Listener;
 use crate::moments::Moments;
-use crate::running_worker::RunningWorker;
 use crate::serve_fault::ServeFault;
 use rx_config::Config;
 use rx_heap::{Heap, Memory};
@@ -20,12 +23,13 @@ use std::sync::{Arc, Mutex, Wait};
 use std::thread::Threads;
 
 /// Serves the connections of a listener, as many as the configuration says, by one worker for each desk, in a thread of its
-/// own. Connection i, from 0, goes to the worker of desk i modulo their number. It returns once all connections that were
-/// accepted were served, also at a fault; the desks are then where they were, as their calls left them.
+/// own. Connection i, from 0, goes to the worker of desk i modulo their number. It returns once all workers have ended; the desks
+/// are then where they were, as their calls left them.
 ///
 /// # Errors
 ///
-/// `NoDesk`, `Memory` or `Thread`: nothing was accepted. `Accept`, or `Thread` of a worker that is gone: fewer were.
+/// `NoDesk`, `Memory`, or `Thread` of a worker that did not begin: nothing was accepted. `Accept`: fewer connections were, and each
+/// was served. `Thread` of a worker that is gone: of those that were accepted some may not have been served.
 pub fn serve_connections<
     L: Listener,
     M: Moments + Drop + Send + 'static,
@@ -39,8 +43,9 @@ pub fn serve_connections<
     desks: &mut Vec<CallDesk<LineSink<L::Writer>>, Heap>,
 ) -> Result<(), ServeFault>
     requires { All (IsFor (arc_value config.now)) desks.old.items }
+    ensures no_desk { (result ≡ Err ServeFault.NoDesk) ↔ (desks.old.items ≡ []) }
+    ensures served { ServesUntil L.accepts L.fails M.tells L.Reader.remaining L.Writer.contents (arc_value config.now) result listener.old listener.new desks.old.items desks.new.items }
     ensures desks { AllZip KeepsDesk desks.old.items desks.new.items }
-    ensures accepted { OnOk result (HasAcceptedAll L.accepts (arc_value config.now).connections listener.old listener.new) }
 {
     if desks.is_empty() {
         return Err(ServeFault::NoDesk);
@@ -56,23 +61,21 @@ pub fn serve_connections<
         mut ports,
     } = bench;
     watch_all(listener, desks.len(), &mut readiness, &mut bells)?;
-    let served = match hire_all(
+    let dealt = deal_all(
         rt,
         heap,
         config,
         &moments,
+        listener,
         &mut readiness,
+        &bells,
         desks,
         &mut workers,
         &mut ports,
-    ) {
-        Ok(()) => accept(rt, listener, &mut ports, &bells, config.connections),
-        Err(fault) => Err(fault),
-    };
-    dismiss_all(rt, ports, &bells);
-    join_all(rt, workers, desks);
+    );
+    let lost = end_all(rt, workers, ports, &bells, desks);
     drop(bells);
-    served
+    with_lost(dealt, lost)
 }
 
 // The moments of a crew, and room for its workers, for what each waits by, and for the ports and the bells to them.
@@ -81,7 +84,7 @@ struct Bench<M: Moments + Drop + Send + 'static, L: Listener> {
     moments: Arc<Mutex<M>, Heap>,
     readiness: Vec<L::Readiness, Heap>,
     bells: Vec<L::Bell, Heap>,
-    workers: Vec<RunningWorker<M, L::Reader, L::Writer, L::Readiness>, Heap>,
+    workers: Vec<Hired<M, L::Reader, L::Writer, L::Readiness>, Heap>,
     ports: Vec<Port<(L::Reader, L::Writer)>, Heap>,
 }
 
@@ -118,7 +121,8 @@ fn watch_all<L: Listener>(
     requires readiness { count ≤ vec_capacity readiness.old }
     requires no_bell { bells.old.items ≡ [] }
     requires bells { count ≤ vec_capacity bells.old }
-    ensures { OnOk result (vec_len readiness.new ≡ count) }
+    ensures readiness { OnOk result (vec_len readiness.new ≡ count) }
+    ensures fault { IfErr result (λ fault. (place : ℕ) × (fault ≡ ServeFault.Thread place) × (place < count)) }
 {
     for place in 0..count {
         let Ok(watch) = listener.watch() else {
@@ -130,6 +134,40 @@ fn watch_all<L: Listener>(
     Ok(())
 }
 
+// Hires a worker for each desk, and deals the connections to them. At an `Err` fewer workers were hired, or fewer connections dealt.
+fn deal_all<
+    L: Listener,
+    M: Moments + Drop + Send + 'static,
+    R: Threads + Wait + Clone + Drop + Send + 'static,
+>(
+    rt: &R,
+    heap: &Heap,
+    config: &Arc<Config, Heap>,
+    moments: &Arc<Mutex<M>, Heap>,
+    listener: &mut L,
+    readiness: &mut Vec<L::Readiness, Heap>,
+    bells: &Vec<L::Bell, Heap>,
+    desks: &mut Vec<CallDesk<LineSink<L::Writer>>, Heap>,
+    workers: &mut Vec<Hired<M, L::Reader, L::Writer, L::Readiness>, Heap>,
+    ports: &mut Vec<Port<(L::Reader, L::Writer)>, Heap>,
+) -> Result<(), ServeFault>
+    requires some { 0 < vec_len desks.old }
+    requires fit { All (IsFor (arc_value config.now)) desks.old.items }
+    requires none { workers.old.items ≡ [] }
+    requires no_port { ports.old.items ≡ [] }
+    requires workers { vec_len desks.old ≤ vec_capacity workers.old }
+    requires ports { vec_len desks.old ≤ vec_capacity ports.old }
+    requires readiness { vec_len desks.old ≡ vec_len readiness.old }
+    ensures out { AreOut desks.old.items desks.new.items workers.new.items }
+    ensures room { vec_len desks.new + vec_len workers.new ≤ vec_capacity desks.new }
+    ensures new { All (λ one. IsNewOver (arc_value config.now) (desk_of one) one) workers.new.items }
+    ensures ports { AllZip IsPortOf (reverse workers.new.items) (reverse ports.new.items) }
+    ensures dealt { DealsUntil L.accepts L.fails (arc_value config.now).connections result listener.old listener.new desks.old.items desks.new.items workers.new.items ports.new.items }
+{
+    hire_all(rt, heap, config, moments, readiness, desks, workers, ports)?;
+    fault_in(accept(rt, listener, ports, bells, config.connections))
+}
+
 // Accepts the connections for the workers, the last one of whom was hired for the first desk.
 fn accept<L: Listener, R: Wait>(
     rt: &R,
@@ -137,14 +175,33 @@ fn accept<L: Listener, R: Wait>(
     ports: &mut Vec<Port<(L::Reader, L::Writer)>, Heap>,
     bells: &Vec<L::Bell, Heap>,
     connections: u32,
-) -> Result<(), ServeFault>
+) -> Result<(), AcceptStop>
     requires { 0 < vec_len ports.old }
-    ensures { OnOk result (HasAcceptedAll L.accepts connections listener.old listener.new) }
+    ensures { AcceptsAll L.accepts L.fails connections result listener.old listener.new (reverse ports.old.items) (reverse ports.new.items) }
 {
     ports.reverse();
-    match accept_all(rt, listener, ports, bells, connections) {
+    let accepted = accept_all(rt, listener, ports, bells, connections);
+    ports.reverse();
+    accepted
+}
+
+// The fault that an acceptor's stop is.
+fn fault_in(accepted: Result<(), AcceptStop>) -> Result<(), ServeFault>
+    ensures { result ≡ fault_in accepted }
+{
+    match accepted {
         Ok(()) => Ok(()),
         Err(AcceptStop::NoConnection) => Err(ServeFault::Accept),
         Err(AcceptStop::WorkerGone(place)) => Err(ServeFault::Thread(place)),
+    }
+}
+
+// How serving ended, by how dealing did, and by the first worker that did not have all that was dealt to it.
+fn with_lost(dealt: Result<(), ServeFault>, lost: Option<usize>) -> Result<(), ServeFault>
+    ensures { result ≡ with_lost dealt lost }
+{
+    match (dealt, lost) {
+        (Ok(()) | Err(ServeFault::Accept), Some(place)) => Err(ServeFault::Thread(place)),
+        _ => dealt,
     }
 }

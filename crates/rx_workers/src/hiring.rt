@@ -1,20 +1,22 @@
-// How workers are hired for desks, and let go.
-ghost use Rattle.std.specs.Prelude.{◌≡◌, ◌+◌, ◌≤◌, List, [], OnOk, IfOk, MatchResult, vec_len, vec_capacity};
-ghost use Rattle.std.specs.List.{All, AllZip};
+// How workers are hired for desks.
+ghost use Rattle.std.specs.Prelude.{◌≡◌, ◌+◌, ◌≤◌, [], OnOk, IfErr, IfOk, MatchBool, MatchResult, map, vec_len, vec_capacity};
+ghost use Rattle.std.specs.List.{All};
 ghost use Rattle.std.specs.Arc.{arc_value};
-ghost use Rattle.rx_pump.specs.Desks.{DeskView, KeepsDesk};
-ghost use Rattle.rx_sink.specs.declared.line_sink.LineSink.{LineSink};
-ghost use Rattle.rx_workers.specs.Crews.{AreOut, IsFor, desk_of};
+ghost use Rattle.rx_mailbox.specs.Boxes.{capacity_of, incoming, outgoing};
+ghost use Rattle.rx_pump.specs.Desks.{KeepsDesk};
+ghost use Rattle.rx_workers.specs.Crews.{AreOut, IsFor, NamesLast, desk_of};
+ghost use Rattle.rx_workers.specs.Service.{IsNewOver, port_to};
 
+use crate::hired::Hired;
 use crate::moments::Moments;
-use crate::readiness::{Bell, Readiness};
-use crate::running_worker::{RunningWorker, dismiss, start_worker};
+use crate::readiness::Readiness;
+use crate::running_worker::start_worker;
 use crate::serve_fault::ServeFault;
 use crate::worker::Worker;
 use rx_config::Config;
 use rx_heap::{Heap, Memory};
-use rx_mailbox::{Inbox, OpenError, Port, open};
-use rx_pump::CallDesk;
+use rx_mailbox::{EndedPort, Inbox, OpenError, Port, open};
+use rx_pump::{CallDesk, room};
 use rx_sink::LineSink;
 use std::io::{Read, Write};
 use std::sync::{Arc, Mutex, Wait};
@@ -23,7 +25,7 @@ use std::thread::Threads;
 /// How many connections wait for a worker at most.
 pub const WORKER_BOX: usize = 16;
 
-// What a worker has beside its desk, and the port to its inbox.
+// What a worker has beside its desk, the port to its inbox, and room for that once it has ended.
 #[derive(Drop)]
 struct Tools<M: Drop, C: Drop, W: Drop> {
     heap: Heap,
@@ -32,6 +34,7 @@ struct Tools<M: Drop, C: Drop, W: Drop> {
     moments: Arc<Mutex<M>, Heap>,
     inbox: Inbox<(C, W)>,
     port: Port<(C, W)>,
+    room: Vec<EndedPort<(C, W)>, Heap>,
 }
 
 fn make_tools<M: Drop, C: Drop, W: Drop>(
@@ -39,7 +42,11 @@ fn make_tools<M: Drop, C: Drop, W: Drop>(
     config: &Arc<Config, Heap>,
     moments: &Arc<Mutex<M>, Heap>,
 ) -> Result<Tools<M, C, W>, Memory>
-    ensures { IfOk result (λ tools. arc_value tools.config ≡ arc_value config.now) }
+    ensures config { IfOk result (λ tools. arc_value tools.config ≡ arc_value config.now) }
+    ensures inbox { IfOk result (λ tools. tools.inbox ≡ incoming tools.inbox.box 1 []) }
+    ensures capacity { IfOk result (λ tools. capacity_of tools.inbox.box ≡ 16) }
+    ensures port { IfOk result (λ tools. tools.port ≡ outgoing tools.inbox.box 0 []) }
+    ensures room { IfOk result (λ tools. (tools.room.items ≡ []) × (1 ≤ vec_capacity tools.room)) }
 {
     let (inbox, port) = open_box(heap)?;
     Ok(Tools {
@@ -49,11 +56,16 @@ fn make_tools<M: Drop, C: Drop, W: Drop>(
         moments: Arc::try_clone(moments)?,
         inbox,
         port,
+        room: room(heap, 1)?,
     })
 }
 
 // The inbox of a worker, and the port to it.
-fn open_box<T: Drop>(heap: &Heap) -> Result<(Inbox<T>, Port<T>), Memory> {
+fn open_box<T: Drop>(heap: &Heap) -> Result<(Inbox<T>, Port<T>), Memory>
+    ensures inbox { IfOk result (λ made. made.0 ≡ incoming made.0.box 1 []) }
+    ensures capacity { IfOk result (λ made. capacity_of made.0.box ≡ 16) }
+    ensures port { IfOk result (λ made. made.1 ≡ outgoing made.0.box 0 []) }
+{
     let (inbox, mut ports) = match open(heap.clone()?, WORKER_BOX, 1) {
         Ok(made) => made,
         Err(OpenError::Memory) => return Err(Memory),
@@ -86,9 +98,11 @@ fn hire<
     moments: &Arc<Mutex<M>, Heap>,
     readiness: P,
     desk: CallDesk<LineSink<W>>,
-) -> Result<(RunningWorker<M, C, W, P>, Port<(C, W)>), Unhired<W>>
+) -> Result<(Hired<M, C, W, P>, Port<(C, W)>), Unhired<W>>
     requires { IsFor (arc_value config.now) desk }
-    ensures { MatchResult result (λ hired. desk_of hired.0 ≡ desk) (λ back. KeepsDesk desk back.desk) }
+    ensures { MatchResult result
+        (λ hired. IsNewOver (arc_value config.now) desk hired.0 × (hired.1 ≡ port_to hired.0))
+        (λ back. KeepsDesk desk back.desk) }
 {
     let Ok(tools) = make_tools(heap, config, moments) else {
         return Err(Unhired {
@@ -103,10 +117,11 @@ fn hire<
         moments,
         inbox,
         port,
+        room,
     } = tools;
     let worker = Worker::new(heap, own, config, moments, desk, inbox, readiness);
     match start_worker(rt, worker, port) {
-        Ok(hired) => Ok(hired),
+        Ok((worker, port)) => Ok((Hired::new(worker, room), port)),
         Err(end) => Err(Unhired {
             desk: end.desk,
             has_memory: true,
@@ -128,7 +143,7 @@ pub fn hire_all<
     moments: &Arc<Mutex<M>, Heap>,
     readiness: &mut Vec<P, Heap>,
     desks: &mut Vec<CallDesk<LineSink<W>>, Heap>,
-    workers: &mut Vec<RunningWorker<M, C, W, P>, Heap>,
+    workers: &mut Vec<Hired<M, C, W, P>, Heap>,
     ports: &mut Vec<Port<(C, W)>, Heap>,
 ) -> Result<(), ServeFault>
     requires fit { All (IsFor (arc_value config.now)) desks.old.items }
@@ -139,7 +154,10 @@ pub fn hire_all<
     requires readiness { vec_len desks.old ≡ vec_len readiness.old }
     ensures out { AreOut desks.old.items desks.new.items workers.new.items }
     ensures room { vec_len desks.new + vec_len workers.new ≤ vec_capacity desks.new }
-    ensures ports { OnOk result (vec_len ports.new ≡ vec_len desks.old) }
+    ensures new { All (λ one. IsNewOver (arc_value config.now) (desk_of one) one) workers.new.items }
+    ensures ports { ports.new.items ≡ map port_to workers.new.items }
+    ensures all { OnOk result (desks.new.items ≡ []) }
+    ensures fault { IfErr result (NamesLast (vec_len desks.new)) }
 {
     while let Some(desk) = desks.pop() {
         let Some(waits) = readiness.pop() else {
@@ -163,46 +181,12 @@ pub fn hire_all<
 }
 
 // Why there is no worker for the desk at this place.
-fn fault_of(has_memory: bool, place: usize) -> ServeFault {
+fn fault_of(has_memory: bool, place: usize) -> ServeFault
+    ensures { MatchBool has_memory (result ≡ ServeFault.Thread place) (result ≡ ServeFault.Memory) }
+{
     if has_memory {
         ServeFault::Thread(place)
     } else {
         ServeFault::Memory
-    }
-}
-
-// Tells each worker that no connection comes any more. Its bell has to stay until it has heard that.
-pub fn dismiss_all<X: Drop, B: Bell, R: Wait>(
-    rt: &R,
-    ports: Vec<Port<X>, Heap>,
-    bells: &Vec<B, Heap>,
-) {
-    for port in ports {
-        dismiss(rt, port);
-    }
-    for bell in bells {
-        bell.ring();
-    }
-}
-
-// Waits until each worker has ended, and puts its desk behind the others.
-pub fn join_all<
-    M: Moments + Drop,
-    C: Read + Drop,
-    W: Write + Drop,
-    P: Readiness<C> + Drop,
-    R: Threads,
->(
-    rt: &R,
-    workers: Vec<RunningWorker<M, C, W, P>, Heap>,
-    desks: &mut Vec<CallDesk<LineSink<W>>, Heap>,
-)
-    requires { vec_len desks.old + vec_len workers ≤ vec_capacity desks.old }
-    ensures { (all : List (DeskView (LineSink W))) → AreOut all desks.old.items workers.items → AllZip KeepsDesk all desks.new.items }
-{
-    let mut workers = workers;
-    while let Some(worker) = workers.pop() {
-        let end = worker.join(rt);
-        desks.push_reserved(end.desk);
     }
 }

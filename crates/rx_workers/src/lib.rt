@@ -5,9 +5,10 @@
 //! [`serve_connections`] has a worker for each desk, in a thread of its own, and deals the connections of a [`Listener`] to
 //! them. Nothing here makes a desk, a pump or a drainer, and nothing is said of when a connection or a reply comes.
 //!
-//! The crate above rests on what a session's desk does (`specs/SessionDesks.antt`), what a worker leaves (`Workers.antt`) and
-//! where connections go (`Accepting.antt`), and on that [`serve_connections`] leaves the desks where they were, as their calls
-//! left them.
+//! The crate above rests on what [`serve_connections`] says (`specs/Service.antt`): each connection was served by the worker to
+//! which it was dealt, and the desks are where they were, as their calls left them. Below that stand what a session's desk does
+//! (`SessionDesks.antt`), what a worker does and leaves (`Working.antt`, `Workers.antt`) and where connections go
+//! (`Accepting.antt`).
 #![tactic(auto)]
 
 mod accepting;
@@ -15,6 +16,8 @@ mod admitting;
 mod client;
 mod clients;
 mod dispatching;
+mod ending;
+mod hired;
 mod hiring;
 mod joined;
 mod leaving;

@@ -1,12 +1,13 @@
 //! Workers in threads of their own.
-ghost use Rattle.std.specs.Prelude.{◌≡◌, MatchResult};
+ghost use Rattle.std.specs.Prelude.{◌≡◌, IfSome, MatchResult};
+ghost use Rattle.rx_pump.specs.Sends.{with_bye};
 ghost use Rattle.rx_workers.specs.Workers.{HasEnded};
 
 use crate::moments::Moments;
 use crate::readiness::Readiness;
 use crate::worker::Worker;
 use crate::worker_end::WorkerEnd;
-use rx_mailbox::Port;
+use rx_mailbox::{EndedPort, Port};
 use std::io::{Read, Write};
 use std::marker::Model;
 use std::snapshot::Snapshot;
@@ -57,14 +58,14 @@ pub fn start_worker<
         (λ end. HasEnded M.tells C.remaining W.contents worker end) }
 {
     let Ok(own) = rt.clone() else {
-        dismiss(rt, port);
+        drop(dismiss(rt, port));
         return Err(worker.serve(rt));
     };
     let promise = Worked(Snapshot::of(&worker));
     match thread::spawn_with(rt, promise, move || worker.serve(&own)) {
         Ok(handle) => Ok((RunningWorker { handle }, port)),
         Err(refused) => {
-            dismiss(rt, port);
+            drop(dismiss(rt, port));
             Err((refused.value)())
         }
     }
@@ -79,9 +80,15 @@ impl<M: Moments + Drop, C: Read + Drop, W: Write + Drop, P: Drop> Model
     ghost view = { λ r. r.handle.promise.0.value };
 }
 
-/// Tells a worker, by the port to its inbox, that no connection comes any more.
-pub(crate) fn dismiss<B: Drop, R: Wait>(rt: &R, port: Port<B>) {
-    drop(port.finish(rt));
+/// Tells a worker, by the port to its inbox, that no connection comes any more. Answers the port, ended, but where the worker
+/// is gone.
+pub(crate) fn dismiss<B: Drop, R: Wait>(rt: &R, port: Port<B>) -> Option<EndedPort<B>>
+    ensures { IfSome result (λ ended. ended ≡ with_bye port) }
+{
+    match port.finish(rt) {
+        Ok(ended) => Some(ended),
+        Err(_) => None,
+    }
 }
 
 impl<M: Moments + Drop, C: Read + Drop, W: Write + Drop, P: Drop> RunningWorker<M, C, W, P> {

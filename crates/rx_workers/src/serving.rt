@@ -1,4 +1,5 @@
 // The connections of a worker, each served by a session among the others.
+ghost use Rattle.std.specs.Prelude.{◌≡◌, false};
 ghost use Rattle.rx_workers.specs.Clients.{IsQuiet};
 ghost use Rattle.rx_workers.specs.Working.{Goes};
 
@@ -18,6 +19,7 @@ pub fn serve_all<'a, R: Wait, M: Moments + Drop, C: Read + Drop, W: Write + Drop
     readiness: &mut P,
 )
     ensures goes { Goes M.tells C.remaining W.contents shift.old shift.new }
+    ensures closed { shift.new.is_open ≡ false }
     ensures quiet { IsQuiet shift.new.clients }
 {
     for _ in rt.forever() {

@@ -1,4 +1,4 @@
-ghost use Rattle.std.specs.Prelude.{◌≡◌, [], IsTrue};
+ghost use Rattle.std.specs.Prelude.{◌≡◌, [], false, true, IsTrue};
 ghost use Rattle.rx_workers.specs.Clients.{IsQuiet};
 ghost use Rattle.rx_workers.specs.Working.{Goes, state};
 
@@ -48,7 +48,7 @@ impl<'a, R, M: Drop, C: Drop, W: Write + Drop> Model for Shift<'a, R, M, C, W> {
 
     ghost Value = { State M C W };
 
-    ghost view = { λ s. state s.desk s.inbox s.clients s.sessions };
+    ghost view = { λ s. state s.desk s.inbox s.clients s.sessions s.is_open };
 }
 
 impl<'a, R, M: Drop, C: Drop, W: Write + Drop> Shift<'a, R, M, C, W> {
@@ -59,7 +59,7 @@ impl<'a, R, M: Drop, C: Drop, W: Write + Drop> Shift<'a, R, M, C, W> {
         desk: SessionDesk<'a, R, M, W>,
         inbox: Inbox<(C, W)>,
     ) -> Shift<'a, R, M, C, W>
-        ensures { result ≡ state desk.entry inbox [] 0 }
+        ensures { result ≡ state desk.entry inbox [] 0 true }
     {
         Shift {
             heap,
@@ -73,7 +73,8 @@ impl<'a, R, M: Drop, C: Drop, W: Write + Drop> Shift<'a, R, M, C, W> {
 
     /// Whether no connection comes any more, and no session is under way.
     pub fn is_over(&self) -> bool
-        ensures { IsTrue result → IsQuiet self.now.clients }
+        ensures closed { IsTrue result → self.now.is_open ≡ false }
+        ensures quiet { IsTrue result → IsQuiet self.now.clients }
     {
         !self.is_open && self.clients.is_quiet()
     }

@@ -1,7 +1,8 @@
-use Rattle.std.proofs.Common.{◌≡◌, ◌+◌, ◌≤◌, vec_len, vec_capacity}
+use Rattle.std.proofs.Common.{◌≡◌, ◌+◌, ◌≤◌, map, vec_len, vec_capacity}
 use Rattle.std.specs.Arc.{arc_value}
 use Rattle.std.specs.List.{All}
-use Rattle.rx_workers.specs.Crews.{IsFor}
+use Rattle.rx_workers.specs.Crews.{IsFor, desk_of}
+use Rattle.rx_workers.specs.Service.{IsNewOver, port_to}
 use Rattle.rx_workers.proofs.Crews.{IsSplit}
 use Rattle.rx_workers.proofs.hiring.hire_all.Given as goal
 
@@ -15,6 +16,8 @@ invariant-loop-desk g l = record {
   ports : vec_len l.desks + vec_len l.ports ≤ vec_capacity l.ports;
   count : vec_len l.desks + vec_len l.ports ≡ vec_len l.initial.desks;
   waits : vec_len l.desks ≡ vec_len l.readiness;
+  new : All (λ one. IsNewOver (arc_value l.config) (desk_of one) one) l.workers.items;
+  ports_are : l.ports.items ≡ map port_to l.workers.items;
 }
 
 abbrev pub decreases-loop-desk : goal.decreases-loop-desk

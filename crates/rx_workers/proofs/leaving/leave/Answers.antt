@@ -1,5 +1,3 @@
-use Rattle.std.proofs.Common.{sym, subst}
-use Rattle.rx_workers.specs.Working.{Leaves}
 use Rattle.rx_workers.proofs.leaving.leave.Goals as goal
 
 pub returns-in-Again : goal.returns-in-Again

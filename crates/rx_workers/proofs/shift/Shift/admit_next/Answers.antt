@@ -1,8 +1,8 @@
--- What came is one deed.
-use Rattle.std.proofs.Common.{◌∙◌, ap, refl}
-use Rattle.rx_mailbox.specs.Boxes.{with_letter}
+-- What came is one deed, and so is that nothing comes any more.
+use Rattle.std.proofs.Common.{◌∙◌, ap, false, refl}
+use Rattle.rx_mailbox.specs.Boxes.{Incoming, with_letter}
 use Rattle.rx_mailbox.specs.Letters.{letter}
-use Rattle.rx_workers.specs.Working.{Admitted, Dismissed, GivenUp, state}
+use Rattle.rx_workers.specs.Working.{Abandoned, Admitted, Dismissed, GivenUp, state}
 use Rattle.rx_workers.proofs.Working.{Goes-one}
 use Rattle.rx_workers.proofs.shift.Shift.admit_next.Goals as goal
 
@@ -12,9 +12,9 @@ returns-in_default g c =
     let received = c.in-Ok.ensures.received ∙ ap (λ post. with_letter c.self.inside.inbox (letter c.in-Ok.letter.from post)) c.in-Body.is in
     rw (← c.self.view_is)
     (Goes-one g.M.Moments.tells g.C.Read.remaining g.W.Write.contents (GivenUp c.in-Body.connection)
-    (state c.self.inside.desk c.self.inside.inbox c.self.inside.clients c.self.inside.sessions)
-    (state c.self.inside.desk c.try_recv.new.self c.admit-admitted.new.clients c.self.inside.sessions)
-    (c.in-Ok.letter.from, c.in_default.ensures, refl, received, refl))
+    (state c.self.inside.desk c.self.inside.inbox c.self.inside.clients c.self.inside.sessions c.self.inside.is_open)
+    (state c.self.inside.desk c.try_recv.new.self c.admit-admitted.new.clients c.self.inside.sessions c.self.inside.is_open)
+    (record { from = c.in-Ok.letter.from; of_box = c.in-Ok.ensures.port; inbox = received; session = refl }, c.in_default.ensures, refl, refl))
 
 -- it has a place
 pub returns-in-Some : goal.returns-in-Some
@@ -22,9 +22,9 @@ returns-in-Some g c =
     let received = c.in-Ok.ensures.received ∙ ap (λ post. with_letter c.self.inside.inbox (letter c.in-Ok.letter.from post)) c.in-Body.is in
     rw (← c.self.view_is)
     (Goes-one g.M.Moments.tells g.C.Read.remaining g.W.Write.contents (Admitted c.in-Body.connection c.in-Some.field-0)
-    (state c.self.inside.desk c.self.inside.inbox c.self.inside.clients c.self.inside.sessions)
-    (state c.self.inside.desk c.try_recv.new.self c.admit-admitted.new.clients c.saturating_add-self-inside.result)
-    (c.in-Ok.letter.from, c.in-Some.ensures, refl, received, c.saturating_add-self-inside.ensures))
+    (state c.self.inside.desk c.self.inside.inbox c.self.inside.clients c.self.inside.sessions c.self.inside.is_open)
+    (state c.self.inside.desk c.try_recv.new.self c.admit-admitted.new.clients c.saturating_add-self-inside.result c.self.inside.is_open)
+    (record { from = c.in-Ok.letter.from; of_box = c.in-Ok.ensures.port; inbox = received; session = refl }, c.in-Some.ensures, c.saturating_add-self-inside.ensures, refl))
 
 -- the Bye came
 pub returns-in-Bye : goal.returns-in-Bye
@@ -32,6 +32,15 @@ returns-in-Bye g c =
     let received = c.in-Ok.ensures.received ∙ ap (λ post. with_letter c.self.inside.inbox (letter c.in-Ok.letter.from post)) c.in-Bye.is in
     rw (← c.self.view_is)
     (Goes-one g.M.Moments.tells g.C.Read.remaining g.W.Write.contents Dismissed
-    (state c.self.inside.desk c.self.inside.inbox c.self.inside.clients c.self.inside.sessions)
-    (state c.self.inside.desk c.try_recv.new.self c.self.inside.clients c.self.inside.sessions)
-    (c.in-Ok.letter.from, λ place. refl, refl, received, refl))
+    (state c.self.inside.desk c.self.inside.inbox c.self.inside.clients c.self.inside.sessions c.self.inside.is_open)
+    (state c.self.inside.desk c.try_recv.new.self c.self.inside.clients c.self.inside.sessions false)
+    (record { from = c.in-Ok.letter.from; of_box = c.in-Ok.ensures.port; inbox = received; session = refl }, λ place. refl, refl, refl))
+
+-- nothing comes any more
+pub returns-in-Err-Gone : goal.returns-in-Err-Gone
+returns-in-Err-Gone g c =
+    rw (← c.self.view_is)
+    (Goes-one g.M.Moments.tells g.C.Read.remaining g.W.Write.contents Abandoned
+    (state c.self.inside.desk c.self.inside.inbox c.self.inside.clients c.self.inside.sessions c.self.inside.is_open)
+    (state c.self.inside.desk c.try_recv.new.self c.self.inside.clients c.self.inside.sessions false)
+    (ap (λ (i : Incoming _). state c.self.inside.desk i c.self.inside.clients c.self.inside.sessions false) c.in-Err-Gone.ensures.received))

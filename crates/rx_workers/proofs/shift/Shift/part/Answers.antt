@@ -8,6 +8,6 @@ pub returns : goal.returns
 returns g c =
     rw (← c.self.view_is)
     (Goes-one g.M.Moments.tells g.C.Read.remaining g.W.Write.contents (Parted c.args.place)
-    (state c.self.inside.desk c.self.inside.inbox c.self.inside.clients c.self.inside.sessions)
-    (state c.dispose.new.self c.self.inside.inbox c.take_follower.new.self c.self.inside.sessions)
-    (c.in-Some.follower, c.dispose.ensures, c.in-Some.ensures, refl, refl))
+    (state c.self.inside.desk c.self.inside.inbox c.self.inside.clients c.self.inside.sessions c.self.inside.is_open)
+    (state c.dispose.new.self c.self.inside.inbox c.take_follower.new.self c.self.inside.sessions c.self.inside.is_open)
+    (c.in-Some.follower, c.dispose.ensures, c.in-Some.ensures, refl, refl, refl))

@@ -10,8 +10,8 @@ pub returns : goal.returns
 returns g c =
     rw (← c.self.view_is)
     (Goes-one g.M.Moments.tells g.C.Read.remaining g.W.Write.contents (Turned c.args.place)
-    (state c.self.inside.desk c.self.inside.inbox c.self.inside.clients c.self.inside.sessions)
-    (state c.turn-turned.new.desk c.self.inside.inbox c.put.new.self c.self.inside.sessions)
+    (state c.self.inside.desk c.self.inside.inbox c.self.inside.clients c.self.inside.sessions c.self.inside.is_open)
+    (state c.turn-turned.new.desk c.self.inside.inbox c.put.new.self c.self.inside.sessions c.self.inside.is_open)
     (record {
       talk = c.in-Some.talk;
       result = c.turn-turned.result;
@@ -23,4 +23,5 @@ returns g c =
       sets = Sets-then c.args.place c.self.inside.clients c.take_talk.new.self c.put.new.self (Some (Talks c.in-Some.talk)) None c.leave-goes_on.result.1 c.in-Some.ensures.taken c.put.ensures;
       inbox = refl;
       sessions = refl;
+      is_open = refl;
     }))

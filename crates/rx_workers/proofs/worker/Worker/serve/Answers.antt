@@ -8,5 +8,5 @@ pub returns : goal.returns
 returns g c =
     worker-ended (λ _ moment _. IsTold g.M.Moments.tells moment) g.C.Read.remaining g.W.Write.contents c.args.self c.new-session.result c.self.inside.inbox c.new-shift.result c.serve_all.new.shift
     (record { desk = c.into_desk.result; inbox = c.into_parts-session.result.1; sessions = c.into_parts-session.result.2 })
-    (search rules) c.new-shift.ensures c.serve_all.ensures.goes c.serve_all.ensures.quiet
+    (search rules) c.new-shift.ensures c.serve_all.ensures.goes c.serve_all.ensures.closed c.serve_all.ensures.quiet
     (c.into_desk.ensures.calls ∙ ap (λ s. s.calls) c.into_parts-session.ensures.desk) c.into_parts-session.ensures.inbox c.into_parts-session.ensures.sessions

@@ -1,0 +1,365 @@
+-- What the workers of a crew served, as they end one after another.
+use Rattle.std.proofs.Common.{◌≡◌, ◌∙◌, sym, refl, ap, subst, ℕ, suc, ◌+◌, ◌<◌, ◌≤◌, ◌%◌, Bool, true, false, List, [], ◌∷◌, ◌++◌, append_assoc, append-nil, length, map, reverse, slice_get, get_or, drop, Option, None, Some, IfSome, Result, Ok, Err, inl, inr, arith}
+use Rattle.std.specs.Option.{option_map}
+use Rattle.std.specs.List.{All, AllZip}
+use Rattle.std.proofs.lemmas.List.{length-append, length-map, length-reverse, reverse-append, map-append}
+use Rattle.std.proofs.lemmas.List.Elements.{All-nil, All-pop}
+use Rattle.std.proofs.lemmas.Option.{same_Some}
+use Rattle.std.proofs.lemmas.Slice.Zip.{AllZip-long}
+use Rattle.rx_config.specs.declared.config.Config.{Config}
+use Rattle.rx_mailbox.specs.Boxes.{Box, Incoming, Outgoing, incoming, outgoing}
+use Rattle.rx_mailbox.specs.Letters.{letter}
+use Rattle.rx_mailbox.specs.Settling.{GotAll}
+use Rattle.rx_mailbox.specs.declared.letter.Letter.{Letter}
+use Rattle.rx_mailbox.specs.declared.letter.Post.TheVariants.{Bye}
+use Rattle.rx_pump.specs.Desks.{DeskView, KeepsDesk}
+use Rattle.rx_pump.specs.Sends.{posts, with_bodies, with_bye}
+use Rattle.rx_sink.specs.declared.line_sink.LineSink.{LineSink}
+use Rattle.rx_workers.specs.Accepting.{dealt, Deals, AcceptsAll}
+use Rattle.rx_workers.specs.Crews.{AreOut, IsPortOf, NamesLast, desk_of, first_lost}
+use Rattle.rx_workers.specs.Service.{DealsUntil, HasServedJust, HaveServedFrom, HaveServedAll, IsNewOver, ServesUntil, fault_in, port_to, session_over, with_lost}
+use Rattle.rx_workers.specs.SessionDesks.{SessionView}
+use Rattle.rx_workers.specs.Telling.{IsTold}
+use Rattle.rx_workers.specs.Workers.{HasEnded, view_of_end}
+use Rattle.rx_workers.specs.Working.{WorkerView, worker, HasWorked, state, came}
+use Rattle.rx_workers.specs.declared.accepting.AcceptStop.{AcceptStop}
+use Rattle.rx_workers.specs.declared.accepting.AcceptStop.TheVariants.{NoConnection, WorkerGone}
+use Rattle.rx_workers.specs.declared.serve_fault.ServeFault.{ServeFault}
+use Rattle.rx_workers.specs.declared.serve_fault.ServeFault.TheVariants.{NoDesk, Accept, Thread, Memory}
+use Rattle.rx_workers.specs.declared.worker_end.WorkerEnd.{WorkerEnd}
+use Rattle.rx_workers.proofs.Received.{IsFrom, bodies, bodies-posts, share-all, works_came}
+
+-- LISTS
+
+-- the first and the rest of lists that are the same
+same_head : {X : Type 0} (x y : X) (xs ys : List X) → x ∷ xs ≡ y ∷ ys → x ≡ y
+same_head x y xs ys same = ap (λ l. get_or l 0 x) same
+
+same_tail : {X : Type 0} (x y : X) (xs ys : List X) → x ∷ xs ≡ y ∷ ys → xs ≡ ys
+same_tail x y xs ys same = ap (drop 1) same
+
+-- the last one behind others
+last_first : {X : Type 0} (all left : List X) (x : X) → all ≡ left ++ x ∷ [] → reverse all ≡ x ∷ reverse left
+last_first all left x is = ap reverse is ∙ reverse-append left (x ∷ [])
+
+-- of two lists of which each place is known, from the last one on
+pub pair_last : {A B : Type 0} (R : A → B → Type 0) (all left : List A) (x : A) (more rest : List B) (y : B) → all ≡ left ++ x ∷ [] → more ≡ rest ++ y ∷ []
+    → AllZip R (reverse all) (reverse more) → R x y × AllZip R (reverse left) (reverse rest)
+pair_last {A = A} {B = B} R all left x more rest y is more_is both =
+    subst (λ (ys : List B). AllZip R (x ∷ reverse left) ys) (last_first more rest y more_is) (subst (λ (xs : List A). AllZip R xs (reverse more)) (last_first all left x is) both)
+
+-- what is made of each, in the other order
+map-reverse : {A B : Type 0} (f : A → B) (xs : List A) → map f (reverse xs) ≡ reverse (map f xs)
+map-reverse f [] = refl
+map-reverse {B = B} f (x ∷ xs) =
+    ap (map f) (reverse-append (x ∷ []) xs) ∙ map-append f (reverse xs) (x ∷ []) ∙ ap (λ (l : List B). l ++ f x ∷ []) (map-reverse f xs)
+    ∙ sym (reverse-append (f x ∷ []) (map f xs))
+
+-- A BOX THAT SETTLED
+
+module _ {C W : Type 0} where
+  -- the inbox of a worker that has ended, of whose one port all was received
+  settled_inbox : (inbox : Incoming (C × W)) (box : Box (C × W)) (xs : List (C × W)) → inbox.box ≡ box → inbox.ports ≡ 1 → All (IsFrom 1) inbox.received
+      → GotAll inbox (with_bye (outgoing box 0 (posts 0 xs))) → inbox ≡ incoming box 1 (posts 0 xs ++ letter 0 Bye ∷ [])
+  settled_inbox inbox box xs box_is ports_are from got =
+      ap (λ b. incoming b inbox.ports inbox.received) box_is
+      ∙ ap (λ (n : ℕ). incoming box n inbox.received) ports_are
+      ∙ ap (λ (l : List (Letter (C × W))). incoming box 1 l) (sym (share-all inbox.received from) ∙ got)
+
+module _ {M C W : Type 0} (tells : M → ℕ → M → Type 0) (remaining : C → Option (List ℕ)) (contents : W → Option (List ℕ)) where
+  -- the box of a worker that has ended is the one that it had
+  pub ended_box : (one : WorkerView (Unit {0}) C W) (end : WorkerEnd C W) → HasEnded tells remaining contents one end → end.inbox.box ≡ one.inbox.box
+  ended_box one end ended =
+      (works_came (λ _ moment _. IsTold tells moment) remaining contents ended.1.deeds (state one.session one.inbox [] 0 true)
+      (state (view_of_end one ended.0 end).session end.inbox ended.1.clients end.sessions false) ended.1.works).box
+
+module _ {M C W : Type 0} (tells : M → ℕ → M → Type 0) (remaining : C → Option (List ℕ)) (contents : W → Option (List ℕ)) (config : Config) where
+  -- what an inbox of a new worker has received
+  received_new : (desk : DeskView (LineSink W)) (one : WorkerView (Unit {0}) C W) (end : WorkerEnd C W) (xs : List (C × W)) (port : Outgoing (C × W)) (ended : HasEnded tells remaining contents one end)
+      → IsNewOver config desk one → port ≡ outgoing one.inbox.box 0 (posts 0 xs) → GotAll end.inbox (with_bye port)
+      → (end.inbox ≡ incoming one.inbox.box 1 (posts 0 xs ++ letter 0 Bye ∷ [])) × (came ended.1.deeds ≡ xs)
+  received_new desk one end xs port ended new port_is got =
+      let h = works_came (λ _ moment _. IsTold tells moment) remaining contents ended.1.deeds
+      (state one.session one.inbox [] 0 true)
+      (state (view_of_end one ended.0 end).session end.inbox ended.1.clients end.sessions false) ended.1.works in
+      let ports_are : one.inbox.ports ≡ 1 = ap (λ (i : Incoming (C × W)). i.ports) new.inbox in
+      let none : one.inbox.received ≡ [] = ap (λ (i : Incoming (C × W)). i.received) new.inbox in
+      let nothing : All (IsFrom one.inbox.ports) one.inbox.received = subst (λ (l : List (Letter (C × W))). All (IsFrom one.inbox.ports) l) (sym none) (All-nil (IsFrom one.inbox.ports)) in
+      let from : All (IsFrom 1) end.inbox.received = subst (λ (n : ℕ). All (IsFrom n) end.inbox.received) ports_are (h.from nothing) in
+      let all : GotAll end.inbox (with_bye (outgoing one.inbox.box 0 (posts 0 xs))) = subst (λ (p : Outgoing (C × W)). GotAll end.inbox (with_bye p)) port_is got in
+      let inbox : end.inbox ≡ incoming one.inbox.box 1 (posts 0 xs ++ letter 0 Bye ∷ []) = settled_inbox end.inbox one.inbox.box xs h.box (h.ports ∙ ports_are) from all in
+      let bodies_are : bodies end.inbox.received ≡ came ended.1.deeds = h.bodies_are ∙ ap (λ (l : List (Letter (C × W))). bodies l ++ came ended.1.deeds) none in
+      (inbox, sym bodies_are ∙ ap (λ (i : Incoming (C × W)). bodies i.received) inbox ∙ bodies-posts xs)
+
+  -- THE WORKER OF A DESK that ended, and whose box settled
+  pub served_just : (desk : DeskView (LineSink W)) (one : WorkerView (Unit {0}) C W) (end : WorkerEnd C W) (xs : List (C × W)) (port : Outgoing (C × W)) → HasEnded tells remaining contents one end
+      → IsNewOver config desk one → port ≡ outgoing one.inbox.box 0 (posts 0 xs) → GotAll end.inbox (with_bye port)
+      → HasServedJust tells remaining contents config xs desk end.desk
+  served_just desk one end xs port ended new port_is got =
+      let T : ℕ → Type 0 = IsTold tells in
+      let H : WorkerView (Unit {0}) C W → Type 0 = λ w. (h : HasWorked (λ _ moment _. IsTold tells moment) remaining contents one w end.sessions) × (came h.deeds ≡ xs) in
+      let inbox = received_new desk one end xs port ended new port_is got in
+      let session : (view_of_end one ended.0 end).session ≡ session_over config end.desk ended.0 =
+      ap (λ (s : SessionView (Unit {0}) (LineSink W)). record { subjects = s.subjects; window = s.window; moments = tt; calls = end.desk; joined = ended.0 }) new.session in
+      let start : H (view_of_end one ended.0 end) = (ended.1, inbox.1) in
+      let left : H (worker (session_over config end.desk ended.0) end.inbox) = subst (λ (s : SessionView (Unit {0}) (LineSink W)). H (worker s end.inbox)) session start in
+      let whole : H (worker (session_over config end.desk ended.0) (incoming one.inbox.box 1 (posts 0 xs ++ letter 0 Bye ∷ []))) =
+      subst (λ (i : Incoming (C × W)). H (worker (session_over config end.desk ended.0) i)) inbox.0 left in
+      record { one = one; joined = ended.0; sessions = end.sessions; is_new = new; worked = whole.0; came_are = whole.1 }
+
+  -- WORKER BY WORKER
+
+  -- one more desk, behind others
+  served_from_push : (n d k : ℕ) (xs : List (C × W)) (desks backs : List (DeskView (LineSink W))) (desk back : DeskView (LineSink W)) → k ≡ d + length desks
+      → HaveServedFrom tells remaining contents config n d xs desks backs → HasServedJust tells remaining contents config (dealt n k 0 xs) desk back
+      → HaveServedFrom tells remaining contents config n d xs (desks ++ desk ∷ []) (backs ++ back ∷ [])
+  served_from_push n d k xs [] [] desk back is so one = (subst (λ (m : ℕ). HasServedJust tells remaining contents config (dealt n m 0 xs) desk back) (omega (arith, is)) one, tt)
+  served_from_push n d k xs [] (b ∷ backs) desk back is so one = absurd so
+  served_from_push n d k xs (e ∷ desks) [] desk back is so one = absurd so
+  served_from_push n d k xs (e ∷ desks) (b ∷ backs) desk back is so one =
+      (so.0, served_from_push n (d + 1) k xs desks backs desk back (omega (arith, is)) so.1 one)
+
+module _ {C W : Type 0} where
+  -- ports, of which the first is that at place d of n, by which what was dealt was sent
+  abbrev pub dealt_by : ℕ → ℕ → List (C × W) → List (Outgoing (C × W)) → List (Outgoing (C × W))
+  dealt_by n d xs [] = []
+  dealt_by n d xs (port ∷ ports) = with_bodies (dealt n d 0 xs) port ∷ dealt_by n (d + 1) xs ports
+
+  -- what each put, told place by place, is what was dealt
+  puts_dealt : (n d : ℕ) (xs : List (C × W)) (before after : List (Outgoing (C × W))) → length after ≡ length before
+      → ((i : ℕ) → slice_get after i ≡ option_map (with_bodies (dealt n (d + i) 0 xs)) (slice_get before i)) → after ≡ dealt_by n d xs before
+  puts_dealt n d xs [] [] count at = refl
+  puts_dealt n d xs [] (a ∷ after) count at = absurd (omega (arith, count))
+  puts_dealt n d xs (p ∷ before) [] count at = absurd (omega (arith, count))
+  puts_dealt n d xs (p ∷ before) (a ∷ after) count at =
+      let place : d + 0 ≡ d = omega arith in
+      let first : a ≡ with_bodies (dealt n d 0 xs) p = same_Some a (with_bodies (dealt n (d + 0) 0 xs) p) (at 0) ∙ ap (λ (k : ℕ). with_bodies (dealt n k 0 xs) p) place in
+      ap (λ (q : Outgoing (C × W)). q ∷ after) first
+      ∙ ap (λ (l : List (Outgoing (C × W))). with_bodies (dealt n d 0 xs) p ∷ l)
+      (puts_dealt n (d + 1) xs before after (omega (arith, count)) (λ i. at (suc i) ∙ ap (λ (k : ℕ). option_map (with_bodies (dealt n k 0 xs)) (slice_get before i)) (omega arith)))
+
+  -- so what an acceptor dealt
+  pub deals_dealt : (xs : List (C × W)) (before after : List (Outgoing (C × W))) → Deals xs before after → after ≡ dealt_by (length before) 0 xs before
+  deals_dealt xs before after deals =
+      puts_dealt (length before) 0 xs before after deals.count (λ i. deals.at i ∙ ap (λ (k : ℕ). option_map (with_bodies (dealt (length before) k 0 xs)) (slice_get before i)) (omega arith))
+
+module _ {M C W : Type 0} (tells : M → ℕ → M → Type 0) (remaining : C → Option (List ℕ)) (contents : W → Option (List ℕ)) (config : Config) where
+  -- the workers of the first desks have ended, and served what was dealt to them; those that are left hold what was dealt to them
+  pub record HaveServedSome (n : ℕ) (xs : List (C × W)) (all here : List (DeskView (LineSink W))) (workers : List (WorkerView (Unit {0}) C W)) (ports : List (Outgoing (C × W))) : Type 0 where
+    pub kept : List (DeskView (LineSink W))
+    pub parts : kept ++ map desk_of (reverse workers) ≡ all
+    pub served : HaveServedFrom tells remaining contents config n 0 xs kept here
+    pub new : All (λ one. IsNewOver config (desk_of one) one) workers
+    pub waits : reverse ports ≡ dealt_by n (length kept) xs (map port_to (reverse workers))
+
+  -- none has ended yet
+  pub some-none : (xs : List (C × W)) (here : List (DeskView (LineSink W))) (workers : List (WorkerView (Unit {0}) C W)) (ports : List (Outgoing (C × W))) → here ≡ []
+      → All (λ one. IsNewOver config (desk_of one) one) workers → Deals xs (reverse (map port_to workers)) (reverse ports)
+      → HaveServedSome (length workers) xs (map desk_of (reverse workers)) here workers ports
+  some-none xs here workers ports none new deals = record {
+    kept = [];
+    parts = refl;
+    served = subst (λ (l : List (DeskView (LineSink W))). HaveServedFrom tells remaining contents config (length workers) 0 xs [] l) (sym none) tt;
+    new = new;
+    waits =
+        let n : length (reverse (map port_to workers)) ≡ length workers = length-reverse (map port_to workers) ∙ length-map workers port_to in
+        deals_dealt xs (reverse (map port_to workers)) (reverse ports) deals
+        ∙ ap (λ (k : ℕ). dealt_by k 0 xs (reverse (map port_to workers))) n
+        ∙ ap (λ (l : List (Outgoing (C × W))). dealt_by (length workers) 0 xs l) (sym (map-reverse port_to workers));
+  }
+
+  -- the last worker's port holds what was dealt to it
+  pub some-port : (n : ℕ) (xs : List (C × W)) (all here : List (DeskView (LineSink W))) (workers left : List (WorkerView (Unit {0}) C W)) (ports rest : List (Outgoing (C × W)))
+      → (one : WorkerView (Unit {0}) C W) (port : Outgoing (C × W)) → workers ≡ left ++ one ∷ [] → ports ≡ rest ++ port ∷ []
+      → (so : HaveServedSome n xs all here workers ports) → (port ≡ outgoing one.inbox.box 0 (posts 0 (dealt n (length so.kept) 0 xs))) × (reverse rest ≡ dealt_by n (length so.kept + 1) xs (map port_to (reverse left)))
+  some-port n xs all here workers left ports rest one port took took_port so =
+      let k = length so.kept in
+      let whole : port ∷ reverse rest ≡ with_bodies (dealt n k 0 xs) (port_to one) ∷ dealt_by n (k + 1) xs (map port_to (reverse left)) =
+      sym (last_first ports rest port took_port) ∙ so.waits ∙ ap (λ (ws : List (WorkerView (Unit {0}) C W)). dealt_by n k xs (map port_to ws)) (last_first workers left one took) in (
+        same_head port (with_bodies (dealt n k 0 xs) (port_to one)) (reverse rest) (dealt_by n (k + 1) xs (map port_to (reverse left))) whole,
+        same_tail port (with_bodies (dealt n k 0 xs) (port_to one)) (reverse rest) (dealt_by n (k + 1) xs (map port_to (reverse left))) whole,
+      )
+
+  -- one more has ended, and its box settled
+  pub some-one : (n : ℕ) (xs : List (C × W)) (all here after : List (DeskView (LineSink W))) (workers left : List (WorkerView (Unit {0}) C W)) (ports rest : List (Outgoing (C × W)))
+      → (one : WorkerView (Unit {0}) C W) (port : Outgoing (C × W)) (back : DeskView (LineSink W)) → workers ≡ left ++ one ∷ [] → ports ≡ rest ++ port ∷ [] → after ≡ here ++ back ∷ []
+      → ((ys : List (C × W)) → IsNewOver config (desk_of one) one → port ≡ outgoing one.inbox.box 0 (posts 0 ys) → HasServedJust tells remaining contents config ys (desk_of one) back)
+      → HaveServedSome n xs all here workers ports → HaveServedSome n xs all after left rest
+  some-one n xs all here after workers left ports rest one port back took took_port put served so =
+      let P : WorkerView (Unit {0}) C W → Type 0 = λ one. IsNewOver config (desk_of one) one in
+      let news = All-pop P workers left (Some one) took so.new in
+      let p = some-port n xs all here workers left ports rest one port took took_port so in
+      let k = length so.kept in
+      let just : HasServedJust tells remaining contents config (dealt n k 0 xs) (desk_of one) back = served (dealt n k 0 xs) news.1 p.0 in
+      let count : length (so.kept ++ desk_of one ∷ []) ≡ k + 1 = length-append so.kept (desk_of one ∷ []) in
+      record {
+        kept = so.kept ++ desk_of one ∷ [];
+        parts =
+            append_assoc so.kept (desk_of one ∷ []) (map desk_of (reverse left))
+            ∙ ap (λ (ws : List (WorkerView (Unit {0}) C W)). so.kept ++ map desk_of ws) (sym (last_first workers left one took))
+            ∙ so.parts;
+        served =
+            subst (λ (l : List (DeskView (LineSink W))). HaveServedFrom tells remaining contents config n 0 xs (so.kept ++ desk_of one ∷ []) l) (sym put)
+            (served_from_push tells remaining contents config n 0 k xs so.kept here (desk_of one) back (omega arith) so.served just);
+        new = news.0;
+        waits = p.1 ∙ ap (λ (m : ℕ). dealt_by n m xs (map port_to (reverse left))) (sym count);
+      }
+
+  -- all have ended
+  pub some-all : (n : ℕ) (xs : List (C × W)) (all here : List (DeskView (LineSink W))) (workers : List (WorkerView (Unit {0}) C W)) (ports : List (Outgoing (C × W))) → workers ≡ [] → n ≡ length all
+      → HaveServedSome n xs all here workers ports → HaveServedAll tells remaining contents config xs all here
+  some-all n xs all here workers ports none count so =
+      let whole : so.kept ≡ all = sym (append-nil so.kept) ∙ ap (λ (ws : List (WorkerView (Unit {0}) C W)). so.kept ++ map desk_of (reverse ws)) (sym none) ∙ so.parts in
+      subst (λ (m : ℕ). HaveServedFrom tells remaining contents config m 0 xs all here) count
+      (subst (λ (l : List (DeskView (LineSink W))). HaveServedFrom tells remaining contents config n 0 xs l here) whole so.served)
+
+-- THE PORTS OF A CREW
+
+module _ {C W : Type 0} where
+  -- a new worker is one over its own desk
+  pub new_own : (config : Config) (desk : DeskView (LineSink W)) (one : WorkerView (Unit {0}) C W) → IsNewOver config desk one → IsNewOver config (desk_of one) one
+  new_own config desk one new =
+      let is : desk_of one ≡ desk = ap (λ (s : SessionView (Unit {0}) (LineSink W)). s.calls) new.session in
+      record { session = new.session ∙ ap (λ d. session_over config d None) (sym is); inbox = new.inbox; room = new.room }
+
+  -- the port of one worker more
+  pub ports_more : (workers workers_after : List (WorkerView (Unit {0}) C W)) (ports ports_after : List (Outgoing (C × W))) (one : WorkerView (Unit {0}) C W) (port : Outgoing (C × W))
+      → ports ≡ map port_to workers → port ≡ port_to one → workers_after ≡ workers ++ one ∷ [] → ports_after ≡ ports ++ port ∷ [] → ports_after ≡ map port_to workers_after
+  ports_more workers workers_after ports ports_after one port are is put put_port =
+      put_port
+      ∙ ap (λ (ps : List (Outgoing (C × W))). ps ++ port ∷ []) are
+      ∙ ap (λ (p : Outgoing (C × W)). map port_to workers ++ p ∷ []) is
+      ∙ sym (map-append port_to workers (one ∷ []))
+      ∙ sym (ap (map port_to) put)
+
+  -- ports by which what was dealt was sent are those of the workers
+  dealt_ports : (n d : ℕ) (xs : List (C × W)) (workers : List (WorkerView (Unit {0}) C W)) → AllZip IsPortOf workers (dealt_by n d xs (map port_to workers))
+  dealt_ports n d xs [] = tt
+  dealt_ports n d xs (one ∷ workers) = (refl, dealt_ports n (d + 1) xs workers)
+
+  new_ports : (workers : List (WorkerView (Unit {0}) C W)) → AllZip IsPortOf workers (map port_to workers)
+  new_ports [] = tt
+  new_ports (one ∷ workers) = (refl, new_ports workers)
+
+  -- so are those by which nothing was sent
+  pub ports_new : (workers : List (WorkerView (Unit {0}) C W)) (ports : List (Outgoing (C × W))) → ports ≡ map port_to workers → AllZip IsPortOf (reverse workers) (reverse ports)
+  ports_new workers ports are =
+      subst (λ (ps : List (Outgoing (C × W))). AllZip IsPortOf (reverse workers) ps) (map-reverse port_to workers ∙ ap reverse (sym are)) (new_ports (reverse workers))
+
+  deals_ports : (xs : List (C × W)) (workers : List (WorkerView (Unit {0}) C W)) (ports : List (Outgoing (C × W))) → Deals xs (reverse (map port_to workers)) (reverse ports)
+      → AllZip IsPortOf (reverse workers) (reverse ports)
+  deals_ports xs workers ports deals =
+      let n = length (reverse (map port_to workers)) in
+      let are : reverse ports ≡ dealt_by n 0 xs (map port_to (reverse workers)) =
+      deals_dealt xs (reverse (map port_to workers)) (reverse ports) deals ∙ ap (dealt_by n 0 xs) (sym (map-reverse port_to workers)) in
+      subst (λ (ps : List (Outgoing (C × W))). AllZip IsPortOf (reverse workers) ps) (sym are) (dealt_ports n 0 xs (reverse workers))
+
+module _ {L C W : Type 0} (accepts : L → C × W → L → Type 0) (fails : L → L → Type 0) where
+  -- however an acceptor stopped
+  pub accepts_ports : (count : ℕ) (stop : Result (Unit {0}) AcceptStop) (listener after : L) (workers : List (WorkerView (Unit {0}) C W)) (ports : List (Outgoing (C × W)))
+      → AcceptsAll accepts fails count stop listener after (reverse (map port_to workers)) (reverse ports) → AllZip IsPortOf (reverse workers) (reverse ports)
+  accepts_ports count (Ok _) listener after workers ports all = deals_ports all.0 workers ports all.3
+  accepts_ports count (Err NoConnection) listener after workers ports all = deals_ports all.0 workers ports all.5
+  accepts_ports count (Err (WorkerGone place)) listener after workers ports all = deals_ports all.0 workers ports all.5
+
+-- THE FIRST THAT WAS LOST
+
+-- there is none
+abbrev IsNone : Option ℕ → Type 0
+IsNone None = Unit {0}
+IsNone (Some place) = ⊥
+
+pub first_lost-none : (lost : Option ℕ) (place : ℕ) (has_all : Bool) → first_lost lost place has_all ≡ None → (lost ≡ None) × (has_all ≡ true)
+first_lost-none None place true is = (refl, refl)
+first_lost-none None place false is = absurd (subst IsNone (sym is) tt)
+first_lost-none (Some first) place has_all is = absurd (subst IsNone (sym is) tt)
+
+pub first_lost-within : (lost : Option ℕ) (place : ℕ) (has_all : Bool) (n m : ℕ) → IfSome lost (λ k. k < n) → n ≤ m → place < m → IfSome (first_lost lost place has_all) (λ k. k < m)
+first_lost-within None place true n m within more here = tt
+first_lost-within None place false n m within more here = here
+first_lost-within (Some first) place has_all n m within more here = omega (arith, within, more)
+
+-- HOW SERVING ENDED
+
+-- nothing is kept of nothing
+kept_none : {S : Type 0} (kept here : List (DeskView S)) → here ≡ [] → AllZip KeepsDesk kept here → kept ≡ []
+kept_none [] here none all = refl
+kept_none (desk ∷ kept) [] none all = absurd all
+kept_none (desk ∷ kept) (back ∷ here) none all = let no : ⊥ = (let count = ap length none in omega (arith, count)) in absurd no
+
+module _ {C W : Type 0} where
+  -- all desks were handed to workers
+  pub handed_all : (desks here : List (DeskView (LineSink W))) (workers : List (WorkerView (Unit {0}) C W)) → here ≡ [] → AreOut desks here workers → map desk_of (reverse workers) ≡ desks
+  handed_all desks here workers none out = subst (λ (kept : List (DeskView (LineSink W))). kept ++ map desk_of (reverse workers) ≡ desks) (kept_none out.kept here none out.same) out.parts
+
+  -- to as many
+  pub workers_count : (desks : List (DeskView (LineSink W))) (workers : List (WorkerView (Unit {0}) C W)) → map desk_of (reverse workers) ≡ desks → length workers ≡ length desks
+  workers_count desks workers all = sym (length-reverse workers) ∙ sym (length-map (reverse workers) desk_of) ∙ ap length all
+
+  -- the desks that are here are some of all
+  pub here_some : (desks here : List (DeskView (LineSink W))) (workers : List (WorkerView (Unit {0}) C W)) → AreOut desks here workers → length here ≤ length desks
+  here_some desks here workers out =
+      let same : length here ≡ length out.kept = AllZip-long KeepsDesk out.kept here out.same in
+      let all : length out.kept + length (map desk_of (reverse workers)) ≡ length desks = sym (length-append out.kept (map desk_of (reverse workers))) ∙ ap length out.parts in
+      omega (arith, same, all)
+
+module _ {L M C W : Type 0} (accepts : L → C × W → L → Type 0) (fails : L → L → Type 0) (tells : M → ℕ → M → Type 0)
+    (remaining : C → Option (List ℕ)) (contents : W → Option (List ℕ)) (config : Config) where
+  -- what is known of the desks that came back, where no worker was lost
+  abbrev pub ServedUnlessLost : Option ℕ → List (DeskView (LineSink W)) → List (DeskView (LineSink W)) → List (DeskView (LineSink W)) → List (WorkerView (Unit {0}) C W) → List (Outgoing (C × W)) → Type 0
+  ServedUnlessLost lost desks here after workers ports =
+      lost ≡ None → here ≡ [] → (xs : List (C × W)) → Deals xs (reverse (map port_to workers)) (reverse ports) → HaveServedAll tells remaining contents config xs desks after
+
+  -- the next connection was for a worker that is gone
+  gone_so : (place : ℕ) (listener listener_after : L) (desks after : List (DeskView (LineSink W))) (workers : List (WorkerView (Unit {0}) C W)) (ports : List (Outgoing (C × W)))
+      → 0 < length desks → length (reverse (map port_to workers)) ≡ length desks
+      → AcceptsAll accepts fails config.connections (Err (WorkerGone place)) listener listener_after (reverse (map port_to workers)) (reverse ports)
+      → ServesUntil accepts fails tells remaining contents config (Err (Thread place)) listener listener_after desks after
+  gone_so place listener listener_after desks after workers ports some count all =
+      let place_is : place ≡ length all.0 % length desks = all.4 ∙ ap (λ (n : ℕ). length all.0 % n) count in
+      let within : length all.0 % length desks < length desks = omega arith in
+      (subst (λ (n : ℕ). n < length desks) (sym place_is) within, inr (inl (all.0, all.1, all.2, all.3, place_is)))
+
+  -- no worker was hired for one of the desks
+  hired_so : (fault : ServeFault) (lost : Option ℕ) (listener listener_after : L) (desks here after : List (DeskView (LineSink W)))
+      → 0 < length desks → length here ≤ length desks → NamesLast (length here) fault → listener_after ≡ listener
+      → ServesUntil accepts fails tells remaining contents config (with_lost (Err fault) lost) listener listener_after desks after
+  hired_so NoDesk lost listener listener_after desks here after some most names same = absurd names
+  hired_so Accept lost listener listener_after desks here after some most names same = absurd names
+  hired_so (Thread place) None listener listener_after desks here after some most names same = (omega (arith, names, most), inl same)
+  hired_so (Thread place) (Some first) listener listener_after desks here after some most names same = (omega (arith, names, most), inl same)
+  hired_so Memory None listener listener_after desks here after some most names same = (some, same)
+  hired_so Memory (Some first) listener listener_after desks here after some most names same = (some, same)
+
+  -- by how the acceptor stopped
+  stopped_so : (stop : Result (Unit {0}) AcceptStop) (lost : Option ℕ) (listener listener_after : L) (desks here after : List (DeskView (LineSink W))) (workers : List (WorkerView (Unit {0}) C W)) (ports : List (Outgoing (C × W)))
+      → 0 < length desks → here ≡ [] → length (reverse (map port_to workers)) ≡ length desks → IfSome lost (λ place. place < length desks)
+      → AcceptsAll accepts fails config.connections stop listener listener_after (reverse (map port_to workers)) (reverse ports) → ServedUnlessLost lost desks here after workers ports
+      → ServesUntil accepts fails tells remaining contents config (with_lost (fault_in stop) lost) listener listener_after desks after
+  stopped_so (Ok _) None listener listener_after desks here after workers ports some none count within all so = (all.0, (all.1, all.2), so refl none all.0 all.3)
+  stopped_so (Ok _) (Some place) listener listener_after desks here after workers ports some none count within all so = (within, inr (inr (inl (all.0, (all.1, all.2)))))
+  stopped_so (Err NoConnection) None listener listener_after desks here after workers ports some none count within all so =
+      (all.0, (all.1, all.2, all.3, all.4), so refl none all.0 all.5)
+  stopped_so (Err NoConnection) (Some place) listener listener_after desks here after workers ports some none count within all so =
+      (within, inr (inr (inr (all.0, (all.1, all.2, all.3, all.4)))))
+  stopped_so (Err (WorkerGone place)) None listener listener_after desks here after workers ports some none count within all so = gone_so place listener listener_after desks after workers ports some count all
+  stopped_so (Err (WorkerGone place)) (Some first) listener listener_after desks here after workers ports some none count within all so = gone_so place listener listener_after desks after workers ports some count all
+
+  -- by how dealing ended
+  pub ended_so : (dealt result : Result (Unit {0}) ServeFault) (lost : Option ℕ) (listener listener_after : L) (desks here after : List (DeskView (LineSink W))) (workers : List (WorkerView (Unit {0}) C W)) (ports : List (Outgoing (C × W)))
+      → 0 < length desks → length after ≡ length desks → AreOut desks here workers → IfSome lost (λ place. place < length after)
+      → DealsUntil accepts fails config.connections dealt listener listener_after desks here workers ports
+      → ServedUnlessLost lost (map desk_of (reverse workers)) here after workers ports
+      → result ≡ with_lost dealt lost → ServesUntil accepts fails tells remaining contents config result listener listener_after desks after
+  ended_so dealt result lost listener listener_after desks here after workers ports some count out within (inl hired) so result_is =
+      let is : with_lost (Err hired.0) lost ≡ result = ap (λ (d : Result (Unit {0}) ServeFault). with_lost d lost) (sym hired.1) ∙ sym result_is in
+      subst (λ (r : Result (Unit {0}) ServeFault). ServesUntil accepts fails tells remaining contents config r listener listener_after desks after) is
+      (hired_so hired.0 lost listener listener_after desks here after some (here_some desks here workers out) hired.2 hired.3)
+  ended_so dealt result lost listener listener_after desks here after workers ports some count out within (inr stopped) so result_is =
+      let is : with_lost (fault_in stopped.0) lost ≡ result = ap (λ (d : Result (Unit {0}) ServeFault). with_lost d lost) (sym stopped.1) ∙ sym result_is in
+      let all : map desk_of (reverse workers) ≡ desks = handed_all desks here workers stopped.2 out in
+      let crew : length (reverse (map port_to workers)) ≡ length desks = length-reverse (map port_to workers) ∙ length-map workers port_to ∙ workers_count desks workers all in
+      let places : IfSome lost (λ place. place < length desks) = subst (λ (n : ℕ). IfSome lost (λ place. place < n)) count within in
+      let served : ServedUnlessLost lost desks here after workers ports = subst (λ (ds : List (DeskView (LineSink W))). ServedUnlessLost lost ds here after workers ports) all so in
+      subst (λ (r : Result (Unit {0}) ServeFault). ServesUntil accepts fails tells remaining contents config r listener listener_after desks after) is
+      (stopped_so stopped.0 lost listener listener_after desks here after workers ports some stopped.2 crew places stopped.3 served)

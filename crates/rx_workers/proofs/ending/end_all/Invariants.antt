@@ -1,0 +1,25 @@
+use Rattle.std.proofs.Common.{◌≡◌, ◌+◌, ◌<◌, ◌≤◌, vec_len, vec_capacity, List, [], length, None, IfSome, map, reverse}
+use Rattle.std.specs.List.{All, AllZip}
+use Rattle.rx_config.specs.declared.config.Config.{Config}
+use Rattle.rx_pump.specs.Desks.{DeskView}
+use Rattle.rx_workers.specs.Accepting.{Deals}
+use Rattle.rx_workers.specs.Crews.{AreOut, IsPortOf, desk_of}
+use Rattle.rx_workers.specs.Service.{IsNewOver, port_to}
+use Rattle.rx_workers.proofs.Service.{HaveServedSome}
+use Rattle.rx_workers.proofs.ending.end_all.Given as goal
+
+-- the desks of the workers that ended are back, and where none was lost they served what was dealt to them
+abbrev pub invariant-loop-worker : goal.invariant-loop-worker
+invariant-loop-worker g l = record {
+  room : vec_len l.desks + vec_len l.workers ≤ vec_capacity l.desks;
+  count : vec_len l.workers ≡ vec_len l.ports;
+  ports : AllZip IsPortOf (reverse l.workers.items) (reverse l.ports.items);
+  out : (all : List (DeskView _)) → AreOut all l.initial.desks.items l.initial.workers.items → AreOut all l.desks.items l.workers.items;
+  served : l.lost ≡ None → l.initial.desks.items ≡ [] → (config : Config) → (xs : List _) → All (λ one. IsNewOver config (desk_of one) one) l.initial.workers.items
+      → Deals xs (reverse (map port_to l.initial.workers.items)) (reverse l.initial.ports.items)
+      → HaveServedSome g.M.Moments.tells g.C.Read.remaining g.W.Write.contents config (length l.initial.workers.items) xs (map desk_of (reverse l.initial.workers.items)) l.desks.items l.workers.items l.ports.items;
+  lost : IfSome l.lost (λ place. place < vec_len l.desks);
+}
+
+abbrev pub decreases-loop-worker : goal.decreases-loop-worker
+decreases-loop-worker g l = vec_len l.workers

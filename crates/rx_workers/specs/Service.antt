@@ -1,0 +1,123 @@
+-- What a crew of workers does with the connections of a listener: each is served by the worker to which it was dealt (this
+-- project's own rule).
+use Rattle.std.specs.Prelude.{◌≡◌, ◌⊎◌, ◌+◌, ◌<◌, ◌%◌, ℕ, List, [], ◌∷◌, ◌++◌, length, map, reverse, Option, None, Some, Result, Ok, Err}
+use Rattle.rx_config.specs.declared.config.Config.{Config}
+use Rattle.rx_mailbox.specs.declared.letter.Post.TheVariants.{Bye}
+use Rattle.rx_mailbox.specs.Boxes.{Outgoing, capacity_of, incoming, outgoing}
+use Rattle.rx_mailbox.specs.Letters.{letter}
+use Rattle.rx_pump.specs.Desks.{DeskView}
+use Rattle.rx_pump.specs.Sends.{posts}
+use Rattle.rx_sink.specs.declared.line_sink.LineSink.{LineSink}
+use Rattle.rx_workers.specs.Accepting.{Accepts, AcceptsAll, dealt}
+use Rattle.rx_workers.specs.Crews.{NamesLast}
+use Rattle.rx_workers.specs.SessionDesks.{SessionView}
+use Rattle.rx_workers.specs.Telling.{IsTold}
+use Rattle.rx_workers.specs.Working.{WorkerView, worker, HasWorked, came}
+use Rattle.rx_workers.specs.declared.accepting.AcceptStop.{AcceptStop}
+use Rattle.rx_workers.specs.declared.accepting.AcceptStop.TheVariants.{NoConnection, WorkerGone}
+use Rattle.rx_workers.specs.declared.joined.Joined.{Joined}
+use Rattle.rx_workers.specs.declared.serve_fault.ServeFault.{ServeFault}
+use Rattle.rx_workers.specs.declared.serve_fault.ServeFault.TheVariants.{NoDesk, Accept, Thread, Memory}
+
+-- the desk of a worker's sessions over a desk that makes its calls, by a configuration
+abbrev pub session_over : {W : Type 0} → Config → DeskView (LineSink W) → Option Joined → SessionView (Unit {0}) (LineSink W)
+session_over config desk joined = record { subjects = config.subjects.items; window = config.window; moments = tt; calls = desk; joined = joined }
+
+module _ {C W : Type 0} where
+  -- the port to the inbox of a worker, by which nothing was sent yet
+  abbrev pub port_to : WorkerView (Unit {0}) C W → Outgoing (C × W)
+  port_to one = outgoing one.inbox.box 0 []
+
+  -- a worker that begins, over this desk: its box is new, has one port, and room for 16 connections
+  pub record IsNewOver (config : Config) (desk : DeskView (LineSink W)) (one : WorkerView (Unit {0}) C W) : Type 0 where
+    pub session : one.session ≡ session_over config desk None
+    pub inbox : one.inbox ≡ incoming one.inbox.box 1 []
+    pub room : capacity_of one.inbox.box ≡ 16
+
+module _ {M C W : Type 0} (tells : M → ℕ → M → Type 0) (remaining : C → Option (List ℕ)) (contents : W → Option (List ℕ)) (config : Config) where
+  -- THE WORKER OF A DESK received just these connections, in their order, and then its Bye, and served each to its end by a session
+  -- of its own, but those that it gave up; the desk is left as the calls of these sessions left it
+  pub record HasServedJust (connections : List (C × W)) (desk after : DeskView (LineSink W)) : Type 0 where
+    pub one : WorkerView (Unit {0}) C W
+    pub joined : Option Joined
+    pub sessions : ℕ
+    pub is_new : IsNewOver config desk one
+    pub worked :
+        HasWorked (λ _ moment _. IsTold tells moment) remaining contents one
+        (worker (session_over config after joined) (incoming one.inbox.box 1 (posts 0 connections ++ letter 0 Bye ∷ []))) sessions
+    pub came_are : came worked.deeds ≡ connections
+
+  -- the workers of these desks, of which the first is worker d of n, each served the connections that were dealt to it
+  abbrev pub HaveServedFrom : ℕ → ℕ → List (C × W) → List (DeskView (LineSink W)) → List (DeskView (LineSink W)) → Type 0
+  HaveServedFrom n d xs [] [] = Unit {0}
+  HaveServedFrom n d xs [] (back ∷ backs) = ⊥
+  HaveServedFrom n d xs (desk ∷ desks) [] = ⊥
+  HaveServedFrom n d xs (desk ∷ desks) (back ∷ backs) = HasServedJust (dealt n d 0 xs) desk back × HaveServedFrom n (d + 1) xs desks backs
+
+  -- connection i, from 0, was served by the worker of desk i modulo their number, those of a worker in their order
+  abbrev pub HaveServedAll : List (C × W) → List (DeskView (LineSink W)) → List (DeskView (LineSink W)) → Type 0
+  HaveServedAll xs desks after = HaveServedFrom (length desks) 0 xs desks after
+
+module _ {L X : Type 0} (accepts : L → X → L → Type 0) (fails : L → L → Type 0) where
+  -- so many connections were accepted, and these are all
+  abbrev pub AcceptsJust : ℕ → List X → L → L → Type 0
+  AcceptsJust count xs listener after = (length xs ≡ count) × Accepts accepts listener xs after
+
+  -- fewer were, and then the listener failed
+  abbrev pub FailsBehind : ℕ → List X → L → L → Type 0
+  FailsBehind count xs listener after = (last : L) × (length xs < count) × Accepts accepts listener xs last × fails last after
+
+  -- fewer were, and the next one is given up, since its worker is gone, that of the desk at this place of n
+  abbrev pub LosesNext : ℕ → ℕ → ℕ → L → L → Type 0
+  LosesNext count n place listener after =
+      (xs : List X) × (x : X) × (length xs < count) × Accepts accepts listener (xs ++ x ∷ []) after × (place ≡ length xs % n)
+
+module _ {L M C W : Type 0} (accepts : L → C × W → L → Type 0) (fails : L → L → Type 0) (tells : M → ℕ → M → Type 0)
+    (remaining : C → Option (List ℕ)) (contents : W → Option (List ℕ)) (config : Config) where
+  -- WHAT BECAME of the connections that were to be served
+  abbrev pub ServesUntil : Result (Unit {0}) ServeFault → L → L → List (DeskView (LineSink W)) → List (DeskView (LineSink W)) → Type 0
+  -- as many as the configuration says were accepted, and each was served
+  ServesUntil (Ok _) listener listener_after desks after =
+      (xs : List (C × W)) × AcceptsJust accepts fails config.connections xs listener listener_after × HaveServedAll tells remaining contents config xs desks after
+  -- fewer were, and each of them was served; then the listener failed
+  ServesUntil (Err Accept) listener listener_after desks after =
+      (xs : List (C × W)) × FailsBehind accepts fails config.connections xs listener listener_after × HaveServedAll tells remaining contents config xs desks after
+  -- there was no desk, and none was accepted
+  ServesUntil (Err NoDesk) listener listener_after desks after = (desks ≡ []) × (listener_after ≡ listener)
+  -- there was no memory for the workers, and none was accepted
+  ServesUntil (Err Memory) listener listener_after desks after = (0 < length desks) × (listener_after ≡ listener)
+  -- the worker of the desk at this place did not begin, and none was accepted; or the one for which the next connection was is gone;
+  -- or all were accepted, or the listener failed, and this one ended before its Bye
+  ServesUntil (Err (Thread place)) listener listener_after desks after =
+      (place < length desks)
+      × ((listener_after ≡ listener)
+      ⊎ LosesNext accepts fails config.connections (length desks) place listener listener_after
+      ⊎ ((xs : List (C × W)) × AcceptsJust accepts fails config.connections xs listener listener_after)
+      ⊎ ((xs : List (C × W)) × FailsBehind accepts fails config.connections xs listener listener_after))
+
+-- HOW IT COMES TO THAT
+
+-- the fault that an acceptor's stop is
+abbrev pub fault_in : Result (Unit {0}) AcceptStop → Result (Unit {0}) ServeFault
+fault_in (Ok _) = Ok tt
+fault_in (Err NoConnection) = Err Accept
+fault_in (Err (WorkerGone place)) = Err (Thread place)
+
+-- how serving ended, by how dealing did, and by the first worker that did not have all: it is told but where an earlier fault is
+-- that not all was served
+abbrev pub with_lost : Result (Unit {0}) ServeFault → Option ℕ → Result (Unit {0}) ServeFault
+with_lost dealt None = dealt
+with_lost (Ok _) (Some place) = Err (Thread place)
+with_lost (Err NoDesk) (Some place) = Err NoDesk
+with_lost (Err Accept) (Some place) = Err (Thread place)
+with_lost (Err (Thread first)) (Some place) = Err (Thread first)
+with_lost (Err Memory) (Some place) = Err Memory
+
+module _ {L C W : Type 0} (accepts : L → C × W → L → Type 0) (fails : L → L → Type 0) where
+  -- a worker was not hired, and nothing was accepted; or each was, and the connections were dealt to them until the acceptor stopped.
+  -- The last of the workers was hired for the first desk
+  abbrev pub DealsUntil : ℕ → Result (Unit {0}) ServeFault → L → L → List (DeskView (LineSink W)) → List (DeskView (LineSink W)) → List (WorkerView (Unit {0}) C W) → List (Outgoing (C × W)) → Type 0
+  DealsUntil count dealt listener listener_after desks here workers ports =
+      ((fault : ServeFault) × (dealt ≡ Err fault) × NamesLast (length here) fault × (listener_after ≡ listener))
+      ⊎ ((stop : Result (Unit {0}) AcceptStop) × (dealt ≡ fault_in stop) × (here ≡ [])
+      × AcceptsAll accepts fails count stop listener listener_after (reverse (map port_to workers)) (reverse ports))

@@ -1,0 +1,111 @@
+//! Workers that were hired for desks, and how they end.
+ghost use Rattle.std.specs.Prelude.{◌≡◌, ◌≤◌, [], List, IsTrue, vec_capacity};
+ghost use Rattle.rx_config.specs.declared.config.Config.{Config};
+ghost use Rattle.rx_mailbox.specs.Boxes.{outgoing};
+ghost use Rattle.rx_mailbox.specs.Settling.{GotAll};
+ghost use Rattle.rx_pump.specs.Desks.{KeepsDesk};
+ghost use Rattle.rx_pump.specs.Sends.{posts};
+ghost use Rattle.rx_workers.specs.Crews.{desk_of};
+ghost use Rattle.rx_workers.specs.Service.{HasServedJust, IsNewOver};
+
+use crate::accepting::ring_at;
+use crate::moments::Moments;
+use crate::readiness::{Bell, Readiness};
+use crate::running_worker::{RunningWorker, dismiss};
+use crate::worker_end::WorkerEnd;
+use rx_heap::Heap;
+use rx_mailbox::{EndedPort, Inbox, Port, settle};
+use rx_pump::CallDesk;
+use rx_sink::LineSink;
+use std::io::{Read, Write};
+use std::marker::Model;
+use std::sync::Wait;
+use std::thread::Threads;
+
+/// A worker that serves in a thread of its own, and room for the port to its inbox once that has ended. Contracts see the worker
+/// that was handed in.
+pub struct Hired<M: Moments + Drop, C: Read + Drop, W: Write + Drop, P: Drop> {
+    worker: RunningWorker<M, C, W, P>,
+    room: Vec<EndedPort<(C, W)>, Heap>,
+}
+
+// It stands here, and isn't derived, so that what lets go of a hired worker is one call that is proved once.
+impl<M: Moments + Drop, C: Read + Drop, W: Write + Drop, P: Drop> Drop for Hired<M, C, W, P> {
+    fn drop(self) {
+        let Hired { worker: _, room: _ } = self;
+    }
+}
+
+impl<M: Moments + Drop, C: Read + Drop, W: Write + Drop, P: Drop> Model for Hired<M, C, W, P> {
+    ghost use Rattle.std.specs.Prelude.{◌≡◌, ◌≤◌, [], vec_capacity};
+    ghost use Rattle.rx_workers.specs.Working.{WorkerView};
+
+    ghost Value = { WorkerView (Unit {0}) C W };
+
+    ghost view = { λ h. h.worker };
+
+    ghost invariant = { λ h. (h.room.items ≡ []) × (1 ≤ vec_capacity h.room) };
+}
+
+/// What comes back of a worker that has ended.
+#[derive(Drop)]
+pub struct Returned<W: Write + Drop> {
+    /// Its desk, as its calls left it.
+    pub desk: CallDesk<LineSink<W>>,
+    /// Whether all that was sent to it came, and then its Bye.
+    pub has_all: bool,
+}
+
+impl<M: Moments + Drop, C: Read + Drop, W: Write + Drop, P: Drop> Hired<M, C, W, P> {
+    /// A worker that serves, and room for one port.
+    pub fn new(
+        worker: RunningWorker<M, C, W, P>,
+        room: Vec<EndedPort<(C, W)>, Heap>,
+    ) -> Hired<M, C, W, P>
+        requires none { room.items ≡ [] }
+        requires room { 1 ≤ vec_capacity room }
+        ensures { result ≡ worker }
+    {
+        Hired { worker, room }
+    }
+
+    /// Tells the worker by the port to its inbox that no connection comes any more, rings the bell at this place, and waits until it
+    /// has ended. Then its box is settled.
+    pub fn end<B: Bell, R: Threads + Wait>(
+        self,
+        rt: &R,
+        port: Port<(C, W)>,
+        bells: &Vec<B, Heap>,
+        place: usize,
+    ) -> Returned<W>
+        requires { port.box ≡ self.inbox.box }
+        ensures desk { KeepsDesk (desk_of self) result.desk }
+        ensures served { IsTrue result.has_all → (config : Config) → (xs : List (C × W)) → IsNewOver config (desk_of self) self → port ≡ outgoing self.inbox.box 0 (posts 0 xs) → HasServedJust M.tells C.remaining W.contents config xs (desk_of self) result.desk }
+    {
+        let Hired { worker, room } = self;
+        let dismissed = dismiss(rt, port);
+        ring_at(bells, place);
+        let WorkerEnd {
+            desk,
+            inbox,
+            sessions: _,
+        } = worker.join(rt);
+        let has_all = match dismissed {
+            Some(port) => has_settled(inbox, port, room),
+            None => false,
+        };
+        Returned { desk, has_all }
+    }
+}
+
+// Whether a box settles with its one port: all that this put has come then.
+fn has_settled<T: Drop>(inbox: Inbox<T>, port: EndedPort<T>, room: Vec<EndedPort<T>, Heap>) -> bool
+    requires of_box { port.box ≡ inbox.box }
+    requires none { room.items ≡ [] }
+    requires room { 1 ≤ vec_capacity room }
+    ensures { IsTrue result → GotAll inbox port }
+{
+    let mut ports = room;
+    ports.push_reserved(port);
+    settle(inbox, ports).is_ok()
+}
