@@ -1,6 +1,6 @@
 -- A server at every moment.
-use Rattle.std.proofs.Common.{◌≡◌, ◌∙◌, sym, ap, subst, ℕ, ◌+◌, ◌<◌, ◌≤◌, List, [], ◌∷◌, ◌++◌, append_assoc, length, option_to_list, Option, None, Some, IfSome, vec_len, vec_capacity, arith}
-use Rattle.std.proofs.lemmas.List.Elements.{All-append, All-head, All-weaker}
+use Rattle.std.proofs.Common.{◌≡◌, ◌∙◌, refl, sym, ap, subst, ℕ, ◌+◌, ◌<◌, ◌≤◌, List, [], ◌∷◌, ◌++◌, append_assoc, append-nil, length, option_to_list, Option, None, Some, IfSome, vec_len, vec_capacity, arith}
+use Rattle.std.proofs.lemmas.List.Elements.{All-append, All-head, All-nil}
 use Rattle.std.specs.List.{All}
 use Rattle.rx_config.specs.declared.config.Config.{Config}
 use Rattle.rx_pump.specs.declared.ended_desk.EndedDesk.{EndedDesk}
@@ -8,7 +8,7 @@ use Rattle.rx_pump.specs.Desks.{DeskView}
 use Rattle.rx_workers.specs.Crews.{IsFor}
 use Rattle.rx_server.specs.declared.rooms.Rooms.{Rooms}
 use Rattle.rx_server.specs.Rooms.{AreRooms}
-use Rattle.rx_server.specs.Servers.{IsDeskOf, IsEndOf, IsWhole, ServerView, server_of}
+use Rattle.rx_server.specs.Servers.{IsDeskOf, IsEndOf, IsWhole, RunsOn, ServerView, server_of}
 use Rattle.rx_server.proofs.Desks.{desks-left}
 use Rattle.rx_server.proofs.Joining.{desks-fit}
 use Rattle.rx_server.proofs.Returning.{All-back}
@@ -73,6 +73,50 @@ module _ {S Rest : Type 0} where
     no_subjects = fit.no_subjects;
     none_put_away = fit.none_put_away;
     desks_fit = omega (arith, fit.desks_fit, less);
+    leaves_fit = fit.leaves_fit;
+    pumps_fit = fit.pumps_fit;
+    drainers_fit = fit.drainers_fit;
+    subjects_fit = fit.subjects_fit;
+    put_away_fits = fit.put_away_fits;
+    nothing_came = fit.nothing_came;
+    none_settled = fit.none_settled;
+  }
+
+module _ {S Rest : Type 0} where
+  -- nothing was done
+  pub runs-still : (server : ServerView S Rest) → RunsOn server server
+  runs-still server = record {
+    config = refl;
+    pumps = refl;
+    drainers = refl;
+    leaves = refl;
+    made = refl;
+    handed = [];
+    desks = refl;
+    more = [];
+    kept = sym (append-nil server.kept);
+    ended = All-nil (IsEndOf server.made);
+  }
+
+  -- the desks of its workers have ended
+  pub rooms-kept : (pumps drainers desks to_end none : ℕ) (rooms kept : Rooms S Rest) → none ≡ 0 → AreRooms pumps drainers desks to_end rooms
+      → AreRooms pumps drainers desks none (record {
+        desks = kept.desks;
+        leaves = rooms.leaves;
+        pumps = rooms.pumps;
+        drainers = rooms.drainers;
+        subjects = rooms.subjects;
+        put_away = rooms.put_away;
+        returned = rooms.returned;
+        settled = rooms.settled;
+      })
+  rooms-kept pumps drainers desks to_end none rooms kept over fit = record {
+    no_leaves = fit.no_leaves;
+    no_pumps = fit.no_pumps;
+    no_drainers = fit.no_drainers;
+    no_subjects = fit.no_subjects;
+    none_put_away = fit.none_put_away;
+    desks_fit = omega (arith, kept.desks.ok, over);
     leaves_fit = fit.leaves_fit;
     pumps_fit = fit.pumps_fit;
     drainers_fit = fit.drainers_fit;

@@ -1,5 +1,5 @@
 // Room for what is left when a server is closed.
-ghost use Rattle.std.specs.Prelude.{◌+◌, ◌++◌, ◌^◌, ◌<◌, length, IfErr, IfOk};
+ghost use Rattle.std.specs.Prelude.{◌≡◌, ◌+◌, ◌++◌, ◌^◌, ◌<◌, [], length, IfErr, IfOk};
 ghost use Rattle.rx_server.specs.Servers.{HaveSettled, NamesBox, Reports};
 ghost use Rattle.rx_server.specs.Wirings.{Wiring};
 
@@ -57,7 +57,8 @@ impl<S: Sink> Rooms<S> {
         desks: usize,
     ) -> Result<Rooms<S>, Memory>
         requires { (desks + drainers < 2 ^ 64) × (pumps + 1 < 2 ^ 64) }
-        ensures { IfOk result (AreRooms pumps drainers desks desks) }
+        ensures rooms { IfOk result (AreRooms pumps drainers desks desks) }
+        ensures no_desk { IfOk result (λ rooms. rooms.desks.items ≡ []) }
     {
         Ok(Rooms {
             desks: room(alloc, desks)?,

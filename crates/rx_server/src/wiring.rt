@@ -1,5 +1,5 @@
 // All parts of a server, joined by new boxes.
-ghost use Rattle.std.specs.Prelude.{◌≡◌, ◌≤◌, List, IfOk, OnOk, map, vec_len};
+ghost use Rattle.std.specs.Prelude.{◌≡◌, ◌+◌, ◌^◌, ◌<◌, ◌≤◌, [], List, IfOk, OnOk, map, vec_len};
 ghost use Rattle.std.specs.Vec.Iter.{into_iter_items};
 ghost use Rattle.rx_hub.specs.Hubs.{HubView};
 ghost use Rattle.rx_server.specs.OpenBoxes.{AreOpenFor, IsEmptyFor};
@@ -83,7 +83,9 @@ impl<S: Sink> Wired<S> {
 
     // Room for what they leave.
     pub(crate) fn rooms(&self, alloc: &Heap) -> Result<Rooms<S>, Memory>
-        ensures { IfOk result (AreRooms (vec_len self.now.pumps) (vec_len self.now.drainers) (vec_len self.now.desks)) }
+        requires { (vec_len self.now.desks + vec_len self.now.drainers < 2 ^ 64) × (vec_len self.now.pumps + 1 < 2 ^ 64) }
+        ensures rooms { IfOk result (AreRooms (vec_len self.now.pumps) (vec_len self.now.drainers) (vec_len self.now.desks) (vec_len self.now.desks)) }
+        ensures no_desk { IfOk result (λ rooms. rooms.desks.items ≡ []) }
     {
         Rooms::new(
             alloc,

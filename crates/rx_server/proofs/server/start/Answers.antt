@@ -1,32 +1,89 @@
-use Rattle.std.proofs.Common.{◌≡◌, ◌∙◌, ◌<◌, sym, ap, subst, length, vec_len, Vec, arith}
-use Rattle.std.proofs.lemmas.List.Elements.{All-same}
-use Rattle.std.specs.List.{All}
+use Rattle.std.proofs.Common.{◌≡◌, ◌∙◌, ◌+◌, ◌<◌, [], sym, refl, ap, subst, length, map, vec_len, Vec, arith}
+use Rattle.std.proofs.lemmas.List.Elements.{All-nil}
+use Rattle.std.specs.Arc.{arc_value}
+use Rattle.std.specs.List.{All, zip}
 use Rattle.std.specs.Vec.Iter.{into_iter_items}
 use Rattle.rx_config.specs.declared.config.Config.{Config}
-use Rattle.rx_workers.specs.Crews.{IsFor}
-use Rattle.rx_server.proofs.Joining.{desks-fit, leaves-fit, mapped-count, Rooms-as}
+use Rattle.rx_drain.specs.Drainers.{DrainerView}
+use Rattle.rx_server.specs.Servers.{IsEndOf, IsServerOf, IsWhole, server_of}
+use Rattle.rx_server.specs.Wirings.{IsWired, desk_of, desks_of, drainer_of, pump_of}
+use Rattle.rx_server.proofs.Joining.{Rooms-as, hubs-count, made-count, mapped-count, zip-count}
 use Rattle.rx_server.proofs.server.start.Goals as goal
+
+pub rooms-requires : goal.rooms-requires
+rooms-requires g c =
+    let w = c.in_ok-wired.ensures.0 in
+    let hubs = c.in_ok-wired.ensures.1 in
+    let wired = c.in_ok-wired.ensures.2 in
+    let parts = c.in_ok-wired.wired in
+    let config = c.args.config in
+    let hubs_count = hubs-count config.subjects.items hubs wired.hubs_are ∙ sym wired.boxes.subjects in
+    let pumps = made-count (pump_of w) (zip hubs w.subjects) parts.pumps.items wired.pumps_are ∙ zip-count hubs w.subjects hubs_count ∙ wired.boxes.subjects in
+    let drainers = made-count {D = DrainerView _ _} (drainer_of w) w.drainers parts.drainers.items wired.drainers_are ∙ wired.boxes.drainers in
+    let desks = made-count (desk_of w) w.replies parts.desks.items wired.desks_are ∙ wired.boxes.replies in
+    (omega (arith, drainers, desks, parts.desks.ok, parts.drainers.ok, config.workers_in_range, config.drainers_in_range), omega (arith, pumps, parts.pumps.ok, config.subjects_in_range, config.subjects.ok))
 
 pub invariant_of-result : goal.invariant_of-result
 invariant_of-result g c =
     let w = c.in_ok-wired.ensures.0 in
+    let hubs = c.in_ok-wired.ensures.1 in
     let wired = c.in_ok-wired.ensures.2 in
     let parts = c.in_ok-wired.wired in
     let running = c.in_ok-running.running in
     let leaves = c.into_ends-leaves.result.0 in
     let desks = into_iter_items c.into_ends-leaves.result.1 in
-    let pumps = ap length c.in_ok-running.ensures.pumps in
-    let drainers = mapped-count _ _ _ c.in_ok-running.ensures.drainers in
-    let leaves_kept = c.into_ends-leaves.ensures.leaves ∙ ap (λ (ports : Vec _ _). ports.items) c.run.ensures.others.0 in
-    let desks_kept = c.into_ends-leaves.ensures.desks ∙ ap (λ (list : Vec _ _). list.items) c.run.ensures.others.1 in
-    let ports = ap length leaves_kept ∙ leaves-fit w _ _ wired.leaves_are wired.drainers_are in
-    let pumps_are : vec_len parts.pumps ≡ vec_len running.pumps = omega (arith, pumps, parts.pumps.ok, running.pumps.ok) in
-    let drainers_are : vec_len parts.drainers ≡ vec_len running.drainers = omega (arith, drainers, parts.drainers.ok, running.drainers.ok) in
-    let desks_are : vec_len parts.desks ≡ length desks = omega (arith, ap length desks_kept, parts.desks.ok) in
-    let leaves_are : vec_len leaves ≡ vec_len running.drainers = omega (arith, ports, drainers, leaves.ok, running.drainers.ok) in
-    let fit = All-same (IsFor c.args.config) _ _ desks_kept (desks-fit c.args.config w _ wired.desks_are wired.boxes.subjects) in (
-      Rooms-as _ _ _ _ _ _ c.in-Ok.rooms pumps_are drainers_are desks_are c.in-Ok.ensures,
-      leaves_are,
-      subst (λ (config : Config). All (IsFor config) desks) (sym c.in-Ok-shared.ensures) fit,
-      subst (λ (config : Config). 0 < vec_len config.subjects) (sym c.in-Ok-shared.ensures) (omega (arith, c.args.config.subjects_in_range)),
+    let made = c.of-made.result.value in
+    let made_are = c.of-made.ensures ∙ c.run.ensures.others.1 in
+    let made_items = ap (λ (list : Vec _ _). list.items) made_are in
+    let desks_are = ap (λ (list : Vec _ _). list.items) c.of-made.ensures ∙ sym c.into_ends-leaves.ensures.desks in
+    let pumps_count = ap length c.in_ok-running.ensures.pumps in
+    let drainers_count = mapped-count _ _ _ c.in_ok-running.ensures.drainers in
+    let pumps : vec_len parts.pumps ≡ vec_len running.pumps = omega (arith, pumps_count, parts.pumps.ok, running.pumps.ok) in
+    let drainers : vec_len parts.drainers ≡ vec_len running.drainers = omega (arith, drainers_count, parts.drainers.ok, running.drainers.ok) in
+    let all_desks : vec_len parts.desks ≡ vec_len made = sym (ap (λ (list : Vec _ _). vec_len list) made_are) in
+    let left : vec_len parts.desks ≡ length desks = omega (arith, ap length desks_are, ap length made_items, parts.desks.ok) in
+    let whole : IsWhole (server_of c.args.config running.pumps.items (map (λ drainer. drainer.handle.promise.0.value) running.drainers.items) leaves.items made.items desks c.in-Ok.rooms.desks.items) = record {
+      wiring = w;
+      hubs = hubs;
+      wired = record {
+        boxes = wired.boxes;
+        hubs_are = wired.hubs_are;
+        pumps_are = c.in_ok-running.ensures.pumps ∙ wired.pumps_are;
+        drainers_are = c.in_ok-running.ensures.drainers ∙ wired.drainers_are;
+        leaves_are = c.into_ends-leaves.ensures.leaves ∙ ap (λ (list : Vec _ _). list.items) c.run.ensures.others.0 ∙ wired.leaves_are;
+        desks_are = made_items ∙ wired.desks_are;
+      };
+      handed = [];
+      parts = desks_are;
+      ended = subst (All (IsEndOf made.items)) (sym c.in-Ok.ensures.no_desk) (All-nil (IsEndOf made.items));
+      some = omega (arith, c.args.config.subjects_in_range, c.args.config.subjects.ok);
+    } in (
+      subst (λ (config : Config). IsWhole (server_of config running.pumps.items (map (λ drainer. drainer.handle.promise.0.value) running.drainers.items) leaves.items made.items desks c.in-Ok.rooms.desks.items)) (sym c.in-Ok-shared.ensures) whole,
+      Rooms-as _ _ _ _ _ _ _ _ c.in-Ok.rooms pumps drainers all_desks left c.in-Ok.ensures.rooms,
+    )
+
+pub returns : goal.returns
+returns g c =
+    let w = c.in_ok-wired.ensures.0 in
+    let hubs = c.in_ok-wired.ensures.1 in
+    let wired = c.in_ok-wired.ensures.2 in
+    let made_items = ap (λ (list : Vec _ _). list.items) (c.of-made.ensures ∙ c.run.ensures.others.1) in
+    let desks_are = ap (λ (list : Vec _ _). list.items) c.of-made.ensures ∙ sym c.into_ends-leaves.ensures.desks in
+    (
+      w,
+      hubs,
+      record {
+        config_is = c.in-Ok-shared.ensures;
+        wired = subst (λ (config : Config). IsWired config w hubs c.in_ok-running.running.pumps.items (map (λ drainer. drainer.handle.promise.0.value) c.in_ok-running.running.drainers.items) c.into_ends-leaves.result.0.items c.of-made.result.value.items) refl
+            (record {
+              boxes = wired.boxes;
+              hubs_are = wired.hubs_are;
+              pumps_are = c.in_ok-running.ensures.pumps ∙ wired.pumps_are;
+              drainers_are = c.in_ok-running.ensures.drainers ∙ wired.drainers_are;
+              leaves_are = c.into_ends-leaves.ensures.leaves ∙ ap (λ (list : Vec _ _). list.items) c.run.ensures.others.0 ∙ wired.leaves_are;
+              desks_are = made_items ∙ wired.desks_are;
+            });
+        desks_are = sym desks_are;
+        none_kept = c.in-Ok.ensures.no_desk;
+      },
     )

@@ -1,8 +1,8 @@
 use Rattle.std.proofs.Common.{ap, length, arith}
 use Rattle.rx_server.proofs.rooms.Rooms.new.Goals as goal
 
-pub returns : goal.returns
-returns g c =
+pub returns-clause-rooms : goal.returns-clause-rooms
+returns-clause-rooms g c =
     let desks = c.in_ok-room.ensures in
     let leaves = c.in_ok-room-2.ensures in
     let pumps = c.in_ok-room-3.ensures in
@@ -21,4 +21,6 @@ returns g c =
       drainers_fit = drainers.capacity;
       subjects_fit = subjects.capacity;
       put_away_fits = put_away.capacity;
+      nothing_came = c.in_ok-room-7.ensures;
+      none_settled = c.in_ok-room-8.ensures;
     }
