@@ -1,4 +1,7 @@
-ghost use Rattle.std.specs.Prelude.{◌+◌, ◌<◌, length};
+ghost use Rattle.std.specs.Prelude.{◌≡◌, ◌+◌, ◌<◌, IfOk, List, length};
+ghost use Rattle.rx_pump.specs.Desks.{DeskView, KeepsDesk};
+ghost use Rattle.rx_server.specs.Servers.{IsDeskOf, IsEndOf};
+ghost use Rattle.first_hub.specs.declared.shelf.Shelf.{Shelf};
 
 use crate::shelf::Shelf;
 use anyhow::{Result, bail};
@@ -16,7 +19,10 @@ pub struct Caller {
 
 impl Caller {
     /// A caller by the next desk of a server.
-    pub fn at(server: &mut Server<Shelf>) -> Result<Caller> {
+    pub fn at(server: &mut Server<Shelf>) -> Result<Caller>
+        ensures own { IfOk result (λ caller. IsDeskOf server.old.made caller.desk) }
+        ensures same { server.new.made ≡ server.old.made }
+    {
         let Some(desk) = server.desk() else {
             bail!("no desk is left");
         };
@@ -24,12 +30,16 @@ impl Caller {
     }
 
     /// Emits a note.
-    pub fn emit<R: Wait>(&mut self, rt: &R, note: Note) -> Result<()> {
+    pub fn emit<R: Wait>(&mut self, rt: &R, note: Note) -> Result<()>
+        ensures { KeepsDesk self.old.desk self.new.desk }
+    {
         self.call(rt, Event::Emit { note, at: 0 }, None)
     }
 
     /// Joins an observer, whose notes this sink takes, and requests so many items for it at once.
-    pub fn join<R: Wait>(&mut self, rt: &R, sink: Shelf, items: u32) -> Result<()> {
+    pub fn join<R: Wait>(&mut self, rt: &R, sink: Shelf, items: u32) -> Result<()>
+        ensures { KeepsDesk self.old.desk self.new.desk }
+    {
         let event = Event::Join {
             policy: Policy::new(Strategy::Buffer, Errors::Delay).unwrap(),
             first: items,
@@ -38,7 +48,9 @@ impl Caller {
         self.call(rt, event, Some(sink))
     }
 
-    fn call<R: Wait>(&mut self, rt: &R, event: Event, sink: Option<Shelf>) -> Result<()> {
+    fn call<R: Wait>(&mut self, rt: &R, event: Event, sink: Option<Shelf>) -> Result<()>
+        ensures { KeepsDesk self.old.desk self.new.desk }
+    {
         let Ok(reply) = self.desk.call(rt, 0, event, sink) else {
             bail!("the subject is gone");
         };
@@ -48,8 +60,10 @@ impl Caller {
         Ok(())
     }
 
-    /// Ends the desk: the server waits for that when it is closed.
-    pub fn finish<R: Wait>(self, rt: &R) -> Result<EndedDesk<Shelf>> {
+    /// Ends the desk: the server waits for that when it is closed. What it left is of the server that the desk is of.
+    pub fn finish<R: Wait>(self, rt: &R) -> Result<EndedDesk<Shelf>>
+        ensures { IfOk result (λ ended. (made : List (DeskView Shelf)) → IsDeskOf made self.desk → IsEndOf made ended) }
+    {
         let Ok(ended) = self.desk.finish(rt) else {
             bail!("the subject is gone");
         };

@@ -2,6 +2,11 @@
 //! is kept, what the other is given is written. The subject is a Replay, which gives all to whoever joins late, so a run is
 //! the same whatever the threads do.
 #![tactic(auto)]
+ghost use Rattle.std.specs.Prelude.{◌≡◌, IfOk, List};
+ghost use Rattle.std.specs.List.{All};
+ghost use Rattle.rx_pump.specs.Desks.{DeskView};
+ghost use Rattle.rx_server.specs.Servers.{IsDeskOf, IsEndOf};
+ghost use Rattle.first_hub.specs.declared.shelf.Shelf.{Shelf};
 
 mod caller;
 mod shelf;
@@ -47,7 +52,10 @@ fn talk<R: Threads + Wait + Sync>(
     heap: &Heap,
     server: &mut Server<Shelf>,
     out: Stdout,
-) -> Result<Vec<EndedDesk<Shelf>, Heap>> {
+) -> Result<Vec<EndedDesk<Shelf>, Heap>>
+    ensures own { IfOk result (λ ended. All (IsEndOf server.old.made) ended.items) }
+    ensures same { server.new.made ≡ server.old.made }
+{
     let speaker = Caller::at(server)?;
     let listener = Caller::at(server)?;
     let (spoke, listened) = join(
@@ -61,7 +69,10 @@ fn talk<R: Threads + Wait + Sync>(
     Ok(ended)
 }
 
-fn speak<R: Wait>(rt: &R, heap: &Heap, mut caller: Caller) -> Result<EndedDesk<Shelf>> {
+fn speak<R: Wait>(rt: &R, heap: &Heap, caller: Caller) -> Result<EndedDesk<Shelf>>
+    ensures { IfOk result (λ ended. (made : List (DeskView Shelf)) → IsDeskOf made caller.desk → IsEndOf made ended) }
+{
+    let mut caller = caller;
     for word in WORDS {
         let Ok(text) = Text::new(heap.clone()?, word.as_bytes()) else {
             bail!("no text for {word}");
@@ -76,16 +87,19 @@ fn speak<R: Wait>(rt: &R, heap: &Heap, mut caller: Caller) -> Result<EndedDesk<S
 fn listen<R: Wait>(
     rt: &R,
     heap: &Heap,
-    mut caller: Caller,
+    caller: Caller,
     out: Stdout,
-) -> Result<EndedDesk<Shelf>> {
+) -> Result<EndedDesk<Shelf>>
+    ensures { IfOk result (λ ended. (made : List (DeskView Shelf)) → IsDeskOf made caller.desk → IsEndOf made ended) }
+{
+    let mut caller = caller;
     let items = WORDS.len() as u32;
     caller.join(rt, Shelf::Kept(MemorySink::new(heap.clone()?, None)), items)?;
     caller.join(rt, Shelf::Written(LineSink::new(out, Version::One)), items)?;
     caller.finish(rt)
 }
 
-fn write_report(report: &Report<Option<Vec<Note, Heap>>>, out: &mut Stdout) -> Result<()> {
+fn write_report(report: &Report<Shelf>, out: &mut Stdout) -> Result<()> {
     for away in report.put_away.iter().flatten() {
         if let Some(notes) = &away.rest {
             write_kept(away.who, notes.as_slice(), out)?;

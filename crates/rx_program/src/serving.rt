@@ -10,8 +10,7 @@ use crate::telling::tell;
 use rx_config::Config;
 use rx_heap::Heap;
 use rx_proto::Name;
-use rx_server::{CloseFault, Report, ServeFault, SubjectReport};
-use rx_sink::LineRest;
+use rx_server::{CloseFault, ServeFault, SubjectReport};
 use std::io::Write;
 
 /// Serves a configuration on a new Unix socket of this path, until as many connections have ended as it says. Once it listens
@@ -43,13 +42,13 @@ pub fn serve_on<F: Host, W: Write, E: Write>(
 // Tells the report of a server that was closed, or why there is none.
 fn told<W: Write>(
     names: &Names,
-    closed: &Result<Report<LineRest>, CloseFault>,
+    closed: &Result<Vec<SubjectReport, Heap>, CloseFault>,
     writer: &mut W,
 ) -> Result<(), ProgramFault>
     ensures { MatchResult result (λ _. Unit {0}) MayServe }
 {
     match closed {
-        Ok(report) => write_report(names.as_slice(), report, writer),
+        Ok(subjects) => write_report(names.as_slice(), subjects, writer),
         Err(fault) => Err(ProgramFault::Close(*fault)),
     }
 }
@@ -80,12 +79,12 @@ fn end_of<E: Write>(
 // Writes the report, and flushes it.
 fn write_report<W: Write>(
     names: &[Name],
-    report: &Report<LineRest>,
+    subjects: &Vec<SubjectReport, Heap>,
     writer: &mut W,
 ) -> Result<(), ProgramFault>
     ensures { MatchResult result (λ _. Unit {0}) MayServe }
 {
-    for (name, subject) in names.iter().zip(report.subjects.iter()) {
+    for (name, subject) in names.iter().zip(subjects.iter()) {
         write_subject(name, subject, writer)?;
     }
     match writer.flush() {

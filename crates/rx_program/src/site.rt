@@ -107,9 +107,10 @@ impl<F: Host> Site<F> {
         let mut socket = Socket::new(listener, host, waiting, terms, faults);
         let served = server.serve(rt, &mut socket, Clocked::new(clock));
         drop(socket);
-        Ok(Ended {
-            served,
-            closed: server.close(rt, Vec::new(heap)),
-        })
+        let closed = match server.close(rt, Vec::new(heap)) {
+            Ok(report) => Ok(report.into_subjects()),
+            Err(fault) => Err(fault),
+        };
+        Ok(Ended { served, closed })
     }
 }

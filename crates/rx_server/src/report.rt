@@ -1,3 +1,5 @@
+ghost use Rattle.std.specs.Prelude.{◌≡◌};
+
 use crate::settled_boxes::SettledBoxes;
 use rx_heap::Heap;
 use rx_sink::{PutAway, Sink};
@@ -34,5 +36,20 @@ impl<S: Sink> Drop for Report<S> {
             put_away: _,
             boxes: _,
         } = self;
+    }
+}
+
+impl<S: Sink> Report<S> {
+    /// What became of each subject, in their order.
+    pub fn into_subjects(self) -> Vec<SubjectReport, Heap>
+        ensures { result ≡ self.subjects }
+    {
+        let Report {
+            subjects,
+            taken: _,
+            put_away: _,
+            boxes: _,
+        } = self;
+        subjects
     }
 }
