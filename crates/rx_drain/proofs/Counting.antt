@@ -11,8 +11,8 @@ use Rattle.rx_pump.specs.declared.out.Out.TheVariants.{Attach, Give, Detach}
 use Rattle.rx_sink.specs.declared.flow.Flow.{Flow}
 use Rattle.rx_sink.specs.Attachments.{Attachment, Why, Mark, Fine, Fault, NoMemory, Change, is_clear, is_held_back, is_last, is_of, kept_for, without, replaced, with_note, with_flush, paid, attached, given, settled, served, served_yet, flushed, written, detached, let_go, closed}
 use Rattle.rx_drain.specs.Logs.{Log, NoLetters, Next, Flush, letters, has_left, brought, letter_change, kept_in, change, flush_change, gone_in, missed_in}
-use Rattle.rx_drain.proofs.Changing.{post_change}
-use Rattle.rx_drain.specs.Once.{times, found_by, missed_by, place_by, post_by, letter_by, places_by, found_in, missed_at, EachOnce}
+use Rattle.rx_drain.proofs.Changing.{post_change, post_by}
+use Rattle.rx_drain.specs.Once.{times, found_by, missed_by, place_by, letter_by, places_by, found_in, missed_at, EachOnce}
 use Rattle.rx_drain.proofs.Taking.{some_split}
 use Rattle.rx_drain.proofs.Standing.{missed_given, missed_flushed, missed_detached}
 

@@ -1,12 +1,12 @@
 -- A drainer, and what it has done with the letters that it received (this project's own rule).
-use Rattle.std.specs.Prelude.{◌≡◌, ◌+◌, ◌-◌, ◌^◌, ◌<◌, ◌≤◌, ◌⊎◌, min, ℕ, Bool, true, false, List, [], ◌∷◌, ◌++◌, length, map, Option, Some, None, slice_get, vec_len, vec_capacity}
+use Rattle.std.specs.Prelude.{◌≡◌, ◌+◌, ◌<◌, ◌≤◌, ◌⊎◌, ℕ, Bool, true, false, List, [], ◌∷◌, ◌++◌, length, map, Option, Some, None, slice_get, vec_len, vec_capacity}
 use Rattle.std.specs.List.{list_any}
 use Rattle.rx_mailbox.specs.declared.letter.Letter.{Letter}
 use Rattle.rx_mailbox.specs.Boxes.{Outgoing, Incoming, incoming}
 use Rattle.rx_note.specs.declared.event.Event.{Event}
 use Rattle.rx_pump.specs.declared.call.Call.{Call}
 use Rattle.rx_pump.specs.declared.out.Out.{Out}
-use Rattle.rx_pump.specs.Pumps.{AreSame}
+use Rattle.rx_pump.specs.Pumps.{AreSame, counted}
 use Rattle.rx_sink.specs.declared.kept.Kept.{Kept}
 use Rattle.rx_sink.specs.declared.put_away.PutAway.{PutAway}
 use Rattle.rx_sink.specs.Acts.{Acts}
@@ -112,8 +112,8 @@ module _ {S Rest : Type 0} (acts : Acts S Rest) where
     pub left : view.left ≡ has_left leave log
     pub sent : SentUpTo view.fault view.left (addressed (sent_in leave log)) view.ports
     pub sinks : Stand acts (kept_in leave log) (gone_in leave log) view.kept view.away
-    pub missed : view.misses ≡ min (missed_in leave log) (2 ^ 64 - 1)
-    pub took : view.taken ≡ min (taken_in leave log) (2 ^ 64 - 1)
+    pub missed : view.misses ≡ counted (missed_in leave log)
+    pub took : view.taken ≡ counted (taken_in leave log)
 
   -- what a drainer did with the letters that it received is what the marked letters mean
   pub record Drains (view : DrainerView S Rest) (log : Log S) : Type 0 where

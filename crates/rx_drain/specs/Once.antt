@@ -1,5 +1,5 @@
 -- Each sink that came and found its place is kept or was put away, once (this project's own rule).
-use Rattle.std.specs.Prelude.{◌≡◌, ◌==◌, ◌+◌, ◌≤◌, if◌then◌else◌, ℕ, Bool, true, false, List, [], ◌∷◌, ◌++◌, length, map, Option, Some, None}
+use Rattle.std.specs.Prelude.{◌≡◌, ◌==◌, ◌+◌, ◌≤◌, if◌then◌else◌, ℕ, Bool, List, [], ◌∷◌, ◌++◌, length, map, Option, Some, None}
 use Rattle.rx_mailbox.specs.declared.letter.Letter.{Letter}
 use Rattle.rx_mailbox.specs.declared.letter.Post.{Post}
 use Rattle.rx_mailbox.specs.declared.letter.Post.TheVariants.{Body, Bye}
@@ -37,16 +37,15 @@ module _ {S : Type 0} (by : Mark → ℕ → List ℕ) where
   out_by place subject (Give who note) mark kept = []
   out_by place subject (Detach who) mark kept = []
 
-  -- by a post, of the leave port or of a subject
-  abbrev pub post_by : Bool → ℕ → ℕ → Post (Out S) → Mark → List (Attachment S) → List ℕ
-  post_by true place from post mark kept = []
-  post_by false place from (Body out) mark kept = out_by place from out mark kept
-  post_by false place from Bye mark kept = []
+  -- by a post of a subject
+  abbrev pub subject_by : ℕ → ℕ → Post (Out S) → Mark → List (Attachment S) → List ℕ
+  subject_by place subject (Body out) mark kept = out_by place subject out mark kept
+  subject_by place subject Bye mark kept = []
 
-  -- by a letter, after the Bye of the leave port or before it
+  -- by a letter: by none of the leave port, and by none after its Bye
   abbrev pub letter_by : Bool → ℕ → ℕ → Letter (Out S) → Mark → List (Attachment S) → List ℕ
-  letter_by true leave place x mark kept = []
-  letter_by false leave place x mark kept = post_by (x.from == leave) place x.from x.post mark kept
+  letter_by left_before leave place x mark kept =
+      if left_before then [] else (if x.from == leave then [] else subject_by place x.from x.post mark kept)
 
   -- by all letters
   abbrev pub places_by : ℕ → Log S → List ℕ

@@ -1,5 +1,5 @@
 -- What one call does to the core of a pump, its hub and its ports (this project's own rule).
-use Rattle.std.specs.Prelude.{◌≡◌, ◌+◌, ◌-◌, ◌^◌, ◌<◌, min, ℕ, Bool, List, [], length, Option, Some, None, Err, MatchBool}
+use Rattle.std.specs.Prelude.{◌≡◌, ◌+◌, ◌<◌, ℕ, Bool, List, [], length, Option, Some, None, Err, MatchBool}
 use Rattle.rx_note.specs.declared.refusal.Refusal.TheVariants.{Memory}
 use Rattle.rx_history.specs.Histories.{History, ◌▹◌, answer}
 use Rattle.rx_hub.specs.Hubs.{HubView, StandsFor, MayMiss}
@@ -12,6 +12,7 @@ use Rattle.rx_pump.specs.declared.pump_parts.PumpParts.{PumpParts}
 use Rattle.rx_pump.specs.declared.reply.Reply.{Reply}
 use Rattle.rx_pump.specs.Marks.{sent_by, reply_to, to_port}
 use Rattle.rx_pump.specs.Sends.{Puts, PutsFor, StopsAt}
+use Rattle.rx_pump.specs.Pumps.{counted}
 
 -- the ports of a pump, in the order of their places
 pub record Ports (S : Type 0) : Type 0 where
@@ -42,7 +43,7 @@ module _ {S : Type 0} where
   -- a call was refused for want of memory: the hub would have accepted it, counted it, and only this was replied
   pub record IsRefused (hub hub_after : HubView) (before after : Ports S) (fault : Option PumpFault) (port : ℕ) (call : Call S) (H : History) : Type 0 where
     pub stays : StandsFor hub_after.state H
-    pub misses : hub_after.misses ≡ min (hub.misses + 1) (2 ^ 64 - 1)
+    pub misses : hub_after.misses ≡ counted (hub.misses + 1)
     pub acceptable : MayMiss hub.state.rules H (port, call.event)
     pub sends : Sends fault [] port (reply_to call (Err Memory)) before after
 

@@ -1,5 +1,5 @@
-ghost use Rattle.std.specs.Prelude.{◌≡◌, ◌+◌, ◌-◌, ◌^◌, ◌<◌, ◌≤◌, min, [], vec_len, vec_capacity, if◌then◌else◌, Some, None, Err, MatchResult, OnOk, IfSome};
-ghost use Rattle.rx_pump.specs.Pumps.{AreFresh};
+ghost use Rattle.std.specs.Prelude.{◌≡◌, ◌+◌, ◌<◌, ◌≤◌, [], vec_len, vec_capacity, if◌then◌else◌, Some, None, Err, MatchResult, OnOk, IfSome};
+ghost use Rattle.rx_pump.specs.Pumps.{AreFresh, counted};
 
 use crate::call::Call;
 use crate::finishing::finish_all;
@@ -278,7 +278,7 @@ impl<S: Drop> Pump<S> {
 
 // The count with one more, if it counts.
 fn raised(count: u64, counts: bool) -> u64
-    ensures { result ≡ (if counts then min (count + 1) (2 ^ 64 - 1) else count) }
+    ensures { result ≡ (if counts then counted (count + 1) else count) }
 {
     if counts {
         count.saturating_add(1)
