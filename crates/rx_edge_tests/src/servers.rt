@@ -57,7 +57,11 @@ pub(crate) fn config_of(rt: &impl Host, heap: &Heap, text: &[u8]) -> Config {
 }
 
 // A server of the configuration that this text says.
-pub(crate) fn started<S: Sink + Send + 'static>(rt: &impl Host, heap: &Heap, text: &[u8]) -> Server<S>
+pub(crate) fn started<S: Sink + Send + 'static>(
+    rt: &impl Host,
+    heap: &Heap,
+    text: &[u8],
+) -> Server<S>
 where
     S::Rest: Send + 'static,
 {
@@ -140,7 +144,11 @@ impl<S: Drop> Caller<S> {
     }
 
     // The list of this one desk, ended.
-    pub(crate) fn finish_alone(self, rt: &(impl Wait + Abort), heap: &Heap) -> Vec<EndedDesk<S>, Heap> {
+    pub(crate) fn finish_alone(
+        self,
+        rt: &(impl Wait + Abort),
+        heap: &Heap,
+    ) -> Vec<EndedDesk<S>, Heap> {
         vec![in copy(rt, heap); self.finish(rt)].expect(rt, "memory")
     }
 }
