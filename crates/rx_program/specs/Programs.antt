@@ -13,6 +13,9 @@ use Rattle.rx_listing.specs.Listings.{config_lines}
 use Rattle.rx_session.specs.declared.session_end.SessionEnd.{SessionEnd}
 use Rattle.rx_session.specs.declared.session_end.SessionEnd.TheVariants as ends
 use Rattle.rx_script.specs.Audits.{Audits, BreaksOff}
+use Rattle.rx_server.specs.declared.close_fault.CloseFault.{CloseFault}
+use Rattle.rx_workers.specs.declared.serve_fault.ServeFault.{ServeFault}
+use Rattle.rx_workers.specs.declared.serve_fault.ServeFault.TheVariants as serves
 use Rattle.rx_program.specs.CommandLines.{Asks, IsAgainst, IsHelp}
 use Rattle.rx_script.specs.Scripts.{Runs, new_subjects}
 use Rattle.rx_script.specs.Transcripts.{Subject}
@@ -76,6 +79,10 @@ done_of (Ok ends.WriteFault) = Err faults.Write
 done_of (Ok ends.TooManyReads) = Err faults.TooManyReads
 done_of (Err memory) = Err faults.Memory
 
+-- a text is on the writer, or it could not be written
+abbrev pub IsShown : Done → Type 0
+IsShown done = (done ≡ Ok tt) ⊎ (done ≡ Err faults.Write)
+
 -- THE CONFIGURATION
 
 -- what the configuration of a path says: without one the standard one; else what at most 65,536 bytes say, and that they
@@ -136,15 +143,33 @@ MayServe faults.Accept = Unit {0}
 MayServe faults.Serve = Unit {0}
 MayServe (faults.Close fault) = Unit {0}
 
+-- the socket of a server can't be had
+abbrev pub LacksSocket : ProgramFault → Type 0
+LacksSocket fault = (fault ≡ faults.Memory) ⊎ (fault ≡ faults.Listen)
+
+-- how the report of a server that was closed was told: it is on the writer, or it could not be written; or there is none
+abbrev pub IsReported : {R : Type 0} → Result R CloseFault → Done → Type 0
+IsReported (Ok report) done = IsShown done
+IsReported (Err fault) done = done ≡ Err (faults.Close fault)
+
+-- a fault of serving, as the program tells it
+abbrev pub serving_fault : ServeFault → ProgramFault
+serving_fault serves.Accept = faults.Accept
+serving_fault serves.NoDesk = faults.Serve
+serving_fault (serves.Thread place) = faults.Serve
+serving_fault serves.Memory = faults.Serve
+
+-- how a server ended, by how serving did and how it was closed and told: no fault is lost, and of two the later is answered
+abbrev pub ending : Result (Unit {0}) ServeFault → Done → Done
+ending (Ok served) told = told
+ending (Err fault) (Ok shown) = Err (serving_fault fault)
+ending (Err fault) (Err later) = Err later
+
 -- the subjects of the configuration of a path were served; or there is none, and nothing was written
 abbrev pub Serves : Option (List ℕ) → Done → Option (List ℕ) → Option (List ℕ) → Type 0
 Serves path done written_old written_new =
     ((config : Config) × Configures path (settings_of config) × MatchResult done (λ _. Unit {0}) MayServe)
     ⊎ ((fault : ProgramFault) × (done ≡ Err fault) × LacksConfig path fault × (written_new ≡ written_old))
-
--- a text is on the writer, or it could not be written
-abbrev pub IsShown : Done → Type 0
-IsShown done = (done ≡ Ok tt) ⊎ (done ≡ Err faults.Write)
 
 -- the lines of a configuration were written, all of them or, where the writer failed, a front of them
 abbrev pub Lists : Settings → Done → Option (List ℕ) → Option (List ℕ) → Type 0

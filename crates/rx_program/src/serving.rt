@@ -1,6 +1,6 @@
 //! The server: a configuration served on a Unix socket.
-ghost use Rattle.std.specs.Prelude.{MatchResult};
-ghost use Rattle.rx_program.specs.Programs.{MayServe};
+ghost use Rattle.std.specs.Prelude.{◌≡◌, MatchResult};
+ghost use Rattle.rx_program.specs.Programs.{IsReported, IsShown, MayServe, ending, serving_fault};
 
 use crate::host::Host;
 use crate::names::Names;
@@ -45,7 +45,8 @@ fn told<W: Write>(
     closed: &Result<Vec<SubjectReport, Heap>, CloseFault>,
     writer: &mut W,
 ) -> Result<(), ProgramFault>
-    ensures { MatchResult result (λ _. Unit {0}) MayServe }
+    ensures serves { MatchResult result (λ _. Unit {0}) MayServe }
+    ensures reported { IsReported closed.now result }
 {
     match closed {
         Ok(subjects) => write_report(names.as_slice(), subjects, writer),
@@ -60,20 +61,28 @@ fn end_of<E: Write>(
     faults: &mut E,
 ) -> Result<(), ProgramFault>
     requires { MatchResult closed (λ _. Unit {0}) MayServe }
-    ensures { MatchResult result (λ _. Unit {0}) MayServe }
+    ensures serves { MatchResult result (λ _. Unit {0}) MayServe }
+    ensures ending { result ≡ ending served closed }
 {
     let Err(fault) = served else {
         return closed;
     };
-    let fault = match fault {
-        ServeFault::Accept => ProgramFault::Accept,
-        ServeFault::NoDesk | ServeFault::Thread(_) | ServeFault::Memory => ProgramFault::Serve,
-    };
+    let fault = serving_fault(fault);
     if closed.is_ok() {
         return Err(fault);
     }
     let _ = tell(fault, faults);
     closed
+}
+
+// A fault of serving, as the program tells it.
+fn serving_fault(fault: ServeFault) -> ProgramFault
+    ensures { result ≡ serving_fault fault }
+{
+    match fault {
+        ServeFault::Accept => ProgramFault::Accept,
+        ServeFault::NoDesk | ServeFault::Thread(_) | ServeFault::Memory => ProgramFault::Serve,
+    }
 }
 
 // Writes the report, and flushes it.
@@ -82,7 +91,7 @@ fn write_report<W: Write>(
     subjects: &Vec<SubjectReport, Heap>,
     writer: &mut W,
 ) -> Result<(), ProgramFault>
-    ensures { MatchResult result (λ _. Unit {0}) MayServe }
+    ensures { IsShown result }
 {
     for (name, subject) in names.iter().zip(subjects.iter()) {
         write_subject(name, subject, writer)?;
@@ -99,7 +108,7 @@ fn write_subject<W: Write>(
     subject: &SubjectReport,
     writer: &mut W,
 ) -> Result<(), ProgramFault>
-    ensures { MatchResult result (λ _. Unit {0}) MayServe }
+    ensures { IsShown result }
 {
     let SubjectReport { joins, refused, .. } = subject;
     if writer.write_all(name.as_bytes()).is_err()

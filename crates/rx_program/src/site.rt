@@ -1,5 +1,6 @@
-ghost use Rattle.std.specs.Prelude.{MatchResult};
-ghost use Rattle.rx_program.specs.Programs.{MayServe};
+ghost use Rattle.std.specs.Prelude.{◌≡◌, IfErr};
+ghost use Rattle.rx_program.specs.Programs.{LacksSocket};
+ghost use Rattle.rx_server.specs.declared.start_fault.StartFault.{StartFault};
 
 use crate::clocked::Clocked;
 use crate::ended::Ended;
@@ -46,7 +47,7 @@ impl<F: Host> Drop for Site<F> {
 impl<F: Host> Site<F> {
     /// A new Unix socket of this path, by a configuration. Refused by `Memory` before `Listen`.
     pub fn at(rt: &F, heap: &Heap, path: &str, config: &Config) -> Result<Site<F>, ProgramFault>
-        ensures { MatchResult result (λ _. Unit {0}) MayServe }
+        ensures { IfErr result LacksSocket }
     {
         let Ok(clock) = rt.clone() else {
             return Err(ProgramFault::Memory);
@@ -88,7 +89,7 @@ impl<F: Host> Site<F> {
         path: &str,
         faults: &mut E,
     ) -> Result<Ended, ProgramFault>
-        ensures { MatchResult result (λ _. Unit {0}) MayServe }
+        ensures { IfErr result (λ fault. (cause : StartFault) × (fault ≡ ProgramFault.Start cause)) }
     {
         let Site {
             listener,

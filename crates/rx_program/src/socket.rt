@@ -1,3 +1,5 @@
+ghost use Rattle.std.specs.Prelude.{◌≡◌, ◌↔◌, ◌⊎◌, IsTrue};
+
 use crate::incoming::Incoming;
 use crate::outgoing::Outgoing;
 use crate::polling::{Polling, Ring};
@@ -141,7 +143,9 @@ fn halves<C: Clock + Clone + Drop>(
 }
 
 // Whether the next accept may do better: the call was interrupted, or the connection is gone.
-fn is_passing(kind: ErrorKind) -> bool {
+fn is_passing(kind: ErrorKind) -> bool
+    ensures { IsTrue result ↔ ((kind ≡ ErrorKind.Interrupted) ⊎ (kind ≡ ErrorKind.ConnectionAborted)) }
+{
     matches!(kind, ErrorKind::Interrupted | ErrorKind::ConnectionAborted)
 }
 

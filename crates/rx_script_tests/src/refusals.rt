@@ -91,11 +91,12 @@ impl Way {
         let seen = self.seen(&free, &tight, run, run.script)?;
         let is_met = tight.asked() > growth;
         let is_right = if is_met {
-            tight.used() == 0 && self.allows(&free, run, whole, &seen)?
+            self.allows(&free, run, whole, &seen)?
         } else {
             !seen.is_ended && seen.written.as_slice() == whole
         };
-        Ok(if !is_right {
+        // All bytes are back, whether or not one was refused.
+        Ok(if !is_right || tight.used() != 0 {
             Met::Fault
         } else if is_met {
             Met::Refusal(seen.is_ended)

@@ -167,6 +167,50 @@ const INTERRUPTED: [(u64, u64, SessionEnd, &str); 3] = [
     (9, 3, SessionEnd::ReadFault, ""),
 ];
 
+// How many bytes of the first script a line that is complete ends behind, and how many are answered then.
+const ANSWERED: [(usize, usize); 7] = [
+    (0, 0),
+    (22, 5),
+    (30, 8),
+    (38, 11),
+    (52, 25),
+    (58, 28),
+    (72, 51),
+];
+
+// How many bytes are written for the lines of the first script that are complete within so many bytes of it.
+fn answered(read: usize) -> usize {
+    let mut written = 0;
+    for (end, answered) in &ANSWERED {
+        if *end <= read {
+            written = *answered;
+        }
+    }
+    written
+}
+
+// A read that fails behind so many bytes of the first script, one a read.
+fn failing_behind(read: usize) -> Drips {
+    Drips {
+        rest: FIRST_RUN,
+        step: 1,
+        interrupted: 0,
+        fails_at: (read as u64).saturating_add(1),
+        reads: 0,
+    }
+}
+
+// The lines that are complete by then are answered.
+#[test]
+fn reader_fails_at_each_read(rt: HostRuntime) -> Result<(), Fail> {
+    for read in 0..=FIRST_RUN.len() {
+        let ran = run_of(rt.alloc(), &mut failing_behind(read), MAX_READS)?;
+        let written = &FIRST_ANSWERS[..answered(read).min(FIRST_ANSWERS.len())];
+        expect_ran(&rt, &ran, SessionEnd::ReadFault, written, &read);
+    }
+    Ok(())
+}
+
 #[test]
 fn interrupted_reads(rt: HostRuntime) -> Result<(), Fail> {
     for (max_reads, fails_at, end, answers) in &INTERRUPTED {
@@ -226,6 +270,106 @@ fn writer_fails_at_each_byte(rt: HostRuntime) -> Result<(), Fail> {
         let ran = run_in(rt.alloc(), room)?;
         let written = &FIRST_ANSWERS[..room];
         expect_ran(&rt, &ran, SessionEnd::WriteFault, written, &room);
+    }
+    Ok(())
+}
+
+/// Takes all that is written, and counts the writes.
+#[derive(Drop)]
+struct Counts {
+    writes: u64,
+}
+
+impl Write for Counts {
+    fn write(&mut self, buf: &[u8]) -> io::Result<usize> {
+        self.writes = self.writes.saturating_add(1);
+        Ok(buf.len())
+    }
+
+    fn flush(&mut self) -> io::Result<()> {
+        Ok(())
+    }
+}
+
+// How many bytes of the first script a read gives, and how often is written: once for each read behind which a line is
+// complete.
+const GATHERED: [(usize, u64); 3] = [(72, 1), (30, 3), (1, 6)];
+
+#[test]
+fn answers_are_gathered(rt: HostRuntime) -> Result<(), Fail> {
+    for (step, writes) in &GATHERED {
+        let mut reader = Drips {
+            rest: FIRST_RUN,
+            step: *step,
+            interrupted: 0,
+            fails_at: 0,
+            reads: 0,
+        };
+        let mut writer = Counts { writes: 0 };
+        let end = run(rt.alloc(), &mut reader, &mut writer, MAX_READS)?;
+        expect_that(&rt, end == SessionEnd::EndOfInput, step);
+        expect_that(&rt, writer.writes == *writes, step);
+    }
+    Ok(())
+}
+
+/// Gives a script, a line a read, and tells how many bytes were in use at the last read.
+#[derive(Drop)]
+struct Watched<'a> {
+    rest: &'a [u8],
+    heap: Heap,
+    used: u64,
+}
+
+impl Read for Watched<'_> {
+    fn read(&mut self, buf: &mut [u8]) -> io::Result<usize> {
+        self.used = self.heap.used();
+        let line = match self.rest.iter().position(|byte| *byte == b'\n') {
+            Some(place) => place.saturating_add(1),
+            None => self.rest.len(),
+        };
+        let len = line.min(self.rest.len()).min(buf.len());
+        buf[..len].copy_from_slice(&self.rest[..len]);
+        self.rest = &self.rest[len..];
+        Ok(len)
+    }
+}
+
+// A script in which two items of so many letters are given at once.
+fn script_of_items(alloc: Global, len: usize) -> Result<Vec<u8>, Memory> {
+    let mut script = Vec::new(alloc);
+    script.extend_from_slice(b"JOIN s BUFFER DELAY 9\n")?;
+    for _ in 0..2 {
+        put_filled(&mut script, b"PUB s ", len, b"\n")?;
+    }
+    Ok(script)
+}
+
+// The bytes in use behind the last line of that script, by a budget.
+fn used_behind(alloc: Global, heap: &Heap, len: usize) -> Result<u64, Memory> {
+    let script = script_of_items(alloc, len)?;
+    let mut reader = Watched {
+        rest: script.as_slice(),
+        heap: heap.clone()?,
+        used: 0,
+    };
+    let config = Config::standard(heap.clone()?)?;
+    let mut writer = Counts { writes: 0 };
+    run_script(heap.clone()?, config, &mut reader, &mut writer, MAX_READS)?;
+    Ok(reader.used)
+}
+
+// Under a limit no text is kept once its item was given, so that a long one leaves what one does that takes no memory. Behind
+// the script nothing is in use.
+#[test]
+fn a_script_keeps_no_text_under_a_limit(rt: HostRuntime) -> Result<(), Fail> {
+    let heap = Heap::with_budget(rt.alloc(), u64::MAX)?;
+    let short = used_behind(rt.alloc(), &heap, 1)?;
+    expect_that(&rt, short > 0, &"bytes of a hub");
+    for len in [30, 60, 200, 400, 1_024] {
+        let used = used_behind(rt.alloc(), &heap, len)?;
+        expect_that(&rt, used == short, &len);
+        expect_that(&rt, heap.used() == 0, &len);
     }
     Ok(())
 }

@@ -1,8 +1,7 @@
 //! Runs of a hub with ample memory: of each kind, strategy and error mode 200 drawn events of all four forms. None is
-//! refused for want of memory, and each observer is given what the history of the same events says.
+//! refused for want of memory, each observer is given what the history of the same events says, and nothing stays in use.
 
 use crate::drawing::Plan;
-use crate::heaps::unlimited;
 use crate::hubs::{Ran, joined, run_drawn};
 use rx_heap::Heap;
 use rx_note::{Answer, Errors, Refusal, Strategy};
@@ -81,19 +80,21 @@ fn fault_of(
     ran.fault()
 }
 
-// Nothing is wrong with the runs of a kind.
+// Nothing is wrong with the runs of a kind, and each gives back what it took.
 fn expect_no_fault(rt: &impl Abort, heap: &Heap, named: Named) -> Result<(), Fail> {
     for (strategy, errors, fails) in &PLANS {
         let fault = fault_of(heap, named, *strategy, *errors, *fails)?;
         assert_eq!(rt; fault, "", "{named:?} {strategy:?} {errors:?}");
+        assert_eq!(rt; heap.used(), 0, "{named:?} {strategy:?} {errors:?}");
     }
     Ok(())
 }
 
 #[test]
 fn nothing_refused_with_memory(rt: HostRuntime) -> Result<(), Fail> {
+    let heap = Heap::with_budget(rt.alloc(), u64::MAX)?;
     for named in &KINDS {
-        expect_no_fault(&rt, &unlimited(&rt), *named)?;
+        expect_no_fault(&rt, &heap, *named)?;
     }
     Ok(())
 }

@@ -159,6 +159,30 @@ fn a_request_holds_each_note_once(rt: HostRuntime) -> Result<(), Fail> {
     Ok(())
 }
 
+// How often a list grows to which a hub adds so many notes, one an emission.
+fn growths_of_a_list(rt: &impl Abort, free: &Heap, list: &Heap, notes: u32) -> u64 {
+    let mut waiting = Waiting::new(rt, copy(rt, free), copy(rt, free), copy(rt, list));
+    expect_answer(rt, waiting.join(rt), Ok(Answer::Joined(0)));
+    expect_answer(rt, waiting.request(notes), Ok(Answer::Asked));
+    expect_that(
+        rt,
+        waiting.fill(rt, notes) == None,
+        "no emission is refused",
+    );
+    expect_count(rt, waiting.outs.len() as u64, u64::from(notes), "given");
+    list.asked()
+}
+
+// From four notes on its room doubles, and after eight times that it is 1,024.
+#[test]
+fn a_list_grows_by_doubling(rt: HostRuntime) -> Result<(), Fail> {
+    let list = Heap::with_budget(rt.alloc(), u64::MAX)?;
+    let growths = growths_of_a_list(&rt, &unlimited(&rt), &list, 1_000);
+    expect_that(&rt, growths <= 9, "growths of a list of 1,000 notes");
+    expect_count(&rt, list.used(), 0, "bytes that were not given back");
+    Ok(())
+}
+
 // The bytes that a hub's tape holds before and after its only observer requests all that waits, so many items.
 fn held_around_a_request(rt: &impl Abort, free: &Heap, tight: &Heap, items: u32) -> (u64, u64) {
     let mut waiting = Waiting::new(rt, copy(rt, free), copy(rt, tight), copy(rt, free));

@@ -109,7 +109,8 @@ impl Draw {
     fn text(&mut self) -> &'static [u8] {
         match self.below(4) {
             0 => b"a".as_slice(),
-            1 => b"bc".as_slice(),
+            1 =>
+                b"a text of more than fifty-six bytes, which takes one of the larger blocks".as_slice(),
             2 => b"a text that takes memory".as_slice(),
             _ => b"".as_slice(),
         }

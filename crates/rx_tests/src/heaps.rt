@@ -104,6 +104,30 @@ fn a_budget_is_kept_and_given_back(rt: HostRuntime) -> Result<(), Fail> {
     Ok(())
 }
 
+// More bytes in one block than any machine has addresses, and fewer than a budget may have: the runtime refuses them.
+const NO_BLOCK: usize = 1 << 47;
+
+// Whether a new block of so many bytes is refused.
+fn is_block_refused(heap: &Heap) -> Result<bool, Fail> {
+    let block: Result<Vec<u8, Heap>, _> = Vec::with_capacity(heap.clone()?, NO_BLOCK);
+    Ok(block.is_err())
+}
+
+// A block that the runtime refuses is not charged, and a list that it lets grow no further keeps what it was charged.
+#[test]
+fn what_the_runtime_refuses_is_not_charged(rt: HostRuntime) -> Result<(), Fail> {
+    let heap = Heap::with_budget(rt.alloc(), u64::MAX)?;
+    let mut list: Vec<u8, Heap> = Vec::with_capacity(heap.clone()?, 100)?;
+    expect_that(&rt, is_block_refused(&heap)?, "a block of all addresses");
+    expect_count(&rt, heap.used(), 100, "bytes behind a block");
+    expect_that(&rt, list.reserve(NO_BLOCK).is_err(), "a list of as many");
+    expect_count(&rt, heap.used(), 100, "bytes behind a growth");
+    expect_count(&rt, heap.asked(), 3, "growths");
+    drop(list);
+    expect_count(&rt, heap.used(), 0, "bytes that were not given back");
+    Ok(())
+}
+
 /// What is seen of a list that grows while one growth is refused.
 #[derive(Clone, Copy)]
 struct Growing {

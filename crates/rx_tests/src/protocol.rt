@@ -128,8 +128,8 @@ fn lines_are_read_in_their_place(rt: HostRuntime) {
     }
 }
 
-// A front and so many letters x behind it.
-fn filled(heap: &Heap, front: &[u8], len: usize) -> Result<Vec<u8, Heap>, Fail> {
+/// A front and so many letters x behind it.
+pub(crate) fn filled(heap: &Heap, front: &[u8], len: usize) -> Result<Vec<u8, Heap>, Fail> {
     let mut line = Vec::new(heap.clone()?);
     line.extend_from_slice(front)?;
     for _ in 0..len {

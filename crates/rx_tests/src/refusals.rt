@@ -5,7 +5,7 @@
 
 ghost use Rattle.std.specs.Prelude.{◌≤◌, IfOk};
 
-use crate::expecting::{expect_that, expect_words};
+use crate::expecting::{expect_count, expect_that, expect_words};
 use crate::hubs::{Ran, Reading};
 use rx_heap::Heap;
 use rx_history::History;
@@ -215,6 +215,18 @@ impl Refusable for Row {
             }),
         }
     }
+}
+
+// A run of a hub leaves nothing in use, nor do its events and what it gave.
+#[test]
+fn worked_runs_leave_nothing(rt: HostRuntime) -> Result<(), Fail> {
+    let heap = Heap::with_budget(rt.alloc(), u64::MAX)?;
+    for row in &ROWS {
+        let seen = row.run_by(&heap, &heap)?;
+        expect_that(&rt, seen.is_made && seen.is_right, row.name);
+        expect_count(&rt, heap.used(), 0, row.name);
+    }
+    Ok(())
 }
 
 #[test]

@@ -7,12 +7,14 @@
 
 use crate::expecting::{expect_count, expect_told};
 use crate::heaps::unlimited;
+use crate::protocol::filled;
 use rx_heap::Heap;
 use rx_note::{Note, Policy};
 use rx_proto::{Name, Response, Version, Word};
 use rx_session::{Desk, Follow, LineReader, LineState, Next, SessionEnd, serve_lines};
 use rx_signs::Told;
 use std::io::{self, ErrorKind, Read, Write};
+use std::test::Fail;
 
 /// Gives its bytes so many at a time. The first reads are interrupted, and one fails.
 #[derive(Drop)]
@@ -52,21 +54,24 @@ fn dripping(rest: &'static [u8], step: usize) -> Drips {
     }
 }
 
-/// Takes one byte a call until it is full, and counts its flushes, one of which fails.
+/// Takes so many bytes a call until it is full, and counts its writes and its flushes, one of which fails.
 #[derive(Drop)]
 struct Sheet {
     held: Told,
+    step: usize,
     room: usize,
+    writes: u64,
     flushes: u64,
     fails_at: u64,
 }
 
 impl Write for Sheet {
     fn write(&mut self, buf: &[u8]) -> io::Result<usize> {
+        self.writes = self.writes.saturating_add(1);
         if self.held.len() >= self.room {
             return Err(io::Error::from(ErrorKind::Other));
         }
-        let len = buf.len().min(1);
+        let len = buf.len().min(self.step);
         self.held.put_all(&buf[..len]);
         Ok(len)
     }
@@ -80,10 +85,13 @@ impl Write for Sheet {
     }
 }
 
+// One that takes a byte a call, so many in all.
 fn blank(room: usize) -> Sheet {
     Sheet {
         held: Told::new(),
+        step: 1,
         room,
+        writes: 0,
         flushes: 0,
         fails_at: 0,
     }
@@ -211,6 +219,52 @@ fn session_over_memory(rt: HostRuntime) {
     }
 }
 
+// An input, between which of its bytes it is cut, and what is told then.
+const CUT: &[u8] = b"PUB s a\nNOPE\nQUIT\nPUB s b\n";
+
+const CUTS: [(usize, usize, &str); 4] = [
+    (0, 8, "E|"),
+    (8, 13, "EOK\n|n"),
+    (13, 18, "EOK\nERR SYNTAX\n|n"),
+    (18, 27, "QOK\nERR SYNTAX\nOK\n|n"),
+];
+
+// What is answered is what the complete lines ask, wherever the input ends and however it is read.
+#[test]
+fn input_cut_anywhere(rt: HostRuntime) {
+    let heap = unlimited(&rt);
+    for (from, to, told) in &CUTS {
+        for len in *from..*to {
+            for step in [1, 5, 64] {
+                let mut reader = dripping(&CUT[..len.min(CUT.len())], step);
+                let told_now = told_of(&heap, &mut reader, blank(4096), true, 99);
+                expect_told(&rt, told_now.as_bytes(), told, "an input that is cut");
+            }
+        }
+    }
+}
+
+// How many of the bytes were read when a read fails, up to where, and what is told.
+const BROKEN: [(u64, u64, &str); 3] = [
+    (0, 8, "R|"),
+    (8, 13, "ROK\n|n"),
+    (13, 18, "ROK\nERR SYNTAX\n|n"),
+];
+
+// The lines that are complete by then are answered.
+#[test]
+fn reader_fails_at_each_read(rt: HostRuntime) {
+    let heap = unlimited(&rt);
+    for (from, to, told) in &BROKEN {
+        for read in *from..*to {
+            let mut reader = dripping(CUT, 1);
+            reader.fails_at = read.saturating_add(1);
+            let told_now = told_of(&heap, &mut reader, blank(4096), true, 99);
+            expect_told(&rt, told_now.as_bytes(), told, "a reader that fails");
+        }
+    }
+}
+
 // How many reads are interrupted, which one fails and how, the most reads, what is told, and how many are made.
 const FAILING_READS: [(u64, u64, ErrorKind, u64, &str, u64); 5] = [
     (2, 0, ErrorKind::Other, 3, "QOK\n|", 3),
@@ -279,6 +333,63 @@ fn flushes_are_made(rt: HostRuntime) {
         let told_now = told_of(&heap, &mut reader, writer, true, 99);
         expect_told(&rt, told_now.as_bytes(), told, "a flush that fails");
     }
+}
+
+// How often a session wrote to a writer that takes all, and flushed it.
+fn counts_of(heap: &Heap, step: usize) -> (u64, u64) {
+    let mut clerk = Clerk {
+        asked: Told::new(),
+        takes: true,
+    };
+    let mut writer = blank(4096);
+    writer.step = usize::MAX;
+    match serve_lines(heap, &mut dripping(LINES, step), writer, &mut clerk, 99) {
+        (_, Some(sheet)) => (sheet.writes, sheet.flushes),
+        (_, None) => (0, 0),
+    }
+}
+
+// How many bytes a read gives, and how often is written and flushed: once for all that a read brought, and before the first.
+const GATHERED: [(usize, u64, u64); 3] = [(6, 3, 4), (12, 2, 3), (64, 1, 2)];
+
+#[test]
+fn answers_are_gathered(rt: HostRuntime) {
+    let heap = unlimited(&rt);
+    for (step, writes, flushes) in &GATHERED {
+        let (wrote, flushed) = counts_of(&heap, *step);
+        expect_count(&rt, wrote, *writes, "writes");
+        expect_count(&rt, flushed, *flushes, "flushes");
+    }
+}
+
+// What is told of a session of one line, of a front and so many letters.
+fn told_of_line(heap: &Heap, free: &Heap, front: &str, len: usize) -> Result<Told, Fail> {
+    let mut line = filled(free, front.as_bytes(), len)?;
+    line.push(b'\n')?;
+    let mut clerk = Clerk {
+        asked: Told::new(),
+        takes: false,
+    };
+    let mut reader = line.as_slice();
+    let (end, _writer) = serve_lines(heap, &mut reader, blank(4096), &mut clerk, 99);
+    let mut told = Told::new();
+    told.put(sign_of_end(end));
+    told.put_all(clerk.asked.as_bytes());
+    Ok(told)
+}
+
+// A session whose desk keeps nothing leaves nothing in use, whatever the length of a text.
+#[test]
+fn a_session_leaves_nothing(rt: HostRuntime) -> Result<(), Fail> {
+    let heap = Heap::with_budget(rt.alloc(), u64::MAX)?;
+    for len in [1, 30, 60, 200, 400, 1_024] {
+        for (front, wanted) in [("PUB s ", "En"), ("FAIL s ", "Ef")] {
+            let told = told_of_line(&heap, &unlimited(&rt), front, len)?;
+            expect_told(&rt, told.as_bytes(), wanted, front);
+            expect_count(&rt, heap.used(), 0, "bytes that were not given back");
+        }
+    }
+    Ok(())
 }
 
 // What a reader of lines tells next: the length of a line, or a letter.

@@ -1,5 +1,5 @@
-//! Sinks and drainers: what a line sink writes, a drainer whose sink fails at each of its notes, also with each growth refused
-//! in its turn, and two drainers that are at work at the same time.
+//! Drainers: one whose sink fails at each of its notes, also with each growth refused in its turn, and two that are at work at
+//! the same time.
 //!
 //! What a drainer did is told by the notes that its sink took, `|`, and what it sent its subject: `r` and `d` with the observer
 //! for a request of one item and for a disposal, `.` for the Bye. `!` alone is told where there was no memory for the drainer.
@@ -8,18 +8,13 @@ ghost use Rattle.std.specs.Prelude.{◌≡◌, []};
 
 use crate::boxes::{copy, finish, first_of_two, send, two, unlimited};
 use crate::expecting::{expect_count, expect_that, expect_told, expect_words};
-use rx_drain::{
-    DrainEnd, Drainer, Flow, LineSink, MemorySink, PutAway, RunningDrainer, Sink, SinkFault,
-    start_drainer,
-};
+use rx_drain::{DrainEnd, Drainer, MemorySink, PutAway, RunningDrainer, Sink, start_drainer};
 use rx_heap::Heap;
 use rx_mailbox::{Inbox, Port, Post};
 use rx_note::{Event, Note};
-use rx_proto::Version;
 use rx_pump::{Call, Out};
 use rx_signs::{Meeting, Refusable, Seen, Tale, Told, note_of, refuse_in_turn};
 use std::alloc::Global;
-use std::io::{self, ErrorKind, Write};
 use std::process::Abort;
 use std::sync::atomic::AtomicU64;
 use std::sync::{Arc, Wait};
@@ -27,173 +22,9 @@ use std::test::Fail;
 use std::thread::Threads;
 use std::time::Clock;
 
-// Keeps what is written, and counts the calls. Each flush of one that is torn fails.
-#[derive(Drop)]
-struct Page {
-    held: Told,
-    writes: usize,
-    flushes: usize,
-    is_torn: bool,
-}
-
-impl Page {
-    fn new(is_torn: bool) -> Page {
-        Page {
-            held: Told::new(),
-            writes: 0,
-            flushes: 0,
-            is_torn,
-        }
-    }
-}
-
-impl Write for Page {
-    fn write(&mut self, buf: &[u8]) -> io::Result<usize> {
-        self.held.put_all(buf);
-        self.writes = self.writes.saturating_add(1);
-        Ok(buf.len())
-    }
-
-    fn flush(&mut self) -> io::Result<()> {
-        self.flushes = self.flushes.saturating_add(1);
-        if self.is_torn {
-            return Err(io::ErrorKind::BrokenPipe.into());
-        }
-        Ok(())
-    }
-}
-
 /// The note of a sign.
 pub(crate) fn note(rt: &impl Abort, heap: &Heap, sign: u8) -> Note {
     note_of(heap, sign).expect(rt, "a note")
-}
-
-// A sink of a version over a page that was started for observer 3 and took the notes of these signs.
-fn lined(rt: &impl Abort, heap: &Heap, version: Version, signs: &[u8]) -> LineSink<Page> {
-    let mut sink = LineSink::new(Page::new(false), version);
-    let _ = sink.start(3);
-    for sign in signs {
-        let _ = sink.take(note(rt, heap, *sign));
-    }
-    sink
-}
-
-// What a line sink of a version wrote of the notes of these signs; behind `|` in how many calls, how many notes it took, and `!`
-// where it failed, else `-`.
-fn told_of_lines(rt: &impl Abort, heap: &Heap, version: Version, signs: &[u8]) -> Told {
-    let rest = lined(rt, heap, version, signs).finish();
-    let Page {
-        mut held,
-        writes,
-        flushes: _,
-        is_torn: _,
-    } = lined(rt, heap, version, signs).into_writer();
-    held.put(b'|');
-    held.put_digit(writes);
-    held.put_digit(rest.notes as usize);
-    held.put(if rest.failed { b'!' } else { b'-' });
-    held
-}
-
-#[test]
-fn line_sink(rt: HostRuntime) {
-    let heap = unlimited(&rt);
-    for (version, signs, wanted) in [
-        (Version::One, "a.", "JOINED 3\nNEXT a\nDONE\n|32-"),
-        (
-            Version::One,
-            "ab!",
-            "JOINED 3\nNEXT a\nNEXT b\nFAILED x\n|43-",
-        ),
-        (Version::One, "", "JOINED 3\n|10-"),
-        (Version::Two, "a.", "JOINED 3\nNEXT 0 0 a\nDONE\n|32-"),
-        (Version::Two, "!", "JOINED 3\nFAILED x\n|21-"),
-        (Version::Two, "", "JOINED 3\n|10-"),
-    ] {
-        let told = told_of_lines(&rt, &heap, version, signs.as_bytes());
-        expect_told(&rt, told.as_bytes(), wanted, signs);
-    }
-}
-
-/// Has nothing go out for so many flushes, each of which would have to wait.
-#[derive(Drop)]
-struct Dam {
-    closed_for: u64,
-}
-
-impl Write for Dam {
-    fn write(&mut self, buf: &[u8]) -> io::Result<usize> {
-        Ok(buf.len())
-    }
-
-    fn flush(&mut self) -> io::Result<()> {
-        if self.closed_for > 0 {
-            self.closed_for = self.closed_for.saturating_sub(1);
-            return Err(io::Error::from(ErrorKind::WouldBlock));
-        }
-        Ok(())
-    }
-}
-
-// How the sink stands: `c` for clear, `r` for ready, `s` for stuck, `!` at a fault.
-fn sign_of_flow(flow: Result<Flow, SinkFault>) -> u8 {
-    match flow {
-        Ok(Flow::Clear) => b'c',
-        Ok(Flow::Ready) => b'r',
-        Ok(Flow::Stuck) => b's',
-        Err(SinkFault) => b'!',
-    }
-}
-
-// What a sink that took so many notes answers then: to a flush at an `f`, and else to the note of a sign.
-fn told_flows(rt: &impl Abort, heap: &Heap, sink: LineSink<Dam>, taken: u32, signs: &[u8]) -> Told {
-    let mut sink = sink;
-    for _ in 0..taken {
-        let _ = sink.take(note(rt, heap, b'a'));
-    }
-    let mut told = Told::new();
-    for sign in signs {
-        let flow = match *sign {
-            b'f' => sink.flush(),
-            sign => sink.take(note(rt, heap, sign)),
-        };
-        told.put(sign_of_flow(flow));
-    }
-    told
-}
-
-// Nothing waits where the writer doesn't gather. Where it does, 48 notes are taken ahead of what went out, unless it is stuck.
-#[test]
-fn a_line_sink_tells_what_waits(rt: HostRuntime) {
-    let heap = unlimited(&rt);
-    for (gathers, closed_for, taken, signs, wanted) in [
-        (false, 0, 0, "af", "cc"),
-        (false, 1, 0, "af", "c!"),
-        (true, 0, 0, "afa", "rcr"),
-        (true, 1, 0, "afafa", "rsscr"),
-        (true, 0, 47, "aafa", "rscr"),
-    ] {
-        let dam = Dam { closed_for };
-        let sink = if gathers {
-            LineSink::gathering(dam, Version::One)
-        } else {
-            LineSink::new(dam, Version::One)
-        };
-        let told = told_flows(&rt, &heap, sink, taken, signs.as_bytes());
-        expect_told(&rt, told.as_bytes(), wanted, signs);
-    }
-}
-
-#[test]
-fn line_sink_is_flushed(rt: HostRuntime) {
-    for (is_torn, wanted) in [(false, "1-"), (true, "1!")] {
-        let mut sink = LineSink::new(Page::new(is_torn), Version::One);
-        let sign = if sink.flush().is_ok() { b'-' } else { b'!' };
-        let mut told = Told::new();
-        told.put_digit(sink.into_writer().flushes);
-        told.put(sign);
-        expect_told(&rt, told.as_bytes(), wanted, "flushes that reached a page");
-    }
 }
 
 /// A drainer of one subject; none where there was no memory for it.
@@ -349,20 +180,26 @@ fn tale_of(rt: &(impl Wait + Abort), free: &Heap, tight: &Heap, fail_at: Option<
     with_calls(rt, tale, &mut calls)
 }
 
+// The note at which a sink fails, and what is told: as many requests as it took notes, and one disposal.
+const FAULTS: [(Option<u32>, &str); 5] = [
+    (Some(0), "|d0."),
+    (Some(1), "a|r0d0."),
+    (Some(2), "ab|r0r0d0."),
+    (Some(3), "abc|r0r0r0d0."),
+    (None, "abc|r0r0r0d0."),
+];
+
+// Nothing is in use behind a drainer, its sink and their boxes.
 #[test]
-fn drainer_with_a_failing_sink(rt: HostRuntime) {
-    let heap = unlimited(&rt);
-    for (fail_at, wanted) in [
-        (Some(0), "|d0."),
-        (Some(1), "a|r0d0."),
-        (Some(2), "ab|r0r0d0."),
-        (Some(3), "abc|r0r0r0d0."),
-        (None, "abc|r0r0r0d0."),
-    ] {
-        let tale = tale_of(&rt, &heap, &heap, fail_at);
+fn sink_fails_at_each_note(rt: HostRuntime) -> Result<(), Fail> {
+    let heap = Heap::with_budget(rt.alloc(), u64::MAX)?;
+    for (fail_at, wanted) in &FAULTS {
+        let tale = tale_of(&rt, &heap, &heap, *fail_at);
         expect_told(&rt, tale.told.as_bytes(), wanted, "a sink that fails");
         expect_count(&rt, tale.misses, 0, wanted);
+        expect_count(&rt, heap.used(), 0, "bytes that were not given back");
     }
+    Ok(())
 }
 
 // What is seen of a drainer whose sink fails only where there is no memory.

@@ -18,6 +18,8 @@ mod expecting;
 #[cfg(test)]
 mod letters;
 #[cfg(test)]
+mod line_sinks;
+#[cfg(test)]
 mod pumps;
 #[cfg(test)]
 mod shared_budget;

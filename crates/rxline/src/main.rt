@@ -3,10 +3,14 @@
 //! `rx_program::run_words` is the program over any streams; `main` hands it the standard ones.
 #![tactic(auto)]
 
-use rx_program::{ProgramFault, run_words, tell};
+ghost use Rattle.std.specs.Prelude.{map};
+ghost use Rattle.std.specs.Process.{exit_status};
+ghost use Rattle.rx_program.specs.Programs.{Program};
+
+use rx_program::{Host, ProgramFault, run_words, tell};
 use std::alloc::AllocError;
 use std::env;
-use std::io::{self, IsTerminal, Write};
+use std::io::{self, IsTerminal, Read, Write};
 use std::process::ExitCode;
 
 // What is told at a terminal, where else nothing would show that lines are waited for.
@@ -31,8 +35,20 @@ fn main(rt: HostRuntime) -> ExitCode {
         let _ = writeln!(faults, "{READS_A_SCRIPT}");
     }
     let mut writer = rt.stdout();
-    let status = run_words(&rt, words.as_slice(), &mut reader, &mut writer, &mut faults);
-    ExitCode::from(status)
+    run(&rt, words.as_slice(), &mut reader, &mut writer, &mut faults)
+}
+
+// The program over these streams. The process ends with its status.
+fn run<'a, F: Host, R: Read, W: Write, E: Write>(
+    rt: &F,
+    words: &'a [&'a str],
+    reader: &mut R,
+    writer: &mut W,
+    faults: &mut E,
+) -> ExitCode
+    ensures { Program (map (λ s. s.now) words.entry.now) (exit_status result) (record { left = R.remaining reader.old; written = W.contents writer.old }) (record { left = R.remaining reader.new; written = W.contents writer.new }) (E.contents faults.old) (E.contents faults.new) }
+{
+    ExitCode::from(run_words(rt, words, reader, writer, faults))
 }
 
 // The words of the command line, the program's name first.
