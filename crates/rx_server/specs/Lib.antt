@@ -1,3 +1,4 @@
+pub mod Arriving
 pub mod Ends
 pub mod Leaving
 pub mod OpenBoxes

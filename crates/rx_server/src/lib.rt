@@ -2,10 +2,11 @@
 //!
 //! [`start`] makes the hubs and boxes of a configuration and starts its pumps and drainers; [`Server::desk`] hands out desks, and
 //! [`Server::serve`] serves the connections of a listener by those that are left; [`Server::close`] ends what is left, waits
-//! until all threads have ended, and reports. Nothing is said of when a thread runs, and `close` isn't promised to return.
+//! until all threads have ended, settles each box that the server made, and reports. Nothing is said of when a thread runs, and
+//! `close` isn't promised to return.
 //!
-//! The programs above rest on this: a server is wired as its configuration says (`specs/Wirings.antt`), and a report tells what
-//! each pump and each drainer did (`Servers.antt`).
+//! The programs above rest on this: a server is wired as its configuration says (`specs/Wirings.antt`); a report tells what each
+//! pump and each drainer did, and of each port of each box that the box received all that it put (`Servers.antt`).
 //!
 //! The configuration, and the desks of sessions with their workers, stand in crates of their own below this one, and are
 //! exported again.
@@ -14,6 +15,7 @@
 mod close_fault;
 mod closing;
 mod hosting;
+pub mod laws;
 mod making;
 mod opened;
 mod port_row;

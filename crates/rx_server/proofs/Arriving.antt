@@ -1,0 +1,42 @@
+-- What arrived of a server's letters once it is closed.
+use Rattle.std.proofs.Common.{◌≡◌, ◌∙◌, sym, ap, subst, ℕ, zero, suc, List, [], ◌∷◌, length, Some, slice_get}
+use Rattle.std.proofs.lemmas.List.Elements.{All-head, All-tail}
+use Rattle.std.specs.List.{All, AllZip, zip}
+use Rattle.rx_sink.specs.Acts.{Acts}
+use Rattle.rx_server.specs.Arriving.{EachLetterArrives}
+
+-- what holds of each pair holds of the one at a place
+pub zip-at : {A B : Type 0} (R : A → B → Type 0) (xs : List A) (ys : List B) (i : ℕ) (x : A) (y : B) → AllZip R xs ys → slice_get xs i ≡ Some x → slice_get ys i ≡ Some y → R x y
+zip-at R [] ys i x y all at_x at_y = cc
+zip-at R (a ∷ xs) [] i x y all at_x at_y = cc
+zip-at R (a ∷ xs) (b ∷ ys) zero x y all at_x at_y =
+    let first : a ≡ x = cc in
+    let second : b ≡ y = cc in
+    subst (R x) second (subst (λ z. R z b) first all.0)
+zip-at R (a ∷ xs) (b ∷ ys) (suc i) x y all at_x at_y = zip-at R xs ys i x y all.1 at_x at_y
+
+pub all-at : {A : Type 0} (P : A → Type 0) (xs : List A) (i : ℕ) (x : A) → All P xs → slice_get xs i ≡ Some x → P x
+all-at P [] i x all at = cc
+all-at P (a ∷ xs) zero x all at = let first : a ≡ x = cc in subst P first (All-head P a xs all)
+all-at P (a ∷ xs) (suc i) x all at = all-at P xs i x (All-tail P a xs all) at
+
+pub pair-at : {A B : Type 0} (xs : List A) (ys : List B) (i : ℕ) (x : A) (y : B) → slice_get xs i ≡ Some x → slice_get ys i ≡ Some y → slice_get (zip xs ys) i ≡ Some (x, y)
+pair-at [] ys i x y at_x at_y = cc
+pair-at (a ∷ xs) [] i x y at_x at_y = cc
+pair-at (a ∷ xs) (b ∷ ys) zero x y at_x at_y = let first : a ≡ x = cc in let second : b ≡ y = cc in cc
+pair-at (a ∷ xs) (b ∷ ys) (suc i) x y at_x at_y = pair-at xs ys i x y at_x at_y
+
+pub arrives : {S Rest : Type 0} (acts : Acts S Rest) → EachLetterArrives acts
+arrives acts server ended report closes i pump end B box at_pump at_end at_marks at_box =
+    let serves = zip-at _ server.pumps (zip closes.pump_ends closes.marks) i pump (end, B) closes.pumped at_pump (pair-at closes.pump_ends closes.marks i end B at_end at_marks) in
+    let settled = closes.settled in
+    let same = zip-at _ closes.pump_ends report.boxes.subjects.items i end box settled.of_pumps at_end at_box in
+    record {
+      letters = serves.accounts.letters ∙ sym (ap (λ inbox. inbox.received) same);
+      routes = λ d port outs at_port at_outs.
+          zip-at _ report.boxes.drainers.items end.drainers.items d outs port (all-at _ closes.pump_ends i end settled.to_drainers at_end) at_outs at_port
+          ∙ serves.routed d port at_port;
+      replied = λ w port answers at_port at_answers.
+          zip-at _ report.boxes.replies.items end.replies.items w answers port (all-at _ closes.pump_ends i end settled.to_desks at_end) at_answers at_port
+          ∙ serves.replied w port at_port;
+    }
