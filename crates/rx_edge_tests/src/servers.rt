@@ -57,7 +57,11 @@ pub(crate) fn config_of(rt: &impl Host, heap: &Heap, text: &[u8]) -> Config {
 }
 
 // A server of the configuration that this text says.
-fn started<S: Sink + Send + 'static>(rt: &impl Host, heap: &Heap, text: &[u8]) -> Server<S>
+pub(crate) fn started<S: Sink + Send + 'static>(
+    rt: &impl Host,
+    heap: &Heap,
+    text: &[u8],
+) -> Server<S>
 where
     S::Rest: Send + 'static,
 {
@@ -84,20 +88,20 @@ where
 
 /// A desk with a port at least.
 #[derive(Drop)]
-struct Caller<S: Drop> {
+pub(crate) struct Caller<S: Drop> {
     desk: CallDesk<S>,
     ghost has_port: { 0 < length desk.ports + length desk.ended },
 }
 
 // The next desk of a server.
-fn caller_of<S: Sink>(rt: &impl Abort, server: &mut Server<S>) -> Caller<S> {
+pub(crate) fn caller_of<S: Sink>(rt: &impl Abort, server: &mut Server<S>) -> Caller<S> {
     let desk = server.desk().expect(rt, "a desk");
     Caller { desk }
 }
 
 impl<S: Drop> Caller<S> {
-    // What the first subject answers.
-    fn call(
+    /// What the first subject answers.
+    pub(crate) fn call(
         &mut self,
         rt: &(impl Wait + Abort),
         event: Event,
@@ -127,7 +131,7 @@ impl<S: Drop> Caller<S> {
         self.call(rt, Event::Emit { note, at: 0 }, None)
     }
 
-    fn finish(self, rt: &(impl Wait + Abort)) -> EndedDesk<S> {
+    pub(crate) fn finish(self, rt: &(impl Wait + Abort)) -> EndedDesk<S> {
         match self.desk.finish(rt) {
             Ok(ended) => ended,
             Err(_) => panic!(rt; "the desk came back"),
@@ -226,8 +230,8 @@ fn notes_of<'a>(rt: &impl Abort, report: &'a Report<Vec<Note, Heap>>) -> &'a [No
     }
 }
 
-// The one subject of a report.
-fn subject_of<'a, R: Drop>(rt: &impl Abort, report: &'a Report<R>) -> &'a SubjectReport {
+/// The one subject of a report.
+pub(crate) fn subject_of<'a, R: Drop>(rt: &impl Abort, report: &'a Report<R>) -> &'a SubjectReport {
     match report.subjects.as_slice() {
         [subject] => subject,
         subjects => panic!(rt; "{} subjects", subjects.len()),
