@@ -26,6 +26,11 @@ const IDLE: Paths = Paths {
     socket: "rxline-idle.sock",
 };
 
+const STALLED: Paths = Paths {
+    config: "rxline-stalled.toml",
+    socket: "rxline-stalled.sock",
+};
+
 const AGAIN: Paths = Paths {
     config: "rxline-again.toml",
     socket: "rxline-again.sock",
@@ -209,6 +214,43 @@ fn a_session_that_is_idle_ends(rt: HostRuntime) -> Result<(), Fail> {
     );
     let wanted = "0 s joins 1 refused 0\n|rxline: listening on rxline-idle.sock\n";
     expect_served(&rt, &IDLE, told.as_slice(), right, wanted)
+}
+
+// How many items more bytes have than the buffer of a socket takes and what may wait before it.
+const STALLING: u32 = 6_000;
+
+const LONG_LINE: &[u8] =
+    b"PUB s 0123456789012345678901234567890123456789012345678901234567890123456789\n";
+
+// One of two subscribers takes nothing for a second, and then its place is free for another one.
+fn talk_beside_one_stalled(rt: &impl Host, paths: &Paths) -> bool {
+    let mut stalled = Peer::subscribed(rt, paths);
+    stalled.hears(b"JOINED 0\n");
+    let mut silent = Peer::connected(rt, paths);
+    silent.sends(b"SUB s DROP:0 DELAY\n");
+    silent.hears(b"JOINED 1\n");
+    let mut producer = Peer::connected(rt, paths);
+    for _ in 0..STALLING {
+        producer.sends(LONG_LINE);
+        producer.hears(b"OK\n");
+    }
+    let mut late = Peer::connected(rt, paths);
+    let joined = joins(rt, &mut late);
+    producer.sends(b"QUIT\n");
+    producer.hears_last(b"OK\n");
+    joined && late.is_right() && producer.is_right() && stalled.is_right() && silent.is_right()
+}
+
+#[test]
+fn a_peer_that_stalls_is_let_go(rt: HostRuntime) -> Result<(), Fail> {
+    write_config(&rt, &STALLED, b"connections = 4\nstall = 1\n")?;
+    let (told, right) = join(
+        &rt,
+        || -> Vec<u8> { serve(&rt, &STALLED) },
+        || -> bool { talk_beside_one_stalled(&rt, &STALLED) },
+    );
+    let wanted = "0 s joins 3 refused 0\n|rxline: listening on rxline-stalled.sock\n";
+    expect_served(&rt, &STALLED, told.as_slice(), right, wanted)
 }
 
 const LISTENED: &str = "0 s joins 0 refused 0\n|rxline: listening on rxline-again.sock\n";

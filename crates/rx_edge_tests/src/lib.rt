@@ -11,9 +11,13 @@ mod crowds;
 #[cfg(test)]
 mod expecting;
 #[cfg(test)]
+mod order;
+#[cfg(test)]
 mod peers;
 #[cfg(test)]
 mod programs;
+#[cfg(test)]
+mod rough_peers;
 #[cfg(test)]
 mod servers;
 #[cfg(test)]

@@ -22,6 +22,11 @@ const EARLY: Paths = Paths {
     socket: "rxline-early.sock",
 };
 
+const CLOSED: Paths = Paths {
+    config: "rxline-closed.toml",
+    socket: "rxline-closed.sock",
+};
+
 const RESET: Paths = Paths {
     config: "rxline-reset.toml",
     socket: "rxline-reset.sock",
@@ -125,8 +130,29 @@ fn talk_beside_one_gone(rt: &impl Host, paths: &Paths) -> bool {
     emits_beside_one_gone(rt, paths, &mut reader) && reader.is_right()
 }
 
+// A subscriber closes once it has joined, and a producer comes behind it.
+fn talk_behind_one_gone(rt: &impl Host, paths: &Paths) -> bool {
+    let joined = is_joined(rt, paths, b"JOINED 0\n");
+    let mut producer = Peer::connected(rt, paths);
+    producer.sends(b"PUB s a\nPUB s b\nPUB s c\nQUIT\n");
+    producer.hears_last(b"OK\nOK\nOK\nOK\n");
+    joined && producer.is_right()
+}
+
 #[test]
 fn peer_closes_early(rt: HostRuntime) -> Result<(), Fail> {
+    write_config(&rt, &CLOSED, b"connections = 2\n")?;
+    let (told, right) = join(
+        &rt,
+        || -> Vec<u8> { serve(&rt, &CLOSED) },
+        || -> bool { talk_behind_one_gone(&rt, &CLOSED) },
+    );
+    let wanted = "0 s joins 1 refused 0\n|rxline: listening on rxline-closed.sock\n";
+    expect_served(&rt, &CLOSED, told.as_slice(), right, wanted)
+}
+
+#[test]
+fn a_place_is_free_at_the_next_item(rt: HostRuntime) -> Result<(), Fail> {
     write_config(&rt, &EARLY, b"connections = 4\n")?;
     let (told, right) = join(
         &rt,

@@ -42,7 +42,7 @@ fn expect_run(rt: &(impl Host + Abort), words: &[&str], wanted: &str) {
 }
 
 // Words, and what is told of the run by them.
-const STATUSES: [(&[&str], &str); 6] = [
+const STATUSES: [(&[&str], &str); 8] = [
     (&[], "0 OK 0\nOK\ns 0 NEXT a\nOK\n|"),
     (
         &["script", "no/such/file"],
@@ -52,6 +52,9 @@ const STATUSES: [(&[&str], &str); 6] = [
         &["audit", "no/such/file"],
         "1 |rxline: cannot read config\n",
     ),
+    // A folder is opened, and can't be read.
+    (&["script", "."], "1 |rxline: cannot read config\n"),
+    (&["audit", "."], "1 |rxline: cannot read config\n"),
     (
         &["check", "no/such/file"],
         "1 |rxline: cannot read config\n",
@@ -83,6 +86,8 @@ fn told_over(rt: &impl Host, command: &str, config: &[u8]) -> io::Result<Vec<u8>
     fs::remove_file(rt, PATH)?;
     Ok(told)
 }
+
+const SEEDED: &[u8] = b"[[subject]]\nname = \"s\"\nkind = \"behavior\"\nseed = \"z\"\n";
 
 // Commands, the configurations in the file that each is given, and what is told.
 const FILES: [(&str, &str, &str); 6] = [
@@ -119,6 +124,19 @@ fn configurations_of_files(rt: HostRuntime) -> Result<(), Fail> {
     for (command, config, wanted) in &FILES {
         let told = told_over(&rt, command, config.as_bytes())?;
         expect_told(&rt, told.as_slice(), wanted, config);
+    }
+    Ok(())
+}
+
+#[test]
+fn a_socket_in_no_folder(rt: HostRuntime) -> Result<(), Fail> {
+    for (config, wanted) in [
+        (b"".as_slice(), "1 |rxline: config: no subject\n"),
+        (SEEDED, "1 |rxline: cannot listen\n"),
+    ] {
+        write_config(&rt, config)?;
+        expect_run(&rt, &["serve", PATH, "no/such/socket"], wanted);
+        fs::remove_file(&rt, PATH)?;
     }
     Ok(())
 }
@@ -175,6 +193,96 @@ fn help_and_wrong_words(rt: HostRuntime) {
         expect_that(&rt, told.starts_with(front.as_bytes()), front);
         expect_that(&rt, told.ends_with(back.as_bytes()), back);
     }
+}
+
+/// Gives a line of so many letters, one a read.
+#[derive(Drop)]
+struct Letters {
+    left: u32,
+}
+
+impl Read for Letters {
+    fn read(&mut self, buf: &mut [u8]) -> io::Result<usize> {
+        let (Some(left), Some(byte)) = (self.left.checked_sub(1), buf.first_mut()) else {
+            return Ok(0);
+        };
+        *byte = if left == 0 { b'\n' } else { b'x' };
+        self.left = left;
+        Ok(1)
+    }
+}
+
+// More reads than a number of 16 bits counts.
+const READS: u32 = 70_000;
+
+#[test]
+fn a_run_has_more_reads_than_that(rt: HostRuntime) -> Result<(), Fail> {
+    let told = told_of(&rt, &[], &mut Letters { left: READS });
+    expect_told(&rt, told.as_slice(), "0 ERR LONG\n|", "a script");
+    write_config(&rt, SEEDED)?;
+    let told = told_of(&rt, &["audit", PATH], &mut Letters { left: READS });
+    fs::remove_file(&rt, PATH)?;
+    expect_told(&rt, told.as_slice(), "0 |", "an audit");
+    Ok(())
+}
+
+/// Holds what is written. Each flush fails.
+#[derive(Drop)]
+pub(crate) struct Unflushed {
+    pub(crate) held: Vec<u8>,
+}
+
+impl Write for Unflushed {
+    fn write(&mut self, buf: &[u8]) -> io::Result<usize> {
+        self.held.extend_from_slice(buf)?;
+        Ok(buf.len())
+    }
+
+    fn flush(&mut self) -> io::Result<()> {
+        Err(io::Error::from(ErrorKind::Other))
+    }
+}
+
+// What is told of a run over the script whose writer can't be flushed.
+fn told_unflushed(rt: &impl Host, words: &[&str]) -> Vec<u8> {
+    let mut reader = SCRIPT;
+    let mut writer = Unflushed {
+        held: Vec::new(rt.alloc()),
+    };
+    let mut faults = Vec::new(rt.alloc());
+    let status = run_words(rt, words, &mut reader, &mut writer, &mut faults);
+    joined(
+        rt.alloc(),
+        status,
+        writer.held.as_slice(),
+        faults.as_slice(),
+    )
+}
+
+// Words, and how what is told of such a run by them begins. Of a script nothing was written before its first read.
+const UNFLUSHED: [(&[&str], &str); 5] = [
+    (&[], "1 |"),
+    (&["--help"], "1 Multicasts items"),
+    (&["--version"], "1 rxline 0.1.0\n|"),
+    (
+        &["check", PATH],
+        "1 subject s behavior observers 64 joins 4294967295 items 4294967295 seed z\n",
+    ),
+    (&["audit", PATH], "1 OBSERVER s 0\nGIVEN NEXT z\n"),
+];
+
+// What a run wrote it flushes, and a flush that fails is told.
+#[test]
+fn faults_of_flushes(rt: HostRuntime) -> Result<(), Fail> {
+    write_config(&rt, SEEDED)?;
+    for (words, front) in &UNFLUSHED {
+        let told = told_unflushed(&rt, words);
+        expect_that(&rt, told.starts_with(front.as_bytes()), front);
+        let is_told = told.ends_with(b"|rxline: write fault\n");
+        expect_that(&rt, is_told, front);
+    }
+    fs::remove_file(&rt, PATH)?;
+    Ok(())
 }
 
 /// Gives all of a script at once, and then fails.

@@ -100,8 +100,8 @@ pub(crate) fn caller_of<S: Sink>(rt: &impl Abort, server: &mut Server<S>) -> Cal
 }
 
 impl<S: Drop> Caller<S> {
-    // What the first subject answers.
-    fn call(
+    /// What the first subject answers.
+    pub(crate) fn call(
         &mut self,
         rt: &(impl Wait + Abort),
         event: Event,
@@ -136,7 +136,7 @@ impl<S: Drop> Caller<S> {
         self.call(rt, Event::Emit { note, at: 0 }, None)
     }
 
-    fn finish(self, rt: &(impl Wait + Abort)) -> EndedDesk<S> {
+    pub(crate) fn finish(self, rt: &(impl Wait + Abort)) -> EndedDesk<S> {
         match self.desk.finish(rt) {
             Ok(ended) => ended,
             Err(_) => panic!(rt; "the desk came back"),
@@ -239,8 +239,8 @@ fn notes_of<'a>(rt: &impl Abort, report: &'a Report<Vec<Note, Heap>>) -> &'a [No
     }
 }
 
-// The one subject of a report.
-fn subject_of<'a, R: Drop>(rt: &impl Abort, report: &'a Report<R>) -> &'a SubjectReport {
+/// The one subject of a report.
+pub(crate) fn subject_of<'a, R: Drop>(rt: &impl Abort, report: &'a Report<R>) -> &'a SubjectReport {
     match report.subjects.as_slice() {
         [subject] => subject,
         subjects => panic!(rt; "{} subjects", subjects.len()),

@@ -1,7 +1,7 @@
 //! The program as a server, over a real socket: its peers, what it tells, and its report.
 
 use crate::expecting::{expect_that, expect_told};
-use crate::programs::joined;
+use crate::programs::{Unflushed, joined};
 use rx_program::{Host, run_words};
 use std::fs::{self, File};
 use std::io::{self, Read, Write};
@@ -26,6 +26,11 @@ const ONE: Paths = Paths {
 const TWO: Paths = Paths {
     config: "rxline-two.toml",
     socket: "rxline-two.sock",
+};
+
+const UNFLUSHED: Paths = Paths {
+    config: "rxline-unflushed.toml",
+    socket: "rxline-unflushed.sock",
 };
 
 const STOPPED: Paths = Paths {
@@ -55,6 +60,23 @@ pub(crate) fn serve(rt: &impl Host, paths: &Paths) -> Vec<u8> {
     let words = ["serve", paths.config, paths.socket];
     let status = run_words(rt, &words, &mut reader, &mut written, &mut faults);
     joined(rt.alloc(), status, written.as_slice(), faults.as_slice())
+}
+
+// What is told of the server whose report can't be flushed.
+fn serve_unflushed(rt: &impl Host, paths: &Paths) -> Vec<u8> {
+    let mut reader: &[u8] = b"";
+    let mut writer = Unflushed {
+        held: Vec::new(rt.alloc()),
+    };
+    let mut faults = Vec::new(rt.alloc());
+    let words = ["serve", paths.config, paths.socket];
+    let status = run_words(rt, &words, &mut reader, &mut writer, &mut faults);
+    joined(
+        rt.alloc(),
+        status,
+        writer.held.as_slice(),
+        faults.as_slice(),
+    )
 }
 
 // How often a peer looks for the socket, 5 milliseconds apart.
@@ -248,6 +270,27 @@ fn second_version_on_the_socket(rt: HostRuntime) -> Result<(), Fail> {
     );
     let wanted = "0 s joins 1 refused 0\n|rxline: listening on rxline-two.sock\n";
     expect_served(&rt, &TWO, told.as_slice(), right, wanted)
+}
+
+// A producer that says nothing but QUIT.
+fn quits(rt: &impl Host, paths: &Paths) -> bool {
+    let mut peer = Peer::connected(rt, paths);
+    peer.sends(b"QUIT\n");
+    peer.hears_last(b"OK\n");
+    peer.is_right()
+}
+
+#[test]
+fn a_report_that_is_not_flushed(rt: HostRuntime) -> Result<(), Fail> {
+    write_config(&rt, &UNFLUSHED, b"connections = 1\n")?;
+    let (told, right) = join(
+        &rt,
+        || -> Vec<u8> { serve_unflushed(&rt, &UNFLUSHED) },
+        || -> bool { quits(&rt, &UNFLUSHED) },
+    );
+    let wanted =
+        "1 s joins 0 refused 0\n|rxline: listening on rxline-unflushed.sock\nrxline: write fault\n";
+    expect_served(&rt, &UNFLUSHED, told.as_slice(), right, wanted)
 }
 
 // How many items are emitted beside one who never reads: more bytes than the buffer of a socket takes.
