@@ -203,12 +203,14 @@ fn act_all(
     heap: &Heap,
     caller: &mut Caller<Ledger>,
     round: u32,
-) -> Result<(), Fail> {
+) -> Result<(), Fail>
+    ensures { KeepsDesk caller.old.desk caller.new.desk }
+{
     let mut draw = Draw::of(round);
     for place in 0..ACTS {
         let act = draw.act(place);
         let event = event_of(heap, act)?;
-        let _answer = caller.call(rt, event, sink_of(heap, act)?);
+        let _answer = caller.call(rt, 0, event, sink_of(heap, act)?);
     }
     Ok(())
 }
@@ -228,18 +230,22 @@ fn emit_items(
     caller: Caller<Ledger>,
     letter: u8,
     round: u32,
-) -> Caller<Ledger> {
+) -> Caller<Ledger>
+    ensures { KeepsDesk caller.desk result.desk }
+{
     let mut caller = caller;
     for number in 0..ITEMS {
         let text = text_of(heap, &text_bytes(letter, round, number)).expect(rt, "a text");
-        let answered = caller.call(rt, Event::item(text, 0), None);
+        let answered = caller.call(rt, 0, Event::item(text, 0), None);
         expect_answer(rt, answered, Ok(Answer::Admitted));
     }
     caller
 }
 
 // A round: the two producers emit, each in a thread of its own, and then the third does what is drawn.
-fn go_round(rt: &impl Host, heap: &Heap, callers: Callers, round: u32) -> Result<Callers, Fail> {
+fn go_round(rt: &impl Host, heap: &Heap, callers: Callers, round: u32) -> Result<Callers, Fail>
+    ensures { IfOk result (λ after. KeepsDesk callers.first.desk after.first.desk × KeepsDesk callers.second.desk after.second.desk × KeepsDesk callers.third.desk after.third.desk) }
+{
     let Callers {
         first,
         second,
@@ -263,7 +269,10 @@ fn go_all(
     rt: &impl Host,
     heap: &Heap,
     callers: Callers,
-) -> Result<Vec<EndedDesk<Ledger>, Heap>, Fail> {
+) -> Result<Vec<EndedDesk<Ledger>, Heap>, Fail>
+    ensures { IfOk result (λ ended. (made : List (DeskView Ledger)) → IsDeskOf made callers.first.desk → IsDeskOf made callers.second.desk → IsDeskOf made callers.third.desk
+        → All (IsEndOf made) ended.items) }
+{
     let mut callers = callers;
     act_all(rt, heap, &mut callers.third, 0)?;
     for round in 1..ROUNDS {
@@ -279,7 +288,7 @@ fn go_all(
 }
 
 // The report of a server after that.
-fn report_of(rt: &impl Host, heap: &Heap) -> Result<Report<Vec<Note, Heap>>, Fail> {
+fn report_of(rt: &impl Host, heap: &Heap) -> Result<Report<Ledger>, Fail> {
     let mut server = started::<Ledger>(rt, heap, CONFIG);
     let callers = Callers {
         first: caller_of(rt, &mut server),
@@ -347,7 +356,7 @@ fn history_of(heap: &Heap, notes: &[Note]) -> Result<History, Fail> {
 }
 
 // What the sink of observer 0 took.
-fn first_notes(report: &Report<Vec<Note, Heap>>) -> &[Note] {
+fn first_notes(report: &Report<Ledger>) -> &[Note] {
     for list in &report.put_away {
         for away in list {
             if away.who == 0 {
@@ -365,7 +374,7 @@ fn is_right(history: &History, away: &PutAway<Vec<Note, Heap>>) -> Result<bool, 
 }
 
 // How many sinks took what the history says.
-fn count_right(report: &Report<Vec<Note, Heap>>, history: &History) -> Result<u64, Fail> {
+fn count_right(report: &Report<Ledger>, history: &History) -> Result<u64, Fail> {
     let mut right: u64 = 0;
     for list in &report.put_away {
         for away in list {
@@ -376,7 +385,7 @@ fn count_right(report: &Report<Vec<Note, Heap>>, history: &History) -> Result<u6
 }
 
 // How many sinks were put away.
-fn count_all(report: &Report<Vec<Note, Heap>>) -> u64 {
+fn count_all(report: &Report<Ledger>) -> u64 {
     let mut all: u64 = 0;
     for list in &report.put_away {
         all = all.saturating_add(list.len() as u64);
