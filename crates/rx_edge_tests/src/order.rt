@@ -4,10 +4,15 @@
 //! Which items came before which is told by observer 0, which is owed all. Between two rounds of items a third caller joins
 //! observers, requests for some and disposes of some, drawn by a fixed rule. No sink asks for more.
 
-ghost use Rattle.std.specs.Prelude.{◌≤◌};
+ghost use Rattle.std.specs.Prelude.{◌≤◌, IfOk, List};
+ghost use Rattle.std.specs.List.{All};
+ghost use Rattle.rx_pump.specs.Desks.{DeskView, KeepsDesk};
+ghost use Rattle.rx_server.specs.Servers.{IsDeskOf, IsEndOf};
+ghost use Rattle.rx_edge_tests.specs.declared.order.Ledger.{Ledger};
 
 use crate::expecting::{expect_answer, expect_count, expect_that};
-use crate::servers::{Caller, Host, caller_of, closed, started, subject_of};
+use crate::callers::{Caller, caller_of};
+use crate::servers::{Host, closed, started, subject_of};
 use rx_drain::{Flow, PutAway, Sink, SinkFault};
 use rx_heap::{Heap, Memory};
 use rx_history::History;
