@@ -1,8 +1,9 @@
 //! Crews of workers over a listener in memory: who served which connection, and how serving ends where the listener fails, where
 //! a worker has nothing to wait by, and where no desk is left.
 
+use crate::callers::caller_of;
 use crate::expecting::{expect_answer, expect_that, expect_told};
-use crate::servers::{Caller, Host, caller_of, closed, config_of, copy, started};
+use crate::servers::{Host, closed, config_of, copy, started};
 use crate::turns::{Everyone, Silent, Still};
 use rx_drain::LineSink;
 use rx_heap::Heap;
@@ -218,7 +219,7 @@ fn run_of<R: Host>(rt: &R, faults: Faults) -> Run {
     let mut server: Server<LineSink<Clerk<R>>> = started(rt, &heap, FOUR);
     let mut first = caller_of(rt, &mut server);
     let sink = LineSink::new(clerk_on(rt, &page).expect(rt, "a clerk"), Version::Two);
-    expect_answer(rt, first.join(rt, 100, sink), Ok(Answer::Joined(0)));
+    expect_answer(rt, first.join(rt, 0, 100, sink), Ok(Answer::Joined(0)));
     let served = server.serve(rt, &mut peers_of(rt, &page, faults), Still);
     let ended = first.finish_alone(rt, &heap);
     drop(closed(rt, server, ended));

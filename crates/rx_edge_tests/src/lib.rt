@@ -5,6 +5,8 @@
 #![tactic(auto)]
 
 #[cfg(test)]
+mod callers;
+#[cfg(test)]
 mod crews;
 #[cfg(test)]
 mod crowds;
@@ -26,5 +28,7 @@ mod slow_peers;
 mod sockets;
 #[cfg(test)]
 mod texts;
+#[cfg(test)]
+mod three_desks;
 #[cfg(test)]
 mod turns;

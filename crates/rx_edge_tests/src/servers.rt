@@ -1,16 +1,21 @@
 //! Servers by their library calls: two desks that emit at the same time, two drainers that are at work at the same time,
 //! and a run with each growth refused in its turn.
 
-ghost use Rattle.std.specs.Prelude.{◌+◌, ◌<◌, length};
+ghost use Rattle.std.specs.Prelude.{◌≡◌, List};
+ghost use Rattle.std.specs.List.{All};
+ghost use Rattle.rx_pump.specs.Desks.{DeskView, KeepsDesk};
+ghost use Rattle.rx_server.specs.Servers.{IsDeskOf, IsEndOf};
 
+use crate::callers::{Caller, caller_of, emit_all};
 use crate::expecting::{expect_answer, expect_count, expect_that, expect_told};
 use rx_drain::{MemorySink, Sink};
 use rx_heap::Heap;
-use rx_note::{Answer, Errors, Event, Item, Note, Policy, Refusal, Strategy, Text};
-use rx_pump::{CallDesk, EndedDesk};
+use rx_note::{Answer, Note, Refusal};
+use rx_pump::EndedDesk;
 use rx_server::{Config, Report, Server, StartCause, SubjectReport, read_config, start};
 use rx_signs::{Meeting, Told};
 use std::alloc::Global;
+use std::ops::Range;
 use std::process::Abort;
 use std::sync::atomic::AtomicU64;
 use std::sync::{Arc, Wait};
@@ -45,7 +50,7 @@ const TWO_DRAINERS: &[u8] =
     b"[[subject]]\nname = \"s\"\nkind = \"publish\"\n[pool]\nworkers = 1\ndrainers = 2\n";
 
 // Two subjects with two drainers, for two desks.
-const TWO_OF_EACH: &[u8] =
+pub(crate) const TWO_OF_EACH: &[u8] =
     b"[[subject]]\nname = \"s\"\nkind = \"publish\"\n[[subject]]\nname = \"t\"\nkind = \"publish\"\n[pool]\nworkers = 2\ndrainers = 2\n";
 
 // The configuration that this text says.
@@ -76,80 +81,14 @@ pub(crate) fn closed<S: Sink + Send + 'static>(
     rt: &impl Host,
     server: Server<S>,
     ended: Vec<EndedDesk<S>, Heap>,
-) -> Report<S::Rest>
+) -> Report<S>
 where
     S::Rest: Send + 'static,
+    requires { All (IsEndOf server.made) ended.items }
 {
     match server.close(rt, ended) {
         Ok(report) => report,
         Err(_) => panic!(rt; "the server was not closed"),
-    }
-}
-
-/// A desk with a port at least.
-#[derive(Drop)]
-pub(crate) struct Caller<S: Drop> {
-    desk: CallDesk<S>,
-    ghost has_port: { 0 < length desk.ports + length desk.ended },
-}
-
-// The next desk of a server.
-pub(crate) fn caller_of<S: Sink>(rt: &impl Abort, server: &mut Server<S>) -> Caller<S> {
-    let desk = server.desk().expect(rt, "a desk");
-    Caller { desk }
-}
-
-impl<S: Drop> Caller<S> {
-    /// What the first subject answers.
-    pub(crate) fn call(
-        &mut self,
-        rt: &(impl Wait + Abort),
-        event: Event,
-        sink: Option<S>,
-    ) -> Result<Answer, Refusal> {
-        match self.desk.call(rt, 0, event, sink) {
-            Ok(reply) => reply.result,
-            Err(_) => panic!(rt; "no reply"),
-        }
-    }
-
-    // Joins an observer with this first request, whose notes go to the sink.
-    pub(crate) fn join(
-        &mut self,
-        rt: &(impl Wait + Abort),
-        first: u32,
-        sink: S,
-    ) -> Result<Answer, Refusal> {
-        let policy = Policy::new(Strategy::Buffer, Errors::Delay).expect(rt, "a policy");
-        let event = Event::Join {
-            policy,
-            first,
-            at: 0,
-        };
-        self.call(rt, event, Some(sink))
-    }
-
-    // Emits the item of this one byte.
-    fn emit(&mut self, rt: &(impl Wait + Abort), heap: &Heap, byte: u8) -> Result<Answer, Refusal> {
-        let text = Text::new(copy(rt, heap), &[byte]).expect(rt, "a text");
-        let note = Note::Next(Item::new(text));
-        self.call(rt, Event::Emit { note, at: 0 }, None)
-    }
-
-    pub(crate) fn finish(self, rt: &(impl Wait + Abort)) -> EndedDesk<S> {
-        match self.desk.finish(rt) {
-            Ok(ended) => ended,
-            Err(_) => panic!(rt; "the desk came back"),
-        }
-    }
-
-    // The list of this one desk, ended.
-    pub(crate) fn finish_alone(
-        self,
-        rt: &(impl Wait + Abort),
-        heap: &Heap,
-    ) -> Vec<EndedDesk<S>, Heap> {
-        vec![in copy(rt, heap); self.finish(rt)].expect(rt, "memory")
     }
 }
 
@@ -177,20 +116,6 @@ fn bytes_from(notes: &[Note], from: u32) -> Told {
     bytes
 }
 
-// Emits all items, each of which is admitted.
-fn emit_all<S: Drop>(
-    rt: &(impl Wait + Abort),
-    heap: &Heap,
-    caller: Caller<S>,
-    bytes: &[u8],
-) -> EndedDesk<S> {
-    let mut caller = caller;
-    for byte in bytes {
-        expect_answer(rt, caller.emit(rt, heap, *byte), Ok(Answer::Admitted));
-    }
-    caller.finish(rt)
-}
-
 // Two desks emit, each in a thread of its own.
 fn emit_both(
     rt: &impl Host,
@@ -198,11 +123,13 @@ fn emit_both(
     first: Caller<MemorySink>,
     second: Caller<MemorySink>,
     bytes: &[u8],
-) -> Vec<EndedDesk<MemorySink>, Heap> {
+) -> Vec<EndedDesk<MemorySink>, Heap>
+    ensures { (made : List (DeskView MemorySink)) → IsDeskOf made first.desk → IsDeskOf made second.desk → All (IsEndOf made) result.items }
+{
     let (first, second) = join(
         rt,
-        || emit_all(rt, heap, first, bytes),
-        || emit_all(rt, heap, second, bytes),
+        || emit_all(rt, heap, first, 1, bytes),
+        || emit_all(rt, heap, second, 1, bytes),
     );
     vec![in copy(rt, heap); first, second].expect(rt, "memory")
 }
@@ -213,23 +140,25 @@ fn emit_by_two(
     heap: &Heap,
     server: &mut Server<MemorySink>,
     bytes: &[u8],
-) -> Vec<EndedDesk<MemorySink>, Heap> {
+) -> Vec<EndedDesk<MemorySink>, Heap>
+    ensures { All (IsEndOf server.new.made) result.items }
+{
     let mut first = caller_of(rt, server);
     let second = caller_of(rt, server);
     let sink = MemorySink::new(copy(rt, heap), None);
-    expect_answer(rt, first.join(rt, 200, sink), Ok(Answer::Joined(0)));
+    expect_answer(rt, first.join(rt, 0, 200, sink), Ok(Answer::Joined(0)));
     emit_both(rt, heap, first, second, bytes)
 }
 
 // The report of a server after that.
-fn report_of_two_desks(rt: &impl Host, heap: &Heap, bytes: &[u8]) -> Report<Vec<Note, Heap>> {
+fn report_of_two_desks(rt: &impl Host, heap: &Heap, bytes: &[u8]) -> Report<MemorySink> {
     let mut server = started(rt, heap, TWO_DESKS);
     let ended = emit_by_two(rt, heap, &mut server, bytes);
     closed(rt, server, ended)
 }
 
 // The notes that the one sink of a server took.
-fn notes_of<'a>(rt: &impl Abort, report: &'a Report<Vec<Note, Heap>>) -> &'a [Note] {
+fn notes_of<'a>(rt: &impl Abort, report: &'a Report<MemorySink>) -> &'a [Note] {
     match report.put_away.as_slice() {
         [list] => match list.as_slice() {
             [away] => away.rest.as_slice(),
@@ -240,30 +169,40 @@ fn notes_of<'a>(rt: &impl Abort, report: &'a Report<Vec<Note, Heap>>) -> &'a [No
 }
 
 /// The one subject of a report.
-pub(crate) fn subject_of<'a, R: Drop>(rt: &impl Abort, report: &'a Report<R>) -> &'a SubjectReport {
+pub(crate) fn subject_of<'a, S: Sink>(rt: &impl Abort, report: &'a Report<S>) -> &'a SubjectReport {
     match report.subjects.as_slice() {
         [subject] => subject,
         subjects => panic!(rt; "{} subjects", subjects.len()),
     }
 }
 
-// The notes are the items of both ports, those of each in their order.
-fn expect_items(rt: &impl Abort, notes: &[Note], bytes: &[u8]) {
-    expect_count(rt, notes.len() as u64, 200, "notes");
-    for from in 0..2 {
+// There are so many notes, the items of these desks, those of each in their order.
+pub(crate) fn expect_items(
+    rt: &impl Abort,
+    notes: &[Note],
+    count: u64,
+    desks: Range<u32>,
+    bytes: &[u8],
+) {
+    expect_count(rt, notes.len() as u64, count, "notes");
+    for from in desks {
         let emitted = bytes_from(notes, from);
         assert_eq!(rt; emitted.as_bytes(), bytes, "{from}");
     }
 }
 
-// The calls are the joining, the items, a request behind each of them, and the disposal.
-fn expect_all_admitted(rt: &impl Abort, report: &Report<Vec<Note, Heap>>, bytes: &[u8]) {
-    let subject = subject_of(rt, report);
-    expect_count(rt, subject.calls, 402, "calls");
+// A subject had so many calls and joins, and refused none of them.
+pub(crate) fn expect_subject(rt: &impl Abort, subject: &SubjectReport, calls: u64, joins: u64) {
+    expect_count(rt, subject.calls, calls, "calls");
     expect_count(rt, subject.refused, 0, "refused");
-    expect_count(rt, u64::from(subject.joins), 1, "joins");
+    expect_count(rt, u64::from(subject.joins), joins, "joins");
+}
+
+// The calls are the joining, the items, a request behind each of them, and the disposal.
+fn expect_all_admitted(rt: &impl Abort, report: &Report<MemorySink>, bytes: &[u8]) {
+    expect_subject(rt, subject_of(rt, report), 402, 1);
     expect_count(rt, report.taken, 200, "taken");
-    expect_items(rt, notes_of(rt, report), bytes);
+    expect_items(rt, notes_of(rt, report), 200, 0..2, bytes);
 }
 
 #[test]
@@ -274,10 +213,12 @@ fn two_desks_one_subject(rt: HostRuntime) {
 }
 
 // Joins two observers whose sinks are to meet.
-fn join_both<R: Host>(rt: &R, caller: &mut Caller<Meeting<R>>, come: &Arc<AtomicU64, Global>) {
+fn join_both<R: Host>(rt: &R, caller: &mut Caller<Meeting<R>>, come: &Arc<AtomicU64, Global>)
+    ensures { KeepsDesk caller.old.desk caller.new.desk }
+{
     for who in 0..2 {
         let sink = Meeting::of(rt, come).expect(rt, "a meeting");
-        expect_answer(rt, caller.join(rt, 1, sink), Ok(Answer::Joined(who)));
+        expect_answer(rt, caller.join(rt, 0, 1, sink), Ok(Answer::Joined(who)));
     }
 }
 
@@ -287,26 +228,28 @@ fn emit_to_both<R: Host>(
     heap: &Heap,
     server: &mut Server<Meeting<R>>,
     come: &Arc<AtomicU64, Global>,
-) -> Vec<EndedDesk<Meeting<R>>, Heap> {
+) -> Vec<EndedDesk<Meeting<R>>, Heap>
+    ensures { All (IsEndOf server.new.made) result.items }
+{
     let mut caller = caller_of(rt, server);
     join_both(rt, &mut caller, come);
-    expect_answer(rt, caller.emit(rt, heap, b'a'), Ok(Answer::Admitted));
+    expect_answer(rt, caller.emit(rt, heap, 0, b'a'), Ok(Answer::Admitted));
     caller.finish_alone(rt, heap)
 }
 
 // The report of a server after that.
-fn report_of_two_drainers(
-    rt: &impl Host,
+fn report_of_two_drainers<R: Host>(
+    rt: &R,
     heap: &Heap,
     come: &Arc<AtomicU64, Global>,
-) -> Report<bool> {
+) -> Report<Meeting<R>> {
     let mut server = started(rt, heap, TWO_DRAINERS);
     let ended = emit_to_both(rt, heap, &mut server, come);
     closed(rt, server, ended)
 }
 
 // Which observer's sinks each drainer put away: `m` that it met the other one, `!` that it did not.
-fn told_of_meetings(report: &Report<bool>) -> Told {
+fn told_of_meetings<R: Host>(report: &Report<Meeting<R>>) -> Told {
     let mut told = Told::new();
     for list in &report.put_away {
         for away in list {
@@ -319,7 +262,7 @@ fn told_of_meetings(report: &Report<bool>) -> Told {
 }
 
 // Both sinks met.
-fn expect_met(rt: &impl Abort, report: &Report<bool>) {
+fn expect_met<R: Host>(rt: &R, report: &Report<Meeting<R>>) {
     expect_count(rt, report.taken, 2, "taken");
     expect_told(
         rt,
@@ -340,7 +283,7 @@ fn two_drainers_meet(rt: HostRuntime) -> Result<(), Fail> {
 }
 
 // Puts how many notes were taken, and behind a space for each subject its calls, those refused and its joins.
-fn put_report<R: Drop>(told: &mut Told, report: &Report<R>) {
+fn put_report<S: Sink>(told: &mut Told, report: &Report<S>) {
     told.put_digit(report.taken as usize);
     for subject in &report.subjects {
         told.put(b' ');
@@ -358,11 +301,13 @@ struct Called {
 }
 
 // A desk joins an observer, whose sink grows by `tight`, and emits an item.
-fn call_twice(rt: &impl Host, free: &Heap, tight: &Heap, caller: Caller<MemorySink>) -> Called {
+fn call_twice(rt: &impl Host, free: &Heap, tight: &Heap, caller: Caller<MemorySink>) -> Called
+    ensures { (made : List (DeskView MemorySink)) → IsDeskOf made caller.desk → All (IsEndOf made) result.ended.items }
+{
     let mut caller = caller;
     let sink = MemorySink::new(copy(rt, tight), None);
-    let joined = caller.join(rt, 1, sink);
-    let emitted = caller.emit(rt, free, b'a');
+    let joined = caller.join(rt, 0, 1, sink);
+    let emitted = caller.emit(rt, free, 0, b'a');
     Called {
         answers: [joined, emitted],
         ended: caller.finish_alone(rt, free),
@@ -370,7 +315,7 @@ fn call_twice(rt: &impl Host, free: &Heap, tight: &Heap, caller: Caller<MemorySi
 }
 
 // What is told of a run: the answers, and the report.
-fn told_of_run<R: Drop>(answers: &[Result<Answer, Refusal>], report: &Report<R>) -> Told {
+fn told_of_run<S: Sink>(answers: &[Result<Answer, Refusal>], report: &Report<S>) -> Told {
     let mut told = Told::new();
     for answer in answers {
         told.put_answer(*answer);

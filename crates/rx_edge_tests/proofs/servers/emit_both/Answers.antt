@@ -1,0 +1,15 @@
+use Rattle.std.proofs.Common.{◌≡◌, sym, subst, rules, List, [], ◌∷◌}
+use Rattle.std.proofs.lemmas.List.Elements.{All-cons, All-nil}
+use Rattle.std.specs.List.{All}
+use Rattle.rx_server.specs.Servers.{IsEndOf}
+use Rattle.rx_edge_tests.proofs.servers.emit_both.Goals as goal
+
+pub returns : goal.returns
+returns g c =
+    λ made one two.
+    let first = c.join-first.result.0 in
+    let second = c.join-first.result.1 in
+    let items : c.expect.result.items ≡ first ∷ (second ∷ []) = search rules in
+    subst (λ (l : List _). All (IsEndOf made) l) (sym items)
+    (All-cons (IsEndOf made) first (second ∷ []) (c.join-first.ensures.first made one)
+    (All-cons (IsEndOf made) second [] (c.join-first.ensures.second made two) (All-nil (IsEndOf made))))
