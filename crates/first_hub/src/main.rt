@@ -2,6 +2,7 @@
 //! is kept, what the other is given is written. The subject is a Replay, which gives all to whoever joins late, so a run is
 //! the same whatever the threads do.
 #![tactic(auto)]
+
 ghost use Rattle.std.specs.Prelude.{◌≡◌, IfOk, List};
 ghost use Rattle.std.specs.List.{All};
 ghost use Rattle.rx_pump.specs.Desks.{DeskView};
@@ -84,12 +85,7 @@ fn speak<R: Wait>(rt: &R, heap: &Heap, caller: Caller) -> Result<EndedDesk<Shelf
 }
 
 // All items are requested at once, so that they are on their way to the sinks before the server is closed.
-fn listen<R: Wait>(
-    rt: &R,
-    heap: &Heap,
-    caller: Caller,
-    out: Stdout,
-) -> Result<EndedDesk<Shelf>>
+fn listen<R: Wait>(rt: &R, heap: &Heap, caller: Caller, out: Stdout) -> Result<EndedDesk<Shelf>>
     ensures { IfOk result (λ ended. (made : List (DeskView Shelf)) → IsDeskOf made caller.desk → IsEndOf made ended) }
 {
     let mut caller = caller;

@@ -10,8 +10,8 @@ ghost use Rattle.rx_pump.specs.Desks.{DeskView, KeepsDesk};
 ghost use Rattle.rx_server.specs.Servers.{IsDeskOf, IsEndOf};
 ghost use Rattle.rx_edge_tests.specs.declared.order.Ledger.{Ledger};
 
-use crate::expecting::{expect_answer, expect_count, expect_that};
 use crate::callers::{Caller, caller_of};
+use crate::expecting::{expect_answer, expect_count, expect_that};
 use crate::servers::{Host, closed, started, subject_of};
 use rx_drain::{Flow, PutAway, Sink, SinkFault};
 use rx_heap::{Heap, Memory};

@@ -45,12 +45,7 @@ fn come_together(rt: &(impl Clock + Abort), come: &AtomicU64) {
 }
 
 // Joins an observer of a subject, whose sink keeps what it is handed.
-fn join_one(
-    rt: &(impl Wait + Abort),
-    heap: &Heap,
-    caller: &mut Caller<MemorySink>,
-    subject: usize,
-)
+fn join_one(rt: &(impl Wait + Abort), heap: &Heap, caller: &mut Caller<MemorySink>, subject: usize)
     ensures { KeepsDesk caller.old.desk caller.new.desk }
 {
     let sink = MemorySink::new(copy(rt, heap), None);

@@ -1,9 +1,20 @@
 -- What arrived of a server's letters once it is closed.
-use Rattle.std.proofs.Common.{◌≡◌, ◌∙◌, sym, ap, subst, ℕ, zero, suc, List, [], ◌∷◌, length, Some, slice_get}
+use Rattle.std.proofs.Common.{◌≡◌, ◌∙◌, sym, ap, subst, ℕ, zero, suc, List, [], ◌∷◌, Some, slice_get}
 use Rattle.std.proofs.lemmas.List.Elements.{All-head, All-tail}
 use Rattle.std.specs.List.{All, AllZip, zip}
+use Rattle.rx_mailbox.specs.Boxes.{Outgoing}
+use Rattle.rx_mailbox.specs.Passes.{SettledView, inbox_in}
+use Rattle.rx_mailbox.specs.Settling.{GotAll}
+use Rattle.rx_pump.specs.declared.call.Call.{Call}
+use Rattle.rx_pump.specs.declared.out.Out.{Out}
+use Rattle.rx_pump.specs.declared.pump_end.PumpEnd.{PumpEnd}
+use Rattle.rx_pump.specs.declared.reply.Reply.{Reply}
+use Rattle.rx_pump.specs.Marks.{Marked}
+use Rattle.rx_pump.specs.Pumps.{PumpView}
+use Rattle.rx_pump.specs.Serving.{Serves}
 use Rattle.rx_sink.specs.Acts.{Acts}
 use Rattle.rx_server.specs.Arriving.{EachLetterArrives}
+use Rattle.rx_server.specs.Servers.{GotEach}
 
 -- what holds of each pair holds of the one at a place
 pub zip-at : {A B : Type 0} (R : A → B → Type 0) (xs : List A) (ys : List B) (i : ℕ) (x : A) (y : B) → AllZip R xs ys → slice_get xs i ≡ Some x → slice_get ys i ≡ Some y → R x y
@@ -27,16 +38,19 @@ pair-at (a ∷ xs) (b ∷ ys) zero x y at_x at_y = let first : a ≡ x = cc in l
 pair-at (a ∷ xs) (b ∷ ys) (suc i) x y at_x at_y = pair-at xs ys i x y at_x at_y
 
 pub arrives : {S Rest : Type 0} (acts : Acts S Rest) → EachLetterArrives acts
-arrives acts server ended report closes i pump end B box at_pump at_end at_marks at_box =
-    let serves = zip-at _ server.pumps (zip closes.pump_ends closes.marks) i pump (end, B) closes.pumped at_pump (pair-at closes.pump_ends closes.marks i end B at_end at_marks) in
+arrives {S = S} acts server ended report closes i pump end B box at_pump at_end at_marks at_box =
+    let serves = zip-at (λ (pump : PumpView S) (x : PumpEnd S × Marked S). Serves pump x.0 x.1) server.pumps (zip closes.pump_ends closes.marks) i pump (end, B) closes.pumped at_pump
+    (pair-at closes.pump_ends closes.marks i end B at_end at_marks) in
     let settled = closes.settled in
-    let same = zip-at _ closes.pump_ends report.boxes.subjects.items i end box settled.of_pumps at_end at_box in
+    let same = zip-at (λ (end : PumpEnd S) (box : SettledView (Call S)). inbox_in box ≡ end.inbox) closes.pump_ends report.boxes.subjects.items i end box settled.of_pumps at_end at_box in
+    let outs_got = all-at (λ (end : PumpEnd S). GotEach report.boxes.drainers.items end.drainers.items) closes.pump_ends i end settled.to_drainers at_end in
+    let answers_got = all-at (λ (end : PumpEnd S). GotEach report.boxes.replies.items end.replies.items) closes.pump_ends i end settled.to_desks at_end in
     record {
       letters = serves.accounts.letters ∙ sym (ap (λ inbox. inbox.received) same);
       routes = λ d port outs at_port at_outs.
-          zip-at _ report.boxes.drainers.items end.drainers.items d outs port (all-at _ closes.pump_ends i end settled.to_drainers at_end) at_outs at_port
+          zip-at (λ (box : SettledView (Out S)) (port : Outgoing (Out S)). GotAll (inbox_in box) port) report.boxes.drainers.items end.drainers.items d outs port outs_got at_outs at_port
           ∙ serves.routed d port at_port;
       replied = λ w port answers at_port at_answers.
-          zip-at _ report.boxes.replies.items end.replies.items w answers port (all-at _ closes.pump_ends i end settled.to_desks at_end) at_answers at_port
+          zip-at (λ (box : SettledView (Reply S)) (port : Outgoing (Reply S)). GotAll (inbox_in box) port) report.boxes.replies.items end.replies.items w answers port answers_got at_answers at_port
           ∙ serves.replied w port at_port;
     }

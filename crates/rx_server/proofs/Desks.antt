@@ -1,9 +1,8 @@
 -- The desks of a server, as their calls left them and once they have ended.
-use Rattle.std.proofs.Common.{◌≡◌, ◌∙◌, sym, refl, ap, subst, ℕ, zero, suc, ◌+◌, ◌<◌, List, [], ◌∷◌, ◌++◌, append_assoc, append-nil, length, map, slice_get, slice_index_or, Some, arith}
-use Rattle.std.proofs.lemmas.List.{length-map}
-use Rattle.std.proofs.lemmas.List.Elements.{All-append, All-cons, All-head, All-nil, All-push, All-tail}
+use Rattle.std.proofs.Common.{◌≡◌, ◌∙◌, sym, refl, ap, subst, ℕ, zero, suc, ◌+◌, List, [], ◌∷◌, ◌++◌, append_assoc, append-nil, length, map, slice_get, Some, arith}
+use Rattle.std.proofs.lemmas.List.Elements.{All-cons, All-head, All-nil, All-push, All-tail}
 use Rattle.std.specs.List.{All, AllZip, enumerate_from}
-use Rattle.rx_mailbox.specs.Boxes.{Box, Outgoing, incoming, outgoing}
+use Rattle.rx_mailbox.specs.Boxes.{Box, Outgoing}
 use Rattle.rx_pump.specs.declared.call.Call.{Call}
 use Rattle.rx_pump.specs.declared.ended_desk.EndedDesk.{EndedDesk}
 use Rattle.rx_pump.specs.declared.reply.Reply.{Reply}

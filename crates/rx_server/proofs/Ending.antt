@@ -1,16 +1,14 @@
 -- What all parts of a server left, once its threads have ended well.
-use Rattle.std.proofs.Common.{◌≡◌, ◌∙◌, sym, refl, ap, subst, ℕ, suc, ◌+◌, ◌<◌, ◌≤◌, List, [], ◌∷◌, ◌++◌, append_assoc, length, map, Vec, vec_len, vec_capacity, Result, Ok, Err, inr, IfErr, IfOk, MatchResult, arith}
-use Rattle.std.proofs.lemmas.List.{length-map}
+use Rattle.std.proofs.Common.{◌≡◌, ◌∙◌, sym, refl, ap, subst, ℕ, suc, ◌+◌, List, [], ◌∷◌, ◌++◌, length, map, Vec, vec_capacity, Result, Ok, Err, inr, IfErr, IfOk, MatchResult, arith}
 use Rattle.std.proofs.lemmas.List.Elements.{All-append, All-cons, All-head, All-nil, All-tail, All-weaker}
 use Rattle.std.proofs.lemmas.Slice.Zip.{AllZip-long}
 use Rattle.std.specs.List.{All, AllZip, enumerate_from, zip}
 use Rattle.rx_hub.specs.Hubs.{HubView}
-use Rattle.rx_mailbox.specs.Boxes.{Box, HasEachBye, Incoming, Outgoing, incoming}
+use Rattle.rx_mailbox.specs.Boxes.{Box, HasEachBye, Outgoing}
 use Rattle.rx_pump.specs.declared.call.Call.{Call}
 use Rattle.rx_pump.specs.declared.ended_desk.EndedDesk.{EndedDesk}
 use Rattle.rx_pump.specs.declared.out.Out.{Out}
 use Rattle.rx_pump.specs.declared.pump_end.PumpEnd.{PumpEnd}
-use Rattle.rx_pump.specs.declared.reply.Reply.{Reply}
 use Rattle.rx_pump.specs.Marks.{Marked}
 use Rattle.rx_pump.specs.Pumps.{AreSame, PumpView, place_of}
 use Rattle.rx_pump.specs.Sends.{with_bye}
@@ -26,7 +24,7 @@ use Rattle.rx_server.specs.Leaving.{AreRow, HasItsBoxes, HasLeft}
 use Rattle.rx_server.specs.Returning.{AreEmpty}
 use Rattle.rx_server.specs.Rooms.{AreRooms, HoldBoxes}
 use Rattle.rx_server.specs.Servers.{Closes, Fails, HaveSettled, IsEndOf, IsWhole, NamesBox, Reports, ServerView}
-use Rattle.rx_server.specs.Wirings.{Wiring, desks_of, drainer_of, drainers_of, leave_ports, ports_at, pump_of, pumps_of}
+use Rattle.rx_server.specs.Wirings.{Wiring, desks_of, drainer_of, ports_at, pump_of}
 use Rattle.rx_server.proofs.Desks.{bye-places, end-boxes}
 use Rattle.rx_server.proofs.Joining.{hubs-count, made-count, zip-count}
 use Rattle.rx_server.proofs.Returning.{names-same}
@@ -198,8 +196,12 @@ module _ {S Rest : Type 0} (acts : Acts S Rest) (server : ServerView S Rest) (wh
         reports = reports;
       }
   settled-or-not (Err fault) pumps drainers desks own p d k settled reports named =
-      inr ((pump_ends, pumped), (drain_ends, drained), names-same pumps (length server.pumps) drainers (length server.drainers) desks (length server.made) fault
-      (omega (arith, p, pumps-many acts server whole)) (omega (arith, d, drainers-many acts server whole)) (omega (arith, k, desks-many acts server whole)) named)
+      inr (
+        (pump_ends, pumped),
+        (drain_ends, drained),
+        names-same pumps (length server.pumps) drainers (length server.drainers) desks (length server.made) fault
+            (omega (arith, p, pumps-many acts server whole)) (omega (arith, d, drainers-many acts server whole)) (omega (arith, k, desks-many acts server whole)) named,
+      )
 
   -- the port by which a drainer is told to leave was not taken
   pub not-told : (fault : CloseFault) → NamesBox (length server.pumps) (length server.drainers) (length server.made) fault → Fails acts server fault

@@ -1,5 +1,5 @@
 -- What is left, thread by thread.
-use Rattle.std.proofs.Common.{◌≡◌, ◌∙◌, ◌<◌, ◌≤◌, refl, ap, sym, subst, ℕ, Option, Some, None, Result, Ok, Err, List, [], ◌∷◌, ◌++◌, length, length-append, map, reverse, take, slice_get, arith, IfErr, MatchOption, MatchResult}
+use Rattle.std.proofs.Common.{◌≡◌, ◌∙◌, ◌<◌, refl, ap, sym, subst, ℕ, Option, Some, None, Result, Ok, Err, List, [], ◌∷◌, ◌++◌, length, map, reverse, take, slice_get, arith, IfErr, MatchOption, MatchResult}
 use Rattle.std.proofs.Math.Seq.{take-append_seam}
 use Rattle.std.proofs.lemmas.List.{map_push, reverse-append, take-append-le}
 use Rattle.std.proofs.lemmas.Option.{slice_get_within}

@@ -1,5 +1,5 @@
 -- What came back of all boxes of a server, and what stands once they have settled.
-use Rattle.std.proofs.Common.{◌≡◌, ◌∙◌, sym, refl, ap, subst, ℕ, ◌<◌, ◌≤◌, List, [], ◌∷◌, ◌++◌, length, map, slice_get, Some, arith}
+use Rattle.std.proofs.Common.{◌≡◌, ◌∙◌, sym, refl, ap, subst, ℕ, ◌<◌, List, [], ◌∷◌, ◌++◌, length, map, slice_get, Some, arith}
 use Rattle.std.proofs.lemmas.List.{length-map}
 use Rattle.std.proofs.lemmas.List.Elements.{All-head, All-tail, All-weaker}
 use Rattle.std.proofs.lemmas.Option.{slice_get_within}
@@ -13,8 +13,8 @@ use Rattle.rx_pump.specs.declared.out.Out.{Out}
 use Rattle.rx_pump.specs.declared.pump_end.PumpEnd.{PumpEnd}
 use Rattle.rx_pump.specs.declared.reply.Reply.{Reply}
 use Rattle.rx_drain.specs.declared.drain_end.DrainEnd.{DrainEnd}
-use Rattle.rx_settling.specs.Parts.{AreOfOneBox, IsEmpty, PartsView, Receives, Settles, dealt, dealt_each, given}
-use Rattle.rx_settling.proofs.Gathered.{AllInboxes, AllPorts, dealt-all, dealt-inboxes, dealt-of, dealt_each-all, dealt_each-count, dealt_each-inboxes, dealt_each-of, empty-inboxes, empty-ports, given-all, given-count, given-ports, inboxes-of, inboxes_of, of-one-box, ports-of, ports-same, ports_of, received-none, settled-at, settled-came, settled-empty, settled-got}
+use Rattle.rx_settling.specs.Parts.{AreOfOneBox, PartsView, Receives, Settles, dealt, dealt_each, given}
+use Rattle.rx_settling.proofs.Gathered.{AllInboxes, AllPorts, dealt-all, dealt-inboxes, dealt-of, dealt_each-all, dealt_each-count, dealt_each-inboxes, dealt_each-of, empty-inboxes, empty-ports, given-all, given-count, given-ports, inboxes-of, inboxes_of, of-one-box, ports-of, ports-same, received-none, settled-at, settled-came, settled-empty, settled-got}
 use Rattle.rx_settling.proofs.Rows.{dealt-count}
 use Rattle.rx_server.specs.declared.rooms.Rooms.{Rooms}
 use Rattle.rx_server.specs.declared.settled_boxes.SettledBoxes.{SettledBoxes}

@@ -1,5 +1,5 @@
 -- A server at every moment.
-use Rattle.std.proofs.Common.{◌≡◌, ◌∙◌, refl, sym, ap, subst, ℕ, ◌+◌, ◌<◌, ◌≤◌, List, [], ◌∷◌, ◌++◌, append_assoc, append-nil, length, option_to_list, Option, None, Some, IfSome, vec_len, vec_capacity, arith}
+use Rattle.std.proofs.Common.{◌≡◌, ◌∙◌, refl, sym, ap, subst, ℕ, ◌+◌, ◌<◌, ◌≤◌, List, [], ◌++◌, append_assoc, append-nil, length, option_to_list, Option, None, Some, IfSome, arith}
 use Rattle.std.proofs.lemmas.List.Elements.{All-append, All-head, All-nil}
 use Rattle.std.specs.List.{All}
 use Rattle.rx_config.specs.declared.config.Config.{Config}

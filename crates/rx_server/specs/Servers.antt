@@ -152,20 +152,16 @@ module _ {S Rest : Type 0} where
     pub of_pumps : AllZip (λ end box. inbox_in box ≡ end.inbox) pumps boxes.subjects.items
     pub of_drainers : AllZip (λ end box. inbox_in box ≡ end.inbox) drainers boxes.drainers.items
     pub of_desks : All (AreRepliesOf boxes.replies.items) desks
-
     -- each is empty
     pub subjects_empty : All IsEmptied boxes.subjects.items
     pub drainers_empty : All IsEmptied boxes.drainers.items
     pub replies_empty : All IsEmptied boxes.replies.items
-
     -- to the subjects sent the desks and the drainers
     pub by_desks : All (λ desk. GotEach boxes.subjects.items desk.ports.items) desks
     pub by_drainers : All (λ end. GotEach boxes.subjects.items end.ports.items) drainers
-
     -- to the drainers sent the pumps, and the one that told them to leave
     pub to_drainers : All (λ end. GotEach boxes.drainers.items end.drainers.items) pumps
     pub to_leave : GotEach boxes.drainers.items leaves
-
     -- to the desks sent the pumps
     pub to_desks : All (λ end. GotEach boxes.replies.items end.replies.items) pumps
 
@@ -176,7 +172,6 @@ module _ {S Rest : Type 0} (acts : Acts S Rest) where
     pub marks : List (Marked S)
     pub pump_ends : List (PumpEnd S)
     pub drain_ends : List (DrainEnd S Rest)
-
     -- what the desks left that were not handed out
     pub finished : List (EndedDesk S)
     pub pumped : AllZip (λ pump x. pump_serving.Serves pump x.0 x.1) server.pumps (zip pump_ends marks)

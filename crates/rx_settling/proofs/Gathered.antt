@@ -150,9 +150,10 @@ module _ {B : Type 0} where
   empty-ports P senders [] [] count empty = tt
   empty-ports P senders [] (parts ∷ boxes) count empty = absurd (omega arith)
   empty-ports P senders (x ∷ xs) [] count empty = absurd (omega arith)
-  empty-ports P senders (x ∷ xs) (parts ∷ boxes) count empty =
-      (subst (λ (l : List (Outgoing B)). All (P x) l) (sym (All-head (IsEmpty senders) parts boxes empty).no_ports) (All-nil (P x)),
-      empty-ports P senders xs boxes (omega arith) (All-tail (IsEmpty senders) parts boxes empty))
+  empty-ports P senders (x ∷ xs) (parts ∷ boxes) count empty = (
+    subst (λ (l : List (Outgoing B)). All (P x) l) (sym (All-head (IsEmpty senders) parts boxes empty).no_ports) (All-nil (P x)),
+    empty-ports P senders xs boxes (omega arith) (All-tail (IsEmpty senders) parts boxes empty),
+  )
 
   -- one inbox more came back, of the box at its place
   pub placed-inboxes : (xs : List (Box B)) (place : ℕ) (inbox : Incoming B) (boxes : List (PartsView B)) → slice_get xs place ≡ Some inbox.box

@@ -1,4 +1,4 @@
-use Rattle.std.proofs.Common.{◌≡◌, ◌∙◌, ◌+◌, ◌<◌, [], ◌∷◌, ◌++◌, sym, ap, subst, length, map, append_assoc, List, arith}
+use Rattle.std.proofs.Common.{◌≡◌, ◌∙◌, ◌<◌, [], ◌∷◌, ◌++◌, sym, ap, subst, length, map, append_assoc, List, arith}
 use Rattle.std.proofs.lemmas.Fn.{FoldsTo-push}
 use Rattle.std.proofs.lemmas.List.{map_push}
 use Rattle.std.specs.List.{All}
@@ -46,7 +46,8 @@ loop-desk-preserved g c =
           c.in_default.ensures ∙ ap (dealt c.in-Some.desk.ports.items) before.ports
           ∙ sym (dealt_each-more (map ports_of c.loop-desk.yielded) c.in-Some.desk.ports.items c.args.subjects.now.items)
           ∙ ap (λ (rows : List (List _)). dealt_each rows c.args.subjects.now.items) (sym (map_push ports_of c.loop-desk.yielded c.in-Some.desk));
-      inboxes = FoldsTo-push ReturnsInbox c.args.replies.now.items c.loop-desk.yielded c.loop-desk.replies.items c.in-Some.desk c.put_inbox.new.boxes.items before.inboxes
-          (subst (λ n. LacksInbox n c.loop-desk.replies.items) number c.in-Ok.ensures.once,
-          c.in-Ok.ensures.put ∙ ap (λ n. placed n c.in-Some.desk.inbox c.loop-desk.replies.items) number);
+      inboxes = FoldsTo-push ReturnsInbox c.args.replies.now.items c.loop-desk.yielded c.loop-desk.replies.items c.in-Some.desk c.put_inbox.new.boxes.items before.inboxes (
+        subst (λ n. LacksInbox n c.loop-desk.replies.items) number c.in-Ok.ensures.once,
+        c.in-Ok.ensures.put ∙ ap (λ n. placed n c.in-Some.desk.inbox c.loop-desk.replies.items) number,
+      );
     }

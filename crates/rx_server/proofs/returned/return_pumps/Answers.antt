@@ -1,4 +1,4 @@
-use Rattle.std.proofs.Common.{◌≡◌, ◌∙◌, ◌+◌, ◌<◌, ◌≤◌, [], ◌∷◌, ◌++◌, sym, ap, subst, length, length-append, map, append_assoc, List, arith}
+use Rattle.std.proofs.Common.{◌≡◌, ◌∙◌, [], ◌∷◌, ◌++◌, sym, ap, subst, length, length-append, map, append_assoc, List, arith}
 use Rattle.std.proofs.lemmas.List.{length-map, map_push}
 use Rattle.std.specs.List.{All}
 use Rattle.std.specs.Vec.Iter.{into_iter_items}
@@ -8,7 +8,7 @@ use Rattle.rx_settling.specs.Parts.{dealt, dealt_each, given, placed}
 use Rattle.rx_settling.proofs.Gathered.{dealt_each-count, dealt_each-more, given-count, given-more}
 use Rattle.rx_server.specs.declared.report.SubjectReport.{SubjectReport}
 use Rattle.rx_server.specs.Servers.{report_of}
-use Rattle.rx_server.proofs.Returning.{All-here, names-drainer, names-pump, names-worker}
+use Rattle.rx_server.proofs.Returning.{All-here, names-drainer, names-worker}
 use Rattle.rx_server.proofs.returned.return_pumps.Goals as goal
 
 pub put_inbox-requires : goal.put_inbox-requires

@@ -1,12 +1,11 @@
-use Rattle.std.proofs.Common.{◌≡◌, ◌∙◌, ◌+◌, ◌<◌, [], sym, refl, ap, subst, length, map, vec_len, Vec, arith}
+use Rattle.std.proofs.Common.{◌≡◌, ◌∙◌, [], sym, refl, ap, subst, length, map, vec_len, Vec, arith}
 use Rattle.std.proofs.lemmas.List.Elements.{All-nil}
-use Rattle.std.specs.Arc.{arc_value}
 use Rattle.std.specs.List.{All, zip}
 use Rattle.std.specs.Vec.Iter.{into_iter_items}
 use Rattle.rx_config.specs.declared.config.Config.{Config}
 use Rattle.rx_drain.specs.Drainers.{DrainerView}
-use Rattle.rx_server.specs.Servers.{IsEndOf, IsServerOf, IsWhole, server_of}
-use Rattle.rx_server.specs.Wirings.{IsWired, desk_of, desks_of, drainer_of, pump_of}
+use Rattle.rx_server.specs.Servers.{IsEndOf, IsWhole, server_of}
+use Rattle.rx_server.specs.Wirings.{IsWired, desk_of, drainer_of, pump_of}
 use Rattle.rx_server.proofs.Joining.{Rooms-as, hubs-count, made-count, mapped-count, zip-count}
 use Rattle.rx_server.proofs.server.start.Goals as goal
 
@@ -68,8 +67,7 @@ returns g c =
     let hubs = c.in_ok-wired.ensures.1 in
     let wired = c.in_ok-wired.ensures.2 in
     let made_items = ap (λ (list : Vec _ _). list.items) (c.of-made.ensures ∙ c.run.ensures.others.1) in
-    let desks_are = ap (λ (list : Vec _ _). list.items) c.of-made.ensures ∙ sym c.into_ends-leaves.ensures.desks in
-    (
+    let desks_are = ap (λ (list : Vec _ _). list.items) c.of-made.ensures ∙ sym c.into_ends-leaves.ensures.desks in (
       w,
       hubs,
       record {

@@ -57,7 +57,7 @@ invariant_of-self g c =
     let more = c.finish_desks.ensures s.made.value.items (subst (All (IsDeskOf s.made.value.items)) (sym c.into_iter.ensures.rest) went) in
     let whole = whole-after server c.self.invariant.0 (into_iter_items s.desks) [] more.0 (sym (append-nil (into_iter_items s.desks))) more.2 in (
       subst (λ (kept : List _). IsWhole (server_of (arc_value s.config) s.running.pumps.items (map (λ drainer. drainer.handle.promise.0.value) s.running.drainers.items) s.leaves.items s.made.value.items (into_iter_items c.take_all.new.left) kept)) (sym more.1)
-      (subst (λ (desks : List (DeskView _)). IsWhole (server_of (arc_value s.config) s.running.pumps.items (map (λ drainer. drainer.handle.promise.0.value) s.running.drainers.items) s.leaves.items s.made.value.items desks (s.rooms.desks.items ++ more.0))) (sym c.take_all.ensures.none) whole),
+          (subst (λ (desks : List (DeskView _)). IsWhole (server_of (arc_value s.config) s.running.pumps.items (map (λ drainer. drainer.handle.promise.0.value) s.running.drainers.items) s.leaves.items s.made.value.items desks (s.rooms.desks.items ++ more.0))) (sym c.take_all.ensures.none) whole),
       rooms-kept _ _ _ _ _ s.rooms (record {
         desks = c.finish_desks.new.ended;
         leaves = s.rooms.leaves;

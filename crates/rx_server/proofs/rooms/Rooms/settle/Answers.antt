@@ -1,14 +1,13 @@
-use Rattle.std.proofs.Common.{◌≡◌, ◌∙◌, ◌<◌, ◌≤◌, ◌++◌, sym, ap, refl, subst, ℕ, List, length, map, arith}
+use Rattle.std.proofs.Common.{◌≡◌, ◌∙◌, ◌<◌, ◌++◌, sym, ap, subst, length, map, arith}
 use Rattle.std.proofs.lemmas.List.Elements.{All-weaker}
 use Rattle.std.proofs.lemmas.Option.{slice_get_within}
 use Rattle.std.proofs.lemmas.Result.{err_from_is_err_and}
-use Rattle.std.specs.List.{All, FoldsTo}
+use Rattle.std.specs.List.{FoldsTo}
 use Rattle.rx_pump.specs.declared.ended_desk.EndedDesk.{EndedDesk}
 use Rattle.rx_pump.specs.declared.pump_end.PumpEnd.{PumpEnd}
 use Rattle.rx_drain.specs.declared.drain_end.DrainEnd.{DrainEnd}
 use Rattle.rx_settling.specs.Parts.{dealt, dealt_each, given}
 use Rattle.rx_settling.proofs.Gathered.{dealt_each-count, given-count}
-use Rattle.rx_settling.proofs.Rows.{dealt-count}
 use Rattle.rx_server.specs.Leaving.{AreRow, HasItsBoxes}
 use Rattle.rx_server.specs.Returning.{ReturnsInbox, number_of}
 use Rattle.rx_server.proofs.Returning.{All-back, All-front, FoldsTo-append, desk-number, desk-row, names-drainer, names-same, returns-count}

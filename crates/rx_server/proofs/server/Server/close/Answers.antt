@@ -1,8 +1,7 @@
-use Rattle.std.proofs.Common.{◌≡◌, ◌∙◌, ◌++◌, ◌<◌, sym, ap, subst, List, Vec, map, length, length-append, vec_len, vec_capacity, inl, IfOk, arith}
+use Rattle.std.proofs.Common.{◌∙◌, ◌++◌, ◌<◌, sym, ap, subst, List, Vec, map, length, length-append, inl, IfOk, arith}
 use Rattle.std.proofs.lemmas.List.{length-map}
 use Rattle.std.proofs.lemmas.Result.{err_from_is_err_and}
 use Rattle.std.specs.List.{All, AllZip}
-use Rattle.rx_pump.specs.Desks.{DeskView}
 use Rattle.rx_pump.specs.Pumps.{PumpView}
 use Rattle.rx_pump.specs.Sends.{with_bye}
 use Rattle.rx_pump.specs.Serving as pump_serving
@@ -31,16 +30,15 @@ settle-requires g c =
     let start = parts.result.3 in
     let left = c.join.new.rooms in
     let others = c.in_ok-join.ensures.others in
-    let more = c.finish_desks.ensures self.made (subst (All (IsDeskOf self.made)) (sym parts.ensures.desks) (desks-own self whole)) in
-    (
+    let more = c.finish_desks.ensures self.made (subst (All (IsDeskOf self.made)) (sym parts.ensures.desks) (desks-own self whole)) in (
       whole.wiring,
       has-left g.S.Sink.acts self whole start left c.args.ended.items more.0 parts.ensures.rooms others.returned others.settled others.subjects others.put_away
-      (ap (λ (list : Vec _ _). list.items) others.leaves ∙ c.in-Ok.ensures.ended.0
-      ∙ ap (λ (l : List _). l ++ map with_bye parts.result.1.items) parts.ensures.rooms.no_leaves ∙ ap (map with_bye) parts.ensures.leaves)
-      (ap (λ (list : Vec _ _). list.items) others.desks ∙ more.1 ∙ ap (λ (l : List _). l ++ more.0) parts.ensures.kept)
-      more.2 c.requires
-      (subst (λ (pumps : List (PumpView _)). AllZip pump_serving.HasServed pumps left.pumps.items) parts.ensures.pumps c.in_ok-join.ensures.pumped)
-      (subst (λ (drainers : List (DrainerView _ _)). AllZip (drainer_serving.HasServed g.S.Sink.acts) drainers left.drainers.items) parts.ensures.drainers c.in_ok-join.ensures.drained),
+          (ap (λ (list : Vec _ _). list.items) others.leaves ∙ c.in-Ok.ensures.ended.0
+          ∙ ap (λ (l : List _). l ++ map with_bye parts.result.1.items) parts.ensures.rooms.no_leaves ∙ ap (map with_bye) parts.ensures.leaves)
+          (ap (λ (list : Vec _ _). list.items) others.desks ∙ more.1 ∙ ap (λ (l : List _). l ++ more.0) parts.ensures.kept)
+          more.2 c.requires
+          (subst (λ (pumps : List (PumpView _)). AllZip pump_serving.HasServed pumps left.pumps.items) parts.ensures.pumps c.in_ok-join.ensures.pumped)
+          (subst (λ (drainers : List (DrainerView _ _)). AllZip (drainer_serving.HasServed g.S.Sink.acts) drainers left.drainers.items) parts.ensures.drainers c.in_ok-join.ensures.drained),
     )
 
 pub returns-in-Ok : goal.returns-in-Ok
@@ -89,6 +87,8 @@ returns-in_err-join g c =
     let fault = c.in_err-join.field-0.0 in
     let p = err_from_is_err_and c.from_residual.result c.from_residual.ensures.1 in
     rw (p.1, p.2)
-    (inl (c.in_err-join.ensures.failed.0,
-    subst (λ (pumps : List (PumpView _)). IsFirst g.S.Sink.acts pumps c.args.self.drainers fault.thread fault.index) parts.ensures.pumps
-    (subst (λ (drainers : List (DrainerView _ _)). IsFirst g.S.Sink.acts parts.result.0.pumps.items drainers fault.thread fault.index) parts.ensures.drainers c.in_err-join.ensures.failed.1)))
+    (inl (
+      c.in_err-join.ensures.failed.0,
+      subst (λ (pumps : List (PumpView _)). IsFirst g.S.Sink.acts pumps c.args.self.drainers fault.thread fault.index) parts.ensures.pumps
+          (subst (λ (drainers : List (DrainerView _ _)). IsFirst g.S.Sink.acts parts.result.0.pumps.items drainers fault.thread fault.index) parts.ensures.drainers c.in_err-join.ensures.failed.1),
+    ))
