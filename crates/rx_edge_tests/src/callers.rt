@@ -83,21 +83,11 @@ impl<S: Drop> Caller<S> {
     }
 
     // Emits the item of this one byte into each of so many subjects, which admit it.
-    fn emit_to_each(
-        &mut self,
-        rt: &(impl Wait + Abort),
-        heap: &Heap,
-        subjects: usize,
-        byte: u8,
-    )
+    fn emit_to_each(&mut self, rt: &(impl Wait + Abort), heap: &Heap, subjects: usize, byte: u8)
         ensures { KeepsDesk self.old.desk self.new.desk }
     {
         for subject in 0..subjects {
-            expect_answer(
-                rt,
-                self.emit(rt, heap, subject, byte),
-                Ok(Answer::Admitted),
-            );
+            expect_answer(rt, self.emit(rt, heap, subject, byte), Ok(Answer::Admitted));
         }
     }
 
@@ -112,7 +102,11 @@ impl<S: Drop> Caller<S> {
     }
 
     // The list of this one desk, ended.
-    pub(crate) fn finish_alone(self, rt: &(impl Wait + Abort), heap: &Heap) -> Vec<EndedDesk<S>, Heap>
+    pub(crate) fn finish_alone(
+        self,
+        rt: &(impl Wait + Abort),
+        heap: &Heap,
+    ) -> Vec<EndedDesk<S>, Heap>
         ensures { (made : List (DeskView S)) → IsDeskOf made self.desk → All (IsEndOf made) result.items }
     {
         vec![in copy(rt, heap); self.finish(rt)].expect(rt, "memory")

@@ -1,7 +1,7 @@
 //! Servers by their library calls: two desks that emit at the same time, two drainers that are at work at the same time,
 //! and a run with each growth refused in its turn.
 
-ghost use Rattle.std.specs.Prelude.{◌≡◌, List};
+ghost use Rattle.std.specs.Prelude.{List};
 ghost use Rattle.std.specs.List.{All};
 ghost use Rattle.rx_pump.specs.Desks.{DeskView, KeepsDesk};
 ghost use Rattle.rx_server.specs.Servers.{IsDeskOf, IsEndOf};
@@ -62,7 +62,11 @@ pub(crate) fn config_of(rt: &impl Host, heap: &Heap, text: &[u8]) -> Config {
 }
 
 // A server of the configuration that this text says.
-pub(crate) fn started<S: Sink + Send + 'static>(rt: &impl Host, heap: &Heap, text: &[u8]) -> Server<S>
+pub(crate) fn started<S: Sink + Send + 'static>(
+    rt: &impl Host,
+    heap: &Heap,
+    text: &[u8],
+) -> Server<S>
 where
     S::Rest: Send + 'static,
 {
@@ -124,8 +128,12 @@ fn emit_both(
 {
     let (first, second) = join(
         rt,
-        || emit_all(rt, heap, first, 1, bytes),
-        || emit_all(rt, heap, second, 1, bytes),
+        || -> EndedDesk<MemorySink>
+            ensures { (made : List (DeskView MemorySink)) → IsDeskOf made first.desk → IsEndOf made result }
+        { emit_all(rt, heap, first, 1, bytes) },
+        || -> EndedDesk<MemorySink>
+            ensures { (made : List (DeskView MemorySink)) → IsDeskOf made second.desk → IsEndOf made result }
+        { emit_all(rt, heap, second, 1, bytes) },
     );
     vec![in copy(rt, heap); first, second].expect(rt, "memory")
 }
