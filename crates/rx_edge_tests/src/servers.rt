@@ -77,13 +77,11 @@ where
 }
 
 // The report of a server that is closed, whose desks have ended.
-pub(crate) fn closed<S: Sink + Send + 'static>(
-    rt: &impl Host,
+pub(crate) fn closed<S: Sink>(
+    rt: &(impl Threads + Wait + Abort),
     server: Server<S>,
     ended: Vec<EndedDesk<S>, Heap>,
 ) -> Report<S>
-where
-    S::Rest: Send + 'static,
     requires { All (IsEndOf server.made) ended.items }
 {
     match server.close(rt, ended) {
