@@ -1,7 +1,7 @@
 //! Servers by their library calls: two desks that emit at the same time, two drainers that are at work at the same time,
 //! and a run with each growth refused in its turn.
 
-ghost use Rattle.std.specs.Prelude.{◌≡◌, List};
+ghost use Rattle.std.specs.Prelude.{List};
 ghost use Rattle.std.specs.List.{All};
 ghost use Rattle.rx_pump.specs.Desks.{DeskView, KeepsDesk};
 ghost use Rattle.rx_server.specs.Servers.{IsDeskOf, IsEndOf};
@@ -77,13 +77,11 @@ where
 }
 
 // The report of a server that is closed, whose desks have ended.
-pub(crate) fn closed<S: Sink + Send + 'static>(
-    rt: &impl Host,
+pub(crate) fn closed<S: Sink>(
+    rt: &(impl Threads + Wait + Abort),
     server: Server<S>,
     ended: Vec<EndedDesk<S>, Heap>,
 ) -> Report<S>
-where
-    S::Rest: Send + 'static,
     requires { All (IsEndOf server.made) ended.items }
 {
     match server.close(rt, ended) {
@@ -128,8 +126,12 @@ fn emit_both(
 {
     let (first, second) = join(
         rt,
-        || emit_all(rt, heap, first, 1, bytes),
-        || emit_all(rt, heap, second, 1, bytes),
+        || -> EndedDesk<MemorySink>
+            ensures { (made : List (DeskView MemorySink)) → IsDeskOf made first.desk → IsEndOf made result }
+        { emit_all(rt, heap, first, 1, bytes) },
+        || -> EndedDesk<MemorySink>
+            ensures { (made : List (DeskView MemorySink)) → IsDeskOf made second.desk → IsEndOf made result }
+        { emit_all(rt, heap, second, 1, bytes) },
     );
     vec![in copy(rt, heap); first, second].expect(rt, "memory")
 }

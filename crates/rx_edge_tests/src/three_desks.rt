@@ -1,6 +1,6 @@
 //! Three desks on three threads that call two subjects, and a desk that is not handed in.
 
-ghost use Rattle.std.specs.Prelude.{◌≡◌, List};
+ghost use Rattle.std.specs.Prelude.{List};
 ghost use Rattle.std.specs.List.{All};
 ghost use Rattle.rx_pump.specs.Desks.{DeskView, KeepsDesk};
 ghost use Rattle.rx_server.specs.Servers.{IsDeskOf, IsEndOf};
@@ -82,8 +82,12 @@ fn emit_by_pair(
 {
     join(
         rt,
-        || join_and_emit(rt, heap, come, first),
-        || join_and_emit(rt, heap, come, second),
+        || -> EndedDesk<MemorySink>
+            ensures { (made : List (DeskView MemorySink)) → IsDeskOf made first.desk → IsEndOf made result }
+        { join_and_emit(rt, heap, come, first) },
+        || -> EndedDesk<MemorySink>
+            ensures { (made : List (DeskView MemorySink)) → IsDeskOf made second.desk → IsEndOf made result }
+        { join_and_emit(rt, heap, come, second) },
     )
 }
 
@@ -101,8 +105,13 @@ fn emit_by_three(
     let third = caller_of(rt, server);
     let (first, (second, third)) = join(
         rt,
-        || join_and_emit(rt, heap, come, first),
-        || emit_by_pair(rt, heap, come, second, third),
+        || -> EndedDesk<MemorySink>
+            ensures { (made : List (DeskView MemorySink)) → IsDeskOf made first.desk → IsEndOf made result }
+        { join_and_emit(rt, heap, come, first) },
+        || -> (EndedDesk<MemorySink>, EndedDesk<MemorySink>)
+            ensures { ((made : List (DeskView MemorySink)) → IsDeskOf made second.desk → IsEndOf made result.0)
+                × ((made : List (DeskView MemorySink)) → IsDeskOf made third.desk → IsEndOf made result.1) }
+        { emit_by_pair(rt, heap, come, second, third) },
     );
     vec![in copy(rt, heap); first, second, third].expect(rt, "memory")
 }

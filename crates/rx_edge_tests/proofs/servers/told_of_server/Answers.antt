@@ -5,4 +5,4 @@ use Rattle.rx_edge_tests.proofs.servers.told_of_server.Goals as goal
 pub closed-requires : goal.closed-requires
 closed-requires g c =
     let one = c.caller_of-caller in
-    c.call_twice-answers.ensures one.new.server.made (subst (λ (l : List _). IsDeskOf l one.result.desk) (sym one.ensures.same) one.ensures.own)
+    c.call_twice-ended.ensures one.new.server.made (subst (λ (l : List _). IsDeskOf l one.result.desk) (sym one.ensures.same) one.ensures.own)
