@@ -258,8 +258,12 @@ fn go_round(rt: &impl Host, heap: &Heap, callers: Callers, round: u32) -> Result
     } = callers;
     let (first, second) = join(
         rt,
-        || emit_items(rt, heap, first, b'p', round),
-        || emit_items(rt, heap, second, b'q', round),
+        || -> Caller<Ledger>
+            ensures { KeepsDesk first.desk result.desk }
+        { emit_items(rt, heap, first, b'p', round) },
+        || -> Caller<Ledger>
+            ensures { KeepsDesk second.desk result.desk }
+        { emit_items(rt, heap, second, b'q', round) },
     );
     act_all(rt, heap, &mut third, round)?;
     Ok(Callers {

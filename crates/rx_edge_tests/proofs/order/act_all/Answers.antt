@@ -5,4 +5,4 @@ pub loop-place-init : goal.loop-place-init
 loop-place-init g c = keeps-none c.args.caller.now.desk
 
 pub loop-place-preserved : goal.loop-place-preserved
-loop-place-preserved g c = keeps-then c.args.caller.now.desk c.loop-place.caller.desk c.call-_answer.new.self.desk c.loop-place.invariant c.call-_answer.ensures
+loop-place-preserved g c = keeps-then c.args.caller.now.desk c.loop-place.caller.desk c.call-answer.new.self.desk c.loop-place.invariant c.call-answer.ensures
