@@ -18,8 +18,8 @@ loop-round-preserved g c =
     let after = c.in_ok-callers.callers in
     record {
       first = keeps-then c.args.callers.first.desk now.first.desk after.first.desk before.first c.in_ok-callers.ensures.0;
-      second = keeps-then c.args.callers.second.desk now.second.desk after.second.desk before.second c.in_ok-callers.ensures.1.0;
-      third = keeps-then c.args.callers.third.desk now.third.desk after.third.desk before.third c.in_ok-callers.ensures.1.1;
+      second = keeps-then c.args.callers.second.desk now.second.desk after.second.desk before.second c.in_ok-callers.ensures.1;
+      third = keeps-then c.args.callers.third.desk now.third.desk after.third.desk before.third c.in_ok-callers.ensures.2;
     }
 
 -- each is of the server of its desk
