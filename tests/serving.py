@@ -1,0 +1,77 @@
+"""A server in a folder of its own, for the programs beside this one."""
+
+import os
+import shutil
+import subprocess
+import sys
+import tempfile
+import time
+
+# How long anything may take, in seconds.
+MOST = 15
+
+NAME = os.path.basename(sys.argv[0])
+
+
+def want(what, got, wanted):
+    """Ends the program where these differ. Of two lists it tells the first place at which they do."""
+    if got == wanted:
+        return
+    if isinstance(got, list) and isinstance(wanted, list):
+        at = next((i for i, (a, b) in enumerate(zip(got, wanted)) if a != b), min(len(got), len(wanted)))
+        what = f"{what}, at {at} of {len(got)} and {len(wanted)}"
+        got, wanted = got[at : at + 1], wanted[at : at + 1]
+    sys.exit(f"{NAME}: {what}: {got!r}, and not {wanted!r}")
+
+
+def program(words):
+    """Returns the path of the `rxline` that is tried: the first word, else the one that the gate built."""
+    path = os.path.abspath(words[0] if words else "crates/rxline/out/rxline")
+    if not os.access(path, os.X_OK):
+        sys.exit(f"{NAME}: there is no {path} (cd crates/rxline && rt run < stdin)")
+    return path
+
+
+class Server:
+    """A server of a configuration, begun by these words of a shell."""
+
+    def __init__(self, rxline, config, begun_by='exec "$@"'):
+        self.folder = tempfile.mkdtemp()
+        self.path = f"{self.folder}/s.sock"
+        self.told_in = f"{self.folder}/told"
+        with open(f"{self.folder}/s.toml", "w", encoding="ascii") as file:
+            file.write(config)
+        words = ["sh", "-c", begun_by, "", rxline, "serve", f"{self.folder}/s.toml", self.path]
+        with open(self.told_in, "wb") as faults:
+            self.process = subprocess.Popen(words, stdout=subprocess.PIPE, stderr=faults)
+
+    def __enter__(self):
+        self.expect([self.listening()])
+        return self
+
+    def __exit__(self, *_):
+        self.process.kill()
+        self.process.wait()
+        shutil.rmtree(self.folder)
+
+    def listening(self):
+        """Returns the line that it tells once it listens."""
+        return f"rxline: listening on {self.path}"
+
+    def told(self):
+        """Returns the lines of its standard error so far."""
+        with open(self.told_in, encoding="utf-8") as faults:
+            return faults.read().splitlines()
+
+    def expect(self, wanted):
+        """Waits until its standard error has these lines."""
+        ends = time.monotonic() + MOST
+        while self.told() != wanted and time.monotonic() < ends and self.process.poll() is None:
+            time.sleep(0.01)
+        want("standard error", self.told(), wanted)
+
+    def report(self):
+        """Waits until it has ended well, and returns its report."""
+        reported, _ = self.process.communicate(timeout=MOST)
+        want("the status", self.process.returncode, 0)
+        return reported
