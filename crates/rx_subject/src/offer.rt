@@ -1,8 +1,7 @@
-ghost use Rattle.std.specs.Prelude.{◌≡◌, IfOk};
+ghost use Rattle.std.specs.Prelude.{◌≡◌};
 ghost use Rattle.rx_subject.specs.Offers.{most_given};
 
-use rx_heap::Memory;
-use rx_note::{Item, Note, copy_of};
+use rx_note::{Item, Note};
 
 /// What an accepted note offers to every observer: first the item, then the end.
 #[derive(Drop, Debug, PartialEq, Eq)]
@@ -17,17 +16,5 @@ impl Offer {
         ensures { result ≡ most_given self.now }
     {
         usize::from(self.item.is_some()) + usize::from(self.end.is_some())
-    }
-
-    /// An equal offer, whose texts are copies.
-    pub fn copy(&self) -> Result<Offer, Memory>
-        ensures { IfOk result (λ offer. offer ≡ self.now) }
-    {
-        let item = match &self.item {
-            Some(item) => Some(item.copy()?),
-            None => None,
-        };
-        let end = copy_of(&self.end)?;
-        Ok(Offer { item, end })
     }
 }
