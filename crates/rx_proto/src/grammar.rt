@@ -13,10 +13,11 @@ pub const MAX_LINE: usize = 1100;
 const LF: u8 = b'\n';
 
 /// What these bytes mean, be they a line of a session or of a script, where they have no LF and are no more than a line may
-/// have. Refused in the order `Long`, `Syntax`. It takes no memory, and tests the commonest line first.
+/// have. Refused in the order `Long`, `Syntax`. It takes no memory, so that who asks may look for the subject before a text is
+/// made, and tests the commonest line first.
 #[inline] // once for each line that a session reads
 #[tactic(auto, unfolding(crate::specs::Reading::line_read))]
-pub(crate) fn read_line_without_lf(line: &[u8]) -> Result<Line<'_>, BadLine>
+pub fn read_line_without_lf(line: &[u8]) -> Result<Line<'_>, BadLine>
     requires within { length line.now ≤ 1100 }
     requires no_lf { HasNoLf line.now }
     ensures { Gives meaning_of result (line_read line.now) }

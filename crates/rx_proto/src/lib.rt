@@ -24,11 +24,11 @@ mod writing;
 
 pub use command::Command;
 pub use decimal::{MAX_DIGITS, write_digits};
-pub use grammar::{MAX_LINE, read_script_without_lf};
+pub use grammar::{MAX_LINE, read_line_without_lf, read_script_without_lf};
 pub use line::Line;
 pub use line_error::{BadLine, LineError};
 pub use name::Name;
-pub use parsing::{parse_line, parse_line_without_lf, parse_script};
+pub use parsing::{parse_line, parse_script};
 pub use printing::{item_origin, refusal_line, reply_line};
 pub use response::Response;
 pub use script_line::ScriptLine;

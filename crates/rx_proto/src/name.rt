@@ -38,8 +38,8 @@ impl Name {
         }
     }
 
-    // The name of these bytes, which are one.
-    pub(crate) fn of(bytes: &[u8]) -> Name
+    /// The name of these bytes, which are one.
+    pub fn of(bytes: &[u8]) -> Name
         requires { IsName bytes.now }
         ensures { result ≡ bytes.now }
     {

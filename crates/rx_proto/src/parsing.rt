@@ -18,8 +18,8 @@ pub fn parse_line(alloc: &Heap, line: &[u8]) -> Result<Command, LineError>
     }
 }
 
-/// The same of a line that was found by its LF and is no longer than a line may be: no LF is searched.
-pub fn parse_line_without_lf(alloc: &Heap, line: &[u8]) -> Result<Command, LineError>
+// The same of a line that has no LF and is no longer than a line may be.
+fn parse_line_without_lf(alloc: &Heap, line: &[u8]) -> Result<Command, LineError>
     requires within { length line.now ≤ 1100 }
     requires no_lf { HasNoLf line.now }
     ensures { Parses HoldsText result (session_read line.now) }
