@@ -29,10 +29,10 @@ module _ {D W : Type 0} (p : Parties D W) where
   -- a line after which the session goes on
   goes_among : (reading : Result Command BadLine) (at after : Place D W) (d : D) → Goes p reading at after → (d' : D) × Goes (among p) reading (moved at d) (moved after d')
   goes_among (Ok (Pub name text)) at after d (inl e) = (e.1, inl (e.0, e.1, (at.desk, e.2), ap (λ (a : Place D W). moved a e.1) e.3))
-  goes_among (Ok (Pub name text)) at after d (inr l) = (d, inr (ap (λ (a : Place D W). moved a d) l))
+  goes_among (Ok (Pub name text)) at after d (inr l) = (d, inr ((at.desk, l.0), ap (λ (a : Place D W). moved a d) l.1))
   goes_among (Ok (End name)) at after d e = (e.1, (e.0, e.1, (at.desk, e.2), ap (λ (a : Place D W). moved a e.1) e.3))
   goes_among (Ok (Fail name text)) at after d (inl e) = (e.1, inl (e.0, e.1, (at.desk, e.2), ap (λ (a : Place D W). moved a e.1) e.3))
-  goes_among (Ok (Fail name text)) at after d (inr l) = (d, inr (ap (λ (a : Place D W). moved a d) l))
+  goes_among (Ok (Fail name text)) at after d (inr l) = (d, inr ((at.desk, l.0), ap (λ (a : Place D W). moved a d) l.1))
   goes_among (Ok (Sub name policy)) at after d c = (after.desk, (c.0, c.1, c.2, (at.desk, c.3), c.4, c.5))
   goes_among (Ok (Hello number)) at after d e = (d, ap (λ (a : Place D W). moved a d) e)
   goes_among (Ok Quit) at after d c = absurd c

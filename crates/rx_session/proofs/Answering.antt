@@ -1,27 +1,29 @@
 -- One line of a session: what each call of its code does, from the place where the session stands.
-use Rattle.std.proofs.Common.{◌≡◌, ◌<◌, ℕ, List, [], ◌++◌, length, Option, None, Some, MatchOption, Result, Ok, Err, refl, sym, ap, subst, ◌∙◌, append_assoc, inl, inr}
+use Rattle.std.proofs.Common.{◌≡◌, ◌<◌, ◌⊎◌, ℕ, List, [], ◌++◌, length, Option, None, Some, MatchOption, Result, Ok, Err, refl, sym, ap, subst, ◌∙◌, append_assoc, inl, inr}
 use Rattle.std.proofs.KnownBytes.{Appends-trans}
 use Rattle.std.specs.Io.KnownBytes.{Appends}
+use Rattle.std.specs.Prelude.{IfOk}
 use Rattle.rx_note.specs.Choices.{Choice}
 use Rattle.rx_note.specs.declared.note.Note.{Note}
-use Rattle.rx_proto.proofs.Exact.{session_exact}
+use Rattle.rx_proto.proofs.Exact.{read-spelled, session_exact}
 use Rattle.rx_proto.specs.Bytes.{AppendsPrefix}
-use Rattle.rx_proto.specs.Printing.{reply_line, word_of_fault}
-use Rattle.rx_proto.specs.Reading.{HoldsText, Parses, session_read}
+use Rattle.rx_proto.specs.Grammar.{IsSpelled}
+use Rattle.rx_proto.specs.Printing.{reply_line, response_to_fault}
+use Rattle.rx_proto.specs.Reading.{◌>>=◌, Gives, in_session, line_read, meaning_of, session_read}
 use Rattle.rx_proto.specs.Versions.{response_to_hello, version_after}
 use Rattle.rx_proto.specs.declared.command.Command.{Command}
-use Rattle.rx_proto.specs.declared.command.Command.TheVariants.{Pub, End, Fail, Sub, Hello, Quit}
+use Rattle.rx_proto.specs.declared.command.Command.TheVariants.{Sub, Hello, Quit}
+use Rattle.rx_proto.specs.declared.line.Line.{Line}
 use Rattle.rx_proto.specs.declared.line_error.BadLine.{BadLine}
 use Rattle.rx_proto.specs.declared.line_error.BadLine.TheVariants as bad
-use Rattle.rx_proto.specs.declared.line_error.LineError.{LineError}
-use Rattle.rx_proto.specs.declared.line_error.LineError.TheVariants.{Long, Syntax, Memory}
 use Rattle.rx_proto.specs.declared.response.Response.{Response}
 use Rattle.rx_proto.specs.declared.response.Response.TheVariants.{Done, Refused}
 use Rattle.rx_proto.specs.declared.version.Version.{Version}
+use Rattle.rx_proto.specs.declared.word.Word.{Word}
 use Rattle.rx_session.specs.Lines.{TakesLine, without_cr}
-use Rattle.rx_session.specs.Sessions.{Parties, Place, Outcome, answered, Emits, Goes}
+use Rattle.rx_session.specs.Sessions.{Parties, Place, Outcome, answered, Emits, Goes, Lacks}
 use Rattle.rx_session.specs.Steps.{Advances, Goes as Steps}
-use Rattle.rx_session.specs.Turns.{hands, Tells, Quits, IsAt, Comes, Carries}
+use Rattle.rx_session.specs.Turns.{asked_by, hands, Tells, Quits, IsAt, HasNoText, Comes, Carries}
 use Rattle.rx_session.specs.declared.follow.Follow.{Follow}
 use Rattle.rx_session.specs.declared.follow.Follow.TheVariants.{Taken, Back}
 use Rattle.rx_session.specs.declared.input_end.InputEnd.{InputEnd}
@@ -162,38 +164,41 @@ module _ {D W : Type 0} (p : Parties D W) where
   carries reading at says (On writer) desk version held goes comes = (comes.0, goes comes.0 comes.1, comes.2)
   carries reading at says (Over end back) desk version held goes comes = inr (inr (comes.0, goes comes.0 comes.1, comes.2))
 
-  -- the same of a line that was parsed
-  pub carries_parsed : (parsed : Result Command LineError) (command : Command) (reading : Result Command BadLine) (at : Place D W) (result : Turned W) (desk : D) (version : Version) (held : List ℕ)
-      → parsed ≡ Ok command → Parses HoldsText parsed reading → Carries p (Ok command) at result desk version held → Carries p reading at result desk version held
-  carries_parsed parsed command reading at result desk version held is parses there =
-      let P : Result Command LineError → Type 0 = λ q. Parses HoldsText q reading in
-      let read : reading ≡ Ok command = subst P is parses in
-      let C : Result Command BadLine → Type 0 = λ r. Carries p r at result desk version held in
-      subst C (sym read) there
+  -- what a session comes to, said in other words
+  pub comes_by : (says then : Place D W → Type 0) (result : Turned W) (desk : D) (version : Version) (held : List ℕ)
+      → ((after : Place D W) → says after → then after) → Comes p says result desk version held → Comes p then result desk version held
+  comes_by says then (On writer) desk version held goes comes = (comes.0, goes comes.0 comes.1, comes.2)
+  comes_by says then (Over end back) desk version held goes comes = (comes.0, goes comes.0 comes.1, comes.2)
 
-  -- a line that is refused
-  refused_goes : (fault : LineError) (reading : Result Command BadLine) (at after : Place D W) → Parses HoldsText (Err fault) reading
-      → after ≡ answered at at.desk (Refused (word_of_fault fault)) → Goes p reading at after
-  refused_goes Long reading at after is e = let C : Result Command BadLine → Type 0 = λ r. Goes p r at after in subst C (sym is) e
-  refused_goes Syntax reading at after is e = let C : Result Command BadLine → Type 0 = λ r. Goes p r at after in subst C (sym is) e
-  refused_goes Memory (Ok (Pub name text)) at after is e = inr e
-  refused_goes Memory (Ok (End name)) at after is e = absurd is
-  refused_goes Memory (Ok (Fail name text)) at after is e = inr e
-  refused_goes Memory (Ok (Sub name policy)) at after is e = absurd is
-  refused_goes Memory (Ok (Hello number)) at after is e = absurd is
-  refused_goes Memory (Ok Quit) at after is e = absurd is
-  refused_goes Memory (Err fault) at after is e = absurd is
+  -- there is no text for a note, and the word of that is told
+  pub no_text : (at : Place D W) (name : List ℕ) (note : Note) (desk : D) (writer : W) (version : Version) (held held_after : List ℕ) (word : Word) (result : Turned W)
+      → IsAt p at (hands desk writer version held) → HasNoText p desk name word → Tells p.contents result writer held held_after (reply_line (Refused word))
+      → Comes p (λ after. Emits p at name note after ⊎ Lacks p at name after) result desk version held_after
+  no_text at name note desk writer version held held_after word result is none tells =
+      told at desk desk writer version held held_after (Refused word) result (λ after. Emits p at name note after ⊎ Lacks p at name after) is tells
+      (elim none [
+        | inl unknown ↦ inl (
+          Refused word,
+          desk,
+          subst (λ (d : D). p.emits d name note (Refused word) desk) (sym is.desk_is) (subst (λ (w : Word). p.emits desk name note (Refused w) desk) (sym unknown.0) (unknown.1 note)),
+          refl,
+        )
+        | inr lacking ↦ inr (
+          subst (λ (d : D). p.knows d name) (sym is.desk_is) lacking.1,
+          ap (λ (d : D). answered at d (Refused word)) (sym is.desk_is) ∙ ap (λ (w : Word). answered at at.desk (Refused w)) lacking.0,
+        )
+      ])
 
-  -- a refusal is told
-  pub refused : (parsed : Result Command LineError) (fault : LineError) (reading : Result Command BadLine) (at : Place D W) (desk : D) (writer : W) (version : Version) (held held_after : List ℕ) (response : Response) (result : Turned W)
-      → parsed ≡ Err fault → Parses HoldsText parsed reading → response ≡ Refused (word_of_fault fault) → IsAt p at (hands desk writer version held)
+  -- a line that is refused is told so
+  pub refused : (fault : BadLine) (reading : Result Command BadLine) (at : Place D W) (desk : D) (writer : W) (version : Version) (held held_after : List ℕ) (response : Response) (result : Turned W)
+      → reading ≡ Err fault → response ≡ response_to_fault fault → IsAt p at (hands desk writer version held)
       → Tells p.contents result writer held held_after (reply_line response) → Carries p reading at result desk version held_after
-  refused parsed fault reading at desk writer version held held_after response result failed parses by is tells =
-      let P : Result Command LineError → Type 0 = λ q. Parses HoldsText q reading in
-      let says : Place D W → Type 0 = λ after. after ≡ answered at at.desk (Refused (word_of_fault fault)) in
-      carries reading at says result desk version held_after (λ after e. refused_goes fault reading at after (subst P failed parses) e)
+  refused fault reading at desk writer version held held_after response result bad by is tells =
+      let says : Place D W → Type 0 = λ after. after ≡ answered at at.desk (response_to_fault fault) in
+      let C : Result Command BadLine → Type 0 = λ r. Carries p r at result desk version held_after in
+      subst C (sym bad) (carries (Err fault) at says result desk version held_after (λ after e. e)
       (told at desk desk writer version held held_after response result says is tells
-      (ap (λ (d : D). answered at d response) (sym is.desk_is) ∙ ap (λ r. answered at at.desk r) by))
+      (ap (λ (d : D). answered at d response) (sym is.desk_is) ∙ ap (λ r. answered at at.desk r) by)))
 
   -- a session quits
   pub quits : (at : Place D W) (desk : D) (writer : W) (version : Version) (held held_after : List ℕ) (result : Turned W) → IsAt p at (hands desk writer version held) → Quits p.contents result writer held
@@ -226,6 +231,16 @@ none_match (Some x) P Q e m = cc
 -- a step that begins with no end
 pub steps_by : (step : Step) (old new : Option (List ℕ)) (before after : LineState) → before.end ≡ None → Advances step old new before after → Steps step old new before after
 steps_by step old new before after none advances = none_match before.end _ _ none advances
+
+-- a line means in a session what is asked by what was read of it
+pub asks : (read : Result Line BadLine) (line : List ℕ) → Gives meaning_of read (line_read line) → session_read line ≡ asked_by read
+asks (Ok read) line gives = ap (λ r. r >>= in_session) gives
+asks (Err fault) line gives = ap (λ r. r >>= in_session) gives
+
+-- what was read of a line is spelled by one
+pub spelled : (read : Result Line BadLine) (line : List ℕ) → Gives meaning_of read (line_read line) → IfOk read (λ l. IsSpelled (meaning_of l))
+spelled (Ok read) line gives = read-spelled line (meaning_of read) gives
+spelled (Err fault) line gives = tt
 
 -- a line of more than 1,100 bytes is refused
 pub long_read : (line : List ℕ) → 1100 < length line → session_read line ≡ Err bad.Long

@@ -4,7 +4,7 @@ use Rattle.std.proofs.lemmas.Bool.{false≢true}
 use Rattle.std.proofs.KnownBytes.{Appends-trans, Appends-nil, Consumes-trans, Consumes-nil, Consumes-kept}
 use Rattle.std.specs.Io.KnownBytes.{Appends, Consumes, Keeps}
 use Rattle.rx_proto.specs.Printing.{reply_line}
-use Rattle.rx_proto.specs.Reading.{HoldsText, Parses, session_read}
+use Rattle.rx_proto.specs.Reading.{session_read}
 use Rattle.rx_proto.specs.declared.command.Command.{Command}
 use Rattle.rx_proto.specs.declared.command.Command.TheVariants.{Quit}
 use Rattle.rx_proto.specs.declared.line_error.BadLine.{BadLine}
@@ -328,14 +328,13 @@ module _ {D W : Type 0} (p : Parties D W) where
       (inr (end, refl, c.2, closed s.at desk writer session.version session.outbox (end_of end) s.is_at nothing)))
 
   -- a line that was read as QUIT, and its answer
-  pub quit_told : (parsed : Result Command LineError) (bytes line : List ℕ) (at : Place D W) (desk : D) (writer : W) (version : Version) (held held_after : List ℕ) (result : Turned W)
-      → parsed ≡ Ok Quit → Parses HoldsText parsed (session_read bytes) → bytes ≡ line → IsAt p at (hands desk writer version held)
+  pub quit_told : (line : List ℕ) (at : Place D W) (desk : D) (writer : W) (version : Version) (held held_after : List ℕ) (result : Turned W)
+      → session_read line ≡ Ok Quit → IsAt p at (hands desk writer version held)
       → Tells p.contents result writer held held_after (reply_line Done) → CarriesOut p true (session_read line) at result desk version held_after
-  quit_told parsed bytes line at desk writer version held held_after result ok parses same is tells =
-      let read : session_read bytes ≡ Ok Quit = subst (λ (q : Result Command LineError). Parses HoldsText q (session_read bytes)) ok parses in (
-        ap session_read (sym same) ∙ read,
-        told p at desk desk writer version held held_after Done result (λ after. after ≡ answered at at.desk Done) is tells (ap (λ (d : D). answered at d Done) (sym is.desk_is)),
-      )
+  quit_told line at desk writer version held held_after result quits is tells = (
+    quits,
+    told p at desk desk writer version held held_after Done result (λ after. after ≡ answered at at.desk Done) is tells (ap (λ (d : D). answered at d Done) (sym is.desk_is)),
+  )
 
   -- it had no turn yet
   pub Sitting-new : (session : OpenSession) (desk : D) (writer : W) (known : Option (List ℕ)) → IsNew session → Sitting p (first_place desk writer) [] known known desk writer session

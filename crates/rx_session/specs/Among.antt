@@ -5,6 +5,7 @@ module _ {D W : Type 0} where
   -- the calls of a desk that others may have called before
   abbrev pub among : Parties D W → Parties D W
   among p = record {
+    knows = λ desk name. (now : D) × p.knows now name;
     emits = λ desk name note response after. (now : D) × p.emits now name note response after;
     follows = λ desk name policy version writer result after. (now : D) × p.follows now name policy version writer result after;
     contents = p.contents;

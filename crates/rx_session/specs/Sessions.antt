@@ -60,24 +60,25 @@ module _ {D W : Type 0} where
   abbrev pub greeted : Place D W → ℕ → Place D W
   greeted at number = record (answered at at.desk (response_to_hello number)) { version = version_after at.version number }
 
--- what the calls of a desk do, and what a writer has
+-- which subjects a desk has, what its calls do, and what a writer has
 pub record Parties (D W : Type 0) : Type 1 where
+  pub knows : D → List ℕ → Type 0
   pub emits : D → List ℕ → Note → Response → D → Type 0
   pub follows : D → List ℕ → Choice → Version → W → Follow W → D → Type 0
   pub contents : W → Option (List ℕ)
 
--- these three
-abbrev pub parties : {D W : Type 0} → (D → List ℕ → Note → Response → D → Type 0) → (D → List ℕ → Choice → Version → W → Follow W → D → Type 0) → (W → Option (List ℕ)) → Parties D W
-parties emits follows contents = record { emits = emits; follows = follows; contents = contents }
+-- these four
+abbrev pub parties : {D W : Type 0} → (D → List ℕ → Type 0) → (D → List ℕ → Note → Response → D → Type 0) → (D → List ℕ → Choice → Version → W → Follow W → D → Type 0) → (W → Option (List ℕ)) → Parties D W
+parties knows emits follows contents = record { knows = knows; emits = emits; follows = follows; contents = contents }
 
 module _ {D W : Type 0} (p : Parties D W) where
   -- the desk was asked to emit a note, and its response is told
   abbrev pub Emits : Place D W → List ℕ → Note → Place D W → Type 0
   Emits at name note after = (response : Response) × (desk : D) × p.emits at.desk name note response desk × (after ≡ answered at desk response)
 
-  -- there was no memory for the text of a line, and the desk was not asked
-  abbrev pub Lacks : Place D W → Place D W → Type 0
-  Lacks at after = after ≡ answered at at.desk (Refused words.Memory)
+  -- there is a subject of the name, but no memory for the text of a line, and the desk was not asked
+  abbrev pub Lacks : Place D W → List ℕ → Place D W → Type 0
+  Lacks at name after = p.knows at.desk name × (after ≡ answered at at.desk (Refused words.Memory))
 
   -- the writer has all that was told to it
   abbrev pub Caught : Place D W → W → Type 0
@@ -92,9 +93,9 @@ module _ {D W : Type 0} (p : Parties D W) where
 
   -- a line after which the session goes on
   abbrev pub Goes : Result Command BadLine → Place D W → Place D W → Type 0
-  Goes (Ok (Pub name text)) at after = Emits at name (Next (record { from = 0; place = 0; text = text })) after ⊎ Lacks at after
+  Goes (Ok (Pub name text)) at after = Emits at name (Next (record { from = 0; place = 0; text = text })) after ⊎ Lacks at name after
   Goes (Ok (End name)) at after = Emits at name Completed after
-  Goes (Ok (Fail name text)) at after = Emits at name (Failed text) after ⊎ Lacks at after
+  Goes (Ok (Fail name text)) at after = Emits at name (Failed text) after ⊎ Lacks at name after
   Goes (Ok (Sub name policy)) at after = ComesBack at name policy after
   Goes (Ok (Hello number)) at after = after ≡ greeted at number
   Goes (Ok Quit) at after = ⊥

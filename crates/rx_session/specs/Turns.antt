@@ -1,13 +1,17 @@
 -- What one turn of a session does.
-use Rattle.std.specs.Prelude.{◌≡◌, ◌⊎◌, ℕ, List, ◌++◌, Option, Some, Result}
+use Rattle.std.specs.Prelude.{◌≡◌, ◌⊎◌, ℕ, List, ◌++◌, Option, Some, Result, Ok, Err}
 use Rattle.std.specs.Io.KnownBytes.{Appends}
+use Rattle.rx_note.specs.declared.note.Note.{Note}
 use Rattle.rx_proto.specs.Bytes.{AppendsPrefix}
 use Rattle.rx_proto.specs.Printing.{reply_line}
-use Rattle.rx_proto.specs.Reading.{session_read}
+use Rattle.rx_proto.specs.Reading.{in_session, meaning_of, session_read}
 use Rattle.rx_proto.specs.declared.command.Command.{Command}
+use Rattle.rx_proto.specs.declared.line.Line.{Line}
 use Rattle.rx_proto.specs.declared.line_error.BadLine.{BadLine}
-use Rattle.rx_proto.specs.declared.response.Response.TheVariants.{Done}
+use Rattle.rx_proto.specs.declared.response.Response.TheVariants.{Done, Refused}
 use Rattle.rx_proto.specs.declared.version.Version.{Version}
+use Rattle.rx_proto.specs.declared.word.Word.{Word}
+use Rattle.rx_proto.specs.declared.word.Word.TheVariants as words
 use Rattle.rx_session.specs.Bytes.{Holds}
 use Rattle.rx_session.specs.Lines.{TakesLine, TakesNoLine}
 use Rattle.rx_session.specs.Sessions.{Parties, Place, Outcome, Goes, Faults, Stops, IsLeft, end_of}
@@ -17,6 +21,11 @@ use Rattle.rx_session.specs.declared.line_state.LineState.{LineState}
 use Rattle.rx_session.specs.declared.session_end.SessionEnd.TheVariants as ends
 use Rattle.rx_session.specs.declared.serving.Turned.{Turned}
 use Rattle.rx_session.specs.declared.serving.Turned.TheVariants.{On, Over}
+
+-- what is asked of a session by a line that was read so
+abbrev pub asked_by : Result Line BadLine → Result Command BadLine
+asked_by (Ok line) = in_session (meaning_of line)
+asked_by (Err fault) = Err fault
 
 -- what a session has in hand: its desk, its writer, its version, and what is held for the writer
 pub record Hands (D W : Type 0) : Type 0 where
@@ -51,6 +60,11 @@ module _ {D W : Type 0} (p : Parties D W) where
     pub written : List ℕ
     pub since : Appends (p.contents at.writer) (p.contents now.writer) written
     pub parts : written ++ now.held ≡ at.told
+
+  -- there is no text for the subject of this name: there is no such subject, and so each note for it is refused, or no memory
+  abbrev pub HasNoText : D → List ℕ → Word → Type 0
+  HasNoText desk name word =
+      ((word ≡ words.Subject) × ((note : Note) → p.emits desk name note (Refused words.Subject) desk)) ⊎ ((word ≡ words.Memory) × p.knows desk name)
 
   -- the session came to a place of which something is said, and stands there or met a fault of the writer
   abbrev pub Comes : (Place D W → Type 0) → Turned W → D → Version → List ℕ → Type 0

@@ -1,19 +1,29 @@
 use crate::Follow;
+use rx_heap::Heap;
 use rx_note::{Note, Policy};
 use rx_proto::{Name, Response, Version};
 
 /// To whom a session passes its commands. Its relations say what its calls answer and what they leave of it.
 pub trait Desk<W> {
-    ghost use Rattle.std.specs.Prelude.{List, ℕ};
+    ghost use Rattle.std.specs.Prelude.{List, ℕ, MatchOption};
     ghost use Rattle.rx_note.specs.Choices.{Choice};
     ghost use Rattle.rx_note.specs.declared.note.Note.{Note};
     ghost use Rattle.rx_proto.specs.declared.response.Response.{Response};
+    ghost use Rattle.rx_proto.specs.declared.response.Response.TheVariants.{Refused};
+    ghost use Rattle.rx_proto.specs.declared.word.Word.TheVariants.{Subject};
     ghost use Rattle.rx_proto.specs.declared.version.Version.{Version};
     ghost use Rattle.rx_session.specs.declared.follow.Follow.{Follow};
+
+    // It has a subject of this name.
+    ghost knows: { Self → List ℕ → Type 0 };
 
     ghost emits: { Self → List ℕ → Note → Response → Self → Type 0 };
 
     ghost follows: { Self → List ℕ → Choice → Version → W → Follow W → Self → Type 0 };
+
+    /// The memory for the texts of the subject of this name. None: there is no such subject, and each note for it is refused so.
+    fn memory(&self, name: &Name) -> Option<&Heap>
+        ensures { MatchOption result ((note : Note) → emits self.now name.now note (Refused Subject) self.now) (λ _. knows self.now name.now) };
 
     /// Emits a note at the subject of this name.
     fn emit(&mut self, name: &Name, note: Note) -> Response

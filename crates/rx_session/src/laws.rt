@@ -18,15 +18,15 @@ pub fn no_line()
 
 /// An open session that had no turn yet is under way from the place of the first version where nothing was told.
 pub fn open_session_begins<W: Write + Drop, D: Desk<W>>()
-    ensures { BeginsAsSession (parties D.emits D.follows W.contents) }
+    ensures { BeginsAsSession (parties D.knows D.emits D.follows W.contents) }
 {}
 
 /// What began so is over as a session is that never was open: all its turns together are the session's bytes.
 pub fn open_session_ends<W: Write + Drop, D: Desk<W>>()
-    ensures { EndsAsSession (parties D.emits D.follows W.contents) }
+    ensures { EndsAsSession (parties D.knows D.emits D.follows W.contents) }
 {}
 
 /// Where others call the desk between the turns of an open session, these are turns of a session whose desk others call too.
 pub fn turns_among_others_join<W: Write + Drop, D: Desk<W>>()
-    ensures { JoinsTurns (parties D.emits D.follows W.contents) }
+    ensures { JoinsTurns (parties D.knows D.emits D.follows W.contents) }
 {}

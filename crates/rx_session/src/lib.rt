@@ -25,6 +25,7 @@ mod serving;
 mod session_end;
 mod step;
 mod telling;
+mod texts;
 mod turn;
 mod window;
 

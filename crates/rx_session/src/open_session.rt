@@ -1,6 +1,5 @@
 ghost use Rattle.std.specs.Prelude.{◌≡◌, ◌≤◌, ◌+◌, ℕ, List, [], IsTrue, Ok, Option, Some, false, length, true};
 ghost use Rattle.rx_proto.specs.Reading.{session_read};
-ghost use Rattle.rx_proto.specs.declared.command.Command.TheVariants.{Quit};
 ghost use Rattle.rx_session.specs.Feeds.{IsLine, IsWhole};
 ghost use Rattle.rx_session.specs.OpenSessions.{Sends};
 ghost use Rattle.rx_session.specs.Sessions.{Place, parties};
@@ -12,8 +11,7 @@ use crate::feed::Feed;
 use crate::serving::{Turned, answer, carry_out};
 use crate::telling::end_of;
 use crate::{Desk, Outbox, SessionEnd, Step, Turn};
-use rx_heap::Heap;
-use rx_proto::{Command, LineError, Response, Version, Word, parse_line_without_lf};
+use rx_proto::{BadLine, Line, Response, Version, Word, read_line_without_lf};
 use std::io::{Read, Write};
 
 // The lines that a turn carries out at most, so that other sessions have their turns too.
@@ -57,18 +55,17 @@ impl OpenSession {
     /// [`serve_lines`](crate::serve_lines) does with the bytes that they read. There is no turn after one that is over.
     pub fn turn<R: Read, W: Write + Drop, D: Desk<W>>(
         &mut self,
-        alloc: &Heap,
         reader: &mut R,
         writer: W,
         desk: &mut D,
     ) -> Turn<W>
         ensures sits { (start : Place D W) (first : List ℕ) (read_old : Option (List ℕ))
-            → Sitting (parties D.emits D.follows W.contents) start first read_old (R.remaining reader.old) desk.old writer self.old
-            → Sits (parties D.emits D.follows W.contents) result start first read_old (R.remaining reader.new) desk.new self.new }
+            → Sitting (parties D.knows D.emits D.follows W.contents) start first read_old (R.remaining reader.old) desk.old writer self.old
+            → Sits (parties D.knows D.emits D.follows W.contents) result start first read_old (R.remaining reader.new) desk.new self.new }
         ensures quits { self.old.quits ≡ true → desk.new ≡ desk.old }
     {
         match send(&mut self.outbox, self.quits, writer) {
-            Turn::Again(writer) => self.go_on(alloc, reader, writer, desk),
+            Turn::Again(writer) => self.go_on(reader, writer, desk),
             Turn::Waits(writer) => Turn::Waits(writer),
             Turn::Stuck(writer) => Turn::Stuck(writer),
             Turn::Over(end, back) => Turn::Over(end, back),
@@ -78,7 +75,6 @@ impl OpenSession {
     // The turn of a session that has written all, and has read no QUIT.
     fn go_on<R: Read, W: Write + Drop, D: Desk<W>>(
         &mut self,
-        alloc: &Heap,
         reader: &mut R,
         writer: W,
         desk: &mut D,
@@ -86,30 +82,25 @@ impl OpenSession {
         requires held { self.old.outbox ≡ [] }
         requires quits { self.old.quits ≡ false }
         ensures { (start : Place D W) (first : List ℕ) (read_old : Option (List ℕ))
-            → Sitting (parties D.emits D.follows W.contents) start first read_old (R.remaining reader.old) desk.old writer self.old
-            → Sits (parties D.emits D.follows W.contents) result start first read_old (R.remaining reader.new) desk.new self.new }
+            → Sitting (parties D.knows D.emits D.follows W.contents) start first read_old (R.remaining reader.old) desk.old writer self.old
+            → Sits (parties D.knows D.emits D.follows W.contents) result start first read_old (R.remaining reader.new) desk.new self.new }
     {
         match self.feed.fill(reader) {
             Came::Bytes => {}
             Came::Nothing => return Turn::Waits(writer),
             Came::End(end) => return Turn::Over(end_of(end), Some(writer)),
         }
-        match self.carry_known(alloc, writer, desk) {
+        match self.carry_known(writer, desk) {
             Turned::On(writer) => send(&mut self.outbox, self.quits, writer),
             Turned::Over(end, back) => Turn::Over(end, back),
         }
     }
 
     // Carries out the lines in hand, until it has to write.
-    fn carry_known<W: Write + Drop, D: Desk<W>>(
-        &mut self,
-        alloc: &Heap,
-        writer: W,
-        desk: &mut D,
-    ) -> Turned<W>
+    fn carry_known<W: Write + Drop, D: Desk<W>>(&mut self, writer: W, desk: &mut D) -> Turned<W>
         ensures { (start : Place D W) (first : List ℕ) (read_old read_now : Option (List ℕ))
-            → Sitting (parties D.emits D.follows W.contents) start first read_old read_now desk.old writer self.old
-            → Carried (parties D.emits D.follows W.contents) result start first read_old read_now desk.new self.new }
+            → Sitting (parties D.knows D.emits D.follows W.contents) start first read_old read_now desk.old writer self.old
+            → Carried (parties D.knows D.emits D.follows W.contents) result start first read_old read_now desk.new self.new }
     {
         let mut held = writer;
         for _ in 0..MOST_LINES {
@@ -119,7 +110,7 @@ impl OpenSession {
             let Some(step) = self.feed.known() else {
                 return Turned::On(held);
             };
-            match self.carry(alloc, step, held, desk) {
+            match self.carry(step, held, desk) {
                 Turned::On(writer) => held = writer,
                 Turned::Over(end, back) => return Turned::Over(end, back),
             }
@@ -130,7 +121,6 @@ impl OpenSession {
     // Carries out the line that a step told.
     fn carry<W: Write + Drop, D: Desk<W>>(
         &mut self,
-        alloc: &Heap,
         step: Step,
         writer: W,
         desk: &mut D,
@@ -138,18 +128,18 @@ impl OpenSession {
         requires quits { self.old.quits ≡ false }
         requires whole { IsWhole (Some step) self.old.feed.lines.window }
         ensures carries { (line : List ℕ) (at : Place D W) → IsLine step line self.old.feed.lines.window
-            → IsAt (parties D.emits D.follows W.contents) at (hands desk.old writer self.old.version self.old.outbox)
-            → CarriesOut (parties D.emits D.follows W.contents) self.new.quits (session_read line) at result desk.new self.new.version self.new.outbox }
+            → IsAt (parties D.knows D.emits D.follows W.contents) at (hands desk.old writer self.old.version self.old.outbox)
+            → CarriesOut (parties D.knows D.emits D.follows W.contents) self.new.quits (session_read line) at result desk.new self.new.version self.new.outbox }
         ensures feed { self.new.feed ≡ self.old.feed }
     {
         match step {
             Step::Line(len) => {
-                let parsed = parse_line_without_lf(alloc, self.feed.line(len));
-                if is_quit(&parsed) {
+                let read = read_line_without_lf(self.feed.line(len));
+                if is_quit(&read) {
                     self.quits = true;
                     return answer(&mut self.outbox, writer, Response::Done);
                 }
-                carry_out(&mut self.outbox, desk, &mut self.version, writer, parsed)
+                carry_out(&mut self.outbox, desk, &mut self.version, writer, &read)
             }
             Step::Long => answer(&mut self.outbox, writer, Response::Refused(Word::Long)),
             Step::EndOfInput | Step::ReadFault | Step::TooManyReads => unreachable!(),
@@ -168,12 +158,12 @@ impl OpenSession {
     }
 }
 
-// Whether this was parsed of a line that said QUIT.
-fn is_quit(parsed: &Result<Command, LineError>) -> bool
-    ensures { IsTrue result → parsed.now ≡ Ok Quit }
+// Whether a line was read that said QUIT.
+fn is_quit(read: &Result<Line<'_>, BadLine>) -> bool
+    ensures { IsTrue result → read.now ≡ Ok Line.Quit }
 {
-    match parsed {
-        Ok(Command::Quit) => true,
+    match read {
+        Ok(Line::Quit) => true,
         _ => false,
     }
 }

@@ -151,15 +151,22 @@ fn sipping(step: usize, pauses: u64, flushes: u64) -> Sips {
 
 /// Answers each note alike, keeps a writer or gives it back, and notes what it was asked.
 #[derive(Drop)]
-struct Scribe {
+struct Scribe<'a> {
+    heap: &'a Heap,
     asked: Told,
     takes: bool,
 }
 
-impl Desk<Sips> for Scribe {
+impl<'a> Desk<Sips> for Scribe<'a> {
+    ghost knows = { λ desk name. Unit {0} };
+
     ghost emits = { λ old name note response new. Unit {0} };
 
     ghost follows = { λ old name policy version writer answer new. Unit {0} };
+
+    fn memory(&self, _name: &Name) -> Option<&Heap> {
+        Some(self.heap)
+    }
 
     fn emit(&mut self, _name: &Name, note: Note) -> Response {
         self.asked.put(match note {
@@ -190,8 +197,9 @@ impl Desk<Sips> for Scribe {
     }
 }
 
-fn writing(takes: bool) -> Scribe {
+fn writing<'a>(heap: &'a Heap, takes: bool) -> Scribe<'a> {
     Scribe {
+        heap,
         asked: Told::new(),
         takes,
     }
@@ -207,7 +215,7 @@ fn sign_of_end(end: SessionEnd) -> u8 {
     }
 }
 
-fn told_of(end: SessionEnd, back: Option<Sips>, scribe: &Scribe) -> Told {
+fn told_of(end: SessionEnd, back: Option<Sips>, scribe: &Scribe<'_>) -> Told {
     let mut told = Told::new();
     told.put(sign_of_end(end));
     if let Some(writer) = &back {
@@ -220,11 +228,11 @@ fn told_of(end: SessionEnd, back: Option<Sips>, scribe: &Scribe) -> Told {
 
 // What a session by turns tells, and nothing where it is not over after so many.
 fn told_by_turns(heap: &Heap, reader: &mut Halts, writer: Sips, takes: bool) -> Told {
-    let mut scribe = writing(takes);
+    let mut scribe = writing(heap, takes);
     let mut session = OpenSession::new(u64::MAX);
     let mut held = writer;
     for _ in 0..100_000 {
-        match session.turn(heap, reader, held, &mut scribe) {
+        match session.turn(reader, held, &mut scribe) {
             Turn::Again(writer) => held = writer,
             Turn::Waits(writer) | Turn::Stuck(writer) => held = writer,
             Turn::Over(end, back) => return told_of(end, back, &scribe),
@@ -235,10 +243,10 @@ fn told_by_turns(heap: &Heap, reader: &mut Halts, writer: Sips, takes: bool) -> 
 
 // What a session that waits tells.
 fn told_at_once(heap: &Heap, input: Input, takes: bool) -> Told {
-    let mut scribe = writing(takes);
+    let mut scribe = writing(heap, takes);
     let mut reader = halting(input, 65_536, 0);
     let writer = sipping(65_536, 0, 0);
-    let (end, back) = serve_lines(heap, &mut reader, writer, &mut scribe, u64::MAX);
+    let (end, back) = serve_lines(&mut reader, writer, &mut scribe, u64::MAX);
     told_of(end, back, &scribe)
 }
 
@@ -337,18 +345,12 @@ fn writer_faults_at_each_byte(rt: HostRuntime) {
 
 // What so many turns came to: `A` for one that goes on at once, `w` for one that waits for bytes, `s` for one whose answer
 // waits, or the end.
-fn told_turns(
-    heap: &Heap,
-    reader: &mut Halts,
-    writer: Sips,
-    scribe: &mut Scribe,
-    turns: u32,
-) -> Told {
+fn told_turns(reader: &mut Halts, writer: Sips, scribe: &mut Scribe<'_>, turns: u32) -> Told {
     let mut told = Told::new();
     let mut session = OpenSession::new(u64::MAX);
     let mut held = writer;
     for _ in 0..turns {
-        match session.turn(heap, reader, held, scribe) {
+        match session.turn(reader, held, scribe) {
             Turn::Again(writer) => {
                 told.put(b'A');
                 held = writer;
@@ -407,8 +409,8 @@ fn turns_come_to_this(rt: HostRuntime) {
         };
         let mut reader = halting(input, *step, *pauses);
         let writer = sipping(65_536, *writes, *flushes);
-        let mut scribe = writing(true);
-        let told_now = told_turns(&heap, &mut reader, writer, &mut scribe, *turns);
+        let mut scribe = writing(&heap, true);
+        let told_now = told_turns(&mut reader, writer, &mut scribe, *turns);
         expect_told(&rt, told_now.as_bytes(), told, told);
         expect_count(&rt, reader.reads, *reads, told);
         expect_count(&rt, scribe.asked.len() as u64, *asked, told);

@@ -8,7 +8,7 @@
 use crate::expecting::{expect_count, expect_told};
 use crate::heaps::unlimited;
 use crate::protocol::filled;
-use rx_heap::Heap;
+use rx_heap::{Heap, Memory};
 use rx_note::{Note, Policy};
 use rx_proto::{Name, Response, Version, Word};
 use rx_session::{Desk, Follow, LineReader, LineState, Next, SessionEnd, serve_lines};
@@ -97,21 +97,48 @@ fn blank(room: usize) -> Sheet {
     }
 }
 
-/// Answers each note alike, keeps a writer or gives it back, and notes what it was asked.
+/// Has one subject, `s`, answers each note for it alike, keeps a writer or gives it back, and notes what it was asked.
 #[derive(Drop)]
-struct Clerk {
+struct Clerk<'a> {
+    heap: &'a Heap,
     asked: Told,
     takes: bool,
 }
 
-impl<W: Drop> Desk<W> for Clerk {
+impl<'a> Clerk<'a> {
+    fn new(heap: &'a Heap, takes: bool) -> Clerk<'a> {
+        Clerk {
+            heap,
+            asked: Told::new(),
+            takes,
+        }
+    }
+}
+
+fn is_s(name: &Name) -> bool {
+    name.as_bytes() == b"s".as_slice()
+}
+
+impl<'a, W: Drop> Desk<W> for Clerk<'a> {
     ghost use Rattle.std.specs.Prelude.{◌≡◌};
+
+    ghost knows = { λ desk name. Unit {0} };
 
     ghost emits = { λ old name note response new. Unit {0} };
 
     ghost follows = { λ old name policy version writer answer new. Unit {0} };
 
-    fn emit(&mut self, _name: &Name, note: Note) -> Response {
+    fn memory(&self, name: &Name) -> Option<&Heap> {
+        if is_s(name) {
+            return Some(self.heap);
+        }
+        None
+    }
+
+    fn emit(&mut self, name: &Name, note: Note) -> Response {
+        if !is_s(name) {
+            return Response::Refused(Word::Subject);
+        }
         self.asked.put(sign_of(&note));
         Response::Done
     }
@@ -150,11 +177,8 @@ fn sign_of_end(end: SessionEnd) -> u8 {
 
 // What a session came to.
 fn told_of(heap: &Heap, reader: &mut Drips, writer: Sheet, takes: bool, max_reads: u64) -> Told {
-    let mut clerk = Clerk {
-        asked: Told::new(),
-        takes,
-    };
-    let (end, back) = serve_lines(heap, reader, writer, &mut clerk, max_reads);
+    let mut clerk = Clerk::new(heap, takes);
+    let (end, back) = serve_lines(reader, writer, &mut clerk, max_reads);
     let mut told = Told::new();
     told.put(sign_of_end(end));
     if let Some(sheet) = &back {
@@ -166,13 +190,20 @@ fn told_of(heap: &Heap, reader: &mut Drips, writer: Sheet, takes: bool, max_read
 }
 
 // The input, how many bytes a read gives, whether the desk keeps the writer, the most reads, and what is told.
-const SESSIONS: [(&str, usize, bool, u64, &str); 10] = [
+const SESSIONS: [(&str, usize, bool, u64, &str); 11] = [
     (
         "PUB s a\nNOPE\nQUIT\nPUB s b\n",
         7,
         true,
         99,
         "QOK\nERR SYNTAX\nOK\n|n",
+    ),
+    (
+        "PUB t a\nFAIL t a\nEND t\nPUB s a\n",
+        64,
+        true,
+        99,
+        "EERR SUBJECT\nERR SUBJECT\nERR SUBJECT\nOK\n|n",
     ),
     ("SUB s BUFFER DELAY\nPUB s a\n", 64, true, 99, "H|s"),
     (
@@ -337,13 +368,10 @@ fn flushes_are_made(rt: HostRuntime) {
 
 // How often a session wrote to a writer that takes all, and flushed it.
 fn counts_of(heap: &Heap, step: usize) -> (u64, u64) {
-    let mut clerk = Clerk {
-        asked: Told::new(),
-        takes: true,
-    };
+    let mut clerk = Clerk::new(heap, true);
     let mut writer = blank(4096);
     writer.step = usize::MAX;
-    match serve_lines(heap, &mut dripping(LINES, step), writer, &mut clerk, 99) {
+    match serve_lines(&mut dripping(LINES, step), writer, &mut clerk, 99) {
         (_, Some(sheet)) => (sheet.writes, sheet.flushes),
         (_, None) => (0, 0),
     }
@@ -366,12 +394,9 @@ fn answers_are_gathered(rt: HostRuntime) {
 fn told_of_line(heap: &Heap, free: &Heap, front: &str, len: usize) -> Result<Told, Fail> {
     let mut line = filled(free, front.as_bytes(), len)?;
     line.push(b'\n')?;
-    let mut clerk = Clerk {
-        asked: Told::new(),
-        takes: false,
-    };
+    let mut clerk = Clerk::new(heap, false);
     let mut reader = line.as_slice();
-    let (end, _writer) = serve_lines(heap, &mut reader, blank(4096), &mut clerk, 99);
+    let (end, _writer) = serve_lines(&mut reader, blank(4096), &mut clerk, 99);
     let mut told = Told::new();
     told.put(sign_of_end(end));
     told.put_all(clerk.asked.as_bytes());
@@ -388,6 +413,31 @@ fn a_session_leaves_nothing(rt: HostRuntime) -> Result<(), Fail> {
             expect_told(&rt, told.as_bytes(), wanted, front);
             expect_count(&rt, heap.used(), 0, "bytes that were not given back");
         }
+    }
+    Ok(())
+}
+
+// How many letters a text has behind its front, and what is answered where there are 64 bytes for texts: a subject is looked for
+// first, and a text of up to 20 bytes takes none.
+const SCARCE: [(&str, usize, &str); 5] = [
+    ("PUB s ", 20, "OK\n"),
+    ("PUB s ", 200, "ERR MEMORY\n"),
+    ("FAIL s ", 200, "ERR MEMORY\n"),
+    ("PUB t ", 200, "ERR SUBJECT\n"),
+    ("FAIL t ", 200, "ERR SUBJECT\n"),
+];
+
+#[test]
+fn a_text_is_made_of_the_memory_of_its_subject(rt: HostRuntime) -> Result<(), Fail> {
+    let heap = Heap::with_budget(rt.alloc(), 64)?;
+    for (front, len, answer) in &SCARCE {
+        let mut line = filled(&unlimited(&rt), front.as_bytes(), *len)?;
+        line.push(b'\n')?;
+        let mut clerk = Clerk::new(&heap, true);
+        let (_end, back) = serve_lines(&mut line.as_slice(), blank(4096), &mut clerk, 99);
+        let sheet = back.ok_or(Memory)?;
+        expect_told(&rt, sheet.held.as_bytes(), answer, front);
+        expect_count(&rt, heap.used(), 0, "bytes that were not given back");
     }
     Ok(())
 }

@@ -9,7 +9,7 @@ use Rattle.rx_session.proofs.serving.serve.Given as goal
 
 abbrev pub invariant-loop-held : goal.invariant-loop-held
 invariant-loop-held g l =
-    SoFar (parties g.D.Desk.emits g.D.Desk.follows g.W.Write.contents) (record { desk = l.initial.desk; writer = l.initial.held; version = One; told = [] })
+    SoFar (parties g.D.Desk.knows g.D.Desk.emits g.D.Desk.follows g.W.Write.contents) (record { desk = l.initial.desk; writer = l.initial.held; version = One; told = [] })
     (g.R.Read.remaining l.initial.reader) (g.R.Read.remaining l.reader) (hands l.desk l.held l.version l.outbox) (unread l.lines)
     × (l.lines.end ≡ None)
 

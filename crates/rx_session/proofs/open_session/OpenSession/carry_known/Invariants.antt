@@ -6,5 +6,5 @@ use Rattle.rx_session.proofs.open_session.OpenSession.carry_known.Given as goal
 abbrev pub invariant-loop : goal.invariant-loop
 invariant-loop g l =
     (start : Place g.row.D.Denot g.row.W.Denot) (first : List ℕ) (read_old read_now : Option (List ℕ))
-    → Sitting (parties g.D.Desk.emits g.D.Desk.follows g.W.Write.contents) start first read_old read_now l.initial.desk l.initial.held l.initial.self
-    → Sitting (parties g.D.Desk.emits g.D.Desk.follows g.W.Write.contents) start first read_old read_now l.desk l.held l.self
+    → Sitting (parties g.D.Desk.knows g.D.Desk.emits g.D.Desk.follows g.W.Write.contents) start first read_old read_now l.initial.desk l.initial.held l.initial.self
+    → Sitting (parties g.D.Desk.knows g.D.Desk.emits g.D.Desk.follows g.W.Write.contents) start first read_old read_now l.desk l.held l.self
