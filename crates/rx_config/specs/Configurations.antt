@@ -20,10 +20,11 @@ use Rattle.toml.specs.Data.{Data, Items, no_items, item, Members, no_members, me
 
 -- WHAT IS READ
 
--- a subject of a configuration
+-- a subject of a configuration: its name, its rules, and how many bytes its memory has, where there is a bound
 pub record Subject : Type 0 where
   pub name : List ℕ
   pub rules : Rules
+  pub budget : Option ℕ
 
 -- what a configuration says
 pub record Settings : Type 0 where
@@ -31,7 +32,7 @@ pub record Settings : Type 0 where
   pub pool : Pool
 
 abbrev pub subject_of_config : SubjectConfig → Subject
-subject_of_config config = record { name = config.name; rules = config.rules }
+subject_of_config config = record { name = config.name; rules = config.rules; budget = config.budget }
 
 abbrev pub settings_of : Config → Settings
 settings_of config = record { subjects = map subject_of_config config.subjects.items; pool = record { drainers = config.drainers; workers = config.workers; window = config.window; connections = config.connections; stall = config.stall; idle = config.idle; takeover = config.takeover } }
@@ -41,7 +42,7 @@ standard_pool = record { drainers = 1; workers = 4; window = 16; connections = 4
 
 -- one Publish subject `s`, with the greatest limits
 abbrev pub standard_settings : Settings
-standard_settings = record { subjects = record { name = codes "s"; rules = record { kind = Publish; limits = record { observers = 64; joins = 4294967295; items = 4294967295 } } } ∷ []; pool = standard_pool }
+standard_settings = record { subjects = record { name = codes "s"; rules = record { kind = Publish; limits = record { observers = 64; joins = 4294967295; items = 4294967295 } }; budget = None } ∷ []; pool = standard_pool }
 
 -- KEYS
 
@@ -151,13 +152,13 @@ abbrev pub seed_in : Members → Option (Option (List ℕ))
 seed_in members = seed_of (get_member (codes "seed") members)
 
 abbrev pub plain_keys : List (List ℕ)
-plain_keys = codes "name" ∷ codes "kind" ∷ codes "observers" ∷ codes "joins" ∷ codes "items" ∷ []
+plain_keys = codes "name" ∷ codes "kind" ∷ codes "observers" ∷ codes "joins" ∷ codes "items" ∷ codes "budget" ∷ []
 
 abbrev pub behavior_keys : List (List ℕ)
-behavior_keys = codes "name" ∷ codes "kind" ∷ codes "observers" ∷ codes "joins" ∷ codes "items" ∷ codes "seed" ∷ []
+behavior_keys = codes "name" ∷ codes "kind" ∷ codes "observers" ∷ codes "joins" ∷ codes "items" ∷ codes "budget" ∷ codes "seed" ∷ []
 
 abbrev pub replay_keys : List (List ℕ)
-replay_keys = codes "name" ∷ codes "kind" ∷ codes "observers" ∷ codes "joins" ∷ codes "items" ∷ codes "count" ∷ codes "age" ∷ []
+replay_keys = codes "name" ∷ codes "kind" ∷ codes "observers" ∷ codes "joins" ∷ codes "items" ∷ codes "budget" ∷ codes "count" ∷ codes "age" ∷ []
 
 abbrev pub plain_in : Kind → Members → Option Kind
 plain_in kind members = if has_only plain_keys members then Some kind else None
@@ -196,12 +197,16 @@ limits_in members =
     limits_with (number_at (codes "observers") 64 64 members) (number_at (codes "joins") 4294967295 4294967295 members)
     (number_at (codes "items") 4294967295 4294967295 members)
 
-abbrev pub subject_with : Option (List ℕ) → Option Limits → Option Kind → Option Subject
-subject_with (Some name) (Some limits) (Some kind) = Some (record { name = name; rules = record { kind = kind; limits = limits } })
-subject_with _ _ _ = None
+-- the bytes of the budget, which may be missing
+abbrev pub budget_at : Members → Option (Option ℕ)
+budget_at members = bound_at (codes "budget") 281474976710656 members
+
+abbrev pub subject_with : Option (List ℕ) → Option Limits → Option (Option ℕ) → Option Kind → Option Subject
+subject_with (Some name) (Some limits) (Some budget) (Some kind) = Some (record { name = name; rules = record { kind = kind; limits = limits }; budget = budget })
+subject_with _ _ _ _ = None
 
 abbrev pub subject_in : Members → Option Subject
-subject_in members = subject_with (option_and_then name_in (text_at (codes "name") members)) (limits_in members) (kind_in members)
+subject_in members = subject_with (option_and_then name_in (text_at (codes "name") members)) (limits_in members) (budget_at members) (kind_in members)
 
 -- a subject, as an entry says it
 abbrev pub subject_of : Data → Option Subject

@@ -35,7 +35,7 @@ pub struct Config {
 impl Config {
     ghost use Rattle.rx_config.specs.Configurations.{settings_of, standard_settings};
 
-    /// One Publish subject `s`, with the greatest limits.
+    /// One Publish subject `s`, with the greatest limits and no budget.
     ///
     /// # Errors
     ///
@@ -55,7 +55,11 @@ impl Config {
             },
         };
         let mut subjects = Vec::new(alloc);
-        subjects.push(SubjectConfig { name, rules })?;
+        subjects.push(SubjectConfig {
+            name,
+            rules,
+            budget: None,
+        })?;
         Ok(Config {
             subjects,
             drainers: 1,

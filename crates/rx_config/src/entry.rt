@@ -1,30 +1,37 @@
-ghost use Rattle.std.specs.Prelude.{◌≡◌, true, IfOk, IfSome, Ok};
+ghost use Rattle.std.specs.Prelude.{◌≡◌, true, IfOk, IfSome, MatchResult, Ok};
 ghost use Rattle.rx_note.specs.Kinds.{is_count, kind_checked};
 ghost use Rattle.rx_hub.specs.Hubs.{are_in_range};
 ghost use Rattle.toml.specs.View.{view, table_view};
-ghost use Rattle.rx_config.specs.Configurations.{Reads, ReadsSubject, behavior_in, count_at, kind_in, kind_named, limits_in, name_in, plain_in, replay_in, subject_in, subject_of, text_at};
+ghost use Rattle.rx_config.specs.Configurations.{Reads, ReadsSubject, behavior_in, count_at, kind_in, kind_named, limits_in, name_in, plain_in, replay_in, subject_in, subject_of, subject_of_config, text_at};
 
+use crate::budget::Budget;
 use crate::fault::Fault;
 use crate::keys::{has_only, value_at};
 use crate::numbers::{bound_at, number_at, number_of};
 use crate::subject_config::SubjectConfig;
 use crate::texts::{name_in, seed_in, text_at};
-use rx_heap::Heap;
+use rx_heap::{Heap, Memory};
 use rx_note::{Kind, Limits, MAX_COUNT, Rules};
+use rx_proto::Name;
+use std::alloc::Global;
 use toml::{Table, Value};
 
 /// The subject that an entry says.
-pub(crate) fn subject_of(heap: &Heap, value: &Value) -> Result<SubjectConfig, Fault>
+pub(crate) fn subject_of(
+    heap: &Heap,
+    runtime: Global,
+    value: &Value,
+) -> Result<SubjectConfig, Fault>
     ensures { ReadsSubject (subject_of (view value.now)) result }
 {
     match value.as_table() {
         None => Err(Fault::Refused),
-        Some(table) => subject_in(heap, table),
+        Some(table) => subject_in(heap, runtime, table),
     }
 }
 
 // The subject of a table.
-fn subject_in(heap: &Heap, table: &Table) -> Result<SubjectConfig, Fault>
+fn subject_in(heap: &Heap, runtime: Global, table: &Table) -> Result<SubjectConfig, Fault>
     ensures { ReadsSubject (subject_in (table_view table.now)) result }
 {
     let Some(word) = text_at(table, "name") else {
@@ -36,12 +43,46 @@ fn subject_in(heap: &Heap, table: &Table) -> Result<SubjectConfig, Fault>
     let Some(limits) = limits_in(table) else {
         return Err(Fault::Refused);
     };
+    let Some(bytes) = bound_at(table, "budget", MAX_BUDGET) else {
+        return Err(Fault::Refused);
+    };
     match kind_in(heap, table) {
-        Ok(kind) => Ok(SubjectConfig {
-            name,
-            rules: Rules { kind, limits },
-        }),
+        Ok(kind) => made(runtime, name, Rules { kind, limits }, bytes),
         Err(fault) => Err(fault),
+    }
+}
+
+// The greatest budget, in bytes: what a heap counts at most.
+const MAX_BUDGET: u64 = 281_474_976_710_656;
+
+// The subject of these, with a budget of so many bytes, if there is one.
+fn made(
+    runtime: Global,
+    name: Name,
+    rules: Rules,
+    bytes: Option<u64>,
+) -> Result<SubjectConfig, Fault>
+    requires limits { are_in_range rules.limits ≡ true }
+    requires kind { kind_checked rules.kind ≡ Ok tt }
+    ensures { MatchResult result (λ subject. subject_of_config subject ≡ record { name = name; rules = rules; budget = bytes }) (λ fault. fault ≡ Fault.Memory) }
+{
+    match budget_of(runtime, bytes) {
+        Ok(budget) => Ok(SubjectConfig {
+            name,
+            rules,
+            budget,
+        }),
+        Err(Memory) => Err(Fault::Memory),
+    }
+}
+
+// A budget of so many bytes, if there is one.
+fn budget_of(runtime: Global, bytes: Option<u64>) -> Result<Option<Budget>, Memory>
+    ensures { IfOk result (λ budget. budget ≡ bytes) }
+{
+    match bytes {
+        None => Ok(None),
+        Some(bytes) => Ok(Some(Budget::new(runtime, bytes)?)),
     }
 }
 
@@ -95,7 +136,10 @@ fn plain_in(table: &Table, kind: Kind) -> Result<Kind, Fault>
     ensures reads { Reads (plain_in kind (table_view table.now)) result }
     ensures checked { IfOk result (λ kind. kind_checked kind ≡ Ok tt) }
 {
-    if !has_only(table, &["name", "kind", "observers", "joins", "items"]) {
+    if !has_only(
+        table,
+        &["name", "kind", "observers", "joins", "items", "budget"],
+    ) {
         return Err(Fault::Refused);
     }
     Ok(kind)
@@ -108,7 +152,15 @@ fn behavior_in(heap: &Heap, table: &Table) -> Result<Kind, Fault>
 {
     if !has_only(
         table,
-        &["name", "kind", "observers", "joins", "items", "seed"],
+        &[
+            "name",
+            "kind",
+            "observers",
+            "joins",
+            "items",
+            "budget",
+            "seed",
+        ],
     ) {
         return Err(Fault::Refused);
     }
@@ -131,6 +183,7 @@ fn replay_in(table: &Table) -> Result<Kind, Fault>
             "observers",
             "joins",
             "items",
+            "budget",
             "count",
             "age",
         ],

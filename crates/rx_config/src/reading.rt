@@ -13,8 +13,8 @@ use toml::Table;
 
 /// The configuration that a TOML text says.
 ///
-/// The settings are held in memory of `alloc`; the table of the text, which is let go before the call returns, takes
-/// memory of the runtime, as `toml` has no other.
+/// The settings are held in memory of `alloc`. The budgets of subjects are counted over the memory of the runtime; the table of
+/// the text, which is let go before the call returns, takes that too, as `toml` has no other.
 ///
 /// # Errors
 ///
@@ -23,14 +23,14 @@ pub fn read_config(alloc: Heap, runtime: Global, bytes: &[u8]) -> Result<Config,
     ensures { MatchResult result (λ config. Says bytes.now (Ok (settings_of config))) (IsRefused bytes.now) }
 {
     match toml::table_from_slice(runtime, bytes) {
-        Ok(table) => config_in(alloc, &table),
+        Ok(table) => config_in(alloc, runtime, &table),
         Err(fault) if fault.is_memory() => Err(ConfigError::Memory),
         Err(_) => Err(ConfigError::Syntax),
     }
 }
 
 // The configuration of a table.
-fn config_in(alloc: Heap, table: &Table) -> Result<Config, ConfigError>
+fn config_in(alloc: Heap, runtime: Global, table: &Table) -> Result<Config, ConfigError>
     ensures ok { IfOk result (λ config. settings_in (table_view table.now) ≡ Ok (settings_of config)) }
     ensures refused { IfErr result (λ cause. (cause ≡ ConfigError.Memory) ⊎ (settings_in (table_view table.now) ≡ Err cause)) }
     ensures read { IfErr result (λ cause. cause ≢ ConfigError.Syntax) }
@@ -41,7 +41,7 @@ fn config_in(alloc: Heap, table: &Table) -> Result<Config, ConfigError>
     let Some(pool) = Pool::at(table) else {
         return Err(ConfigError::BadPool);
     };
-    match subjects_at(&alloc, table) {
+    match subjects_at(&alloc, runtime, table) {
         Err(cause) => Err(cause),
         Ok(subjects) => Ok(Config {
             subjects,

@@ -9,6 +9,7 @@ use crate::keys::value_at;
 use crate::subject_config::SubjectConfig;
 use rx_heap::Heap;
 use rx_proto::Name;
+use std::alloc::Global;
 use toml::{Table, Value};
 
 /// The most subjects of a configuration.
@@ -17,6 +18,7 @@ const MAX_SUBJECTS: usize = 16;
 /// The subjects of a configuration's table: an array of 1 to 16 entries.
 pub(crate) fn subjects_at(
     heap: &Heap,
+    runtime: Global,
     table: &Table,
 ) -> Result<Vec<SubjectConfig, Heap>, ConfigError>
     ensures ok { IfOk result (λ subjects. subjects_at (table_view table.now) ≡ Ok (map subject_of_config subjects.items)) }
@@ -29,12 +31,16 @@ pub(crate) fn subjects_at(
     };
     match value.as_array() {
         None => Err(ConfigError::NoSubject),
-        Some(entries) => entries_read(heap, entries),
+        Some(entries) => entries_read(heap, runtime, entries),
     }
 }
 
 // The subjects of these entries.
-fn entries_read(heap: &Heap, entries: &Vec<Value>) -> Result<Vec<SubjectConfig, Heap>, ConfigError>
+fn entries_read(
+    heap: &Heap,
+    runtime: Global,
+    entries: &Vec<Value>,
+) -> Result<Vec<SubjectConfig, Heap>, ConfigError>
     ensures ok { IfOk result (λ subjects. entries_read (array_view entries.now) ≡ Ok (map subject_of_config subjects.items)) }
     ensures refused { IfErr result (λ cause. (cause ≡ ConfigError.Memory) ⊎ (entries_read (array_view entries.now) ≡ Err cause)) }
     ensures read { IfErr result (λ cause. cause ≢ ConfigError.Syntax) }
@@ -46,11 +52,15 @@ fn entries_read(heap: &Heap, entries: &Vec<Value>) -> Result<Vec<SubjectConfig, 
     if entries.len() > MAX_SUBJECTS {
         return Err(ConfigError::TooManySubjects);
     }
-    all_subjects(heap, entries)
+    all_subjects(heap, runtime, entries)
 }
 
 // The subjects of all these entries, in their order.
-fn all_subjects(heap: &Heap, entries: &Vec<Value>) -> Result<Vec<SubjectConfig, Heap>, ConfigError>
+fn all_subjects(
+    heap: &Heap,
+    runtime: Global,
+    entries: &Vec<Value>,
+) -> Result<Vec<SubjectConfig, Heap>, ConfigError>
     ensures ok { IfOk result (λ subjects. subjects_from [] (array_view entries.now) ≡ Ok (map subject_of_config subjects.items)) }
     ensures refused { IfErr result (λ cause. (cause ≡ ConfigError.Memory) ⊎ (subjects_from [] (array_view entries.now) ≡ Err cause)) }
     ensures read { IfErr result (λ cause. cause ≢ ConfigError.Syntax) }
@@ -60,7 +70,7 @@ fn all_subjects(heap: &Heap, entries: &Vec<Value>) -> Result<Vec<SubjectConfig, 
         return Err(ConfigError::Memory);
     };
     let mut subjects = Vec::new(mine);
-    match put_subjects(heap, entries, &mut subjects) {
+    match put_subjects(heap, runtime, entries, &mut subjects) {
         Ok(()) => Ok(subjects),
         Err(cause) => Err(cause),
     }
@@ -69,6 +79,7 @@ fn all_subjects(heap: &Heap, entries: &Vec<Value>) -> Result<Vec<SubjectConfig, 
 // Puts the subjects of all these entries, in their order, into a list that is empty.
 fn put_subjects(
     heap: &Heap,
+    runtime: Global,
     entries: &Vec<Value>,
     subjects: &mut Vec<SubjectConfig, Heap>,
 ) -> Result<(), ConfigError>
@@ -79,7 +90,7 @@ fn put_subjects(
     ensures count { OnOk result (vec_len subjects.new ≡ vec_len entries.now) }
 {
     for entry in entries {
-        match next_subject(heap, subjects, entry) {
+        match next_subject(heap, runtime, subjects, entry) {
             Err(cause) => return Err(cause),
             Ok(subject) => {
                 let Ok(()) = subjects.push(subject) else {
@@ -94,6 +105,7 @@ fn put_subjects(
 // The subject of the next entry, behind these.
 fn next_subject(
     heap: &Heap,
+    runtime: Global,
     before: &Vec<SubjectConfig, Heap>,
     entry: &Value,
 ) -> Result<SubjectConfig, ConfigError>
@@ -101,7 +113,7 @@ fn next_subject(
     ensures refused { IfErr result (λ cause. (cause ≡ ConfigError.Memory) ⊎ (next_subject (map subject_of_config before.now.items) (view entry.now) ≡ Err cause)) }
     ensures read { IfErr result (λ cause. cause ≢ ConfigError.Syntax) }
 {
-    match subject_of(heap, entry) {
+    match subject_of(heap, runtime, entry) {
         Ok(subject) => named_anew(before, subject),
         Err(Fault::Refused) => Err(ConfigError::BadSubject(before.len())),
         Err(Fault::Memory) => Err(ConfigError::Memory),
