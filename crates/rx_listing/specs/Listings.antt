@@ -39,7 +39,7 @@ seed_words (Replay count age) = []
 -- what is said of a subject
 abbrev pub subject_words : Subject → List ℕ
 subject_words subject =
-    codes "subject " ++ (subject.name ++ (kind_words subject.rules.kind ++ (limit_words subject.rules.limits ++ seed_words subject.rules.kind)))
+    codes "subject " ++ (subject.name ++ (kind_words subject.rules.kind ++ (limit_words subject.rules.limits ++ (bound_words (codes " budget ") subject.budget ++ seed_words subject.rules.kind))))
 
 abbrev pub subject_line : Subject → List ℕ
 subject_line subject = line (subject_words subject)

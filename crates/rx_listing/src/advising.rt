@@ -12,7 +12,7 @@ use toml::Table;
 const TOP_KEYS: &str = "there are subject, as in: [[subject]], and pool, as in: [pool]";
 
 const SUBJECT_KEYS: &str =
-    "a subject has name, kind, observers, joins and items, a behavior also seed, a replay also count and age";
+    "a subject has name, kind, observers, joins, items and budget, a behavior also seed, a replay also count and age";
 
 const POOL_KEYS: &str =
     "a pool has drainers, workers, window, connections, stall, idle and takeover";

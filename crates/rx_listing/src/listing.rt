@@ -1,10 +1,10 @@
 //! The lines of a configuration that was accepted.
-ghost use Rattle.std.specs.Prelude.{◌≡◌, ◌++◌, IfOk, OnOk, decimal, map};
+ghost use Rattle.std.specs.Prelude.{◌≡◌, ◌++◌, IfOk, OnOk, codes, decimal, map};
 ghost use Rattle.rx_config.specs.Configurations.{settings_of, subject_of_config};
 ghost use Rattle.rx_listing.specs.Listings.{bound_words, config_lines, crew_words, flag_words, kind_words, limit_words, option_words, pool_line, seed_words, service_words, subject_line, subject_lines};
 
 use itoa::Buffer;
-use rx_config::{Config, SubjectConfig};
+use rx_config::{Budget, Config, SubjectConfig};
 use rx_heap::{Heap, Memory};
 use rx_note::{Kind, Limits};
 
@@ -41,6 +41,7 @@ fn put_subject(lines: &mut Vec<u8, Heap>, subject: &SubjectConfig) -> Result<(),
     put(lines, subject.name.as_bytes())?;
     put_kind(lines, &subject.rules.kind)?;
     put_limits(lines, subject.rules.limits)?;
+    put_budget(lines, &subject.budget)?;
     put_seed(lines, &subject.rules.kind)?;
     put(lines, b"\n")
 }
@@ -78,6 +79,16 @@ fn put_limits(lines: &mut Vec<u8, Heap>, limits: Limits) -> Result<(), Memory>
     put_number(lines, b" observers ", u64::from(limits.observers))?;
     put_number(lines, b" joins ", u64::from(limits.joins))?;
     put_number(lines, b" items ", u64::from(limits.items))
+}
+
+// Puts the words of the budget, where there is one.
+fn put_budget(lines: &mut Vec<u8, Heap>, budget: &Option<Budget>) -> Result<(), Memory>
+    ensures { OnOk result (lines.new.items ≡ lines.old.items ++ bound_words (codes " budget ") budget.now) }
+{
+    match budget {
+        Some(budget) => put_number(lines, b" budget ", budget.bytes()),
+        None => Ok(()),
+    }
 }
 
 // Puts the words of the seed, where there is one.

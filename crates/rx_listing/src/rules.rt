@@ -3,12 +3,13 @@
 use crate::key_rule::{Form, KeyRule};
 
 /// The keys of a subject.
-pub(crate) const SUBJECT: [&str; 8] = [
+pub(crate) const SUBJECT: [&str; 9] = [
     "name",
     "kind",
     "observers",
     "joins",
     "items",
+    "budget",
     "seed",
     "count",
     "age",
@@ -36,6 +37,10 @@ pub(crate) fn subject_rule(key: &str) -> Option<KeyRule> {
         "items" => KeyRule::new(
             Form::Number(4_294_967_295),
             "a number from 1 to 4294967295, as in: items = 1000000",
+        ),
+        "budget" => KeyRule::new(
+            Form::Number(281_474_976_710_656),
+            "bytes from 1 to 281474976710656, as in: budget = 64000000",
         ),
         "seed" => KeyRule::only(
             "behavior",
