@@ -28,8 +28,8 @@ pub fn name_in<'a>(line: &Line<'a>) -> &'a [u8]
     }
 }
 
-/// The event for which a line asks, at a moment in milliseconds. Its text is the spare one where that has room for the bytes,
-/// else it is made over `heap`.
+/// The event for which a line asks, at a moment in milliseconds. Its text is made over `heap`; where nothing is counted there, it
+/// is the spare one if that has room for the bytes.
 #[inline(always)] // once for each line of a script
 pub fn event_in(
     heap: &Heap,
@@ -73,13 +73,15 @@ fn joined(policy: Policy, first: u32, at: u64) -> Event
     Event::Join { policy, first, at }
 }
 
-// The text of these bytes, which are one.
+// The text of these bytes, which are one. A block that another subject paid for is of no use where this one has a limit: a hub
+// asks its heap when it is made, so what was asked of a heap with a limit is more than nothing.
 #[inline(always)] // so that a short text is made in its place
 fn text_of(heap: &Heap, spare: &mut Option<Text>, bytes: &[u8]) -> Result<Text, Memory>
     requires { IsText bytes.now }
     ensures { IfOk result (λ text. text ≡ bytes.now) }
 {
     if spare.is_some()
+        && heap.asked() == 0
         && let Some(mut text) = spare.take()
         && text.refill(bytes)
     {

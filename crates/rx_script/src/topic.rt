@@ -26,11 +26,16 @@ impl Drop for Topic {
 }
 
 impl Topic {
-    /// The topic of a subject, with no event yet.
-    fn new(heap: Heap, subject: SubjectConfig) -> Result<Topic, Memory>
+    /// The topic of a subject, with no event yet. Its memory is that of its budget, or the shared one.
+    fn new(shared: &Heap, subject: SubjectConfig) -> Result<Topic, Memory>
         ensures { IfOk result (λ topic. Stands topic (new_subject subject)) }
     {
-        let SubjectConfig { name, rules } = subject;
+        let heap = subject.memory(shared).clone()?;
+        let SubjectConfig {
+            name,
+            rules,
+            budget: _,
+        } = subject;
         match Hub::new(heap.clone()?, rules.kind, rules.limits) {
             Ok(hub) => Ok(Topic { name, hub, heap }),
             Err(HubError::Memory) => Err(Memory),
@@ -48,7 +53,7 @@ pub fn topics_of(
 {
     let mut topics = Vec::with_capacity(alloc.clone()?, subjects.len())?;
     for subject in subjects {
-        topics.push(Topic::new(alloc.clone()?, subject)?)?;
+        topics.push(Topic::new(alloc, subject)?)?;
     }
     Ok(topics)
 }

@@ -105,7 +105,11 @@ fn config_of_two(alloc: Global) -> Result<Config, Memory> {
             items: 1,
         },
     };
-    config.subjects.push(SubjectConfig { name, rules })?;
+    config.subjects.push(SubjectConfig {
+        name,
+        rules,
+        budget: None,
+    })?;
     Ok(config)
 }
 

@@ -50,6 +50,9 @@ fn tell_subject<W: Write>(out: &mut W, subject: &SubjectConfig) -> io::Result<()
     let limits = subject.rules.limits;
     let most = (limits.observers, limits.joins, limits.items);
     write!(out, " {} {} {} ", most.0, most.1, most.2)?;
+    if let Some(budget) = &subject.budget {
+        write!(out, "{budget:?} ")?;
+    }
     tell_kind(out, &subject.rules.kind)
 }
 
@@ -146,7 +149,7 @@ fn example_of_two_subjects(rt: HostRuntime) -> Result<(), Fail> {
 
 // Each key at its least and its greatest value, one below, one above, and of another type: what stands before it, its
 // line, and what is told.
-const EDGES: [(&str, &str, &str); 68] = [
+const EDGES: [(&str, &str, &str); 76] = [
     (
         FIRST,
         "observers = 1\n",
@@ -187,6 +190,26 @@ const EDGES: [(&str, &str, &str); 68] = [
     (FIRST, "items = 0\n", "subject 0 is refused"),
     (FIRST, "items = 4294967296\n", "subject 0 is refused"),
     (FIRST, "items = \"1\"\n", "subject 0 is refused"),
+    (
+        FIRST,
+        "budget = 1\n",
+        "1 4 16 4294967295 60; s 64 4294967295 4294967295 1 bytes publish",
+    ),
+    (
+        REPLAY,
+        "budget = 281474976710656\n",
+        "1 4 16 4294967295 60; s 64 4294967295 4294967295 281474976710656 bytes replay None None",
+    ),
+    (
+        NO_KIND,
+        "kind = \"behavior\"\nseed = \"\"\nbudget = 64000\n",
+        "1 4 16 4294967295 60; s 64 4294967295 4294967295 64000 bytes behavior ",
+    ),
+    (FIRST, "budget = 0\n", "subject 0 is refused"),
+    (FIRST, "budget = -1\n", "subject 0 is refused"),
+    (FIRST, "budget = 281474976710657\n", "subject 0 is refused"),
+    (FIRST, "budget = \"1\"\n", "subject 0 is refused"),
+    (FIRST, "[pool]\nbudget = 1\n", "pool is refused"),
     (
         REPLAY,
         "count = 1\n",

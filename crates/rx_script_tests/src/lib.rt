@@ -9,6 +9,8 @@
 #[cfg(test)]
 mod audits;
 #[cfg(test)]
+mod budgets;
+#[cfg(test)]
 mod configurations;
 #[cfg(test)]
 mod expecting;

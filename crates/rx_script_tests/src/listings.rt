@@ -36,7 +36,7 @@ fn expect_each(rt: &impl Abort, alloc: Global, rows: &[(&str, &str)]) -> Result<
 }
 
 // Configurations, and their lines.
-const ACCEPTED: [(&str, &str); 3] = [
+const ACCEPTED: [(&str, &str); 4] = [
     (
         "[[subject]]\nname = \"s\"\nkind = \"publish\"\n",
         "subject s publish observers 64 joins 4294967295 items 4294967295\npool drainers 1 workers 4 window 16 connections 4294967295 stall 60\n",
@@ -49,6 +49,10 @@ const ACCEPTED: [(&str, &str); 3] = [
         "[[subject]]\nname = \"b\"\nkind = \"behavior\"\nseed = \"none yet\"\n[[subject]]\nname = \"c\"\nkind = \"behavior\"\n[[subject]]\nname = \"d\"\nkind = \"replay\"\n",
         "subject b behavior observers 64 joins 4294967295 items 4294967295 seed none yet\nsubject c behavior observers 64 joins 4294967295 items 4294967295\nsubject d replay observers 64 joins 4294967295 items 4294967295\npool drainers 1 workers 4 window 16 connections 4294967295 stall 60\n",
     ),
+    (
+        "[[subject]]\nname = \"b\"\nkind = \"behavior\"\nseed = \"none yet\"\nbudget = 64000\n[[subject]]\nname = \"d\"\nkind = \"replay\"\nage = 1\nbudget = 281474976710656\n",
+        "subject b behavior observers 64 joins 4294967295 items 4294967295 budget 64000 seed none yet\nsubject d replay age 1 observers 64 joins 4294967295 items 4294967295 budget 281474976710656\npool drainers 1 workers 4 window 16 connections 4294967295 stall 60\n",
+    ),
 ];
 
 #[test]
@@ -57,7 +61,7 @@ fn lines_of_configurations(rt: HostRuntime) -> Result<(), Fail> {
 }
 
 // Texts that are refused, and what is told of the key.
-const REFUSED: [(&str, &str); 20] = [
+const REFUSED: [(&str, &str); 21] = [
     (
         "",
         "config has to have a subject at least, as in: [[subject]] and below it name = \"prices\" and kind = \"publish\"\n",
@@ -128,8 +132,12 @@ const REFUSED: [(&str, &str); 20] = [
         "subject 1: age is wrong: with kind = \"replay\" alone, milliseconds from 1 to 9223372036854775807, as in: age = 60000\n",
     ),
     (
-        "[[subject]]\nname = \"s\"\nkind = \"publish\"\nbudget = 100\n",
-        "subject 0: budget is no key: a subject has name, kind, observers, joins and items, a behavior also seed, a replay also count and age\n",
+        "[[subject]]\nname = \"s\"\nkind = \"publish\"\nbudget = 0\n",
+        "subject 0: budget is wrong: bytes from 1 to 281474976710656, as in: budget = 64000000\n",
+    ),
+    (
+        "[[subject]]\nname = \"s\"\nkind = \"publish\"\nlimit = 100\n",
+        "subject 0: limit is no key: a subject has name, kind, observers, joins, items and budget, a behavior also seed, a replay also count and age\n",
     ),
     (
         "[[subject]]\nname = \"s\"\nkind = \"async\"\n[[subject]]\nname = \"s\"\nkind = \"publish\"\n",
