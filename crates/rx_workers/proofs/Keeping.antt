@@ -29,16 +29,16 @@ module _ {D W : Type 0} (p : Parties D W) (P : D → Type 0)
   emit_keeps at after name note e had = subst P (sym (ap (λ (x : Place D W). x.desk) e.3)) (by_emit at.desk name note e.0 e.1 e.2 had)
 
   -- the desk was not asked
-  lack_keeps : (at after : Place D W) → Lacks p at after → P at.desk → P after.desk
-  lack_keeps at after e had = subst P (sym (ap (λ (x : Place D W). x.desk) e)) had
+  lack_keeps : (at after : Place D W) (name : List ℕ) → Lacks p at name after → P at.desk → P after.desk
+  lack_keeps at after name e had = subst P (sym (ap (λ (x : Place D W). x.desk) e.1)) had
 
   -- a line after which the session goes on
   goes_keeps : (reading : Result Command BadLine) (at after : Place D W) → Goes p reading at after → P at.desk → P after.desk
   goes_keeps (Ok (Pub name text)) at after (inl e) had = emit_keeps at after name (Next (record { from = 0; place = 0; text = text })) e had
-  goes_keeps (Ok (Pub name text)) at after (inr e) had = lack_keeps at after e had
+  goes_keeps (Ok (Pub name text)) at after (inr e) had = lack_keeps at after name e had
   goes_keeps (Ok (End name)) at after e had = emit_keeps at after name Completed e had
   goes_keeps (Ok (Fail name text)) at after (inl e) had = emit_keeps at after name (Failed text) e had
-  goes_keeps (Ok (Fail name text)) at after (inr e) had = lack_keeps at after e had
+  goes_keeps (Ok (Fail name text)) at after (inr e) had = lack_keeps at after name e had
   goes_keeps (Ok (Sub name policy)) at after e had = by_follow at.desk name policy at.version e.0 (Back e.1 after.writer) after.desk e.3 had
   goes_keeps (Ok (Hello number)) at after e had = subst P (sym (ap (λ (x : Place D W). x.desk) e)) had
   goes_keeps (Ok Quit) at after e had = absurd e

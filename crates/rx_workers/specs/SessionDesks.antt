@@ -71,6 +71,10 @@ abbrev pub joined_by : {S : Type 0} → ℕ → Result (Reply S) (CallError S) �
 joined_by subject (Ok reply) = joined_in subject reply.result
 joined_by subject (Err error) = None
 
+-- the desk has a subject of this name
+abbrev pub knows : {M S : Type 0} → SessionView M S → List ℕ → Type 0
+knows desk name = (place : ℕ) × (place_of name desk.subjects ≡ Some place)
+
 module _ {M W : Type 0} (tells : M → ℕ → M → Type 0) where
   -- a moment was told, and one call made to a subject with the event at that moment; the rest is as it was
   pub record CallsOnce (before after : SessionView M (LineSink W)) (subject : ℕ) (event : ℕ → Event) (sink : Option (LineSink W)) (answered : Result (Reply (LineSink W)) (CallError (LineSink W))) : Type 0 where

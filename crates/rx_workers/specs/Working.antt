@@ -18,7 +18,7 @@ use Rattle.rx_session.specs.declared.turn.Turn.{Turn}
 use Rattle.rx_session.specs.declared.turn.Turn.TheVariants.{Again, Waits, Stuck, Over}
 use Rattle.rx_sink.specs.declared.line_sink.LineSink.{LineSink}
 use Rattle.rx_workers.specs.Clients.{AreSame, IsQuiet, Sets}
-use Rattle.rx_workers.specs.SessionDesks.{SessionView, KeepsSession, Disposes, emits, follows}
+use Rattle.rx_workers.specs.SessionDesks.{SessionView, KeepsSession, Disposes, emits, follows, knows}
 use Rattle.rx_workers.specs.declared.client.Client.{Client}
 use Rattle.rx_workers.specs.declared.client.Client.TheVariants.{Talks, Follows}
 use Rattle.rx_workers.specs.declared.client.Follower.{Follower}
@@ -125,7 +125,7 @@ module _ {C W : Type 0} where
 module _ {M C W : Type 0} (tells : M → ℕ → M → Type 0) (remaining : C → Option (List ℕ)) (contents : W → Option (List ℕ)) where
   -- the desk of the sessions, and their writers
   abbrev pub calls : Parties (SessionView M (LineSink W)) W
-  calls = parties (emits tells) (follows tells) contents
+  calls = parties knows (emits tells) (follows tells) contents
 
   -- THE TURN of a session, from wherever it stood; one that had read QUIT asks nothing of the desk any more
   pub record TakesTurn (result : Turn W) (talk : Talk C W) (reader : C) (session : OpenSession) (before after : SessionView M (LineSink W)) : Type 0 where

@@ -21,6 +21,8 @@ use std::sync::Wait;
 #[derive(Drop)]
 pub struct SessionDesk<'a, R, M: Drop, W: Write + Drop> {
     rt: &'a R,
+    // The memory for the texts of subjects without a budget.
+    heap: &'a Heap,
     config: &'a Config,
     moments: M,
     calls: CallDesk<LineSink<W>>,
@@ -43,9 +45,11 @@ impl<'a, R, M: Drop, W: Write + Drop> Model for SessionDesk<'a, R, M, W> {
 impl<'a, R, M: Drop, W: Write + Drop> SessionDesk<'a, R, M, W> {
     ghost use Rattle.rx_workers.specs.SessionDesks.{place_of};
 
-    /// The desk of a session over a desk that has a port for each subject, in the order of the configuration.
+    /// The desk of a session over a desk that has a port for each subject, in the order of the configuration. The texts of
+    /// subjects without a budget are made over `heap`.
     pub fn new(
         rt: &'a R,
+        heap: &'a Heap,
         calls: CallDesk<LineSink<W>>,
         config: &'a Config,
         moments: M,
@@ -55,6 +59,7 @@ impl<'a, R, M: Drop, W: Write + Drop> SessionDesk<'a, R, M, W> {
     {
         SessionDesk {
             rt,
+            heap,
             config,
             moments,
             calls,
@@ -102,11 +107,20 @@ impl<'a, R: Wait, M: Moments + Drop, W: Write + Drop> SessionDesk<'a, R, M, W> {
 }
 
 impl<'a, R: Wait, M: Moments + Drop, W: Write + Drop> Desk<W> for SessionDesk<'a, R, M, W> {
-    ghost use Rattle.rx_workers.specs.SessionDesks.{emits, follows};
+    ghost use Rattle.rx_workers.specs.SessionDesks.{emits, follows, knows};
+
+    ghost knows = { knows };
 
     ghost emits = { emits M.tells };
 
     ghost follows = { follows M.tells };
+
+    fn memory(&self, name: &Name) -> Option<&Heap> {
+        let Some(place) = self.place_of(name) else {
+            return None;
+        };
+        Some(self.config.subjects[place].memory(self.heap))
+    }
 
     fn emit(&mut self, name: &Name, note: Note) -> Response {
         let Some(place) = self.place_of(name) else {

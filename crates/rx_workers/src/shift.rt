@@ -176,7 +176,7 @@ impl<'a, R: Wait, M: Moments + Drop, C: Read + Drop, W: Write + Drop> Shift<'a, 
             mut session,
             aim,
         } = talk;
-        let turned = session.turn(self.heap, &mut reader, writer, &mut self.desk);
+        let turned = session.turn(&mut reader, writer, &mut self.desk);
         let joined = self.desk.joined();
         let pause = Pause {
             place,

@@ -105,7 +105,7 @@ impl<M: Moments + Drop, C: Read + Drop, W: Write + Drop, P: Readiness<C> + Drop>
             mut readiness,
         } = self;
         let shared = SharedMoments::new(rt, &moments);
-        let session = SessionDesk::new(rt, desk, &config, shared);
+        let session = SessionDesk::new(rt, &heap, desk, &config, shared);
         let mut shift = Shift::new(&heap, own, session, inbox);
         serve_all(rt, &mut shift, &mut readiness);
         let (session, inbox, sessions) = shift.into_parts();
