@@ -90,7 +90,7 @@ fn told_over(rt: &impl Host, command: &str, config: &[u8]) -> io::Result<Vec<u8>
 const SEEDED: &[u8] = b"[[subject]]\nname = \"s\"\nkind = \"behavior\"\nseed = \"z\"\n";
 
 // Commands, the configurations in the file that each is given, and what is told.
-const FILES: [(&str, &str, &str); 6] = [
+const FILES: [(&str, &str, &str); 7] = [
     (
         "script",
         "[[subject]]\nname = \"s\"\nkind = \"replay\"\ncount = 0\n",
@@ -106,6 +106,11 @@ const FILES: [(&str, &str, &str); 6] = [
         "audit",
         "[[subject]]\nname = \"s\"\nkind = \"behavior\"\nseed = \"z\"\n",
         "0 OBSERVER s 0\nGIVEN NEXT z\nWAITING NEXT a\nWAITING NEXT b\n|",
+    ),
+    (
+        "script",
+        "[[subject]]\nname = \"s\"\nkind = \"publish\"\nbudget = 1\n",
+        "1 |rxline: out of memory\n",
     ),
     (
         "check",

@@ -296,10 +296,10 @@ fn a_report_that_is_not_flushed(rt: HostRuntime) -> Result<(), Fail> {
 // How many items are emitted beside one who never reads: more bytes than the buffer of a socket takes.
 const ITEMS: u32 = 6_000;
 
-const LINE: &[u8] =
+pub(crate) const LINE: &[u8] =
     b"PUB s 0123456789012345678901234567890123456789012345678901234567890123456789\n";
 
-const NOTE: &[u8] =
+pub(crate) const NOTE: &[u8] =
     b"NEXT 0123456789012345678901234567890123456789012345678901234567890123456789\n";
 
 // So many items, each answered before the next, and read by the one who reads. None behind the first that is wrong.
