@@ -31,7 +31,7 @@ mod wiring;
 
 pub use close_fault::{CloseCause, CloseFault};
 pub use report::{Report, SubjectReport};
-pub use rx_config::{Config, ConfigError, SubjectConfig, read_config};
+pub use rx_config::{Budget, Config, ConfigError, SubjectConfig, read_config};
 pub use rx_session::response_to;
 pub use rx_workers::{
     AcceptFault, AcceptStop, Aim, Bell, Joined, Listener, Moments, Readiness, Ready, RunningWorker,

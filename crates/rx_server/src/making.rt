@@ -42,14 +42,14 @@ pub(crate) fn make_hubs(
     Ok(hubs)
 }
 
-// The hub of a subject.
+// The hub of a subject, over the memory of its budget, or what the others share.
 fn make_hub(alloc: &Heap, subject: &SubjectConfig) -> Result<Hub, Memory>
     ensures rules { IfOk result (λ hub. hub.state.rules ≡ subject.now.rules) }
     ensures stands { IfOk result (λ hub. StandsFor hub.state NoEvents) }
     ensures misses { IfOk result (λ hub. hub.misses ≡ 0) }
 {
     let kind = copy_kind(&subject.rules.kind)?;
-    match Hub::new(alloc.clone()?, kind, subject.rules.limits) {
+    match Hub::new(subject.memory(alloc).clone()?, kind, subject.rules.limits) {
         Ok(hub) => Ok(hub),
         Err(HubError::Memory) => Err(Memory),
         Err(HubError::BadLimits) => unreachable!(),
