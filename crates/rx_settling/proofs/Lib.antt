@@ -1,3 +1,4 @@
 pub mod Causes
 pub mod Gathered
+pub mod Room
 pub mod Rows

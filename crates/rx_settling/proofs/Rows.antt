@@ -1,5 +1,5 @@
 -- Rows of ports, dealt to their boxes, and inboxes that came back.
-use Rattle.std.proofs.Common.{◌≡◌, refl, ap, ℕ, zero, suc, ◌<◌, List, [], ◌∷◌, ◌++◌, length, get_or, slice_set, None, arith}
+use Rattle.std.proofs.Common.{◌≡◌, refl, ap, ℕ, zero, suc, ◌<◌, List, [], ◌∷◌, ◌++◌, length, get_or, slice_get, slice_set, sym, None, Some, arith}
 use Rattle.rx_mailbox.specs.Boxes.{Incoming, Outgoing}
 use Rattle.rx_settling.specs.Parts.{LacksInbox, PartsView, dealt, placed, with_inbox, with_port}
 
@@ -40,3 +40,10 @@ module _ {B : Type 0} where
   lacks [] place parts within is none = absurd (omega arith)
   lacks (first ∷ boxes) zero parts within is none = λ one same. let it : first ≡ one = cc in cc
   lacks (first ∷ boxes) (suc place) parts within is none = lacks boxes place parts (omega arith) is none
+
+  -- the parts at a place
+  pub parts-at : (boxes : List (PartsView B)) (place : ℕ) (parts : PartsView B) → place < length boxes
+      → parts ≡ get_or boxes place parts → slice_get boxes place ≡ Some parts
+  parts-at [] place parts within is = absurd (omega arith)
+  parts-at (first ∷ boxes) zero parts within is = ap Some (sym is)
+  parts-at (first ∷ boxes) (suc place) parts within is = parts-at boxes place parts (omega arith) is

@@ -1,5 +1,5 @@
 -- What came back of boxes that end, and when they settle (this project's own rule).
-use Rattle.std.specs.Prelude.{◌≡◌, ◌≤◌, ℕ, zero, suc, List, [], ◌∷◌, ◌++◌, take, Option, None, Some, slice_get}
+use Rattle.std.specs.Prelude.{◌≡◌, ◌+◌, ◌≤◌, ℕ, zero, suc, List, [], ◌∷◌, ◌++◌, length, take, Option, None, Some, slice_get}
 use Rattle.std.specs.List.{All, AllZip}
 use Rattle.rx_mailbox.specs.declared.letter.Letter.{Letter}
 use Rattle.rx_mailbox.specs.Boxes.{AreOf, HasEachBye, Incoming, Outgoing, incoming}
@@ -12,12 +12,29 @@ pub record PartsView (B : Type 0) : Type 0 where
   pub ports : List (Outgoing B)
   pub room : ℕ
 
+-- how many are missing of one that may have come
+abbrev pub lacking : {X : Type 0} → Option X → ℕ
+lacking None = 1
+lacking (Some x) = 0
+
 module _ {B : Type 0} where
   -- nothing came back yet, and there is room for so many ports
   pub record IsEmpty (senders : ℕ) (parts : PartsView B) : Type 0 where
     pub no_inbox : parts.inbox ≡ None
     pub no_ports : parts.ports ≡ []
     pub fits : senders ≤ parts.room
+
+  -- there is room for so many ports more
+  abbrev pub HasRoom : ℕ → PartsView B → Type 0
+  HasRoom more parts = length parts.ports + more ≤ parts.room
+
+  -- there is room for none
+  abbrev pub IsFull : PartsView B → Type 0
+  IsFull parts = length parts.ports ≡ parts.room
+
+  -- that is so of the box at this place
+  abbrev pub IsFullAt : ℕ → List (PartsView B) → Type 0
+  IsFullAt place boxes = (parts : PartsView B) × (slice_get boxes place ≡ Some parts) × IsFull parts
 
   -- its inbox came back
   abbrev pub with_inbox : Incoming B → PartsView B → PartsView B
@@ -53,6 +70,11 @@ module _ {B : Type 0} where
   -- the inbox of the box at this place had not come back
   abbrev pub LacksInbox : ℕ → List (PartsView B) → Type 0
   LacksInbox place boxes = (parts : PartsView B) → slice_get boxes place ≡ Some parts → parts.inbox ≡ None
+
+  -- how many inboxes have not come back
+  abbrev pub missing : List (PartsView B) → ℕ
+  missing [] = 0
+  missing (parts ∷ boxes) = lacking parts.inbox + missing boxes
 
   -- RECEIVING
 

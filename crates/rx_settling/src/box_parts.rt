@@ -1,6 +1,6 @@
 ghost use Rattle.std.specs.Prelude.{◌≡◌, ◌<◌, ◌≢◌, ◌≤◌, [], true, false, None, length, IfOk, MatchOption, MatchResult};
 ghost use Rattle.rx_mailbox.specs.Boxes.{HasEachBye};
-ghost use Rattle.rx_settling.specs.Parts.{AreOfOneBox, CannotSettle, Receives, Settles, with_inbox, with_port};
+ghost use Rattle.rx_settling.specs.Parts.{AreOfOneBox, CannotSettle, IsFull, Receives, Settles, with_inbox, with_port};
 
 use rx_heap::{Heap, Memory};
 use rx_mailbox::{EndedPort, Gone, Inbox, Settled, settle};
@@ -57,10 +57,11 @@ impl<B: Drop> BoxParts<B> {
         self.inbox = Some(inbox);
     }
 
-    /// One of its ports came back. False where all that it has came back before: then nothing changed.
+    /// One of its ports came back. False where as many came back before as there is room for: then nothing changed.
     pub fn put_port(&mut self, port: EndedPort<B>) -> bool
         ensures put { result ≡ true → self.new ≡ with_port port self.old }
-        ensures full { result ≡ false → self.new ≡ self.old }
+        ensures same { result ≡ false → self.new ≡ self.old }
+        ensures full { result ≡ false → IsFull self.old }
     {
         if self.ports.len() == self.ports.capacity() {
             return false;

@@ -1,7 +1,7 @@
 // Rows of ports, one of each box, that are dealt to their boxes.
 ghost use Rattle.std.specs.Prelude.{◌≡◌, ◌<◌, length, IfOk, MatchResult, OnErr, OnOk};
 ghost use Rattle.std.specs.List.{All};
-ghost use Rattle.rx_settling.specs.Parts.{IsEmpty, LacksInbox, dealt, placed};
+ghost use Rattle.rx_settling.specs.Parts.{IsEmpty, IsFullAt, LacksInbox, dealt, placed};
 
 use crate::box_parts::BoxParts;
 use rx_heap::{Heap, Memory};
@@ -27,7 +27,8 @@ pub fn parts_of<B: Drop>(
     Ok(parts)
 }
 
-/// Deals a row of ports: each to the box of its place. `Err` tells the place of a box that has all its ports already.
+/// Deals a row of ports: each to the box of its place. `Err` tells the place of the first box that has no room for one more:
+/// those before it have theirs.
 pub fn deal<B: Drop>(
     ports: Vec<EndedPort<B>, Heap>,
     boxes: &mut Vec<BoxParts<B>, Heap>,
@@ -35,7 +36,7 @@ pub fn deal<B: Drop>(
     requires { length ports.items ≡ length boxes.old.items }
     ensures { MatchResult result
         (λ _. boxes.new.items ≡ dealt ports.items boxes.old.items)
-        (λ place. place < length boxes.old.items) }
+        (λ place. IsFullAt place boxes.old.items) }
 {
     let mut place = 0;
     for port in ports {
@@ -56,7 +57,8 @@ pub fn put_inbox<B: Drop>(
     requires { place < length boxes.old.items }
     ensures put { OnOk result (boxes.new.items ≡ placed place inbox boxes.old.items) }
     ensures once { OnOk result (LacksInbox place boxes.old.items) }
-    ensures twice { OnErr result (boxes.new ≡ boxes.old) }
+    ensures same { OnErr result (boxes.new ≡ boxes.old) }
+    ensures twice { OnErr result (¬ LacksInbox place boxes.old.items) }
 {
     if boxes[place].has_inbox() {
         return Err(Twice);

@@ -1,7 +1,7 @@
-use Rattle.std.proofs.Common.{◌≡◌, ◌∙◌, ◌<◌, sym, ap, List, [], ◌∷◌, ◌++◌, append_assoc, get_or, length, length-append, slice_set, arith}
+use Rattle.std.proofs.Common.{◌≡◌, ◌∙◌, ◌<◌, sym, ap, List, [], ◌∷◌, ◌++◌, append_assoc, get_or, length, length-append, slice_get, slice_set, subst, Some, arith}
 use Rattle.std.specs.Vec.Iter.{into_iter_items}
 use Rattle.rx_settling.specs.Parts.{PartsView, dealt, with_port}
-use Rattle.rx_settling.proofs.Rows.{dealt-behind, dealt-count, dealt-more}
+use Rattle.rx_settling.proofs.Rows.{dealt-behind, dealt-count, dealt-more, parts-at}
 use Rattle.rx_settling.proofs.dealing.deal.Goals as goal
 
 pub index_mut-requires : goal.index_mut-requires
@@ -30,3 +30,15 @@ loop-port-preserved g c =
           ∙ dealt-more c.loop-port.yielded c.in-Some.port old c.index_mut.result.now within;
       place = omega (arith, before.place, length-append c.loop-port.yielded (c.in-Some.port ∷ []));
     }
+
+pub returns-then-not-put_port : goal.returns-then-not-put_port
+returns-then-not-put_port g c =
+    let before = c.loop-port.invariant in
+    let old = c.args.boxes.now.items in
+    let within : length c.loop-port.yielded < length old =
+    omega (arith, c.requires, ap length before.ports, length-append c.loop-port.yielded (into_iter_items c.loop-port.port-iterator), ap length c.in-Some.ensures.steps.0) in
+    let is : c.index_mut.result.now ≡ get_or old (length c.loop-port.yielded) c.index_mut.result.now =
+    c.index_mut.ensures.value ∙ ap (λ (l : List (PartsView _)). get_or l c.loop-port.place c.index_mut.result.now) before.boxes
+    ∙ ap (λ n. get_or (dealt c.loop-port.yielded old) n c.index_mut.result.now) before.place ∙ dealt-behind c.loop-port.yielded old c.index_mut.result.now in
+    let at = parts-at old (length c.loop-port.yielded) c.index_mut.result.now within is in
+    (c.index_mut.result.now, subst (λ n. slice_get old n ≡ Some c.index_mut.result.now) (sym before.place) at, c.put_port.ensures.full c.if-not-put_port.true)
