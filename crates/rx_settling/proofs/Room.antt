@@ -32,8 +32,12 @@ module _ {B : Type 0} where
 
   pub dealt_each-room : (more : ℕ) (rows : List (List (Outgoing B))) (boxes : List (PartsView B)) → All (HasRoom (length rows + more)) boxes
       → All (HasRoom more) (dealt_each rows boxes)
-  dealt_each-room more [] boxes room = room
-  dealt_each-room more (ports ∷ rows) boxes room = dealt_each-room more rows (dealt ports boxes) (dealt-room (length rows + more) ports boxes room)
+  dealt_each-room more [] boxes room =
+      All-weaker (HasRoom (length {A = List (Outgoing B)} [] + more)) (HasRoom more) (λ parts has. omega (arith, has)) boxes room
+  dealt_each-room more (ports ∷ rows) boxes room =
+      dealt_each-room more rows (dealt ports boxes)
+      (dealt-room (length rows + more) ports boxes
+      (All-weaker (HasRoom (length (ports ∷ rows) + more)) (HasRoom (suc (length rows + more))) (λ parts has. omega (arith, has)) boxes room))
 
   -- inboxes take none
   pub given-room : (more : ℕ) (inboxes : List (Incoming B)) (boxes : List (PartsView B)) → All (HasRoom more) boxes → All (HasRoom more) (given inboxes boxes)
