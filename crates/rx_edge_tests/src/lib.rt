@@ -29,6 +29,8 @@ mod slow_peers;
 #[cfg(test)]
 mod sockets;
 #[cfg(test)]
+mod starts;
+#[cfg(test)]
 mod texts;
 #[cfg(test)]
 mod three_desks;

@@ -1,5 +1,5 @@
 -- What all parts of a server left, once its threads have ended well.
-use Rattle.std.proofs.Common.{◌≡◌, ◌∙◌, sym, refl, ap, subst, ℕ, suc, ◌+◌, List, [], ◌∷◌, ◌++◌, length, map, Vec, vec_capacity, Result, Ok, Err, inr, IfErr, IfOk, MatchResult, arith}
+use Rattle.std.proofs.Common.{◌≡◌, ◌∙◌, sym, refl, ap, subst, ℕ, suc, ◌+◌, List, [], ◌∷◌, ◌++◌, length, map, Vec, vec_capacity, Result, Ok, Err, inl, inr, IfErr, IfOk, MatchResult, arith}
 use Rattle.std.proofs.lemmas.List.Elements.{All-append, All-cons, All-head, All-nil, All-tail, All-weaker}
 use Rattle.std.proofs.lemmas.Slice.Zip.{AllZip-long}
 use Rattle.std.specs.List.{All, AllZip, enumerate_from, zip}
@@ -23,11 +23,10 @@ use Rattle.rx_server.specs.declared.rooms.Rooms.{Rooms}
 use Rattle.rx_server.specs.Leaving.{AreRow, HasItsBoxes, HasLeft}
 use Rattle.rx_server.specs.Returning.{AreEmpty}
 use Rattle.rx_server.specs.Rooms.{AreRooms, HoldBoxes}
-use Rattle.rx_server.specs.Servers.{Closes, Fails, HaveSettled, IsEndOf, IsWhole, NamesBox, Reports, ServerView}
+use Rattle.rx_server.specs.Servers.{CannotTell, Closes, Fails, HaveSettled, IsEndOf, IsWhole, Reports, ServerView, Unsettles}
 use Rattle.rx_server.specs.Wirings.{Wiring, desks_of, drainer_of, ports_at, pump_of}
 use Rattle.rx_server.proofs.Desks.{bye-places, end-boxes}
 use Rattle.rx_server.proofs.Joining.{hubs-count, made-count, zip-count}
-use Rattle.rx_server.proofs.Returning.{names-same}
 
 -- LISTS
 
@@ -176,12 +175,11 @@ choose-marks (pump ∷ pumps) (end ∷ ends) all =
 module _ {S Rest : Type 0} (acts : Acts S Rest) (server : ServerView S Rest) (whole : IsWhole server) (pump_ends : List (PumpEnd S)) (drain_ends : List (DrainEnd S Rest)) (ended finished : List (EndedDesk S))
     (pumped : AllZip pump_serving.HasServed server.pumps pump_ends) (drained : AllZip (drainer_serving.HasServed acts) server.drainers drain_ends) where
   -- all boxes settled, or one did not
-  pub settled-or-not : (r : Result (Report S Rest) CloseFault) (pumps drainers desks : ℕ) → All (IsEndOf server.made) finished
-      → pumps ≡ length whole.wiring.subjects → drainers ≡ length whole.wiring.drainers → desks ≡ length whole.wiring.replies
+  pub settled-or-not : (r : Result (Report S Rest) CloseFault) (desks : ℕ) → All (IsEndOf server.made) finished → desks ≡ length whole.wiring.replies
       → IfOk r (λ report. HaveSettled report.boxes (map with_bye server.leaves) (ended ++ (server.kept ++ finished)) pump_ends drain_ends)
-      → IfOk r (λ report. Reports report pump_ends drain_ends) → IfErr r (NamesBox pumps drainers desks)
-      → MatchResult r (Closes acts server ended) (Fails acts server)
-  settled-or-not (Ok report) pumps drainers desks own p d k settled reports fault =
+      → IfOk r (λ report. Reports report pump_ends drain_ends) → IfErr r (Unsettles desks (map with_bye server.leaves) (ended ++ (server.kept ++ finished)) pump_ends drain_ends)
+      → MatchResult r (Closes acts server ended) (Fails acts server ended)
+  settled-or-not (Ok report) desks own k settled reports fault =
       let marks = choose-marks server.pumps pump_ends pumped in
       record {
         marks = marks.0;
@@ -195,14 +193,26 @@ module _ {S Rest : Type 0} (acts : Acts S Rest) (server : ServerView S Rest) (wh
         settled = settled;
         reports = reports;
       }
-  settled-or-not (Err fault) pumps drainers desks own p d k settled reports named =
-      inr (
-        (pump_ends, pumped),
-        (drain_ends, drained),
-        names-same pumps (length server.pumps) drainers (length server.drainers) desks (length server.made) fault
-            (omega (arith, p, pumps-many acts server whole)) (omega (arith, d, drainers-many acts server whole)) (omega (arith, k, desks-many acts server whole)) named,
-      )
+  settled-or-not (Err fault) desks own k settled reports why =
+      inr (record {
+        pump_ends = pump_ends;
+        drain_ends = drain_ends;
+        finished = finished;
+        pumped = pumped;
+        drained = drained;
+        of_server = own;
+        why = inr (subst (λ n. Unsettles n (map with_bye server.leaves) (ended ++ (server.kept ++ finished)) pump_ends drain_ends fault) (k ∙ sym (desks-many acts server whole)) why);
+      })
 
-  -- the port by which a drainer is told to leave was not taken
-  pub not-told : (fault : CloseFault) → NamesBox (length server.pumps) (length server.drainers) (length server.made) fault → Fails acts server fault
-  not-told fault named = inr ((pump_ends, pumped), (drain_ends, drained), named)
+  -- a drainer could not be told to leave
+  pub not-told : (fault : CloseFault) → All (IsEndOf server.made) finished → CannotTell acts server.leaves fault → Fails acts server ended fault
+  not-told fault own why =
+      inr (record {
+        pump_ends = pump_ends;
+        drain_ends = drain_ends;
+        finished = finished;
+        pumped = pumped;
+        drained = drained;
+        of_server = own;
+        why = inl why;
+      })

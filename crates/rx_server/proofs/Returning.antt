@@ -1,5 +1,5 @@
 -- Inboxes of desks that came back, one after another.
-use Rattle.std.proofs.Common.{◌≡◌, ◌∙◌, sym, refl, ap, subst, ℕ, zero, suc, ◌<◌, ◌≤◌, List, [], ◌∷◌, ◌++◌, length, map, slice_get, Some, inl, inr, arith}
+use Rattle.std.proofs.Common.{◌≡◌, ◌∙◌, sym, refl, ap, subst, ℕ, zero, suc, ◌<◌, ◌≤◌, List, [], ◌∷◌, ◌++◌, append_assoc, length, map, slice_get, ◌⊎◌, Some, inl, inr, arith}
 use Rattle.std.proofs.lemmas.List.{length-map}
 use Rattle.std.proofs.lemmas.List.Elements.{All-cons, All-head, All-nil, All-tail, All-weaker}
 use Rattle.std.specs.List.{All, FoldsTo}
@@ -8,15 +8,12 @@ use Rattle.rx_pump.specs.declared.call.Call.{Call}
 use Rattle.rx_pump.specs.declared.ended_desk.EndedDesk.{EndedDesk}
 use Rattle.rx_pump.specs.declared.reply.Reply.{Reply}
 use Rattle.rx_pump.specs.Pumps.{place_of}
-use Rattle.rx_server.specs.declared.close_fault.CloseCause.TheVariants.{Unsettled}
-use Rattle.rx_server.specs.declared.close_fault.CloseFault.{CloseFault}
-use Rattle.rx_server.specs.declared.start_fault.Role.TheVariants.{Drainer, Pump, Worker}
 use Rattle.rx_server.specs.Leaving.{HasItsBoxes}
-use Rattle.rx_server.specs.Returning.{ReturnsInbox, number_of}
-use Rattle.rx_server.specs.Servers.{NamesBox}
+use Rattle.rx_server.specs.Returning.{CameTwice, ComesAgain, ReturnsInbox, number_of}
 use Rattle.rx_server.specs.Wirings.{Wiring}
 use Rattle.rx_settling.specs.Parts.{LacksInbox, PartsView, placed}
 use Rattle.rx_settling.proofs.Gathered.{AllInboxes, inboxes_of, placed-count, placed-inboxes, placed-ports, ports_of}
+use Rattle.rx_settling.proofs.Room.{placed-lacks}
 
 -- what holds of all holds of the item behind the first ones
 pub All-here : {X : Type 0} (P : X → Type 0) (xs : List X) (x : X) (ys : List X) → All P (xs ++ x ∷ ys) → P x
@@ -148,22 +145,89 @@ module _ {S : Type 0} where
       let count : length desk.ports.items ≡ length w.subjects = sym (length-map desk.ports.items (λ (port : Outgoing (Call S)). port.box)) ∙ ap length (desk-row w desk has) in
       first-number has.number desk.ports.items (omega (arith, count)) (desk-ports w desk has)
 
--- FAULTS
+-- DESKS THAT COME AGAIN
 
--- the fault is that of the box at this place
-module _ (pumps drainers workers place : ℕ) (fault : CloseFault) where
-  pub names-pump : fault ≡ record { thread = Pump; index = place; cause = Unsettled } → place < pumps → NamesBox pumps drainers workers fault
-  names-pump is within = subst (λ (f : CloseFault). NamesBox pumps drainers workers f) (sym is) (refl, inl (refl, within))
+both-more : (m n : ℕ) → (m ≡ n) ⊎ ¬ (m ≡ n) → (suc m ≡ suc n) ⊎ ¬ (suc m ≡ suc n)
+both-more m n (inl same) = inl (ap suc same)
+both-more m n (inr differ) = inr (λ same. differ (omega (arith, same)))
 
-  pub names-drainer : fault ≡ record { thread = Drainer; index = place; cause = Unsettled } → place < drainers → NamesBox pumps drainers workers fault
-  names-drainer is within = subst (λ (f : CloseFault). NamesBox pumps drainers workers f) (sym is) (refl, inr (inl (refl, within)))
+same-or-not : (m n : ℕ) → (m ≡ n) ⊎ ¬ (m ≡ n)
+same-or-not zero zero = inl refl
+same-or-not zero (suc n) = inr (λ same. omega (arith, same))
+same-or-not (suc m) zero = inr (λ same. omega (arith, same))
+same-or-not (suc m) (suc n) = both-more m n (same-or-not m n)
 
-  pub names-worker : fault ≡ record { thread = Worker; index = place; cause = Unsettled } → place < workers → NamesBox pumps drainers workers fault
-  names-worker is within = subst (λ (f : CloseFault). NamesBox pumps drainers workers f) (sym is) (refl, inr (inr (refl, within)))
+module _ {S : Type 0} where
+  -- one of these desks has the number
+  pub record HasNumber (number : ℕ) (desks : List (EndedDesk S)) : Type 0 where
+    pub first : List (EndedDesk S)
+    pub one : EndedDesk S
+    pub rest : List (EndedDesk S)
+    pub parts : first ++ one ∷ rest ≡ desks
+    pub same : number_of one.ports.items ≡ number
 
--- a fault stays one of as many, or of more
-pub names-same : (pumps pumps2 drainers drainers2 workers workers2 : ℕ) (fault : CloseFault) → pumps ≤ pumps2 → drainers ≤ drainers2 → workers ≤ workers2
-    → NamesBox pumps drainers workers fault → NamesBox pumps2 drainers2 workers2 fault
-names-same pumps pumps2 drainers drainers2 workers workers2 fault p d w (cause, inl named) = (cause, inl (named.0, omega (arith, named.1, p)))
-names-same pumps pumps2 drainers drainers2 workers workers2 fault p d w (cause, inr (inl named)) = (cause, inr (inl (named.0, omega (arith, named.1, d))))
-names-same pumps pumps2 drainers drainers2 workers workers2 fault p d w (cause, inr (inr named)) = (cause, inr (inr (named.0, omega (arith, named.1, w))))
+  number-here : (number : ℕ) (desk : EndedDesk S) (desks : List (EndedDesk S)) → number_of desk.ports.items ≡ number → HasNumber number (desk ∷ desks)
+  number-here number desk desks same = record { first = []; one = desk; rest = desks; parts = refl; same = same }
+
+  number-later : (number : ℕ) (desk : EndedDesk S) (desks : List (EndedDesk S)) → HasNumber number desks → HasNumber number (desk ∷ desks)
+  number-later number desk desks has = record {
+    first = desk ∷ has.first;
+    one = has.one;
+    rest = has.rest;
+    parts = ap (λ (l : List (EndedDesk S)). desk ∷ l) has.parts;
+    same = has.same;
+  }
+
+  found-by : (number : ℕ) (before : List (PartsView (Reply S))) (desk : EndedDesk S) (desks : List (EndedDesk S)) (next : List (PartsView (Reply S)))
+      → next ≡ placed (number_of desk.ports.items) desk.inbox before → LacksInbox number before → (LacksInbox number next → HasNumber number desks)
+      → (number_of desk.ports.items ≡ number) ⊎ ¬ (number_of desk.ports.items ≡ number) → HasNumber number (desk ∷ desks)
+  found-by number before desk desks next is lacks later (inl same) = number-here number desk desks same
+  found-by number before desk desks next is lacks later (inr differ) =
+      number-later number desk desks
+      (later (subst (LacksInbox number) (sym is) (placed-lacks (number_of desk.ports.items) number desk.inbox before differ lacks)))
+
+  -- an inbox that was missing and is there came back with one of them
+  pub found : (number : ℕ) (before : List (PartsView (Reply S))) (desks : List (EndedDesk S)) (after : List (PartsView (Reply S)))
+      → LacksInbox number before → FoldsTo ReturnsInbox before desks after → ¬ LacksInbox number after → HasNumber number desks
+  found number before [] after lacks folds there = absurd (there (subst (LacksInbox number) folds lacks))
+  found number before (desk ∷ desks) after lacks folds there =
+      found-by number before desk desks folds.0 folds.1.1 lacks (λ still. found number folds.0 desks after still folds.2 there)
+      (same-or-not (number_of desk.ports.items) number)
+
+  -- so where none was there, and one comes again, two of them have one number
+  pub came-twice : (before : List (PartsView (Reply S))) (desks : List (EndedDesk S)) → ((place : ℕ) → LacksInbox place before) → ComesAgain before desks → CameTwice desks
+  came-twice before desks none again =
+      let number = number_of again.desk.ports.items in
+      let has = found number before again.first again.came (none number) again.inboxes again.there in
+      record {
+        first = has.first;
+        one = has.one;
+        between = has.rest;
+        other = again.desk;
+        rest = again.rest;
+        parts = sym (append_assoc has.first (has.one ∷ has.rest) (again.desk ∷ again.rest)) ∙ ap (λ (l : List (EndedDesk S)). l ++ again.desk ∷ again.rest) has.parts ∙ again.parts;
+        same = has.same;
+      }
+
+  -- desks that came before
+  pub again-front : (before : List (PartsView (Reply S))) (xs ys : List (EndedDesk S)) → ComesAgain before xs → ComesAgain before (xs ++ ys)
+  again-front before xs ys again = record {
+    first = again.first;
+    desk = again.desk;
+    rest = again.rest ++ ys;
+    parts = sym (append_assoc again.first (again.desk ∷ again.rest) ys) ∙ ap (λ (l : List (EndedDesk S)). l ++ ys) again.parts;
+    came = again.came;
+    inboxes = again.inboxes;
+    there = again.there;
+  }
+
+  pub again-behind : (before mid : List (PartsView (Reply S))) (xs ys : List (EndedDesk S)) → FoldsTo ReturnsInbox before xs mid → ComesAgain mid ys → ComesAgain before (xs ++ ys)
+  again-behind before mid xs ys folds again = record {
+    first = xs ++ again.first;
+    desk = again.desk;
+    rest = again.rest;
+    parts = append_assoc xs again.first (again.desk ∷ again.rest) ∙ ap (λ (l : List (EndedDesk S)). xs ++ l) again.parts;
+    came = again.came;
+    inboxes = FoldsTo-append ReturnsInbox before xs again.first mid again.came folds again.inboxes;
+    there = again.there;
+  }

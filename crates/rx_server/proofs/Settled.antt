@@ -3,7 +3,7 @@ use Rattle.std.proofs.Common.{◌≡◌, ◌∙◌, sym, refl, ap, subst, ℕ, �
 use Rattle.std.proofs.lemmas.List.{length-map}
 use Rattle.std.proofs.lemmas.List.Elements.{All-head, All-tail, All-weaker}
 use Rattle.std.proofs.lemmas.Option.{slice_get_within}
-use Rattle.std.specs.List.{All, AllZip, FoldsTo}
+use Rattle.std.specs.List.{All, AllZip}
 use Rattle.rx_mailbox.specs.Boxes.{Box, HasEachBye, Incoming, Outgoing}
 use Rattle.rx_mailbox.specs.Passes.{SettledView, inbox_in}
 use Rattle.rx_mailbox.specs.Settling.{GotAll}
@@ -19,7 +19,7 @@ use Rattle.rx_settling.proofs.Rows.{dealt-count}
 use Rattle.rx_server.specs.declared.rooms.Rooms.{Rooms}
 use Rattle.rx_server.specs.declared.settled_boxes.SettledBoxes.{SettledBoxes}
 use Rattle.rx_server.specs.Leaving.{AreRow, HasItsBoxes, HasLeft}
-use Rattle.rx_server.specs.Returning.{ReturnsInbox, number_of}
+use Rattle.rx_server.specs.Returning.{HaveComeBack, number_of}
 use Rattle.rx_server.specs.Rooms.{HoldBoxes}
 use Rattle.rx_server.specs.Servers.{AreRepliesOf, GotEach, HaveSettled}
 use Rattle.rx_server.specs.Wirings.{Wiring}
@@ -68,10 +68,8 @@ module _ {S Rest : Type 0} (w : Wiring S) (rooms : Rooms S Rest) (ended : List (
   answers_of_pumps = map (λ end. end.replies.items) rooms.pumps.items
 
   -- all came back
-  pub record CameBack (subjects : List (PartsView (Call S))) (drainers : List (PartsView (Out S))) (replies : List (PartsView (Reply S))) : Type 0 where
-    pub subjects_are : subjects ≡ dealt_each calls_of_desks (dealt_each calls_of_drainers (given (map (λ end. end.inbox) rooms.pumps.items) rooms.returned.subjects.items))
-    pub drainers_are : drainers ≡ dealt rooms.leaves.items (given (map (λ end. end.inbox) rooms.drainers.items) (dealt_each outs_of_pumps rooms.returned.drainers.items))
-    pub replies_are : FoldsTo ReturnsInbox (dealt_each answers_of_pumps rooms.returned.replies.items) (ended ++ rooms.desks.items) replies
+  abbrev pub CameBack : List (PartsView (Call S)) → List (PartsView (Out S)) → List (PartsView (Reply S)) → Type 0
+  CameBack subjects drainers replies = HaveComeBack rooms.returned rooms.leaves.items (ended ++ rooms.desks.items) rooms.pumps.items rooms.drainers.items subjects drainers replies
 
   module _ (subjects : List (PartsView (Call S))) (drainers : List (PartsView (Out S))) (replies : List (PartsView (Reply S))) (came : CameBack subjects drainers replies) where
     -- COUNTS

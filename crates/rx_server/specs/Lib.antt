@@ -5,4 +5,5 @@ pub mod OpenBoxes
 pub mod Returning
 pub mod Rooms
 pub mod Servers
+pub mod Starting
 pub mod Wirings

@@ -28,6 +28,7 @@ use Rattle.rx_server.specs.declared.settled_boxes.SettledBoxes.{SettledBoxes}
 use Rattle.rx_server.specs.declared.start_fault.Role.{Role}
 use Rattle.rx_server.specs.declared.start_fault.Role.TheVariants.{Drainer, Pump, Worker}
 use Rattle.rx_server.specs.Ends.{FirstStopped, AreOver}
+use Rattle.rx_server.specs.Returning.{CameTwice, IsFirstUnsettled}
 use Rattle.rx_server.specs.Wirings.{Wiring, IsWired}
 
 -- a server: its configuration, its pumps and drainers as they were before their first turn, the ports by which the drainers are
@@ -183,23 +184,18 @@ module _ {S Rest : Type 0} (acts : Acts S Rest) where
 
 -- WHY NOTHING IS REPORTED
 
--- the fault is that of one of so many threads of a role
-abbrev pub IsOf : Role → ℕ → CloseFault → Type 0
-IsOf role count fault = (fault.thread ≡ role) × (fault.index < count)
-
--- the fault is that of the box of one of so many pumps, drainers and workers, which did not settle
-abbrev pub NamesBox : ℕ → ℕ → ℕ → CloseFault → Type 0
-NamesBox pumps drainers workers fault =
-    (fault.cause ≡ Unsettled) × (IsOf Pump pumps fault ⊎ IsOf Drainer drainers fault ⊎ IsOf Worker workers fault)
+module _ {S Rest : Type 0} where
+  -- a box of a server of so many workers did not settle: a desk came back twice, and with it a port of each subject's box, of which
+  -- the first is named; or the one that is named is the first that cannot settle
+  abbrev pub Unsettles : ℕ → List (Outgoing (Out S)) → List (EndedDesk S) → List (PumpEnd S) → List (DrainEnd S Rest) → CloseFault → Type 0
+  Unsettles workers leaves desks pumps drainers fault =
+      (fault.cause ≡ Unsettled)
+      × ((CameTwice desks × (fault.thread ≡ Pump) × (fault.index ≡ 0)) ⊎ IsFirstUnsettled workers leaves desks pumps drainers fault.thread fault.index)
 
 module _ {S Rest : Type 0} (acts : Acts S Rest) where
   -- each pump served to its end
   abbrev pub HavePumped : List (PumpView S) → Type 0
   HavePumped pumps = (ends : List (PumpEnd S)) × AllZip pump_serving.HasServed pumps ends
-
-  -- and each drainer
-  abbrev pub HaveDrained : List (DrainerView S Rest) → Type 0
-  HaveDrained drainers = (ends : List (DrainEnd S Rest)) × AllZip (drainer_serving.HasServed acts) drainers ends
 
   -- the thread is the first that stopped at a fault of its own, pumps before drainers; all threads are over
   abbrev pub IsFirst : List (PumpView S) → List (DrainerView S Rest) → Role → ℕ → Type 0
@@ -210,8 +206,22 @@ module _ {S Rest : Type 0} (acts : Acts S Rest) where
       HavePumped pumps × FirstStopped (drainer_serving.HasServed acts) (drainer_serving.HasStopped acts) drainers index
   IsFirst pumps drainers Worker index = ⊥
 
+  -- a drainer could not be told to leave, since its inbox was gone, though it served to its end
+  abbrev pub CannotTell : List (Outgoing (Out S)) → CloseFault → Type 0
+  CannotTell leaves fault = (fault.cause ≡ Unsettled) × (fault.thread ≡ Drainer) × (fault.index < length leaves)
+
+  -- all threads served to their end, and yet a box did not settle, with the desks that were handed in, those that the server kept,
+  -- and those that it ended itself
+  pub record LeavesUnsettled (server : ServerView S Rest) (ended : List (EndedDesk S)) (fault : CloseFault) : Type 0 where
+    pub pump_ends : List (PumpEnd S)
+    pub drain_ends : List (DrainEnd S Rest)
+    pub finished : List (EndedDesk S)
+    pub pumped : AllZip pump_serving.HasServed server.pumps pump_ends
+    pub drained : AllZip (drainer_serving.HasServed acts) server.drainers drain_ends
+    pub of_server : All (IsEndOf server.made) finished
+    pub why : CannotTell server.leaves fault ⊎ Unsettles (length server.made) (map with_bye server.leaves) (ended ++ (server.kept ++ finished)) pump_ends drain_ends fault
+
   -- a thread stopped at a fault of its own, or all served to their end and a box did not settle
-  abbrev pub Fails : ServerView S Rest → CloseFault → Type 0
-  Fails server fault =
-      ((fault.cause ≡ Ended) × IsFirst server.pumps server.drainers fault.thread fault.index)
-      ⊎ (HavePumped server.pumps × HaveDrained server.drainers × NamesBox (length server.pumps) (length server.drainers) (length server.made) fault)
+  abbrev pub Fails : ServerView S Rest → List (EndedDesk S) → CloseFault → Type 0
+  Fails server ended fault =
+      ((fault.cause ≡ Ended) × IsFirst server.pumps server.drainers fault.thread fault.index) ⊎ LeavesUnsettled server ended fault

@@ -9,8 +9,9 @@ use std::fmt;
 pub enum CloseCause {
     /// The thread ended by a fault of its own.
     Ended,
-    /// All threads ended well, but a box did not settle: not each port of it came back once, or a Bye is missing. The box of a
-    /// subject counts as its pump, the box of a drainer as that drainer, and the box of replies to a desk as that worker.
+    /// All threads ended well, but a box did not settle, with all those before it settled: not each port of it came back once,
+    /// or a Bye is missing. The box of a subject counts as its pump, the box of a drainer as that drainer, and the box of replies
+    /// to a desk as that worker.
     Unsettled,
 }
 

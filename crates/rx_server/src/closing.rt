@@ -30,15 +30,16 @@ impl<S: Sink> Server<S> {
     ///
     /// # Errors
     ///
-    /// A thread ended by a fault of its own: the first such pump, else the first such drainer; all threads have ended then
-    /// too. Or a box did not settle: a desk that was handed out was not handed in, or is gone.
+    /// `Ended`: a thread ended by a fault of its own, the first such pump, else the first such drainer; all threads have ended
+    /// then too. `Unsettled`: all served to their end, and a box did not settle, since a desk that was handed out was not handed
+    /// in, or is gone. It is the first such box of a pump, else of a drainer, else of a worker.
     pub fn close<R: Threads + Wait>(
         self,
         rt: &R,
         ended: Vec<EndedDesk<S>, Heap>,
     ) -> Result<Report<S>, CloseFault>
         requires { All (IsEndOf self.made) ended.items }
-        ensures { MatchResult result (Closes S.acts self ended.items) (Fails S.acts self) }
+        ensures { MatchResult result (Closes S.acts self ended.items) (Fails S.acts self ended.items) }
     {
         let (running, mut leaves, mut desks, mut rooms) = self.into_parts();
         finish_desks(rt, &mut desks, &mut rooms.desks);

@@ -1,12 +1,13 @@
 // The parts of a server, made of new boxes.
-ghost use Rattle.std.specs.Prelude.{◌≡◌, ◌+◌, ◌<◌, ◌≤◌, ◌++◌, ◌∷◌, [], length, map, vec_len, vec_capacity, IfOk, OnOk};
+ghost use Rattle.std.specs.Prelude.{◌≡◌, ◌+◌, ◌<◌, ◌≤◌, ◌++◌, ◌∷◌, [], length, map, vec_len, vec_capacity, IfErr, IfOk, OnErr, OnOk};
 ghost use Rattle.std.specs.List.{All, enumerate_from, zip};
 ghost use Rattle.std.specs.Vec.Iter.{into_iter_items};
 ghost use Rattle.rx_history.specs.Histories.{NoEvents};
-ghost use Rattle.rx_hub.specs.Hubs.{StandsFor};
+ghost use Rattle.rx_hub.specs.Hubs.{HubView, StandsFor};
 ghost use Rattle.rx_pump.specs.Desks.{fresh_desk};
 ghost use Rattle.rx_pump.specs.Pumps.{fresh_pump};
 ghost use Rattle.rx_drain.specs.Drainers.{fresh_drainer};
+ghost use Rattle.rx_server.specs.Starting.{NoMemoryBelow, NoMemoryFor};
 ghost use Rattle.rx_server.specs.Wirings.{AreHubsOf, behind, next_port, row_ports};
 
 use crate::port_row::{PortRow, next_ports};
@@ -26,20 +27,37 @@ pub(crate) fn make_hubs(
     alloc: &Heap,
     subjects: &Vec<SubjectConfig, Heap>,
 ) -> Result<Vec<Hub, Heap>, StartFault>
-    ensures { IfOk result (λ hubs. AreHubsOf subjects.now.items hubs.items) }
+    requires some { 0 < length subjects.now.items }
+    ensures hubs { IfOk result (λ hubs. AreHubsOf subjects.now.items hubs.items) }
+    ensures fault { IfErr result (NoMemoryBelow Role.Pump (length subjects.now.items)) }
 {
     let Ok(mut hubs) = room(alloc, subjects.len()) else {
         return Err(StartFault::memory(Role::Pump, 0));
     };
     for subject in subjects {
-        let Ok(hub) = make_hub(alloc, subject) else {
-            return Err(StartFault::memory(Role::Pump, hubs.len()));
-        };
-        let Ok(()) = hubs.push(hub) else {
-            return Err(StartFault::memory(Role::Pump, hubs.len()));
-        };
+        put_hub(alloc, subject, &mut hubs)?;
     }
     Ok(hubs)
+}
+
+// Makes one more hub.
+fn put_hub(
+    alloc: &Heap,
+    subject: &SubjectConfig,
+    hubs: &mut Vec<Hub, Heap>,
+) -> Result<(), StartFault>
+    ensures hub { OnOk result ((hub : HubView) × (hubs.new.items ≡ hubs.old.items ++ hub ∷ []) × (hub.state.rules ≡ subject.now.rules)
+        × StandsFor hub.state NoEvents × (hub.misses ≡ 0)) }
+    ensures fault { IfErr result (NoMemoryFor Role.Pump (vec_len hubs.old)) }
+{
+    let fault = StartFault::memory(Role::Pump, hubs.len());
+    let Ok(hub) = make_hub(alloc, subject) else {
+        return Err(fault);
+    };
+    match hubs.push(hub) {
+        Ok(()) => Ok(()),
+        Err(_) => Err(fault),
+    }
 }
 
 // The hub of a subject, over the memory of its budget, or what the others share.
@@ -92,6 +110,8 @@ pub(crate) fn make_pumps<S: Drop>(
     ensures pumps { OnOk result (pumps.new.items
         ≡ map (λ x. fresh_pump x.1.0 x.1.1 (row_ports x.0 drainers.old.items) (row_ports x.0 replies.old.items)) (enumerate_from 0 (zip (into_iter_items hubs.old) (into_iter_items inboxes.old)))) }
     ensures drainers { OnOk result (drainers.new.items ≡ map (behind (vec_len pumps.new)) drainers.old.items) }
+    ensures fault { IfErr result (NoMemoryFor Role.Pump (vec_len pumps.new)) }
+    ensures fewer { OnErr result (vec_len pumps.new < length (into_iter_items inboxes.old)) }
 {
     while let Some(inbox) = inboxes.next() {
         let Some(hub) = hubs.next() else {
@@ -122,6 +142,8 @@ fn put_pump<S: Drop>(
     ensures capacity { vec_capacity pumps.new ≡ vec_capacity pumps.old }
     ensures drainers { OnOk result (drainers.new.items ≡ map (behind 1) drainers.old.items) }
     ensures replies { OnOk result (replies.new.items ≡ map (behind 1) replies.old.items) }
+    ensures fault { IfErr result (NoMemoryFor Role.Pump (vec_len pumps.old)) }
+    ensures same { OnErr result (pumps.new ≡ pumps.old) }
 {
     match make_pump(alloc, hub, inbox, drainers, replies) {
         Ok(pump) => {
@@ -205,6 +227,8 @@ pub(crate) fn make_desks<S: Drop>(
     requires room { length (into_iter_items inboxes.old) ≤ vec_capacity desks.old }
     ensures desks { OnOk result (desks.new.items ≡ map (λ x. fresh_desk (row_ports x.0 subjects.old.items) x.1) (enumerate_from 0 (into_iter_items inboxes.old))) }
     ensures subjects { OnOk result (subjects.new.items ≡ map (behind (vec_len desks.new)) subjects.old.items) }
+    ensures fault { IfErr result (NoMemoryFor Role.Worker (vec_len desks.new)) }
+    ensures fewer { OnErr result (vec_len desks.new < length (into_iter_items inboxes.old)) }
 {
     while let Some(inbox) = inboxes.next() {
         put_desk(alloc, inbox, subjects, desks)?;
@@ -225,6 +249,8 @@ fn put_desk<S: Drop>(
     ensures desks { OnOk result (desks.new.items ≡ desks.old.items ++ fresh_desk (map next_port subjects.old.items) inbox ∷ []) }
     ensures capacity { vec_capacity desks.new ≡ vec_capacity desks.old }
     ensures subjects { OnOk result (subjects.new.items ≡ map (behind 1) subjects.old.items) }
+    ensures fault { IfErr result (NoMemoryFor Role.Worker (vec_len desks.old)) }
+    ensures same { OnErr result (desks.new ≡ desks.old) }
 {
     match make_desk(alloc, inbox, subjects) {
         Ok(desk) => {
@@ -266,7 +292,9 @@ pub(crate) fn make_drainers<S: Sink>(
     requires subjects { All (λ row. length (into_iter_items inboxes.old) ≤ row.count) subjects.old.items }
     requires none { drainers.old.items ≡ [] }
     requires room { length (into_iter_items inboxes.old) ≤ vec_capacity drainers.old }
-    ensures { OnOk result (drainers.new.items ≡ map (λ x. fresh_drainer x.1 (row_ports x.0 subjects.old.items)) (enumerate_from 0 (into_iter_items inboxes.old))) }
+    ensures drainers { OnOk result (drainers.new.items ≡ map (λ x. fresh_drainer x.1 (row_ports x.0 subjects.old.items)) (enumerate_from 0 (into_iter_items inboxes.old))) }
+    ensures fault { IfErr result (NoMemoryFor Role.Drainer (vec_len drainers.new)) }
+    ensures fewer { OnErr result (vec_len drainers.new < length (into_iter_items inboxes.old)) }
 {
     while let Some(inbox) = inboxes.next() {
         put_drainer(alloc, inbox, subjects, drainers)?;
@@ -288,6 +316,8 @@ fn put_drainer<S: Sink>(
     ensures drainers { OnOk result (drainers.new.items ≡ drainers.old.items ++ fresh_drainer inbox (map next_port subjects.old.items) ∷ []) }
     ensures capacity { vec_capacity drainers.new ≡ vec_capacity drainers.old }
     ensures subjects { OnOk result (subjects.new.items ≡ map (behind 1) subjects.old.items) }
+    ensures fault { IfErr result (NoMemoryFor Role.Drainer (vec_len drainers.old)) }
+    ensures same { OnErr result (drainers.new ≡ drainers.old) }
 {
     match make_drainer(alloc, inbox, subjects) {
         Ok(drainer) => {

@@ -1,8 +1,9 @@
 // Boxes of one kind.
-ghost use Rattle.std.specs.Prelude.{◌≡◌, ◌<◌, ◌≤◌, ◌++◌, [], ◌∷◌, IfOk, OnOk, List, vec_len, vec_capacity};
+ghost use Rattle.std.specs.Prelude.{◌≡◌, ◌<◌, ◌≤◌, ◌++◌, [], ◌∷◌, IfErr, IfOk, OnOk, List, vec_len, vec_capacity};
 ghost use Rattle.std.specs.Vec.Iter.{into_iter_items};
 ghost use Rattle.rx_mailbox.specs.Boxes.{Box, capacity_of, incoming};
 ghost use Rattle.rx_mailbox.specs.Sizes.{IsSize};
+ghost use Rattle.rx_server.specs.Starting.{NoMemoryBelow, NoMemoryFor};
 ghost use Rattle.rx_server.specs.Wirings.{AreOpened, whole_row};
 
 use crate::port_row::PortRow;
@@ -28,16 +29,16 @@ pub(crate) fn open_all<B: Drop>(
     capacity: usize,
     senders: u32,
 ) -> Result<Opened<B>, StartFault>
-    requires { IsSize capacity senders }
-    ensures { IfOk result (λ opened. (boxes : List (Box B)) × AreOpened count capacity senders boxes (into_iter_items opened.inboxes) opened.rows.items) }
+    requires size { IsSize capacity senders }
+    requires some { 0 < count }
+    ensures opened { IfOk result (λ opened. (boxes : List (Box B)) × AreOpened count capacity senders boxes (into_iter_items opened.inboxes) opened.rows.items) }
+    ensures fault { IfErr result (NoMemoryBelow role count) }
 {
     let Ok(mut opening) = Opening::new(alloc, count) else {
         return Err(StartFault::memory(role, 0));
     };
-    for place in 0..count {
-        let Ok(()) = open_one(alloc, capacity, senders, &mut opening) else {
-            return Err(StartFault::memory(role, place));
-        };
+    for _ in 0..count {
+        open_one(alloc, role, capacity, senders, &mut opening)?;
     }
     Ok(opening.opened())
 }
@@ -73,13 +74,14 @@ impl<B: Drop> Opening<B> {
     }
 }
 
-// Opens one more.
+// Opens one more, for the next thread of a role.
 fn open_one<B: Drop>(
     alloc: &Heap,
+    role: Role,
     capacity: usize,
     senders: u32,
     opening: &mut Opening<B>,
-) -> Result<(), Memory>
+) -> Result<(), StartFault>
     requires size { IsSize capacity senders }
     requires inboxes { vec_len opening.old.inboxes < vec_capacity opening.old.inboxes }
     requires rows { vec_len opening.old.rows < vec_capacity opening.old.rows }
@@ -87,9 +89,14 @@ fn open_one<B: Drop>(
         × (opening.new.inboxes.items ≡ opening.old.inboxes.items ++ incoming box senders [] ∷ [])
         × (opening.new.rows.items ≡ opening.old.rows.items ++ whole_row senders box ∷ [])) }
     ensures capacities { (vec_capacity opening.new.inboxes ≡ vec_capacity opening.old.inboxes) × (vec_capacity opening.new.rows ≡ vec_capacity opening.old.rows) }
+    ensures fault { IfErr result (NoMemoryFor role (vec_len opening.old.inboxes)) }
 {
-    let Ok(made) = open(alloc.clone()?, capacity, senders) else {
-        return Err(Memory);
+    let fault = StartFault::memory(role, opening.inboxes.len());
+    let Ok(heap) = alloc.clone() else {
+        return Err(fault);
+    };
+    let Ok(made) = open(heap, capacity, senders) else {
+        return Err(fault);
     };
     let (inbox, ports) = made;
     opening.rows.push_reserved(PortRow::new(&inbox, ports));

@@ -1,12 +1,12 @@
 // What came back of the boxes of a server that is closed.
-ghost use Rattle.std.specs.Prelude.{◌≡◌, ◌+◌, ◌^◌, ◌<◌, ◌≤◌, [], length, map, vec_capacity, vec_len, IfErr, IfOk, MatchResult, OnOk};
+ghost use Rattle.std.specs.Prelude.{◌≡◌, ◌+◌, ◌^◌, ◌<◌, ◌≤◌, [], length, map, vec_capacity, vec_len, IfErr, IfOk, MatchResult, None, OnOk};
 ghost use Rattle.std.specs.List.{All, AllZip, sum_by};
 ghost use Rattle.rx_pump.specs.Pumps.{counted};
-ghost use Rattle.rx_server.specs.Returning.{HaveReturned, number_of};
-ghost use Rattle.rx_server.specs.Servers.{NamesBox, report_of};
-ghost use Rattle.rx_settling.specs.Parts.{AreOfOneBox, Settles, dealt_each, given};
+ghost use Rattle.rx_server.specs.Returning.{ComesAgain, HaveReturned, StopsAt, number_of};
+ghost use Rattle.rx_server.specs.Servers.{report_of};
+ghost use Rattle.rx_settling.specs.Parts.{AreOfOneBox, HasRoom, Settles, dealt_each, given, missing};
 
-use crate::close_fault::CloseFault;
+use crate::close_fault::{CloseCause, CloseFault};
 use crate::report::SubjectReport;
 use crate::settled_boxes::SettledBoxes;
 use crate::start_fault::Role;
@@ -71,7 +71,7 @@ impl<S: Drop> Returned<S> {
         ensures subjects { IfOk result (λ boxes. AllZip Settles self.subjects.items boxes.subjects.items) }
         ensures drainers { IfOk result (λ boxes. AllZip Settles self.drainers.items boxes.drainers.items) }
         ensures replies { IfOk result (λ boxes. AllZip Settles self.replies.items boxes.replies.items) }
-        ensures fault { IfErr result (NamesBox (length self.subjects.items) (length self.drainers.items) (length self.replies.items)) }
+        ensures fault { IfErr result (λ fault. (fault.cause ≡ CloseCause.Unsettled) × StopsAt fault.thread fault.index self.subjects.items self.drainers.items self.replies.items) }
     {
         let Returned {
             subjects,
@@ -92,28 +92,29 @@ impl<S: Drop> Returned<S> {
     }
 }
 
-// Desks that have ended came back: their ports to the boxes of the subjects, and their inboxes.
+// Desks that have ended came back: their ports to the boxes of the subjects, and their inboxes. `Err` where one of them had come
+// back before: so the box of each subject has its port twice, and the first of them is told.
 pub(crate) fn return_desks<S: Drop>(
     desks: Vec<EndedDesk<S>, Heap>,
     subjects: &mut Vec<BoxParts<Call<S>>, Heap>,
     replies: &mut Vec<BoxParts<Reply<S>>, Heap>,
 ) -> Result<(), CloseFault>
-    requires some { 0 < length subjects.old.items }
     requires ports { All (λ desk. length desk.ports.items ≡ length subjects.old.items) desks.items }
     requires numbers { All (λ desk. number_of desk.ports.items < length replies.old.items) desks.items }
-    ensures { MatchResult result
+    requires room { All (HasRoom (missing replies.old.items)) subjects.old.items }
+    ensures returned { MatchResult result
         (λ _. HaveReturned desks.items subjects.old.items subjects.new.items replies.old.items replies.new.items)
-        (NamesBox (length subjects.old.items) 0 0) }
+        (λ fault. (fault ≡ record { thread = Role.Pump; index = 0; cause = CloseCause.Unsettled }) × ComesAgain replies.old.items desks.items) }
+    ensures room { OnOk result (All (HasRoom (missing replies.new.items)) subjects.new.items) }
 {
     for desk in desks {
         let EndedDesk { ports, inbox } = desk;
         let number = number_of(&ports);
-        if let Err(place) = deal(ports, subjects) {
-            return Err(CloseFault::unsettled(Role::Pump, place));
-        }
         let Ok(()) = put_inbox(inbox, number, replies) else {
-            // The desk came back twice, so the box of each subject has its port twice: the first is told.
             return Err(CloseFault::unsettled(Role::Pump, 0));
+        };
+        let Ok(()) = deal(ports, subjects) else {
+            unreachable!()
         };
     }
     Ok(())
@@ -137,17 +138,19 @@ pub(crate) fn return_pumps<S: Sink>(
     subjects: &mut Vec<BoxParts<Call<S>>, Heap>,
     drainers: &mut Vec<BoxParts<Out<S>>, Heap>,
     replies: &mut Vec<BoxParts<Reply<S>>, Heap>,
-) -> Result<Vec<SubjectReport, Heap>, CloseFault>
+) -> Vec<SubjectReport, Heap>
     requires empty { reports.items ≡ [] }
     requires room { vec_len ends ≤ vec_capacity reports }
     requires count { length ends.items ≤ length subjects.old.items }
+    requires inboxes { All (λ parts. parts.inbox ≡ None) subjects.old.items }
     requires drainers { All (λ end. length end.drainers.items ≡ length drainers.old.items) ends.items }
+    requires drainers_fit { All (HasRoom (length ends.items)) drainers.old.items }
     requires replies { All (λ end. length end.replies.items ≡ length replies.old.items) ends.items }
-    ensures reports { IfOk result (λ reports. reports.items ≡ map report_of ends.items) }
-    ensures subjects { OnOk result (subjects.new.items ≡ given (map (λ end. end.inbox) ends.items) subjects.old.items) }
-    ensures drainers { OnOk result (drainers.new.items ≡ dealt_each (map (λ end. end.drainers.items) ends.items) drainers.old.items) }
-    ensures replies { OnOk result (replies.new.items ≡ dealt_each (map (λ end. end.replies.items) ends.items) replies.old.items) }
-    ensures fault { IfErr result (NamesBox (length subjects.old.items) (length drainers.old.items) (length replies.old.items)) }
+    requires replies_fit { All (HasRoom (length ends.items)) replies.old.items }
+    ensures reports { result.items ≡ map report_of ends.items }
+    ensures subjects { subjects.new.items ≡ given (map (λ end. end.inbox) ends.items) subjects.old.items }
+    ensures drainers { drainers.new.items ≡ dealt_each (map (λ end. end.drainers.items) ends.items) drainers.old.items }
+    ensures replies { replies.new.items ≡ dealt_each (map (λ end. end.replies.items) ends.items) replies.old.items }
 {
     let mut reports = reports;
     for end in ends {
@@ -160,16 +163,16 @@ pub(crate) fn return_pumps<S: Sink>(
             ..
         } = end;
         let Ok(()) = put_inbox(inbox, place, subjects) else {
-            return Err(CloseFault::unsettled(Role::Pump, place));
+            unreachable!()
         };
-        if let Err(place) = deal(outs, drainers) {
-            return Err(CloseFault::unsettled(Role::Drainer, place));
-        }
-        if let Err(place) = deal(answers, replies) {
-            return Err(CloseFault::unsettled(Role::Worker, place));
-        }
+        let Ok(()) = deal(outs, drainers) else {
+            unreachable!()
+        };
+        let Ok(()) = deal(answers, replies) else {
+            unreachable!()
+        };
     }
-    Ok(reports)
+    reports
 }
 
 // What is reported of a pump.
@@ -190,16 +193,17 @@ pub(crate) fn return_drainers<S: Sink>(
     lists: Vec<Vec<PutAway<S::Rest>, Heap>, Heap>,
     subjects: &mut Vec<BoxParts<Call<S>>, Heap>,
     drainers: &mut Vec<BoxParts<Out<S>>, Heap>,
-) -> Result<(u64, Vec<Vec<PutAway<S::Rest>, Heap>, Heap>), CloseFault>
+) -> (u64, Vec<Vec<PutAway<S::Rest>, Heap>, Heap>)
     requires empty { lists.items ≡ [] }
     requires room { vec_len ends ≤ vec_capacity lists }
     requires count { length ends.items ≤ length drainers.old.items }
+    requires inboxes { All (λ parts. parts.inbox ≡ None) drainers.old.items }
     requires ports { All (λ end. length end.ports.items ≡ length subjects.old.items) ends.items }
-    ensures taken { IfOk result (λ left. left.0 ≡ counted (sum_by (λ end. end.taken) ends.items)) }
-    ensures put_away { IfOk result (λ left. map (λ list. list.items) left.1.items ≡ map (λ end. end.put_away.items) ends.items) }
-    ensures drainers { OnOk result (drainers.new.items ≡ given (map (λ end. end.inbox) ends.items) drainers.old.items) }
-    ensures subjects { OnOk result (subjects.new.items ≡ dealt_each (map (λ end. end.ports.items) ends.items) subjects.old.items) }
-    ensures fault { IfErr result (NamesBox (length subjects.old.items) (length drainers.old.items) 0) }
+    requires ports_fit { All (HasRoom (length ends.items)) subjects.old.items }
+    ensures taken { result.0 ≡ counted (sum_by (λ end. end.taken) ends.items) }
+    ensures put_away { map (λ list. list.items) result.1.items ≡ map (λ end. end.put_away.items) ends.items }
+    ensures drainers { drainers.new.items ≡ given (map (λ end. end.inbox) ends.items) drainers.old.items }
+    ensures subjects { subjects.new.items ≡ dealt_each (map (λ end. end.ports.items) ends.items) subjects.old.items }
 {
     let mut lists = lists;
     let mut taken: u64 = 0;
@@ -215,11 +219,11 @@ pub(crate) fn return_drainers<S: Sink>(
         taken = taken.saturating_add(more);
         lists.push_reserved(put_away);
         let Ok(()) = put_inbox(inbox, place, drainers) else {
-            return Err(CloseFault::unsettled(Role::Drainer, place));
+            unreachable!()
         };
-        if let Err(place) = deal(ports, subjects) {
-            return Err(CloseFault::unsettled(Role::Pump, place));
-        }
+        let Ok(()) = deal(ports, subjects) else {
+            unreachable!()
+        };
     }
-    Ok((taken, lists))
+    (taken, lists)
 }

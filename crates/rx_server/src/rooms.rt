@@ -1,9 +1,12 @@
 // Room for what is left when a server is closed.
-ghost use Rattle.std.specs.Prelude.{◌≡◌, ◌+◌, ◌++◌, ◌^◌, ◌<◌, [], length, IfErr, IfOk};
-ghost use Rattle.rx_server.specs.Servers.{HaveSettled, NamesBox, Reports};
+ghost use Rattle.std.specs.Prelude.{◌≡◌, ◌+◌, ◌++◌, ◌^◌, ◌<◌, [], length, map, IfErr, IfOk};
+ghost use Rattle.std.specs.List.{sum_by};
+ghost use Rattle.rx_pump.specs.Pumps.{counted};
+ghost use Rattle.rx_server.specs.Returning.{CameTwice, HaveComeBack};
+ghost use Rattle.rx_server.specs.Servers.{HaveSettled, Reports, Unsettles, report_of};
 ghost use Rattle.rx_server.specs.Wirings.{Wiring};
 
-use crate::close_fault::CloseFault;
+use crate::close_fault::{CloseCause, CloseFault};
 use crate::report::{Report, SubjectReport};
 use crate::returned::{Returned, return_desks, return_drainers, return_pumps};
 use crate::settled_boxes::SettledBoxes;
@@ -45,6 +48,16 @@ impl<S: Sink> Drop for Rooms<S> {
     }
 }
 
+// What is told of pumps and drainers that have ended, and the parts of all boxes, with room for those that settle.
+#[derive(Drop)]
+struct Collected<S: Sink> {
+    subjects: Vec<SubjectReport, Heap>,
+    taken: u64,
+    put_away: Vec<Vec<PutAway<S::Rest>, Heap>, Heap>,
+    returned: Returned<S>,
+    settled: SettledBoxes<S>,
+}
+
 impl<S: Sink> Rooms<S> {
     ghost use Rattle.rx_server.specs.Leaving.{HasLeft};
     ghost use Rattle.rx_server.specs.Rooms.{AreRooms};
@@ -81,7 +94,28 @@ impl<S: Sink> Rooms<S> {
         requires { (w : Wiring S) × HasLeft w self ended.items }
         ensures settled { IfOk result (λ report. HaveSettled report.boxes self.leaves.items (ended.items ++ self.desks.items) self.pumps.items self.drainers.items) }
         ensures reports { IfOk result (λ report. Reports report self.pumps.items self.drainers.items) }
-        ensures fault { IfErr result (NamesBox (length self.returned.subjects.items) (length self.returned.drainers.items) (length self.returned.replies.items)) }
+        ensures fault { IfErr result (Unsettles (length self.returned.replies.items) self.leaves.items (ended.items ++ self.desks.items) self.pumps.items self.drainers.items) }
+    {
+        let all = self.collect(ended)?;
+        let boxes = all.returned.settle(rt, all.settled)?;
+        Ok(Report {
+            subjects: all.subjects,
+            taken: all.taken,
+            put_away: all.put_away,
+            boxes,
+        })
+    }
+
+    // Puts all that is left back to its boxes. `Err` where a desk came back twice.
+    fn collect(self, ended: Vec<EndedDesk<S>, Heap>) -> Result<Collected<S>, CloseFault>
+        requires { (w : Wiring S) × HasLeft w self ended.items }
+        ensures came { IfOk result (λ all. HaveComeBack self.returned self.leaves.items (ended.items ++ self.desks.items) self.pumps.items self.drainers.items
+            all.returned.subjects.items all.returned.drainers.items all.returned.replies.items) }
+        ensures settled { IfOk result (λ all. all.settled ≡ self.settled) }
+        ensures subjects { IfOk result (λ all. all.subjects.items ≡ map report_of self.pumps.items) }
+        ensures taken { IfOk result (λ all. all.taken ≡ counted (sum_by (λ end. end.taken) self.drainers.items)) }
+        ensures put_away { IfOk result (λ all. map (λ list. list.items) all.put_away.items ≡ map (λ end. end.put_away.items) self.drainers.items) }
+        ensures twice { IfErr result (λ fault. (fault ≡ record { thread = Role.Pump; index = 0; cause = CloseCause.Unsettled }) × CameTwice (ended.items ++ self.desks.items)) }
     {
         let Rooms {
             desks,
@@ -99,24 +133,24 @@ impl<S: Sink> Rooms<S> {
             &mut returned.subjects,
             &mut returned.drainers,
             &mut returned.replies,
-        )?;
+        );
         let (taken, put_away) = return_drainers(
             drainers,
             put_away,
             &mut returned.subjects,
             &mut returned.drainers,
-        )?;
-        if let Err(place) = deal(leaves, &mut returned.drainers) {
-            return Err(CloseFault::unsettled(Role::Drainer, place));
-        }
+        );
+        let Ok(()) = deal(leaves, &mut returned.drainers) else {
+            unreachable!()
+        };
         return_desks(ended, &mut returned.subjects, &mut returned.replies)?;
         return_desks(desks, &mut returned.subjects, &mut returned.replies)?;
-        let boxes = returned.settle(rt, settled)?;
-        Ok(Report {
+        Ok(Collected {
             subjects,
             taken,
             put_away,
-            boxes,
+            returned,
+            settled,
         })
     }
 }

@@ -1,10 +1,11 @@
 // What runs of a server.
-ghost use Rattle.std.specs.Prelude.{◌≡◌, ◌≤◌, [], IfErr, IfOk, OnOk, length, map, vec_len, vec_capacity};
+ghost use Rattle.std.specs.Prelude.{◌≡◌, ◌<◌, ◌⊎◌, ◌≤◌, [], IfErr, IfOk, OnErr, OnOk, length, map, vec_len, vec_capacity};
 ghost use Rattle.std.specs.List.{AllZip};
 ghost use Rattle.rx_pump.specs.Serving as pump_serving;
 ghost use Rattle.rx_drain.specs.Serving as drainer_serving;
 ghost use Rattle.rx_server.specs.Rooms.{KeepsRooms};
 ghost use Rattle.rx_server.specs.Servers.{IsFirst};
+ghost use Rattle.rx_server.specs.Starting.{NoMemoryFor, NoThreadFor};
 
 use crate::close_fault::{CloseCause, CloseFault};
 use crate::closing::{join_drainers, join_pumps};
@@ -40,6 +41,7 @@ impl<S: Sink> Running<S> {
         ensures no_pump { IfOk result (λ running. running.pumps.items ≡ []) }
         ensures no_drainer { IfOk result (λ running. running.drainers.items ≡ []) }
         ensures room { IfOk result (λ running. (pumps ≤ vec_capacity running.pumps) × (drainers ≤ vec_capacity running.drainers)) }
+        ensures fault { IfErr result (λ fault. NoMemoryFor Role.Pump 0 fault ⊎ NoMemoryFor Role.Drainer 0 fault) }
     {
         let Ok(pumps) = room(alloc, pumps) else {
             return Err(StartFault::memory(Role::Pump, 0));
@@ -84,7 +86,9 @@ pub(crate) fn start_pumps<
 ) -> Result<(), StartFault>
     requires none { running.old.items ≡ [] }
     requires room { vec_len pumps.old ≤ vec_capacity running.old }
-    ensures { OnOk result (running.new.items ≡ pumps.old.items) }
+    ensures started { OnOk result (running.new.items ≡ pumps.old.items) }
+    ensures fault { IfErr result (NoThreadFor Role.Pump (vec_len running.new)) }
+    ensures fewer { OnErr result (vec_len running.new < vec_len pumps.old) }
 {
     pumps.reverse();
     while let Some(pump) = pumps.pop() {
@@ -109,7 +113,9 @@ where
     S::Rest: Send + 'static,
     requires none { running.old.items ≡ [] }
     requires room { vec_len drainers.old ≤ vec_capacity running.old }
-    ensures { OnOk result (map (λ drainer. drainer.handle.promise.0.value) running.new.items ≡ drainers.old.items) }
+    ensures started { OnOk result (map (λ drainer. drainer.handle.promise.0.value) running.new.items ≡ drainers.old.items) }
+    ensures fault { IfErr result (NoThreadFor Role.Drainer (vec_len running.new)) }
+    ensures fewer { OnErr result (vec_len running.new < vec_len drainers.old) }
 {
     drainers.reverse();
     while let Some(drainer) = drainers.pop() {

@@ -1,9 +1,10 @@
-ghost use Rattle.std.specs.Prelude.{◌≡◌, ◌+◌, ◌<◌, [], List, IfOk, IfSome, MatchOption, length, map, vec_len};
+ghost use Rattle.std.specs.Prelude.{◌≡◌, ◌+◌, ◌<◌, [], List, IfErr, IfOk, IfSome, MatchOption, length, map, vec_len};
 ghost use Rattle.std.specs.Arc.{arc_value};
 ghost use Rattle.std.specs.Vec.Iter.{into_iter_items};
 ghost use Rattle.rx_hub.specs.Hubs.{HubView};
 ghost use Rattle.rx_server.specs.Wirings.{Wiring};
 ghost use Rattle.rx_server.specs.Servers.{IsServerOf};
+ghost use Rattle.rx_server.specs.Starting.{IsStartFaultOf, NoMemoryFor};
 
 use crate::rooms::Rooms;
 use crate::running::Running;
@@ -116,8 +117,13 @@ impl<S: Sink> Server<S> {
     }
 }
 
-/// Makes the hubs and boxes of a configuration, and starts its pumps and drainers, each in a thread of its own. `Err` where
-/// there was no memory for a part or no thread: threads that run already lose their ports, and aren't waited for.
+/// Makes the hubs and boxes of a configuration, and starts its pumps and drainers, each in a thread of its own.
+///
+/// # Errors
+///
+/// The first thread of the server that could not be had, by its role and its number from 0: `Memory`, there was none for its
+/// box or for what it owns, of a worker for its desk too; `NoThread`, the pump or the drainer has no thread. Threads that run
+/// already lose their ports, and aren't waited for.
 pub fn start<S: Sink + Send + 'static, R: Threads + Wait + Clone + Drop + Send + 'static>(
     rt: &R,
     alloc: Heap,
@@ -125,15 +131,12 @@ pub fn start<S: Sink + Send + 'static, R: Threads + Wait + Clone + Drop + Send +
 ) -> Result<Server<S>, StartFault>
 where
     S::Rest: Send + 'static,
-    ensures { IfOk result (λ server. (w : Wiring S) × (hubs : List HubView) × IsServerOf config w hubs server) }
+    ensures started { IfOk result (λ server. (w : Wiring S) × (hubs : List HubView) × IsServerOf config w hubs server) }
+    ensures fault { IfErr result (IsStartFaultOf config) }
 {
     let mut wired = wire(&alloc, &config)?;
-    let Ok(rooms) = wired.rooms(&alloc) else {
-        return Err(StartFault::memory(Role::Pump, 0));
-    };
-    let Ok((heap, config)) = shared(&alloc, config) else {
-        return Err(StartFault::memory(Role::Worker, 0));
-    };
+    let rooms = wired.rooms(&alloc)?;
+    let (heap, config) = shared(&alloc, config)?;
     let running = wired.run(rt, &alloc)?;
     let made = Snapshot::of(&wired.desks);
     let (leaves, desks) = wired.into_ends();
@@ -148,8 +151,18 @@ where
     })
 }
 
-// A configuration that workers share, and the memory for them.
-fn shared(alloc: &Heap, config: Config) -> Result<(Heap, Arc<Config, Heap>), Memory>
+// A configuration that workers share, and the memory for them. Where there is none, the first worker is told.
+fn shared(alloc: &Heap, config: Config) -> Result<(Heap, Arc<Config, Heap>), StartFault>
+    ensures shared { IfOk result (λ made. arc_value made.1 ≡ config) }
+    ensures fault { IfErr result (NoMemoryFor Role.Worker 0) }
+{
+    match share(alloc, config) {
+        Ok(made) => Ok(made),
+        Err(Memory) => Err(StartFault::memory(Role::Worker, 0)),
+    }
+}
+
+fn share(alloc: &Heap, config: Config) -> Result<(Heap, Arc<Config, Heap>), Memory>
     ensures { IfOk result (λ made. arc_value made.1 ≡ config) }
 {
     let shared = Arc::new(alloc.clone()?, config)?;

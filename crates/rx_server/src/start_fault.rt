@@ -1,3 +1,5 @@
+ghost use Rattle.rx_server.specs.Starting.{NoMemoryFor, NoThreadFor};
+
 use std::error::Error;
 use std::fmt;
 
@@ -41,7 +43,9 @@ pub struct StartFault {
 
 impl StartFault {
     // There was no memory for what this thread needs.
-    pub(crate) fn memory(thread: Role, index: usize) -> StartFault {
+    pub(crate) fn memory(thread: Role, index: usize) -> StartFault
+        ensures { NoMemoryFor thread index result }
+    {
         StartFault {
             thread,
             index,
@@ -50,7 +54,9 @@ impl StartFault {
     }
 
     // There was no thread for it.
-    pub(crate) fn no_thread(thread: Role, index: usize) -> StartFault {
+    pub(crate) fn no_thread(thread: Role, index: usize) -> StartFault
+        ensures { NoThreadFor thread index result }
+    {
         StartFault {
             thread,
             index,

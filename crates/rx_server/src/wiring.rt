@@ -1,8 +1,9 @@
 // All parts of a server, joined by new boxes.
-ghost use Rattle.std.specs.Prelude.{◌≡◌, ◌+◌, ◌^◌, ◌<◌, ◌≤◌, [], List, IfOk, OnOk, map, vec_len};
+ghost use Rattle.std.specs.Prelude.{◌≡◌, ◌+◌, ◌^◌, ◌<◌, ◌≤◌, [], List, IfErr, IfOk, OnOk, map, vec_len};
 ghost use Rattle.std.specs.Vec.Iter.{into_iter_items};
 ghost use Rattle.rx_hub.specs.Hubs.{HubView};
 ghost use Rattle.rx_server.specs.OpenBoxes.{AreOpenFor, IsEmptyFor};
+ghost use Rattle.rx_server.specs.Starting.{CannotRun, NoMemoryFor, NoMemoryIn};
 ghost use Rattle.rx_server.specs.Wirings.{IsWired, Wiring, drainer_capacity, most_observers};
 
 use crate::making::{make_desks, make_drainers, make_hubs, make_pumps};
@@ -81,18 +82,22 @@ impl<S: Sink> Wired<S> {
         })
     }
 
-    // Room for what they leave.
-    pub(crate) fn rooms(&self, alloc: &Heap) -> Result<Rooms<S>, Memory>
+    // Room for what they leave. Where there is none, the first pump is told.
+    pub(crate) fn rooms(&self, alloc: &Heap) -> Result<Rooms<S>, StartFault>
         requires { (vec_len self.now.desks + vec_len self.now.drainers < 2 ^ 64) × (vec_len self.now.pumps + 1 < 2 ^ 64) }
         ensures rooms { IfOk result (AreRooms (vec_len self.now.pumps) (vec_len self.now.drainers) (vec_len self.now.desks) (vec_len self.now.desks)) }
         ensures no_desk { IfOk result (λ rooms. rooms.desks.items ≡ []) }
+        ensures fault { IfErr result (NoMemoryFor Role.Pump 0) }
     {
-        Rooms::new(
+        match Rooms::new(
             alloc,
             self.pumps.len(),
             self.drainers.len(),
             self.desks.len(),
-        )
+        ) {
+            Ok(rooms) => Ok(rooms),
+            Err(Memory) => Err(StartFault::memory(Role::Pump, 0)),
+        }
     }
 
     // The leave ports and the desks.
@@ -123,6 +128,7 @@ where
         ensures pumps { IfOk result (λ running. running.pumps.items ≡ self.old.pumps.items) }
         ensures drainers { IfOk result (λ running. map (λ drainer. drainer.handle.promise.0.value) running.drainers.items ≡ self.old.drainers.items) }
         ensures others { (self.new.leaves ≡ self.old.leaves) × (self.new.desks ≡ self.old.desks) }
+        ensures fault { IfErr result (CannotRun (vec_len self.old.pumps) (vec_len self.old.drainers)) }
     {
         let mut running = Running::new(alloc, self.pumps.len(), self.drainers.len())?;
         start_pumps(rt, &mut self.pumps, &mut running.pumps)?;
@@ -133,7 +139,8 @@ where
 
 // The parts of the server that a configuration asks for.
 pub(crate) fn wire<S: Sink>(alloc: &Heap, config: &Config) -> Result<Wired<S>, StartFault>
-    ensures { IfOk result (λ wired. (w : Wiring S) × (hubs : List HubView) × IsWired config.now w hubs wired.pumps.items wired.drainers.items wired.leaves.items wired.desks.items) }
+    ensures wired { IfOk result (λ wired. (w : Wiring S) × (hubs : List HubView) × IsWired config.now w hubs wired.pumps.items wired.drainers.items wired.leaves.items wired.desks.items) }
+    ensures fault { IfErr result (NoMemoryIn config.now) }
 {
     let mut boxes = open_boxes(alloc, config)?;
     let Ok(mut wired) = Wired::room(alloc, config) else {
@@ -145,7 +152,8 @@ pub(crate) fn wire<S: Sink>(alloc: &Heap, config: &Config) -> Result<Wired<S>, S
 
 // Opens the boxes that a configuration asks for.
 fn open_boxes<S: Drop>(alloc: &Heap, config: &Config) -> Result<Boxes<S>, StartFault>
-    ensures { IfOk result (λ boxes. (w : Wiring S) × AreOpenFor config.now w boxes) }
+    ensures opened { IfOk result (λ boxes. (w : Wiring S) × AreOpenFor config.now w boxes) }
+    ensures fault { IfErr result (NoMemoryIn config.now) }
 {
     let count = config.subjects.len();
     let drainers = config.drainers as usize;
@@ -168,7 +176,8 @@ fn join<S: Sink>(
 ) -> Result<(), StartFault>
     requires boxes { (w : Wiring S) × AreOpenFor config.now w boxes.old }
     requires rooms { IsEmptyFor config.now wired.old }
-    ensures { OnOk result ((w : Wiring S) × (hubs : List HubView) × IsWired config.now w hubs wired.new.pumps.items wired.new.drainers.items wired.new.leaves.items wired.new.desks.items) }
+    ensures wired { OnOk result ((w : Wiring S) × (hubs : List HubView) × IsWired config.now w hubs wired.new.pumps.items wired.new.drainers.items wired.new.leaves.items wired.new.desks.items) }
+    ensures fault { IfErr result (NoMemoryIn config.now) }
 {
     let hubs = make_hubs(alloc, &config.subjects)?;
     let mut hubs = hubs.into_iter();

@@ -13,6 +13,7 @@ invariant-loop-inbox g l = record {
   handed : Handed l.initial.subjects.items l.subjects.items l.desks.items (into_iter_items l.inboxes);
   fresh : All (λ inbox. inbox.received ≡ []) (into_iter_items l.inboxes);
   room : vec_len l.desks + length (into_iter_items l.inboxes) ≤ vec_capacity l.desks;
+  count : vec_len l.desks + length (into_iter_items l.inboxes) ≡ length (into_iter_items l.initial.inboxes);
 }
 
 abbrev pub decreases-loop-inbox : goal.decreases-loop-inbox

@@ -13,6 +13,7 @@ invariant-loop-inbox g l = record {
   handed : Handed l.initial.subjects.items l.subjects.items l.drainers.items (into_iter_items l.inboxes);
   fresh : All (λ inbox. (inbox.received ≡ []) × (inbox.ports ≡ length l.initial.subjects.items + 1)) (into_iter_items l.inboxes);
   room : vec_len l.drainers + length (into_iter_items l.inboxes) ≤ vec_capacity l.drainers;
+  count : vec_len l.drainers + length (into_iter_items l.inboxes) ≡ length (into_iter_items l.initial.inboxes);
 }
 
 abbrev pub decreases-loop-inbox : goal.decreases-loop-inbox

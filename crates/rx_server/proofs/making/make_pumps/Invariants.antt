@@ -18,6 +18,7 @@ invariant-loop-inbox g l = record {
   hubs : All (λ hub. StandsFor hub.state NoEvents) (into_iter_items l.hubs);
   fresh : All (λ inbox. (inbox.received ≡ []) × (length l.initial.replies.items ≤ inbox.ports)) (into_iter_items l.inboxes);
   room : vec_len l.pumps + length (into_iter_items l.inboxes) ≤ vec_capacity l.pumps;
+  count : vec_len l.pumps + length (into_iter_items l.inboxes) ≡ length (into_iter_items l.initial.inboxes);
 }
 
 abbrev pub decreases-loop-inbox : goal.decreases-loop-inbox

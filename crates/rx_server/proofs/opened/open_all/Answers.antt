@@ -1,12 +1,14 @@
 use Rattle.std.proofs.Common.{◌≡◌, ℕ, ap, length, subst, sym, [], ◌∷◌, ◌++◌, List, arith}
+use Rattle.std.proofs.lemmas.Result.{err_from_is_err_and}
 use Rattle.rx_mailbox.specs.Boxes.{Incoming}
 use Rattle.rx_server.specs.Wirings.{AreOpened, RowView}
 use Rattle.rx_server.proofs.Opening.{Opened-none, Opened-more}
 use Rattle.rx_server.proofs.Rows.{put-count}
+use Rattle.rx_server.proofs.StartFaults.{below}
 use Rattle.rx_server.proofs.opened.open_all.Goals as goal
 
-pub loop-place-init : goal.loop-place-init
-loop-place-init g c =
+pub loop-init : goal.loop-init
+loop-init g c =
     let made = c.in-Ok.ensures in
     record {
       opened = ([], Opened-none _ _ _ _ made.none made.no_row);
@@ -15,10 +17,10 @@ loop-place-init g c =
       room = made.room;
     }
 
-pub loop-place-preserved : goal.loop-place-preserved
-loop-place-preserved g c =
-    let before = c.loop-place.invariant in
-    let one = c.in-Ok-open_one.ensures.opened in
+pub loop-preserved : goal.loop-preserved
+loop-preserved g c =
+    let before = c.loop.invariant in
+    let one = c.in_ok-open_one.ensures.opened in
     let same = c.open_one.ensures.capacities in
     record {
       opened = (before.opened.0 ++ one.0 ∷ [], Opened-more _ _ _ _ _ _ _ _ _ before.opened.1 one.1 one.2 one.3);
@@ -27,13 +29,21 @@ loop-place-preserved g c =
       room = (omega (arith, before.room.0, same.0), omega (arith, before.room.1, same.1));
     }
 
-pub returns : goal.returns
-returns g c =
-    let so_far = c.loop-place.invariant.opened in
-    let all : c.loop-place.place ≡ c.args.count = omega arith in
+pub returns-clause-opened : goal.returns-clause-opened
+returns-clause-opened g c =
+    let so_far = c.loop.invariant.opened in
+    let all : c.loop.counter ≡ c.args.count = omega arith in
     let moved = c.opened.ensures in (
       so_far.0,
       subst (λ (inboxes : List (Incoming _)). AreOpened c.args.count c.args.capacity c.args.senders so_far.0 inboxes c.opened.result.rows.items) (sym moved.inboxes)
-          (subst (λ (rows : List (RowView _)). AreOpened c.args.count c.args.capacity c.args.senders so_far.0 c.loop-place.opening.inboxes.items rows) (sym moved.rows)
-          (subst (λ (n : ℕ). AreOpened n c.args.capacity c.args.senders so_far.0 c.loop-place.opening.inboxes.items c.loop-place.opening.rows.items) all so_far.1)),
+          (subst (λ (rows : List (RowView _)). AreOpened c.args.count c.args.capacity c.args.senders so_far.0 c.loop.opening.inboxes.items rows) (sym moved.rows)
+          (subst (λ (n : ℕ). AreOpened n c.args.capacity c.args.senders so_far.0 c.loop.opening.inboxes.items c.loop.opening.rows.items) all so_far.1)),
     )
+
+-- the one of this number had no memory
+pub returns-in_err-open_one-clause-fault : goal.returns-in_err-open_one-clause-fault
+returns-in_err-open_one-clause-fault g c =
+    let before = c.loop.invariant in
+    let p = err_from_is_err_and c.from_residual.result c.from_residual.ensures.1 in
+    rw (p.1, p.2)
+    (below c.args.role _ c.args.count c.in_err-open_one.field-0.0 (omega (arith, before.inboxes)) c.in_err-open_one.ensures.fault)

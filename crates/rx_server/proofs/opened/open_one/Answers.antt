@@ -5,20 +5,20 @@ use Rattle.rx_server.proofs.Opening.{ports-count, ports-whole}
 use Rattle.rx_server.proofs.opened.open_one.Goals as goal
 
 pub new-requires-clause-ports : goal.new-requires-clause-ports
-new-requires-clause-ports g c = ports-whole _ _ _ _ c.in-Ok.made.1.ok.0 c.in-Ok.ensures.ports
+new-requires-clause-ports g c = ports-whole _ _ _ _ c.in-Ok-open.made.1.ok.0 c.in-Ok-open.ensures.ports
 
 pub new-requires-clause-count : goal.new-requires-clause-count
 new-requires-clause-count g c =
-    let count = ports-count c.in-Ok.made.0.box c.args.senders c.in-Ok.made.1.items c.in-Ok.ensures.ports in
+    let count = ports-count c.in-Ok-open.made.0.box c.args.senders c.in-Ok-open.made.1.items c.in-Ok-open.ensures.ports in
     omega (arith, c.requires.size.3)
 
 pub returns-clause-opened : goal.returns-clause-opened
 returns-clause-opened g c =
-    let count = ports-count c.in-Ok.made.0.box c.args.senders c.in-Ok.made.1.items c.in-Ok.ensures.ports in (
-      c.in-Ok.made.0.box,
-      c.in-Ok.ensures.capacity,
-      c.push_reserved-2.ensures.items ∙ ap (λ (inbox : Incoming _). c.args.opening.now.inboxes.items ++ inbox ∷ []) c.in-Ok.ensures.inbox,
+    let count = ports-count c.in-Ok-open.made.0.box c.args.senders c.in-Ok-open.made.1.items c.in-Ok-open.ensures.ports in (
+      c.in-Ok-open.made.0.box,
+      c.in-Ok-open.ensures.capacity,
+      c.push_reserved-2.ensures.items ∙ ap (λ (inbox : Incoming _). c.args.opening.now.inboxes.items ++ inbox ∷ []) c.in-Ok-open.ensures.inbox,
       c.push_reserved.ensures.items
           ∙ ap (λ (row : RowView _). c.args.opening.now.rows.items ++ row ∷ [])
-          (c.new.ensures ∙ ap (λ (n : ℕ). whole_row n c.in-Ok.made.0.box) (c.in-Ok.made.1.ok.0 ∙ count)),
+          (c.new.ensures ∙ ap (λ (n : ℕ). whole_row n c.in-Ok-open.made.0.box) (c.in-Ok-open.made.1.ok.0 ∙ count)),
     )

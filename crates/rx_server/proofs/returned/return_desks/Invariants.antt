@@ -1,7 +1,7 @@
 use Rattle.std.proofs.Common.{◌≡◌, ◌++◌, map}
-use Rattle.std.specs.List.{FoldsTo}
+use Rattle.std.specs.List.{All, FoldsTo}
 use Rattle.std.specs.Vec.Iter.{into_iter_items}
-use Rattle.rx_settling.specs.Parts.{dealt_each}
+use Rattle.rx_settling.specs.Parts.{HasRoom, dealt_each, missing}
 use Rattle.rx_server.specs.Returning.{ReturnsInbox}
 use Rattle.rx_server.proofs.returned.return_desks.Given as goal
 
@@ -11,4 +11,5 @@ invariant-loop-desk g l = record {
   desks : l.yielded ++ into_iter_items l.desk-iterator ≡ l.fn.desks.items;
   ports : l.subjects.items ≡ dealt_each (map (λ desk. desk.ports.items) l.yielded) l.initial.subjects.items;
   inboxes : FoldsTo ReturnsInbox l.initial.replies.items l.yielded l.replies.items;
+  room : All (HasRoom (missing l.replies.items)) l.subjects.items;
 }

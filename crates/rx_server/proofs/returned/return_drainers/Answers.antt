@@ -5,9 +5,10 @@ use Rattle.std.specs.List.{All}
 use Rattle.std.specs.Vec.Iter.{into_iter_items}
 use Rattle.rx_mailbox.specs.Boxes.{Incoming}
 use Rattle.rx_drain.specs.declared.drain_end.DrainEnd.{DrainEnd}
-use Rattle.rx_settling.specs.Parts.{dealt, dealt_each, given, placed}
+use Rattle.rx_settling.specs.Parts.{HasRoom, LacksInbox, dealt, dealt_each, given, placed}
 use Rattle.rx_settling.proofs.Gathered.{dealt_each-count, dealt_each-more, given-count, given-more}
-use Rattle.rx_server.proofs.Returning.{All-here, names-drainer, names-pump}
+use Rattle.rx_settling.proofs.Room.{dealt-room, given-lacks, not-full}
+use Rattle.rx_server.proofs.Returning.{All-here}
 use Rattle.rx_server.proofs.returned.return_drainers.Goals as goal
 
 pub put_inbox-requires : goal.put_inbox-requires
@@ -28,21 +29,25 @@ deal-requires g c =
     All-here P c.loop-end.yielded c.in-Some.end (into_iter_items c.next.new.self) (subst (λ (l : List _). All P l) (sym parts) c.requires.ports)
     ∙ sym (ap length before.calls ∙ dealt_each-count (map (λ end. end.ports.items) c.loop-end.yielded) c.args.subjects.now.items)
 
-pub returns-in_default-clause-fault : goal.returns-in_default-clause-fault
-returns-in_default-clause-fault g c =
+-- no inbox comes back twice, and there is room for each row
+pub unreachable-requires : goal.unreachable-requires
+unreachable-requires g c =
     let before = c.loop-end.invariant in
+    let inbox_of = λ (end : DrainEnd _ _). end.inbox in
     let lists = length-map c.loop-end.lists.items (λ list. list.items) in
     let listed = ap length before.listed ∙ length-map c.loop-end.yielded (λ end. end.put_away.items) in
-    let all = ap length before.ends in
-    let parts = length-append c.loop-end.yielded (into_iter_items c.loop-end.end-iterator) in
-    names-drainer (length c.args.subjects.now.items) (length c.args.drainers.now.items) 0 c.len-place.result _ c.unsettled.ensures
-    (omega (arith, lists, listed, all, parts, c.requires.count, c.len-place.ensures, c.loop-end.lists.ok, ap length c.in-Some.ensures.steps.0))
+    let place : c.len-place.result ≡ length (map inbox_of c.loop-end.yielded) =
+    omega (arith, lists, listed, c.len-place.ensures, c.loop-end.lists.ok, length-map c.loop-end.yielded inbox_of) in
+    c.in_default.ensures.twice
+    (subst (λ n. LacksInbox n c.loop-end.drainers.items) (sym place)
+    (subst (LacksInbox (length (map inbox_of c.loop-end.yielded))) (sym before.inboxes)
+    (given-lacks (map inbox_of c.loop-end.yielded) c.args.drainers.now.items c.requires.inboxes)))
 
-pub returns-in-Err-clause-fault : goal.returns-in-Err-clause-fault
-returns-in-Err-clause-fault g c =
-    let before = c.loop-end.invariant in
-    let count = ap length before.calls ∙ dealt_each-count (map (λ end. end.ports.items) c.loop-end.yielded) c.args.subjects.now.items in
-    names-pump (length c.args.subjects.now.items) (length c.args.drainers.now.items) 0 c.in-Err.place _ c.unsettled-in-Err.ensures (omega (arith, c.in-Err.ensures, count))
+pub unreachable-requires-in_default-deal : goal.unreachable-requires-in_default-deal
+unreachable-requires-in_default-deal g c =
+    let n = length (into_iter_items c.next.new.self) in
+    not-full n _ c.loop-end.subjects.items
+    (subst (λ (l : List _). All (HasRoom (length l)) c.loop-end.subjects.items) c.in-Some.ensures.steps.0 c.loop-end.invariant.ports_fit) c.in_default-deal.ensures
 
 pub loop-end-preserved : goal.loop-end-preserved
 loop-end-preserved g c =
@@ -67,8 +72,13 @@ loop-end-preserved g c =
           ∙ ap (placed (length (map (λ (end : DrainEnd _ _). end.inbox) c.loop-end.yielded)) c.in-Some.end.inbox) before.inboxes
           ∙ given-more (map (λ (end : DrainEnd _ _). end.inbox) c.loop-end.yielded) c.in-Some.end.inbox c.args.drainers.now.items
           ∙ ap (λ (l : List (Incoming _)). given l c.args.drainers.now.items) (sym (map_push (λ (end : DrainEnd _ _). end.inbox) c.loop-end.yielded c.in-Some.end));
+      ports_fit =
+          let n = length (into_iter_items c.next.new.self) in
+          subst (All (HasRoom n)) (sym c.in-Ok-deal.ensures)
+          (dealt-room n c.in-Some.end.ports.items c.loop-end.subjects.items
+          (subst (λ (l : List _). All (HasRoom (length l)) c.loop-end.subjects.items) c.in-Some.ensures.steps.0 before.ports_fit));
       calls =
-          c.in_default-deal.ensures ∙ ap (dealt c.in-Some.end.ports.items) before.calls
+          c.in-Ok-deal.ensures ∙ ap (dealt c.in-Some.end.ports.items) before.calls
           ∙ sym (dealt_each-more (map (λ (end : DrainEnd _ _). end.ports.items) c.loop-end.yielded) c.in-Some.end.ports.items c.args.subjects.now.items)
           ∙ ap (λ (rows : List (List _)). dealt_each rows c.args.subjects.now.items) (sym (map_push (λ (end : DrainEnd _ _). end.ports.items) c.loop-end.yielded c.in-Some.end));
     }

@@ -4,11 +4,12 @@ use Rattle.std.specs.List.{All}
 use Rattle.std.specs.Vec.Iter.{into_iter_items}
 use Rattle.rx_mailbox.specs.Boxes.{Incoming}
 use Rattle.rx_pump.specs.declared.pump_end.PumpEnd.{PumpEnd}
-use Rattle.rx_settling.specs.Parts.{dealt, dealt_each, given, placed}
+use Rattle.rx_settling.specs.Parts.{HasRoom, LacksInbox, dealt, dealt_each, given, placed}
 use Rattle.rx_settling.proofs.Gathered.{dealt_each-count, dealt_each-more, given-count, given-more}
+use Rattle.rx_settling.proofs.Room.{dealt-room, given-lacks, not-full}
 use Rattle.rx_server.specs.declared.report.SubjectReport.{SubjectReport}
 use Rattle.rx_server.specs.Servers.{report_of}
-use Rattle.rx_server.proofs.Returning.{All-here, names-drainer, names-worker}
+use Rattle.rx_server.proofs.Returning.{All-here}
 use Rattle.rx_server.proofs.returned.return_pumps.Goals as goal
 
 pub put_inbox-requires : goal.put_inbox-requires
@@ -36,17 +37,30 @@ deal-requires-in-loop-end g c =
     All-here P c.loop-end.yielded c.in-Some.end (into_iter_items c.next.new.self) (subst (λ (l : List _). All P l) (sym parts) c.requires.replies)
     ∙ sym (ap length before.answers ∙ dealt_each-count (map (λ end. end.replies.items) c.loop-end.yielded) c.args.replies.now.items)
 
-pub returns-in-Err-clause-fault : goal.returns-in-Err-clause-fault
-returns-in-Err-clause-fault g c =
+-- no inbox comes back twice, and there is room for each row
+pub unreachable-requires : goal.unreachable-requires
+unreachable-requires g c =
     let before = c.loop-end.invariant in
-    let count = ap length before.outs ∙ dealt_each-count (map (λ end. end.drainers.items) c.loop-end.yielded) c.args.drainers.now.items in
-    names-drainer (length c.args.subjects.now.items) (length c.args.drainers.now.items) (length c.args.replies.now.items) c.in-Err.place _ c.unsettled-in-Err.ensures (omega (arith, c.in-Err.ensures, count))
+    let inbox_of = λ (end : PumpEnd _). end.inbox in
+    let listed : length c.loop-end.reports.items ≡ length c.loop-end.yielded = ap length before.listed ∙ length-map c.loop-end.yielded report_of in
+    let place : c.len-place.result ≡ length (map inbox_of c.loop-end.yielded) =
+    omega (arith, listed, c.len-place.ensures, c.loop-end.reports.ok, length-map c.loop-end.yielded inbox_of) in
+    c.in_default.ensures.twice
+    (subst (λ n. LacksInbox n c.loop-end.subjects.items) (sym place)
+    (subst (LacksInbox (length (map inbox_of c.loop-end.yielded))) (sym before.inboxes)
+    (given-lacks (map inbox_of c.loop-end.yielded) c.args.subjects.now.items c.requires.inboxes)))
 
-pub returns-in-Err-deal-clause-fault : goal.returns-in-Err-deal-clause-fault
-returns-in-Err-deal-clause-fault g c =
-    let before = c.loop-end.invariant in
-    let count = ap length before.answers ∙ dealt_each-count (map (λ end. end.replies.items) c.loop-end.yielded) c.args.replies.now.items in
-    names-worker (length c.args.subjects.now.items) (length c.args.drainers.now.items) (length c.args.replies.now.items) c.in-Err-deal.place _ c.unsettled-in-Err-deal.ensures (omega (arith, c.in-Err-deal.ensures, count))
+pub unreachable-requires-in_default-deal : goal.unreachable-requires-in_default-deal
+unreachable-requires-in_default-deal g c =
+    let n = length (into_iter_items c.next.new.self) in
+    not-full n _ c.loop-end.drainers.items
+    (subst (λ (l : List _). All (HasRoom (length l)) c.loop-end.drainers.items) c.in-Some.ensures.steps.0 c.loop-end.invariant.drainers_fit) c.in_default-deal.ensures
+
+pub unreachable-requires-in_default-deal-2 : goal.unreachable-requires-in_default-deal-2
+unreachable-requires-in_default-deal-2 g c =
+    let n = length (into_iter_items c.next.new.self) in
+    not-full n _ c.loop-end.replies.items
+    (subst (λ (l : List _). All (HasRoom (length l)) c.loop-end.replies.items) c.in-Some.ensures.steps.0 c.loop-end.invariant.replies_fit) c.in_default-deal-2.ensures
 
 pub loop-end-preserved : goal.loop-end-preserved
 loop-end-preserved g c =
@@ -72,11 +86,21 @@ loop-end-preserved g c =
           ∙ given-more (map inbox_of c.loop-end.yielded) c.in-Some.end.inbox c.args.subjects.now.items
           ∙ ap (λ (l : List (Incoming _)). given l c.args.subjects.now.items) (sym (map_push inbox_of c.loop-end.yielded c.in-Some.end));
       outs =
-          c.in_default-deal.ensures ∙ ap (dealt c.in-Some.end.drainers.items) before.outs
+          c.in-Ok-deal.ensures ∙ ap (dealt c.in-Some.end.drainers.items) before.outs
           ∙ sym (dealt_each-more (map outs_of c.loop-end.yielded) c.in-Some.end.drainers.items c.args.drainers.now.items)
           ∙ ap (λ (rows : List (List _)). dealt_each rows c.args.drainers.now.items) (sym (map_push outs_of c.loop-end.yielded c.in-Some.end));
+      drainers_fit =
+          let n = length (into_iter_items c.next.new.self) in
+          subst (All (HasRoom n)) (sym c.in-Ok-deal.ensures)
+          (dealt-room n c.in-Some.end.drainers.items c.loop-end.drainers.items
+          (subst (λ (l : List _). All (HasRoom (length l)) c.loop-end.drainers.items) c.in-Some.ensures.steps.0 before.drainers_fit));
+      replies_fit =
+          let n = length (into_iter_items c.next.new.self) in
+          subst (All (HasRoom n)) (sym c.in-Ok-deal-2.ensures)
+          (dealt-room n c.in-Some.end.replies.items c.loop-end.replies.items
+          (subst (λ (l : List _). All (HasRoom (length l)) c.loop-end.replies.items) c.in-Some.ensures.steps.0 before.replies_fit));
       answers =
-          c.in_default-deal-2.ensures ∙ ap (dealt c.in-Some.end.replies.items) before.answers
+          c.in-Ok-deal-2.ensures ∙ ap (dealt c.in-Some.end.replies.items) before.answers
           ∙ sym (dealt_each-more (map answers_of c.loop-end.yielded) c.in-Some.end.replies.items c.args.replies.now.items)
           ∙ ap (λ (rows : List (List _)). dealt_each rows c.args.replies.now.items) (sym (map_push answers_of c.loop-end.yielded c.in-Some.end));
     }

@@ -1,15 +1,18 @@
 use Rattle.std.proofs.Common.{◌≡◌, ◌+◌, ◌<◌, ◌≤◌, ap, refl, subst, sym, ℕ, [], length, arith}
 use Rattle.std.proofs.lemmas.List.Elements.{All-same, All-weaker}
+use Rattle.std.proofs.lemmas.Result.{err_from_is_err_and}
 use Rattle.std.specs.Vec.Iter.{into_iter_items}
 use Rattle.rx_history.specs.Histories.{NoEvents}
 use Rattle.rx_hub.specs.Hubs.{HubView, StandsFor}
 use Rattle.rx_mailbox.specs.Boxes.{Incoming}
+use Rattle.rx_server.specs.declared.start_fault.Role.TheVariants.{Drainer, Pump, Worker}
 use Rattle.rx_server.specs.Wirings.{AreHubsOf, RowView}
 use Rattle.rx_server.proofs.Joining.{boxes-are, desks-wired, drainers-wired, inboxes-count, inboxes-new, leaves-wired, left-count, made-count, pumps-count, pumps-wired, rows-count, rows-have, rows-left}
+use Rattle.rx_server.proofs.StartFaults.{memory-below, memory-for}
 use Rattle.rx_server.proofs.wiring.join.Goals as goal
 
 pub make_pumps-requires-clause-hubs : goal.make_pumps-requires-clause-hubs
-make_pumps-requires-clause-hubs g c = All-same (λ (hub : HubView). StandsFor hub.state NoEvents) _ _ c.into_iter-hubs.ensures.rest c.in_ok-hubs.ensures.fresh
+make_pumps-requires-clause-hubs g c = All-same (λ (hub : HubView). StandsFor hub.state NoEvents) _ _ c.into_iter-hubs.ensures.rest c.in_ok-hubs.ensures.hubs.fresh
 
 pub make_pumps-requires-clause-inboxes : goal.make_pumps-requires-clause-inboxes
 make_pumps-requires-clause-inboxes g c =
@@ -46,7 +49,7 @@ pub put_ports-requires-clause-rows : goal.put_ports-requires-clause-rows
 put_ports-requires-clause-rows g c =
     let opened = c.requires.boxes.1 in
     let inboxes = inboxes-count _ _ _ _ _ _ opened.subjects in
-    let hubs = subst (AreHubsOf c.args.config.now.subjects.items) (sym c.into_iter-hubs.ensures.rest) c.in_ok-hubs.ensures in
+    let hubs = subst (AreHubsOf c.args.config.now.subjects.items) (sym c.into_iter-hubs.ensures.rest) c.in_ok-hubs.ensures.hubs in
     let pumps = pumps-count _ _ _ _ _ hubs inboxes c.in_ok-make_pumps.ensures.pumps in
     let enough : 1 + c.make_pumps.new.pumps.len ≤ length c.args.config.now.subjects.items + 1 = omega (arith, pumps, c.make_pumps.new.pumps.ok) in
     All-weaker (λ (row : RowView _). 1 ≤ row.count) (λ (row : RowView _). 0 < row.count) (λ row some. omega (arith, some)) _
@@ -109,12 +112,12 @@ make_drainers-requires-clause-room g c =
     let drainers = inboxes-count _ _ _ _ _ _ c.requires.boxes.1.drainers in
     omega (arith, drainers, c.requires.rooms.drainers_fit)
 
-pub returns : goal.returns
-returns g c =
+pub returns-clause-wired : goal.returns-clause-wired
+returns-clause-wired g c =
     let config = c.args.config.now in
     let w = c.requires.boxes.0 in
     let opened = c.requires.boxes.1 in
-    let hubs = subst (AreHubsOf config.subjects.items) (sym c.into_iter-hubs.ensures.rest) c.in_ok-hubs.ensures in
+    let hubs = subst (AreHubsOf config.subjects.items) (sym c.into_iter-hubs.ensures.rest) c.in_ok-hubs.ensures.hubs in
     let inboxes = inboxes-count _ _ _ _ _ _ opened.subjects in
     let replies = inboxes-count _ _ _ _ _ _ opened.replies in
     let pumps = pumps-count _ _ _ _ _ hubs inboxes c.in_ok-make_pumps.ensures.pumps in
@@ -130,8 +133,32 @@ returns g c =
         pumps_are = pumps-wired w _ _ _ _ _ _ _ _ callers opened.subjects.inboxes_are opened.drainers.rows_are opened.replies.rows_are c.in_ok-make_pumps.ensures.pumps;
         drainers_are =
             drainers-wired w _ _ _ _ _ _ _ (ap (λ (n : ℕ). n + 1) (sym opened.subjects.count_is)) desks_done opened.drainers.inboxes_are opened.subjects.rows_are
-            c.in_ok-make_desks.ensures.subjects c.in_ok-make_drainers.ensures;
+            c.in_ok-make_desks.ensures.subjects c.in_ok-make_drainers.ensures.drainers;
         leaves_are = leaves-wired w _ _ _ _ _ pumps_done opened.drainers.rows_are c.in_ok-make_pumps.ensures.drainers c.put_ports.ensures.ports;
         desks_are = desks-wired w _ _ _ _ _ (sym opened.subjects.count_is) opened.replies.inboxes_are opened.subjects.rows_are c.in_ok-make_desks.ensures.desks;
       },
     )
+
+pub returns-in_err-hubs-clause-fault : goal.returns-in_err-hubs-clause-fault
+returns-in_err-hubs-clause-fault g c =
+    let p = err_from_is_err_and c.from_residual.result c.from_residual.ensures.1 in
+    let config = c.args.config.now in
+    rw (p.1, p.2) (memory-below config c.in_err-hubs.field-0.0 Pump (length config.subjects.items) (omega arith) c.in_err-hubs.ensures.fault)
+
+pub returns-in_err-make_pumps-clause-fault : goal.returns-in_err-make_pumps-clause-fault
+returns-in_err-make_pumps-clause-fault g c =
+    let p = err_from_is_err_and c.from_residual-in_err-make_pumps.result c.from_residual-in_err-make_pumps.ensures.1 in
+    let count = inboxes-count _ _ _ _ _ _ c.requires.boxes.1.subjects in
+    rw (p.1, p.2) (memory-for c.args.config.now c.in_err-make_pumps.field-0.0 Pump _ (omega (arith, c.in_err-make_pumps.ensures.fewer, count)) c.in_err-make_pumps.ensures.fault)
+
+pub returns-in_err-make_desks-clause-fault : goal.returns-in_err-make_desks-clause-fault
+returns-in_err-make_desks-clause-fault g c =
+    let p = err_from_is_err_and c.from_residual-in_err-make_desks.result c.from_residual-in_err-make_desks.ensures.1 in
+    let count = inboxes-count _ _ _ _ _ _ c.requires.boxes.1.replies in
+    rw (p.1, p.2) (memory-for c.args.config.now c.in_err-make_desks.field-0.0 Worker _ (omega (arith, c.in_err-make_desks.ensures.fewer, count)) c.in_err-make_desks.ensures.fault)
+
+pub returns-in_err-make_drainers-clause-fault : goal.returns-in_err-make_drainers-clause-fault
+returns-in_err-make_drainers-clause-fault g c =
+    let p = err_from_is_err_and c.from_residual-in_err-make_drainers.result c.from_residual-in_err-make_drainers.ensures.1 in
+    let count = inboxes-count _ _ _ _ _ _ c.requires.boxes.1.drainers in
+    rw (p.1, p.2) (memory-for c.args.config.now c.in_err-make_drainers.field-0.0 Drainer _ (omega (arith, c.in_err-make_drainers.ensures.fewer, count)) c.in_err-make_drainers.ensures.fault)

@@ -1,4 +1,4 @@
-use Rattle.std.proofs.Common.{◌∙◌, ◌++◌, ◌<◌, sym, ap, subst, List, Vec, map, length, length-append, inl, IfOk, arith}
+use Rattle.std.proofs.Common.{◌∙◌, ◌++◌, ◌<◌, sym, ap, subst, List, Vec, map, length, length-append, inl, IfErr, IfOk, arith}
 use Rattle.std.proofs.lemmas.List.{length-map}
 use Rattle.std.proofs.lemmas.Result.{err_from_is_err_and}
 use Rattle.std.specs.List.{All, AllZip}
@@ -8,10 +8,10 @@ use Rattle.rx_pump.specs.Serving as pump_serving
 use Rattle.rx_drain.specs.Drainers.{DrainerView}
 use Rattle.rx_drain.specs.Serving as drainer_serving
 use Rattle.rx_server.specs.declared.returned.Returned.{Returned}
-use Rattle.rx_server.specs.Servers.{HaveSettled, IsDeskOf, IsFirst}
-use Rattle.rx_server.proofs.Ending.{desks-many, drainers-many, has-left, not-told, pumps-many, settled-or-not}
+use Rattle.rx_server.specs.declared.close_fault.CloseFault.{CloseFault}
+use Rattle.rx_server.specs.Servers.{HaveSettled, IsDeskOf, IsFirst, Unsettles}
+use Rattle.rx_server.proofs.Ending.{desks-many, has-left, not-told, settled-or-not}
 use Rattle.rx_server.proofs.Joining.{leaves-fit}
-use Rattle.rx_server.proofs.Returning.{names-drainer}
 use Rattle.rx_server.proofs.Whole.{desks-own}
 use Rattle.rx_server.proofs.server.Server.close.Goals as goal
 
@@ -57,13 +57,13 @@ returns-in-Ok g c =
     settled-or-not g.S.Sink.acts self whole left.pumps.items left.drainers.items c.args.ended.items more.0
     (subst (λ (pumps : List (PumpView _)). AllZip pump_serving.HasServed pumps left.pumps.items) parts.ensures.pumps c.in_ok-join.ensures.pumped)
     (subst (λ (drainers : List (DrainerView _ _)). AllZip (drainer_serving.HasServed g.S.Sink.acts) drainers left.drainers.items) parts.ensures.drainers c.in_ok-join.ensures.drained)
-    c.settle.result (length left.returned.subjects.items) (length left.returned.drainers.items) (length left.returned.replies.items) more.2
-    (ap (λ (r : Returned _). length r.subjects.items) others.returned ∙ empty.subject_count ∙ pumps-many g.S.Sink.acts self whole)
-    (ap (λ (r : Returned _). length r.drainers.items) others.returned ∙ empty.drainer_count ∙ drainers-many g.S.Sink.acts self whole)
+    c.settle.result (length left.returned.replies.items) more.2
     (ap (λ (r : Returned _). length r.replies.items) others.returned ∙ empty.reply_count ∙ desks-many g.S.Sink.acts self whole)
     (subst (λ (l : List _). IfOk c.settle.result (λ report. HaveSettled report.boxes l (c.args.ended.items ++ (self.kept ++ more.0)) left.pumps.items left.drainers.items)) leaves
     (subst (λ (l : List _). IfOk c.settle.result (λ report. HaveSettled report.boxes left.leaves.items (c.args.ended.items ++ l) left.pumps.items left.drainers.items)) desks c.settle.ensures.settled))
-    c.settle.ensures.reports c.settle.ensures.fault
+    c.settle.ensures.reports
+    (subst (λ (l : List _). IfErr c.settle.result (Unsettles (length left.returned.replies.items) l (c.args.ended.items ++ (self.kept ++ more.0)) left.pumps.items left.drainers.items)) leaves
+    (subst (λ (l : List _). IfErr c.settle.result (Unsettles (length left.returned.replies.items) left.leaves.items (c.args.ended.items ++ l) left.pumps.items left.drainers.items)) desks c.settle.ensures.fault))
 
 pub returns-in-Err : goal.returns-in-Err
 returns-in-Err g c =
@@ -75,11 +75,13 @@ returns-in-Err g c =
     let leaves = ap length parts.ensures.leaves ∙ leaves-fit whole.wiring self.leaves self.drainers whole.wired.leaves_are whole.wired.drainers_are in
     let cut = ap length some.parts in
     let count = ap length some.ended in
-    let below : c.in-Err.place < length self.drainers = omega (arith, leaves, cut, length-append some.done c.finish_all-told.new.ports.items, some.some, count, ap length parts.ensures.rooms.no_leaves, length-append parts.result.3.leaves.items (map with_bye some.done), length-map some.done with_bye, c.in-Err.ensures.ended.1, c.finish_all-told.new.ended.ok) in
-    not-told g.S.Sink.acts self whole left.pumps.items left.drainers.items c.args.ended.items c.args.ended.items
+    let below : c.in-Err.place < length self.leaves = omega (arith, leaves, ap length parts.ensures.leaves, cut, length-append some.done c.finish_all-told.new.ports.items, some.some, count, ap length parts.ensures.rooms.no_leaves, length-append parts.result.3.leaves.items (map with_bye some.done), length-map some.done with_bye, c.in-Err.ensures.ended.1, c.finish_all-told.new.ended.ok) in
+    let more = c.finish_desks.ensures self.made (subst (All (IsDeskOf self.made)) (sym parts.ensures.desks) (desks-own self whole)) in
+    not-told g.S.Sink.acts self whole left.pumps.items left.drainers.items c.args.ended.items more.0
     (subst (λ (pumps : List (PumpView _)). AllZip pump_serving.HasServed pumps left.pumps.items) parts.ensures.pumps c.in_ok-join.ensures.pumped)
     (subst (λ (drainers : List (DrainerView _ _)). AllZip (drainer_serving.HasServed g.S.Sink.acts) drainers left.drainers.items) parts.ensures.drainers c.in_ok-join.ensures.drained)
-    c.unsettled.result (names-drainer (length self.pumps) (length self.drainers) (length self.made) c.in-Err.place c.unsettled.result c.unsettled.ensures below)
+    c.unsettled.result more.2
+    (ap (λ (f : CloseFault). f.cause) c.unsettled.ensures, ap (λ (f : CloseFault). f.thread) c.unsettled.ensures, subst (λ n. n < length self.leaves) (sym (ap (λ (f : CloseFault). f.index) c.unsettled.ensures)) below)
 
 pub returns-in_err-join : goal.returns-in_err-join
 returns-in_err-join g c =

@@ -1,0 +1,140 @@
+//! Servers that can't be started, with each growth and each thread refused in its turn, and a close, which asks for no memory.
+
+ghost use Rattle.std.specs.Prelude.{List};
+ghost use Rattle.std.specs.List.{All};
+ghost use Rattle.rx_pump.specs.Desks.{DeskView};
+ghost use Rattle.rx_server.specs.Servers.{IsDeskOf, IsEndOf};
+
+use crate::callers::caller_of;
+use crate::expecting::{expect_count, expect_told};
+use crate::servers::{Host, TWO_OF_EACH, closed, config_of, copy, started};
+use rx_drain::MemorySink;
+use rx_heap::Heap;
+use rx_pump::EndedDesk;
+use rx_server::{Role, Server, StartCause, StartFault, start};
+use rx_signs::Told;
+use std::alloc::{AllocError, Global};
+use std::sync::Arc;
+use std::sync::atomic::{AtomicU64, Ordering};
+
+// Puts the thread of a fault, and `!` where there was no memory for it, `?` where it had no thread.
+fn put_fault(told: &mut Told, fault: StartFault) {
+    told.put(match fault.thread {
+        Role::Pump => b'P',
+        Role::Drainer => b'D',
+        Role::Worker => b'W',
+    });
+    told.put_digit(fault.index);
+    told.put(match fault.cause {
+        StartCause::Memory => b'!',
+        StartCause::NoThread => b'?',
+    });
+}
+
+// The threads for which there was no memory, growth by growth, of a server with two of each. In the order in which it is made:
+// the boxes of the pumps, of the drainers and of the replies to the workers' desks; the lists of parts, which count as the first
+// pump; the hubs, and then the pumps; the desks; the drainers; room for the close, which counts as the first pump; what the
+// workers share; and the lists of the threads, of pumps and of drainers.
+const NO_MEMORY: &str = "P0!P1!D0!D1!W0!W1!P0!P1!P0!P1!W0!W1!D0!D1!P0!W0!P0!D0!";
+
+// No run has as many growths.
+const MAX_GROWTHS: u64 = 1_000;
+
+// What is told of the growths, each refused in a run of its own, until one is refused no more. A fault is told once where that of
+// the growth before is the same. No thread runs yet where memory is wanting, so all bytes are back.
+fn told_of_growths(rt: &impl Host, free: &Heap) -> Told {
+    let mut told = Told::new();
+    let mut last = None;
+    for growth in 0..MAX_GROWTHS {
+        let tight = Heap::refusing(rt.alloc(), growth).expect(rt, "a budget");
+        let config = config_of(rt, free, TWO_OF_EACH);
+        match start::<MemorySink, _>(rt, copy(rt, &tight), config) {
+            Ok(server) => {
+                drop(closed(rt, server, Vec::new(copy(rt, free))));
+                return told;
+            }
+            Err(fault) => {
+                expect_count(rt, tight.used(), 0, "bytes that were not given back");
+                if last != Some(fault) {
+                    put_fault(&mut told, fault);
+                }
+                last = Some(fault);
+            }
+        }
+    }
+    panic!(rt; "growths without an end")
+}
+
+#[test]
+fn start_tells_for_what_memory_is_wanting(rt: HostRuntime) {
+    let told = told_of_growths(&rt, &Heap::unlimited(rt.alloc()));
+    expect_told(&rt, told.as_bytes(), NO_MEMORY, "no memory");
+}
+
+/// A right to so many copies, which the copies share. A runtime beside it starts so many threads of a server, each of which
+/// takes a copy of both.
+#[derive(Drop)]
+struct Ration {
+    left: Arc<AtomicU64, Global>,
+}
+
+impl Clone for Ration {
+    ghost is_clone = { λ ration copy. Unit {0} };
+
+    fn clone(&self) -> Result<Ration, AllocError> {
+        let left = self.left.load(Ordering::SeqCst);
+        if left == 0 {
+            return Err(AllocError);
+        }
+        self.left.store(left - 1, Ordering::SeqCst);
+        let left = Arc::try_clone(&self.left)?;
+        Ok(Ration { left })
+    }
+}
+
+// How a server ends that may start so many threads: by its fault, or not at all.
+fn told_with_threads<R: Host>(rt: &R, free: &Heap, threads: u64) -> Told {
+    let left = Arc::new(rt.alloc(), AtomicU64::new(threads)).expect(rt, "memory");
+    let host = (rt.clone().expect(rt, "a handle"), Ration { left });
+    let mut told = Told::new();
+    let config = config_of(rt, free, TWO_OF_EACH);
+    match start::<MemorySink, _>(&host, copy(rt, free), config) {
+        Ok(server) => drop(closed(rt, server, Vec::new(copy(rt, free)))),
+        Err(fault) => put_fault(&mut told, fault),
+    }
+    told
+}
+
+#[test]
+fn start_tells_which_thread_is_wanting(rt: HostRuntime) {
+    let free = Heap::unlimited(rt.alloc());
+    for (threads, fault) in &[(0, "P0?"), (1, "P1?"), (2, "D0?"), (3, "D1?"), (4, "")] {
+        let told = told_with_threads(&rt, &free, *threads);
+        expect_told(&rt, told.as_bytes(), fault, "no thread");
+    }
+}
+
+// Both desks of a server, ended.
+fn both_ended(
+    rt: &impl Host,
+    free: &Heap,
+    server: &mut Server<MemorySink>,
+) -> Vec<EndedDesk<MemorySink>, Heap>
+    ensures { All (IsEndOf server.new.made) result.items }
+{
+    let first = caller_of(rt, server);
+    let second = caller_of(rt, server);
+    vec![in copy(rt, free); first.finish(rt), second.finish(rt)].expect(rt, "memory")
+}
+
+#[test]
+fn close_asks_for_no_memory(rt: HostRuntime) {
+    let free = Heap::unlimited(rt.alloc());
+    let counted = Heap::refusing(rt.alloc(), MAX_GROWTHS).expect(&rt, "a budget");
+    let mut server = started(&rt, &counted, TWO_OF_EACH);
+    let ended = both_ended(&rt, &free, &mut server);
+    let asked = counted.asked();
+    drop(closed(&rt, server, ended));
+    expect_count(&rt, counted.asked(), asked, "growths in a close");
+    expect_count(&rt, counted.used(), 0, "bytes that were not given back");
+}

@@ -1,0 +1,45 @@
+-- Why a server was not started (this project's own rule).
+use Rattle.std.specs.Prelude.{◌≡◌, ◌≢◌, ◌<◌, ◌⊎◌, ℕ, length}
+use Rattle.rx_config.specs.declared.config.Config.{Config}
+use Rattle.rx_server.specs.declared.start_fault.Role.{Role}
+use Rattle.rx_server.specs.declared.start_fault.Role.TheVariants.{Drainer, Pump, Worker}
+use Rattle.rx_server.specs.declared.start_fault.StartCause.TheVariants.{Memory, NoThread}
+use Rattle.rx_server.specs.declared.start_fault.StartFault.{StartFault}
+
+-- there was no memory for what the thread of this role and number needs
+abbrev pub NoMemoryFor : Role → ℕ → StartFault → Type 0
+NoMemoryFor role index fault = fault ≡ record { thread = role; index = index; cause = Memory }
+
+-- or for one of so many threads of the role
+abbrev pub NoMemoryBelow : Role → ℕ → StartFault → Type 0
+NoMemoryBelow role count fault = (index : ℕ) × (index < count) × NoMemoryFor role index fault
+
+-- the thread of this role and number was not to be had
+abbrev pub NoThreadFor : Role → ℕ → StartFault → Type 0
+NoThreadFor role index fault = fault ≡ record { thread = role; index = index; cause = NoThread }
+
+-- or one of so many threads of the role
+abbrev pub NoThreadBelow : Role → ℕ → StartFault → Type 0
+NoThreadBelow role count fault = (index : ℕ) × (index < count) × NoThreadFor role index fault
+
+-- there was no memory for the lists of the running threads, or one of so many pumps and drainers had no thread
+abbrev pub CannotRun : ℕ → ℕ → StartFault → Type 0
+CannotRun pumps drainers fault =
+    NoMemoryFor Pump 0 fault ⊎ NoMemoryFor Drainer 0 fault ⊎ NoThreadBelow Pump pumps fault ⊎ NoThreadBelow Drainer drainers fault
+
+-- how many threads of a role a server of this configuration has
+abbrev pub threads_of : Config → Role → ℕ
+threads_of config Pump = length config.subjects.items
+threads_of config Drainer = config.drainers
+threads_of config Worker = config.workers
+
+-- there was no memory for what a thread of such a server needs
+pub record NoMemoryIn (config : Config) (fault : StartFault) : Type 0 where
+  pub index : fault.index < threads_of config fault.thread
+  pub cause : fault.cause ≡ Memory
+
+-- a thread of such a server was not to be had, or there was no memory for what it needs. A worker begins only to serve, so a
+-- thread of its own is not what it lacks
+pub record IsStartFaultOf (config : Config) (fault : StartFault) : Type 0 where
+  pub index : fault.index < threads_of config fault.thread
+  pub cause : fault.cause ≡ NoThread → fault.thread ≢ Worker
