@@ -19,7 +19,7 @@ use Rattle.rx_drain.specs.declared.drain_fault.DrainFault.TheVariants.{InboxGone
 use Rattle.rx_drain.specs.Calls.{partings_of}
 use Rattle.rx_drain.specs.Credit.{AreAllPaid, IsPaid}
 use Rattle.rx_drain.specs.Logs.{Log, Next, Flush, letters, kept_in, sent_in}
-use Rattle.rx_drain.specs.Drainers.{DrainerView, IsOfSubject, SentUpTo, Stands, Handles, FlushesAt, FlushesAll}
+use Rattle.rx_drain.specs.Drainers.{DrainerView, IsOfSubject, SentUpTo, Stands, HandlesLetter, FlushesAt, FlushesAll}
 use Rattle.rx_drain.proofs.Crediting.{paid_by_flush, paid_without}
 use Rattle.rx_drain.proofs.Standing.{handles_next, stands_left}
 
@@ -139,8 +139,8 @@ module _ {S Rest : Type 0} (acts : Acts S Rest) where
 
   -- BEFORE A LETTER
 
-  pub handles_flushed : (x : Letter (Out S)) (before mid after : DrainerView S Rest) → AreSame before.ports mid.ports → FlushesAll acts before mid → Handles acts x mid after
-      → Handles acts x before after
+  pub handles_flushed : (x : Letter (Out S)) (before mid after : DrainerView S Rest) → AreSame before.ports mid.ports → FlushesAll acts before mid → HandlesLetter acts x mid after
+      → HandlesLetter acts x before after
   handles_flushed x before mid after same flushes handles =
       let n = length before.ports in
       let count : length mid.ports ≡ n = AreSame-length before.ports mid.ports same in (
@@ -171,7 +171,7 @@ module _ {S Rest : Type 0} (acts : Acts S Rest) where
       → after.misses ≡ before.misses → after.taken ≡ before.taken → after.ports ≡ before.ports → after.fault ≡ before.fault
       → is_some before.fault ≡ true → IsOfSubject before.fault
       → ((held : List (Attachment S)) (gone : List (Attachment S × Why)) → Stand acts held gone before.kept before.away → Stand acts [] (gone ++ closed held) after.kept after.away)
-      → Handles acts (letter from Bye) before after
+      → HandlesLetter acts (letter from Bye) before after
   handles_cut from before after from_is left_is left_after empty same_misses same_taken same_ports same_fault some is closes =
       handles_next acts (letter from Bye) before after (
         subst IsOfSubject (sym same_fault) is,

@@ -9,7 +9,7 @@ use Rattle.rx_note.specs.declared.note.Note.{Note}
 use Rattle.rx_pump.specs.declared.out.Out.{Out}
 use Rattle.rx_pump.specs.declared.out.Out.TheVariants.{Attach, Give, Detach}
 use Rattle.rx_sink.specs.declared.flow.Flow.{Flow}
-use Rattle.rx_sink.specs.Attachments.{Attachment, Why, Mark, Fine, Fault, NoMemory, Change, is_clear, is_held_back, is_last, is_of, kept_for, without, replaced, with_note, with_flush, paid, attached, given, settled, served, served_yet, flushed, written, detached, let_go, closed}
+use Rattle.rx_sink.specs.Attachments.{Attachment, Why, Mark, Fine, Fault, NoMemory, Change, is_clear, is_held_back, is_last, is_of, kept_for, without, replaced, with_note, with_flush, paid, attached, given, settled, serving, served_yet, flushed, written, detached, let_go, closed}
 use Rattle.rx_drain.specs.Logs.{Log, NoLetters, Next, Flush, letters, has_left, brought, letter_change, kept_in, change, flush_change, gone_in, missed_in}
 use Rattle.rx_drain.proofs.Changing.{post_change, post_by}
 use Rattle.rx_drain.specs.Once.{times, found_by, missed_by, place_by, letter_by, places_by, found_in, missed_at, EachOnce}
@@ -263,7 +263,7 @@ module _ {S : Type 0} where
   moves_settle n s w false false a b took kept place is = ap (λ (m : ℕ). m + 0) (replaced_places n s w a (paid b) kept place is)
 
   moves_serve : (n s w : ℕ) (note : Note) (mark : Mark) (a : Attachment S) (kept : List (Attachment S)) → kept_for s w kept ≡ Some a
-      → Moves n kept [] (served mark s w note a kept)
+      → Moves n kept [] (serving mark s w note a kept)
   moves_serve n s w note (Fine flow) a kept is =
       (let b = with_note (is_last note) note flow a in
       moves_settle n s w (b.over && is_clear flow) (is_held_back flow b.due) a b 1 kept (note_place (is_last note) note flow a) is)

@@ -11,7 +11,7 @@ use Rattle.rx_sink.specs.declared.flow.Flow.{Flow}
 use Rattle.rx_sink.specs.declared.flow.Flow.TheVariants.{Clear, Ready, Stuck}
 use Rattle.rx_sink.specs.declared.kept.Kept.{Kept}
 use Rattle.rx_sink.specs.Acts.{Acts, Step, Takes, Flushes}
-use Rattle.rx_sink.specs.Attachments.{Attachment, Mark, Fine, Fault, NoMemory, Apart, is_clear, is_held_back, is_last, may_wait, is_of, kept_for, without, replaced, with_note, with_flush, paid, attached, given, settled, served, served_yet, flushed, written, detached, let_go}
+use Rattle.rx_sink.specs.Attachments.{Attachment, Mark, Fine, Fault, NoMemory, Apart, is_clear, is_held_back, is_last, may_wait, is_of, kept_for, without, replaced, with_note, with_flush, paid, attached, given, settled, serving, served_yet, flushed, written, detached, let_go}
 use Rattle.rx_sink.specs.Stands.{IsKept}
 use Rattle.rx_drain.specs.Credit.{IsPaid}
 use Rattle.rx_drain.specs.Logs.{Log, NoLetters, Next, Flush, letters, has_left, brought, letter_change, kept_in}
@@ -53,7 +53,7 @@ module _ {S : Type 0} where
   withheld_settle s w false true b took kept stuck all = all_with Withheld s w b kept (stuck refl) all
   withheld_settle s w false false b took kept stuck all = all_with Withheld s w (paid b) kept (inl refl) all
 
-  withheld_serve : (s w : ℕ) (note : Note) (mark : Mark) (a : Attachment S) (kept : List (Attachment S)) → AllByRecursion Withheld kept → AllByRecursion Withheld (served mark s w note a kept).kept
+  withheld_serve : (s w : ℕ) (note : Note) (mark : Mark) (a : Attachment S) (kept : List (Attachment S)) → AllByRecursion Withheld kept → AllByRecursion Withheld (serving mark s w note a kept).kept
   withheld_serve s w note (Fine flow) a kept all =
       (let b = with_note (is_last note) note flow a in
       withheld_settle s w (b.over && is_clear flow) (is_held_back flow b.due) b 1 kept (λ held. withheld_note (is_last note) note flow a (held_stuck flow b.due held)) all)

@@ -11,7 +11,7 @@ use Rattle.rx_mailbox.specs.Letters.{share, ends, has_bye}
 use Rattle.rx_mailbox.specs.Boxes.{Outgoing, Incoming, HasEachBye, incoming, with_letter}
 use Rattle.rx_pump.specs.declared.call.Call.{Call}
 use Rattle.rx_pump.specs.declared.out.Out.{Out}
-use Rattle.rx_pump.specs.Pumps.{AreSame, IsFresh, place_of}
+use Rattle.rx_pump.specs.Pumps.{AreSame, IsFresh, port_place}
 use Rattle.rx_pump.proofs.Pumping.{HavePut-fresh, AreSame-length}
 use Rattle.rx_sink.specs.declared.kept.Kept.{Kept}
 use Rattle.rx_sink.specs.declared.put_away.PutAway.{PutAway}
@@ -25,8 +25,8 @@ use Rattle.rx_drain.specs.declared.drain_stop.DrainStop.{DrainStop}
 use Rattle.rx_drain.specs.Logs.{Log, NoLetters, Next, Flush, letters, has_left, letter_change, kept_in, sent_in}
 use Rattle.rx_drain.proofs.Changing.{post_change}
 use Rattle.rx_drain.specs.Credit.{IsPaid, AreAllPaid}
-use Rattle.rx_drain.specs.Drainers.{DrainerView, HaveSent, SentUpTo, Stands, Drains, IsDrained, Handles, FlushesAll, Goes, Pays, KeepsPlaces, TakesMore, TakesOne, with_letters, view_of}
-use Rattle.rx_drain.specs.Serving.{HasServed, HasStopped}
+use Rattle.rx_drain.specs.Drainers.{DrainerView, HaveSent, SentUpTo, Stands, Drains, IsDrained, HandlesLetter, FlushesAll, Goes, Pays, KeepsDrainer, TakesMore, TakesSome, with_letters, view_of}
+use Rattle.rx_drain.specs.Serving.{HasDrained, DrainerHasStopped}
 
 pub bool_cases : (b : Bool) → (b ≡ true) ⊎ (b ≡ false)
 bool_cases true = inl refl
@@ -114,7 +114,7 @@ module _ {S Rest : Type 0} (acts : Acts S Rest) where
   -- a letter came
   pub goes_letter : (before mid after : DrainerView S Rest) (x : Letter (Out S)) → before.fault ≡ None
       → mid ≡ record before { inbox = mid.inbox; fault = None } → mid.inbox ≡ with_letter before.inbox x → after.inbox ≡ mid.inbox
-      → AreSame mid.ports after.ports → Handles acts x mid after → Goes acts before after
+      → AreSame mid.ports after.ports → HandlesLetter acts x mid after → Goes acts before after
   goes_letter before mid after x whole mid_is received kept same handles log d =
       let P : DrainerView S Rest → Type 0 = λ v. Stands acts (length v.ports) log v in
       let base : P (record before { inbox = mid.inbox; fault = None }) = record {
@@ -187,10 +187,10 @@ module _ {S Rest : Type 0} (acts : Acts S Rest) where
     then ∙ ap (λ (i : Incoming (Out S)). with_letters i ys) first ∙ ap (λ (l : List (Letter (Out S))). incoming a.box a.ports l) (append_assoc a.received xs ys),
   )
 
-  pub takes_single : (a mid c : Incoming (Out S)) (x : Letter (Out S)) → mid ≡ with_letter a x → c ≡ mid → TakesOne a c
+  pub takes_single : (a mid c : Incoming (Out S)) (x : Letter (Out S)) → mid ≡ with_letter a x → c ≡ mid → TakesSome a c
   takes_single a mid c x received kept = (x, [], kept ∙ received)
 
-  pub takes_one_and : (a b c : Incoming (Out S)) → TakesOne a b → TakesMore b c → TakesOne a c
+  pub takes_one_and : (a b c : Incoming (Out S)) → TakesSome a b → TakesMore b c → TakesSome a c
   takes_one_and a b c (x, xs, first) (ys, then) = (
     x,
     xs ++ ys,
@@ -234,7 +234,7 @@ module _ {S Rest : Type 0} (acts : Acts S Rest) where
 
   pub served_end : (view : DrainerView S Rest) (rest : List (Outgoing (Call S))) (end : DrainEnd S Rest)
       → end.inbox ≡ view.inbox → view.ports ≡ end.ports.items ++ rest → rest ≡ [] → end.put_away.items ≡ view.away → end.places.misses ≡ view.misses → end.taken ≡ view.taken
-      → view.left ≡ true → view.fault ≡ None → HasEachBye view.inbox → IsDrained acts view → HasServed acts view end
+      → view.left ≡ true → view.fault ≡ None → HasEachBye view.inbox → IsDrained acts view → HasDrained acts view end
   served_end view rest end inbox ports none away misses taken left_is whole each (log, d, paid) =
       let all : view.ports ≡ end.ports.items = ports ∙ ap (λ l. end.ports.items ++ l) none ∙ append-nil end.ports.items in
       let drains = drains_end log view.inbox end.ports.items view.away view.misses view.taken view.ports view.kept view.left view.fault all (keeps_none view left_is (log, d, paid)) left_is whole d in
@@ -249,7 +249,7 @@ module _ {S Rest : Type 0} (acts : Acts S Rest) where
           places = record {
             box = ap (λ (i : Incoming (Out S)). i.box) inbox;
             count = ap (λ (i : Incoming (Out S)). i.ports) inbox;
-            ports = ap (map place_of) (sym all);
+            ports = ap (map port_place) (sym all);
           };
         },
       )
@@ -263,7 +263,7 @@ module _ {S Rest : Type 0} (acts : Acts S Rest) where
   over_before before after inbox none over each = over (subst (λ (i : Incoming (Out S)). HasEachBye i) (sym (none each)) each) ∙ none each
 
   -- what a drainer leaves after some turns is what it leaves before them
-  pub served_kept : (before after : DrainerView S Rest) (end : DrainEnd S Rest) → KeepsPlaces before after → TakesNone before after → HasServed acts after end → HasServed acts before end
+  pub served_kept : (before after : DrainerView S Rest) (end : DrainEnd S Rest) → KeepsDrainer before after → TakesNone before after → HasDrained acts after end → HasDrained acts before end
   served_kept before after end kept none (log, s) = (
     log,
     record {
@@ -275,15 +275,15 @@ module _ {S Rest : Type 0} (acts : Acts S Rest) where
   )
 
   -- the same of a drainer that stops
-  pub stopped_kept : (before after : DrainerView S Rest) (stop : DrainStop S Rest) → KeepsPlaces before after
-      → (stop.fault ≡ InboxGone → before.fault ≡ None → ¬ HasEachBye stop.left.parts.inbox) → HasStopped acts after stop → HasStopped acts before stop
+  pub stopped_kept : (before after : DrainerView S Rest) (stop : DrainStop S Rest) → KeepsDrainer before after
+      → (stop.fault ≡ InboxGone → before.fault ≡ None → ¬ HasEachBye stop.left.parts.inbox) → DrainerHasStopped acts after stop → DrainerHasStopped acts before stop
   stopped_kept before after stop kept waited (log, s) =
       let count : length after.ports ≡ length before.ports = AreSame-length before.ports after.ports kept.ports in (
         log,
         record {
           drains = subst (λ (n : ℕ). Drains acts (view_of stop.left (has_left n log) (Some stop.fault)) log) count s.drains;
           places =
-              let p = subst (λ (n : ℕ). KeepsPlaces after (view_of stop.left (has_left n log) (Some stop.fault))) count s.places in
+              let p = subst (λ (n : ℕ). KeepsDrainer after (view_of stop.left (has_left n log) (Some stop.fault))) count s.places in
               record { box = p.box ∙ kept.box; count = p.count ∙ kept.count; ports = p.ports ∙ kept.ports };
           waited = waited;
         },

@@ -14,7 +14,7 @@ use Rattle.rx_pump.specs.declared.out.Out.{Out}
 use Rattle.rx_pump.specs.declared.out.Out.TheVariants.{Attach, Give, Detach}
 use Rattle.rx_pump.proofs.Placing.{slice_get-append_left, slice_get-append_right}
 use Rattle.rx_sink.specs.declared.flow.Flow.{Flow}
-use Rattle.rx_sink.specs.Attachments.{Attachment, Why, TookLast, Detached, FailedAtStart, FailedAt, FailedAtFlush, Mark, Fine, Fault, NoMemory, Sent, Change, is_clear, is_held_back, is_last, is_of, kept_for, without, replaced, with_note, with_flush, paid, request, requests, dispose, parting, partings, attached, given, settled, served, served_yet, flushed, written, detached, let_go, closed}
+use Rattle.rx_sink.specs.Attachments.{Attachment, Why, TookLast, Detached, FailedAtStart, FailedAt, FailedAtFlush, Mark, Fine, Fault, NoMemory, Sent, Change, is_clear, is_held_back, is_last, is_of, kept_for, without, replaced, with_note, with_flush, paid, request, requests, dispose, parting, partings, attached, given, settled, serving, served_yet, flushed, written, detached, let_go, closed}
 use Rattle.rx_drain.specs.Logs.{Log, NoLetters, Next, Flush, letters, has_left, brought, letter_change, kept_in, change, flush_change, gone_in, sent_in}
 use Rattle.rx_drain.proofs.Changing.{post_change, post_by}
 use Rattle.rx_drain.specs.Once.{times, found_by, missed_by, place_by, letter_by, found_in, missed_at}
@@ -373,7 +373,7 @@ module _ {S : Type 0} where
       told_settle false true b took place now = (let t = told_waits b took now in record { still = t.still; ended = t.ended })
       told_settle false false b took place now = (let t = told_cleared b took place now in record { still = t.still; ended = t.ended })
 
-      told_serve : (mark : Mark) (note : Note) → Told xs gone (served mark s w note a kept)
+      told_serve : (mark : Mark) (note : Note) → Told xs gone (serving mark s w note a kept)
       told_serve (Fine flow) note =
           (let b = with_note (is_last note) note flow a in
           let place = note_place (is_last note) note flow in
@@ -470,7 +470,7 @@ module _ {S : Type 0} where
     note_elsewhere true note flow a other = other
     note_elsewhere false note flow a other = other
 
-    quiet_serve : (s w : ℕ) (note : Note) (mark : Mark) (a : Attachment S) → a.place ≢ n → sent_for n (served mark s w note a kept).sends ≡ []
+    quiet_serve : (s w : ℕ) (note : Note) (mark : Mark) (a : Attachment S) → a.place ≢ n → sent_for n (serving mark s w note a kept).sends ≡ []
     quiet_serve s w note (Fine flow) a other =
         (let b = with_note (is_last note) note flow a in
         quiet_settle s w (b.over && is_clear flow) (is_held_back flow b.due) b 1 (note_elsewhere (is_last note) note flow a other))

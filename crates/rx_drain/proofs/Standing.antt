@@ -14,7 +14,7 @@ use Rattle.rx_note.specs.declared.note.Note.{Note}
 use Rattle.rx_pump.specs.declared.call.Call.{Call}
 use Rattle.rx_pump.specs.declared.out.Out.{Out}
 use Rattle.rx_pump.specs.declared.out.Out.TheVariants.{Attach, Give, Detach}
-use Rattle.rx_pump.specs.Pumps.{AreSame, place_of}
+use Rattle.rx_pump.specs.Pumps.{AreSame, port_place}
 use Rattle.rx_pump.specs.Sends.{Puts, with_bye, EndsSome}
 use Rattle.rx_pump.proofs.Pumping.{HavePut-puts, HavePut-same, AreSame-puts}
 use Rattle.rx_pump.proofs.Leaving.{AreSame-byes, HaveEnded-byes, HaveEndedSome-some, EndsSome-first}
@@ -22,14 +22,14 @@ use Rattle.rx_sink.specs.declared.flow.Flow.TheVariants.{Clear}
 use Rattle.rx_sink.specs.declared.kept.Kept.{Kept}
 use Rattle.rx_sink.specs.declared.put_away.PutAway.{PutAway}
 use Rattle.rx_sink.specs.Acts.{Acts, raised}
-use Rattle.rx_sink.specs.Attachments.{Attachment, Why, Mark, Fine, Fault, NoMemory, Change, is_clear, is_held_back, kept_for, with_note, with_flush, attached, given, settled, served, served_yet, flushed, written, detached, let_go, unchanged, left, closed, dispose, requests, parting, partings, request, is_last}
+use Rattle.rx_sink.specs.Attachments.{Attachment, Why, Mark, Fine, Fault, NoMemory, Change, is_clear, is_held_back, kept_for, with_note, with_flush, attached, given, settled, serving, served_yet, flushed, written, detached, let_go, unchanged, left, closed, dispose, requests, parting, partings, request, is_last}
 use Rattle.rx_sink.specs.Stands.{Stand, Did, FlushesOne, IsKept, IsPutAway, addressed, tallied}
 use Rattle.rx_drain.specs.declared.drain_fault.DrainFault.{DrainFault}
 use Rattle.rx_drain.specs.declared.drain_fault.DrainFault.TheVariants.{InboxGone, SubjectGone}
-use Rattle.rx_drain.specs.Calls.{calls_to, parting_of, partings_of, SendsAll}
+use Rattle.rx_drain.specs.Calls.{calls_to, parting_of, partings_of, SendsEvents}
 use Rattle.rx_drain.specs.Logs.{Log, Next, Flush, letters, has_left, brought, out_change, out_unserved, letter_change, kept_in, change, flush_change, gone_in, sent_in, missed_in, taken_in, put_by}
 use Rattle.rx_drain.proofs.Changing.{post_change}
-use Rattle.rx_drain.specs.Drainers.{DrainerView, IsOfSubject, HaveSent, SentUpTo, Stands, ServesOut, Handles}
+use Rattle.rx_drain.specs.Drainers.{DrainerView, IsOfSubject, HaveSent, SentUpTo, Stands, ServesOut, HandlesLetter}
 use Rattle.rx_drain.proofs.Events.{calls_to-append}
 
 -- MISSES
@@ -40,7 +40,7 @@ module _ {S : Type 0} where
   missed_settled false true subject who took a kept = refl
   missed_settled false false subject who took a kept = refl
 
-  missed_served : (mark : Mark) (subject who : ℕ) (note : Note) (a : Attachment S) (kept : List (Attachment S)) → (served mark subject who note a kept).missed ≡ 0
+  missed_served : (mark : Mark) (subject who : ℕ) (note : Note) (a : Attachment S) (kept : List (Attachment S)) → (serving mark subject who note a kept).missed ≡ 0
   missed_served (Fine flow) subject who note a kept =
       (let b = with_note (is_last note) note flow a in missed_settled (b.over && is_clear flow) (is_held_back flow b.due) subject who 1 b kept)
   missed_served Fault subject who note a kept = refl
@@ -125,7 +125,7 @@ module _ {S : Type 0} where
   took_detached subject who (Some a) kept = took_let_go a.over subject who a kept
 
   took_served : (mark : Mark) (subject who : ℕ) (note : Note) (a : Attachment S) (kept : List (Attachment S))
-      → ((served mark subject who note a kept).took ≡ 0) ⊎ ((served mark subject who note a kept).took ≡ 1)
+      → ((serving mark subject who note a kept).took ≡ 0) ⊎ ((serving mark subject who note a kept).took ≡ 1)
   took_served (Fine flow) subject who note a kept =
       (let b = with_note (is_last note) note flow a in inr (took_settled (b.over && is_clear flow) (is_held_back flow b.due) subject who 1 b kept))
   took_served Fault subject who note a kept = inl refl
@@ -198,7 +198,7 @@ module _ {S : Type 0} where
 
   -- or the first of them
   have_more : (fault : Option DrainFault) (all events : List (ℕ × Event)) (a b : List (Outgoing (Call S)))
-      → HaveSent false (λ d. calls_to d all) a → SendsAll fault events a b → SentUpTo fault false (all ++ events) b
+      → HaveSent false (λ d. calls_to d all) a → SendsEvents fault events a b → SentUpTo fault false (all ++ events) b
   have_more None all events a b have p = puts_more all events a b have p
   have_more (Some InboxGone) all events a b have p = absurd p
   have_more (Some (SubjectGone place)) all events a b have p = inl (record {
@@ -211,15 +211,15 @@ module _ {S : Type 0} where
   })
 
   -- the ports are those before
-  pub same_sent : (fault : Option DrainFault) (events : List (ℕ × Event)) (ended a b : List (Outgoing (Call S))) → SendsAll fault events a b → AreSame (ended ++ a) (ended ++ b)
+  pub same_sent : (fault : Option DrainFault) (events : List (ℕ × Event)) (ended a b : List (Outgoing (Call S))) → SendsEvents fault events a b → AreSame (ended ++ a) (ended ++ b)
   same_sent None events ended a b p =
-      map-append place_of ended b ∙ ap (λ l. map place_of ended ++ l) (AreSame-puts (λ d. calls_to d events) a b p) ∙ sym (map-append place_of ended a)
+      map-append port_place ended b ∙ ap (λ l. map port_place ended ++ l) (AreSame-puts (λ d. calls_to d events) a b p) ∙ sym (map-append port_place ended a)
   same_sent (Some InboxGone) events ended a b p = absurd p
   same_sent (Some (SubjectGone place)) events ended a b p =
-      map-append place_of ended b ∙ ap (λ l. map place_of ended ++ l) (AreSame-puts (λ d. calls_to d p.done) a b p.put) ∙ sym (map-append place_of ended a)
+      map-append port_place ended b ∙ ap (λ l. map port_place ended ++ l) (AreSame-puts (λ d. calls_to d p.done) a b p.put) ∙ sym (map-append port_place ended a)
 
   -- a fault at that is that of a subject
-  pub of_sent : (fault : Option DrainFault) (events : List (ℕ × Event)) (a b : List (Outgoing (Call S))) → SendsAll fault events a b → IsOfSubject fault
+  pub of_sent : (fault : Option DrainFault) (events : List (ℕ × Event)) (a b : List (Outgoing (Call S))) → SendsEvents fault events a b → IsOfSubject fault
   of_sent None events a b p = tt
   of_sent (Some InboxGone) events a b p = absurd p
   of_sent (Some (SubjectGone place)) events a b p = tt
@@ -236,18 +236,18 @@ module _ {S : Type 0} where
       ap (λ l. ended_after ++ l) empty ∙ append-nil ended_after ∙ after_is ∙ ap (λ l. l ++ map with_bye mid) none
 
   pub same_ended : (events : List (ℕ × Event)) (ended a mid ended_after rest : List (Outgoing (Call S)))
-      → ended ≡ [] → SendsAll None events a mid → ended_after ≡ ended ++ map with_bye mid → rest ≡ [] → AreSame (ended ++ a) (ended_after ++ rest)
+      → ended ≡ [] → SendsEvents None events a mid → ended_after ≡ ended ++ map with_bye mid → rest ≡ [] → AreSame (ended ++ a) (ended_after ++ rest)
   same_ended events ended a mid ended_after rest none put after_is empty =
-      ap (map place_of) (all_ended ended mid ended_after rest none after_is empty) ∙ AreSame-byes mid ∙ AreSame-puts (λ d. calls_to d events) a mid put
-      ∙ sym (ap (map place_of) (all_open ended a none))
+      ap (map port_place) (all_ended ended mid ended_after rest none after_is empty) ∙ AreSame-byes mid ∙ AreSame-puts (λ d. calls_to d events) a mid put
+      ∙ sym (ap (map port_place) (all_open ended a none))
 
   pub same_half : (events : List (ℕ × Event)) (ended a mid ended_after rest : List (Outgoing (Call S)))
-      → ended ≡ [] → SendsAll None events a mid → EndsSome mid rest ended ended_after → AreSame (ended ++ a) (ended_after ++ rest)
+      → ended ≡ [] → SendsEvents None events a mid → EndsSome mid rest ended ended_after → AreSame (ended ++ a) (ended_after ++ rest)
   same_half events ended a mid ended_after rest none put ends0 =
       let ends = EndsSome-first mid rest ended ended_after none ends0 in
-      ap (λ (l : List (Outgoing (Call S))). map place_of (l ++ rest)) ends.ended ∙ map-append place_of (map with_bye ends.done) rest
-      ∙ ap (λ l. l ++ map place_of rest) (AreSame-byes ends.done) ∙ sym (map-append place_of ends.done rest) ∙ ap (map place_of) ends.parts
-      ∙ AreSame-puts (λ d. calls_to d events) a mid put ∙ sym (ap (map place_of) (all_open ended a none))
+      ap (λ (l : List (Outgoing (Call S))). map port_place (l ++ rest)) ends.ended ∙ map-append port_place (map with_bye ends.done) rest
+      ∙ ap (λ l. l ++ map port_place rest) (AreSame-byes ends.done) ∙ sym (map-append port_place ends.done rest) ∙ ap (map port_place) ends.parts
+      ∙ AreSame-puts (λ d. calls_to d events) a mid put ∙ sym (ap (map port_place) (all_open ended a none))
 
   -- what stopped is stopped once the drainer leaves
   pub still_stopped : (fault : DrainFault) (events : List (ℕ × Event)) (ports : List (Outgoing (Call S))) → SentUpTo (Some fault) false events ports → IsOfSubject (Some fault)
@@ -258,7 +258,7 @@ module _ {S : Type 0} where
 
   -- the first events were sent, and no port ended
   pub sent_in_part : (fault : Option DrainFault) (all events : List (ℕ × Event)) (ended a b : List (Outgoing (Call S)))
-      → is_some fault ≡ true → ended ≡ [] → HaveSent false (λ d. calls_to d all) (ended ++ a) → SendsAll fault events a b
+      → is_some fault ≡ true → ended ≡ [] → HaveSent false (λ d. calls_to d all) (ended ++ a) → SendsEvents fault events a b
       → SentUpTo fault true (all ++ events) (ended ++ b)
   sent_in_part None all events ended a b some none have p = cc
   sent_in_part (Some fault) all events ended a b some none have p =
@@ -267,7 +267,7 @@ module _ {S : Type 0} where
 
   -- all were sent, and all ports have ended
   pub sent_ended : (all events : List (ℕ × Event)) (ended a mid ended_after rest : List (Outgoing (Call S)))
-      → ended ≡ [] → HaveSent false (λ d. calls_to d all) (ended ++ a) → SendsAll None events a mid → ended_after ≡ ended ++ map with_bye mid → rest ≡ []
+      → ended ≡ [] → HaveSent false (λ d. calls_to d all) (ended ++ a) → SendsEvents None events a mid → ended_after ≡ ended ++ map with_bye mid → rest ≡ []
       → SentUpTo None true (all ++ events) (ended_after ++ rest)
   sent_ended all events ended a mid ended_after rest none have put after_is empty =
       subst (HaveSent true (λ d. calls_to d (all ++ events))) (sym (all_ended ended mid ended_after rest none after_is empty))
@@ -275,7 +275,7 @@ module _ {S : Type 0} where
 
   -- all were sent, and some ports have ended
   pub sent_half : (place : ℕ) (all events : List (ℕ × Event)) (ended a mid ended_after rest : List (Outgoing (Call S)))
-      → ended ≡ [] → HaveSent false (λ d. calls_to d all) (ended ++ a) → SendsAll None events a mid → EndsSome mid rest ended ended_after → place ≡ length ended_after
+      → ended ≡ [] → HaveSent false (λ d. calls_to d all) (ended ++ a) → SendsEvents None events a mid → EndsSome mid rest ended ended_after → place ≡ length ended_after
       → SentUpTo (Some (SubjectGone place)) true (all ++ events) (ended_after ++ rest)
   sent_half place all events ended a mid ended_after rest none have put ends0 place_is =
       let ends = EndsSome-first mid rest ended ended_after none ends0 in
@@ -367,7 +367,7 @@ module _ {S Rest : Type 0} (acts : Acts S Rest) where
   pub stands_served : (leave : ℕ) (log : Log S) (from : ℕ) (out : Out S) (before after : DrainerView S Rest) (ended a b : List (Outgoing (Call S))) (events : List Event) (back : Option S)
       → ended ≡ [] → before.ports ≡ ended ++ a → after.ports ≡ ended ++ b → before.left ≡ false → after.left ≡ false → before.fault ≡ None → (from == leave) ≡ false
       → ServesOut acts from out before.kept after.kept before.away after.away before.misses after.misses before.taken after.taken events back
-      → SendsAll after.fault (map (λ event. (from, event)) events) a b
+      → SendsEvents after.fault (map (λ event. (from, event)) events) a b
       → Stands acts leave log before → (mark : Mark) × Stands acts leave (Next log (letter from (Body out)) mark) after
   stands_served leave log from out before after ended a b events back none before_ports after_ports left_is left_after whole test serves sends s =
       let was : has_left leave log ≡ false = sym s.left ∙ left_is in
@@ -398,7 +398,7 @@ module _ {S Rest : Type 0} (acts : Acts S Rest) where
       → ended ≡ [] → before.ports ≡ ended ++ a → after.ports ≡ ended ++ b → before.left ≡ false → after.left ≡ false → before.fault ≡ None
       → after.misses ≡ before.misses → after.taken ≡ before.taken
       → FlushesOne acts subject who before.kept after.kept before.away after.away events
-      → SendsAll after.fault (map (λ event. (subject, event)) events) a b
+      → SendsEvents after.fault (map (λ event. (subject, event)) events) a b
       → Stands acts leave log before → (mark : Mark) × Stands acts leave (Flush log subject who mark) after
   stands_flushed leave log subject who before after ended a b events none before_ports after_ports left_is left_after whole same_misses same_taken flushes sends s =
       let did = flushes (kept_in leave log) (gone_in leave log) s.sinks in
@@ -479,13 +479,13 @@ module _ {S Rest : Type 0} (acts : Acts S Rest) where
   pub handles_next : (x : Letter (Out S)) (before after : DrainerView S Rest)
       → IsOfSubject after.fault
       × ((log : Log S) → Stands acts (length before.ports) log before → (mark : Mark) × Stands acts (length before.ports) (Next log x mark) after)
-      → Handles acts x before after
+      → HandlesLetter acts x before after
   handles_next x before after h = (h.0, λ log s. (let next = h.1 log s in (log, refl, next.0, next.1)))
 
   -- the letter is this body
-  pub handles_body : (x : Letter (Out S)) (out : Out S) (before after : DrainerView S Rest) → x.post ≡ Body out → Handles acts (letter x.from (Body out)) before after → Handles acts x before after
-  handles_body x out before after is h = subst (λ (post : Post (Out S)). Handles acts (letter x.from post) before after) (sym is) h
+  pub handles_body : (x : Letter (Out S)) (out : Out S) (before after : DrainerView S Rest) → x.post ≡ Body out → HandlesLetter acts (letter x.from (Body out)) before after → HandlesLetter acts x before after
+  handles_body x out before after is h = subst (λ (post : Post (Out S)). HandlesLetter acts (letter x.from post) before after) (sym is) h
 
   -- the letter is a Bye
-  pub handles_bye : (x : Letter (Out S)) (before after : DrainerView S Rest) → x.post ≡ Bye → Handles acts (letter x.from Bye) before after → Handles acts x before after
-  handles_bye x before after is h = subst (λ (post : Post (Out S)). Handles acts (letter x.from post) before after) (sym is) h
+  pub handles_bye : (x : Letter (Out S)) (before after : DrainerView S Rest) → x.post ≡ Bye → HandlesLetter acts (letter x.from Bye) before after → HandlesLetter acts x before after
+  handles_bye x before after is h = subst (λ (post : Post (Out S)). HandlesLetter acts (letter x.from post) before after) (sym is) h

@@ -7,63 +7,63 @@ use Rattle.rx_note.specs.declared.note.Note.{Note}
 use Rattle.rx_pump.specs.declared.out.Out.{Out}
 use Rattle.rx_pump.specs.declared.out.Out.TheVariants.{Attach, Give, Detach}
 use Rattle.rx_sink.specs.declared.flow.Flow.{Flow}
-use Rattle.rx_sink.specs.Attachments.{Attachment, Why, Mark, Fine, Fault, NoMemory, Change, is_clear, is_held_back, is_last, is_of, kept_for, without, replaced, with_note, with_flush, paid, attached, given, settled, served, served_yet, flushed, written, detached, let_go, closed}
+use Rattle.rx_sink.specs.Attachments.{Attachment, Why, Mark, Fine, Fault, NoMemory, Change, is_clear, is_held_back, is_last, is_of, kept_for, without, replaced, with_note, with_flush, paid, attached, given, settled, serving, served_yet, flushed, written, detached, let_go, closed}
 use Rattle.rx_drain.specs.Logs.{Log, NoLetters, Next, Flush, letters, has_left, brought, letter_change, kept_in, change, flush_change, gone_in, taken_in}
 use Rattle.rx_drain.proofs.Changing.{post_change}
-use Rattle.rx_drain.specs.Tallies.{notes_of, notes_of_ended}
+use Rattle.rx_drain.specs.Tallies.{notes_taken, notes_of_ended}
 use Rattle.rx_drain.proofs.Taking.{some_split}
 
 module _ {S : Type 0} where
-  notes_append : (xs ys : List (Attachment S)) → notes_of (xs ++ ys) ≡ notes_of xs + notes_of ys
-  notes_append [] ys = (let e : notes_of ys ≡ 0 + notes_of ys = omega arith in e)
+  notes_append : (xs ys : List (Attachment S)) → notes_taken (xs ++ ys) ≡ notes_taken xs + notes_taken ys
+  notes_append [] ys = (let e : notes_taken ys ≡ 0 + notes_taken ys = omega arith in e)
   notes_append (a ∷ xs) ys = (let ih = notes_append xs ys in omega (arith, ih))
 
   ended_append : (xs ys : List (Attachment S × Why)) → notes_of_ended (xs ++ ys) ≡ notes_of_ended xs + notes_of_ended ys
   ended_append [] ys = (let e : notes_of_ended ys ≡ 0 + notes_of_ended ys = omega arith in e)
   ended_append (end ∷ xs) ys = (let ih = ended_append xs ys in omega (arith, ih))
 
-  closed_notes : (kept : List (Attachment S)) → notes_of_ended (closed kept) ≡ notes_of kept
+  closed_notes : (kept : List (Attachment S)) → notes_of_ended (closed kept) ≡ notes_taken kept
   closed_notes [] = refl
   closed_notes (a ∷ kept) = ap (λ n. length a.taken + n) (closed_notes kept)
 
   without_step : (s w : ℕ) (c a : Attachment S) (kept : List (Attachment S)) → kept_for s w (c ∷ kept) ≡ Some a
-      → (kept_for s w kept ≡ Some a → notes_of (without s w kept) + length a.taken ≡ notes_of kept)
-      → notes_of (without s w (c ∷ kept)) + length a.taken ≡ notes_of (c ∷ kept)
+      → (kept_for s w kept ≡ Some a → notes_taken (without s w kept) + length a.taken ≡ notes_taken kept)
+      → notes_taken (without s w (c ∷ kept)) + length a.taken ≡ notes_taken (c ∷ kept)
   without_step s w c a kept is next =
       elim (some_split (is_of s w c) c a (kept_for s w kept) is) [
         | inl (test, same) ↦
             (let e : length c.taken ≡ length a.taken = ap (λ (d : Attachment S). length d.taken) same in
-            subst (λ (t : Bool). notes_of (if t then kept else c ∷ without s w kept) + length a.taken ≡ notes_of (c ∷ kept)) (sym test) (omega (arith, e)))
+            subst (λ (t : Bool). notes_taken (if t then kept else c ∷ without s w kept) + length a.taken ≡ notes_taken (c ∷ kept)) (sym test) (omega (arith, e)))
         | inr (test, later) ↦
             (let ih = next later in
-            subst (λ (t : Bool). notes_of (if t then kept else c ∷ without s w kept) + length a.taken ≡ notes_of (c ∷ kept)) (sym test) (omega (arith, ih)))
+            subst (λ (t : Bool). notes_taken (if t then kept else c ∷ without s w kept) + length a.taken ≡ notes_taken (c ∷ kept)) (sym test) (omega (arith, ih)))
       ]
 
-  without_notes : (s w : ℕ) (a : Attachment S) (kept : List (Attachment S)) → kept_for s w kept ≡ Some a → notes_of (without s w kept) + length a.taken ≡ notes_of kept
+  without_notes : (s w : ℕ) (a : Attachment S) (kept : List (Attachment S)) → kept_for s w kept ≡ Some a → notes_taken (without s w kept) + length a.taken ≡ notes_taken kept
   without_notes s w a [] is = cc
   without_notes s w a (c ∷ kept) is = without_step s w c a kept is (without_notes s w a kept)
 
   replaced_step : (s w : ℕ) (c a b : Attachment S) (kept : List (Attachment S)) → kept_for s w (c ∷ kept) ≡ Some a
-      → (kept_for s w kept ≡ Some a → notes_of (replaced s w b kept) + length a.taken ≡ notes_of kept + length b.taken)
-      → notes_of (replaced s w b (c ∷ kept)) + length a.taken ≡ notes_of (c ∷ kept) + length b.taken
+      → (kept_for s w kept ≡ Some a → notes_taken (replaced s w b kept) + length a.taken ≡ notes_taken kept + length b.taken)
+      → notes_taken (replaced s w b (c ∷ kept)) + length a.taken ≡ notes_taken (c ∷ kept) + length b.taken
   replaced_step s w c a b kept is next =
       elim (some_split (is_of s w c) c a (kept_for s w kept) is) [
         | inl (test, same) ↦
             (let e : length c.taken ≡ length a.taken = ap (λ (d : Attachment S). length d.taken) same in
-            subst (λ (t : Bool). notes_of (if t then b ∷ kept else c ∷ replaced s w b kept) + length a.taken ≡ notes_of (c ∷ kept) + length b.taken) (sym test) (omega (arith, e)))
+            subst (λ (t : Bool). notes_taken (if t then b ∷ kept else c ∷ replaced s w b kept) + length a.taken ≡ notes_taken (c ∷ kept) + length b.taken) (sym test) (omega (arith, e)))
         | inr (test, later) ↦
             (let ih = next later in
-            subst (λ (t : Bool). notes_of (if t then b ∷ kept else c ∷ replaced s w b kept) + length a.taken ≡ notes_of (c ∷ kept) + length b.taken) (sym test) (omega (arith, ih)))
+            subst (λ (t : Bool). notes_taken (if t then b ∷ kept else c ∷ replaced s w b kept) + length a.taken ≡ notes_taken (c ∷ kept) + length b.taken) (sym test) (omega (arith, ih)))
       ]
 
   replaced_notes : (s w : ℕ) (a b : Attachment S) (kept : List (Attachment S)) → kept_for s w kept ≡ Some a
-      → notes_of (replaced s w b kept) + length a.taken ≡ notes_of kept + length b.taken
+      → notes_taken (replaced s w b kept) + length a.taken ≡ notes_taken kept + length b.taken
   replaced_notes s w a b [] is = cc
   replaced_notes s w a b (c ∷ kept) is = replaced_step s w c a b kept is (replaced_notes s w a b kept)
 
   -- what is kept or has ended after a letter took what was kept before took, and what was taken by the letter
   abbrev Adds : List (Attachment S) → Change S → Type 0
-  Adds kept c = notes_of c.kept + notes_of_ended c.gone ≡ notes_of kept + c.took
+  Adds kept c = notes_taken c.kept + notes_of_ended c.gone ≡ notes_taken kept + c.took
 
   adds_attach : (place from w : ℕ) (sink : S) (mark : Mark) (o : Option (Attachment S)) (kept : List (Attachment S)) → Adds kept (attached mark (brought place from w sink) o kept)
   adds_attach place from w sink mark (Some other) kept = refl
@@ -82,7 +82,7 @@ module _ {S : Type 0} where
   adds_settle s w false true a b took kept more is = (let e = replaced_notes s w a b kept is in omega (arith, e, more))
   adds_settle s w false false a b took kept more is = (let e = replaced_notes s w a (paid b) kept is in omega (arith, e, more))
 
-  adds_serve : (s w : ℕ) (note : Note) (mark : Mark) (a : Attachment S) (kept : List (Attachment S)) → kept_for s w kept ≡ Some a → Adds kept (served mark s w note a kept)
+  adds_serve : (s w : ℕ) (note : Note) (mark : Mark) (a : Attachment S) (kept : List (Attachment S)) → kept_for s w kept ≡ Some a → Adds kept (serving mark s w note a kept)
   adds_serve s w note (Fine flow) a kept is =
       (let b = with_note (is_last note) note flow a in
       adds_settle s w (b.over && is_clear flow) (is_held_back flow b.due) a b 1 kept (note_counts (is_last note) note flow a) is)
@@ -126,7 +126,7 @@ module _ {S : Type 0} where
   adds_letter true leave place x mark kept = refl
   adds_letter false leave place x mark kept = adds_post (x.from == leave) place x.from x.post mark kept
 
-  pub each_note_counts : (leave : ℕ) (log : Log S) → taken_in leave log ≡ notes_of (kept_in leave log) + notes_of_ended (gone_in leave log)
+  pub each_note_counts : (leave : ℕ) (log : Log S) → taken_in leave log ≡ notes_taken (kept_in leave log) + notes_of_ended (gone_in leave log)
   each_note_counts leave NoLetters = refl
   each_note_counts leave (Next log x mark) =
       let c = change leave log x mark in

@@ -99,8 +99,8 @@ module _ {S : Type 0} where
   TakesMore before after = (xs : List (Letter (Out S))) × (after ≡ with_letters before xs)
 
   -- a letter more was received, or several
-  abbrev pub TakesOne : Incoming (Out S) → Incoming (Out S) → Type 0
-  TakesOne before after = (x : Letter (Out S)) × (xs : List (Letter (Out S))) × (after ≡ with_letters before (x ∷ xs))
+  abbrev pub TakesSome : Incoming (Out S) → Incoming (Out S) → Type 0
+  TakesSome before after = (x : Letter (Out S)) × (xs : List (Letter (Out S))) × (after ≡ with_letters before (x ∷ xs))
 
   -- something may wait in one of the sinks
   abbrev pub any_may_wait : List (Kept S) → Bool
@@ -143,8 +143,8 @@ module _ {S Rest : Type 0} (acts : Acts S Rest) where
   Finishes (Some sink) (Some rest) = acts.finished sink rest
 
   -- a letter was handled: with a mark it is the next, after some flushes, of all for which the drainer stood
-  abbrev pub Handles : Letter (Out S) → DrainerView S Rest → DrainerView S Rest → Type 0
-  Handles x before after =
+  abbrev pub HandlesLetter : Letter (Out S) → DrainerView S Rest → DrainerView S Rest → Type 0
+  HandlesLetter x before after =
       IsOfSubject after.fault
       × ((log : Log S) → Stands (length before.ports) log before
       → (more : Log S) × (letters more ≡ letters log) × (mark : Mark) × Stands (length before.ports) (Next more x mark) after)
@@ -179,7 +179,7 @@ module _ {S Rest : Type 0} where
   fresh_drainer inbox ports = record { inbox = inbox; ports = ports; kept = []; away = []; misses = 0; taken = 0; left = false; fault = None }
 
   -- what no turn changes: which boxes the inbox and the ports belong to
-  pub record KeepsPlaces (before after : DrainerView S Rest) : Type 0 where
+  pub record KeepsDrainer (before after : DrainerView S Rest) : Type 0 where
     pub box : after.inbox.box ≡ before.inbox.box
     pub count : after.inbox.ports ≡ before.inbox.ports
     pub ports : AreSame before.ports after.ports

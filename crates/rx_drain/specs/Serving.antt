@@ -6,7 +6,7 @@ use Rattle.rx_drain.specs.declared.drain_end.DrainEnd.{DrainEnd}
 use Rattle.rx_drain.specs.declared.drain_fault.DrainFault.TheVariants.{InboxGone}
 use Rattle.rx_drain.specs.declared.drain_stop.DrainStop.{DrainStop}
 use Rattle.rx_drain.specs.Logs.{Log, has_left}
-use Rattle.rx_drain.specs.Drainers.{DrainerView, Drains, KeepsPlaces, view_of}
+use Rattle.rx_drain.specs.Drainers.{DrainerView, Drains, KeepsDrainer, view_of}
 
 module _ {S Rest : Type 0} where
   -- the drainer at its end: it was told to leave, keeps no sink, and all its ports have ended
@@ -24,25 +24,25 @@ module _ {S Rest : Type 0} where
 
 module _ {S Rest : Type 0} (acts : Acts S Rest) where
   -- the drainer handed in took all letters of its box and ended its ports: what it left is what the marked letters mean
-  pub record Serves (drainer : DrainerView S Rest) (end : DrainEnd S Rest) (log : Log S) : Type 0 where
+  pub record DrainerServes (drainer : DrainerView S Rest) (end : DrainEnd S Rest) (log : Log S) : Type 0 where
     pub drains : Drains acts (view_of_end end) log
     pub each_bye : HasEachBye end.inbox
     -- where each Bye had come before, no letter was waited for
     pub over : HasEachBye drainer.inbox → end.inbox ≡ drainer.inbox
-    pub places : KeepsPlaces drainer (view_of_end end)
+    pub places : KeepsDrainer drainer (view_of_end end)
 
   -- there are such marks
-  abbrev pub HasServed : DrainerView S Rest → DrainEnd S Rest → Type 0
-  HasServed drainer end = (log : Log S) × Serves drainer end log
+  abbrev pub HasDrained : DrainerView S Rest → DrainEnd S Rest → Type 0
+  HasDrained drainer end = (log : Log S) × DrainerServes drainer end log
 
   -- the drainer handed in stopped at its fault: what it left is what the marked letters mean, or at the fault of a subject what
   -- comes before that
-  pub record Stops (drainer : DrainerView S Rest) (stop : DrainStop S Rest) (log : Log S) : Type 0 where
+  pub record DrainerStops (drainer : DrainerView S Rest) (stop : DrainStop S Rest) (log : Log S) : Type 0 where
     pub drains : Drains acts (view_of stop.left (has_left (length drainer.ports) log) (Some stop.fault)) log
-    pub places : KeepsPlaces drainer (view_of stop.left (has_left (length drainer.ports) log) (Some stop.fault))
+    pub places : KeepsDrainer drainer (view_of stop.left (has_left (length drainer.ports) log) (Some stop.fault))
     -- that no letter comes is a fault only while a Bye has not come
     pub waited : stop.fault ≡ InboxGone → drainer.fault ≡ None → ¬ HasEachBye stop.left.parts.inbox
 
   -- there are such marks
-  abbrev pub HasStopped : DrainerView S Rest → DrainStop S Rest → Type 0
-  HasStopped drainer stop = (log : Log S) × Stops drainer stop log
+  abbrev pub DrainerHasStopped : DrainerView S Rest → DrainStop S Rest → Type 0
+  DrainerHasStopped drainer stop = (log : Log S) × DrainerStops drainer stop log

@@ -5,9 +5,9 @@ use Rattle.rx_drain.specs.Logs.{Log, kept_in, gone_in, taken_in}
 
 module _ {S : Type 0} where
   -- how many notes the sinks of these attachments took
-  abbrev pub notes_of : List (Attachment S) → ℕ
-  notes_of [] = 0
-  notes_of (a ∷ kept) = length a.taken + notes_of kept
+  abbrev pub notes_taken : List (Attachment S) → ℕ
+  notes_taken [] = 0
+  notes_taken (a ∷ kept) = length a.taken + notes_taken kept
 
   -- and of those that have ended
   abbrev pub notes_of_ended : List (Attachment S × Why) → ℕ
@@ -16,4 +16,4 @@ module _ {S : Type 0} where
 
 -- whatever the letters, and however it went with each
 abbrev pub EachNoteCounts : Type 0 → Type 0
-EachNoteCounts S = (leave : ℕ) (log : Log S) → taken_in leave log ≡ notes_of (kept_in leave log) + notes_of_ended (gone_in leave log)
+EachNoteCounts S = (leave : ℕ) (log : Log S) → taken_in leave log ≡ notes_taken (kept_in leave log) + notes_of_ended (gone_in leave log)

@@ -52,8 +52,8 @@ impl<S: Sink> Model for Drainer<S> {
 
 impl<S: Sink> Drainer<S> {
     ghost use Rattle.rx_mailbox.specs.Boxes.{HasEachBye};
-    ghost use Rattle.rx_drain.specs.Drainers.{IsDrained, KeepsPlaces, TakesMore, TakesOne, any_may_wait, fresh_drainer, view_of};
-    ghost use Rattle.rx_drain.specs.Serving.{HasServed, HasStopped};
+    ghost use Rattle.rx_drain.specs.Drainers.{IsDrained, KeepsDrainer, TakesMore, TakesSome, any_may_wait, fresh_drainer, view_of};
+    ghost use Rattle.rx_drain.specs.Serving.{HasDrained, DrainerHasStopped};
 
     /// A drainer of new parts: one port to each subject, and an inbox with a port for each and one more, the leave port.
     /// `Err` gives them back where there was no memory for it.
@@ -115,9 +115,9 @@ impl<S: Sink> Drainer<S> {
         ensures drained { IsDrained S.acts self.new }
         ensures fault { MatchResult result (λ _. self.new.fault ≡ None) (λ fault. self.new.fault ≡ Some fault) }
         ensures took { OnOk result (TakesMore self.old.inbox self.new.inbox) }
-        ensures takes_one { OnOk result (any_may_wait self.old.kept ≡ false → TakesOne self.old.inbox self.new.inbox) }
+        ensures takes_one { OnOk result (any_may_wait self.old.kept ≡ false → TakesSome self.old.inbox self.new.inbox) }
         ensures gone { result ≡ Err DrainFault.InboxGone → self.new.inbox ≡ self.old.inbox }
-        ensures kept { KeepsPlaces self.old self.new }
+        ensures kept { KeepsDrainer self.old self.new }
         ensures over { IfSome self.old.fault (λ fault. (result ≡ Err fault) × (self.new ≡ self.old)) }
     {
         self.turn_by(rt, false)
@@ -128,9 +128,9 @@ impl<S: Sink> Drainer<S> {
         ensures drained { IsDrained S.acts self.new }
         ensures fault { MatchResult result (λ _. self.new.fault ≡ None) (λ fault. self.new.fault ≡ Some fault) }
         ensures took { OnOk result (TakesMore self.old.inbox self.new.inbox) }
-        ensures takes_one { OnOk result (looks ≡ false → any_may_wait self.old.kept ≡ false → TakesOne self.old.inbox self.new.inbox) }
+        ensures takes_one { OnOk result (looks ≡ false → any_may_wait self.old.kept ≡ false → TakesSome self.old.inbox self.new.inbox) }
         ensures gone { result ≡ Err DrainFault.InboxGone → self.new.inbox ≡ self.old.inbox }
-        ensures kept { KeepsPlaces self.old self.new }
+        ensures kept { KeepsDrainer self.old self.new }
         ensures over { IfSome self.old.fault (λ fault. (result ≡ Err fault) × (self.new ≡ self.old)) }
     {
         if let Some(fault) = self.fault {
@@ -151,7 +151,7 @@ impl<S: Sink> Drainer<S> {
     /// comes for a quarter of a second it looks after all sinks, so that one whose reader is gone can have its fault with no
     /// note. `Err` at a fault, with the parts that are left.
     pub fn serve<R: Wait>(self, rt: &R) -> Result<DrainEnd<S>, DrainStop<S>>
-        ensures { MatchResult result (λ end. HasServed S.acts self end) (λ stop. HasStopped S.acts self stop) }
+        ensures { MatchResult result (λ end. HasDrained S.acts self end) (λ stop. DrainerHasStopped S.acts self stop) }
     {
         let mut drainer = self;
         match drainer.take_all(rt) {
@@ -180,7 +180,7 @@ impl<S: Sink> Drainer<S> {
         ensures each_bye { OnOk result (HasEachBye self.new.inbox) }
         ensures none { HasEachBye self.old.inbox → self.new.inbox ≡ self.old.inbox }
         ensures waited { result ≡ Err DrainFault.InboxGone → self.old.fault ≡ None → ¬ HasEachBye self.new.inbox }
-        ensures kept { KeepsPlaces self.old self.new }
+        ensures kept { KeepsDrainer self.old self.new }
     {
         if let Some(fault) = self.fault {
             return Err(fault);
@@ -201,7 +201,7 @@ impl<S: Sink> Drainer<S> {
     fn end(self) -> DrainEnd<S>
         requires whole { self.fault ≡ None }
         requires each_bye { HasEachBye self.inbox }
-        ensures { HasServed S.acts self result }
+        ensures { HasDrained S.acts self result }
     {
         let Drainer {
             hands,
@@ -229,7 +229,7 @@ impl<S: Sink> Drainer<S> {
     // What is left at a fault of a turn.
     fn stop(self, fault: DrainFault) -> DrainStop<S>
         requires { self.fault ≡ Some fault }
-        ensures stopped { HasStopped S.acts self result }
+        ensures stopped { DrainerHasStopped S.acts self result }
         ensures fault { result.fault ≡ fault }
         ensures inbox { result.left.parts.inbox ≡ self.inbox }
     {

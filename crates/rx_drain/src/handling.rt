@@ -3,7 +3,7 @@ ghost use Rattle.std.specs.Prelude.{◌≡◌, true, false, None, IfOk, OnOk, On
 ghost use Rattle.rx_mailbox.specs.declared.letter.Post.TheVariants.{Bye};
 ghost use Rattle.rx_mailbox.specs.Letters as letters;
 ghost use Rattle.rx_pump.specs.Pumps.{AreSame};
-ghost use Rattle.rx_drain.specs.Drainers.{Fits, Goes, Handles, IsOfSubject, Pays, TakesMore, TakesOne, any_may_wait, view_of};
+ghost use Rattle.rx_drain.specs.Drainers.{Fits, Goes, HandlesLetter, IsOfSubject, Pays, TakesMore, TakesSome, any_may_wait, view_of};
 
 use crate::flushing::{flush_all, flush_last, look_after, may_wait};
 use crate::sending::{part_all, send_asks, wake, wake_all};
@@ -45,7 +45,7 @@ pub fn handle<S: Sink, R: Wait>(
     ensures fits { Fits leave result.left result.fault hands.new }
     ensures inbox { hands.new.parts.inbox ≡ hands.old.parts.inbox }
     ensures ports { AreSame (view_of hands.old left None).ports (view_of hands.new result.left result.fault).ports }
-    ensures handles { Handles S.acts letter (view_of hands.old left None) (view_of hands.new result.left result.fault) }
+    ensures handles { HandlesLetter S.acts letter (view_of hands.old left None) (view_of hands.new result.left result.fault) }
 {
     let Letter { from, post } = letter;
     let out = match post {
@@ -85,7 +85,7 @@ pub fn handle_first<S: Sink, R: Wait>(
     ensures fits { IfOk result (λ now. Fits leave now.left now.fault hands.new) }
     ensures inbox { OnOk result (TakesMore hands.old.parts.inbox hands.new.parts.inbox) }
     ensures of_subject { IfOk result (λ now. IsOfSubject now.fault) }
-    ensures takes_one { OnOk result (looks ≡ false → any_may_wait hands.old.kept.items ≡ false → TakesOne hands.old.parts.inbox hands.new.parts.inbox) }
+    ensures takes_one { OnOk result (looks ≡ false → any_may_wait hands.old.kept.items ≡ false → TakesSome hands.old.parts.inbox hands.new.parts.inbox) }
     ensures ports { IfOk result (λ now. AreSame (view_of hands.old left None).ports (view_of hands.new now.left now.fault).ports) }
     ensures goes { IfOk result (λ now. Goes S.acts (view_of hands.old left None) (view_of hands.new now.left now.fault)) }
 {
@@ -206,7 +206,7 @@ fn hear_bye<S: Sink, R: Wait>(
     ensures fits { Fits leave result.left result.fault hands.new }
     ensures inbox { hands.new.parts.inbox ≡ hands.old.parts.inbox }
     ensures ports { AreSame (view_of hands.old left None).ports (view_of hands.new result.left result.fault).ports }
-    ensures handles { Handles S.acts (letters.letter from Bye) (view_of hands.old left None) (view_of hands.new result.left result.fault) }
+    ensures handles { HandlesLetter S.acts (letters.letter from Bye) (view_of hands.old left None) (view_of hands.new result.left result.fault) }
 {
     if left || from as usize != leave {
         return Handled { left, fault: None };
@@ -226,7 +226,7 @@ fn leave_all<S: Sink, R: Wait>(rt: &R, hands: &mut DrainerLeft<S>, leave: u32) -
     ensures fits { Fits leave true result hands.new }
     ensures inbox { hands.new.parts.inbox ≡ hands.old.parts.inbox }
     ensures ports { AreSame (view_of hands.old false None).ports (view_of hands.new true result).ports }
-    ensures handles { Handles S.acts (letters.letter leave Bye) (view_of hands.old false None) (view_of hands.new true result) }
+    ensures handles { HandlesLetter S.acts (letters.letter leave Bye) (view_of hands.old false None) (view_of hands.new true result) }
 {
     let fault = part_all(rt, &mut hands.parts.subjects, hands.kept.as_slice());
     wake_all(&hands.parts.subjects, true);

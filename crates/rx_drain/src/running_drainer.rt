@@ -29,11 +29,11 @@ pub struct Served<S: Sink>(Snapshot<Drainer<S>>);
 
 impl<S: Sink> Promise<Result<DrainEnd<S>, DrainStop<S>>> for Served<S> {
     ghost use Rattle.std.specs.Prelude.{MatchResult};
-    ghost use Rattle.rx_drain.specs.Serving.{HasServed, HasStopped};
+    ghost use Rattle.rx_drain.specs.Serving.{HasDrained, DrainerHasStopped};
 
     ghost kept_by = { λ p result. MatchResult result
-        (λ end. HasServed S.acts p.0.value end)
-        (λ stop. HasStopped S.acts p.0.value stop) };
+        (λ end. HasDrained S.acts p.0.value end)
+        (λ stop. DrainerHasStopped S.acts p.0.value stop) };
 }
 
 /// A drainer that serves in a thread of its own. One that is let go without a `join` is not waited for.
@@ -68,13 +68,13 @@ where
 }
 
 impl<S: Sink> RunningDrainer<S> {
-    ghost use Rattle.rx_drain.specs.Serving.{HasServed, HasStopped};
+    ghost use Rattle.rx_drain.specs.Serving.{HasDrained, DrainerHasStopped};
 
     /// Waits until the thread has ended. It answers what `serve` did.
     pub fn join<R: Threads>(self, rt: &R) -> Result<DrainEnd<S>, DrainStop<S>>
         ensures { MatchResult result
-            (λ end. HasServed S.acts self.handle.promise.0.value end)
-            (λ stop. HasStopped S.acts self.handle.promise.0.value stop) }
+            (λ end. HasDrained S.acts self.handle.promise.0.value end)
+            (λ stop. DrainerHasStopped S.acts self.handle.promise.0.value stop) }
     {
         let RunningDrainer { handle } = self;
         handle.join(rt)

@@ -1,7 +1,7 @@
 // What a drainer sends its subjects.
 ghost use Rattle.std.specs.Prelude.{[], ◌∷◌, map};
 ghost use Rattle.rx_sink.specs.Stands.{events_of};
-ghost use Rattle.rx_drain.specs.Calls.{SendsAll, partings_of};
+ghost use Rattle.rx_drain.specs.Calls.{SendsEvents, partings_of};
 
 use crate::DrainFault;
 use rx_heap::Heap;
@@ -19,7 +19,7 @@ pub fn send_asks<S: Drop, R: Wait>(
     subject: u32,
     asks: Asks,
 ) -> Option<DrainFault>
-    ensures { SendsAll result (map (λ event. (subject, event)) (events_of asks)) subjects.old.items subjects.new.items }
+    ensures { SendsEvents result (map (λ event. (subject, event)) (events_of asks)) subjects.old.items subjects.new.items }
 {
     let who = asks.who;
     for _ in 0..asks.items {
@@ -41,7 +41,7 @@ pub fn part_all<S: Sink, R: Wait>(
     subjects: &mut Vec<Port<Call<S>>, Heap>,
     kept: &[Kept<S>],
 ) -> Option<DrainFault>
-    ensures { SendsAll result (partings_of kept.now) subjects.old.items subjects.new.items }
+    ensures { SendsEvents result (partings_of kept.now) subjects.old.items subjects.new.items }
 {
     for one in kept {
         let asks = Asks {
@@ -82,7 +82,7 @@ fn send<S: Drop, R: Wait>(
     subject: u32,
     event: Event,
 ) -> Option<DrainFault>
-    ensures { SendsAll result ((subject, event) ∷ []) subjects.old.items subjects.new.items }
+    ensures { SendsEvents result ((subject, event) ∷ []) subjects.old.items subjects.new.items }
 {
     let place = subject as usize;
     if place >= subjects.len() {

@@ -12,7 +12,7 @@ use Rattle.rx_mailbox.specs.declared.rule.View.{View}
 use Rattle.rx_mailbox.specs.declared.rule.View.TheVariants.{Sends, Receives, Spent}
 use Rattle.rx_mailbox.specs.Letters.{share, has_bye, NothingAfterBye}
 use Rattle.rx_mailbox.specs.Rule.{KeepsShares}
-use Rattle.rx_mailbox.specs.Steps.{one_more, new_port, Puts, Takes, noted, Shows}
+use Rattle.rx_mailbox.specs.Steps.{one_more, new_port, PutsLetter, TakesLetter, noted, Shows}
 use Rattle.rx_mailbox.specs.Passes.{own_of, made_of, taken_of, notes_of, IsPort, IsReader}
 use Rattle.rx_mailbox.proofs.Letters.{end_is_nil, share-own, share-other, share-middle, NothingAfterBye-push, nothing_after}
 use Rattle.rx_mailbox.proofs.Passes.{put, put-here, put-else, Each, Each-set, Each-push}
@@ -109,7 +109,7 @@ module _ {B : Type 0} where
   )
 
   -- a letter is put by a port that has not ended
-  pub puts : (n pass port : ℕ) (own : List (Letter B)) (x : Letter B) → x.from ≡ port → has_bye own ≡ false → Pushes KeepsShares n pass (Sends port own) x (Puts (Sends port own) x)
+  pub puts : (n pass port : ℕ) (own : List (Letter B)) (x : Letter B) → x.from ≡ port → has_bye own ≡ false → Pushes KeepsShares n pass (Sends port own) x (PutsLetter (Sends port own) x)
   puts n pass port own x from open_yet queue views room rule at =
       let h = by_passes queue views rule in
       let all = h.2 ++ queue in
@@ -142,7 +142,7 @@ module _ {B : Type 0} where
       (cases_Bool (has_bye (share x.from before)))
 
   -- the inbox takes the front letter
-  pub takes : (pass made : ℕ) (taken : List (Letter B)) (notes : List (ℕ × List (Letter B))) → Pops KeepsShares pass (Receives made taken notes) (Takes (Receives made taken notes))
+  pub takes : (pass made : ℕ) (taken : List (Letter B)) (notes : List (ℕ × List (Letter B))) → Pops KeepsShares pass (Receives made taken notes) (TakesLetter (Receives made taken notes))
   takes pass made taken notes x queue views rule at =
       let h = by_passes (x ∷ queue) views rule in
       let mine = h.3.known pass (Receives made taken notes) at in
@@ -240,12 +240,12 @@ module _ {B : Type 0} where
       )
 
   -- a port that has not ended may put a letter of its own
-  pub may_put : (n pass port : ℕ) (v : View B) (x : Letter B) → IsPort port false v → x.from ≡ port → Pushes KeepsShares n pass v x (Puts v x)
-  may_put n pass port v x is from = subst (λ u. Pushes KeepsShares n pass u x (Puts u x)) (sym is.view_is) (puts n pass port (own_of v) x from is.bye)
+  pub may_put : (n pass port : ℕ) (v : View B) (x : Letter B) → IsPort port false v → x.from ≡ port → Pushes KeepsShares n pass v x (PutsLetter v x)
+  may_put n pass port v x is from = subst (λ u. Pushes KeepsShares n pass u x (PutsLetter u x)) (sym is.view_is) (puts n pass port (own_of v) x from is.bye)
 
   -- the inbox may take the front letter
-  pub may_take : (pass : ℕ) (v : View B) → IsReader v → Pops KeepsShares pass v (Takes v)
-  may_take pass v is = subst (λ u. Pops KeepsShares pass u (Takes u)) (sym is.view_is) (takes pass (made_of v) (taken_of v) (notes_of v))
+  pub may_take : (pass : ℕ) (v : View B) → IsReader v → Pops KeepsShares pass v (TakesLetter v)
+  may_take pass v is = subst (λ u. Pops KeepsShares pass u (TakesLetter u)) (sym is.view_is) (takes pass (made_of v) (taken_of v) (notes_of v))
 
   -- the inbox may make a port
   pub may_split : (pass : ℕ) (v : View B) → IsReader v → Forks KeepsShares pass v (one_more v) (new_port v)

@@ -9,7 +9,7 @@ use Rattle.rx_mailbox.specs.declared.letter.Letter.{Letter}
 use Rattle.rx_mailbox.specs.declared.rule.View.{View}
 use Rattle.rx_mailbox.specs.declared.rule.View.TheVariants.{Receives}
 use Rattle.rx_mailbox.specs.Letters.{share, ends, has_bye}
-use Rattle.rx_mailbox.specs.Settling.{counted}
+use Rattle.rx_mailbox.specs.Settling.{letter_count}
 use Rattle.rx_mailbox.specs.Passes.{made_of, taken_of, IsReader, TakesOne, IsTally}
 use Rattle.rx_mailbox.proofs.Letters.{share-own, share-other}
 
@@ -44,7 +44,7 @@ module _ {B : Type 0} where
       (cases_eq x.from port)
 
   -- the count after one more letter
-  counted_more : (taken : List (Letter B)) (x : Letter B) → min (counted taken + 1) (2 ^ 64 - 1) ≡ counted (taken ++ x ∷ [])
+  counted_more : (taken : List (Letter B)) (x : Letter B) → min (letter_count taken + 1) (2 ^ 64 - 1) ≡ letter_count (taken ++ x ∷ [])
   counted_more taken x = let n : length (taken ++ x ∷ []) ≡ length taken + 1 = length_push taken x in omega arith
 
   -- the tally after one more letter

@@ -9,7 +9,7 @@ use Rattle.rx_mailbox.specs.declared.rule.View.{View}
 use Rattle.rx_mailbox.specs.declared.rule.View.TheVariants.{Sends, Receives, Spent}
 use Rattle.rx_mailbox.specs.Letters.{share, has_bye}
 use Rattle.rx_mailbox.specs.Rule.{KeepsShares}
-use Rattle.rx_mailbox.specs.Settling.{counted}
+use Rattle.rx_mailbox.specs.Settling.{letter_count}
 use Rattle.rx_mailbox.specs.Boxes.{Box, Outgoing, outgoing, Incoming, incoming}
 
 -- a settled box: which it is, how many ports it has, the letters that its inbox received, and what the inbox's pass knows, into
@@ -98,4 +98,4 @@ module _ {B : Type 0} where
   pub record IsTally (byes : List Bool) (letters : ℕ) (v : View B) : Type 0 where
     pub ports : length byes ≡ made_of v
     pub byes_are : (port : ℕ) → port < made_of v → slice_index_or byes port false ≡ has_bye (share port (taken_of v))
-    pub letters_are : letters ≡ counted (taken_of v)
+    pub letters_are : letters ≡ letter_count (taken_of v)

@@ -23,5 +23,5 @@ module _ {B : Type 0} where
   IsCause inbox ports MissingBye = IsEachOnce inbox.ports ports × ¬ HasEachBye inbox
 
   -- how many letters these are, up to the greatest `u64`
-  abbrev pub counted : List (Letter B) → ℕ
-  counted received = min (length received) (2 ^ 64 - 1)
+  abbrev pub letter_count : List (Letter B) → ℕ
+  letter_count received = min (length received) (2 ^ 64 - 1)

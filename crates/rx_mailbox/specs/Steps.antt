@@ -22,17 +22,17 @@ module _ {B : Type 0} where
   new_port Spent = Spent
 
   -- putting a letter at the back: it is the last of the port's own list
-  abbrev pub Puts : View B → Letter B → View B → Type 0
-  Puts (Sends port own) x after = after ≡ Sends port (own ++ x ∷ [])
-  Puts (Receives made taken notes) x after = ⊥
-  Puts Spent x after = ⊥
+  abbrev pub PutsLetter : View B → Letter B → View B → Type 0
+  PutsLetter (Sends port own) x after = after ≡ Sends port (own ++ x ∷ [])
+  PutsLetter (Receives made taken notes) x after = ⊥
+  PutsLetter Spent x after = ⊥
 
   -- taking the front letter: it comes from a port of the box that had not ended, and is the last of the received list
-  abbrev pub Takes : View B → Letter B → View B → Type 0
-  Takes (Receives made taken notes) x after =
+  abbrev pub TakesLetter : View B → Letter B → View B → Type 0
+  TakesLetter (Receives made taken notes) x after =
       (after ≡ Receives made (taken ++ x ∷ []) notes) × (x.from < made) × (has_bye (share x.from taken) ≡ false)
-  Takes (Sends port own) x after = ⊥
-  Takes Spent x after = ⊥
+  TakesLetter (Sends port own) x after = ⊥
+  TakesLetter Spent x after = ⊥
 
   -- joining an ended port: the inbox's pass notes the port's number and own list
   abbrev pub noted : View B → View B → View B

@@ -3,7 +3,7 @@ ghost use Rattle.rx_mailbox.specs.Letters.{ends};
 ghost use Rattle.rx_mailbox.specs.Boxes.{with_letter, HasBye, HasEachBye};
 ghost use Rattle.crossbeam_channel.specs.Claims.{view};
 ghost use Rattle.rx_mailbox.specs.Passes.{inbox_of, taken_of, IsReader};
-ghost use Rattle.rx_mailbox.specs.Settling.{counted};
+ghost use Rattle.rx_mailbox.specs.Settling.{letter_count};
 
 use crate::bell::LOOKS_WITHIN;
 use crate::bells::SharedBells;
@@ -149,7 +149,7 @@ impl<B: Drop> Inbox<B> {
         ensures pass { inbox_of result.0 ≡ self }
         ensures reader { IsReader (view result.0) }
         ensures free { result.0.me.1 ≡ [] }
-        ensures letters { result.1 ≡ counted (taken_of (view result.0)) }
+        ensures letters { result.1 ≡ letter_count (taken_of (view result.0)) }
     {
         let Inbox {
             receiver: _,

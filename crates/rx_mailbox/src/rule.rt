@@ -43,9 +43,9 @@ impl<B> Split<View<B>> for SplitPort {
 pub struct Put;
 
 impl<B> Outcome<Letter<B>, View<B>> for Put {
-    ghost use Rattle.rx_mailbox.specs.Steps.{Puts};
+    ghost use Rattle.rx_mailbox.specs.Steps.{PutsLetter};
 
-    ghost then = { Puts };
+    ghost then = { PutsLetter };
 }
 
 impl<B> Lesson<Letter<B>, View<B>> for Put {
@@ -56,9 +56,9 @@ impl<B> Lesson<Letter<B>, View<B>> for Put {
 pub struct Take;
 
 impl<B> Outcome<Letter<B>, View<B>> for Take {
-    ghost use Rattle.rx_mailbox.specs.Steps.{Takes};
+    ghost use Rattle.rx_mailbox.specs.Steps.{TakesLetter};
 
-    ghost then = { Takes };
+    ghost then = { TakesLetter };
 }
 
 impl<B> Lesson<Letter<B>, View<B>> for Take {

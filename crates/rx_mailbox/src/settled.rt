@@ -1,5 +1,5 @@
 ghost use Rattle.std.specs.Prelude.{◌≡◌};
-ghost use Rattle.rx_mailbox.specs.Settling.{counted};
+ghost use Rattle.rx_mailbox.specs.Settling.{letter_count};
 
 use crate::channel::BoxPass;
 use std::marker::Model;
@@ -17,19 +17,19 @@ impl<B: Drop> Model for Settled<B> {
     ghost use Rattle.std.specs.Prelude.{◌≡◌};
     ghost use Rattle.crossbeam_channel.specs.Claims.{view as pass_view};
     ghost use Rattle.rx_mailbox.specs.Passes.{SettledView, settled_of, taken_of, IsEmptied};
-    ghost use Rattle.rx_mailbox.specs.Settling.{counted};
+    ghost use Rattle.rx_mailbox.specs.Settling.{letter_count};
 
     ghost Value = { SettledView B };
 
     ghost view = { λ s. settled_of s.pass };
 
-    ghost invariant = { λ s. IsEmptied (settled_of s.pass) × (s.letters ≡ counted (taken_of (pass_view s.pass))) };
+    ghost invariant = { λ s. IsEmptied (settled_of s.pass) × (s.letters ≡ letter_count (taken_of (pass_view s.pass))) };
 }
 
 impl<B: Drop> Settled<B> {
     /// How many letters the inbox received, Byes included. The count stays at the greatest `u64`.
     pub fn letters(&self) -> u64
-        ensures { result ≡ counted self.now.received }
+        ensures { result ≡ letter_count self.now.received }
     {
         self.letters
     }

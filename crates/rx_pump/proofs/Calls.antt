@@ -9,8 +9,8 @@ use Rattle.rx_hub.specs.Hubs.{HubView, StandsFor, Steps, MayMiss, is_miss}
 use Rattle.rx_pump.specs.declared.call.Call.{Call}
 use Rattle.rx_pump.specs.declared.out.Out.{Out}
 use Rattle.rx_pump.specs.declared.pump_fault.PumpFault.{PumpFault}
-use Rattle.rx_pump.specs.Marks.{attached, detached, leaver, give, sent_by, sent_back, reply_to}
-use Rattle.rx_pump.specs.Turns.{Ports, Sends, IsMade, IsRefused, Handles}
+use Rattle.rx_pump.specs.Marks.{attach_of, detach_of, leaver, give, sent_by, sent_back, reply_to}
+use Rattle.rx_pump.specs.Turns.{Ports, Sends, IsMade, IsRefused, HandlesCall}
 
 -- an answer is Memory, or it is not
 pub miss_or_not : (answered : Result Answer Refusal)
@@ -35,18 +35,18 @@ module _ {S : Type 0} where
 
   -- what is sent for a call that was answered so and gave this
   abbrev pub outs_for : Result Answer Refusal → List Given → Call S → List (Out S)
-  outs_for answered given call = attached answered call.sink ++ map give given ++ detached (leaver call.event) answered
+  outs_for answered given call = attach_of answered call.sink ++ map give given ++ detach_of (leaver call.event) answered
 
   -- nobody leaves by a refused call
-  no_detach : (leaving : Option ℕ) → detached {S = S} leaving (Err refusals.Memory) ≡ []
+  no_detach : (leaving : Option ℕ) → detach_of {S = S} leaving (Err refusals.Memory) ≡ []
   no_detach None = refl
   no_detach (Some who) = refl
 
   -- a call that was refused sends nothing
   refused_sends : (given : List Given) (leaving : Option ℕ) (sink : Option S) (answered : Result Answer Refusal) → answered ≡ Err refusals.Memory → given ≡ []
-      → attached answered sink ++ map give given ++ detached leaving answered ≡ []
+      → attach_of answered sink ++ map give given ++ detach_of leaving answered ≡ []
   refused_sends given leaving sink answered memory none =
-      ap (λ a. attached a sink ++ map give given ++ detached leaving a) memory ∙ ap (λ l. map give l ++ detached leaving (Err refusals.Memory)) none ∙ no_detach leaving
+      ap (λ a. attach_of a sink ++ map give given ++ detach_of leaving a) memory ∙ ap (λ l. map give l ++ detach_of leaving (Err refusals.Memory)) none ∙ no_detach leaving
 
   made : (hub after : HubView) (before then : Ports S) (answered : Result Answer Refusal) (given : List Given) (fault : Option PumpFault) (port : ℕ) (call : Call S) (H : History)
       → Stepped hub after answered given port call → answered ≢ Err refusals.Memory → StandsFor hub.state H
@@ -56,8 +56,8 @@ module _ {S : Type 0} where
       let step = stepped.step other H stands in
       let told = answer hub.state.rules H call.event in
       let sent : outs_for answered given call ≡ sent_by hub.state.rules H port call =
-      ap (λ a. attached a call.sink ++ map give given ++ detached (leaver call.event) a) step.answers
-      ∙ ap (λ l. attached told call.sink ++ map give l ++ detached (leaver call.event) told) step.gives in
+      ap (λ a. attach_of a call.sink ++ map give given ++ detach_of (leaver call.event) a) step.answers
+      ∙ ap (λ l. attach_of told call.sink ++ map give l ++ detach_of (leaver call.event) told) step.gives in
       record {
         goes_on = step.goes_on;
         misses = stepped.kept other;
@@ -85,7 +85,7 @@ module _ {S : Type 0} where
   handled : (hub after : HubView) (before then : Ports S) (answered : Result Answer Refusal) (given : List Given) (fault : Option PumpFault) (port : ℕ) (call : Call S)
       → Stepped hub after answered given port call
       → Sends fault (outs_for answered given call) port (reply_to call answered) before then
-      → Handles hub after before then (is_miss answered) fault port call
+      → HandlesCall hub after before then (is_miss answered) fault port call
   handled hub after before then answered given fault port call stepped sends = record {
     rules = stepped.rules;
     took = λ H stands. elim (miss_or_not answered) [
@@ -97,16 +97,16 @@ module _ {S : Type 0} where
   -- a call was handled, and its sink went either way
   pub handled_with : (hub after : HubView) (before then : Ports S) (answered : Result Answer Refusal) (given : List Given) (first last : Option (Out S)) (back : Option S) (leaving : Option ℕ)
       (was_refused : Bool) (fault : Option PumpFault) (port : ℕ) (call : Call S)
-      → was_refused ≡ is_miss answered → option_to_list first ≡ attached answered call.sink → back ≡ sent_back answered call.sink
-      → leaving ≡ leaver call.event → option_to_list last ≡ detached leaving answered
+      → was_refused ≡ is_miss answered → option_to_list first ≡ attach_of answered call.sink → back ≡ sent_back answered call.sink
+      → leaving ≡ leaver call.event → option_to_list last ≡ detach_of leaving answered
       → Stepped hub after answered given port call
       → Sends fault (option_to_list first ++ map give given ++ option_to_list last) port (record { ticket = call.ticket; result = answered; sink = back }) before then
-      → Handles hub after before then was_refused fault port call
+      → HandlesCall hub after before then was_refused fault port call
   handled_with hub after before then answered given first last back leaving was_refused fault port call refused_is first_is back_is leaving_is last_is stepped sends =
-      let last_of : option_to_list last ≡ detached (leaver call.event) answered = last_is ∙ ap (λ o. detached o answered) leaving_is in
+      let last_of : option_to_list last ≡ detach_of (leaver call.event) answered = last_is ∙ ap (λ o. detach_of o answered) leaving_is in
       let outs : option_to_list first ++ map give given ++ option_to_list last ≡ outs_for answered given call =
-      ap (λ l. l ++ map give given ++ option_to_list last) first_is ∙ ap (λ l. attached answered call.sink ++ map give given ++ l) last_of in
-      subst (λ (b : Bool). Handles hub after before then b fault port call) (sym refused_is)
+      ap (λ l. l ++ map give given ++ option_to_list last) first_is ∙ ap (λ l. attach_of answered call.sink ++ map give given ++ l) last_of in
+      subst (λ (b : Bool). HandlesCall hub after before then b fault port call) (sym refused_is)
       (handled hub after before then answered given fault port call stepped
       (subst (λ (l : List (Out S)). Sends fault l port (reply_to call answered) before then) outs
       (subst (λ (sink : Option S). Sends fault (option_to_list first ++ map give given ++ option_to_list last) port (record { ticket = call.ticket; result = answered; sink = sink }) before then) back_is

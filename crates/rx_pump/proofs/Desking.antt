@@ -14,7 +14,7 @@ use Rattle.rx_pump.specs.declared.call.Call.{Call}
 use Rattle.rx_pump.specs.declared.call_error.CallError.{CallError}
 use Rattle.rx_pump.specs.declared.call_error.CallError.TheVariants.{SubjectGone, Strange}
 use Rattle.rx_pump.specs.declared.reply.Reply.{Reply}
-use Rattle.rx_pump.specs.Desks.{DeskView, AreUpTo, IsUpTo, KeepsDesk, Receives, Rise, TicketsRise, ticket_in, tickets_in}
+use Rattle.rx_pump.specs.Desks.{DeskView, AreUpTo, IsUpTo, KeepsDesk, ReceivesReply, Rise, TicketsRise, ticket_in, tickets_in}
 use Rattle.rx_pump.specs.Marks.{to_port}
 use Rattle.rx_pump.specs.Sends.{posts, with_bodies, with_bye, Puts, EndsSome}
 use Rattle.rx_pump.proofs.Pumping.{AreSame-puts}
@@ -131,15 +131,15 @@ module _ {S : Type 0} where
       TicketsRise-all ends.done before after ends.ended (All-first P ends.done left (All-same P (ends.done ++ left) ports ends.parts rise)) rose
 
   -- receiving leaves the box
-  Receives-box : (before after : Incoming (Reply S)) (subject ticket : ℕ) (answered : Result (Reply S) (CallError S)) → Receives before after subject ticket answered
+  ReceivesReply-box : (before after : Incoming (Reply S)) (subject ticket : ℕ) (answered : Result (Reply S) (CallError S)) → ReceivesReply before after subject ticket answered
       → (after.box ≡ before.box) × (after.ports ≡ before.ports)
-  Receives-box before after subject ticket (Ok reply) r = (ap (λ (i : Incoming (Reply S)). i.box) r.0, ap (λ (i : Incoming (Reply S)). i.ports) r.0)
-  Receives-box before after subject ticket (Err (SubjectGone back)) r = (ap (λ (i : Incoming (Reply S)). i.box) r.0, ap (λ (i : Incoming (Reply S)). i.ports) r.0)
-  Receives-box before after subject ticket (Err (Strange back)) r = (ap (λ (i : Incoming (Reply S)). i.box) r.1, ap (λ (i : Incoming (Reply S)). i.ports) r.1)
+  ReceivesReply-box before after subject ticket (Ok reply) r = (ap (λ (i : Incoming (Reply S)). i.box) r.0, ap (λ (i : Incoming (Reply S)). i.ports) r.0)
+  ReceivesReply-box before after subject ticket (Err (SubjectGone back)) r = (ap (λ (i : Incoming (Reply S)). i.box) r.0, ap (λ (i : Incoming (Reply S)). i.ports) r.0)
+  ReceivesReply-box before after subject ticket (Err (Strange back)) r = (ap (λ (i : Incoming (Reply S)). i.box) r.1, ap (λ (i : Incoming (Reply S)). i.ports) r.1)
 
   -- a call leaves the boxes
   pub KeepsDesk-call : (before after : DeskView S) (subject ticket : ℕ) (call : Call S) (answered : Result (Reply S) (CallError S))
-      → Puts (λ place. to_port subject place call) before.ports after.ports → Receives before.inbox after.inbox subject ticket answered → after.ended ≡ before.ended → KeepsDesk before after
+      → Puts (λ place. to_port subject place call) before.ports after.ports → ReceivesReply before.inbox after.inbox subject ticket answered → after.ended ≡ before.ended → KeepsDesk before after
   KeepsDesk-call before after subject ticket call answered put received ended =
-      let box = Receives-box before.inbox after.inbox subject ticket answered received in
+      let box = ReceivesReply-box before.inbox after.inbox subject ticket answered received in
       record { ports = AreSame-puts _ before.ports after.ports put; box = box.0; count = box.1; ended = ended }

@@ -16,8 +16,8 @@ use Rattle.rx_pump.specs.declared.reply.Reply.{Reply}
 use Rattle.rx_pump.specs.declared.pump_stop.PumpStop.{PumpStop}
 use Rattle.rx_pump.specs.Marks.{Marked, route, replies}
 use Rattle.rx_pump.specs.Sends.{posts, with_bye, EndsSome}
-use Rattle.rx_pump.specs.Pumps.{PumpView, HavePut, HavePutUpTo, AreSame, place_of, Accounts, Pumps, IsPumped, KeepsPlaces}
-use Rattle.rx_pump.specs.Serving.{HaveEnded, HaveEndedSome, HasServed, StopsInTurn, IsNextToEnd, StopsAtEnd, HasStopped}
+use Rattle.rx_pump.specs.Pumps.{PumpView, HavePut, HavePutUpTo, AreSame, port_place, Accounts, Pumps, IsPumped, KeepsPump}
+use Rattle.rx_pump.specs.Serving.{HaveEnded, HaveEndedSome, HasPumped, StopsInTurn, IsNextToEnd, StopsAtEnd, PumpHasStopped}
 use Rattle.rx_pump.proofs.Placing.{slice_get-append_left, slice_get-append_right}
 use Rattle.rx_pump.proofs.Pumping.{HavePut-same, AreSame-length, option_map_some}
 use Rattle.rx_pump.proofs.Turning.{PutAll-whole}
@@ -34,21 +34,21 @@ module _ {X : Type 0} where
   -- ports that put a Bye are the same ports
   pub AreSame-byes : (ports : List (Outgoing X)) → AreSame ports (map with_bye ports)
   AreSame-byes [] = refl
-  AreSame-byes (port ∷ ports) = ap (λ places. place_of port ∷ places) (AreSame-byes ports)
+  AreSame-byes (port ∷ ports) = ap (λ places. port_place port ∷ places) (AreSame-byes ports)
 
   -- the first have ended, and they and those that are left are the same ports
   pub AreSame-some : (ports left ended : List (Outgoing X)) → EndsSome ports left [] ended → AreSame ports (ended ++ left)
   AreSame-some ports left ended ends =
-      ap (λ (l : List (Outgoing X)). map place_of (l ++ left)) ends.ended ∙ map-append place_of (map with_bye ends.done) left
-      ∙ ap (λ l. l ++ map place_of left) (AreSame-byes ends.done) ∙ sym (map-append place_of ends.done left) ∙ ap (map place_of) ends.parts
+      ap (λ (l : List (Outgoing X)). map port_place (l ++ left)) ends.ended ∙ map-append port_place (map with_bye ends.done) left
+      ∙ ap (λ l. l ++ map port_place left) (AreSame-byes ends.done) ∙ sym (map-append port_place ends.done left) ∙ ap (map port_place) ends.parts
 
   -- none has ended, or all have
   pub AreSame-none : (ports left ended : List (Outgoing X)) → left ≡ ports → ended ≡ [] → AreSame ports (ended ++ left)
-  AreSame-none ports left ended same none = ap (λ (l : List (Outgoing X)). map place_of (l ++ left)) none ∙ ap (map place_of) same
+  AreSame-none ports left ended same none = ap (λ (l : List (Outgoing X)). map port_place (l ++ left)) none ∙ ap (map port_place) same
 
   pub AreSame-all : (ports left ended : List (Outgoing X)) → left ≡ [] → ended ≡ map with_bye ports → AreSame ports (ended ++ left)
   AreSame-all ports left ended none all =
-      ap (λ (l : List (Outgoing X)). map place_of (ended ++ l)) none ∙ ap (map place_of) (append-nil ended ∙ all) ∙ AreSame-byes ports
+      ap (λ (l : List (Outgoing X)). map port_place (ended ++ l)) none ∙ ap (map port_place) (append-nil ended ∙ all) ∙ AreSame-byes ports
 
   -- those that are left when the first have ended
   pub HaveEndedSome-some : (bodies : ℕ → List X) (ports left ended : List (Outgoing X)) → HavePut bodies ports → EndsSome ports left [] ended → HaveEndedSome bodies ended left
@@ -97,10 +97,10 @@ module _ {S : Type 0} where
       subst (λ (h : HubView). Accounts h inbox_after misses_before B) (sym same_hub) (subst (λ (i : Incoming (Call S)). Accounts hub i misses_before B) (sym same_inbox) a)
 
   -- a turn stopped, and no port has ended
-  pub HasStopped-turn : (pump : PumpView S) (stop : PumpStop S)
+  pub PumpHasStopped-turn : (pump : PumpView S) (stop : PumpStop S)
       → stop.parts.hub ≡ pump.hub → stop.parts.inbox ≡ pump.inbox → stop.parts.drainers.items ≡ pump.drainers → stop.parts.replies.items ≡ pump.replies
-      → stop.ended_drainers.items ≡ [] → stop.ended_replies.items ≡ [] → pump.fault ≡ Some stop.fault → IsPumped pump → HasStopped pump stop
-  HasStopped-turn pump stop hub inbox drainers callers no_drainers no_callers fault (B, p) = (
+      → stop.ended_drainers.items ≡ [] → stop.ended_replies.items ≡ [] → pump.fault ≡ Some stop.fault → IsPumped pump → PumpHasStopped pump stop
+  PumpHasStopped-turn pump stop hub inbox drainers callers no_drainers no_callers fault (B, p) = (
     B,
     record {
       accounts = accounts_same pump.misses_before B hub inbox p.accounts;
@@ -121,11 +121,11 @@ module _ {S : Type 0} where
   )
 
   -- a drainer was gone when its port was to end
-  pub HasStopped-drainers : (pump : PumpView S) (stop : PumpStop S) (place : ℕ)
+  pub PumpHasStopped-drainers : (pump : PumpView S) (stop : PumpStop S) (place : ℕ)
       → stop.parts.hub ≡ pump.hub → stop.parts.inbox ≡ pump.inbox → EndsSome pump.drainers stop.parts.drainers.items [] stop.ended_drainers.items
       → stop.parts.replies.items ≡ pump.replies → stop.ended_replies.items ≡ [] → stop.fault ≡ DrainerGone place → place ≡ length stop.ended_drainers.items
-      → HasEachBye pump.inbox → pump.fault ≡ None → IsPumped pump → HasStopped pump stop
-  HasStopped-drainers pump stop place hub inbox ends callers no_callers fault place_is each_bye whole (B, p) =
+      → HasEachBye pump.inbox → pump.fault ≡ None → IsPumped pump → PumpHasStopped pump stop
+  PumpHasStopped-drainers pump stop place hub inbox ends callers no_callers fault place_is each_bye whole (B, p) =
       let put = PutAll-whole pump B whole p in (
         B,
         record {
@@ -146,11 +146,11 @@ module _ {S : Type 0} where
       )
 
   -- a caller was gone when its port was to end
-  pub HasStopped-replies : (pump : PumpView S) (stop : PumpStop S) (place : ℕ)
+  pub PumpHasStopped-replies : (pump : PumpView S) (stop : PumpStop S) (place : ℕ)
       → stop.parts.hub ≡ pump.hub → stop.parts.inbox ≡ pump.inbox → stop.parts.drainers.items ≡ [] → stop.ended_drainers.items ≡ map with_bye pump.drainers
       → EndsSome pump.replies stop.parts.replies.items [] stop.ended_replies.items → stop.fault ≡ CallerGone place → place ≡ length stop.ended_replies.items
-      → HasEachBye pump.inbox → pump.fault ≡ None → IsPumped pump → HasStopped pump stop
-  HasStopped-replies pump stop place hub inbox no_drainers drainers ends fault place_is each_bye whole (B, p) =
+      → HasEachBye pump.inbox → pump.fault ≡ None → IsPumped pump → PumpHasStopped pump stop
+  PumpHasStopped-replies pump stop place hub inbox no_drainers drainers ends fault place_is each_bye whole (B, p) =
       let put = PutAll-whole pump B whole p in (
         B,
         record {
@@ -171,10 +171,10 @@ module _ {S : Type 0} where
       )
 
   -- all ports have ended
-  pub HasServed-all : (pump : PumpView S) (left : PumpEnd S)
+  pub HasPumped-all : (pump : PumpView S) (left : PumpEnd S)
       → left.hub ≡ pump.hub → left.inbox ≡ pump.inbox → left.drainers.items ≡ map with_bye pump.drainers → left.replies.items ≡ map with_bye pump.replies
-      → left.calls ≡ pump.calls → left.refused ≡ pump.refused → HasEachBye pump.inbox → pump.fault ≡ None → IsPumped pump → HasServed pump left
-  HasServed-all pump left hub inbox drainers callers calls refused each_bye whole (B, p) = (
+      → left.calls ≡ pump.calls → left.refused ≡ pump.refused → HasEachBye pump.inbox → pump.fault ≡ None → IsPumped pump → HasPumped pump left
+  HasPumped-all pump left hub inbox drainers callers calls refused each_bye whole (B, p) = (
     B,
     record {
       accounts = accounts_same pump.misses_before B hub inbox p.accounts;
@@ -187,8 +187,8 @@ module _ {S : Type 0} where
       rules = ap (λ (h : HubView). h.state.rules) hub;
       box = ap (λ (i : Incoming (Call S)). i.box) inbox;
       ports = ap (λ (i : Incoming (Call S)). i.ports) inbox;
-      drainers = ap (map place_of) drainers ∙ AreSame-byes pump.drainers;
-      callers = ap (map place_of) callers ∙ AreSame-byes pump.replies;
+      drainers = ap (map port_place) drainers ∙ AreSame-byes pump.drainers;
+      callers = ap (map port_place) callers ∙ AreSame-byes pump.replies;
     },
   )
 
@@ -205,8 +205,8 @@ module _ {S : Type 0} where
   over_before before after inbox none over each = over (subst (λ (i : Incoming (Call S)). HasEachBye i) (sym (none each)) each) ∙ none each
 
   -- what the pump leaves after some turns is what it leaves before them
-  pub HasServed-kept : (before after : PumpView S) (left : PumpEnd S) → KeepsPlaces before after → TakesNone before after → HasServed after left → HasServed before left
-  HasServed-kept before after left kept none (B, s) = (
+  pub HasPumped-kept : (before after : PumpView S) (left : PumpEnd S) → KeepsPump before after → TakesNone before after → HasPumped after left → HasPumped before left
+  HasPumped-kept before after left kept none (B, s) = (
     B,
     record {
       accounts = subst (λ (n : ℕ). Accounts left.hub left.inbox n B) kept.misses_before s.accounts;
@@ -225,7 +225,7 @@ module _ {S : Type 0} where
   )
 
   -- the same of a pump that stops when its ports are to end
-  at_end : (before after : PumpView S) (stop : PumpStop S) (B : Marked S) → KeepsPlaces before after → TakesNone before after → StopsAtEnd after stop B → StopsAtEnd before stop B
+  at_end : (before after : PumpView S) (stop : PumpStop S) (B : Marked S) → KeepsPump before after → TakesNone before after → StopsAtEnd after stop B → StopsAtEnd before stop B
   at_end before after stop B kept none s = record {
     each_bye = s.each_bye;
     over = λ each. over_before before after stop.parts.inbox none s.over each;
@@ -236,7 +236,7 @@ module _ {S : Type 0} where
   }
 
   -- and in a turn
-  in_turn : (before after : PumpView S) (stop : PumpStop S) (B : Marked S) → KeepsPlaces before after
+  in_turn : (before after : PumpView S) (stop : PumpStop S) (B : Marked S) → KeepsPump before after
       → (stop.fault ≡ InboxGone → before.fault ≡ None → (after.fault ≡ None) ⊎ ¬ HasEachBye stop.parts.inbox) → StopsInTurn after stop B → StopsInTurn before stop B
   in_turn before after stop B kept waited s = record {
     no_drainers = s.no_drainers;
@@ -246,9 +246,9 @@ module _ {S : Type 0} where
   }
 
   -- the same of a pump that stops
-  pub HasStopped-kept : (before after : PumpView S) (stop : PumpStop S) → KeepsPlaces before after → TakesNone before after
-      → (stop.fault ≡ InboxGone → before.fault ≡ None → (after.fault ≡ None) ⊎ ¬ HasEachBye stop.parts.inbox) → HasStopped after stop → HasStopped before stop
-  HasStopped-kept before after stop kept none waited (B, s) = (
+  pub PumpHasStopped-kept : (before after : PumpView S) (stop : PumpStop S) → KeepsPump before after → TakesNone before after
+      → (stop.fault ≡ InboxGone → before.fault ≡ None → (after.fault ≡ None) ⊎ ¬ HasEachBye stop.parts.inbox) → PumpHasStopped after stop → PumpHasStopped before stop
+  PumpHasStopped-kept before after stop kept none waited (B, s) = (
     B,
     record {
       accounts = subst (λ (n : ℕ). Accounts stop.parts.hub stop.parts.inbox n B) kept.misses_before s.accounts;

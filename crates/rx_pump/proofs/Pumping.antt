@@ -17,7 +17,7 @@ use Rattle.rx_pump.specs.declared.reply.Reply.{Reply}
 use Rattle.rx_pump.specs.Marks.{Marked, sent, replies, for_drainer, who_of, to_port}
 use Rattle.rx_pump.specs.Sends.{posts, with_bodies, Puts, PutsFor}
 use Rattle.rx_pump.specs.Turns.{Ports, Sends}
-use Rattle.rx_pump.specs.Pumps.{counted, HavePut, IsFresh, place_of, AreSame, before_last, PutAll, HavePutUpTo}
+use Rattle.rx_pump.specs.Pumps.{counted, HavePut, IsFresh, port_place, AreSame, before_last, PutAll, HavePutUpTo}
 use Rattle.rx_pump.proofs.Placing.{same_by_place}
 
 -- what a map gave it gave of something
@@ -52,11 +52,11 @@ module _ {X : Type 0} where
   -- ports that put bodies are the same ports
   pub AreSame-puts : (bodies : ℕ → List X) (before after : List (Outgoing X)) → Puts bodies before after → AreSame before after
   AreSame-puts bodies before after put =
-      same_by_place _ _ (λ d. slice_get-map place_of after d ∙ ap (option_map place_of) (put.at d) ∙ option_map-after _ _ (slice_get before d) (λ port. refl) ∙ sym (slice_get-map place_of before d))
+      same_by_place _ _ (λ d. slice_get-map port_place after d ∙ ap (option_map port_place) (put.at d) ∙ option_map-after _ _ (slice_get before d) (λ port. refl) ∙ sym (slice_get-map port_place before d))
 
   -- there are as many
   pub AreSame-length : (before after : List (Outgoing X)) → AreSame before after → length after ≡ length before
-  AreSame-length before after same = sym (length-map after place_of) ∙ ap length same ∙ length-map before place_of
+  AreSame-length before after same = sym (length-map after port_place) ∙ ap length same ∙ length-map before port_place
 
 -- what comes by a port is told to this port
 to_port-own : {X : Type 0} (port p : ℕ) (x : X) → p ≡ port → to_port port p x ≡ x ∷ []
@@ -127,7 +127,7 @@ module _ {S : Type 0} where
               (HavePut-same _ _ before.replies (λ p. ap (λ (first : Marked S). replies rules p first) (sym is.before)) put.replied);
         };
         drainers = AreSame-puts _ before.drainers after.drainers stop.put;
-        callers = ap (map place_of) sends.1;
+        callers = ap (map port_place) sends.1;
       }
   HaveSent-of (Some (CallerGone place)) rules B more outs port reply before after some is put sends = record {
     put = record {
@@ -140,5 +140,5 @@ module _ {S : Type 0} where
           (HavePut-same _ _ before.replies (λ p. ap (λ (first : Marked S). replies rules p first) (sym is.before)) put.replied);
     };
     drainers = AreSame-puts _ before.drainers after.drainers sends.0;
-    callers = ap (map place_of) sends.1;
+    callers = ap (map port_place) sends.1;
   }

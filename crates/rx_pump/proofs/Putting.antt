@@ -9,7 +9,7 @@ use Rattle.std.specs.Option.{option_map}
 use Rattle.rx_mailbox.specs.Boxes.{Outgoing, outgoing}
 use Rattle.rx_pump.specs.declared.out.Out.{Out}
 use Rattle.rx_pump.specs.Marks.{to_port, for_drainer, who_of}
-use Rattle.rx_pump.specs.Sends.{posts, with_bodies, Puts, PutsFor, StopsAt, SendsAll}
+use Rattle.rx_pump.specs.Sends.{posts, with_bodies, Puts, PutsFor, StopsAt, SendsOuts}
 use Rattle.rx_pump.proofs.Placing.{slice_get-set_same, slice_get-set_other, option_map-same, option_map-then}
 
 module _ {X : Type 0} where
@@ -138,6 +138,6 @@ module _ {S : Type 0} where
 
   -- all of these are sent, and what is sent of those
   pub SendsAll-then : (first second : List (Out S)) (outcome : Result (Unit {0}) ℕ) (a b c : List (Outgoing (Out S)))
-      → PutsFor first a b → SendsAll second outcome b c → SendsAll (first ++ second) outcome a c
+      → PutsFor first a b → SendsOuts second outcome b c → SendsOuts (first ++ second) outcome a c
   SendsAll-then first second (Ok _) a b c p q = PutsFor-then first second a b c p q
   SendsAll-then first second (Err place) a b c p q = StopsAt-then first second place a b c p q

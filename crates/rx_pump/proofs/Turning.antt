@@ -16,8 +16,8 @@ use Rattle.rx_pump.specs.declared.pump_fault.PumpFault.{PumpFault}
 use Rattle.rx_pump.specs.declared.pump_fault.PumpFault.TheVariants.{InboxGone}
 use Rattle.rx_pump.specs.declared.reply.Reply.{Reply}
 use Rattle.rx_pump.specs.Marks.{Marked, NoLetters, Made, Refused, Ended, bodies_in, refused_in, AreAcceptable, history_of, sent, sent_by, reply_to}
-use Rattle.rx_pump.specs.Turns.{Ports, Sends, IsMade, IsRefused, Handles}
-use Rattle.rx_pump.specs.Pumps.{counted, PumpView, PutAll, HavePutUpTo, Pumps, IsPumped, AreFresh, fresh_pump, KeepsPlaces}
+use Rattle.rx_pump.specs.Turns.{Ports, Sends, IsMade, IsRefused, HandlesCall}
+use Rattle.rx_pump.specs.Pumps.{counted, PumpView, PutAll, HavePutUpTo, Pumps, IsPumped, AreFresh, fresh_pump, KeepsPump}
 use Rattle.rx_pump.proofs.Pumping.{HavePut-fresh, IsMore, HaveSent, HaveSent-of, counted-more, counted-plus}
 
 module _ {S : Type 0} where
@@ -79,7 +79,7 @@ module _ {S : Type 0} where
     pub calls : after.calls ≡ min (before.calls + 1) (2 ^ 64 - 1)
     pub refused : after.refused ≡ (if was_refused then min (before.refused + 1) (2 ^ 64 - 1) else before.refused)
     pub misses_before : after.misses_before ≡ before.misses_before
-    pub handles : Handles before.hub after.hub (ports_in before) (ports_in after) was_refused after.fault port call
+    pub handles : HandlesCall before.hub after.hub (ports_in before) (ports_in after) was_refused after.fault port call
 
   -- what the ports have put with a call
   sent_more : (before after : PumpView S) (was_refused : Bool) (port : ℕ) (call : Call S) (B more : Marked S) (outs : List (Out S)) (result : Result Answer Refusal)
@@ -139,7 +139,7 @@ module _ {S : Type 0} where
 
   -- the ports stay the same
   kept : (before after : PumpView S) (was_refused : Bool) (port : ℕ) (call : Call S) (more : Marked S)
-      → TakesCall before after was_refused port call → HaveSent after.fault before.hub.state.rules more (ports_in before) (ports_in after) → KeepsPlaces before after
+      → TakesCall before after was_refused port call → HaveSent after.fault before.hub.state.rules more (ports_in before) (ports_in after) → KeepsPump before after
   kept before after was_refused port call more took sent_now = record {
     rules = took.handles.rules;
     box = ap (λ (i : Incoming (Call S)). i.box) took.inbox;
@@ -150,10 +150,10 @@ module _ {S : Type 0} where
   }
 
   -- a call came, and the ports stay the same
-  pub KeepsPlaces-call : (before after : PumpView S) (was_refused : Bool) (port : ℕ) (call : Call S) → TakesCall before after was_refused port call → IsPumped before → KeepsPlaces before after
-  KeepsPlaces-call before after false port call took (B, p) =
+  pub KeepsPump-call : (before after : PumpView S) (was_refused : Bool) (port : ℕ) (call : Call S) → TakesCall before after was_refused port call → IsPumped before → KeepsPump before after
+  KeepsPump-call before after false port call took (B, p) =
       kept before after false port call (Made B port call) took
       (sent_more before after false port call B (Made B port call) _ _ (more_made before.hub.state.rules B port call) took p (took.handles.took (history_of B) p.accounts.stands).sends)
-  KeepsPlaces-call before after true port call took (B, p) =
+  KeepsPump-call before after true port call took (B, p) =
       kept before after true port call (Refused B port call) took
       (sent_more before after true port call B (Refused B port call) _ _ (more_refused before.hub.state.rules B port call) took p (took.handles.took (history_of B) p.accounts.stands).sends)

@@ -114,16 +114,16 @@ module _ {S : Type 0} where
       × (after.is_over ≡ true)
 
   -- the answer that a letter gives to a call
-  abbrev pub Reads : Letter (Reply S) → ℕ → ℕ → Result (Reply S) (CallError S) → Type 0
-  Reads x subject ticket (Ok reply) = (x ≡ letter subject (Body reply)) × (reply.ticket ≡ ticket)
-  Reads x subject ticket (Err (SubjectGone back)) = ⊥
-  Reads x subject ticket (Err (Strange back)) = IsStrange subject ticket x.from x.post back
+  abbrev pub ReadsReply : Letter (Reply S) → ℕ → ℕ → Result (Reply S) (CallError S) → Type 0
+  ReadsReply x subject ticket (Ok reply) = (x ≡ letter subject (Body reply)) × (reply.ticket ≡ ticket)
+  ReadsReply x subject ticket (Err (SubjectGone back)) = ⊥
+  ReadsReply x subject ticket (Err (Strange back)) = IsStrange subject ticket x.from x.post back
 
   -- what was received for a call, by its answer
-  abbrev pub Receives : Incoming (Reply S) → Incoming (Reply S) → ℕ → ℕ → Result (Reply S) (CallError S) → Type 0
-  Receives before after subject ticket (Ok reply) = (after ≡ with_letter before (letter subject (Body reply))) × (reply.ticket ≡ ticket)
-  Receives before after subject ticket (Err (SubjectGone back)) = (after ≡ before) × (back ≡ None)
-  Receives before after subject ticket (Err (Strange back)) =
+  abbrev pub ReceivesReply : Incoming (Reply S) → Incoming (Reply S) → ℕ → ℕ → Result (Reply S) (CallError S) → Type 0
+  ReceivesReply before after subject ticket (Ok reply) = (after ≡ with_letter before (letter subject (Body reply))) × (reply.ticket ≡ ticket)
+  ReceivesReply before after subject ticket (Err (SubjectGone back)) = (after ≡ before) × (back ≡ None)
+  ReceivesReply before after subject ticket (Err (Strange back)) =
       (x : Letter (Reply S)) × (after ≡ with_letter before x) × IsStrange subject ticket x.from x.post back
 
   -- an answer after which the desk is over

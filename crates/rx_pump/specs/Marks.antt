@@ -84,29 +84,29 @@ module _ {S : Type 0} where
   who_of (Detach who) = who
 
   -- what a call that was answered so sends first: the sink of the observer that it made
-  abbrev pub attached : Result Answer Refusal → Option S → List (Out S)
-  attached (Ok (Joined who)) (Some sink) = Attach who sink ∷ []
-  attached (Ok (Joined who)) None = []
-  attached (Ok Admitted) sink = []
-  attached (Ok Asked) sink = []
-  attached (Ok Left) sink = []
-  attached (Err refusal) sink = []
+  abbrev pub attach_of : Result Answer Refusal → Option S → List (Out S)
+  attach_of (Ok (Joined who)) (Some sink) = Attach who sink ∷ []
+  attach_of (Ok (Joined who)) None = []
+  attach_of (Ok Admitted) sink = []
+  attach_of (Ok Asked) sink = []
+  attach_of (Ok Left) sink = []
+  attach_of (Err refusal) sink = []
 
   -- a note for an observer
   abbrev pub give : Given → Out S
   give given = Give given.who given.note
 
   -- and what it sends last: that the observer left
-  abbrev pub detached : Option ℕ → Result Answer Refusal → List (Out S)
-  detached (Some who) (Ok answered) = Detach who ∷ []
-  detached (Some who) (Err refusal) = []
-  detached None answered = []
+  abbrev pub detach_of : Option ℕ → Result Answer Refusal → List (Out S)
+  detach_of (Some who) (Ok answered) = Detach who ∷ []
+  detach_of (Some who) (Err refusal) = []
+  detach_of None answered = []
 
   -- what a call from a port sends after H, in its order
   abbrev pub sent_by : Rules → History → ℕ → Call S → List (Out S)
   sent_by rules H port call =
-      attached (answer rules H call.event) call.sink ++ map give (outs rules H (port, call.event))
-      ++ detached (leaver call.event) (answer rules H call.event)
+      attach_of (answer rules H call.event) call.sink ++ map give (outs rules H (port, call.event))
+      ++ detach_of (leaver call.event) (answer rules H call.event)
 
   -- all that the letters send
   abbrev pub sent : Rules → Marked S → List (Out S)

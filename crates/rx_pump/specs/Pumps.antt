@@ -43,12 +43,12 @@ module _ {X : Type 0} where
   IsFresh port = port.own ≡ []
 
   -- which port of which box it is
-  abbrev pub place_of : Outgoing X → Box X × ℕ
-  place_of port = (port.box, port.number)
+  abbrev pub port_place : Outgoing X → Box X × ℕ
+  port_place port = (port.box, port.number)
 
   -- the same ports, whatever they have put
   abbrev pub AreSame : List (Outgoing X) → List (Outgoing X) → Type 0
-  AreSame before after = map place_of after ≡ map place_of before
+  AreSame before after = map port_place after ≡ map port_place before
 
 -- WHAT THE PORTS HAVE PUT
 
@@ -137,8 +137,8 @@ module _ {S : Type 0} where
   }
 
   -- the pump with these parts, counts and fault
-  abbrev pub pump_of : PumpParts S → ℕ → ℕ → ℕ → Option PumpFault → PumpView S
-  pump_of parts calls refused misses_before fault = record {
+  abbrev pub pump_with : PumpParts S → ℕ → ℕ → ℕ → Option PumpFault → PumpView S
+  pump_with parts calls refused misses_before fault = record {
     hub = parts.hub;
     inbox = parts.inbox;
     drainers = parts.drainers.items;
@@ -150,7 +150,7 @@ module _ {S : Type 0} where
   }
 
   -- what no turn changes: the subject's rules, and which boxes the inbox and the ports belong to
-  pub record KeepsPlaces (before after : PumpView S) : Type 0 where
+  pub record KeepsPump (before after : PumpView S) : Type 0 where
     pub rules : after.hub.state.rules ≡ before.hub.state.rules
     pub box : after.inbox.box ≡ before.inbox.box
     pub ports : after.inbox.ports ≡ before.inbox.ports
@@ -159,5 +159,5 @@ module _ {S : Type 0} where
     pub misses_before : after.misses_before ≡ before.misses_before
 
   -- one letter more was received
-  abbrev pub TakesOne : Incoming (Call S) → Incoming (Call S) → Type 0
-  TakesOne before after = (x : Letter (Call S)) × (after ≡ with_letter before x)
+  abbrev pub TakesCall : Incoming (Call S) → Incoming (Call S) → Type 0
+  TakesCall before after = (x : Letter (Call S)) × (after ≡ with_letter before x)

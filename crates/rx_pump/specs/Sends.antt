@@ -48,6 +48,6 @@ module _ {S : Type 0} where
     pub put : PutsFor done before after
 
   -- the outs were sent, or a drainer is gone
-  abbrev pub SendsAll : List (Out S) → Result (Unit {0}) ℕ → List (Outgoing (Out S)) → List (Outgoing (Out S)) → Type 0
-  SendsAll outs (Ok _) before after = PutsFor outs before after
-  SendsAll outs (Err place) before after = StopsAt outs place before after
+  abbrev pub SendsOuts : List (Out S) → Result (Unit {0}) ℕ → List (Outgoing (Out S)) → List (Outgoing (Out S)) → Type 0
+  SendsOuts outs (Ok _) before after = PutsFor outs before after
+  SendsOuts outs (Err place) before after = StopsAt outs place before after

@@ -24,7 +24,7 @@ module _ {X : Type 0} where
 
 module _ {S : Type 0} where
   -- the pump handed in took all letters of its ports and ended its own: what it left is what the marked letters mean
-  pub record Serves (pump : PumpView S) (left : PumpEnd S) (B : Marked S) : Type 0 where
+  pub record PumpServes (pump : PumpView S) (left : PumpEnd S) (B : Marked S) : Type 0 where
     pub accounts : Accounts left.hub left.inbox pump.misses_before B
     pub each_bye : HasEachBye left.inbox
     -- where each Bye had come before, no letter was waited for
@@ -40,8 +40,8 @@ module _ {S : Type 0} where
     pub callers : AreSame pump.replies left.replies.items
 
   -- there are such marks
-  abbrev pub HasServed : PumpView S → PumpEnd S → Type 0
-  HasServed pump left = (B : Marked S) × Serves pump left B
+  abbrev pub HasPumped : PumpView S → PumpEnd S → Type 0
+  HasPumped pump left = (B : Marked S) × PumpServes pump left B
 
   -- a turn stopped, and no port has ended
   pub record StopsInTurn (pump : PumpView S) (stop : PumpStop S) (B : Marked S) : Type 0 where
@@ -67,7 +67,7 @@ module _ {S : Type 0} where
 
   -- the pump handed in stopped at its fault, in a turn or at its end: what it left is what the marked letters mean, or what
   -- comes before the fault
-  pub record Stops (pump : PumpView S) (stop : PumpStop S) (B : Marked S) : Type 0 where
+  pub record PumpStops (pump : PumpView S) (stop : PumpStop S) (B : Marked S) : Type 0 where
     pub accounts : Accounts stop.parts.hub stop.parts.inbox pump.misses_before B
     pub came : StopsInTurn pump stop B ⊎ StopsAtEnd pump stop B
     pub rules : stop.parts.hub.state.rules ≡ pump.hub.state.rules
@@ -77,5 +77,5 @@ module _ {S : Type 0} where
     pub callers : AreSame pump.replies (stop.ended_replies.items ++ stop.parts.replies.items)
 
   -- there are such marks
-  abbrev pub HasStopped : PumpView S → PumpStop S → Type 0
-  HasStopped pump stop = (B : Marked S) × Stops pump stop B
+  abbrev pub PumpHasStopped : PumpView S → PumpStop S → Type 0
+  PumpHasStopped pump stop = (B : Marked S) × PumpStops pump stop B

@@ -48,7 +48,7 @@ module _ {S : Type 0} where
     pub sends : Sends fault [] port (reply_to call (Err Memory)) before after
 
   -- a call was made or refused
-  pub record Handles (hub hub_after : HubView) (before after : Ports S) (refused : Bool) (fault : Option PumpFault) (port : ℕ) (call : Call S) : Type 0 where
+  pub record HandlesCall (hub hub_after : HubView) (before after : Ports S) (refused : Bool) (fault : Option PumpFault) (port : ℕ) (call : Call S) : Type 0 where
     pub rules : hub_after.state.rules ≡ hub.state.rules
     pub took : (H : History) → StandsFor hub.state H
         → MatchBool refused (IsRefused hub hub_after before after fault port call H) (IsMade hub hub_after before after fault port call H)

@@ -1,6 +1,6 @@
 // One call of a desk: what it sends, and what it receives.
 ghost use Rattle.std.specs.Prelude.{◌≡◌, ◌<◌, vec_len, MatchResult};
-ghost use Rattle.rx_pump.specs.Desks.{Reads, Receives};
+ghost use Rattle.rx_pump.specs.Desks.{ReadsReply, ReceivesReply};
 ghost use Rattle.rx_pump.specs.Desks as desks;
 ghost use Rattle.rx_pump.specs.Marks.{to_port};
 ghost use Rattle.rx_pump.specs.Sends.{Puts};
@@ -37,7 +37,7 @@ pub fn receive<S: Drop, R: Wait>(
     subject: usize,
     ticket: u64,
 ) -> Result<Reply<S>, CallError<S>>
-    ensures { Receives inbox.old inbox.new subject ticket result }
+    ensures { ReceivesReply inbox.old inbox.new subject ticket result }
 {
     let Ok(letter) = inbox.recv(rt) else {
         return Err(CallError::SubjectGone { sink: None });
@@ -45,13 +45,13 @@ pub fn receive<S: Drop, R: Wait>(
     read(letter, subject, ticket)
 }
 
-// Reads the reply of a subject to a ticket in a letter.
+// ReadsReply the reply of a subject to a ticket in a letter.
 fn read<S: Drop>(
     letter: Letter<Reply<S>>,
     subject: usize,
     ticket: u64,
 ) -> Result<Reply<S>, CallError<S>>
-    ensures { Reads letter subject ticket result }
+    ensures { ReadsReply letter subject ticket result }
 {
     let Letter { from, post } = letter;
     let Post::Body(reply) = post else {

@@ -3,7 +3,7 @@ ghost use Rattle.std.specs.Prelude.{◌≡◌, ◌<◌, ◌++◌, map, vec_len, 
 ghost use Rattle.rx_hub.specs.Hubs.{is_miss};
 ghost use Rattle.rx_pump.specs.Marks.{give, to_port};
 ghost use Rattle.rx_pump.specs.Sends.{Puts};
-ghost use Rattle.rx_pump.specs.Turns.{Handles, Sends, ports_of};
+ghost use Rattle.rx_pump.specs.Turns.{HandlesCall, Sends, ports_of};
 
 use crate::call::Call;
 use crate::out::Out;
@@ -33,7 +33,7 @@ pub fn handle<S: Drop, R: Wait>(
     call: Call<S>,
 ) -> Handled
     requires { 0 < vec_len parts.old.drainers }
-    ensures handles { Handles parts.old.hub parts.new.hub (ports_of parts.old) (ports_of parts.new) result.refused result.fault port call }
+    ensures handles { HandlesCall parts.old.hub parts.new.hub (ports_of parts.old) (ports_of parts.new) result.refused result.fault port call }
     ensures inbox { parts.new.inbox ≡ parts.old.inbox }
 {
     let Call {

@@ -51,21 +51,21 @@ impl<S: Drop> Drop for Pump<S> {
 
 impl<S: Drop> Model for Pump<S> {
     ghost use Rattle.std.specs.Prelude.{◌<◌, ◌≤◌, ◌≡◌, [], vec_len, vec_capacity};
-    ghost use Rattle.rx_pump.specs.Pumps.{PumpView, pump_of, IsPumped};
+    ghost use Rattle.rx_pump.specs.Pumps.{PumpView, pump_with, IsPumped};
 
     ghost Value = { PumpView S };
 
-    ghost view = { λ p. pump_of p.parts p.calls p.refused p.misses_before p.fault };
+    ghost view = { λ p. pump_with p.parts p.calls p.refused p.misses_before p.fault };
 
-    ghost invariant = { λ p. IsPumped (pump_of p.parts p.calls p.refused p.misses_before p.fault)
+    ghost invariant = { λ p. IsPumped (pump_with p.parts p.calls p.refused p.misses_before p.fault)
         × (0 < vec_len p.parts.drainers)
         × (p.ended_drainers.items ≡ []) × (vec_len p.parts.drainers ≤ vec_capacity p.ended_drainers)
         × (p.ended_replies.items ≡ []) × (vec_len p.parts.replies ≤ vec_capacity p.ended_replies) };
 }
 
 impl<S: Drop> Pump<S> {
-    ghost use Rattle.rx_pump.specs.Pumps.{IsPumped, KeepsPlaces, TakesOne, fresh_pump};
-    ghost use Rattle.rx_pump.specs.Serving.{HasServed, HasStopped};
+    ghost use Rattle.rx_pump.specs.Pumps.{IsPumped, KeepsPump, TakesCall, fresh_pump};
+    ghost use Rattle.rx_pump.specs.Serving.{HasPumped, PumpHasStopped};
     ghost use Rattle.rx_mailbox.specs.Boxes.{HasEachBye};
 
     /// A pump of new parts. `Err` gives them back where there was no memory for it.
@@ -116,9 +116,9 @@ impl<S: Drop> Pump<S> {
     pub fn turn<R: Wait>(&mut self, rt: &R) -> Result<(), PumpFault>
         ensures pumped { IsPumped self.new }
         ensures fault { MatchResult result (λ _. self.new.fault ≡ None) (λ fault. self.new.fault ≡ Some fault) }
-        ensures took { OnOk result (TakesOne self.old.inbox self.new.inbox) }
+        ensures took { OnOk result (TakesCall self.old.inbox self.new.inbox) }
         ensures gone { result ≡ Err PumpFault.InboxGone → self.new.inbox ≡ self.old.inbox }
-        ensures kept { KeepsPlaces self.old self.new }
+        ensures kept { KeepsPump self.old self.new }
         ensures over { IfSome self.old.fault (λ fault. (result ≡ Err fault) × (self.new ≡ self.old)) }
     {
         if let Some(fault) = self.fault {
@@ -143,7 +143,7 @@ impl<S: Drop> Pump<S> {
     /// Takes letters until the Bye of each port came, and waits while there is none; then ends its own ports, each to a
     /// drainer and then each for replies. `Err` at a fault, with the parts that are left.
     pub fn serve<R: Wait>(self, rt: &R) -> Result<PumpEnd<S>, PumpStop<S>>
-        ensures { MatchResult result (λ left. HasServed self left) (λ stop. HasStopped self stop) }
+        ensures { MatchResult result (λ left. HasPumped self left) (λ stop. PumpHasStopped self stop) }
     {
         let mut pump = self;
         match pump.take_all(rt) {
@@ -179,7 +179,7 @@ impl<S: Drop> Pump<S> {
         ensures each_bye { OnOk result (HasEachBye self.new.inbox) }
         ensures none { HasEachBye self.old.inbox → self.new.inbox ≡ self.old.inbox }
         ensures waited { result ≡ Err PumpFault.InboxGone → self.old.fault ≡ None → ¬ HasEachBye self.new.inbox }
-        ensures kept { KeepsPlaces self.old self.new }
+        ensures kept { KeepsPump self.old self.new }
     {
         if let Some(fault) = self.fault {
             return Err(fault);
@@ -198,7 +198,7 @@ impl<S: Drop> Pump<S> {
     fn finish<R: Wait>(self, rt: &R) -> Result<PumpEnd<S>, PumpStop<S>>
         requires whole { self.fault ≡ None }
         requires each_bye { HasEachBye self.inbox }
-        ensures { MatchResult result (λ left. HasServed self left) (λ stop. HasStopped self stop) }
+        ensures { MatchResult result (λ left. HasPumped self left) (λ stop. PumpHasStopped self stop) }
     {
         let Pump {
             mut parts,
@@ -239,7 +239,7 @@ impl<S: Drop> Pump<S> {
     // What is left at a fault of a turn.
     fn stop(self, fault: PumpFault) -> PumpStop<S>
         requires { self.fault ≡ Some fault }
-        ensures stopped { HasStopped self result }
+        ensures stopped { PumpHasStopped self result }
         ensures fault { result.fault ≡ fault }
         ensures inbox { result.parts.inbox ≡ self.inbox }
     {

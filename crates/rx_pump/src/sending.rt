@@ -1,8 +1,8 @@
 // What a pump sends its drainers for one call.
 ghost use Rattle.std.specs.Prelude.{◌≡◌, ◌<◌, [], ◌∷◌, ◌++◌, map, vec_len, option_to_list};
-ghost use Rattle.rx_pump.specs.Marks.{attached, detached, give, sent_back};
+ghost use Rattle.rx_pump.specs.Marks.{attach_of, detach_of, give, sent_back};
 ghost use Rattle.rx_pump.specs.Marks as marks;
-ghost use Rattle.rx_pump.specs.Sends.{SendsAll};
+ghost use Rattle.rx_pump.specs.Sends.{SendsOuts};
 
 use crate::out::Out;
 use rx_heap::Heap;
@@ -18,7 +18,7 @@ pub fn part<S: Drop>(
     answered: Result<Answer, Refusal>,
     sink: Option<S>,
 ) -> (Option<Out<S>>, Option<S>)
-    ensures attached { option_to_list result.0 ≡ attached answered sink }
+    ensures attached { option_to_list result.0 ≡ attach_of answered sink }
     ensures back { result.1 ≡ sent_back answered sink }
 {
     match (answered, sink) {
@@ -39,7 +39,7 @@ pub fn leaver(event: &Event) -> Option<u32>
 
 // What goes last to the drainer of an observer that was asked to leave, where that was answered so.
 pub fn detach<S: Drop>(leaver: Option<u32>, answered: Result<Answer, Refusal>) -> Option<Out<S>>
-    ensures { option_to_list result ≡ detached leaver answered }
+    ensures { option_to_list result ≡ detach_of leaver answered }
 {
     match (leaver, answered) {
         (Some(who), Ok(_)) => Some(Out::Detach { who }),
@@ -57,7 +57,7 @@ pub fn send_all<S: Drop, R: Wait>(
     last: Option<Out<S>>,
 ) -> Result<(), usize>
     requires { 0 < vec_len drainers.old }
-    ensures { SendsAll (option_to_list first ++ map give outs.old.items ++ option_to_list last) result drainers.old.items drainers.new.items }
+    ensures { SendsOuts (option_to_list first ++ map give outs.old.items ++ option_to_list last) result drainers.old.items drainers.new.items }
 {
     send_any(rt, drainers, first)?;
     give_all(rt, drainers, outs)?;
@@ -71,7 +71,7 @@ fn send_any<S: Drop, R: Wait>(
     out: Option<Out<S>>,
 ) -> Result<(), usize>
     requires { 0 < vec_len drainers.old }
-    ensures { SendsAll (option_to_list out) result drainers.old.items drainers.new.items }
+    ensures { SendsOuts (option_to_list out) result drainers.old.items drainers.new.items }
 {
     match out {
         Some(out) => send(rt, drainers, out),
@@ -86,7 +86,7 @@ fn give_all<S: Drop, R: Wait>(
     outs: &mut Vec<Given, Heap>,
 ) -> Result<(), usize>
     requires { 0 < vec_len drainers.old }
-    ensures { SendsAll (map give outs.old.items) result drainers.old.items drainers.new.items }
+    ensures { SendsOuts (map give outs.old.items) result drainers.old.items drainers.new.items }
 {
     // From the back, so that each note is moved out, and the list keeps its room.
     outs.reverse();
@@ -107,7 +107,7 @@ pub fn wake_all<S: Drop>(drainers: &Drainers<S>) {
 // Sends an out to the drainer of its observer.
 fn send<S: Drop, R: Wait>(rt: &R, drainers: &mut Drainers<S>, out: Out<S>) -> Result<(), usize>
     requires { 0 < vec_len drainers.old }
-    ensures { SendsAll (out ∷ []) result drainers.old.items drainers.new.items }
+    ensures { SendsOuts (out ∷ []) result drainers.old.items drainers.new.items }
 {
     let place = out.who() as usize % drainers.len();
     let Ok(()) = drainers[place].send_quietly(rt, out) else {

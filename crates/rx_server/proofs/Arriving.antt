@@ -11,7 +11,7 @@ use Rattle.rx_pump.specs.declared.pump_end.PumpEnd.{PumpEnd}
 use Rattle.rx_pump.specs.declared.reply.Reply.{Reply}
 use Rattle.rx_pump.specs.Marks.{Marked}
 use Rattle.rx_pump.specs.Pumps.{PumpView}
-use Rattle.rx_pump.specs.Serving.{Serves}
+use Rattle.rx_pump.specs.Serving.{PumpServes}
 use Rattle.rx_sink.specs.Acts.{Acts}
 use Rattle.rx_server.specs.Arriving.{EachLetterArrives}
 use Rattle.rx_server.specs.Servers.{GotEach}
@@ -39,7 +39,7 @@ pair-at (a ∷ xs) (b ∷ ys) (suc i) x y at_x at_y = pair-at xs ys i x y at_x a
 
 pub arrives : {S Rest : Type 0} (acts : Acts S Rest) → EachLetterArrives acts
 arrives {S = S} acts server ended report closes i pump end B box at_pump at_end at_marks at_box =
-    let serves = zip-at (λ (pump : PumpView S) (x : PumpEnd S × Marked S). Serves pump x.0 x.1) server.pumps (zip closes.pump_ends closes.marks) i pump (end, B) closes.pumped at_pump
+    let serves = zip-at (λ (pump : PumpView S) (x : PumpEnd S × Marked S). PumpServes pump x.0 x.1) server.pumps (zip closes.pump_ends closes.marks) i pump (end, B) closes.pumped at_pump
     (pair-at closes.pump_ends closes.marks i end B at_end at_marks) in
     let settled = closes.settled in
     let same = zip-at (λ (end : PumpEnd S) (box : SettledView (Call S)). inbox_in box ≡ end.inbox) closes.pump_ends report.boxes.subjects.items i end box settled.of_pumps at_end at_box in

@@ -7,7 +7,7 @@ use Rattle.rx_pump.specs.declared.call.Call.{Call}
 use Rattle.rx_pump.specs.declared.ended_desk.EndedDesk.{EndedDesk}
 use Rattle.rx_pump.specs.declared.reply.Reply.{Reply}
 use Rattle.rx_pump.specs.Desks.{DeskView, KeepsDesk}
-use Rattle.rx_pump.specs.Pumps.{place_of}
+use Rattle.rx_pump.specs.Pumps.{port_place}
 use Rattle.rx_pump.specs.Sends.{with_bye}
 use Rattle.rx_server.specs.Leaving.{HasItsBoxes}
 use Rattle.rx_server.specs.Servers.{EndsMore, IsDeskOf, IsEndOf}
@@ -15,9 +15,9 @@ use Rattle.rx_server.specs.Wirings.{Wiring, desk_of, desks_of, ports_at}
 
 module _ {X : Type 0} where
   -- a port that ends stays where it was
-  pub bye-places : (ports : List (Outgoing X)) → map place_of (map with_bye ports) ≡ map place_of ports
+  pub bye-places : (ports : List (Outgoing X)) → map port_place (map with_bye ports) ≡ map port_place ports
   bye-places [] = refl
-  bye-places (port ∷ ports) = ap (λ (l : List (Box X × ℕ)). place_of port ∷ l) (bye-places ports)
+  bye-places (port ∷ ports) = ap (λ (l : List (Box X × ℕ)). port_place port ∷ l) (bye-places ports)
 
 module _ {S : Type 0} where
   -- a desk that was not used is as it was made
@@ -50,7 +50,7 @@ module _ {S : Type 0} where
     one = is.one;
     stood = is.stood;
     ports =
-        ap (map place_of) (ports ∙ ap (λ (l : List (Outgoing (Call S))). l ++ map with_bye desk.ports) is.none_ended)
+        ap (map port_place) (ports ∙ ap (λ (l : List (Outgoing (Call S))). l ++ map with_bye desk.ports) is.none_ended)
         ∙ bye-places desk.ports ∙ is.as_made.ports;
     box = ap (λ i. i.box) inbox ∙ is.as_made.box;
     count = ap (λ i. i.ports) inbox ∙ is.as_made.count;
@@ -107,7 +107,7 @@ module _ {S : Type 0} where
       let n : k + 1 + number ≡ k + suc number = omega arith in
       (later.0, later.1, later.2 ∙ ap (λ (m : ℕ). desk_of w (m, later.0)) n)
 
-  new-places : (number : ℕ) (boxes : List (Box (Call S))) → map place_of (ports_at number boxes) ≡ map (λ box. (box, number)) boxes
+  new-places : (number : ℕ) (boxes : List (Box (Call S))) → map port_place (ports_at number boxes) ≡ map (λ box. (box, number)) boxes
   new-places number [] = refl
   new-places number (box ∷ boxes) = ap (λ (l : List (Box (Call S) × ℕ)). (box, number) ∷ l) (new-places number boxes)
 
@@ -119,7 +119,7 @@ module _ {S : Type 0} where
       let one : is.one ≡ desk_of w (is.number, at.0) = at.2 ∙ ap (λ (m : ℕ). desk_of w (m, at.0)) zeroth in
       record {
         number = is.number;
-        ports = is.ports ∙ ap (λ (d : DeskView S). map place_of d.ports) one ∙ new-places is.number w.subjects;
+        ports = is.ports ∙ ap (λ (d : DeskView S). map port_place d.ports) one ∙ new-places is.number w.subjects;
         inbox = at.1 ∙ ap Some (sym (is.box ∙ ap (λ (d : DeskView S). d.inbox.box) one));
       }
 

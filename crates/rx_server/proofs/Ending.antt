@@ -10,7 +10,7 @@ use Rattle.rx_pump.specs.declared.ended_desk.EndedDesk.{EndedDesk}
 use Rattle.rx_pump.specs.declared.out.Out.{Out}
 use Rattle.rx_pump.specs.declared.pump_end.PumpEnd.{PumpEnd}
 use Rattle.rx_pump.specs.Marks.{Marked}
-use Rattle.rx_pump.specs.Pumps.{AreSame, PumpView, place_of}
+use Rattle.rx_pump.specs.Pumps.{AreSame, PumpView, port_place}
 use Rattle.rx_pump.specs.Sends.{with_bye}
 use Rattle.rx_pump.specs.Serving as pump_serving
 use Rattle.rx_sink.specs.Acts.{Acts}
@@ -48,7 +48,7 @@ zip-same {C = C} R f g (x ∷ xs) (y ∷ ys) same all =
     ap (λ (c : C). c ∷ map g ys) (same x y all.0) ∙ ap (λ (l : List C). f x ∷ l) (zip-same R f g xs ys same all.1)
 
 module _ {B : Type 0} where
-  boxes-of : (ports : List (Outgoing B)) → map (λ (p : Box B × ℕ). p.0) (map place_of ports) ≡ map (λ port. port.box) ports
+  boxes-of : (ports : List (Outgoing B)) → map (λ (p : Box B × ℕ). p.0) (map port_place ports) ≡ map (λ port. port.box) ports
   boxes-of [] = refl
   boxes-of (port ∷ ports) = ap (λ (l : List (Box B)). port.box ∷ l) (boxes-of ports)
 
@@ -115,34 +115,34 @@ module _ {S Rest : Type 0} (acts : Acts S Rest) (server : ServerView S Rest) (wh
   pub has-left : (start left : Rooms S Rest) (ended more : List (EndedDesk S)) → AreRooms (length server.pumps) (length server.drainers) (length server.made) (length server.desks) start
       → left.returned ≡ start.returned → left.settled ≡ start.settled → left.subjects ≡ start.subjects → left.put_away ≡ start.put_away
       → left.leaves.items ≡ map with_bye server.leaves → left.desks.items ≡ server.kept ++ more → All (IsEndOf server.made) more → All (IsEndOf server.made) ended
-      → AllZip pump_serving.HasServed server.pumps left.pumps.items → AllZip (drainer_serving.HasServed acts) server.drainers left.drainers.items
+      → AllZip pump_serving.HasPumped server.pumps left.pumps.items → AllZip (drainer_serving.HasDrained acts) server.drainers left.drainers.items
       → HasLeft whole.wiring left ended
   has-left start left ended more rooms returned settled subjects put_away leaves desks finished handed pumped drained =
       let w = whole.wiring in
       let hubs = hubs-count server.config.subjects.items whole.hubs whole.wired.hubs_are ∙ sym whole.wired.boxes.subjects in
       let rows = subst (All (HasRows w)) (sym whole.wired.pumps_are) (pumps-rows w 0 (zip whole.hubs w.subjects)) in
       let drainer_rows = subst (All (λ (drainer : DrainerView S Rest). AreRow w.subjects drainer.ports)) (sym whole.wired.drainers_are) (drainers-rows Rest w 0 w.drainers) in
-      let pump_count = AllZip-long pump_serving.HasServed server.pumps left.pumps.items pumped in
-      let drainer_count = AllZip-long (drainer_serving.HasServed acts) server.drainers left.drainers.items drained in
+      let pump_count = AllZip-long pump_serving.HasPumped server.pumps left.pumps.items pumped in
+      let drainer_count = AllZip-long (drainer_serving.HasDrained acts) server.drainers left.drainers.items drained in
       let subject_room = ap (λ (list : Vec _ _). vec_capacity list) subjects in
       let away_room = ap (λ (list : Vec _ _). vec_capacity list) put_away in
       let boxes = λ (end : EndedDesk S) (is : IsEndOf server.made end). end-boxes w server.made end whole.wired.desks_are is in
       record {
         some = omega (arith, whole.some, whole.wired.boxes.subjects);
         pumps =
-            zip-same pump_serving.HasServed (λ pump. pump.inbox.box) (λ end. end.inbox.box) server.pumps left.pumps.items (λ pump end serves. serves.1.box) pumped
+            zip-same pump_serving.HasPumped (λ pump. pump.inbox.box) (λ end. end.inbox.box) server.pumps left.pumps.items (λ pump end serves. serves.1.box) pumped
             ∙ ap (map (λ pump. pump.inbox.box)) whole.wired.pumps_are ∙ pumps-inboxes w 0 whole.hubs w.subjects hubs;
-        pumps_done = zip-all pump_serving.HasServed (HasRows w) (λ end. HasEachBye end.inbox) server.pumps left.pumps.items (λ pump end serves has. serves.1.each_bye) pumped rows;
-        to_drainers = zip-all pump_serving.HasServed (HasRows w) (λ end. AreRow w.drainers end.drainers.items) server.pumps left.pumps.items
+        pumps_done = zip-all pump_serving.HasPumped (HasRows w) (λ end. HasEachBye end.inbox) server.pumps left.pumps.items (λ pump end serves has. serves.1.each_bye) pumped rows;
+        to_drainers = zip-all pump_serving.HasPumped (HasRows w) (λ end. AreRow w.drainers end.drainers.items) server.pumps left.pumps.items
             (λ pump end serves has. row-same w.drainers pump.drainers end.drainers.items serves.1.drainers has.outs) pumped rows;
-        to_desks = zip-all pump_serving.HasServed (HasRows w) (λ end. AreRow w.replies end.replies.items) server.pumps left.pumps.items
+        to_desks = zip-all pump_serving.HasPumped (HasRows w) (λ end. AreRow w.replies end.replies.items) server.pumps left.pumps.items
             (λ pump end serves has. row-same w.replies pump.replies end.replies.items serves.1.callers has.answers) pumped rows;
         drainers =
-            zip-same (drainer_serving.HasServed acts) (λ drainer. drainer.inbox.box) (λ end. end.inbox.box) server.drainers left.drainers.items (λ drainer end serves. serves.1.places.box) drained
+            zip-same (drainer_serving.HasDrained acts) (λ drainer. drainer.inbox.box) (λ end. end.inbox.box) server.drainers left.drainers.items (λ drainer end serves. serves.1.places.box) drained
             ∙ ap (map (λ (drainer : DrainerView S Rest). drainer.inbox.box)) whole.wired.drainers_are ∙ drainers-inboxes Rest w 0 w.drainers;
-        drainers_done = zip-all (drainer_serving.HasServed acts) (λ drainer. AreRow w.subjects drainer.ports) (λ end. HasEachBye end.inbox) server.drainers left.drainers.items
+        drainers_done = zip-all (drainer_serving.HasDrained acts) (λ drainer. AreRow w.subjects drainer.ports) (λ end. HasEachBye end.inbox) server.drainers left.drainers.items
             (λ drainer end serves has. serves.1.each_bye) drained drainer_rows;
-        to_subjects = zip-all (drainer_serving.HasServed acts) (λ drainer. AreRow w.subjects drainer.ports) (λ end. AreRow w.subjects end.ports.items) server.drainers left.drainers.items
+        to_subjects = zip-all (drainer_serving.HasDrained acts) (λ drainer. AreRow w.subjects drainer.ports) (λ end. AreRow w.subjects end.ports.items) server.drainers left.drainers.items
             (λ drainer end serves has. row-same w.subjects drainer.ports end.ports.items serves.1.places.ports has) drained drainer_rows;
         leaves = subst (AreRow w.drainers) (sym leaves) (row-bye w.drainers server.leaves (subst (AreRow w.drainers) (sym whole.wired.leaves_are) (row-new (length w.subjects) w.drainers)));
         desks = All-append (HasItsBoxes w) ended left.desks.items (All-weaker (IsEndOf server.made) (HasItsBoxes w) boxes ended handed)
@@ -162,8 +162,8 @@ module _ {S Rest : Type 0} (acts : Acts S Rest) (server : ServerView S Rest) (wh
       }
 
 -- there is one choice of marks for all letters
-pub choose-marks : {S : Type 0} (pumps : List (PumpView S)) (ends : List (PumpEnd S)) → AllZip pump_serving.HasServed pumps ends
-    → (marks : List (Marked S)) × (length marks ≡ length ends) × AllZip (λ pump x. pump_serving.Serves pump x.0 x.1) pumps (zip ends marks)
+pub choose-marks : {S : Type 0} (pumps : List (PumpView S)) (ends : List (PumpEnd S)) → AllZip pump_serving.HasPumped pumps ends
+    → (marks : List (Marked S)) × (length marks ≡ length ends) × AllZip (λ pump x. pump_serving.PumpServes pump x.0 x.1) pumps (zip ends marks)
 choose-marks [] [] all = ([], refl, tt)
 choose-marks [] (end ∷ ends) all = absurd all
 choose-marks (pump ∷ pumps) [] all = absurd all
@@ -173,7 +173,7 @@ choose-marks (pump ∷ pumps) (end ∷ ends) all =
 -- HOW CLOSING ENDED
 
 module _ {S Rest : Type 0} (acts : Acts S Rest) (server : ServerView S Rest) (whole : IsWhole server) (pump_ends : List (PumpEnd S)) (drain_ends : List (DrainEnd S Rest)) (ended finished : List (EndedDesk S))
-    (pumped : AllZip pump_serving.HasServed server.pumps pump_ends) (drained : AllZip (drainer_serving.HasServed acts) server.drainers drain_ends) where
+    (pumped : AllZip pump_serving.HasPumped server.pumps pump_ends) (drained : AllZip (drainer_serving.HasDrained acts) server.drainers drain_ends) where
   -- all boxes settled, or one did not
   pub settled-or-not : (r : Result (Report S Rest) CloseFault) (desks : ℕ) → All (IsEndOf server.made) finished → desks ≡ length whole.wiring.replies
       → IfOk r (λ report. HaveSettled report.boxes (map with_bye server.leaves) (ended ++ (server.kept ++ finished)) pump_ends drain_ends)

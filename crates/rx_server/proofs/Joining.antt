@@ -22,7 +22,7 @@ use Rattle.rx_server.specs.declared.wiring.Boxes.{Boxes}
 use Rattle.rx_workers.specs.Crews.{IsFor}
 use Rattle.rx_server.specs.OpenBoxes.{AreOpenFor}
 use Rattle.rx_server.specs.Rooms.{AreRooms}
-use Rattle.rx_server.specs.Wirings.{AreHubsOf, AreOpened, IsOf, RowView, Wiring, behind, desk_of, desks_of, drainer_of, drainers_of, greatest, leave_ports, most_observers, next_port, ports_at, pump_of, pumps_of, row_ports, whole_row}
+use Rattle.rx_server.specs.Wirings.{AreHubsOf, AreOpened, IsSizedFor, RowView, Wiring, behind, desk_of, desks_of, drainer_of, drainers_of, greatest, leave_ports, most_observers, next_port, ports_at, pump_of, pumps_of, row_ports, whole_row}
 use Rattle.rx_server.proofs.Rows.{ports-behind}
 
 module _ {B : Type 0} where
@@ -199,7 +199,7 @@ module _ {S : Type 0} where
       made-count f (zip hubs inboxes) pumps are ∙ zip-count hubs inboxes (hubs-count subjects hubs hubs_are ∙ sym count) ∙ count
 
   -- the boxes are as many and as large as they were asked for
-  pub boxes-are : (config : Config) (w : Wiring S) (boxes : Boxes S) → AreOpenFor config w boxes → IsOf config w
+  pub boxes-are : (config : Config) (w : Wiring S) (boxes : Boxes S) → AreOpenFor config w boxes → IsSizedFor config w
   boxes-are config w boxes opened = record {
     subjects = opened.subjects.count_is;
     drainers = opened.drainers.count_is;

@@ -7,7 +7,7 @@ use Rattle.rx_mailbox.specs.Boxes.{Box, Incoming, Outgoing}
 use Rattle.rx_pump.specs.declared.call.Call.{Call}
 use Rattle.rx_pump.specs.declared.ended_desk.EndedDesk.{EndedDesk}
 use Rattle.rx_pump.specs.declared.reply.Reply.{Reply}
-use Rattle.rx_pump.specs.Pumps.{place_of}
+use Rattle.rx_pump.specs.Pumps.{port_place}
 use Rattle.rx_server.specs.Leaving.{HasItsBoxes}
 use Rattle.rx_server.specs.Returning.{CameTwice, ComesAgain, ReturnsInbox, number_of}
 use Rattle.rx_server.specs.Wirings.{Wiring}
@@ -109,13 +109,13 @@ module _ {S : Type 0} where
   -- DESKS
 
   -- the ports of a desk have its number
-  ports-number : (number : ℕ) (xs : List (Box (Call S))) (ports : List (Outgoing (Call S))) → map place_of ports ≡ map (λ box. (box, number)) xs → All (λ port. port.number ≡ number) ports
+  ports-number : (number : ℕ) (xs : List (Box (Call S))) (ports : List (Outgoing (Call S))) → map port_place ports ≡ map (λ box. (box, number)) xs → All (λ port. port.number ≡ number) ports
   ports-number number [] [] are = All-nil (λ port. port.number ≡ number)
   ports-number number [] (port ∷ ports) are = cc
   ports-number number (x ∷ xs) [] are = cc
   ports-number number (x ∷ xs) (port ∷ ports) are =
-      let tail : map place_of ports ≡ map (λ box. (box, number)) xs = cc in
-      let head : place_of port ≡ (x, number) = cc in
+      let tail : map port_place ports ≡ map (λ box. (box, number)) xs = cc in
+      let head : port_place port ≡ (x, number) = cc in
       All-cons (λ port. port.number ≡ number) port ports (ap (λ (p : Box (Call S) × ℕ). p.1) head) (ports-number number xs ports tail)
 
   pub desk-ports : (w : Wiring S) (desk : EndedDesk S) (has : HasItsBoxes w desk) → All (λ port. port.number ≡ has.number) desk.ports.items
@@ -127,13 +127,13 @@ module _ {S : Type 0} where
   first-number number (port ∷ ports) some all = All-head (λ port. port.number ≡ number) port ports all
 
   -- a port for each subject
-  ports-row : (number : ℕ) (xs : List (Box (Call S))) (ports : List (Outgoing (Call S))) → map place_of ports ≡ map (λ box. (box, number)) xs → map (λ port. port.box) ports ≡ xs
+  ports-row : (number : ℕ) (xs : List (Box (Call S))) (ports : List (Outgoing (Call S))) → map port_place ports ≡ map (λ box. (box, number)) xs → map (λ port. port.box) ports ≡ xs
   ports-row number [] [] are = refl
   ports-row number [] (port ∷ ports) are = cc
   ports-row number (x ∷ xs) [] are = cc
   ports-row number (x ∷ xs) (port ∷ ports) are =
-      let tail : map place_of ports ≡ map (λ box. (box, number)) xs = cc in
-      let head : place_of port ≡ (x, number) = cc in
+      let tail : map port_place ports ≡ map (λ box. (box, number)) xs = cc in
+      let head : port_place port ≡ (x, number) = cc in
       let box : port.box ≡ x = ap (λ (p : Box (Call S) × ℕ). p.0) head in
       ap (λ (b : Box (Call S)). b ∷ map (λ port. port.box) ports) box ∙ ap (λ (l : List (Box (Call S))). x ∷ l) (ports-row number xs ports tail)
 

@@ -13,7 +13,7 @@ use Rattle.rx_pump.specs.declared.out.Out.{Out}
 use Rattle.rx_pump.specs.declared.pump_end.PumpEnd.{PumpEnd}
 use Rattle.rx_pump.specs.declared.reply.Reply.{Reply}
 use Rattle.rx_drain.specs.declared.drain_end.DrainEnd.{DrainEnd}
-use Rattle.rx_settling.specs.Parts.{AreOfOneBox, PartsView, Receives, Settles, dealt, dealt_each, given}
+use Rattle.rx_settling.specs.Parts.{AreOfOneBox, PartsView, ReceivesMore, Settles, dealt, dealt_each, given}
 use Rattle.rx_settling.proofs.Gathered.{AllInboxes, AllPorts, dealt-all, dealt-inboxes, dealt-of, dealt_each-all, dealt_each-count, dealt_each-inboxes, dealt_each-of, empty-inboxes, empty-ports, given-all, given-count, given-ports, inboxes-of, inboxes_of, of-one-box, ports-of, ports-same, received-none, settled-at, settled-came, settled-empty, settled-got}
 use Rattle.rx_settling.proofs.Rows.{dealt-count}
 use Rattle.rx_server.specs.declared.rooms.Rooms.{Rooms}
@@ -47,7 +47,7 @@ module _ {B : Type 0} where
 
   -- an inbox that was whole is the box
   pub whole : {X : Type 0} (f : X → Incoming B) (ends : List X) (boxes : List (SettledView B)) → All (λ end. HasEachBye (f end)) ends
-      → AllZip (λ inbox box. Receives inbox (inbox_in box)) (map f ends) boxes → AllZip (λ end box. inbox_in box ≡ f end) ends boxes
+      → AllZip (λ inbox box. ReceivesMore inbox (inbox_in box)) (map f ends) boxes → AllZip (λ end box. inbox_in box ≡ f end) ends boxes
   whole f [] [] done all = tt
   whole f [] (box ∷ boxes) done all = absurd all
   whole f (end ∷ ends) [] done all = absurd all

@@ -3,7 +3,7 @@ use Rattle.std.specs.Prelude.{◌≡◌, ◌++◌, ◌<◌, ◌≤◌, ℕ, List
 use Rattle.std.specs.List.{All}
 use Rattle.rx_mailbox.specs.Boxes.{Box, HasEachBye, Outgoing}
 use Rattle.rx_pump.specs.declared.ended_desk.EndedDesk.{EndedDesk}
-use Rattle.rx_pump.specs.Pumps.{place_of}
+use Rattle.rx_pump.specs.Pumps.{port_place}
 use Rattle.rx_server.specs.declared.rooms.Rooms.{Rooms}
 use Rattle.rx_server.specs.Returning.{AreEmpty}
 use Rattle.rx_server.specs.Rooms.{HoldBoxes}
@@ -17,7 +17,7 @@ module _ {S : Type 0} where
   -- what a desk left has a port of each subject's box, all of its number, and the inbox of the replies of that number
   pub record HasItsBoxes (w : Wiring S) (end : EndedDesk S) : Type 0 where
     pub number : ℕ
-    pub ports : map place_of end.ports.items ≡ map (λ box. (box, number)) w.subjects
+    pub ports : map port_place end.ports.items ≡ map (λ box. (box, number)) w.subjects
     pub inbox : slice_get w.replies number ≡ Some end.inbox.box
 
 module _ {S Rest : Type 0} where

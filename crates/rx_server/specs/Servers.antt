@@ -18,7 +18,7 @@ use Rattle.rx_sink.specs.Acts.{Acts}
 use Rattle.rx_drain.specs.declared.drain_end.DrainEnd.{DrainEnd}
 use Rattle.rx_drain.specs.Drainers.{DrainerView}
 use Rattle.rx_drain.specs.Serving as drainer_serving
-use Rattle.rx_settling.specs.Parts.{Receives}
+use Rattle.rx_settling.specs.Parts.{ReceivesMore}
 use Rattle.rx_server.specs.declared.close_fault.CloseCause.TheVariants.{Ended, Unsettled}
 use Rattle.rx_server.specs.declared.close_fault.CloseFault.{CloseFault}
 use Rattle.rx_config.specs.declared.config.Config.{Config}
@@ -143,7 +143,7 @@ module _ {S : Type 0} where
     pub ports : All (λ port. port.number ≡ number) desk.ports.items
     pub box : SettledView (Reply S)
     pub stood : slice_get boxes number ≡ Some box
-    pub received : Receives desk.inbox (inbox_in box)
+    pub received : ReceivesMore desk.inbox (inbox_in box)
 
 module _ {S Rest : Type 0} where
   -- the boxes of all subjects, of all drainers and of the replies to all desks have settled: what each port put is what its box
@@ -175,9 +175,9 @@ module _ {S Rest : Type 0} (acts : Acts S Rest) where
     pub drain_ends : List (DrainEnd S Rest)
     -- what the desks left that were not handed out
     pub finished : List (EndedDesk S)
-    pub pumped : AllZip (λ pump x. pump_serving.Serves pump x.0 x.1) server.pumps (zip pump_ends marks)
+    pub pumped : AllZip (λ pump x. pump_serving.PumpServes pump x.0 x.1) server.pumps (zip pump_ends marks)
     pub each_marked : length marks ≡ length pump_ends
-    pub drained : AllZip (drainer_serving.HasServed acts) server.drainers drain_ends
+    pub drained : AllZip (drainer_serving.HasDrained acts) server.drainers drain_ends
     pub of_server : All (IsEndOf server.made) finished
     pub settled : HaveSettled report.boxes (map with_bye server.leaves) (ended ++ (server.kept ++ finished)) pump_ends drain_ends
     pub reports : Reports report pump_ends drain_ends
@@ -195,15 +195,15 @@ module _ {S Rest : Type 0} where
 module _ {S Rest : Type 0} (acts : Acts S Rest) where
   -- each pump served to its end
   abbrev pub HavePumped : List (PumpView S) → Type 0
-  HavePumped pumps = (ends : List (PumpEnd S)) × AllZip pump_serving.HasServed pumps ends
+  HavePumped pumps = (ends : List (PumpEnd S)) × AllZip pump_serving.HasPumped pumps ends
 
   -- the thread is the first that stopped at a fault of its own, pumps before drainers; all threads are over
   abbrev pub IsFirst : List (PumpView S) → List (DrainerView S Rest) → Role → ℕ → Type 0
   IsFirst pumps drainers Pump index =
-      FirstStopped pump_serving.HasServed pump_serving.HasStopped pumps index
-      × AreOver (drainer_serving.HasServed acts) (drainer_serving.HasStopped acts) drainers
+      FirstStopped pump_serving.HasPumped pump_serving.PumpHasStopped pumps index
+      × AreOver (drainer_serving.HasDrained acts) (drainer_serving.DrainerHasStopped acts) drainers
   IsFirst pumps drainers Drainer index =
-      HavePumped pumps × FirstStopped (drainer_serving.HasServed acts) (drainer_serving.HasStopped acts) drainers index
+      HavePumped pumps × FirstStopped (drainer_serving.HasDrained acts) (drainer_serving.DrainerHasStopped acts) drainers index
   IsFirst pumps drainers Worker index = ⊥
 
   -- a drainer could not be told to leave, since its inbox was gone, though it served to its end
@@ -216,8 +216,8 @@ module _ {S Rest : Type 0} (acts : Acts S Rest) where
     pub pump_ends : List (PumpEnd S)
     pub drain_ends : List (DrainEnd S Rest)
     pub finished : List (EndedDesk S)
-    pub pumped : AllZip pump_serving.HasServed server.pumps pump_ends
-    pub drained : AllZip (drainer_serving.HasServed acts) server.drainers drain_ends
+    pub pumped : AllZip pump_serving.HasPumped server.pumps pump_ends
+    pub drained : AllZip (drainer_serving.HasDrained acts) server.drainers drain_ends
     pub of_server : All (IsEndOf server.made) finished
     pub why : CannotTell server.leaves fault ⊎ Unsettles (length server.made) (map with_bye server.leaves) (ended ++ (server.kept ++ finished)) pump_ends drain_ends fault
 

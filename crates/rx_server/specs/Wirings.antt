@@ -80,7 +80,7 @@ pub record Wiring (S : Type 0) : Type 0 where
 
 module _ {S : Type 0} where
   -- the boxes are as many and as large as the configuration says
-  pub record IsOf (config : Config) (w : Wiring S) : Type 0 where
+  pub record IsSizedFor (config : Config) (w : Wiring S) : Type 0 where
     pub subjects : length w.subjects ≡ length config.subjects.items
     pub drainers : length w.drainers ≡ config.drainers
     pub replies : length w.replies ≡ config.workers
@@ -131,7 +131,7 @@ module _ {S Rest : Type 0} where
   -- pumps, drainers, leave ports and desks are those of a configuration, joined by these boxes and with these hubs; they have
   -- done nothing yet
   pub record IsWired (config : Config) (w : Wiring S) (hubs : List HubView) (pumps : List (PumpView S)) (drainers : List (DrainerView S Rest)) (leaves : List (Outgoing (Out S))) (desks : List (DeskView S)) : Type 0 where
-    pub boxes : IsOf config w
+    pub boxes : IsSizedFor config w
     pub hubs_are : AreHubsOf config.subjects.items hubs
     pub pumps_are : pumps ≡ pumps_of w hubs
     pub drainers_are : drainers ≡ drainers_of w

@@ -78,8 +78,8 @@ pub(crate) fn join_pumps<S: Sink, R: Threads>(
     requires empty { ends.old.items ≡ [] }
     requires room { vec_len pumps.old ≤ vec_capacity ends.old }
     ensures { MatchResult result
-        (λ _. AllZip pump_serving.HasServed pumps.old.items ends.new.items)
-        (NamesFirst pump_serving.HasServed pump_serving.HasStopped Role.Pump pumps.old.items) }
+        (λ _. AllZip pump_serving.HasPumped pumps.old.items ends.new.items)
+        (NamesFirst pump_serving.HasPumped pump_serving.PumpHasStopped Role.Pump pumps.old.items) }
 {
     let mut fault = None;
     pumps.reverse();
@@ -101,8 +101,8 @@ pub(crate) fn join_drainers<S: Sink, R: Threads>(
     requires empty { ends.old.items ≡ [] }
     requires room { vec_len drainers.old ≤ vec_capacity ends.old }
     ensures { MatchResult result
-        (λ _. AllZip (drainer_serving.HasServed S.acts) (map (λ drainer. drainer.handle.promise.0.value) drainers.old.items) ends.new.items)
-        (NamesFirst (drainer_serving.HasServed S.acts) (drainer_serving.HasStopped S.acts) Role.Drainer (map (λ drainer. drainer.handle.promise.0.value) drainers.old.items)) }
+        (λ _. AllZip (drainer_serving.HasDrained S.acts) (map (λ drainer. drainer.handle.promise.0.value) drainers.old.items) ends.new.items)
+        (NamesFirst (drainer_serving.HasDrained S.acts) (drainer_serving.DrainerHasStopped S.acts) Role.Drainer (map (λ drainer. drainer.handle.promise.0.value) drainers.old.items)) }
 {
     let mut fault = None;
     drainers.reverse();

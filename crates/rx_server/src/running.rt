@@ -59,8 +59,8 @@ impl<S: Sink> Running<S> {
         requires no_drainer { rooms.old.drainers.items ≡ [] }
         requires pumps { vec_len self.pumps ≤ vec_capacity rooms.old.pumps }
         requires drainers { vec_len self.drainers ≤ vec_capacity rooms.old.drainers }
-        ensures pumped { OnOk result (AllZip pump_serving.HasServed self.pumps.items rooms.new.pumps.items) }
-        ensures drained { OnOk result (AllZip (drainer_serving.HasServed S.acts) (map (λ drainer. drainer.handle.promise.0.value) self.drainers.items) rooms.new.drainers.items) }
+        ensures pumped { OnOk result (AllZip pump_serving.HasPumped self.pumps.items rooms.new.pumps.items) }
+        ensures drained { OnOk result (AllZip (drainer_serving.HasDrained S.acts) (map (λ drainer. drainer.handle.promise.0.value) self.drainers.items) rooms.new.drainers.items) }
         ensures failed { IfErr result (λ fault. (fault.cause ≡ CloseCause.Ended)
             × IsFirst S.acts self.pumps.items (map (λ drainer. drainer.handle.promise.0.value) self.drainers.items) fault.thread fault.index) }
         ensures others { KeepsRooms rooms.old rooms.new }

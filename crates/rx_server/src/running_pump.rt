@@ -1,6 +1,6 @@
 // Pumps in threads of their own.
 ghost use Rattle.std.specs.Prelude.{◌≡◌, MatchResult, IfOk};
-ghost use Rattle.rx_pump.specs.Serving.{HasServed, HasStopped};
+ghost use Rattle.rx_pump.specs.Serving.{HasPumped, PumpHasStopped};
 
 use rx_pump::{Pump, PumpEnd, PumpStop};
 use std::marker::Model;
@@ -19,11 +19,11 @@ pub(crate) struct Served<S: Drop>(Snapshot<Pump<S>>);
 
 impl<S: Drop> Promise<Result<PumpEnd<S>, PumpStop<S>>> for Served<S> {
     ghost use Rattle.std.specs.Prelude.{MatchResult};
-    ghost use Rattle.rx_pump.specs.Serving.{HasServed, HasStopped};
+    ghost use Rattle.rx_pump.specs.Serving.{HasPumped, PumpHasStopped};
 
     ghost kept_by = { λ p result. MatchResult result
-        (λ end. HasServed p.0.value end)
-        (λ stop. HasStopped p.0.value stop) };
+        (λ end. HasPumped p.0.value end)
+        (λ stop. PumpHasStopped p.0.value stop) };
 }
 
 // A pump that serves in a thread of its own. Contracts see the pump that was handed in. One that is let go without a `join`
@@ -67,7 +67,7 @@ pub(crate) fn start_pump<
 impl<S: Drop> RunningPump<S> {
     // Waits until the thread has ended. It answers what `serve` did.
     pub(crate) fn join<R: Threads>(self, rt: &R) -> Result<PumpEnd<S>, PumpStop<S>>
-        ensures { MatchResult result (λ end. HasServed self end) (λ stop. HasStopped self stop) }
+        ensures { MatchResult result (λ end. HasPumped self end) (λ stop. PumpHasStopped self stop) }
     {
         let RunningPump { handle } = self;
         handle.join(rt)

@@ -8,7 +8,7 @@ use Rattle.rx_mailbox.specs.declared.settle_cause.SettleCause.TheVariants.{Missi
 use Rattle.rx_mailbox.specs.Boxes.{HasEachBye, Incoming, Outgoing}
 use Rattle.rx_mailbox.specs.Passes.{SettledView}
 use Rattle.rx_mailbox.specs.Settling.{IsCause, IsEachOnce}
-use Rattle.rx_settling.specs.Parts.{CannotSettle, FirstUnsettled, PartsView, Receives, Settles}
+use Rattle.rx_settling.specs.Parts.{CannotSettle, FirstUnsettled, PartsView, ReceivesMore, Settles}
 
 -- the item behind the first ones
 get-seam : {X : Type 0} (xs : List X) (x : X) (ys : List X) → slice_get (xs ++ x ∷ ys) (length xs) ≡ Some x
@@ -26,11 +26,11 @@ module _ {B : Type 0} where
   some-same same = cc
 
   -- the inbox that came back is the one that is there
-  pub cannot : (parts : PartsView B) (inbox after : Incoming B) → parts.inbox ≡ Some inbox → Receives inbox after
+  pub cannot : (parts : PartsView B) (inbox after : Incoming B) → parts.inbox ≡ Some inbox → ReceivesMore inbox after
       → ¬ (IsEachOnce after.ports parts.ports × HasEachBye after) → CannotSettle parts
   cannot parts inbox after came received never other is =
       let same : inbox ≡ other = some-same (sym came ∙ is) in
-      (after, subst (λ (i : Incoming B). Receives i after) same received, never)
+      (after, subst (λ (i : Incoming B). ReceivesMore i after) same received, never)
 
   -- behind those that settled stands one that cannot
   pub first-unsettled : (boxes done rest : List (PartsView B)) (parts : PartsView B) (settled : List (SettledView B)) → done ++ parts ∷ rest ≡ boxes

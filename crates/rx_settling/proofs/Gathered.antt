@@ -6,7 +6,7 @@ use Rattle.rx_mailbox.specs.Boxes.{Box, HasEachBye, Incoming, Outgoing, incoming
 use Rattle.rx_mailbox.specs.declared.letter.Letter.{Letter}
 use Rattle.rx_mailbox.specs.Passes.{IsEmptied, SettledView, inbox_in}
 use Rattle.rx_mailbox.specs.Settling.{GotAll}
-use Rattle.rx_settling.specs.Parts.{AreOfOneBox, IsEmpty, PartsView, Receives, Settles, dealt, dealt_each, given, placed, with_inbox}
+use Rattle.rx_settling.specs.Parts.{AreOfOneBox, IsEmpty, PartsView, ReceivesMore, Settles, dealt, dealt_each, given, placed, with_inbox}
 use Rattle.rx_settling.proofs.Rows.{dealt-count}
 
 module _ {X B : Type 0} (P : X → Outgoing B → Type 0) where
@@ -185,13 +185,13 @@ module _ {B : Type 0} where
 
   -- BOXES THAT SETTLED
 
-  settled-one : (parts : PartsView B) (inbox : Incoming B) (box : SettledView B) → Settles parts box → parts.inbox ≡ Some inbox → Receives inbox (inbox_in box)
+  settled-one : (parts : PartsView B) (inbox : Incoming B) (box : SettledView B) → Settles parts box → parts.inbox ≡ Some inbox → ReceivesMore inbox (inbox_in box)
   settled-one parts inbox box settles is =
       let same : settles.inbox ≡ inbox = let both : Some settles.inbox ≡ Some inbox = sym settles.came ∙ is in cc in
-      subst (λ (i : Incoming B). Receives i (inbox_in box)) same settles.received
+      subst (λ (i : Incoming B). ReceivesMore i (inbox_in box)) same settles.received
 
   -- where the Bye of each port was received, nothing more is
-  pub received-none : (inbox box : Incoming B) → HasEachBye inbox → Receives inbox box → box ≡ inbox
+  pub received-none : (inbox box : Incoming B) → HasEachBye inbox → ReceivesMore inbox box → box ≡ inbox
   received-none inbox box byes received =
       received.received ∙ ap (λ (l : List (Letter B)). incoming inbox.box inbox.ports (inbox.received ++ l)) (received.only_missing byes)
       ∙ ap (incoming inbox.box inbox.ports) (append-nil inbox.received)
@@ -205,7 +205,7 @@ module _ {B : Type 0} where
 
   -- and each is the box of its inbox, with the Byes that were left
   pub settled-came : (boxes : List (PartsView B)) (inboxes : List (Incoming B)) (settled : List (SettledView B)) → AllZip Settles boxes settled → inboxes_of boxes ≡ map Some inboxes
-      → AllZip (λ inbox box. Receives inbox (inbox_in box)) inboxes settled
+      → AllZip (λ inbox box. ReceivesMore inbox (inbox_in box)) inboxes settled
   settled-came [] [] [] all are = tt
   settled-came [] [] (box ∷ settled) all are = absurd all
   settled-came [] (inbox ∷ inboxes) settled all are = cc
@@ -217,7 +217,7 @@ module _ {B : Type 0} where
       (settled-one parts inbox box all.0 head, settled-came boxes inboxes settled all.1 tail)
 
   pub settled-at : (boxes : List (PartsView B)) (settled : List (SettledView B)) (place : ℕ) (inbox : Incoming B) → AllZip Settles boxes settled
-      → slice_get (inboxes_of boxes) place ≡ Some (Some inbox) → (box : SettledView B) × (slice_get settled place ≡ Some box) × Receives inbox (inbox_in box)
+      → slice_get (inboxes_of boxes) place ≡ Some (Some inbox) → (box : SettledView B) × (slice_get settled place ≡ Some box) × ReceivesMore inbox (inbox_in box)
   settled-at [] settled place inbox all at = cc
   settled-at (parts ∷ boxes) [] place inbox all at = absurd all
   settled-at (parts ∷ boxes) (box ∷ settled) zero inbox all at = let head : parts.inbox ≡ Some inbox = cc in (box, refl, settled-one parts inbox box all.0 head)

@@ -79,7 +79,7 @@ module _ {B : Type 0} where
   -- RECEIVING
 
   -- letters more were received, but none where the Bye of each port had been
-  pub record Receives (before after : Incoming B) : Type 0 where
+  pub record ReceivesMore (before after : Incoming B) : Type 0 where
     pub more : List (Letter B)
     pub received : after ≡ incoming before.box before.ports (before.received ++ more)
     pub only_missing : HasEachBye before → more ≡ []
@@ -94,7 +94,7 @@ module _ {B : Type 0} where
   pub record Settles (parts : PartsView B) (settled : SettledView B) : Type 0 where
     pub inbox : Incoming B
     pub came : parts.inbox ≡ Some inbox
-    pub received : Receives inbox (inbox_in settled)
+    pub received : ReceivesMore inbox (inbox_in settled)
     pub each_once : IsEachOnce settled.ports parts.ports
     pub each_bye : HasEachBye (inbox_in settled)
     pub got : All (GotAll (inbox_in settled)) parts.ports
@@ -104,7 +104,7 @@ module _ {B : Type 0} where
   abbrev pub CannotSettle : PartsView B → Type 0
   CannotSettle parts =
       (inbox : Incoming B) → parts.inbox ≡ Some inbox
-      → (after : Incoming B) × Receives inbox after × ¬ (IsEachOnce after.ports parts.ports × HasEachBye after)
+      → (after : Incoming B) × ReceivesMore inbox after × ¬ (IsEachOnce after.ports parts.ports × HasEachBye after)
 
   -- the one at this place is the first that cannot settle
   pub record FirstUnsettled (boxes : List (PartsView B)) (settled : List (SettledView B)) (place : ℕ) : Type 0 where

@@ -1,6 +1,6 @@
 ghost use Rattle.std.specs.Prelude.{◌≡◌, ◌<◌, ◌≢◌, ◌≤◌, [], true, false, None, length, IfOk, MatchOption, MatchResult};
 ghost use Rattle.rx_mailbox.specs.Boxes.{HasEachBye};
-ghost use Rattle.rx_settling.specs.Parts.{AreOfOneBox, CannotSettle, IsFull, Receives, Settles, with_inbox, with_port};
+ghost use Rattle.rx_settling.specs.Parts.{AreOfOneBox, CannotSettle, IsFull, ReceivesMore, Settles, with_inbox, with_port};
 
 use rx_heap::{Heap, Memory};
 use rx_mailbox::{EndedPort, Gone, Inbox, Settled, settle};
@@ -88,9 +88,9 @@ impl<B: Drop> BoxParts<B> {
     }
 }
 
-// Receives until the Bye of each port was received. `Err` where one is missing, and no letter will come any more.
+// ReceivesMore until the Bye of each port was received. `Err` where one is missing, and no letter will come any more.
 fn receive_byes<B: Drop, R: Wait>(rt: &R, inbox: &mut Inbox<B>) -> Result<(), Gone>
-    ensures received { Receives inbox.old inbox.new }
+    ensures received { ReceivesMore inbox.old inbox.new }
     ensures byes { MatchResult result (λ _. HasEachBye inbox.new) (λ _. ¬ HasEachBye inbox.new) }
 {
     for _ in rt.forever() {

@@ -15,8 +15,8 @@ use Rattle.rx_sink.specs.declared.kept.Kept.{Kept}
 use Rattle.rx_sink.specs.declared.put_away.PutAway.{PutAway}
 use Rattle.rx_sink.specs.declared.sink.SinkFault.{SinkFault}
 use Rattle.rx_sink.specs.Acts.{Acts, Step, Takes, Flushes, notes_by, last_by, Makes, Took, raised}
-use Rattle.rx_sink.specs.Attachments.{Attachment, Why, TookLast, Detached, Closed, FailedAtStart, FailedAt, FailedAtFlush, Mark, Fine, Fault, NoMemory, Sent, Change, is_clear, is_held_back, is_last, may_wait, kept_for, given, settled, answered, served, served_yet, flushed, written, attached, detached, let_go, unchanged, with_note, with_flush, paid, request, requests, dispose, parting, without, replaced, closed}
-use Rattle.rx_sink.specs.Stands.{IsKept, Last, IsPutAway, Stand, Did, Pushes, Parts, MayPart, EndsAct, Settles, TakesNote, FaultedAt, FaultedAtFlush, Flushed, addressed, tallied, events_of}
+use Rattle.rx_sink.specs.Attachments.{Attachment, Why, TookLast, Detached, Closed, FailedAtStart, FailedAt, FailedAtFlush, Mark, Fine, Fault, NoMemory, Sent, Change, is_clear, is_held_back, is_last, may_wait, kept_for, given, settled, answered, serving, served_yet, flushed, written, attached, detached, let_go, unchanged, with_note, with_flush, paid, request, requests, dispose, parting, without, replaced, closed}
+use Rattle.rx_sink.specs.Stands.{IsKept, Last, IsPutAway, Stand, Did, Pushes, Parts, MayPart, EndsAct, SettlesDue, TakesNote, FaultedAt, FaultedAtFlush, Flushed, addressed, tallied, events_of}
 use Rattle.rx_sink.proofs.Apartness.{apart_but, apart_push, apart_with}
 use Rattle.rx_sink.proofs.Finding.{AllZip-more, Found, remove-set, set-same, slice_get-set}
 
@@ -189,7 +189,7 @@ module _ {S Rest : Type 0} (acts : Acts S Rest) where
       pub same_over : now.over ≡ b.over
       pub same_may_wait : now.may_wait ≡ may_wait b.last
       pub took : Took acts b.sink b.who b.taken b.last now.sink
-      pub settles : Settles flow b.due now asks
+      pub settles : SettlesDue flow b.due now asks
 
     answered_asks : (flow : Flow) (b : Attachment S) (now : Kept S) (asks : Asks) (leaves held_back : Bool)
         → Answers flow b now asks → (b.over && is_clear flow) ≡ leaves → is_held_back flow b.due ≡ held_back
@@ -244,11 +244,11 @@ module _ {S Rest : Type 0} (acts : Acts S Rest) where
 
     -- A NOTE
 
-    due_more : (flow : Flow) (m n : ℕ) (now : Kept S) (asks : Asks) → m ≡ n → Settles flow m now asks → Settles flow n now asks
-    due_more flow m n now asks is settles = subst (λ (k : ℕ). Settles flow k now asks) is settles
+    due_more : (flow : Flow) (m n : ℕ) (now : Kept S) (asks : Asks) → m ≡ n → SettlesDue flow m now asks → SettlesDue flow n now asks
+    due_more flow m n now asks is settles = subst (λ (k : ℕ). SettlesDue flow k now asks) is settles
 
     noted : (l : Bool) (note : Note) (flow : Flow) (now : Kept S) (asks : Asks) → f.one.over ≡ false → acts.took f.one.sink note flow now.sink → acts.faults now.sink ≡ acts.faults f.one.sink
-        → now.subject ≡ f.one.subject → now.who ≡ f.one.who → now.over ≡ l → now.may_wait ≡ true → Settles flow (if l then f.one.due else f.one.due + 1) now asks
+        → now.subject ≡ f.one.subject → now.who ≡ f.one.who → now.over ≡ l → now.may_wait ≡ true → SettlesDue flow (if l then f.one.due else f.one.due + 1) now asks
         → Answers flow (with_note l note flow f.a) now asks
     noted true note flow now asks open_yet took faultless same_subject same_who over waits settles = record {
       of_subject = f.key.0;
@@ -271,7 +271,7 @@ module _ {S Rest : Type 0} (acts : Acts S Rest) where
       settles = due_more flow (f.one.due + 1) (f.a.due + 1) now asks (ap (λ (n : ℕ). n + 1) f.tie.due) settles;
     }
 
-    to_given : (mark : Mark) (note : Note) → f.one.over ≡ false → served mark subject who note f.a held ≡ given mark subject who note (kept_for subject who held) held
+    to_given : (mark : Mark) (note : Note) → f.one.over ≡ false → serving mark subject who note f.a held ≡ given mark subject who note (kept_for subject who held) held
     to_given mark note open_yet =
         sym (ap (λ o. given mark subject who note o held) f.found ∙ ap (λ b. served_yet b mark subject who note f.a held) (sym f.tie.over ∙ open_yet))
 

@@ -1,4 +1,4 @@
--- What becomes of the sinks that come to a drainer: how each is joined to its observer, served and put away, one line a case
+-- What becomes of the sinks that come to a drainer: how each is joined to its observer, serving and put away, one line a case
 -- (this project's own rule). A sink stays attached until it took a terminal and nothing waits in it any more, had a fault,
 -- its observer left, or the drainer was told to leave. Its subject is asked for an item more for each that it took: at once,
 -- but while the sink is stuck; then once it goes on, and at its end at the latest.
@@ -183,16 +183,16 @@ module _ {S : Type 0} where
   abbrev pub answered : Flow → ℕ → ℕ → Attachment S → ℕ → List (Attachment S) → Change S
   answered flow subject who a took kept = settled (a.over && is_clear flow) (is_held_back flow a.due) subject who a took kept
 
-  -- it is served a note: the sink took it, or that was a fault
-  abbrev pub served : Mark → ℕ → ℕ → Note → Attachment S → List (Attachment S) → Change S
-  served (Fine flow) subject who note a kept = answered flow subject who (with_note (is_last note) note flow a) 1 kept
-  served Fault subject who note a kept = ended a (FailedAt note) 0 (without subject who kept)
-  served NoMemory subject who note a kept = ended a (FailedAt note) 0 (without subject who kept)
+  -- it is serving a note: the sink took it, or that was a fault
+  abbrev pub serving : Mark → ℕ → ℕ → Note → Attachment S → List (Attachment S) → Change S
+  serving (Fine flow) subject who note a kept = answered flow subject who (with_note (is_last note) note flow a) 1 kept
+  serving Fault subject who note a kept = ended a (FailedAt note) 0 (without subject who kept)
+  serving NoMemory subject who note a kept = ended a (FailedAt note) 0 (without subject who kept)
 
-  -- a sink that took a terminal is served no more
+  -- a sink that took a terminal is serving no more
   abbrev pub served_yet : Bool → Mark → ℕ → ℕ → Note → Attachment S → List (Attachment S) → Change S
   served_yet true mark subject who note a kept = unchanged kept
-  served_yet false mark subject who note a kept = served mark subject who note a kept
+  served_yet false mark subject who note a kept = serving mark subject who note a kept
 
   -- a note comes for an observer: it is lost where no sink is kept for it
   abbrev pub given : Mark → ℕ → ℕ → Note → Option (Attachment S) → List (Attachment S) → Change S

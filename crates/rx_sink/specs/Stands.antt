@@ -31,7 +31,7 @@ module _ {S : Type 0} where
   IsKeptAt subject who place kept = (one : Kept S) × (slice_get kept place ≡ Some one) × (is_for subject who one ≡ true)
 
   -- a kept sink that answered so, when so many items were due, asks for them or holds them back
-  pub record Settles (flow : Flow) (items : ℕ) (after : Kept S) (asks : Asks) : Type 0 where
+  pub record SettlesDue (flow : Flow) (items : ℕ) (after : Kept S) (asks : Asks) : Type 0 where
     pub due : after.due ≡ (if is_held_back flow items then items else 0)
     pub asked : asks ≡ record { who = after.who; items = if is_held_back flow items then 0 else items; leaves = after.over && is_clear flow }
 
@@ -114,7 +114,7 @@ module _ {S Rest : Type 0} (acts : Acts S Rest) where
     pub faultless : acts.faults after.sink ≡ acts.faults before.sink
     pub over : after.over ≡ is_last note
     pub may_wait : after.may_wait ≡ true
-    pub settles : Settles flow (if is_last note then before.due else before.due + 1) after asks
+    pub settles : SettlesDue flow (if is_last note then before.due else before.due + 1) after asks
 
   -- a kept sink had a fault at a note
   pub record FaultedAt (note : Note) (before after : Kept S) : Type 0 where
@@ -135,7 +135,7 @@ module _ {S Rest : Type 0} (acts : Acts S Rest) where
     pub faultless : acts.faults after.sink ≡ acts.faults before.sink
     pub over : after.over ≡ before.over
     pub may_wait : after.may_wait ≡ not (is_clear flow)
-    pub settles : Settles flow before.due after asks
+    pub settles : SettlesDue flow before.due after asks
 
   -- a kept sink was finished, and what it left is the last that was put away
   abbrev pub Pushes : Kept S → List (PutAway Rest) → List (PutAway Rest) → Type 0

@@ -1,6 +1,6 @@
 ghost use Rattle.std.specs.Prelude.{◌≡◌, ◌+◌, ◌≤◌, ◌^◌, if◌then◌else◌, true, false, MatchResult};
 ghost use Rattle.rx_sink.specs.Attachments.{is_clear, is_held_back, is_last};
-ghost use Rattle.rx_sink.specs.Stands.{FaultedAt, FaultedAtFlush, Flushed, Settles, TakesNote};
+ghost use Rattle.rx_sink.specs.Stands.{FaultedAt, FaultedAtFlush, Flushed, SettlesDue, TakesNote};
 
 use crate::{Asks, Flow, Sink, SinkFault};
 use rx_note::Note;
@@ -56,7 +56,7 @@ impl<S: Sink> Kept<S> {
     // Asks for all that is due, or holds it back, once the sink answered how it stands.
     fn settle(&mut self, flow: Flow, due: u64) -> Asks
         requires { due ≤ 2 ^ 32 }
-        ensures settles { Settles flow due self.new result }
+        ensures settles { SettlesDue flow due self.new result }
         ensures subject { self.new.subject ≡ self.old.subject }
         ensures who { self.new.who ≡ self.old.who }
         ensures sink { self.new.sink ≡ self.old.sink }

@@ -1,12 +1,12 @@
 -- Ports keep their boxes.
 use Rattle.std.proofs.Common.{◌≡◌, ◌∙◌, sym, refl, ap, List, [], ◌∷◌, map}
 use Rattle.rx_mailbox.specs.Boxes.{Outgoing}
-use Rattle.rx_pump.specs.Pumps.{AreSame, place_of}
+use Rattle.rx_pump.specs.Pumps.{AreSame, port_place}
 use Rattle.rx_pump.specs.Sends.{with_bye}
 use Rattle.rx_thread_tests.specs.Wiring.{boxes_of}
 
 module _ {X : Type 0} where
-  boxes-places : (ports : List (Outgoing X)) → boxes_of ports ≡ map (λ place. place.0) (map place_of ports)
+  boxes-places : (ports : List (Outgoing X)) → boxes_of ports ≡ map (λ place. place.0) (map port_place ports)
   boxes-places [] = refl
   boxes-places (port ∷ ports) = ap (λ boxes. port.box ∷ boxes) (boxes-places ports)
 

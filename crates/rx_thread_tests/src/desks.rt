@@ -5,7 +5,7 @@ ghost use Rattle.std.specs.List.{All};
 ghost use Rattle.rx_pump.specs.Desks.{KeepsDesk, fresh_desk};
 ghost use Rattle.rx_pump.specs.Pumps.{IsFresh};
 ghost use Rattle.rx_pump.specs.Sends.{with_bye};
-ghost use Rattle.rx_pump.specs.Serving.{HasServed};
+ghost use Rattle.rx_pump.specs.Serving.{HasPumped};
 ghost use Rattle.rx_thread_tests.specs.Wiring.{IsOne, boxes_of};
 
 use crate::boxes::{close, copy, two, unlimited};
@@ -230,7 +230,7 @@ fn exchange<R: Threads + Wait + Abort + Sync>(rt: &R, alloc: &Heap) -> (u64, u64
                 × (result.0.inbox.box ≡ first_inbox.box) × (result.1.inbox.box ≡ second_inbox.box) }
         { emit_both(rt, alloc, first, second, first_inbox, second_inbox) },
         || -> PumpEnd<u8>
-            ensures { HasServed pump result }
+            ensures { HasPumped pump result }
         { serve(rt, pump) },
     );
     close_all(rt, alloc, left, first, second)

@@ -5,7 +5,7 @@ ghost use Rattle.std.specs.Prelude.{◌≡◌, ◌≤◌, [], vec_len, IfSome};
 ghost use Rattle.std.specs.List.{All};
 ghost use Rattle.rx_mailbox.specs.Boxes.{AreOf};
 ghost use Rattle.rx_pump.specs.Pumps.{IsFresh};
-ghost use Rattle.rx_pump.specs.Serving.{HasServed};
+ghost use Rattle.rx_pump.specs.Serving.{HasPumped};
 ghost use Rattle.rx_thread_tests.specs.Wiring.{IsOne};
 
 use crate::boxes::{close, copy, finish, first_of_two_if, made, send, two_if, unlimited};
@@ -93,7 +93,7 @@ pub(crate) fn pump_if(
 
 /// Serves to the end.
 pub(crate) fn serve(rt: &(impl Wait + Abort), pump: Pump<u8>) -> PumpEnd<u8>
-    ensures { HasServed pump result }
+    ensures { HasPumped pump result }
 {
     match pump.serve(rt) {
         Ok(left) => left,

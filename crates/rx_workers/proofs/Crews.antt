@@ -5,7 +5,7 @@ use Rattle.std.proofs.lemmas.List.Elements.{All-head, All-tail, All-nil, All-con
 use Rattle.std.specs.List.{All, AllZip}
 use Rattle.rx_pump.specs.Desks.{DeskView, KeepsDesk}
 use Rattle.rx_sink.specs.declared.line_sink.LineSink.{LineSink}
-use Rattle.rx_workers.specs.Crews.{AreOut, desk_of}
+use Rattle.rx_workers.specs.Crews.{AreOut, worker_desk}
 use Rattle.rx_workers.specs.Working.{WorkerView}
 use Rattle.rx_workers.proofs.Sessions.{desk_keeps-same}
 
@@ -24,23 +24,23 @@ kept_same (desk ∷ desks) = (desk_keeps-same desk, kept_same desks)
 
 module _ {M C W : Type 0} where
   -- the desks of these workers, and of one more that was hired
-  desks-one : (workers : List (WorkerView M C W)) (worker : WorkerView M C W) → map desk_of (reverse (workers ++ worker ∷ [])) ≡ desk_of worker ∷ map desk_of (reverse workers)
-  desks-one workers worker = ap (map desk_of) (reverse-append workers (worker ∷ []))
+  desks-one : (workers : List (WorkerView M C W)) (worker : WorkerView M C W) → map worker_desk (reverse (workers ++ worker ∷ [])) ≡ worker_desk worker ∷ map worker_desk (reverse workers)
+  desks-one workers worker = ap (map worker_desk) (reverse-append workers (worker ∷ []))
 
   -- these desks are left, and the others were handed to workers
   abbrev pub IsSplit : List (DeskView (LineSink W)) → List (DeskView (LineSink W)) → List (WorkerView M C W) → Type 0
-  IsSplit all here workers = here ++ map desk_of (reverse workers) ≡ all
+  IsSplit all here workers = here ++ map worker_desk (reverse workers) ≡ all
 
   -- no worker was hired yet
   pub split-begun : (all : List (DeskView (LineSink W))) (workers : List (WorkerView M C W)) → workers ≡ [] → IsSplit all all workers
-  split-begun all workers none = ap (λ (ws : List (WorkerView M C W)). all ++ map desk_of (reverse ws)) none ∙ append-nil all
+  split-begun all workers none = ap (λ (ws : List (WorkerView M C W)). all ++ map worker_desk (reverse ws)) none ∙ append-nil all
 
   -- one worker more was hired
   pub split-one : (all here left : List (DeskView (LineSink W))) (workers after : List (WorkerView M C W)) (desk : DeskView (LineSink W)) (worker : WorkerView M C W)
-      → here ≡ left ++ desk ∷ [] → after ≡ workers ++ worker ∷ [] → desk_of worker ≡ desk → IsSplit all here workers → IsSplit all left after
+      → here ≡ left ++ desk ∷ [] → after ≡ workers ++ worker ∷ [] → worker_desk worker ≡ desk → IsSplit all here workers → IsSplit all left after
   split-one all here left workers after desk worker took put same split =
-      let rest = map desk_of (reverse workers) in
-      ap (λ (ws : List (WorkerView M C W)). left ++ map desk_of (reverse ws)) put
+      let rest = map worker_desk (reverse workers) in
+      ap (λ (ws : List (WorkerView M C W)). left ++ map worker_desk (reverse ws)) put
       ∙ ap (λ ds. left ++ ds) (desks-one workers worker)
       ∙ ap (λ (d : DeskView (LineSink W)). left ++ d ∷ rest) same
       ∙ sym (append_assoc left (desk ∷ []) rest)
@@ -56,7 +56,7 @@ module _ {M C W : Type 0} where
       → here ≡ left ++ desk ∷ [] → after ≡ left ++ back ∷ [] → KeepsDesk desk back → IsSplit all here workers → AreOut all after workers
   split-back all here left after workers desk back took put kept split = record {
     kept = left ++ desk ∷ [];
-    parts = ap (λ ds. ds ++ map desk_of (reverse workers)) (sym took) ∙ split;
+    parts = ap (λ ds. ds ++ map worker_desk (reverse workers)) (sym took) ∙ split;
     same =
         subst (λ (ds : List (DeskView (LineSink W))). AllZip KeepsDesk (left ++ desk ∷ []) ds) (sym put)
         (AllZip-push KeepsDesk left left desk back (kept_same left) kept);
@@ -64,23 +64,23 @@ module _ {M C W : Type 0} where
 
   -- the worker that was hired last joined
   pub out-one : (all here after : List (DeskView (LineSink W))) (workers left : List (WorkerView M C W)) (worker : WorkerView M C W) (back : DeskView (LineSink W))
-      → workers ≡ left ++ worker ∷ [] → after ≡ here ++ back ∷ [] → KeepsDesk (desk_of worker) back → AreOut all here workers → AreOut all after left
+      → workers ≡ left ++ worker ∷ [] → after ≡ here ++ back ∷ [] → KeepsDesk (worker_desk worker) back → AreOut all here workers → AreOut all after left
   out-one all here after workers left worker back took put kept out =
-      let rest = map desk_of (reverse left) in
+      let rest = map worker_desk (reverse left) in
       record {
-        kept = out.kept ++ desk_of worker ∷ [];
+        kept = out.kept ++ worker_desk worker ∷ [];
         parts =
-            append_assoc out.kept (desk_of worker ∷ []) rest
+            append_assoc out.kept (worker_desk worker ∷ []) rest
             ∙ ap (λ ds. out.kept ++ ds) (sym (desks-one left worker))
-            ∙ ap (λ (ws : List (WorkerView M C W)). out.kept ++ map desk_of (reverse ws)) (sym took)
+            ∙ ap (λ (ws : List (WorkerView M C W)). out.kept ++ map worker_desk (reverse ws)) (sym took)
             ∙ out.parts;
         same =
-            subst (λ (ds : List (DeskView (LineSink W))). AllZip KeepsDesk (out.kept ++ desk_of worker ∷ []) ds) (sym put)
-            (AllZip-push KeepsDesk out.kept here (desk_of worker) back out.same kept);
+            subst (λ (ds : List (DeskView (LineSink W))). AllZip KeepsDesk (out.kept ++ worker_desk worker ∷ []) ds) (sym put)
+            (AllZip-push KeepsDesk out.kept here (worker_desk worker) back out.same kept);
       }
 
   -- all workers joined
   pub out-all : (all here : List (DeskView (LineSink W))) (workers : List (WorkerView M C W)) → workers ≡ [] → AreOut all here workers → AllZip KeepsDesk all here
   out-all all here workers none out =
-      let whole : out.kept ≡ all = sym (append-nil out.kept) ∙ ap (λ (ws : List (WorkerView M C W)). out.kept ++ map desk_of (reverse ws)) (sym none) ∙ out.parts in
+      let whole : out.kept ≡ all = sym (append-nil out.kept) ∙ ap (λ (ws : List (WorkerView M C W)). out.kept ++ map worker_desk (reverse ws)) (sym none) ∙ out.parts in
       subst (λ (ds : List (DeskView (LineSink W))). AllZip KeepsDesk ds here) whole out.same

@@ -1,7 +1,7 @@
 -- The places of a worker's clients.
 use Rattle.std.proofs.Common.{◌≡◌, ◌<◌, ℕ, zero, suc, Bool, true, false, List, [], ◌∷◌, ◌++◌, length, slice_set, Option, None, refl, sym, ap, ◌∙◌, if◌then◌else◌}
 use Rattle.std.proofs.lemmas.List.{get_or-set_same, get_or-set_other}
-use Rattle.rx_workers.specs.Clients.{AreSame, Sets, client_at}
+use Rattle.rx_workers.specs.Clients.{AreSameClients, Sets, client_at}
 use Rattle.rx_workers.specs.declared.client.Client.{Client}
 
 module _ {C W : Type 0} where
@@ -13,7 +13,7 @@ module _ {C W : Type 0} where
   client_at-more (suc place) (x ∷ xs) = client_at-more place xs
 
   -- or none more
-  pub client_at-pushed : (pushed : Bool) (before after : List (Option (Client C W))) → after ≡ (if pushed then before ++ None ∷ [] else before) → AreSame before after
+  pub client_at-pushed : (pushed : Bool) (before after : List (Option (Client C W))) → after ≡ (if pushed then before ++ None ∷ [] else before) → AreSameClients before after
   client_at-pushed true before after is place = ap (λ (xs : List (Option (Client C W))). client_at place xs) is ∙ client_at-more place before
   client_at-pushed false before after is place = ap (λ (xs : List (Option (Client C W))). client_at place xs) is
 
@@ -31,5 +31,5 @@ module _ {C W : Type 0} where
   Sets-then place a b c x y z p q = record { was_there = p.was_there; is_there = q.is_there; others = λ other apart. q.others other apart ∙ p.others other apart }
 
   -- a place that was vacant is set
-  pub Sets-vacant : (place : ℕ) (a b c : List (Option (Client C W))) (x : Option (Client C W)) → AreSame a b → client_at place b ≡ None → Sets place b c (client_at place b) x → Sets place a c None x
+  pub Sets-vacant : (place : ℕ) (a b c : List (Option (Client C W))) (x : Option (Client C W)) → AreSameClients a b → client_at place b ≡ None → Sets place b c (client_at place b) x → Sets place a c None x
   Sets-vacant place a b c x same vacant q = record { was_there = sym (same place) ∙ vacant; is_there = q.is_there; others = λ other apart. q.others other apart ∙ same other }

@@ -16,11 +16,11 @@ use Rattle.rx_pump.specs.Desks.{DeskView, KeepsDesk}
 use Rattle.rx_pump.specs.Sends.{posts, with_bodies, with_bye}
 use Rattle.rx_sink.specs.declared.line_sink.LineSink.{LineSink}
 use Rattle.rx_workers.specs.Accepting.{dealt, Deals, AcceptsAll}
-use Rattle.rx_workers.specs.Crews.{AreOut, IsPortOf, NamesLast, desk_of, first_lost}
+use Rattle.rx_workers.specs.Crews.{AreOut, IsPortOf, NamesLast, worker_desk, first_lost}
 use Rattle.rx_workers.specs.Service.{DealsUntil, HasServedJust, HaveServedFrom, HaveServedAll, IsNewOver, ServesUntil, fault_in, port_to, session_over, with_lost}
 use Rattle.rx_workers.specs.SessionDesks.{SessionView}
 use Rattle.rx_workers.specs.Telling.{IsTold}
-use Rattle.rx_workers.specs.Workers.{HasEnded, view_of_end}
+use Rattle.rx_workers.specs.Workers.{HasEnded, worker_at_end}
 use Rattle.rx_workers.specs.Working.{WorkerView, worker, HasWorked, state, came}
 use Rattle.rx_workers.specs.declared.accepting.AcceptStop.{AcceptStop}
 use Rattle.rx_workers.specs.declared.accepting.AcceptStop.TheVariants.{NoConnection, WorkerGone}
@@ -71,7 +71,7 @@ module _ {M C W : Type 0} (tells : M → ℕ → M → Type 0) (remaining : C �
   pub ended_box : (one : WorkerView (Unit {0}) C W) (end : WorkerEnd C W) → HasEnded tells remaining contents one end → end.inbox.box ≡ one.inbox.box
   ended_box one end ended =
       (works_came (λ _ moment _. IsTold tells moment) remaining contents ended.1.deeds (state one.session one.inbox [] 0 true)
-      (state (view_of_end one ended.0 end).session end.inbox ended.1.clients end.sessions false) ended.1.works).box
+      (state (worker_at_end one ended.0 end).session end.inbox ended.1.clients end.sessions false) ended.1.works).box
 
 module _ {M C W : Type 0} (tells : M → ℕ → M → Type 0) (remaining : C → Option (List ℕ)) (contents : W → Option (List ℕ)) (config : Config) where
   -- what an inbox of a new worker has received
@@ -81,7 +81,7 @@ module _ {M C W : Type 0} (tells : M → ℕ → M → Type 0) (remaining : C �
   received_new desk one end xs port ended new port_is got =
       let h = works_came (λ _ moment _. IsTold tells moment) remaining contents ended.1.deeds
       (state one.session one.inbox [] 0 true)
-      (state (view_of_end one ended.0 end).session end.inbox ended.1.clients end.sessions false) ended.1.works in
+      (state (worker_at_end one ended.0 end).session end.inbox ended.1.clients end.sessions false) ended.1.works in
       let ports_are : one.inbox.ports ≡ 1 = ap (λ (i : Incoming (C × W)). i.ports) new.inbox in
       let none : one.inbox.received ≡ [] = ap (λ (i : Incoming (C × W)). i.received) new.inbox in
       let nothing : All (IsFrom one.inbox.ports) one.inbox.received = subst (λ (l : List (Letter (C × W))). All (IsFrom one.inbox.ports) l) (sym none) (All-nil (IsFrom one.inbox.ports)) in
@@ -99,9 +99,9 @@ module _ {M C W : Type 0} (tells : M → ℕ → M → Type 0) (remaining : C �
       let T : ℕ → Type 0 = IsTold tells in
       let H : WorkerView (Unit {0}) C W → Type 0 = λ w. (h : HasWorked (λ _ moment _. IsTold tells moment) remaining contents one w end.sessions) × (came h.deeds ≡ xs) in
       let inbox = received_new desk one end xs port ended new port_is got in
-      let session : (view_of_end one ended.0 end).session ≡ session_over config end.desk ended.0 =
+      let session : (worker_at_end one ended.0 end).session ≡ session_over config end.desk ended.0 =
       ap (λ (s : SessionView (Unit {0}) (LineSink W)). record { subjects = s.subjects; window = s.window; moments = tt; calls = end.desk; joined = ended.0 }) new.session in
-      let start : H (view_of_end one ended.0 end) = (ended.1, inbox.1) in
+      let start : H (worker_at_end one ended.0 end) = (ended.1, inbox.1) in
       let left : H (worker (session_over config end.desk ended.0) end.inbox) = subst (λ (s : SessionView (Unit {0}) (LineSink W)). H (worker s end.inbox)) session start in
       let whole : H (worker (session_over config end.desk ended.0) (incoming one.inbox.box 1 (posts 0 xs ++ letter 0 Bye ∷ []))) =
       subst (λ (i : Incoming (C × W)). H (worker (session_over config end.desk ended.0) i)) inbox.0 left in
@@ -147,15 +147,15 @@ module _ {M C W : Type 0} (tells : M → ℕ → M → Type 0) (remaining : C �
   -- the workers of the first desks have ended, and served what was dealt to them; those that are left hold what was dealt to them
   pub record HaveServedSome (n : ℕ) (xs : List (C × W)) (all here : List (DeskView (LineSink W))) (workers : List (WorkerView (Unit {0}) C W)) (ports : List (Outgoing (C × W))) : Type 0 where
     pub kept : List (DeskView (LineSink W))
-    pub parts : kept ++ map desk_of (reverse workers) ≡ all
+    pub parts : kept ++ map worker_desk (reverse workers) ≡ all
     pub served : HaveServedFrom tells remaining contents config n 0 xs kept here
-    pub new : All (λ one. IsNewOver config (desk_of one) one) workers
+    pub new : All (λ one. IsNewOver config (worker_desk one) one) workers
     pub waits : reverse ports ≡ dealt_by n (length kept) xs (map port_to (reverse workers))
 
   -- none has ended yet
   pub some-none : (xs : List (C × W)) (here : List (DeskView (LineSink W))) (workers : List (WorkerView (Unit {0}) C W)) (ports : List (Outgoing (C × W))) → here ≡ []
-      → All (λ one. IsNewOver config (desk_of one) one) workers → Deals xs (reverse (map port_to workers)) (reverse ports)
-      → HaveServedSome (length workers) xs (map desk_of (reverse workers)) here workers ports
+      → All (λ one. IsNewOver config (worker_desk one) one) workers → Deals xs (reverse (map port_to workers)) (reverse ports)
+      → HaveServedSome (length workers) xs (map worker_desk (reverse workers)) here workers ports
   some-none xs here workers ports none new deals = record {
     kept = [];
     parts = refl;
@@ -183,24 +183,24 @@ module _ {M C W : Type 0} (tells : M → ℕ → M → Type 0) (remaining : C �
   -- one more has ended, and its box settled
   pub some-one : (n : ℕ) (xs : List (C × W)) (all here after : List (DeskView (LineSink W))) (workers left : List (WorkerView (Unit {0}) C W)) (ports rest : List (Outgoing (C × W)))
       → (one : WorkerView (Unit {0}) C W) (port : Outgoing (C × W)) (back : DeskView (LineSink W)) → workers ≡ left ++ one ∷ [] → ports ≡ rest ++ port ∷ [] → after ≡ here ++ back ∷ []
-      → ((ys : List (C × W)) → IsNewOver config (desk_of one) one → port ≡ outgoing one.inbox.box 0 (posts 0 ys) → HasServedJust tells remaining contents config ys (desk_of one) back)
+      → ((ys : List (C × W)) → IsNewOver config (worker_desk one) one → port ≡ outgoing one.inbox.box 0 (posts 0 ys) → HasServedJust tells remaining contents config ys (worker_desk one) back)
       → HaveServedSome n xs all here workers ports → HaveServedSome n xs all after left rest
   some-one n xs all here after workers left ports rest one port back took took_port put served so =
-      let P : WorkerView (Unit {0}) C W → Type 0 = λ one. IsNewOver config (desk_of one) one in
+      let P : WorkerView (Unit {0}) C W → Type 0 = λ one. IsNewOver config (worker_desk one) one in
       let news = All-pop P workers left (Some one) took so.new in
       let p = some-port n xs all here workers left ports rest one port took took_port so in
       let k = length so.kept in
-      let just : HasServedJust tells remaining contents config (dealt n k 0 xs) (desk_of one) back = served (dealt n k 0 xs) news.1 p.0 in
-      let count : length (so.kept ++ desk_of one ∷ []) ≡ k + 1 = length-append so.kept (desk_of one ∷ []) in
+      let just : HasServedJust tells remaining contents config (dealt n k 0 xs) (worker_desk one) back = served (dealt n k 0 xs) news.1 p.0 in
+      let count : length (so.kept ++ worker_desk one ∷ []) ≡ k + 1 = length-append so.kept (worker_desk one ∷ []) in
       record {
-        kept = so.kept ++ desk_of one ∷ [];
+        kept = so.kept ++ worker_desk one ∷ [];
         parts =
-            append_assoc so.kept (desk_of one ∷ []) (map desk_of (reverse left))
-            ∙ ap (λ (ws : List (WorkerView (Unit {0}) C W)). so.kept ++ map desk_of ws) (sym (last_first workers left one took))
+            append_assoc so.kept (worker_desk one ∷ []) (map worker_desk (reverse left))
+            ∙ ap (λ (ws : List (WorkerView (Unit {0}) C W)). so.kept ++ map worker_desk ws) (sym (last_first workers left one took))
             ∙ so.parts;
         served =
-            subst (λ (l : List (DeskView (LineSink W))). HaveServedFrom tells remaining contents config n 0 xs (so.kept ++ desk_of one ∷ []) l) (sym put)
-            (served_from_push tells remaining contents config n 0 k xs so.kept here (desk_of one) back (omega arith) so.served just);
+            subst (λ (l : List (DeskView (LineSink W))). HaveServedFrom tells remaining contents config n 0 xs (so.kept ++ worker_desk one ∷ []) l) (sym put)
+            (served_from_push tells remaining contents config n 0 k xs so.kept here (worker_desk one) back (omega arith) so.served just);
         new = news.0;
         waits = p.1 ∙ ap (λ (m : ℕ). dealt_by n m xs (map port_to (reverse left))) (sym count);
       }
@@ -209,7 +209,7 @@ module _ {M C W : Type 0} (tells : M → ℕ → M → Type 0) (remaining : C �
   pub some-all : (n : ℕ) (xs : List (C × W)) (all here : List (DeskView (LineSink W))) (workers : List (WorkerView (Unit {0}) C W)) (ports : List (Outgoing (C × W))) → workers ≡ [] → n ≡ length all
       → HaveServedSome n xs all here workers ports → HaveServedAll tells remaining contents config xs all here
   some-all n xs all here workers ports none count so =
-      let whole : so.kept ≡ all = sym (append-nil so.kept) ∙ ap (λ (ws : List (WorkerView (Unit {0}) C W)). so.kept ++ map desk_of (reverse ws)) (sym none) ∙ so.parts in
+      let whole : so.kept ≡ all = sym (append-nil so.kept) ∙ ap (λ (ws : List (WorkerView (Unit {0}) C W)). so.kept ++ map worker_desk (reverse ws)) (sym none) ∙ so.parts in
       subst (λ (m : ℕ). HaveServedFrom tells remaining contents config m 0 xs all here) count
       (subst (λ (l : List (DeskView (LineSink W))). HaveServedFrom tells remaining contents config n 0 xs l here) whole so.served)
 
@@ -217,9 +217,9 @@ module _ {M C W : Type 0} (tells : M → ℕ → M → Type 0) (remaining : C �
 
 module _ {C W : Type 0} where
   -- a new worker is one over its own desk
-  pub new_own : (config : Config) (desk : DeskView (LineSink W)) (one : WorkerView (Unit {0}) C W) → IsNewOver config desk one → IsNewOver config (desk_of one) one
+  pub new_own : (config : Config) (desk : DeskView (LineSink W)) (one : WorkerView (Unit {0}) C W) → IsNewOver config desk one → IsNewOver config (worker_desk one) one
   new_own config desk one new =
-      let is : desk_of one ≡ desk = ap (λ (s : SessionView (Unit {0}) (LineSink W)). s.calls) new.session in
+      let is : worker_desk one ≡ desk = ap (λ (s : SessionView (Unit {0}) (LineSink W)). s.calls) new.session in
       record { session = new.session ∙ ap (λ d. session_over config d None) (sym is); inbox = new.inbox; room = new.room }
 
   -- the port of one worker more
@@ -289,18 +289,18 @@ kept_none (desk ∷ kept) (back ∷ here) none all = let no : ⊥ = (let count =
 
 module _ {C W : Type 0} where
   -- all desks were handed to workers
-  pub handed_all : (desks here : List (DeskView (LineSink W))) (workers : List (WorkerView (Unit {0}) C W)) → here ≡ [] → AreOut desks here workers → map desk_of (reverse workers) ≡ desks
-  handed_all desks here workers none out = subst (λ (kept : List (DeskView (LineSink W))). kept ++ map desk_of (reverse workers) ≡ desks) (kept_none out.kept here none out.same) out.parts
+  pub handed_all : (desks here : List (DeskView (LineSink W))) (workers : List (WorkerView (Unit {0}) C W)) → here ≡ [] → AreOut desks here workers → map worker_desk (reverse workers) ≡ desks
+  handed_all desks here workers none out = subst (λ (kept : List (DeskView (LineSink W))). kept ++ map worker_desk (reverse workers) ≡ desks) (kept_none out.kept here none out.same) out.parts
 
   -- to as many
-  pub workers_count : (desks : List (DeskView (LineSink W))) (workers : List (WorkerView (Unit {0}) C W)) → map desk_of (reverse workers) ≡ desks → length workers ≡ length desks
-  workers_count desks workers all = sym (length-reverse workers) ∙ sym (length-map (reverse workers) desk_of) ∙ ap length all
+  pub workers_count : (desks : List (DeskView (LineSink W))) (workers : List (WorkerView (Unit {0}) C W)) → map worker_desk (reverse workers) ≡ desks → length workers ≡ length desks
+  workers_count desks workers all = sym (length-reverse workers) ∙ sym (length-map (reverse workers) worker_desk) ∙ ap length all
 
   -- the desks that are here are some of all
   pub here_some : (desks here : List (DeskView (LineSink W))) (workers : List (WorkerView (Unit {0}) C W)) → AreOut desks here workers → length here ≤ length desks
   here_some desks here workers out =
       let same : length here ≡ length out.kept = AllZip-long KeepsDesk out.kept here out.same in
-      let all : length out.kept + length (map desk_of (reverse workers)) ≡ length desks = sym (length-append out.kept (map desk_of (reverse workers))) ∙ ap length out.parts in
+      let all : length out.kept + length (map worker_desk (reverse workers)) ≡ length desks = sym (length-append out.kept (map worker_desk (reverse workers))) ∙ ap length out.parts in
       omega (arith, same, all)
 
 module _ {L M C W : Type 0} (accepts : L → C × W → L → Type 0) (fails : L → L → Type 0) (tells : M → ℕ → M → Type 0)
@@ -349,7 +349,7 @@ module _ {L M C W : Type 0} (accepts : L → C × W → L → Type 0) (fails : L
   pub ended_so : (dealt result : Result (Unit {0}) ServeFault) (lost : Option ℕ) (listener listener_after : L) (desks here after : List (DeskView (LineSink W))) (workers : List (WorkerView (Unit {0}) C W)) (ports : List (Outgoing (C × W)))
       → 0 < length desks → length after ≡ length desks → AreOut desks here workers → IfSome lost (λ place. place < length after)
       → DealsUntil accepts fails config.connections dealt listener listener_after desks here workers ports
-      → ServedUnlessLost lost (map desk_of (reverse workers)) here after workers ports
+      → ServedUnlessLost lost (map worker_desk (reverse workers)) here after workers ports
       → result ≡ with_lost dealt lost → ServesUntil accepts fails tells remaining contents config result listener listener_after desks after
   ended_so dealt result lost listener listener_after desks here after workers ports some count out within (inl hired) so result_is =
       let is : with_lost (Err hired.0) lost ≡ result = ap (λ (d : Result (Unit {0}) ServeFault). with_lost d lost) (sym hired.1) ∙ sym result_is in
@@ -357,7 +357,7 @@ module _ {L M C W : Type 0} (accepts : L → C × W → L → Type 0) (fails : L
       (hired_so hired.0 lost listener listener_after desks here after some (here_some desks here workers out) hired.2 hired.3)
   ended_so dealt result lost listener listener_after desks here after workers ports some count out within (inr stopped) so result_is =
       let is : with_lost (fault_in stopped.0) lost ≡ result = ap (λ (d : Result (Unit {0}) ServeFault). with_lost d lost) (sym stopped.1) ∙ sym result_is in
-      let all : map desk_of (reverse workers) ≡ desks = handed_all desks here workers stopped.2 out in
+      let all : map worker_desk (reverse workers) ≡ desks = handed_all desks here workers stopped.2 out in
       let crew : length (reverse (map port_to workers)) ≡ length desks = length-reverse (map port_to workers) ∙ length-map workers port_to ∙ workers_count desks workers all in
       let places : IfSome lost (λ place. place < length desks) = subst (λ (n : ℕ). IfSome lost (λ place. place < n)) count within in
       let served : ServedUnlessLost lost desks here after workers ports = subst (λ (ds : List (DeskView (LineSink W))). ServedUnlessLost lost ds here after workers ports) all so in

@@ -16,7 +16,7 @@ use Rattle.rx_session.specs.declared.turn.Turn.TheVariants.{Again, Waits, Stuck,
 use Rattle.rx_session.proofs.Amongst.{Sitting-then}
 use Rattle.rx_session.proofs.ByTurns.{IsOver-session, Sitting-new}
 use Rattle.rx_sink.specs.declared.line_sink.LineSink.{LineSink}
-use Rattle.rx_workers.specs.Clients.{AreSame, IsQuiet, IsTalk, Sets, client_at}
+use Rattle.rx_workers.specs.Clients.{AreSameClients, IsQuiet, IsTalk, Sets, client_at}
 use Rattle.rx_workers.specs.SessionDesks.{SessionView, KeepsSession}
 use Rattle.rx_config.specs.declared.subject_config.SubjectConfig.{SubjectConfig}
 use Rattle.rx_workers.specs.declared.client.Client.{Client}
@@ -24,7 +24,7 @@ use Rattle.rx_workers.specs.declared.client.Client.TheVariants.{Talks, Follows}
 use Rattle.rx_workers.specs.declared.client.Talk.{Talk}
 use Rattle.rx_workers.specs.declared.joined.Joined.{Joined}
 use Rattle.rx_workers.specs.declared.worker_end.WorkerEnd.{WorkerEnd}
-use Rattle.rx_workers.specs.Workers.{view_of_end}
+use Rattle.rx_workers.specs.Workers.{worker_at_end}
 use Rattle.rx_workers.specs.Working.{WorkerView, worker, State, state, Deed, Admitted, GivenUp, Dismissed, Abandoned, Turned, Parted, admitted, Begins, IsTalkOf, Leaves, HasTurn, Does, Works, Goes, IsServed, HasWorked, calls}
 use Rattle.rx_workers.proofs.Sessions.{keeps-equal, keeps-then, turn_keeps}
 
@@ -131,7 +131,7 @@ module _ {M C W : Type 0} (tells : M → ℕ → M → Type 0) (remaining : C �
   known_there before after connection s same = inl (record { place = s.place; talk = s.talk; there = same ∙ s.there; under_way = s.under_way })
 
   -- nobody went
-  known_same : (before after : List (Option (Client C W))) (connection : C × W) → AreSame before after → IsKnown before connection → IsKnown after connection
+  known_same : (before after : List (Option (Client C W))) (connection : C × W) → AreSameClients before after → IsKnown before connection → IsKnown after connection
   known_same before after connection same (inl s) = known_there before after connection s (same s.place)
   known_same before after connection same (inr served) = inr served
 
@@ -282,18 +282,18 @@ module _ {C W : Type 0} (tells : Unit {0} → ℕ → Unit {0} → Type 0) (rema
   -- a worker that has worked, by what it left
   pub worked-end : (before : WorkerView (Unit {0}) C W) (session after : SessionView (Unit {0}) (LineSink W)) (inbox : Incoming (C × W)) (end : WorkerEnd C W) (sessions : ℕ)
       → before ≡ worker session inbox → end.desk ≡ after.calls → HasWorked tells remaining contents (worker session inbox) (worker after end.inbox) sessions
-      → (joined : Option Joined) × HasWorked tells remaining contents before (view_of_end before joined end) sessions
+      → (joined : Option Joined) × HasWorked tells remaining contents before (worker_at_end before joined end) sessions
   worked-end before session after inbox end sessions begins desk worked =
       let H : WorkerView (Unit {0}) C W → Type 0 = λ w. HasWorked tells remaining contents w (worker after end.inbox) sessions in
       let from : H before = subst H (sym begins) worked in
-      let left : after ≡ (view_of_end before after.joined end).session = session_is after before.session.subjects before.session.window end.desk from.kept.subjects from.kept.window (sym desk) in
+      let left : after ≡ (worker_at_end before after.joined end).session = session_is after before.session.subjects before.session.window end.desk from.kept.subjects from.kept.window (sym desk) in
       (after.joined, subst (λ (s : SessionView (Unit {0}) (LineSink W)). HasWorked tells remaining contents before (worker s end.inbox) sessions) left from)
 
   -- so a worker has that was at work
   pub worker-ended : (before : WorkerView (Unit {0}) C W) (session : SessionView (Unit {0}) (LineSink W)) (inbox : Incoming (C × W)) (begun shift : State (Unit {0}) C W) (end : WorkerEnd C W)
       → before ≡ worker session inbox → begun ≡ state session inbox [] 0 true → Goes tells remaining contents begun shift → shift.is_open ≡ false → IsQuiet shift.clients
       → end.desk ≡ shift.session.calls → end.inbox ≡ shift.inbox → end.sessions ≡ shift.sessions
-      → (joined : Option Joined) × HasWorked tells remaining contents before (view_of_end before joined end) end.sessions
+      → (joined : Option Joined) × HasWorked tells remaining contents before (worker_at_end before joined end) end.sessions
   worker-ended before session inbox begun shift end begins begun_is goes closed quiet desk inbox_is sessions_are =
       let from : Goes tells remaining contents (state session inbox [] 0 true) shift = subst (λ (s : State (Unit {0}) C W). Goes tells remaining contents s shift) begun_is goes in
       let all = has_worked tells remaining contents session inbox shift from closed quiet in

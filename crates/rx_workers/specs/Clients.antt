@@ -9,8 +9,8 @@ module _ {C W : Type 0} where
   client_at place clients = slice_index_or clients place None
 
   -- nobody came, went or changed
-  abbrev pub AreSame : List (Option (Client C W)) → List (Option (Client C W)) → Type 0
-  AreSame before after = (place : ℕ) → client_at place after ≡ client_at place before
+  abbrev pub AreSameClients : List (Option (Client C W)) → List (Option (Client C W)) → Type 0
+  AreSameClients before after = (place : ℕ) → client_at place after ≡ client_at place before
 
   -- at one place there is another client or none any more, and at all others who was there
   pub record Sets (place : ℕ) (before after : List (Option (Client C W))) (was is : Option (Client C W)) : Type 0 where

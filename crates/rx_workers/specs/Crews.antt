@@ -15,14 +15,14 @@ IsFor config desk = length desk.ports + length desk.ended ≡ length config.subj
 
 module _ {M C W : Type 0} where
   -- the desk that a worker was handed
-  abbrev pub desk_of : WorkerView M C W → DeskView (LineSink W)
-  desk_of worker = worker.session.calls
+  abbrev pub worker_desk : WorkerView M C W → DeskView (LineSink W)
+  worker_desk worker = worker.session.calls
 
   -- of these desks the first are here, as their calls left them; the others were handed to workers, each to the one that was
   -- hired before that of the desk in front of it
   pub record AreOut (desks here : List (DeskView (LineSink W))) (workers : List (WorkerView M C W)) : Type 0 where
     pub kept : List (DeskView (LineSink W))
-    pub parts : kept ++ map desk_of (reverse workers) ≡ desks
+    pub parts : kept ++ map worker_desk (reverse workers) ≡ desks
     pub same : AllZip KeepsDesk kept here
 
   -- a port to the inbox of a worker

@@ -31,7 +31,7 @@ module _ {S : Type 0} where
   has_joined (Err error) = false
 
   -- the sink that came back from a call
-  abbrev pub sink_in : Result (Reply S) (CallError S) → Option S
-  sink_in (Ok reply) = reply.sink
-  sink_in (Err (SubjectGone sink)) = sink
-  sink_in (Err (Strange sink)) = sink
+  abbrev pub sink_back : Result (Reply S) (CallError S) → Option S
+  sink_back (Ok reply) = reply.sink
+  sink_back (Err (SubjectGone sink)) = sink
+  sink_back (Err (Strange sink)) = sink

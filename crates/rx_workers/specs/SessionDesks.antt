@@ -20,7 +20,7 @@ use Rattle.rx_pump.specs.declared.reply.Reply.{Reply}
 use Rattle.rx_session.specs.declared.follow.Follow.{Follow}
 use Rattle.rx_session.specs.declared.follow.Follow.TheVariants.{Taken, Back}
 use Rattle.rx_sink.specs.declared.line_sink.LineSink.{LineSink}
-use Rattle.rx_workers.specs.Responses.{response_of, has_joined, sink_in}
+use Rattle.rx_workers.specs.Responses.{response_of, has_joined, sink_back}
 use Rattle.rx_workers.specs.declared.joined.Joined.{Joined}
 use Rattle.rx_config.specs.declared.subject_config.SubjectConfig.{SubjectConfig}
 
@@ -56,7 +56,7 @@ module _ {W : Type 0} where
   -- what becomes of a writer by the answer to its call: it is taken by the observer that was made, else its sink came back or
   -- was lost
   abbrev pub followed : Result (Reply (LineSink W)) (CallError (LineSink W)) → Follow W
-  followed answered = if has_joined answered then Taken else back_with (response_of answered) (sink_in answered)
+  followed answered = if has_joined answered then Taken else back_with (response_of answered) (sink_back answered)
 
 -- whom an answer of the subject at this place made
 abbrev pub joined_in : ℕ → Result Answer Refusal → Option Joined

@@ -6,11 +6,11 @@ use Rattle.rx_workers.specs.declared.joined.Joined.{Joined}
 use Rattle.rx_workers.specs.declared.worker_end.WorkerEnd.{WorkerEnd}
 
 -- the worker with the desk and the inbox that it left, whoever joined last
-abbrev pub view_of_end : {C W : Type 0} → WorkerView (Unit {0}) C W → Option Joined → WorkerEnd C W → WorkerView (Unit {0}) C W
-view_of_end before joined end =
+abbrev pub worker_at_end : {C W : Type 0} → WorkerView (Unit {0}) C W → Option Joined → WorkerEnd C W → WorkerView (Unit {0}) C W
+worker_at_end before joined end =
     worker (record { subjects = before.session.subjects; window = before.session.window; moments = tt; calls = end.desk; joined = joined }) end.inbox
 
 module _ {M C W : Type 0} (tells : M → ℕ → M → Type 0) (remaining : C → Option (List ℕ)) (contents : W → Option (List ℕ)) where
   -- the worker handed in served the connections that came, at moments that were told in some state, and counted them
   abbrev pub HasEnded : WorkerView (Unit {0}) C W → WorkerEnd C W → Type 0
-  HasEnded before end = (joined : Option Joined) × HasWorked (λ _ moment _. IsTold tells moment) remaining contents before (view_of_end before joined end) end.sessions
+  HasEnded before end = (joined : Option Joined) × HasWorked (λ _ moment _. IsTold tells moment) remaining contents before (worker_at_end before joined end) end.sessions

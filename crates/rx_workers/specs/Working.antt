@@ -17,7 +17,7 @@ use Rattle.rx_session.specs.declared.session_end.SessionEnd.TheVariants as ends
 use Rattle.rx_session.specs.declared.turn.Turn.{Turn}
 use Rattle.rx_session.specs.declared.turn.Turn.TheVariants.{Again, Waits, Stuck, Over}
 use Rattle.rx_sink.specs.declared.line_sink.LineSink.{LineSink}
-use Rattle.rx_workers.specs.Clients.{AreSame, IsQuiet, Sets}
+use Rattle.rx_workers.specs.Clients.{AreSameClients, IsQuiet, Sets}
 use Rattle.rx_workers.specs.SessionDesks.{SessionView, KeepsSession, Disposes, emits, follows, knows}
 use Rattle.rx_workers.specs.declared.client.Client.{Client}
 use Rattle.rx_workers.specs.declared.client.Client.TheVariants.{Talks, Follows}
@@ -88,7 +88,7 @@ module _ {C W : Type 0} where
 
   -- a connection was given this place, which was vacant, or none
   abbrev pub Admits : Option ℕ → C × W → List (Option (Client C W)) → List (Option (Client C W)) → Type 0
-  Admits None connection before after = AreSame before after
+  Admits None connection before after = AreSameClients before after
   Admits (Some place) connection before after = (talk : Talk C W) × Begins connection talk × Sets place before after None (Some (Talks talk))
 
   -- the halves and the session of a talk after a turn, whatever its connection is watched for
@@ -165,7 +165,7 @@ module _ {M C W : Type 0} (tells : M → ℕ → M → Type 0) (remaining : C �
       Receives (Body connection) before after × Admits None connection before.clients after.clients
       × (after.sessions ≡ before.sessions) × (after.is_open ≡ before.is_open)
   Does Dismissed before after =
-      Receives Bye before after × AreSame before.clients after.clients
+      Receives Bye before after × AreSameClients before.clients after.clients
       × (after.sessions ≡ before.sessions) × (after.is_open ≡ false)
   Does Abandoned before after = after ≡ state before.session before.inbox before.clients before.sessions false
   Does (Turned place) before after = HasTurn place before after

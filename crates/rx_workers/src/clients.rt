@@ -1,5 +1,5 @@
 ghost use Rattle.std.specs.Prelude.{◌≡◌, ◌<◌, ◌↔◌, [], IfOk, IfSome, IsTrue, MatchOption, None, Some, length};
-ghost use Rattle.rx_workers.specs.Clients.{AreSame, IsQuiet, IsTalk, Sets, client_at};
+ghost use Rattle.rx_workers.specs.Clients.{AreSameClients, IsQuiet, IsTalk, Sets, client_at};
 ghost use Rattle.rx_workers.specs.declared.client.Client.TheVariants.{Follows, Talks};
 
 use crate::client::{Client, Follower, Talk};
@@ -43,7 +43,7 @@ impl<C: Drop, W: Drop> Clients<C, W> {
     pub fn vacancy(&mut self) -> Result<usize, Memory>
         ensures vacant { IfOk result (λ place. client_at place self.new ≡ None) }
         ensures within { IfOk result (λ place. place < length self.new) }
-        ensures same { AreSame self.old self.new }
+        ensures same { AreSameClients self.old self.new }
     {
         if let Some(place) = self.places.iter().position(|slot| slot.is_none()) {
             return Ok(place);

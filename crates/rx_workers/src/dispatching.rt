@@ -4,7 +4,7 @@ ghost use Rattle.std.specs.Arc.{arc_value};
 ghost use Rattle.std.specs.List.{All, AllZip};
 ghost use Rattle.rx_pump.specs.Desks.{KeepsDesk};
 ghost use Rattle.rx_workers.specs.Accepting.{AcceptsAll};
-ghost use Rattle.rx_workers.specs.Crews.{AreOut, IsFor, IsPortOf, desk_of};
+ghost use Rattle.rx_workers.specs.Crews.{AreOut, IsFor, IsPortOf, worker_desk};
 ghost use Rattle.rx_workers.specs.Service.{DealsUntil, IsNewOver, ServesUntil, fault_in, port_to, with_lost};
 
 use crate::accepting::{AcceptStop, accept_all};
@@ -160,7 +160,7 @@ fn deal_all<
     requires readiness { vec_len desks.old ≡ vec_len readiness.old }
     ensures out { AreOut desks.old.items desks.new.items workers.new.items }
     ensures room { vec_len desks.new + vec_len workers.new ≤ vec_capacity desks.new }
-    ensures new { All (λ one. IsNewOver (arc_value config.now) (desk_of one) one) workers.new.items }
+    ensures new { All (λ one. IsNewOver (arc_value config.now) (worker_desk one) one) workers.new.items }
     ensures ports { AllZip IsPortOf (reverse workers.new.items) (reverse ports.new.items) }
     ensures dealt { DealsUntil L.accepts L.fails (arc_value config.now).connections result listener.old listener.new desks.old.items desks.new.items workers.new.items ports.new.items }
 {

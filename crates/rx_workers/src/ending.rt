@@ -5,7 +5,7 @@ ghost use Rattle.rx_config.specs.declared.config.Config.{Config};
 ghost use Rattle.rx_pump.specs.Desks.{DeskView, KeepsDesk};
 ghost use Rattle.rx_sink.specs.declared.line_sink.LineSink.{LineSink};
 ghost use Rattle.rx_workers.specs.Accepting.{Deals};
-ghost use Rattle.rx_workers.specs.Crews.{AreOut, IsPortOf, desk_of, first_lost};
+ghost use Rattle.rx_workers.specs.Crews.{AreOut, IsPortOf, worker_desk, first_lost};
 ghost use Rattle.rx_workers.specs.Service.{HaveServedAll, IsNewOver, port_to};
 
 use crate::hired::{Hired, Returned};
@@ -39,7 +39,7 @@ pub fn end_all<
     requires room { vec_len desks.old + vec_len workers ≤ vec_capacity desks.old }
     requires ports { AllZip IsPortOf (reverse workers.items) (reverse ports.items) }
     ensures desks { (all : List (DeskView (LineSink W))) → AreOut all desks.old.items workers.items → AllZip KeepsDesk all desks.new.items }
-    ensures served { result ≡ None → desks.old.items ≡ [] → (config : Config) → (xs : List (C × W)) → All (λ one. IsNewOver config (desk_of one) one) workers.items → Deals xs (reverse (map port_to workers.items)) (reverse ports.items) → HaveServedAll M.tells C.remaining W.contents config xs (map desk_of (reverse workers.items)) desks.new.items }
+    ensures served { result ≡ None → desks.old.items ≡ [] → (config : Config) → (xs : List (C × W)) → All (λ one. IsNewOver config (worker_desk one) one) workers.items → Deals xs (reverse (map port_to workers.items)) (reverse ports.items) → HaveServedAll M.tells C.remaining W.contents config xs (map worker_desk (reverse workers.items)) desks.new.items }
     ensures lost { IfSome result (λ place. place < vec_len desks.new) }
 {
     let mut workers = workers;

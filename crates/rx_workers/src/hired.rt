@@ -5,7 +5,7 @@ ghost use Rattle.rx_mailbox.specs.Boxes.{outgoing};
 ghost use Rattle.rx_mailbox.specs.Settling.{GotAll};
 ghost use Rattle.rx_pump.specs.Desks.{KeepsDesk};
 ghost use Rattle.rx_pump.specs.Sends.{posts};
-ghost use Rattle.rx_workers.specs.Crews.{desk_of};
+ghost use Rattle.rx_workers.specs.Crews.{worker_desk};
 ghost use Rattle.rx_workers.specs.Service.{HasServedJust, IsNewOver};
 
 use crate::accepting::ring_at;
@@ -79,8 +79,8 @@ impl<M: Moments + Drop, C: Read + Drop, W: Write + Drop, P: Drop> Hired<M, C, W,
         place: usize,
     ) -> Returned<W>
         requires { port.box ≡ self.inbox.box }
-        ensures desk { KeepsDesk (desk_of self) result.desk }
-        ensures served { IsTrue result.has_all → (config : Config) → (xs : List (C × W)) → IsNewOver config (desk_of self) self → port ≡ outgoing self.inbox.box 0 (posts 0 xs) → HasServedJust M.tells C.remaining W.contents config xs (desk_of self) result.desk }
+        ensures desk { KeepsDesk (worker_desk self) result.desk }
+        ensures served { IsTrue result.has_all → (config : Config) → (xs : List (C × W)) → IsNewOver config (worker_desk self) self → port ≡ outgoing self.inbox.box 0 (posts 0 xs) → HasServedJust M.tells C.remaining W.contents config xs (worker_desk self) result.desk }
     {
         let Hired { worker, room } = self;
         let dismissed = dismiss(rt, port);

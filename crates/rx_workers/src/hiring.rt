@@ -4,7 +4,7 @@ ghost use Rattle.std.specs.List.{All};
 ghost use Rattle.std.specs.Arc.{arc_value};
 ghost use Rattle.rx_mailbox.specs.Boxes.{capacity_of, incoming, outgoing};
 ghost use Rattle.rx_pump.specs.Desks.{KeepsDesk};
-ghost use Rattle.rx_workers.specs.Crews.{AreOut, IsFor, NamesLast, desk_of};
+ghost use Rattle.rx_workers.specs.Crews.{AreOut, IsFor, NamesLast, worker_desk};
 ghost use Rattle.rx_workers.specs.Service.{IsNewOver, port_to};
 
 use crate::hired::Hired;
@@ -154,7 +154,7 @@ pub fn hire_all<
     requires readiness { vec_len desks.old ≡ vec_len readiness.old }
     ensures out { AreOut desks.old.items desks.new.items workers.new.items }
     ensures room { vec_len desks.new + vec_len workers.new ≤ vec_capacity desks.new }
-    ensures new { All (λ one. IsNewOver (arc_value config.now) (desk_of one) one) workers.new.items }
+    ensures new { All (λ one. IsNewOver (arc_value config.now) (worker_desk one) one) workers.new.items }
     ensures ports { ports.new.items ≡ map port_to workers.new.items }
     ensures all { OnOk result (desks.new.items ≡ []) }
     ensures fault { IfErr result (NamesLast (vec_len desks.new)) }

@@ -1,6 +1,6 @@
 // What a call is answered on the line.
 ghost use Rattle.std.specs.Prelude.{◌≡◌};
-ghost use Rattle.rx_workers.specs.Responses.{response_of, has_joined, sink_in};
+ghost use Rattle.rx_workers.specs.Responses.{response_of, has_joined, sink_back};
 ghost use Rattle.rx_workers.specs.Responses as responses;
 
 use rx_note::{Answer, Refusal};
@@ -35,8 +35,8 @@ fn is_joined(answered: Result<Answer, Refusal>) -> bool
 }
 
 // The sink that came back, if one did.
-pub fn sink_in<S: Drop>(answered: Result<Reply<S>, CallError<S>>) -> Option<S>
-    ensures { result ≡ sink_in answered }
+pub fn sink_back<S: Drop>(answered: Result<Reply<S>, CallError<S>>) -> Option<S>
+    ensures { result ≡ sink_back answered }
 {
     match answered {
         Ok(reply) => reply.sink,

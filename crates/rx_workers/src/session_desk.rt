@@ -4,7 +4,7 @@ ghost use Rattle.rx_workers.specs.SessionDesks.{followed, joined_by, place_of};
 
 use crate::joined::Joined;
 use crate::moments::Moments;
-use crate::responding::{has_joined, response_of, sink_in};
+use crate::responding::{has_joined, response_of, sink_back};
 use rx_config::{Config, SubjectConfig};
 use rx_heap::Heap;
 use rx_note::{Answer, Event, Note, Policy};
@@ -185,7 +185,7 @@ fn followed<W: Write + Drop>(
         return Follow::Taken;
     }
     let response = response_of(&answered);
-    match sink_in(answered) {
+    match sink_back(answered) {
         None => Follow::Taken,
         Some(sink) => Follow::Back(response, sink.into_writer()),
     }

@@ -6,7 +6,7 @@ use Rattle.rx_mailbox.specs.Letters.{letter}
 use Rattle.rx_sink.specs.declared.flow.Flow.TheVariants.{Clear}
 use Rattle.rx_sink.specs.Attachments.{Fine}
 use Rattle.rx_drain.specs.declared.drainer_left.DrainerLeft.{DrainerLeft}
-use Rattle.rx_drain.specs.Drainers.{Handles, view_of}
+use Rattle.rx_drain.specs.Drainers.{HandlesLetter, view_of}
 use Rattle.rx_drain.proofs.Clearing.{handles_cut, handles_flushed}
 use Rattle.rx_drain.proofs.Standing.{stands_idle_left, stands_idle_bye, handles_next}
 use Rattle.rx_drain.proofs.handling.hear_bye.Goals as goal
@@ -40,7 +40,7 @@ returns-then-is_some-clause-handles g c =
     let same = c.flush_last-fault.ensures.ports in
     let from_is : c.args.from ≡ length mid.ports =
     omega (arith, c.if-from-leave.false, c.flush_last-fault.ensures.fits.leave_is, length-append hands.ended.items hands.parts.subjects.items) in
-    subst (λ (l : Bool). Handles g.S.Sink.acts x (view_of c.args.hands.now l None) after) (sym c.if-left.false)
+    subst (λ (l : Bool). HandlesLetter g.S.Sink.acts x (view_of c.args.hands.now l None) after) (sym c.if-left.false)
     (handles_flushed g.S.Sink.acts x before mid after same flushes
     (handles_cut g.S.Sink.acts c.args.from mid after from_is refl refl c.put_all_away.ensures.kept refl refl refl refl (sym c.is_some.ensures ∙ c.if-is_some.true)
     flushes.fault c.put_all_away.ensures.closes))

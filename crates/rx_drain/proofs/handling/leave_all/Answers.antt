@@ -5,7 +5,7 @@ use Rattle.rx_pump.specs.Sends.{with_bye, EndsSome}
 use Rattle.rx_pump.proofs.Pumping.{AreSame-length}
 use Rattle.rx_sink.specs.declared.kept.Kept.{Kept}
 use Rattle.rx_sink.specs.Stands.{addressed}
-use Rattle.rx_drain.specs.Calls.{SendsAll, partings_of}
+use Rattle.rx_drain.specs.Calls.{SendsEvents, partings_of}
 use Rattle.rx_drain.specs.Logs.{sent_in}
 use Rattle.rx_drain.proofs.Events.{sent_none}
 use Rattle.rx_drain.proofs.Standing.{same_sent, of_sent, same_ended, same_half, sent_in_part, sent_ended, sent_half, stands_left, handles_next}
@@ -100,7 +100,7 @@ returns-then-is_some-clause-handles g c =
     let ended = c.args.hands.now.ended.items in
     let a = c.args.hands.now.parts.subjects.items in
     let leave_is : c.args.leave ≡ length (ended ++ a) = omega (arith, c.requires.leave_is, length-append ended a) in
-    let sends = subst (λ (kept : List (Kept _)). SendsAll c.part_all-fault.result (partings_of kept) a c.part_all-fault.new.subjects.items) c.as_slice.ensures.value c.part_all-fault.ensures in
+    let sends = subst (λ (kept : List (Kept _)). SendsEvents c.part_all-fault.result (partings_of kept) a c.part_all-fault.new.subjects.items) c.as_slice.ensures.value c.part_all-fault.ensures in
     handles_next g.S.Sink.acts _ _ _ (
       of_sent c.part_all-fault.result (partings_of c.args.hands.now.kept.items) a c.part_all-fault.new.subjects.items sends,
       λ log s. stands_left g.S.Sink.acts (length (ended ++ a)) log c.args.leave _ _ leave_is refl refl c.put_all_away.ensures.kept refl refl c.put_all_away.ensures.closes
@@ -119,7 +119,7 @@ returns-in-Ok-clause-handles g c =
     let ended = c.args.hands.now.ended.items in
     let a = c.args.hands.now.parts.subjects.items in
     let leave_is : c.args.leave ≡ length (ended ++ a) = omega (arith, c.requires.leave_is, length-append ended a) in
-    let sends = subst (λ (kept : List (Kept _)). SendsAll c.part_all-fault.result (partings_of kept) a c.part_all-fault.new.subjects.items) c.as_slice.ensures.value c.part_all-fault.ensures in
+    let sends = subst (λ (kept : List (Kept _)). SendsEvents c.part_all-fault.result (partings_of kept) a c.part_all-fault.new.subjects.items) c.as_slice.ensures.value c.part_all-fault.ensures in
     let fine = sent_none c.part_all-fault.result (partings_of c.args.hands.now.kept.items) a c.part_all-fault.new.subjects.items (sym c.is_some.ensures ∙ c.if-is_some.false) sends in
     handles_next g.S.Sink.acts _ _ _ (
       tt,
@@ -139,7 +139,7 @@ returns-in-Err-clause-handles g c =
     let ended = c.args.hands.now.ended.items in
     let a = c.args.hands.now.parts.subjects.items in
     let leave_is : c.args.leave ≡ length (ended ++ a) = omega (arith, c.requires.leave_is, length-append ended a) in
-    let sends = subst (λ (kept : List (Kept _)). SendsAll c.part_all-fault.result (partings_of kept) a c.part_all-fault.new.subjects.items) c.as_slice.ensures.value c.part_all-fault.ensures in
+    let sends = subst (λ (kept : List (Kept _)). SendsEvents c.part_all-fault.result (partings_of kept) a c.part_all-fault.new.subjects.items) c.as_slice.ensures.value c.part_all-fault.ensures in
     let fine = sent_none c.part_all-fault.result (partings_of c.args.hands.now.kept.items) a c.part_all-fault.new.subjects.items (sym c.is_some.ensures ∙ c.if-is_some.false) sends in
     let place_is : c.in-Err.place ≡ length c.finish_all.new.ended.items = omega (arith, c.in-Err.ensures.ended.1) in
     handles_next g.S.Sink.acts _ _ _ (

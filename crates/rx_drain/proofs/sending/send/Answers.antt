@@ -1,16 +1,16 @@
 use Rattle.std.proofs.Common.{arith}
-use Rattle.rx_drain.proofs.Events.{SendsAll-one, SendsAll-no_port, SendsAll-back}
+use Rattle.rx_drain.proofs.Events.{SendsEvents-one, SendsEvents-no_port, SendsEvents-back}
 use Rattle.rx_drain.proofs.sending.send.Goals as goal
 
 pub returns-then-place-len : goal.returns-then-place-len
-returns-then-place-len g c = SendsAll-no_port c.args.subjects.now.items c.args.subject c.args.event (omega (arith, c.len.ensures, c.if-place-len.true))
+returns-then-place-len g c = SendsEvents-no_port c.args.subjects.now.items c.args.subject c.args.event (omega (arith, c.len.ensures, c.if-place-len.true))
 
 pub returns-in_default : goal.returns-in_default
 returns-in_default g c =
-    SendsAll-back c.args.subjects.now.items c.args.subject c.args.event c.index_mut.result.now c.send_quietly.new.self
+    SendsEvents-back c.args.subjects.now.items c.args.subject c.args.event c.index_mut.result.now c.send_quietly.new.self
     (omega (arith, c.len.ensures, c.if-place-len.false)) c.index_mut.ensures.value c.in_default.ensures.1
 
 pub returns : goal.returns
 returns g c =
-    SendsAll-one c.args.subjects.now.items c.args.subject c.args.event c.index_mut.result.now c.send_quietly.new.self
+    SendsEvents-one c.args.subjects.now.items c.args.subject c.args.event c.index_mut.result.now c.send_quietly.new.self
     (omega (arith, c.len.ensures, c.if-place-len.false)) c.index_mut.ensures.value c.in-Ok.ensures

@@ -1,7 +1,7 @@
 use Rattle.std.proofs.Common.{◌∙◌, subst, sym, List}
 use Rattle.rx_hub.specs.Hubs.{HubView, Steps}
 use Rattle.rx_note.specs.declared.given.Given.{Given}
-use Rattle.rx_pump.specs.Turns.{ports_of, Handles}
+use Rattle.rx_pump.specs.Turns.{ports_of, HandlesCall}
 use Rattle.rx_pump.proofs.Calls.{handled_with}
 use Rattle.rx_pump.proofs.handling.handle.Goals as goal
 
@@ -12,7 +12,7 @@ returns-clause-handles g c =
     let then = ports_of c.send-fault.new.parts in
     let step = c.step-result in
     let none = c.clear.ensures.items in
-    subst (λ (after : HubView). Handles hub after before then c.is_memory.result c.send-fault.result c.args.port c.args.call) (sym c.send-fault.ensures.hub)
+    subst (λ (after : HubView). HandlesCall hub after before then c.is_memory.result c.send-fault.result c.args.port c.args.call) (sym c.send-fault.ensures.hub)
     (handled_with hub step.new.self before then step.result step.new.outs.items c.part-first.result.0 c.detach-last.result c.part-first.result.1 c.leaver-leaving.result
     c.is_memory.result c.send-fault.result c.args.port c.args.call
     c.is_memory.ensures c.part-first.ensures.attached c.part-first.ensures.back c.leaver-leaving.ensures c.detach-last.ensures

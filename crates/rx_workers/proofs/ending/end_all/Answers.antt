@@ -2,7 +2,7 @@
 use Rattle.std.proofs.Common.{◌≡◌, ◌∙◌, sym, [], length, map, reverse, vec_len, arith, rules}
 use Rattle.std.proofs.lemmas.List.{length-map, length-reverse}
 use Rattle.std.proofs.lemmas.Slice.Zip.{AllZip-long}
-use Rattle.rx_workers.specs.Crews.{IsPortOf, desk_of}
+use Rattle.rx_workers.specs.Crews.{IsPortOf, worker_desk}
 use Rattle.rx_workers.proofs.Crews.{out-one, out-all}
 use Rattle.rx_workers.proofs.Service.{first_lost-none, first_lost-within, pair_last, some-none, some-one, some-all}
 use Rattle.rx_workers.proofs.ending.end_all.Goals as goal
@@ -45,7 +45,7 @@ loop-worker-preserved g c =
           c.in-Some.ensures.items c.push_reserved.ensures.items c.end-desk.ensures.desk (before.out all begins);
       served = λ none here config xs new deals.
           let known = first_lost-none c.loop-worker.lost c.len-place.result c.end-desk.result.has_all (sym c.first_lost-lost.ensures ∙ none) in
-          some-one g.M.Moments.tells g.C.Read.remaining g.W.Write.contents config (length c.args.workers.items) xs (map desk_of (reverse c.args.workers.items))
+          some-one g.M.Moments.tells g.C.Read.remaining g.W.Write.contents config (length c.args.workers.items) xs (map worker_desk (reverse c.args.workers.items))
           c.loop-worker.desks.items c.push_reserved.new.self.items c.loop-worker.workers.items c.pop.new.self.items c.loop-worker.ports.items c.pop-in-Some.new.self.items
           c.in-Some.worker c.in-Some-pop.port c.end-desk.result.desk c.in-Some.ensures.items c.in-Some-pop.ensures.items c.push_reserved.ensures.items
           (λ ys one port_is. c.end-desk.ensures.served known.1 config ys one port_is) (before.served known.0 here config xs new deals);
@@ -64,8 +64,8 @@ returns-clause-desks g c =
 pub returns-clause-served : goal.returns-clause-served
 returns-clause-served g c =
     let none : c.loop-worker.workers.items ≡ [] = search rules in
-    let count : length c.args.workers.items ≡ length (map desk_of (reverse c.args.workers.items)) =
-    sym (length-map (reverse c.args.workers.items) desk_of ∙ length-reverse c.args.workers.items) in
+    let count : length c.args.workers.items ≡ length (map worker_desk (reverse c.args.workers.items)) =
+    sym (length-map (reverse c.args.workers.items) worker_desk ∙ length-reverse c.args.workers.items) in
     λ unlost here config xs new deals.
-    some-all g.M.Moments.tells g.C.Read.remaining g.W.Write.contents config (length c.args.workers.items) xs (map desk_of (reverse c.args.workers.items))
+    some-all g.M.Moments.tells g.C.Read.remaining g.W.Write.contents config (length c.args.workers.items) xs (map worker_desk (reverse c.args.workers.items))
     c.loop-worker.desks.items c.loop-worker.workers.items c.loop-worker.ports.items none count (c.loop-worker.invariant.served unlost here config xs new deals)

@@ -3,7 +3,7 @@ use Rattle.std.specs.List.{All, AllZip}
 use Rattle.rx_config.specs.declared.config.Config.{Config}
 use Rattle.rx_pump.specs.Desks.{DeskView}
 use Rattle.rx_workers.specs.Accepting.{Deals}
-use Rattle.rx_workers.specs.Crews.{AreOut, IsPortOf, desk_of}
+use Rattle.rx_workers.specs.Crews.{AreOut, IsPortOf, worker_desk}
 use Rattle.rx_workers.specs.Service.{IsNewOver, port_to}
 use Rattle.rx_workers.proofs.Service.{HaveServedSome}
 use Rattle.rx_workers.proofs.ending.end_all.Given as goal
@@ -15,9 +15,9 @@ invariant-loop-worker g l = record {
   count : vec_len l.workers ≡ vec_len l.ports;
   ports : AllZip IsPortOf (reverse l.workers.items) (reverse l.ports.items);
   out : (all : List (DeskView _)) → AreOut all l.initial.desks.items l.initial.workers.items → AreOut all l.desks.items l.workers.items;
-  served : l.lost ≡ None → l.initial.desks.items ≡ [] → (config : Config) → (xs : List _) → All (λ one. IsNewOver config (desk_of one) one) l.initial.workers.items
+  served : l.lost ≡ None → l.initial.desks.items ≡ [] → (config : Config) → (xs : List _) → All (λ one. IsNewOver config (worker_desk one) one) l.initial.workers.items
       → Deals xs (reverse (map port_to l.initial.workers.items)) (reverse l.initial.ports.items)
-      → HaveServedSome g.M.Moments.tells g.C.Read.remaining g.W.Write.contents config (length l.initial.workers.items) xs (map desk_of (reverse l.initial.workers.items)) l.desks.items l.workers.items l.ports.items;
+      → HaveServedSome g.M.Moments.tells g.C.Read.remaining g.W.Write.contents config (length l.initial.workers.items) xs (map worker_desk (reverse l.initial.workers.items)) l.desks.items l.workers.items l.ports.items;
   lost : IfSome l.lost (λ place. place < vec_len l.desks);
 }
 

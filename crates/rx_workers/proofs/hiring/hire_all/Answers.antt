@@ -1,7 +1,7 @@
 use Rattle.std.proofs.Common.{ap, [], ◌∷◌, ◌++◌, Some, arith}
 use Rattle.std.proofs.lemmas.List.Elements.{All-pop, All-push, All-same}
 use Rattle.std.specs.Arc.{arc_value}
-use Rattle.rx_workers.specs.Crews.{IsFor, desk_of}
+use Rattle.rx_workers.specs.Crews.{IsFor, worker_desk}
 use Rattle.rx_workers.specs.Service.{IsNewOver}
 use Rattle.rx_workers.specs.SessionDesks.{SessionView}
 use Rattle.rx_workers.specs.Working.{WorkerView}
@@ -25,7 +25,7 @@ pub loop-desk-preserved : goal.loop-desk-preserved
 loop-desk-preserved g c =
     let before = c.loop-desk.invariant in
     let P = IsFor (arc_value c.args.config.now) in
-    let Q : WorkerView (Unit {0}) _ _ → Type 0 = λ one. IsNewOver (arc_value c.args.config.now) (desk_of one) one in
+    let Q : WorkerView (Unit {0}) _ _ → Type 0 = λ one. IsNewOver (arc_value c.args.config.now) (worker_desk one) one in
     record {
       fit = All-first P c.loop-desk.desks.items c.pop.new.self.items c.in-Some.desk c.in-Some.ensures.items before.fit;
       split =

@@ -1,7 +1,7 @@
 use Rattle.std.proofs.Common.{◌≡◌, ◌+◌, ◌≤◌, map, vec_len, vec_capacity}
 use Rattle.std.specs.Arc.{arc_value}
 use Rattle.std.specs.List.{All}
-use Rattle.rx_workers.specs.Crews.{IsFor, desk_of}
+use Rattle.rx_workers.specs.Crews.{IsFor, worker_desk}
 use Rattle.rx_workers.specs.Service.{IsNewOver, port_to}
 use Rattle.rx_workers.proofs.Crews.{IsSplit}
 use Rattle.rx_workers.proofs.hiring.hire_all.Given as goal
@@ -16,7 +16,7 @@ invariant-loop-desk g l = record {
   ports : vec_len l.desks + vec_len l.ports ≤ vec_capacity l.ports;
   count : vec_len l.desks + vec_len l.ports ≡ vec_len l.initial.desks;
   waits : vec_len l.desks ≡ vec_len l.readiness;
-  new : All (λ one. IsNewOver (arc_value l.config) (desk_of one) one) l.workers.items;
+  new : All (λ one. IsNewOver (arc_value l.config) (worker_desk one) one) l.workers.items;
   ports_are : l.ports.items ≡ map port_to l.workers.items;
 }
 

@@ -1,12 +1,12 @@
 use Rattle.std.proofs.Common.{◌≡◌, None}
 use Rattle.rx_mailbox.specs.Boxes.{HasEachBye}
-use Rattle.rx_drain.specs.Drainers.{KeepsPlaces}
+use Rattle.rx_drain.specs.Drainers.{KeepsDrainer}
 use Rattle.rx_drain.proofs.drainer.Drainer.take_all.Given as goal
 
 -- it has no fault, its ports are the same, and it took no letter where the Bye of each port had come
 abbrev pub invariant-loop : goal.invariant-loop
 invariant-loop g l = record {
   whole : l.self.fault ≡ None;
-  kept : KeepsPlaces l.initial.self l.self;
+  kept : KeepsDrainer l.initial.self l.self;
   none : HasEachBye l.initial.self.inbox → l.self.inbox ≡ l.initial.self.inbox;
 }

@@ -4,7 +4,7 @@ use Rattle.rx_pump.specs.Pumps.{AreSame}
 use Rattle.rx_drain.specs.declared.drain_fault.DrainFault.{DrainFault}
 use Rattle.rx_drain.specs.declared.drain_fault.DrainFault.TheVariants.{InboxGone, SubjectGone}
 use Rattle.rx_drain.specs.declared.drainer_left.DrainerLeft.{DrainerLeft}
-use Rattle.rx_drain.specs.Drainers.{DrainerView, Fits, Goes, IsDrained, IsOfSubject, KeepsPlaces, TakesMore, TakesOne, any_may_wait, view_of}
+use Rattle.rx_drain.specs.Drainers.{DrainerView, Fits, Goes, IsDrained, IsOfSubject, KeepsDrainer, TakesMore, TakesSome, any_may_wait, view_of}
 use Rattle.rx_drain.proofs.Ending.{drained_gone, drained_turn, goes_further, takes_both, takes_one_and}
 use Rattle.rx_drain.proofs.drainer.Drainer.turn_by.Given as given
 use Rattle.rx_drain.proofs.drainer.Drainer.turn_by.Goals as goal
@@ -64,8 +64,8 @@ returns-in_default-handle_first-clause-kept g c =
     let inside = c.self.inside in
     let before = view_of inside.hands inside.left inside.fault in
     let same = c.in_default-handle_first.ensures.gone in
-    subst (λ (v : DrainerView _ _). KeepsPlaces v (view_of c.handle_first.new.hands inside.left (Some InboxGone))) c.self.view_is
-    (subst (λ (hands : DrainerLeft _ _). KeepsPlaces before (view_of hands inside.left (Some InboxGone))) (sym same) (record { box = refl; count = refl; ports = refl }))
+    subst (λ (v : DrainerView _ _). KeepsDrainer v (view_of c.handle_first.new.hands inside.left (Some InboxGone))) c.self.view_is
+    (subst (λ (hands : DrainerLeft _ _). KeepsDrainer before (view_of hands inside.left (Some InboxGone))) (sym same) (record { box = refl; count = refl; ports = refl }))
 
 pub handle_first-requires : goal.handle_first-requires
 handle_first-requires g c =
@@ -101,19 +101,19 @@ returns-clause-took g c =
     on_ok_known c.outcome.result (subst (λ (v : DrainerView _ _). TakesMore v.inbox after) c.self.view_is (took g c))
 
 -- at least one, where nothing waits
-took_one : (g : given.Over) (c : goal.After-outcome g) → c.args.looks ≡ false → any_may_wait c.self.inside.hands.kept.items ≡ false → TakesOne c.self.inside.hands.parts.inbox c.handle_rest-rest.new.hands.parts.inbox
+took_one : (g : given.Over) (c : goal.After-outcome g) → c.args.looks ≡ false → any_may_wait c.self.inside.hands.kept.items ≡ false → TakesSome c.self.inside.hands.parts.inbox c.handle_rest-rest.new.hands.parts.inbox
 took_one g c patient none =
     let before = c.self.inside.hands.parts.inbox in
-    subst (λ (i : Incoming _). TakesOne before i) (sym c.handle_rest-rest.ensures.inbox)
+    subst (λ (i : Incoming _). TakesSome before i) (sym c.handle_rest-rest.ensures.inbox)
     (takes_one_and g.S.Sink.acts before c.handle_first.new.hands.parts.inbox c.handle_more-more.new.hands.parts.inbox (c.in-Ok.ensures.takes_one patient none) c.handle_more-more.ensures.inbox)
 
 pub returns-clause-takes_one : goal.returns-clause-takes_one
 returns-clause-takes_one g c =
     let after = c.handle_rest-rest.new.hands.parts.inbox in
-    on_ok_known c.outcome.result (λ patient. subst (λ (v : DrainerView _ _). any_may_wait v.kept ≡ false → TakesOne v.inbox after) c.self.view_is (took_one g c patient))
+    on_ok_known c.outcome.result (λ patient. subst (λ (v : DrainerView _ _). any_may_wait v.kept ≡ false → TakesSome v.inbox after) c.self.view_is (took_one g c patient))
 
 -- more letters in the inbox keep the places
-keeps : {S Rest : Type 0} (before after : DrainerView S Rest) → TakesMore before.inbox after.inbox → AreSame before.ports after.ports → KeepsPlaces before after
+keeps : {S Rest : Type 0} (before after : DrainerView S Rest) → TakesMore before.inbox after.inbox → AreSame before.ports after.ports → KeepsDrainer before after
 keeps before after more same = record {
   box = ap (λ (i : Incoming _). i.box) more.1;
   count = ap (λ (i : Incoming _). i.ports) more.1;
@@ -125,7 +125,7 @@ returns-clause-kept g c =
     let inside = c.self.inside in
     let before = view_of inside.hands inside.left inside.fault in
     let after = view_of c.handle_rest-rest.new.hands c.handle_rest-rest.result.left c.handle_rest-rest.result.fault in
-    subst (λ (v : DrainerView _ _). KeepsPlaces v after) c.self.view_is
+    subst (λ (v : DrainerView _ _). KeepsDrainer v after) c.self.view_is
     (keeps before after (took g c) (c.handle_rest-rest.ensures.ports ∙ c.handle_more-more.ensures.ports ∙ c.in-Ok.ensures.ports))
 
 -- a fault of a subject is not that of the inbox

@@ -3,9 +3,9 @@ use Rattle.rx_mailbox.specs.Boxes.{with_letter}
 use Rattle.rx_mailbox.specs.Letters.{letter}
 use Rattle.rx_mailbox.specs.declared.letter.Letter.{Letter}
 use Rattle.rx_pump.specs.declared.call.Call.{Call}
-use Rattle.rx_pump.specs.Pumps.{PumpView, pump_of, IsPumped, KeepsPlaces}
+use Rattle.rx_pump.specs.Pumps.{PumpView, pump_with, IsPumped, KeepsPump}
 use Rattle.rx_pump.proofs.Pumping.{AreSame-length}
-use Rattle.rx_pump.proofs.Turning.{IsPumped-gone, IsPumped-bye, IsPumped-call, KeepsPlaces-call, TakesCall}
+use Rattle.rx_pump.proofs.Turning.{IsPumped-gone, IsPumped-bye, IsPumped-call, KeepsPump-call, TakesCall}
 use Rattle.rx_pump.proofs.pump.Pump.turn.Given as given
 use Rattle.rx_pump.proofs.pump.Pump.turn.Goals as goal
 
@@ -14,7 +14,7 @@ returns-in-Some-clause-pumped g c = subst (λ (p : PumpView _). IsPumped p) c.se
 
 pub invariant_of-self : goal.invariant_of-self
 invariant_of-self g c =
-    let before = pump_of c.self.inside.parts c.self.inside.calls c.self.inside.refused c.self.inside.misses_before c.self.inside.fault in (
+    let before = pump_with c.self.inside.parts c.self.inside.calls c.self.inside.refused c.self.inside.misses_before c.self.inside.fault in (
       IsPumped-gone before _ c.in_default.is (ap (λ inbox. record before { inbox = inbox; fault = _ }) c.in_default-recv.ensures.received) c.self.invariant.0,
       c.self.invariant.1,
       c.self.invariant.2,
@@ -28,7 +28,7 @@ returns-in_default-recv-clause-pumped g c = (invariant_of-self g c).0
 
 pub invariant_of-self-in-Bye : goal.invariant_of-self-in-Bye
 invariant_of-self-in-Bye g c =
-    let before = pump_of c.self.inside.parts c.self.inside.calls c.self.inside.refused c.self.inside.misses_before c.self.inside.fault in (
+    let before = pump_with c.self.inside.parts c.self.inside.calls c.self.inside.refused c.self.inside.misses_before c.self.inside.fault in (
       IsPumped-bye before _ c.in-Ok.letter c.in_default.is c.in-Bye.is (ap (λ inbox. record before { inbox = inbox }) c.in-Ok.ensures.received) c.self.invariant.0,
       c.self.invariant.1,
       c.self.invariant.2,
@@ -42,8 +42,8 @@ returns-in-Bye-clause-pumped g c = (invariant_of-self-in-Bye g c).0
 
 -- the call that this turn took
 took : (g : given.Over) (c : goal.After-outcome g)
-    → TakesCall (pump_of c.self.inside.parts c.self.inside.calls c.self.inside.refused c.self.inside.misses_before c.self.inside.fault)
-    (pump_of c.handle-handled.new.parts c.saturating_add-self-inside.result c.raised-self-inside.result c.self.inside.misses_before c.handle-handled.result.fault)
+    → TakesCall (pump_with c.self.inside.parts c.self.inside.calls c.self.inside.refused c.self.inside.misses_before c.self.inside.fault)
+    (pump_with c.handle-handled.new.parts c.saturating_add-self-inside.result c.raised-self-inside.result c.self.inside.misses_before c.handle-handled.result.fault)
     c.handle-handled.result.refused c.in-Ok.letter.from c.in-Body.call
 took g c =
     record {
@@ -60,7 +60,7 @@ took g c =
 
 pub invariant_of-self-2 : goal.invariant_of-self-2
 invariant_of-self-2 g c =
-    let kept = KeepsPlaces-call _ _ _ _ _ (took g c) c.self.invariant.0 in
+    let kept = KeepsPump-call _ _ _ _ _ (took g c) c.self.invariant.0 in
     let drainers : length c.handle-handled.new.parts.drainers.items ≡ length c.self.inside.parts.drainers.items = AreSame-length _ _ kept.drainers in
     let callers : length c.handle-handled.new.parts.replies.items ≡ length c.self.inside.parts.replies.items = AreSame-length _ _ kept.callers in (
       IsPumped-call _ _ _ _ _ (took g c) c.self.invariant.0,
@@ -76,5 +76,5 @@ returns-clause-pumped g c = IsPumped-call _ _ _ _ _ (took g c) c.self.invariant.
 
 pub returns-clause-kept : goal.returns-clause-kept
 returns-clause-kept g c =
-    let after = pump_of c.handle-handled.new.parts c.saturating_add-self-inside.result c.raised-self-inside.result c.self.inside.misses_before c.handle-handled.result.fault in
-    subst (λ (before : PumpView _). KeepsPlaces before after) c.self.view_is (KeepsPlaces-call _ _ _ _ _ (took g c) c.self.invariant.0)
+    let after = pump_with c.handle-handled.new.parts c.saturating_add-self-inside.result c.raised-self-inside.result c.self.inside.misses_before c.handle-handled.result.fault in
+    subst (λ (before : PumpView _). KeepsPump before after) c.self.view_is (KeepsPump-call _ _ _ _ _ (took g c) c.self.invariant.0)

@@ -37,8 +37,8 @@ settle-requires g c =
           ∙ ap (λ (l : List _). l ++ map with_bye parts.result.1.items) parts.ensures.rooms.no_leaves ∙ ap (map with_bye) parts.ensures.leaves)
           (ap (λ (list : Vec _ _). list.items) others.desks ∙ more.1 ∙ ap (λ (l : List _). l ++ more.0) parts.ensures.kept)
           more.2 c.requires
-          (subst (λ (pumps : List (PumpView _)). AllZip pump_serving.HasServed pumps left.pumps.items) parts.ensures.pumps c.in_ok-join.ensures.pumped)
-          (subst (λ (drainers : List (DrainerView _ _)). AllZip (drainer_serving.HasServed g.S.Sink.acts) drainers left.drainers.items) parts.ensures.drainers c.in_ok-join.ensures.drained),
+          (subst (λ (pumps : List (PumpView _)). AllZip pump_serving.HasPumped pumps left.pumps.items) parts.ensures.pumps c.in_ok-join.ensures.pumped)
+          (subst (λ (drainers : List (DrainerView _ _)). AllZip (drainer_serving.HasDrained g.S.Sink.acts) drainers left.drainers.items) parts.ensures.drainers c.in_ok-join.ensures.drained),
     )
 
 pub returns-in-Ok : goal.returns-in-Ok
@@ -55,8 +55,8 @@ returns-in-Ok g c =
     ∙ ap (λ (l : List _). l ++ map with_bye parts.result.1.items) parts.ensures.rooms.no_leaves ∙ ap (map with_bye) parts.ensures.leaves in
     let desks = ap (λ (list : Vec _ _). list.items) others.desks ∙ more.1 ∙ ap (λ (l : List _). l ++ more.0) parts.ensures.kept in
     settled-or-not g.S.Sink.acts self whole left.pumps.items left.drainers.items c.args.ended.items more.0
-    (subst (λ (pumps : List (PumpView _)). AllZip pump_serving.HasServed pumps left.pumps.items) parts.ensures.pumps c.in_ok-join.ensures.pumped)
-    (subst (λ (drainers : List (DrainerView _ _)). AllZip (drainer_serving.HasServed g.S.Sink.acts) drainers left.drainers.items) parts.ensures.drainers c.in_ok-join.ensures.drained)
+    (subst (λ (pumps : List (PumpView _)). AllZip pump_serving.HasPumped pumps left.pumps.items) parts.ensures.pumps c.in_ok-join.ensures.pumped)
+    (subst (λ (drainers : List (DrainerView _ _)). AllZip (drainer_serving.HasDrained g.S.Sink.acts) drainers left.drainers.items) parts.ensures.drainers c.in_ok-join.ensures.drained)
     c.settle.result (length left.returned.replies.items) more.2
     (ap (λ (r : Returned _). length r.replies.items) others.returned ∙ empty.reply_count ∙ desks-many g.S.Sink.acts self whole)
     (subst (λ (l : List _). IfOk c.settle.result (λ report. HaveSettled report.boxes l (c.args.ended.items ++ (self.kept ++ more.0)) left.pumps.items left.drainers.items)) leaves
@@ -78,8 +78,8 @@ returns-in-Err g c =
     let below : c.in-Err.place < length self.leaves = omega (arith, leaves, ap length parts.ensures.leaves, cut, length-append some.done c.finish_all-told.new.ports.items, some.some, count, ap length parts.ensures.rooms.no_leaves, length-append parts.result.3.leaves.items (map with_bye some.done), length-map some.done with_bye, c.in-Err.ensures.ended.1, c.finish_all-told.new.ended.ok) in
     let more = c.finish_desks.ensures self.made (subst (All (IsDeskOf self.made)) (sym parts.ensures.desks) (desks-own self whole)) in
     not-told g.S.Sink.acts self whole left.pumps.items left.drainers.items c.args.ended.items more.0
-    (subst (λ (pumps : List (PumpView _)). AllZip pump_serving.HasServed pumps left.pumps.items) parts.ensures.pumps c.in_ok-join.ensures.pumped)
-    (subst (λ (drainers : List (DrainerView _ _)). AllZip (drainer_serving.HasServed g.S.Sink.acts) drainers left.drainers.items) parts.ensures.drainers c.in_ok-join.ensures.drained)
+    (subst (λ (pumps : List (PumpView _)). AllZip pump_serving.HasPumped pumps left.pumps.items) parts.ensures.pumps c.in_ok-join.ensures.pumped)
+    (subst (λ (drainers : List (DrainerView _ _)). AllZip (drainer_serving.HasDrained g.S.Sink.acts) drainers left.drainers.items) parts.ensures.drainers c.in_ok-join.ensures.drained)
     c.unsettled.result more.2
     (ap (λ (f : CloseFault). f.cause) c.unsettled.ensures, ap (λ (f : CloseFault). f.thread) c.unsettled.ensures, subst (λ n. n < length self.leaves) (sym (ap (λ (f : CloseFault). f.index) c.unsettled.ensures)) below)
 

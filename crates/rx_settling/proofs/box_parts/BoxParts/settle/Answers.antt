@@ -3,7 +3,7 @@ use Rattle.std.specs.List.{All}
 use Rattle.rx_mailbox.specs.Boxes.{AreOf, HasEachBye, Incoming}
 use Rattle.rx_mailbox.specs.Passes.{inbox_in}
 use Rattle.rx_mailbox.specs.Settling.{GotAll, IsEachOnce}
-use Rattle.rx_settling.specs.Parts.{PartsView, Receives}
+use Rattle.rx_settling.specs.Parts.{PartsView, ReceivesMore}
 use Rattle.rx_settling.proofs.Causes.{cannot, not-both}
 use Rattle.rx_settling.proofs.box_parts.BoxParts.settle.Goals as goal
 
@@ -33,7 +33,7 @@ returns g c =
     record {
       inbox = c.in_ok-inbox.inbox;
       came = came;
-      received = subst (Receives c.in_ok-inbox.inbox) is c.receive_byes.ensures.received;
+      received = subst (ReceivesMore c.in_ok-inbox.inbox) is c.receive_byes.ensures.received;
       each_once = subst (IsEachOnce c.in-Ok-settle.settled.ports) (sym ports) (subst (λ (i : Incoming _). IsEachOnce i.ports c.self.inside.ports.items) is settled.complete.0);
       each_bye = subst HasEachBye is settled.complete.1;
       got = subst (All (GotAll (inbox_in c.in-Ok-settle.settled))) (sym ports) (subst (λ (i : Incoming _). All (GotAll i) c.self.inside.ports.items) is settled.shares);

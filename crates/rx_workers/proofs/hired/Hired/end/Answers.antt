@@ -2,7 +2,7 @@
 use Rattle.std.proofs.Common.{◌∙◌, sym, ap, subst, true≢false}
 use Rattle.rx_mailbox.specs.Boxes.{Outgoing}
 use Rattle.rx_mailbox.specs.Settling.{GotAll}
-use Rattle.rx_workers.specs.Crews.{desk_of}
+use Rattle.rx_workers.specs.Crews.{worker_desk}
 use Rattle.rx_workers.specs.Working.{WorkerView}
 use Rattle.rx_workers.specs.Workers.{HasEnded}
 use Rattle.rx_workers.proofs.Service.{ended_box, served_just}
@@ -22,6 +22,6 @@ returns-clause-served g c = elim c.match-dismissed.branch [
       rw w.has_all-is (λ yes config xs new port_is.
       let got = subst (λ (p : Outgoing _). GotAll c.join-desk.result.inbox p) w.in-Some.ensures (w.has_settled-has_all.ensures yes) in
       let ended = subst (λ (v : WorkerView _ _ _). HasEnded g.M.Moments.tells g.C.Read.remaining g.W.Write.contents v c.join-desk.result) c.self.view_is c.join-desk.ensures in
-      served_just g.M.Moments.tells g.C.Read.remaining g.W.Write.contents config (desk_of c.args.self) c.args.self c.join-desk.result xs c.args.port ended new port_is got)
+      served_just g.M.Moments.tells g.C.Read.remaining g.W.Write.contents config (worker_desk c.args.self) c.args.self c.join-desk.result xs c.args.port ended new port_is got)
   | in-None w ↦ λ yes config xs new port_is. absurd (true≢false (sym yes ∙ w.has_all-is))
 ]
