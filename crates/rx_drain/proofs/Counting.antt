@@ -9,12 +9,12 @@ use Rattle.rx_note.specs.declared.note.Note.{Note}
 use Rattle.rx_pump.specs.declared.out.Out.{Out}
 use Rattle.rx_pump.specs.declared.out.Out.TheVariants.{Attach, Give, Detach}
 use Rattle.rx_sink.specs.declared.flow.Flow.{Flow}
-use Rattle.rx_sink.specs.Attachments.{Attachment, Why, Mark, Fine, Fault, NoMemory, Change, is_clear, is_held_back, is_last, is_of, kept_for, without, replaced, with_note, with_flush, paid, attached, given, settled, serving, served_yet, flushed, written, detached, let_go, closed}
-use Rattle.rx_drain.specs.Logs.{Log, NoLetters, Next, Flush, letters, has_left, brought, letter_change, kept_in, change, flush_change, gone_in, missed_in}
+use Rattle.rx_sink.specs.Attachments.{Attachment, Why, Mark, Fine, Fault, NoMemory, Change, is_clear, is_held_back, is_last, is_of, kept_for, without, replaced, with_note, with_flush, paid, attached, given, settled, serving, served_yet, flushed, written, detached, let_go, closed, brought}
+use Rattle.rx_drain.specs.Logs.{Log, NoLetters, Next, Flush, letters, has_left, letter_change, kept_in, change, flush_change, gone_in, missed_in}
 use Rattle.rx_drain.proofs.Changing.{post_change, post_by}
 use Rattle.rx_drain.specs.Once.{times, found_by, missed_by, place_by, letter_by, places_by, found_in, missed_at, EachOnce}
 use Rattle.rx_drain.proofs.Taking.{some_split}
-use Rattle.rx_drain.proofs.Standing.{missed_given, missed_flushed, missed_detached}
+use Rattle.rx_sink.proofs.Counts.{missed_given, missed_flushed, missed_detached}
 
 pub times-append : (n : ℕ) (xs ys : List ℕ) → times n (xs ++ ys) ≡ times n xs + times n ys
 times-append n [] ys = (let e : times n ys ≡ 0 + times n ys = omega arith in e)

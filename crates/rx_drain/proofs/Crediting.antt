@@ -11,10 +11,10 @@ use Rattle.rx_sink.specs.declared.flow.Flow.{Flow}
 use Rattle.rx_sink.specs.declared.flow.Flow.TheVariants.{Clear, Ready, Stuck}
 use Rattle.rx_sink.specs.declared.kept.Kept.{Kept}
 use Rattle.rx_sink.specs.Acts.{Acts, Step, Takes, Flushes}
-use Rattle.rx_sink.specs.Attachments.{Attachment, Mark, Fine, Fault, NoMemory, Apart, is_clear, is_held_back, is_last, may_wait, is_of, kept_for, without, replaced, with_note, with_flush, paid, attached, given, settled, serving, served_yet, flushed, written, detached, let_go}
+use Rattle.rx_sink.specs.Attachments.{Attachment, Mark, Fine, Fault, NoMemory, Apart, is_clear, is_held_back, is_last, may_wait, is_of, kept_for, without, replaced, with_note, with_flush, paid, attached, given, settled, serving, served_yet, flushed, written, detached, let_go, brought}
 use Rattle.rx_sink.specs.Stands.{IsKept}
 use Rattle.rx_drain.specs.Credit.{IsPaid}
-use Rattle.rx_drain.specs.Logs.{Log, NoLetters, Next, Flush, letters, has_left, brought, letter_change, kept_in}
+use Rattle.rx_drain.specs.Logs.{Log, NoLetters, Next, Flush, letters, has_left, letter_change, kept_in}
 use Rattle.rx_drain.proofs.Changing.{post_change}
 use Rattle.rx_sink.proofs.Apartness.{key_is}
 use Rattle.rx_drain.proofs.Taking.{all_append, all_but, all_with, apart_in}

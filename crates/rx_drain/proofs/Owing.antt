@@ -14,8 +14,8 @@ use Rattle.rx_pump.specs.declared.out.Out.{Out}
 use Rattle.rx_pump.specs.declared.out.Out.TheVariants.{Attach, Give, Detach}
 use Rattle.rx_pump.proofs.Placing.{slice_get-append_left, slice_get-append_right}
 use Rattle.rx_sink.specs.declared.flow.Flow.{Flow}
-use Rattle.rx_sink.specs.Attachments.{Attachment, Why, TookLast, Detached, FailedAtStart, FailedAt, FailedAtFlush, Mark, Fine, Fault, NoMemory, Sent, Change, is_clear, is_held_back, is_last, is_of, kept_for, without, replaced, with_note, with_flush, paid, request, requests, dispose, parting, partings, attached, given, settled, serving, served_yet, flushed, written, detached, let_go, closed}
-use Rattle.rx_drain.specs.Logs.{Log, NoLetters, Next, Flush, letters, has_left, brought, letter_change, kept_in, change, flush_change, gone_in, sent_in}
+use Rattle.rx_sink.specs.Attachments.{Attachment, Why, TookLast, Detached, FailedAtStart, FailedAt, FailedAtFlush, Mark, Fine, Fault, NoMemory, Sent, Change, is_clear, is_held_back, is_last, is_of, kept_for, without, replaced, with_note, with_flush, paid, request, requests, dispose, parting, partings, attached, given, settled, serving, served_yet, flushed, written, detached, let_go, closed, brought}
+use Rattle.rx_drain.specs.Logs.{Log, NoLetters, Next, Flush, letters, has_left, letter_change, kept_in, change, flush_change, gone_in, sent_in}
 use Rattle.rx_drain.proofs.Changing.{post_change, post_by}
 use Rattle.rx_drain.specs.Once.{times, found_by, missed_by, place_by, letter_by, found_in, missed_at}
 use Rattle.rx_drain.specs.Served.{StandsAt}

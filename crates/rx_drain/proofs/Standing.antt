@@ -22,124 +22,24 @@ use Rattle.rx_sink.specs.declared.flow.Flow.TheVariants.{Clear}
 use Rattle.rx_sink.specs.declared.kept.Kept.{Kept}
 use Rattle.rx_sink.specs.declared.put_away.PutAway.{PutAway}
 use Rattle.rx_sink.specs.Acts.{Acts, raised}
-use Rattle.rx_sink.specs.Attachments.{Attachment, Why, Mark, Fine, Fault, NoMemory, Change, is_clear, is_held_back, kept_for, with_note, with_flush, attached, given, settled, serving, served_yet, flushed, written, detached, let_go, unchanged, left, closed, dispose, requests, parting, partings, request, is_last}
-use Rattle.rx_sink.specs.Stands.{Stand, Did, FlushesOne, IsKept, IsPutAway, addressed, tallied}
+use Rattle.rx_sink.specs.Attachments.{Attachment, Why, Mark, Fine, Fault, NoMemory, Change, brought, flushing, kept_for, unchanged, left, closed, dispose, requests, parting, partings, request, is_last}
+use Rattle.rx_sink.specs.Stands.{Stand, Tends, IsKept, IsPutAway, addressed, sinks, tallied}
+use Rattle.rx_sink.proofs.Counts.{missed_attached, missed_given, missed_flushed, missed_detached, took_attached, took_given, took_flushed, took_detached}
 use Rattle.rx_drain.specs.declared.drain_fault.DrainFault.{DrainFault}
 use Rattle.rx_drain.specs.declared.drain_fault.DrainFault.TheVariants.{InboxGone, SubjectGone}
 use Rattle.rx_drain.specs.Calls.{calls_to, parting_of, partings_of, SendsEvents}
-use Rattle.rx_drain.specs.Logs.{Log, Next, Flush, letters, has_left, brought, out_change, out_unserved, letter_change, kept_in, change, flush_change, gone_in, sent_in, missed_in, taken_in, put_by}
+use Rattle.rx_drain.specs.Logs.{Log, Next, Flush, letters, has_left, out_change, service_of, letter_change, kept_in, change, flush_change, gone_in, sent_in, missed_in, taken_in, put_by}
 use Rattle.rx_drain.proofs.Changing.{post_change}
-use Rattle.rx_drain.specs.Drainers.{DrainerView, IsOfSubject, HaveSent, SentUpTo, Stands, ServesOut, HandlesLetter}
+use Rattle.rx_drain.specs.Drainers.{DrainerView, IsOfSubject, HaveSent, SentUpTo, Stands, HandlesLetter}
 use Rattle.rx_drain.proofs.Events.{calls_to-append}
 
--- MISSES
-
 module _ {S : Type 0} where
-  missed_settled : (leaves held_back : Bool) (subject who took : ℕ) (a : Attachment S) (kept : List (Attachment S)) → (settled leaves held_back subject who a took kept).missed ≡ 0
-  missed_settled true held_back subject who took a kept = refl
-  missed_settled false true subject who took a kept = refl
-  missed_settled false false subject who took a kept = refl
-
-  missed_served : (mark : Mark) (subject who : ℕ) (note : Note) (a : Attachment S) (kept : List (Attachment S)) → (serving mark subject who note a kept).missed ≡ 0
-  missed_served (Fine flow) subject who note a kept =
-      (let b = with_note (is_last note) note flow a in missed_settled (b.over && is_clear flow) (is_held_back flow b.due) subject who 1 b kept)
-  missed_served Fault subject who note a kept = refl
-  missed_served NoMemory subject who note a kept = refl
-
-  missed_served_yet : (mark : Mark) (o : Bool) (subject who : ℕ) (note : Note) (a : Attachment S) (kept : List (Attachment S))
-      → (served_yet o mark subject who note a kept).missed ≡ 0
-  missed_served_yet mark true subject who note a kept = refl
-  missed_served_yet mark false subject who note a kept = missed_served mark subject who note a kept
-
-  -- a note misses nothing
-  pub missed_given : (mark : Mark) (subject who : ℕ) (note : Note) (o : Option (Attachment S)) (kept : List (Attachment S))
-      → (given mark subject who note o kept).missed ≡ 0
-  missed_given mark subject who note None kept = refl
-  missed_given mark subject who note (Some a) kept = missed_served_yet mark a.over subject who note a kept
-
-  missed_written : (mark : Mark) (subject who : ℕ) (a : Attachment S) (kept : List (Attachment S)) → (written mark subject who a kept).missed ≡ 0
-  missed_written (Fine flow) subject who a kept = missed_settled (a.over && is_clear flow) (is_held_back flow a.due) subject who 0 (with_flush flow a) kept
-  missed_written Fault subject who a kept = refl
-  missed_written NoMemory subject who a kept = refl
-
-  -- nor does a flush
-  pub missed_flushed : (mark : Mark) (subject who : ℕ) (o : Option (Attachment S)) (kept : List (Attachment S)) → (flushed mark subject who o kept).missed ≡ 0
-  missed_flushed mark subject who None kept = refl
-  missed_flushed mark subject who (Some a) kept = missed_written mark subject who a kept
-
-  missed_let_go : (o : Bool) (subject who : ℕ) (a : Attachment S) (kept : List (Attachment S)) → (let_go o subject who a kept).missed ≡ 0
-  missed_let_go false subject who a kept = refl
-  missed_let_go true subject who a kept = refl
-
-  -- nor does one who leaves
-  pub missed_detached : (subject who : ℕ) (o : Option (Attachment S)) (kept : List (Attachment S)) → (detached subject who o kept).missed ≡ 0
-  missed_detached subject who None kept = refl
-  missed_detached subject who (Some a) kept = missed_let_go a.over subject who a kept
-
-  missed_attached : (mark : Mark) (a : Attachment S) (o : Option (Attachment S)) (kept : List (Attachment S))
-      → ((attached mark a o kept).missed ≡ 0) ⊎ ((attached mark a o kept).missed ≡ 1)
-  missed_attached mark a (Some other) kept = inl refl
-  missed_attached (Fine flow) a None kept = inl refl
-  missed_attached Fault a None kept = inl refl
-  missed_attached NoMemory a None kept = inr refl
-
   -- a letter misses one sink at most
   missed_out : (place subject : ℕ) (out : Out S) (mark : Mark) (kept : List (Attachment S))
       → ((out_change place subject out mark kept).missed ≡ 0) ⊎ ((out_change place subject out mark kept).missed ≡ 1)
   missed_out place subject (Attach who sink) mark kept = missed_attached mark (brought place subject who sink) (kept_for subject who kept) kept
   missed_out place subject (Give who note) mark kept = inl (missed_given mark subject who note (kept_for subject who kept) kept)
   missed_out place subject (Detach who) mark kept = inl (missed_detached subject who (kept_for subject who kept) kept)
-
--- NOTES TAKEN
-
-module _ {S : Type 0} where
-  -- a sink that comes takes nothing yet
-  pub took_attached : (mark : Mark) (a : Attachment S) (o : Option (Attachment S)) (kept : List (Attachment S)) → (attached mark a o kept).took ≡ 0
-  took_attached mark a (Some other) kept = refl
-  took_attached (Fine flow) a None kept = refl
-  took_attached Fault a None kept = refl
-  took_attached NoMemory a None kept = refl
-
-  took_let_go : (o : Bool) (subject who : ℕ) (a : Attachment S) (kept : List (Attachment S)) → (let_go o subject who a kept).took ≡ 0
-  took_let_go false subject who a kept = refl
-  took_let_go true subject who a kept = refl
-
-  took_settled : (leaves held_back : Bool) (subject who took : ℕ) (a : Attachment S) (kept : List (Attachment S)) → (settled leaves held_back subject who a took kept).took ≡ took
-  took_settled true held_back subject who took a kept = refl
-  took_settled false true subject who took a kept = refl
-  took_settled false false subject who took a kept = refl
-
-  took_written : (mark : Mark) (subject who : ℕ) (a : Attachment S) (kept : List (Attachment S)) → (written mark subject who a kept).took ≡ 0
-  took_written (Fine flow) subject who a kept = took_settled (a.over && is_clear flow) (is_held_back flow a.due) subject who 0 (with_flush flow a) kept
-  took_written Fault subject who a kept = refl
-  took_written NoMemory subject who a kept = refl
-
-  -- a flush takes nothing
-  pub took_flushed : (mark : Mark) (subject who : ℕ) (o : Option (Attachment S)) (kept : List (Attachment S)) → (flushed mark subject who o kept).took ≡ 0
-  took_flushed mark subject who None kept = refl
-  took_flushed mark subject who (Some a) kept = took_written mark subject who a kept
-
-  -- one who leaves takes nothing
-  pub took_detached : (subject who : ℕ) (o : Option (Attachment S)) (kept : List (Attachment S)) → (detached subject who o kept).took ≡ 0
-  took_detached subject who None kept = refl
-  took_detached subject who (Some a) kept = took_let_go a.over subject who a kept
-
-  took_served : (mark : Mark) (subject who : ℕ) (note : Note) (a : Attachment S) (kept : List (Attachment S))
-      → ((serving mark subject who note a kept).took ≡ 0) ⊎ ((serving mark subject who note a kept).took ≡ 1)
-  took_served (Fine flow) subject who note a kept =
-      (let b = with_note (is_last note) note flow a in inr (took_settled (b.over && is_clear flow) (is_held_back flow b.due) subject who 1 b kept))
-  took_served Fault subject who note a kept = inl refl
-  took_served NoMemory subject who note a kept = inl refl
-
-  took_served_yet : (mark : Mark) (o : Bool) (subject who : ℕ) (note : Note) (a : Attachment S) (kept : List (Attachment S))
-      → ((served_yet o mark subject who note a kept).took ≡ 0) ⊎ ((served_yet o mark subject who note a kept).took ≡ 1)
-  took_served_yet mark true subject who note a kept = inl refl
-  took_served_yet mark false subject who note a kept = took_served mark subject who note a kept
-
-  took_given : (mark : Mark) (subject who : ℕ) (note : Note) (o : Option (Attachment S)) (kept : List (Attachment S))
-      → ((given mark subject who note o kept).took ≡ 0) ⊎ ((given mark subject who note o kept).took ≡ 1)
-  took_given mark subject who note None kept = inl refl
-  took_given mark subject who note (Some a) kept = took_served_yet mark a.over subject who note a kept
 
   -- by a letter one note is taken at most
   took_out : (place subject : ℕ) (out : Out S) (mark : Mark) (kept : List (Attachment S))
@@ -151,19 +51,6 @@ module _ {S : Type 0} where
 tallied-more : (m n k : ℕ) → m ≡ min n (2 ^ 64 - 1) → (k ≡ 0) ⊎ (k ≡ 1) → tallied m k ≡ min (n + k) (2 ^ 64 - 1)
 tallied-more m n k is (inl none) = ap (tallied m) none ∙ (let e : m ≡ min (n + k) (2 ^ 64 - 1) = omega (arith, is, none) in e)
 tallied-more m n k is (inr one) = ap (tallied m) one ∙ (let e : raised m ≡ min (n + k) (2 ^ 64 - 1) = omega (arith, is, one) in e)
-
-module _ {S Rest : Type 0} (acts : Acts S Rest) where
-  -- what came is this
-  pub serves_so : (place subject : ℕ) (o out : Out S) (held : List (Attachment S)) (gone : List (Attachment S × Why)) (kept : List (Kept S)) (away : List (PutAway Rest))
-      (misses misses_after taken taken_after : ℕ) (events : List (ℕ × Event)) (back : Option S) → out ≡ o
-      → (mark : Mark) → Did acts (out_change place subject o mark held) gone kept away events → misses_after ≡ tallied misses (out_change place subject o mark held).missed
-      → taken_after ≡ tallied taken (out_change place subject o mark held).took → back ≡ out_unserved subject o mark held
-      → (m : Mark) × Did acts (out_change place subject out m held) gone kept away events × (misses_after ≡ tallied misses (out_change place subject out m held).missed)
-      × (taken_after ≡ tallied taken (out_change place subject out m held).took) × (back ≡ out_unserved subject out m held)
-  serves_so place subject o out held gone kept away misses misses_after taken taken_after events back is mark did missed took unserved =
-      subst (λ (u : Out S). (m : Mark) × Did acts (out_change place subject u m held) gone kept away events × (misses_after ≡ tallied misses (out_change place subject u m held).missed)
-      × (taken_after ≡ tallied taken (out_change place subject u m held).took) × (back ≡ out_unserved subject u m held))
-      (sym is) (mark, did, missed, took, unserved)
 
 -- WHAT THE PORTS HAVE PUT
 
@@ -366,7 +253,7 @@ module _ {S Rest : Type 0} (acts : Acts S Rest) where
   -- a letter of a subject before that
   pub stands_served : (leave : ℕ) (log : Log S) (from : ℕ) (out : Out S) (before after : DrainerView S Rest) (ended a b : List (Outgoing (Call S))) (events : List Event) (back : Option S)
       → ended ≡ [] → before.ports ≡ ended ++ a → after.ports ≡ ended ++ b → before.left ≡ false → after.left ≡ false → before.fault ≡ None → (from == leave) ≡ false
-      → ServesOut acts from out before.kept after.kept before.away after.away before.misses after.misses before.taken after.taken events back
+      → ((place : ℕ) → Tends acts (service_of place from out) from (sinks before.kept before.away before.misses before.taken) (sinks after.kept after.away after.misses after.taken) events back)
       → SendsEvents after.fault (map (λ event. (from, event)) events) a b
       → Stands acts leave log before → (mark : Mark) × Stands acts leave (Next log (letter from (Body out)) mark) after
   stands_served leave log from out before after ended a b events back none before_ports after_ports left_is left_after whole test serves sends s =
@@ -397,11 +284,11 @@ module _ {S Rest : Type 0} (acts : Acts S Rest) where
   pub stands_flushed : (leave : ℕ) (log : Log S) (subject who : ℕ) (before after : DrainerView S Rest) (ended a b : List (Outgoing (Call S))) (events : List Event)
       → ended ≡ [] → before.ports ≡ ended ++ a → after.ports ≡ ended ++ b → before.left ≡ false → after.left ≡ false → before.fault ≡ None
       → after.misses ≡ before.misses → after.taken ≡ before.taken
-      → FlushesOne acts subject who before.kept after.kept before.away after.away events
+      → ((misses taken : ℕ) → Tends acts (flushing subject who) subject (sinks before.kept before.away misses taken) (sinks after.kept after.away misses taken) events None)
       → SendsEvents after.fault (map (λ event. (subject, event)) events) a b
       → Stands acts leave log before → (mark : Mark) × Stands acts leave (Flush log subject who mark) after
   stands_flushed leave log subject who before after ended a b events none before_ports after_ports left_is left_after whole same_misses same_taken flushes sends s =
-      let did = flushes (kept_in leave log) (gone_in leave log) s.sinks in
+      let did = flushes before.misses before.taken (kept_in leave log) (gone_in leave log) s.sinks in
       let mark = did.0 in
       let c = flush_change leave log subject who mark in
       let no_miss : c.missed ≡ 0 = missed_flushed mark subject who (kept_for subject who (kept_in leave log)) (kept_in leave log) in

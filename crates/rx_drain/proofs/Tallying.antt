@@ -7,8 +7,8 @@ use Rattle.rx_note.specs.declared.note.Note.{Note}
 use Rattle.rx_pump.specs.declared.out.Out.{Out}
 use Rattle.rx_pump.specs.declared.out.Out.TheVariants.{Attach, Give, Detach}
 use Rattle.rx_sink.specs.declared.flow.Flow.{Flow}
-use Rattle.rx_sink.specs.Attachments.{Attachment, Why, Mark, Fine, Fault, NoMemory, Change, is_clear, is_held_back, is_last, is_of, kept_for, without, replaced, with_note, with_flush, paid, attached, given, settled, serving, served_yet, flushed, written, detached, let_go, closed}
-use Rattle.rx_drain.specs.Logs.{Log, NoLetters, Next, Flush, letters, has_left, brought, letter_change, kept_in, change, flush_change, gone_in, taken_in}
+use Rattle.rx_sink.specs.Attachments.{Attachment, Why, Mark, Fine, Fault, NoMemory, Change, is_clear, is_held_back, is_last, is_of, kept_for, without, replaced, with_note, with_flush, paid, attached, given, settled, serving, served_yet, flushed, written, detached, let_go, closed, brought}
+use Rattle.rx_drain.specs.Logs.{Log, NoLetters, Next, Flush, letters, has_left, letter_change, kept_in, change, flush_change, gone_in, taken_in}
 use Rattle.rx_drain.proofs.Changing.{post_change}
 use Rattle.rx_drain.specs.Tallies.{notes_taken, notes_of_ended}
 use Rattle.rx_drain.proofs.Taking.{some_split}

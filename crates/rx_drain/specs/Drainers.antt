@@ -10,14 +10,14 @@ use Rattle.rx_pump.specs.Pumps.{AreSame, counted}
 use Rattle.rx_sink.specs.declared.kept.Kept.{Kept}
 use Rattle.rx_sink.specs.declared.put_away.PutAway.{PutAway}
 use Rattle.rx_sink.specs.Acts.{Acts}
-use Rattle.rx_sink.specs.Attachments.{Attachment, Why, Mark}
-use Rattle.rx_sink.specs.Stands.{Stand, Did, addressed, tallied}
+use Rattle.rx_sink.specs.Attachments.{Mark}
+use Rattle.rx_sink.specs.Stands.{Stand, addressed}
 use Rattle.rx_drain.specs.declared.drain_fault.DrainFault.{DrainFault}
 use Rattle.rx_drain.specs.declared.drain_fault.DrainFault.TheVariants.{InboxGone, SubjectGone}
 use Rattle.rx_drain.specs.declared.drainer_left.DrainerLeft.{DrainerLeft}
 use Rattle.rx_drain.specs.Credit.{AreAllPaid}
 use Rattle.rx_drain.specs.Calls.{calls_to}
-use Rattle.rx_drain.specs.Logs.{Log, Next, Flush, letters, has_left, out_change, out_unserved, kept_in, gone_in, sent_in, missed_in, taken_in, put_by}
+use Rattle.rx_drain.specs.Logs.{Log, Next, Flush, letters, has_left, kept_in, gone_in, sent_in, missed_in, taken_in, put_by}
 
 -- a drainer: its inbox, its ports to subjects in their order, ended or not, the sinks that it keeps, what those left that it
 -- put away, how many sinks found no memory, how many notes they took, whether it was told to leave, and the fault that it
@@ -125,15 +125,6 @@ module _ {S Rest : Type 0} (acts : Acts S Rest) where
   IsDrained view = (log : Log S) × Drains view log × (view.fault ≡ None → AreAllPaid (length view.ports) log)
 
   -- ONE LETTER
-
-  -- a letter of a subject came to the sinks, and a sink that it leaves unserved came back
-  abbrev pub ServesOut : ℕ → Out S → List (Kept S) → List (Kept S) → List (PutAway Rest) → List (PutAway Rest) → ℕ → ℕ → ℕ → ℕ → List Event → Option S → Type 0
-  ServesOut subject out kept kept_after away away_after misses misses_after taken taken_after events back =
-      (place : ℕ) (held : List (Attachment S)) (gone : List (Attachment S × Why)) → Stand acts held gone kept away
-      → (mark : Mark) × Did acts (out_change place subject out mark held) gone kept_after away_after (map (λ event. (subject, event)) events)
-      × (misses_after ≡ tallied misses (out_change place subject out mark held).missed)
-      × (taken_after ≡ tallied taken (out_change place subject out mark held).took)
-      × (back ≡ out_unserved subject out mark held)
 
   -- a sink, if there is one, was finished, and this is what it left
   abbrev pub Finishes : Option S → Option Rest → Type 0

@@ -10,7 +10,7 @@ use Rattle.rx_pump.specs.declared.call.Call.{Call}
 use Rattle.rx_pump.specs.declared.out.Out.{Out}
 use Rattle.rx_pump.specs.declared.out.Out.TheVariants.{Attach, Give, Detach}
 use Rattle.rx_pump.specs.Sends.{posts}
-use Rattle.rx_sink.specs.Attachments.{Attachment, Why, Mark, Sent, Change, kept_for, unserved, attached, given, flushed, detached, left, unchanged}
+use Rattle.rx_sink.specs.Attachments.{Attachment, Why, Mark, Sent, Change, Service, attaching, detaching, flushed, giving, kept_for, left, unchanged}
 use Rattle.rx_sink.specs.Stands.{addressed}
 use Rattle.rx_drain.specs.Calls.{calls_to}
 
@@ -41,21 +41,15 @@ module _ {S : Type 0} where
   sink_in (Give who note) = None
   sink_in (Detach who) = None
 
-  -- the attachment that an Attach at this place makes
-  abbrev pub brought : ℕ → ℕ → ℕ → S → Attachment S
-  brought place subject who sink = record { place = place; subject = subject; who = who; sink = sink; taken = []; due = 0; over = false; last = None }
+  -- what comes to the sinks by what a subject sends, at this place
+  abbrev pub service_of : ℕ → ℕ → Out S → Service S
+  service_of place subject (Attach who sink) = attaching place subject who sink
+  service_of place subject (Give who note) = giving subject who note
+  service_of place subject (Detach who) = detaching subject who
 
   -- what a subject sends, at this place
   abbrev pub out_change : ℕ → ℕ → Out S → Mark → List (Attachment S) → Change S
-  out_change place subject (Attach who sink) mark kept = attached mark (brought place subject who sink) (kept_for subject who kept) kept
-  out_change place subject (Give who note) mark kept = given mark subject who note (kept_for subject who kept) kept
-  out_change place subject (Detach who) mark kept = detached subject who (kept_for subject who kept) kept
-
-  -- the sink that this leaves unserved
-  abbrev pub out_unserved : ℕ → Out S → Mark → List (Attachment S) → Option S
-  out_unserved subject (Attach who sink) mark kept = unserved mark sink (kept_for subject who kept)
-  out_unserved subject (Give who note) mark kept = None
-  out_unserved subject (Detach who) mark kept = None
+  out_change place subject out mark kept = (service_of place subject out).changed mark kept
 
   -- what the leave port sends: only its Bye counts
   abbrev pub leave_change : Post (Out S) → List (Attachment S) → Change S

@@ -1,8 +1,8 @@
 // What a letter of a subject does to the sinks.
-ghost use Rattle.std.specs.Prelude.{◌≡◌, ◌+◌, ◌≤◌, vec_len, vec_capacity};
-ghost use Rattle.rx_sink.specs.Stands.{events_of};
-ghost use Rattle.rx_drain.specs.Drainers.{Finishes, ServesOut};
-ghost use Rattle.rx_drain.specs.Logs.{sink_in};
+ghost use Rattle.std.specs.Prelude.{◌≡◌, ◌+◌, ◌≤◌, ℕ, vec_len, vec_capacity};
+ghost use Rattle.rx_sink.specs.Stands.{Tends, events_of, sinks};
+ghost use Rattle.rx_drain.specs.Drainers.{Finishes};
+ghost use Rattle.rx_drain.specs.Logs.{service_of, sink_in};
 
 use rx_heap::Heap;
 use rx_pump::Out;
@@ -20,7 +20,8 @@ pub fn serve_out<S: Sink>(
 ) -> (Asks, Option<S>)
     requires room { vec_len away.old + vec_len kept.old ≤ vec_capacity away.old }
     ensures room { vec_len away.new + vec_len kept.new ≤ vec_capacity away.new }
-    ensures serves { ServesOut S.acts subject out kept.old.items kept.new.items away.old.items away.new.items places.old.misses places.new.misses taken.old taken.new (events_of result.0) result.1 }
+    ensures serves { (place : ℕ) → Tends S.acts (service_of place subject out) subject
+        (sinks kept.old.items away.old.items places.old.misses taken.old) (sinks kept.new.items away.new.items places.new.misses taken.new) (events_of result.0) result.1 }
 {
     match out {
         Out::Attach { who, sink } => attach(kept, away, places, subject, who, sink),

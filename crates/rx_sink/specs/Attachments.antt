@@ -153,6 +153,10 @@ module _ {S : Type 0} where
   joined Fault a kept = record { kept = kept; gone = (a, FailedAtStart) ∷ []; sends = dispose a ∷ []; missed = 0; took = 0 }
   joined NoMemory a kept = record { kept = kept; gone = []; sends = dispose a ∷ []; missed = 1; took = 0 }
 
+  -- the attachment that an Attach at this place makes
+  abbrev pub brought : ℕ → ℕ → ℕ → S → Attachment S
+  brought place subject who sink = record { place = place; subject = subject; who = who; sink = sink; taken = []; due = 0; over = false; last = None }
+
   -- a sink comes: it is left unserved while one is kept for its observer
   abbrev pub attached : Mark → Attachment S → Option (Attachment S) → List (Attachment S) → Change S
   attached mark a (Some other) kept = unchanged kept
@@ -232,3 +236,28 @@ module _ {S : Type 0} where
   -- the drainer was told to leave: all are put away, and each observer is disposed of
   abbrev pub left : List (Attachment S) → Change S
   left kept = record { kept = []; gone = closed kept; sends = partings kept; missed = 0; took = 0 }
+
+-- what comes to the sinks: how it changes the attachments, by its mark, and which sink it leaves unserved
+pub record Service (S : Type 0) : Type 0 where
+  pub changed : Mark → List (Attachment S) → Change S
+  pub unserved : Mark → List (Attachment S) → Option S
+
+module _ {S : Type 0} where
+  -- a sink comes, by an Attach at this place
+  abbrev pub attaching : ℕ → ℕ → ℕ → S → Service S
+  attaching place subject who sink = record {
+    changed = λ mark held. attached mark (brought place subject who sink) (kept_for subject who held) held;
+    unserved = λ mark held. unserved mark sink (kept_for subject who held);
+  }
+
+  -- a note comes for an observer
+  abbrev pub giving : ℕ → ℕ → Note → Service S
+  giving subject who note = record { changed = λ mark held. given mark subject who note (kept_for subject who held) held; unserved = λ mark held. None }
+
+  -- the sink of an observer is flushed
+  abbrev pub flushing : ℕ → ℕ → Service S
+  flushing subject who = record { changed = λ mark held. flushed mark subject who (kept_for subject who held) held; unserved = λ mark held. None }
+
+  -- an observer left
+  abbrev pub detaching : ℕ → ℕ → Service S
+  detaching subject who = record { changed = λ mark held. detached subject who (kept_for subject who held) held; unserved = λ mark held. None }

@@ -10,7 +10,18 @@ use Rattle.rx_sink.specs.declared.kept.Kept.{Kept}
 use Rattle.rx_sink.specs.declared.put_away.PutAway.{PutAway}
 use Rattle.rx_sink.specs.declared.sink.SinkFault.{SinkFault}
 use Rattle.rx_sink.specs.Acts.{Acts, Took, raised}
-use Rattle.rx_sink.specs.Attachments.{Attachment, Why, TookLast, Detached, Closed, FailedAtStart, FailedAt, FailedAtFlush, Mark, Sent, Change, Apart, is_clear, is_for, is_held_back, is_last, may_wait, kept_for, unserved, attached, given, flushed, detached}
+use Rattle.rx_sink.specs.Attachments.{Attachment, Why, TookLast, Detached, Closed, FailedAtStart, FailedAt, FailedAtFlush, Mark, Sent, Change, Service, Apart, is_clear, is_for, is_held_back, is_last, may_wait}
+
+-- the sinks of a drainer: those that are kept, what those left that were put away, how many found no memory, and how many notes
+-- they took
+pub record Sinks (S Rest : Type 0) : Type 0 where
+  pub kept : List (Kept S)
+  pub away : List (PutAway Rest)
+  pub misses : ℕ
+  pub taken : ℕ
+
+abbrev pub sinks : {S Rest : Type 0} → List (Kept S) → List (PutAway Rest) → ℕ → ℕ → Sinks S Rest
+sinks kept away misses taken = record { kept = kept; away = away; misses = misses; taken = taken }
 
 -- the events that were sent, each with its subject
 abbrev pub addressed : List Sent → List (ℕ × Event)
@@ -77,33 +88,15 @@ module _ {S Rest : Type 0} (acts : Acts S Rest) where
 
   -- WHAT THE CALLS DO
 
-  -- a sink came: for all attachments for which the lists stood there is a mark, such that they were changed by its rule, and a
-  -- sink that it leaves unserved came back
-  abbrev pub Attaches : ℕ → ℕ → S → List (Kept S) → List (Kept S) → List (PutAway Rest) → List (PutAway Rest) → ℕ → ℕ → List Event → Option S → Type 0
-  Attaches subject who sink kept kept_after away away_after misses misses_after events back =
-      (place : ℕ) (held : List (Attachment S)) (gone : List (Attachment S × Why)) → Stand held gone kept away
-      → (mark : Mark) × (let change = attached mark (record { place = place; subject = subject; who = who; sink = sink; taken = []; due = 0; over = false; last = None }) (kept_for subject who held) held in
-      Did change gone kept_after away_after (map (λ event. (subject, event)) events) × (misses_after ≡ tallied misses change.missed))
-      × (back ≡ unserved mark sink (kept_for subject who held))
-
-  -- a note came
-  abbrev pub Gives : ℕ → ℕ → Note → List (Kept S) → List (Kept S) → List (PutAway Rest) → List (PutAway Rest) → ℕ → ℕ → List Event → Type 0
-  Gives subject who note kept kept_after away away_after taken taken_after events =
-      (held : List (Attachment S)) (gone : List (Attachment S × Why)) → Stand held gone kept away
-      → (mark : Mark) × (let change = given mark subject who note (kept_for subject who held) held in
-      Did change gone kept_after away_after (map (λ event. (subject, event)) events) × (taken_after ≡ tallied taken change.took))
-
-  -- the sink of an observer was flushed
-  abbrev pub FlushesOne : ℕ → ℕ → List (Kept S) → List (Kept S) → List (PutAway Rest) → List (PutAway Rest) → List Event → Type 0
-  FlushesOne subject who kept kept_after away away_after events =
-      (held : List (Attachment S)) (gone : List (Attachment S × Why)) → Stand held gone kept away
-      → (mark : Mark) × Did (flushed mark subject who (kept_for subject who held) held) gone kept_after away_after (map (λ event. (subject, event)) events)
-
-  -- an observer left
-  abbrev pub Detaches : ℕ → ℕ → List (Kept S) → List (Kept S) → List (PutAway Rest) → List (PutAway Rest) → List Event → Type 0
-  Detaches subject who kept kept_after away away_after events =
-      (held : List (Attachment S)) (gone : List (Attachment S × Why)) → Stand held gone kept away
-      → Did (detached subject who (kept_for subject who held) held) gone kept_after away_after (map (λ event. (subject, event)) events)
+  -- the sinks were served so: for all attachments for which they stood there is a mark, such that these were changed by it, the
+  -- counts rose by what it tells, these events are what their subject is to be sent, and a sink that is left unserved came back
+  abbrev pub Tends : Service S → ℕ → Sinks S Rest → Sinks S Rest → List Event → Option S → Type 0
+  Tends service subject before after events back =
+      (held : List (Attachment S)) (gone : List (Attachment S × Why)) → Stand held gone before.kept before.away
+      → (mark : Mark) × Did (service.changed mark held) gone after.kept after.away (map (λ event. (subject, event)) events)
+      × (after.misses ≡ tallied before.misses (service.changed mark held).missed)
+      × (after.taken ≡ tallied before.taken (service.changed mark held).took)
+      × (back ≡ service.unserved mark held)
 
   -- ONE SINK
 

@@ -1,9 +1,9 @@
 // What a letter or a flush does to the sinks that are kept and to those that were put away.
-ghost use Rattle.std.specs.Prelude.{◌≡◌, if◌then◌else◌, ◌+◌, ◌<◌, ◌≤◌, [], ◌++◌, List, None, IfSome, length, vec_len, vec_capacity};
+ghost use Rattle.std.specs.Prelude.{◌≡◌, if◌then◌else◌, ◌+◌, ◌<◌, ◌≤◌, ℕ, [], ◌++◌, List, None, IfSome, length, vec_len, vec_capacity};
 ghost use Rattle.std.specs.List.{position};
 ghost use Rattle.rx_sink.specs.Acts.{raised};
-ghost use Rattle.rx_sink.specs.Attachments.{Attachment, Why, closed, is_for};
-ghost use Rattle.rx_sink.specs.Stands.{Attaches, Gives, FlushesOne, Detaches, EndsAct, IsKeptAt, Parts, Pushes, Stand, events_of};
+ghost use Rattle.rx_sink.specs.Attachments.{Attachment, Why, attaching, closed, detaching, flushing, giving, is_for};
+ghost use Rattle.rx_sink.specs.Stands.{EndsAct, IsKeptAt, Parts, Pushes, Stand, Tends, events_of, sinks};
 
 use crate::{Asks, Kept, Places, PutAway, Sink, SinkFault};
 use rx_heap::Heap;
@@ -23,7 +23,8 @@ pub fn attach<S: Sink>(
 ) -> (Asks, Option<S>)
     requires room { vec_len away.old + vec_len kept.old ≤ vec_capacity away.old }
     ensures room { vec_len away.new + vec_len kept.new ≤ vec_capacity away.new }
-    ensures attaches { Attaches S.acts subject who sink kept.old.items kept.new.items away.old.items away.new.items places.old.misses places.new.misses (events_of result.0) result.1 }
+    ensures attaches { (place taken : ℕ) → Tends S.acts (attaching place subject who sink) subject
+        (sinks kept.old.items away.old.items places.old.misses taken) (sinks kept.new.items away.new.items places.new.misses taken) (events_of result.0) result.1 }
 {
     if let Some(_place) = find(kept.as_slice(), who as usize, subject, who) {
         return (Asks::nothing(who), Some(sink));
@@ -66,7 +67,8 @@ pub fn give<S: Sink>(
 ) -> Asks
     requires room { vec_len away.old + vec_len kept.old ≤ vec_capacity away.old }
     ensures room { vec_len away.new + vec_len kept.new ≤ vec_capacity away.new }
-    ensures gives { Gives S.acts subject who note kept.old.items kept.new.items away.old.items away.new.items taken.old taken.new (events_of result) }
+    ensures gives { (misses : ℕ) → Tends S.acts (giving subject who note) subject
+        (sinks kept.old.items away.old.items misses taken.old) (sinks kept.new.items away.new.items misses taken.new) (events_of result) None }
 {
     let Some(place) = find(kept.as_slice(), who as usize, subject, who) else {
         return Asks::nothing(who);
@@ -92,7 +94,8 @@ pub fn flush_one<S: Sink>(
     requires room { vec_len away.old + vec_len kept.old ≤ vec_capacity away.old }
     ensures room { vec_len away.new + vec_len kept.new ≤ vec_capacity away.new }
     ensures len { vec_len kept.old ≤ vec_len kept.new + 1 }
-    ensures flushes { FlushesOne S.acts subject who kept.old.items kept.new.items away.old.items away.new.items (events_of result) }
+    ensures flushes { (misses taken : ℕ) → Tends S.acts (flushing subject who) subject
+        (sinks kept.old.items away.old.items misses taken) (sinks kept.new.items away.new.items misses taken) (events_of result) None }
 {
     let Some(place) = find(kept.as_slice(), near, subject, who) else {
         return Asks::nothing(who);
@@ -111,7 +114,8 @@ pub fn detach<S: Sink>(
 ) -> Asks
     requires room { vec_len away.old + vec_len kept.old ≤ vec_capacity away.old }
     ensures room { vec_len away.new + vec_len kept.new ≤ vec_capacity away.new }
-    ensures detaches { Detaches S.acts subject who kept.old.items kept.new.items away.old.items away.new.items (events_of result) }
+    ensures detaches { (misses taken : ℕ) → Tends S.acts (detaching subject who) subject
+        (sinks kept.old.items away.old.items misses taken) (sinks kept.new.items away.new.items misses taken) (events_of result) None }
 {
     let Some(place) = find(kept.as_slice(), who as usize, subject, who) else {
         return Asks::nothing(who);

@@ -1,23 +1,23 @@
-use Rattle.std.proofs.Common.{sym, refl, ap, None}
-use Rattle.rx_pump.specs.declared.out.Out.TheVariants.{Attach, Detach}
-use Rattle.rx_sink.specs.Attachments.{Fault, kept_for}
-use Rattle.rx_sink.specs.Stands.{tallied}
-use Rattle.rx_drain.specs.Logs.{brought}
-use Rattle.rx_drain.proofs.Standing.{missed_detached, took_attached, took_detached, serves_so}
+use Rattle.std.proofs.Common.{sym, subst, None}
+use Rattle.rx_pump.specs.declared.out.Out.{Out}
+use Rattle.rx_sink.specs.Stands.{Tends, events_of, sinks}
+use Rattle.rx_drain.specs.Logs.{service_of}
 use Rattle.rx_drain.proofs.serving_out.serve_out.Goals as goal
 
 pub returns-in-Attach-clause-serves : goal.returns-in-Attach-clause-serves
-returns-in-Attach-clause-serves g c = λ place held gone stand.
-    let did = c.attach.ensures.attaches place held gone stand in
-    serves_so g.S.Sink.acts place c.args.subject (Attach c.in-Attach.who c.in-Attach.sink) c.args.out held gone c.attach.new.kept.items c.attach.new.away.items
-    c.args.places.now.misses c.attach.new.places.misses c.args.taken.now c.args.taken.now _ c.attach.result.1 c.in-Attach.is did.0 did.1.0 did.1.1
-    (sym (ap (tallied c.args.taken.now) (took_attached did.0 (brought place c.args.subject c.in-Attach.who c.in-Attach.sink) (kept_for c.args.subject c.in-Attach.who held) held)))
-    did.2
+returns-in-Attach-clause-serves g c = λ place.
+    subst (λ (out : Out _). Tends g.S.Sink.acts (service_of place c.args.subject out) c.args.subject
+    (sinks c.args.kept.now.items c.args.away.now.items c.args.places.now.misses c.args.taken.now) (sinks c.attach.new.kept.items c.attach.new.away.items c.attach.new.places.misses c.args.taken.now) (events_of c.attach.result.0) c.attach.result.1)
+    (sym c.in-Attach.is) (c.attach.ensures.attaches place c.args.taken.now)
+
+pub returns-in-Give-clause-serves : goal.returns-in-Give-clause-serves
+returns-in-Give-clause-serves g c = λ place.
+    subst (λ (out : Out _). Tends g.S.Sink.acts (service_of place c.args.subject out) c.args.subject
+    (sinks c.args.kept.now.items c.args.away.now.items c.args.places.now.misses c.args.taken.now) (sinks c.give.new.kept.items c.give.new.away.items c.args.places.now.misses c.give.new.taken) (events_of c.give.result) None)
+    (sym c.in-Give.is) (c.give.ensures.gives c.args.places.now.misses)
 
 pub returns-in-Detach-clause-serves : goal.returns-in-Detach-clause-serves
-returns-in-Detach-clause-serves g c = λ place held gone stand.
-    serves_so g.S.Sink.acts place c.args.subject (Detach c.in-Detach.who) c.args.out held gone c.detach.new.kept.items c.detach.new.away.items
-    c.args.places.now.misses c.args.places.now.misses c.args.taken.now c.args.taken.now _ None c.in-Detach.is Fault (c.detach.ensures.detaches held gone stand)
-    (sym (ap (tallied c.args.places.now.misses) (missed_detached c.args.subject c.in-Detach.who (kept_for c.args.subject c.in-Detach.who held) held)))
-    (sym (ap (tallied c.args.taken.now) (took_detached c.args.subject c.in-Detach.who (kept_for c.args.subject c.in-Detach.who held) held)))
-    refl
+returns-in-Detach-clause-serves g c = λ place.
+    subst (λ (out : Out _). Tends g.S.Sink.acts (service_of place c.args.subject out) c.args.subject
+    (sinks c.args.kept.now.items c.args.away.now.items c.args.places.now.misses c.args.taken.now) (sinks c.detach.new.kept.items c.detach.new.away.items c.args.places.now.misses c.args.taken.now) (events_of c.detach.result) None)
+    (sym c.in-Detach.is) (c.detach.ensures.detaches c.args.places.now.misses c.args.taken.now)

@@ -1,33 +1,42 @@
-use Rattle.std.proofs.Common.{◌∙◌, sym, ap, subst, if◌then◌else◌, MatchResult}
+use Rattle.std.proofs.Common.{◌∙◌, sym, refl, ap, subst, if◌then◌else◌, MatchResult}
 use Rattle.std.specs.List.{position}
 use Rattle.rx_sink.specs.declared.kept.Kept.{Kept}
 use Rattle.rx_sink.specs.Acts.{raised}
-use Rattle.rx_sink.specs.Attachments.{Fault, is_for}
-use Rattle.rx_sink.specs.Stands.{IsKeptAt, TakesNote, FaultedAt}
+use Rattle.rx_sink.specs.Attachments.{Fault, is_for, kept_for}
+use Rattle.rx_sink.specs.Stands.{IsKeptAt, TakesNote, FaultedAt, tallied}
+use Rattle.rx_sink.proofs.Counts.{missed_given}
 use Rattle.rx_sink.proofs.Finding.{located, missing}
 use Rattle.rx_sink.proofs.Tending.{given_one, given_over, given_nobody, same_one}
 use Rattle.rx_sink.proofs.keeping.give.Goals as goal
 
 pub returns-in_default-clause-gives : goal.returns-in_default-clause-gives
-returns-in_default-clause-gives g c = λ held gone stand.
-    let none = ap (position (is_for c.args.subject c.args.who)) (sym c.as_slice.ensures.value) ∙ c.find.ensures.none c.in_default.is in (
+returns-in_default-clause-gives g c = λ misses held gone stand.
+    let none = ap (position (is_for c.args.subject c.args.who)) (sym c.as_slice.ensures.value) ∙ c.find.ensures.none c.in_default.is in
+    let did = given_nobody g.S.Sink.acts c.args.taken.now c.args.subject c.args.who held gone c.args.kept.now.items c.args.away.now.items c.args.note c.nothing.result
+    stand (missing g.S.Sink.acts c.args.subject c.args.who held c.args.kept.now.items stand.kept_are none) c.nothing.ensures in (
       Fault,
-      given_nobody g.S.Sink.acts c.args.taken.now c.args.subject c.args.who held gone c.args.kept.now.items c.args.away.now.items c.args.note c.nothing.result
-          stand (missing g.S.Sink.acts c.args.subject c.args.who held c.args.kept.now.items stand.kept_are none) c.nothing.ensures,
+      did.0,
+      sym (ap (tallied misses) (missed_given Fault c.args.subject c.args.who c.args.note (kept_for c.args.subject c.args.who held) held)),
+      did.1,
+      refl,
     )
 
 pub returns-then-index-clause-gives : goal.returns-then-index-clause-gives
-returns-then-index-clause-gives g c = λ held gone stand.
+returns-then-index-clause-gives g c = λ misses held gone stand.
     let here = subst (IsKeptAt c.args.subject c.args.who c.in-Some.place) c.as_slice.ensures.value c.in-Some.ensures.found in
     let f = located g.S.Sink.acts c.args.subject c.args.who held c.args.kept.now.items c.in-Some.place here.0 stand.kept_are stand.apart here.1 here.2 in
-    let same = same_one c.args.kept.now.items c.in-Some.place f.one c.index.result.now f.at c.index.ensures in (
+    let same = same_one c.args.kept.now.items c.in-Some.place f.one c.index.result.now f.at c.index.ensures in
+    let did = given_over g.S.Sink.acts c.args.subject c.args.who c.in-Some.place held gone c.args.kept.now.items c.args.away.now.items stand f c.args.taken.now c.args.note c.nothing-then-index.result
+    (ap (λ (k : Kept _). k.over) same ∙ c.if-index.true) c.nothing-then-index.ensures in (
       Fault,
-      given_over g.S.Sink.acts c.args.subject c.args.who c.in-Some.place held gone c.args.kept.now.items c.args.away.now.items stand f c.args.taken.now c.args.note c.nothing-then-index.result
-          (ap (λ (k : Kept _). k.over) same ∙ c.if-index.true) c.nothing-then-index.ensures,
+      did.0,
+      sym (ap (tallied misses) (missed_given Fault c.args.subject c.args.who c.args.note (kept_for c.args.subject c.args.who held) held)),
+      did.1,
+      refl,
     )
 
 pub returns-clause-gives : goal.returns-clause-gives
-returns-clause-gives g c = λ held gone stand.
+returns-clause-gives g c = λ misses held gone stand.
     let here = subst (IsKeptAt c.args.subject c.args.who c.in-Some.place) c.as_slice.ensures.value c.in-Some.ensures.found in
     let f = located g.S.Sink.acts c.args.subject c.args.who held c.args.kept.now.items c.in-Some.place here.0 stand.kept_are stand.apart here.1 here.2 in
     let read = same_one c.args.kept.now.items c.in-Some.place f.one c.index.result.now f.at c.index.ensures in
@@ -40,5 +49,8 @@ returns-clause-gives g c = λ held gone stand.
     (c.take-took.ensures.subject ∙ ap (λ (k : Kept _). k.subject) (sym same)) (c.take-took.ensures.who ∙ ap (λ (k : Kept _). k.who) (sym same))
     c.end_act.ensures.ends in (
       did.0,
-      (did.1, c.tallied.ensures ∙ ap (λ b. if b then raised c.args.taken.now else c.args.taken.now) c.is_ok.ensures.value ∙ did.2),
+      did.1,
+      sym (ap (tallied misses) (missed_given did.0 c.args.subject c.args.who c.args.note (kept_for c.args.subject c.args.who held) held)),
+      c.tallied.ensures ∙ ap (λ b. if b then raised c.args.taken.now else c.args.taken.now) c.is_ok.ensures.value ∙ did.2,
+      refl,
     )
