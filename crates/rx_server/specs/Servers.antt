@@ -29,7 +29,7 @@ use Rattle.rx_server.specs.declared.start_fault.Role.{Role}
 use Rattle.rx_server.specs.declared.start_fault.Role.TheVariants.{Drainer, Pump, Worker}
 use Rattle.rx_server.specs.Ends.{FirstStopped, AreOver}
 use Rattle.rx_server.specs.Returning.{CameTwice, IsFirstUnsettled}
-use Rattle.rx_server.specs.Wirings.{Wiring, IsWired}
+use Rattle.rx_server.specs.Wirings.{Wiring, IsWired, joined_parts}
 
 -- a server: its configuration, its pumps and drainers as they were before their first turn, the ports by which the drainers are
 -- told to leave, all desks that it made, those of them that were not handed out, and those of its workers, ended
@@ -84,7 +84,7 @@ module _ {S Rest : Type 0} where
   pub record IsWhole (server : ServerView S Rest) : Type 0 where
     pub wiring : Wiring S
     pub hubs : List HubView
-    pub wired : IsWired server.config wiring hubs server.pumps server.drainers server.leaves server.made
+    pub wired : IsWired server.config wiring hubs (joined_parts server.pumps server.drainers server.leaves server.made)
     pub handed : List (DeskView S)
     pub parts : server.made ≡ handed ++ server.desks
     pub ended : All (IsEndOf server.made) server.kept
@@ -97,7 +97,7 @@ module _ {S Rest : Type 0} where
   -- a new server of a configuration, with these boxes and hubs: no desk was handed out
   pub record IsServerOf (config : Config) (w : Wiring S) (hubs : List HubView) (server : ServerView S Rest) : Type 0 where
     pub config_is : server.config ≡ config
-    pub wired : IsWired config w hubs server.pumps server.drainers server.leaves server.made
+    pub wired : IsWired config w hubs (joined_parts server.pumps server.drainers server.leaves server.made)
     pub desks_are : server.desks ≡ server.made
     pub none_kept : server.kept ≡ []
 

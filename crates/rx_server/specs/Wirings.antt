@@ -88,13 +88,20 @@ module _ {S : Type 0} where
     pub drainer_capacities : All (λ box. capacity_of box ≡ drainer_capacity config) w.drainers
     pub reply_capacities : All (λ box. capacity_of box ≡ length config.subjects.items) w.replies
 
-  -- the pump of a subject's number: to its box send the desks and then the drainers
-  abbrev pub pump_of : Wiring S → ℕ × (HubView × Box (Call S)) → PumpView S
-  pump_of w x = fresh_pump x.1.0 (incoming x.1.1 (length w.replies + length w.drainers) []) (ports_at x.0 w.drainers) (ports_at x.0 w.replies)
+  -- the pump of the subject of this number, with its hub and its box: to the box send the desks and then the drainers
+  abbrev pub pump_at : Wiring S → ℕ → HubView → Box (Call S) → PumpView S
+  pump_at w number hub box = fresh_pump hub (incoming box (length w.replies + length w.drainers) []) (ports_at number w.drainers) (ports_at number w.replies)
 
-  -- the desk of a number, with the box of its replies
+  -- the desk of this number, with the box of its replies: to the box send the pumps
+  abbrev pub desk_at : Wiring S → ℕ → Box (Reply S) → DeskView S
+  desk_at w number box = fresh_desk (ports_at number w.subjects) (incoming box (length w.subjects) [])
+
+  -- the same of numbered hubs and boxes
+  abbrev pub pump_of : Wiring S → ℕ × (HubView × Box (Call S)) → PumpView S
+  pump_of w x = pump_at w x.0 x.1.0 x.1.1
+
   abbrev pub desk_of : Wiring S → ℕ × Box (Reply S) → DeskView S
-  desk_of w x = fresh_desk (ports_at x.0 w.subjects) (incoming x.1 (length w.subjects) [])
+  desk_of w x = desk_at w x.0 x.1
 
   -- the ports by which the drainers are told to leave: to a drainer's box send the pumps, and last this one
   abbrev pub leave_ports : Wiring S → List (Outgoing (Out S))
@@ -109,9 +116,13 @@ module _ {S : Type 0} where
   desks_of w = map (desk_of w) (enumerate_from 0 w.replies)
 
 module _ {S Rest : Type 0} where
-  -- the drainer of a number, with its box
+  -- the drainer of this number, with its box: to the box send the pumps, and last who tells it to leave
+  abbrev pub drainer_at : Wiring S → ℕ → Box (Out S) → DrainerView S Rest
+  drainer_at w number box = fresh_drainer (incoming box (length w.subjects + 1) []) (ports_at (length w.replies + number) w.subjects)
+
+  -- the same of numbered boxes
   abbrev pub drainer_of : Wiring S → ℕ × Box (Out S) → DrainerView S Rest
-  drainer_of w x = fresh_drainer (incoming x.1 (length w.subjects + 1) []) (ports_at (length w.replies + x.0) w.subjects)
+  drainer_of w x = drainer_at w x.0 x.1
 
   -- the drainers
   abbrev pub drainers_of : Wiring S → List (DrainerView S Rest)
@@ -127,13 +138,22 @@ pub record AreHubsOf (subjects : List SubjectConfig) (hubs : List HubView) : Typ
 
 -- THE WHOLE
 
+-- what boxes join: the pumps, the drainers, the ports by which these are told to leave, and the desks
+pub record Parts (S Rest : Type 0) : Type 0 where
+  pub pumps : List (PumpView S)
+  pub drainers : List (DrainerView S Rest)
+  pub leaves : List (Outgoing (Out S))
+  pub desks : List (DeskView S)
+
 module _ {S Rest : Type 0} where
-  -- pumps, drainers, leave ports and desks are those of a configuration, joined by these boxes and with these hubs; they have
-  -- done nothing yet
-  pub record IsWired (config : Config) (w : Wiring S) (hubs : List HubView) (pumps : List (PumpView S)) (drainers : List (DrainerView S Rest)) (leaves : List (Outgoing (Out S))) (desks : List (DeskView S)) : Type 0 where
+  abbrev pub joined_parts : List (PumpView S) → List (DrainerView S Rest) → List (Outgoing (Out S)) → List (DeskView S) → Parts S Rest
+  joined_parts pumps drainers leaves desks = record { pumps = pumps; drainers = drainers; leaves = leaves; desks = desks }
+
+  -- the parts are those of a configuration, joined by these boxes and with these hubs; they have done nothing yet
+  pub record IsWired (config : Config) (w : Wiring S) (hubs : List HubView) (parts : Parts S Rest) : Type 0 where
     pub boxes : IsSizedFor config w
     pub hubs_are : AreHubsOf config.subjects.items hubs
-    pub pumps_are : pumps ≡ pumps_of w hubs
-    pub drainers_are : drainers ≡ drainers_of w
-    pub leaves_are : leaves ≡ leave_ports w
-    pub desks_are : desks ≡ desks_of w
+    pub pumps_are : parts.pumps ≡ pumps_of w hubs
+    pub drainers_are : parts.drainers ≡ drainers_of w
+    pub leaves_are : parts.leaves ≡ leave_ports w
+    pub desks_are : parts.desks ≡ desks_of w

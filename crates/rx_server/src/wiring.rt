@@ -4,7 +4,7 @@ ghost use Rattle.std.specs.Vec.Iter.{into_iter_items};
 ghost use Rattle.rx_hub.specs.Hubs.{HubView};
 ghost use Rattle.rx_server.specs.OpenBoxes.{AreOpenFor, IsEmptyFor};
 ghost use Rattle.rx_server.specs.Starting.{CannotRun, NoMemoryFor, NoMemoryIn};
-ghost use Rattle.rx_server.specs.Wirings.{IsWired, Wiring, drainer_capacity, most_observers};
+ghost use Rattle.rx_server.specs.Wirings.{IsWired, Wiring, drainer_capacity, joined_parts, most_observers};
 
 use crate::making::{make_desks, make_drainers, make_hubs, make_pumps};
 use crate::opened::{Opened, open_all};
@@ -139,7 +139,7 @@ where
 
 // The parts of the server that a configuration asks for.
 pub(crate) fn wire<S: Sink>(alloc: &Heap, config: &Config) -> Result<Wired<S>, StartFault>
-    ensures wired { IfOk result (λ wired. (w : Wiring S) × (hubs : List HubView) × IsWired config.now w hubs wired.pumps.items wired.drainers.items wired.leaves.items wired.desks.items) }
+    ensures wired { IfOk result (λ wired. (w : Wiring S) × (hubs : List HubView) × IsWired config.now w hubs (joined_parts wired.pumps.items wired.drainers.items wired.leaves.items wired.desks.items)) }
     ensures fault { IfErr result (NoMemoryIn config.now) }
 {
     let mut boxes = open_boxes(alloc, config)?;
@@ -176,7 +176,7 @@ fn join<S: Sink>(
 ) -> Result<(), StartFault>
     requires boxes { (w : Wiring S) × AreOpenFor config.now w boxes.old }
     requires rooms { IsEmptyFor config.now wired.old }
-    ensures wired { OnOk result ((w : Wiring S) × (hubs : List HubView) × IsWired config.now w hubs wired.new.pumps.items wired.new.drainers.items wired.new.leaves.items wired.new.desks.items) }
+    ensures wired { OnOk result ((w : Wiring S) × (hubs : List HubView) × IsWired config.now w hubs (joined_parts wired.new.pumps.items wired.new.drainers.items wired.new.leaves.items wired.new.desks.items)) }
     ensures fault { IfErr result (NoMemoryIn config.now) }
 {
     let hubs = make_hubs(alloc, &config.subjects)?;

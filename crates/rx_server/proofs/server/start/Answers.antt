@@ -7,7 +7,7 @@ use Rattle.rx_config.specs.declared.config.Config.{Config}
 use Rattle.rx_drain.specs.Drainers.{DrainerView}
 use Rattle.rx_server.specs.declared.start_fault.Role.TheVariants.{Pump, Worker}
 use Rattle.rx_server.specs.Servers.{IsEndOf, IsWhole, server_of}
-use Rattle.rx_server.specs.Wirings.{IsWired, desk_of, drainer_of, pump_of}
+use Rattle.rx_server.specs.Wirings.{IsWired, desk_of, drainer_of, joined_parts, pump_of}
 use Rattle.rx_server.proofs.Joining.{Rooms-as, hubs-count, made-count, mapped-count, zip-count}
 use Rattle.rx_server.proofs.StartFaults.{memory-for, start-memory, start-run}
 use Rattle.rx_server.proofs.server.start.Goals as goal
@@ -75,7 +75,7 @@ returns-clause-started g c =
       hubs,
       record {
         config_is = c.in_ok-heap.ensures.shared;
-        wired = subst (λ (config : Config). IsWired config w hubs c.in_ok-running.running.pumps.items (map (λ drainer. drainer.handle.promise.0.value) c.in_ok-running.running.drainers.items) c.into_ends-leaves.result.0.items c.of-made.result.value.items) refl
+        wired = subst (λ (config : Config). IsWired config w hubs (joined_parts c.in_ok-running.running.pumps.items (map (λ drainer. drainer.handle.promise.0.value) c.in_ok-running.running.drainers.items) c.into_ends-leaves.result.0.items c.of-made.result.value.items)) refl
             (record {
               boxes = wired.boxes;
               hubs_are = wired.hubs_are;
