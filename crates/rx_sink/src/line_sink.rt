@@ -20,13 +20,14 @@ const MOST_AHEAD: u32 = 48;
 #[derive(Drop)]
 pub struct LineSink<W: Write + Drop> {
     writer: W,
-    version: Version,
     notes: u64,
     faults: u64,
+    // How many lines were written since nothing waited. What is small stands last and together, so that the sink is: it travels in
+    // letters, and each letter of its kind has room for one.
+    ahead: u32,
+    version: Version,
     // The writer gathers what it is given, and sends it when it is flushed.
     gathers: bool,
-    // How many lines were written since nothing waited.
-    ahead: u32,
     // A flush found that something waits which can't go out.
     stuck: bool,
 }
