@@ -1,12 +1,12 @@
 -- A sink whose count of faults stayed took all that it was to be served.
-use Rattle.std.proofs.Common.{◌≡◌, ℕ, ◌-◌, ◌^◌, ◌<◌, List, [], ◌∷◌, arith}
+use Rattle.std.proofs.Common.{◌≡◌, ◌-◌, ◌^◌, ◌<◌, List, [], ◌∷◌, arith}
 use Rattle.std.specs.List.{AllByRecursion}
 use Rattle.rx_note.specs.declared.note.Note.{Note}
 use Rattle.rx_sink.specs.Acts.{Acts}
 use Rattle.rx_sink.specs.Attachments.{Attachment, Why, TookLast, Detached, Closed, FailedAtStart, FailedAt, FailedAtFlush}
 use Rattle.rx_sink.specs.Stands.{Last}
 use Rattle.rx_sink.proofs.Taking.{tells_faults}
-use Rattle.rx_drain.specs.Logs.{Log, letters, gone_in}
+use Rattle.rx_drain.specs.Logs.{letters, gone_in}
 use Rattle.rx_drain.specs.Served.{TookOf, served, FaultlessSinksTookAll}
 use Rattle.rx_drain.proofs.Taking.{each_sink_took}
 

@@ -1,6 +1,6 @@
 -- What a drainer stands for after one letter more.
-use Rattle.std.proofs.Common.{◌≡◌, ◌∙◌, sym, refl, ap, subst, ℕ, zero, suc, zero-add, ◌+◌, ◌-◌, ◌^◌, ◌<◌, ◌≤◌, ◌==◌, ◌||◌, ◌&&◌, ◌⊎◌, inl, inr, min, Bool, true, false, List, [], ◌∷◌, ◌++◌, append_assoc, append-nil, length, length-append, map, replicate, Option, Some, None, is_some, slice_get, eq-eqb, arith}
-use Rattle.std.proofs.lemmas.List.{map-append, length-map}
+use Rattle.std.proofs.Common.{◌≡◌, ◌∙◌, sym, refl, ap, subst, ℕ, zero, suc, zero-add, ◌+◌, ◌-◌, ◌^◌, ◌<◌, ◌==◌, ◌||◌, ◌&&◌, ◌⊎◌, inl, inr, min, Bool, true, false, List, [], ◌∷◌, ◌++◌, append_assoc, append-nil, length, length-append, map, replicate, Option, Some, None, is_some, slice_get, eq-eqb, arith}
+use Rattle.std.proofs.lemmas.List.{map-append}
 use Rattle.std.proofs.lemmas.Option.{slice_get_within}
 use Rattle.std.specs.List.{AllZip}
 use Rattle.rx_mailbox.specs.declared.letter.Letter.{Letter}
@@ -10,7 +10,6 @@ use Rattle.rx_mailbox.specs.Letters.{letter, ends}
 use Rattle.rx_mailbox.specs.Boxes.{Outgoing}
 use Rattle.rx_note.specs.declared.event.Event.{Event}
 use Rattle.rx_note.specs.declared.event.Event.TheVariants.{Request, Dispose}
-use Rattle.rx_note.specs.declared.note.Note.{Note}
 use Rattle.rx_pump.specs.declared.call.Call.{Call}
 use Rattle.rx_pump.specs.declared.out.Out.{Out}
 use Rattle.rx_pump.specs.declared.out.Out.TheVariants.{Attach, Give, Detach}
@@ -20,9 +19,8 @@ use Rattle.rx_pump.proofs.Pumping.{HavePut-puts, HavePut-same, AreSame-puts}
 use Rattle.rx_pump.proofs.Leaving.{AreSame-byes, HaveEnded-byes, HaveEndedSome-some, EndsSome-first}
 use Rattle.rx_sink.specs.declared.flow.Flow.TheVariants.{Clear}
 use Rattle.rx_sink.specs.declared.kept.Kept.{Kept}
-use Rattle.rx_sink.specs.declared.put_away.PutAway.{PutAway}
 use Rattle.rx_sink.specs.Acts.{Acts, raised}
-use Rattle.rx_sink.specs.Attachments.{Attachment, Why, Mark, Fine, Fault, NoMemory, Change, brought, flushing, kept_for, unchanged, left, closed, dispose, requests, parting, partings, request, is_last}
+use Rattle.rx_sink.specs.Attachments.{Attachment, Why, Mark, Fine, Change, brought, flushing, kept_for, unchanged, left, closed, dispose, requests, parting, partings, request}
 use Rattle.rx_sink.specs.Stands.{Stand, Tends, IsKept, IsPutAway, addressed, sinks, tallied}
 use Rattle.rx_sink.proofs.Counts.{missed_attached, missed_given, missed_flushed, missed_detached, took_attached, took_given, took_flushed, took_detached}
 use Rattle.rx_drain.specs.declared.drain_fault.DrainFault.{DrainFault}
