@@ -8,7 +8,7 @@ import tempfile
 import time
 
 # How long anything may take, in seconds.
-MOST = 15
+MOST = 60
 
 NAME = os.path.basename(sys.argv[0])
 
