@@ -20,9 +20,9 @@ use std::sync::atomic::{AtomicU64, Ordering};
 // Puts the thread of a fault, and `!` where there was no memory for it, `?` where it had no thread.
 fn put_fault(told: &mut Told, fault: StartFault) {
     told.put(match fault.thread {
-        Role::Pump => b'P',
-        Role::Drainer => b'D',
-        Role::Worker => b'W',
+        Role::Pump => b'p',
+        Role::Drainer => b'd',
+        Role::Worker => b'w',
     });
     told.put_digit(fault.index);
     told.put(match fault.cause {
@@ -35,7 +35,7 @@ fn put_fault(told: &mut Told, fault: StartFault) {
 // the boxes of the pumps, of the drainers and of the replies to the workers' desks; the lists of parts, which count as the first
 // pump; the hubs, and then the pumps; the desks; the drainers; room for the close, which counts as the first pump; what the
 // workers share; and the lists of the threads, of pumps and of drainers.
-const NO_MEMORY: &str = "P0!P1!D0!D1!W0!W1!P0!P1!P0!P1!W0!W1!D0!D1!P0!W0!P0!D0!";
+const NO_MEMORY: &str = "p0!p1!d0!d1!w0!w1!p0!p1!p0!p1!w0!w1!d0!d1!p0!w0!p0!d0!";
 
 // No run has as many growths.
 const MAX_GROWTHS: u64 = 1_000;
@@ -108,7 +108,7 @@ fn told_with_threads<R: Host>(rt: &R, free: &Heap, threads: u64) -> Told {
 #[test]
 fn start_tells_which_thread_is_wanting(rt: HostRuntime) {
     let free = Heap::unlimited(rt.alloc());
-    for (threads, fault) in &[(0, "P0?"), (1, "P1?"), (2, "D0?"), (3, "D1?"), (4, "")] {
+    for (threads, fault) in &[(0, "p0?"), (1, "p1?"), (2, "d0?"), (3, "d1?"), (4, "")] {
         let told = told_with_threads(&rt, &free, *threads);
         expect_told(&rt, told.as_bytes(), fault, "no thread");
     }
