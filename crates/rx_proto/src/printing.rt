@@ -13,11 +13,18 @@ const REPLY_LINE: usize = 16;
 // The most bytes of the line that tells an observer its number.
 const JOINED_LINE: usize = 18;
 
-// The most bytes of the line of a note in the first version.
-const NOTE_LINE: usize = 1040;
+/// The most bytes of the line of a note in the first version.
+pub(crate) const NOTE_LINE: usize = 1040;
 
-// The most bytes of the line of an item in the second.
-const PLACED_LINE: usize = 1062;
+/// The most bytes of the line of an item in the second.
+pub(crate) const PLACED_LINE: usize = 1062;
+
+/// The most bytes of the line of a note with a short text, in both versions. The array that a line is put together in is
+/// cleared and moved whole, so a short one has a small array.
+pub(crate) const SHORT_LINE: usize = 84;
+
+/// The most bytes of a short text.
+pub(crate) const SHORT_TEXT: usize = 56;
 
 // The most bytes of what stands before its text there: two numbers of 32 bits, each with a space.
 const ORIGIN: usize = 22;
@@ -74,8 +81,21 @@ pub(crate) fn joined_line(who: u32) -> LineBytes<JOINED_LINE>
     line
 }
 
+/// How many bytes the text of a note has.
+pub(crate) fn text_len(note: &Note) -> usize
+    ensures line { length (note_line One note.now) ≤ result + 8 }
+    ensures within { length (note_line One note.now) ≤ NOTE_LINE }
+{
+    match note {
+        Note::Next(item) => item.text.as_bytes().len(),
+        Note::Completed => 0,
+        Note::Failed(text) => text.as_bytes().len(),
+    }
+}
+
 /// The line of a note in the first version, with its LF.
-pub(crate) fn note_line(note: &Note) -> LineBytes<NOTE_LINE>
+pub(crate) fn note_line<const N: usize>(note: &Note) -> LineBytes<N>
+    requires { length (note_line One note.now) ≤ N }
     ensures { result ≡ note_line One note.now }
 {
     let mut line = LineBytes::new();
@@ -95,7 +115,8 @@ pub(crate) fn note_line(note: &Note) -> LineBytes<NOTE_LINE>
 }
 
 /// The line of an item in the second version, with its LF.
-pub(crate) fn placed_line(item: &Item) -> LineBytes<PLACED_LINE>
+pub(crate) fn placed_line<const N: usize>(item: &Item) -> LineBytes<N>
+    requires { length item.now.text + 28 ≤ N }
     ensures { result ≡ note_line Two (Note.Next item.now) }
 {
     let mut line = LineBytes::new();

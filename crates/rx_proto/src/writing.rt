@@ -1,7 +1,10 @@
 ghost use Rattle.rx_proto.specs.Bytes.{Writes};
 ghost use Rattle.rx_proto.specs.Printing.{reply_line, joined_line, note_line};
 
-use crate::printing::{joined_line, note_line, placed_line, reply_line};
+use crate::printing::{
+    NOTE_LINE, PLACED_LINE, SHORT_LINE, SHORT_TEXT, joined_line, note_line, placed_line, reply_line,
+    text_len,
+};
 use crate::{Response, Version};
 use rx_note::Note;
 use std::error::Error;
@@ -39,8 +42,19 @@ pub fn write_note<W: Write>(writer: &mut W, note: &Note, version: Version) -> Re
     ensures { Writes result (W.contents writer.old) (W.contents writer.new) (note_line version note.now) }
 {
     match version {
-        Version::One => write_bytes(writer, note_line(note).as_bytes()),
+        Version::One => write_plain(writer, note),
         Version::Two => write_placed(writer, note),
+    }
+}
+
+// Writes the line of a note in the first version.
+fn write_plain<W: Write>(writer: &mut W, note: &Note) -> Result<(), WriteFault>
+    ensures { Writes result (W.contents writer.old) (W.contents writer.new) (note_line Version.One note.now) }
+{
+    if text_len(note) <= SHORT_TEXT {
+        write_bytes(writer, note_line::<SHORT_LINE>(note).as_bytes())
+    } else {
+        write_bytes(writer, note_line::<NOTE_LINE>(note).as_bytes())
     }
 }
 
@@ -50,8 +64,11 @@ fn write_placed<W: Write>(writer: &mut W, note: &Note) -> Result<(), WriteFault>
     ensures { Writes result (W.contents writer.old) (W.contents writer.new) (note_line Version.Two note.now) }
 {
     match note {
-        Note::Next(item) => write_bytes(writer, placed_line(item).as_bytes()),
-        _ => write_bytes(writer, note_line(note).as_bytes()),
+        Note::Next(item) if item.text.as_bytes().len() <= SHORT_TEXT => {
+            write_bytes(writer, placed_line::<SHORT_LINE>(item).as_bytes())
+        }
+        Note::Next(item) => write_bytes(writer, placed_line::<PLACED_LINE>(item).as_bytes()),
+        _ => write_plain(writer, note),
     }
 }
 
