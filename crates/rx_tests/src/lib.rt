@@ -11,9 +11,13 @@ mod ample;
 #[cfg(test)]
 mod budgets;
 #[cfg(test)]
+mod clerk;
+#[cfg(test)]
 mod drawing;
 #[cfg(test)]
 mod drawn_runs;
+#[cfg(test)]
+mod drips;
 #[cfg(test)]
 mod expecting;
 #[cfg(test)]
@@ -38,6 +42,8 @@ mod protocol;
 mod refusals;
 #[cfg(test)]
 mod sessions;
+#[cfg(test)]
+mod sheet;
 #[cfg(test)]
 mod sizes;
 #[cfg(test)]

@@ -4,165 +4,17 @@
 //! Told is how a session ended (Q for QUIT, E for the end of the input, H for handed over, R for a fault of the reader, W for
 //! one of the writer, T for too many reads), then what was written, and behind `|` what the desk was asked: `n`, `c` and `f`
 //! for an item, completion and an error, and `s` for a Join in the first version, `t` for one in the second.
-
+use crate::clerk::Clerk;
+use crate::drips::{Drips, dripping};
 use crate::expecting::{expect_count, expect_told};
 use crate::heaps::unlimited;
 use crate::protocol::filled;
+use crate::sheet::{Sheet, blank};
 use rx_heap::{Heap, Memory};
-use rx_note::{Note, Policy};
-use rx_proto::{Name, Response, Version, Word};
-use rx_session::{Desk, Follow, LineReader, LineState, Next, SessionEnd, serve_lines};
+use rx_session::{LineReader, LineState, Next, SessionEnd, serve_lines};
 use rx_signs::Told;
-use std::io::{self, ErrorKind, Read, Write};
+use std::io::{self, ErrorKind, Read};
 use std::test::Fail;
-
-/// Gives its bytes so many at a time. The first reads are interrupted, and one fails.
-#[derive(Drop)]
-struct Drips {
-    rest: &'static [u8],
-    step: usize,
-    interrupted: u64,
-    fails_at: u64,
-    kind: ErrorKind,
-    reads: u64,
-}
-
-impl Read for Drips {
-    fn read(&mut self, buf: &mut [u8]) -> io::Result<usize> {
-        self.reads = self.reads.saturating_add(1);
-        if self.reads <= self.interrupted {
-            return Err(io::Error::from(ErrorKind::Interrupted));
-        }
-        if self.reads == self.fails_at {
-            return Err(io::Error::from(self.kind));
-        }
-        let len = self.step.min(self.rest.len()).min(buf.len());
-        buf[..len].copy_from_slice(&self.rest[..len]);
-        self.rest = &self.rest[len..];
-        Ok(len)
-    }
-}
-
-fn dripping(rest: &'static [u8], step: usize) -> Drips {
-    Drips {
-        rest,
-        step,
-        interrupted: 0,
-        fails_at: 0,
-        kind: ErrorKind::Other,
-        reads: 0,
-    }
-}
-
-/// Takes so many bytes a call until it is full, and counts its writes and its flushes, one of which fails.
-#[derive(Drop)]
-struct Sheet {
-    held: Told,
-    step: usize,
-    room: usize,
-    writes: u64,
-    flushes: u64,
-    fails_at: u64,
-}
-
-impl Write for Sheet {
-    fn write(&mut self, buf: &[u8]) -> io::Result<usize> {
-        self.writes = self.writes.saturating_add(1);
-        if self.held.len() >= self.room {
-            return Err(io::Error::from(ErrorKind::Other));
-        }
-        let len = buf.len().min(self.step);
-        self.held.put_all(&buf[..len]);
-        Ok(len)
-    }
-
-    fn flush(&mut self) -> io::Result<()> {
-        self.flushes = self.flushes.saturating_add(1);
-        if self.flushes == self.fails_at {
-            return Err(io::Error::from(ErrorKind::Other));
-        }
-        Ok(())
-    }
-}
-
-// One that takes a byte a call, so many in all.
-fn blank(room: usize) -> Sheet {
-    Sheet {
-        held: Told::new(),
-        step: 1,
-        room,
-        writes: 0,
-        flushes: 0,
-        fails_at: 0,
-    }
-}
-
-/// Has one subject, `s`, answers each note for it alike, keeps a writer or gives it back, and notes what it was asked.
-#[derive(Drop)]
-struct Clerk<'a> {
-    heap: &'a Heap,
-    asked: Told,
-    takes: bool,
-}
-
-impl<'a> Clerk<'a> {
-    fn new(heap: &'a Heap, takes: bool) -> Clerk<'a> {
-        Clerk {
-            heap,
-            asked: Told::new(),
-            takes,
-        }
-    }
-}
-
-fn is_s(name: &Name) -> bool {
-    name.as_bytes() == b"s".as_slice()
-}
-
-impl<'a, W: Drop> Desk<W> for Clerk<'a> {
-    ghost use Rattle.std.specs.Prelude.{◌≡◌};
-
-    ghost knows = { λ desk name. Unit {0} };
-
-    ghost emits = { λ old name note response new. Unit {0} };
-
-    ghost follows = { λ old name policy version writer answer new. Unit {0} };
-
-    fn memory(&self, name: &Name) -> Option<&Heap> {
-        if is_s(name) {
-            return Some(self.heap);
-        }
-        None
-    }
-
-    fn emit(&mut self, name: &Name, note: Note) -> Response {
-        if !is_s(name) {
-            return Response::Refused(Word::Subject);
-        }
-        self.asked.put(sign_of(&note));
-        Response::Done
-    }
-
-    fn follow(&mut self, _name: &Name, _policy: Policy, version: Version, writer: W) -> Follow<W> {
-        self.asked.put(match version {
-            Version::One => b's',
-            Version::Two => b't',
-        });
-        if self.takes {
-            Follow::Taken
-        } else {
-            Follow::Back(Response::Refused(Word::Full), writer)
-        }
-    }
-}
-
-fn sign_of(note: &Note) -> u8 {
-    match note {
-        Note::Next(_) => b'n',
-        Note::Completed => b'c',
-        Note::Failed(_) => b'f',
-    }
-}
 
 fn sign_of_end(end: SessionEnd) -> u8 {
     match end {
