@@ -1,17 +1,14 @@
 // How the two sides of a box wait for each other: who waits looks again for a while, then sleeps, and is woken once, by the
 // other side, only if it sleeps. Nothing is promised of a wait: it may end for no reason, so who waits looks again.
+use std::hint;
 use std::sync::Wait;
 use std::sync::atomic::{AtomicU64, Ordering};
 use std::time::Duration;
-use std::{hint, thread};
 
-// How often who waits looks again at once, and then after letting other threads go first, before it sleeps. A sleep and
-// a wake cost more than all these looks, and what is waited for mostly comes meanwhile.
-const PAUSES: u32 = 40;
-
-const YIELDS: u32 = 30;
-
-const LOOKS: u32 = PAUSES + YIELDS;
+// How often who waits looks again, with a pause after each look, before it sleeps. A sleep and a wake cost about as much as all
+// these looks, and what is waited for mostly comes meanwhile. It lets no other thread go first: from Linux 6.18 on a thread that
+// does so falls behind all others on its core by a slice each time, and a letter then waits for milliseconds.
+const LOOKS: u32 = 200;
 
 /// How often who waits for a bounded time looks before it slept, and no more often.
 pub(crate) const LOOKS_WITHIN: u32 = LOOKS + 2;
@@ -46,10 +43,8 @@ impl Bell {
 
     /// Waits after so many looks in vain, and answers how many they are from then on.
     pub(crate) fn wait<R: Wait>(&self, rt: &R, looks: u32) -> u32 {
-        if looks < PAUSES {
+        if looks < LOOKS {
             hint::spin_loop();
-        } else if looks < LOOKS {
-            thread::yield_now();
         } else if looks == LOOKS {
             // It sleeps only if the next look is in vain as well.
             self.state.store(ASLEEP, Ordering::SeqCst);
