@@ -2,8 +2,8 @@ ghost use Rattle.rx_proto.specs.Bytes.{Writes};
 ghost use Rattle.rx_proto.specs.Printing.{reply_line, joined_line, note_line};
 
 use crate::printing::{
-    NOTE_LINE, PLACED_LINE, SHORT_LINE, SHORT_TEXT, joined_line, note_line, placed_line, reply_line,
-    text_len,
+    NOTE_LINE, PLACED_LINE, SHORT_LINE, SHORT_TEXT, joined_line, note_line, placed_line,
+    reply_line, text_len,
 };
 use crate::{Response, Version};
 use rx_note::Note;
