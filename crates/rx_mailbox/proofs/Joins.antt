@@ -6,14 +6,17 @@ use Rattle.std.proofs.lemmas.Bool.{cases_eq, cases_lt}
 use Rattle.std.proofs.lemmas.List.{append-nil}
 use Rattle.std.proofs.lemmas.List.Elements.{All-nil, All-cons, All-push, All-contains, All-weaker, Contains-push, Contains-append_left, filter-append}
 use Rattle.std.proofs.lemmas.List.Sums.{sum_by-le}
+use Rattle.rx_mailbox.specs.declared.batch.Batch.{Batch}
 use Rattle.rx_mailbox.specs.declared.letter.Letter.{Letter}
 use Rattle.rx_mailbox.specs.declared.rule.View.{View}
 use Rattle.rx_mailbox.specs.declared.rule.View.TheVariants.{Receives}
 use Rattle.rx_mailbox.specs.Letters.{share, has_bye, NothingAfterBye}
+use Rattle.rx_mailbox.specs.Batches.{unpacked}
 use Rattle.rx_mailbox.specs.Boxes.{Outgoing, Incoming, HasBye, HasEachBye}
 use Rattle.rx_mailbox.specs.Steps.{noted, Shows}
-use Rattle.rx_mailbox.specs.Passes.{own_of, made_of, taken_of, notes_of, IsPort, IsReader, IsNoted, LeavesEmpty}
+use Rattle.rx_mailbox.specs.Passes.{own_of, made_of, taken_of, notes_of, IsPort, IsReader, IsNoted, KeepsNotes, LeavesEmpty}
 use Rattle.rx_mailbox.specs.Settling.{IsEachOnce, GotAll}
+use Rattle.rx_mailbox.proofs.Batches.{share-unpacked}
 use Rattle.rx_mailbox.proofs.Steps.{shows}
 use Rattle.rx_mailbox.proofs.Letters.{end_is_nil, no_letters, nothing_after}
 
@@ -61,53 +64,70 @@ module _ {B : Type 0} where
       absurd (omega arith))
       (named ports number)
 
-  -- a queue beside this inbox and these ports: of each port, what was received followed by what the queue holds is all that it
-  -- put, and there is no letter of a number that the box does not have
-  abbrev CanHold : Incoming B → List (Outgoing B) → List (Letter B) → Type 0
-  CanHold inbox ports queue =
-      All (λ port. share port.number (inbox.received ++ queue) ≡ port.own) ports
-      × ((number : ℕ) → inbox.ports ≤ number → share number (inbox.received ++ queue) ≡ [])
-
-  -- where all was received that the ports of a box put, the queue holds nothing
-  nothing_left : (inbox : Incoming B) (ports : List (Outgoing B)) → IsEachOnce inbox.ports ports → All (GotAll inbox) ports → (queue : List (Letter B)) → CanHold inbox ports queue → queue ≡ []
-  nothing_left inbox ports once got queue holds = no_letters queue (λ number. ⊎_elim
-      (λ below.
-      let t = found ports number (once.1 number below) in
-      let put : share t.0.number (inbox.received ++ queue) ≡ t.0.own = All-contains (λ (port : Outgoing B). share port.number (inbox.received ++ queue) ≡ port.own) ports t.0 holds.0 t.1 in
-      let came : share t.0.number inbox.received ≡ t.0.own = All-contains (GotAll inbox) ports t.0 got t.1 in
-      let none : share t.0.number queue ≡ [] = added_nothing (share t.0.number inbox.received) (share t.0.number queue) (sym (filter-append _ inbox.received queue) ∙ put ∙ sym came) in
-      ap (λ n. share n queue) (sym t.2) ∙ none)
-      (λ above. end_is_nil (share number inbox.received) (share number queue) (sym (filter-append _ inbox.received queue) ∙ holds.1 number above))
-      (cases_lt number inbox.ports))
-
   -- the same of an equal number and an equal list
   pub IsEachOnce-same : (made other : ℕ) (ports others : List (Outgoing B)) → made ≡ other → ports ≡ others → IsEachOnce made ports → IsEachOnce other others
   IsEachOnce-same made other ports others n e each = subst (λ k. IsEachOnce k others) n (subst (λ l. IsEachOnce made l) e each)
-
-  -- one more port was noted
-  pub noted_more : (v w : View B) (ports : List (Outgoing B)) (port : Outgoing B) → notes_of w ≡ notes_of v ++ (port.number, port.own) ∷ [] → All (IsNoted v) ports → All (IsNoted w) (ports ++ port ∷ [])
-  noted_more v w ports port is noted_yet =
-      let Has : List (ℕ × List (Letter B)) → Outgoing B → Type 0 = λ l p. Contains l (p.number, p.own) in
-      let more = notes_of v ++ (port.number, port.own) ∷ [] in
-      subst (λ l. All (Has l) (ports ++ port ∷ [])) (sym is)
-      (All-push (Has more) ports port
-      (All-weaker (IsNoted v) (Has more) (λ p here. Contains-append_left (notes_of v) ((port.number, port.own) ∷ []) (p.number, p.own) here) ports noted_yet)
-      (Contains-push (notes_of v) (port.number, port.own)))
 
   -- of each port of a box, its Bye was received
   pub byes_of_all : (inbox : Incoming B) (ports : List (Outgoing B)) → IsEachOnce inbox.ports ports → HasEachBye inbox → All (λ port. HasBye inbox port.number) ports
   byes_of_all inbox ports once byes = All-weaker (λ (port : Outgoing B). port.number < inbox.ports) (λ port. HasBye inbox port.number) (λ port below. byes port.number below) ports once.0
 
-  -- where each port was noted and received whole, the rule leaves the queue empty
-  pub leaves_empty : (v : View B) (inbox seen : Incoming B) (ports : List (Outgoing B)) → IsReader v → seen ≡ inbox → made_of v ≡ seen.ports → taken_of v ≡ seen.received
-      → All (IsNoted v) ports → IsEachOnce inbox.ports ports → All (GotAll inbox) ports → LeavesEmpty v
-  leaves_empty v inbox seen ports reader same made_is taken_is noted_all once got queue views pass rule at =
-      let made : made_of v ≡ inbox.ports = made_is ∙ ap (λ (i : Incoming B). i.ports) same in
-      let taken : taken_of v ≡ inbox.received = taken_is ∙ ap (λ (i : Incoming B). i.received) same in
+module _ {B : Type 0} where
+  -- a joining loses no note
+  pub joined_keeps : (v w u : View (Batch B)) (port : ℕ) (ended : Bool) → IsReader v → IsPort port ended w → u ≡ noted v w → KeepsNotes v u
+  joined_keeps v w u port ended reader sender is =
+      subst (λ (x : View (Batch B)). KeepsNotes v x) (sym (is ∙ joined v w port ended reader sender)) (record {
+        made = refl;
+        taken = refl;
+        notes = λ note here. Contains-append_left (notes_of v) ((port, own_of w) ∷ []) note here;
+      })
+
+  -- a port that was joined is noted
+  pub joined_notes : (v w u : View (Batch B)) (port : Outgoing B) (number : ℕ) (ended : Bool) (queue : List (Letter (Batch B))) → IsReader v → IsPort number ended w → u ≡ noted v w → Shows u queue
+      → number ≡ port.number → unpacked (own_of w) ≡ port.own → has_bye (share number (taken_of v)) ≡ true → IsNoted u port
+  joined_notes v w u port number ended queue reader sender is shows same own bye =
+      let whole = is ∙ joined v w number ended reader sender in
+      let came : share number (taken_of v) ≡ own_of w = got_all v w u number ended queue reader sender is shows bye in
+      subst (λ (x : View (Batch B)). IsNoted x port) (sym whole) (record {
+        own = own_of w;
+        noted = subst (λ n. Contains (notes_of v ++ (number, own_of w) ∷ []) (n, own_of w)) same (Contains-push (notes_of v) (number, own_of w));
+        came = ap (λ n. share n (taken_of v)) (sym same) ∙ came;
+        unpacks = own;
+      })
+
+  -- a port stays noted
+  pub noted_still : (v w : View (Batch B)) (port : Outgoing B) → KeepsNotes v w → IsNoted v port → IsNoted w port
+  noted_still v w port keeps is = record {
+    own = is.own;
+    noted = keeps.notes (port.number, is.own) is.noted;
+    came = ap (λ l. share port.number l) keeps.taken ∙ is.came;
+    unpacks = is.unpacks;
+  }
+
+  pub noted_more : (v w : View (Batch B)) (ports : List (Outgoing B)) (port : Outgoing B) → KeepsNotes v w → IsNoted w port → All (IsNoted v) ports → All (IsNoted w) (ports ++ port ∷ [])
+  noted_more v w ports port keeps last noted_yet = All-push (IsNoted w) ports port (All-weaker (IsNoted v) (IsNoted w) (λ p here. noted_still v w p keeps here) ports noted_yet) last
+
+  pub keeps_both : (u v w : View (Batch B)) → KeepsNotes u v → KeepsNotes v w → KeepsNotes u w
+  keeps_both u v w first then = record {
+    made = then.made ∙ first.made;
+    taken = then.taken ∙ first.taken;
+    notes = λ note here. then.notes note (first.notes note here);
+  }
+
+  -- of a noted port all was received that it put
+  pub noted_came : (v : View (Batch B)) (inbox : Incoming B) (port : Outgoing B) → unpacked (taken_of v) ≡ inbox.received → IsNoted v port → GotAll inbox port
+  noted_came v inbox port received is =
+      ap (λ l. share port.number l) (sym received) ∙ share-unpacked port.number (taken_of v) ∙ ap unpacked is.came ∙ is.unpacks
+
+  -- where each port is noted, the rule leaves the queue empty
+  pub leaves_empty : (v : View (Batch B)) (made : ℕ) (ports : List (Outgoing B)) → IsReader v → made_of v ≡ made → All (IsNoted v) ports → IsEachOnce made ports → LeavesEmpty v
+  leaves_empty v made ports reader made_is noted_all once queue views pass rule at =
       let shown = shows pass (made_of v) (taken_of v) (notes_of v) queue views rule (at ∙ ap some reader.view_is) in
-      let moved : (number : ℕ) → share number (inbox.received ++ queue) ≡ share number (taken_of v ++ queue) = λ number. ap (λ l. share number (l ++ queue)) (sym taken) in
-      nothing_left inbox ports once got queue (
-        All-weaker (IsNoted v) (λ port. share port.number (inbox.received ++ queue) ≡ port.own)
-            (λ port here. moved port.number ∙ All-contains (λ (note : ℕ × List (Letter B)). share note.0 (taken_of v ++ queue) ≡ note.1) (notes_of v) (port.number, port.own) shown.1 here) ports noted_all,
-        λ number above. moved number ∙ shown.2 number (omega arith),
-      )
+      no_letters queue (λ number. ⊎_elim
+      (λ below.
+      let t = found ports number (once.1 number below) in
+      let is = All-contains (IsNoted v) ports t.0 noted_all t.1 in
+      let put : share t.0.number (taken_of v ++ queue) ≡ is.own = All-contains (λ (note : ℕ × List (Letter (Batch B))). share note.0 (taken_of v ++ queue) ≡ note.1) (notes_of v) (t.0.number, is.own) shown.1 is.noted in
+      ap (λ n. share n queue) (sym t.2) ∙ added_nothing (share t.0.number (taken_of v)) (share t.0.number queue) (sym (filter-append _ (taken_of v) queue) ∙ put ∙ sym is.came))
+      (λ above. end_is_nil (share number (taken_of v)) (share number queue) (sym (filter-append _ (taken_of v) queue) ∙ shown.2 number (omega arith)))
+      (cases_lt number made))

@@ -1,4 +1,6 @@
 pub mod Letters
+pub mod Batches
+pub mod Hands
 pub mod Passes
 pub mod Steps
 pub mod Tally

@@ -1,16 +1,17 @@
 -- What the inbox counts stays right as it takes a letter.
-use Rattle.std.proofs.Common.{◌≡◌, ◌≢◌, ◌||◌, ◌+◌, ◌-◌, ◌<◌, ◌^◌, min, ℕ, Bool, true, false, cond, List, [], ◌∷◌, ◌++◌, length, get_or, set, refl, sym, ap, ◌∙◌, subst, ⊎_elim, arith}
+use Rattle.std.proofs.Common.{◌≡◌, ◌≢◌, ◌||◌, ◌<◌, ℕ, Bool, true, false, cond, List, [], ◌∷◌, ◌++◌, length, get_or, set, refl, sym, ap, ◌∙◌, subst, ⊎_elim, arith}
 use Rattle.std.proofs.Math.Bool.{or-true, or-false}
 use Rattle.std.proofs.Math.ListN.{length-set, length-replicate, replicate}
 use Rattle.std.proofs.lemmas.Bool.{cases_eq}
-use Rattle.std.proofs.lemmas.List.{get_or-replicate, get_or-set_same, get_or-set_other, length_push}
+use Rattle.std.proofs.lemmas.List.{get_or-replicate, get_or-set_same, get_or-set_other}
 use Rattle.std.proofs.lemmas.List.Folds.{list_any-append}
 use Rattle.rx_mailbox.specs.declared.letter.Letter.{Letter}
 use Rattle.rx_mailbox.specs.declared.rule.View.{View}
 use Rattle.rx_mailbox.specs.declared.rule.View.TheVariants.{Receives}
 use Rattle.rx_mailbox.specs.Letters.{share, ends, has_bye}
-use Rattle.rx_mailbox.specs.Settling.{letter_count}
+use Rattle.rx_mailbox.specs.declared.batch.Batch.{Batch}
 use Rattle.rx_mailbox.specs.Passes.{made_of, taken_of, IsReader, TakesOne, IsTally}
+use Rattle.rx_mailbox.proofs.Batches.{bye_share}
 use Rattle.rx_mailbox.proofs.Letters.{share-own, share-other}
 
 mark_here : (is_bye : Bool) (byes : List Bool) (port : ℕ) → port < length byes → get_or (cond is_bye (set byes port true) byes) port false ≡ (get_or byes port false || is_bye)
@@ -43,32 +44,28 @@ module _ {B : Type 0} where
       (λ apart. mark_elsewhere (ends x.post) byes x.from port apart ∙ is ∙ sym (ap has_bye (share-other port x taken apart)))
       (cases_eq x.from port)
 
-  -- the count after one more letter
-  counted_more : (taken : List (Letter B)) (x : Letter B) → min (letter_count taken + 1) (2 ^ 64 - 1) ≡ letter_count (taken ++ x ∷ [])
-  counted_more taken x = let n : length (taken ++ x ∷ []) ≡ length taken + 1 = length_push taken x in omega arith
-
-  -- the tally after one more letter
-  pub tally_more : (byes later : List Bool) (letters count : ℕ) (v w : View B) (x : Letter B) → TakesOne v x w → IsTally byes letters v
-      → later ≡ cond (ends x.post) (set byes x.from true) byes → count ≡ min (letters + 1) (2 ^ 64 - 1) → IsReader w × IsTally later count w
-  tally_more byes later letters count v w x takes was later_is count_is =
-      let made : ℕ = made_of v in
-      let same_length : length byes ≡ made = was.ports in
-      subst (λ (u : View B). IsReader u × IsTally later count u) (sym takes.view_is) (
+module _ {B : Type 0} where
+  -- the tally after one more letter of the channel
+  pub tally_more : (byes later : List Bool) (v w : View (Batch B)) (x : Letter (Batch B)) → TakesOne v x w → IsTally byes v
+      → later ≡ cond (ends x.post) (set byes x.from true) byes → IsReader w × IsTally later w
+  tally_more byes later v w x takes was later_is =
+      let same_length : length byes ≡ made_of v = was.ports in
+      subst (λ (u : View (Batch B)). IsReader u × IsTally later u) (sym takes.view_is) (
         record { view_is = refl },
         record {
           ports = ap length later_is ∙ mark_length (ends x.post) byes x.from ∙ was.ports;
-          byes_are = λ port below. ap (λ l. get_or l port false) later_is ∙ byes_more byes x (taken_of v) port (omega arith) (was.byes_are port below);
-          letters_are = count_is ∙ ap (λ n. min (n + 1) (2 ^ 64 - 1)) was.letters_are ∙ counted_more (taken_of v) x;
+          byes_are = λ port below. ap (λ l. get_or l port false) later_is
+              ∙ byes_more byes x (taken_of v) port (omega arith) (was.byes_are port below ∙ bye_share port (taken_of v))
+              ∙ sym (bye_share port (taken_of v ++ x ∷ []));
         },
       )
 
   -- the tally of a new inbox
-  pub first_tally : (byes : List Bool) (ports : ℕ) (v : View B) → byes ≡ replicate ports false → v ≡ Receives ports [] [] → IsReader v × IsTally byes 0 v
-  first_tally byes ports v byes_is is = subst (λ (u : View B). IsReader u × IsTally byes 0 u) (sym is) (
+  pub first_tally : (byes : List Bool) (ports : ℕ) (v : View (Batch B)) → byes ≡ replicate ports false → v ≡ Receives ports [] [] → IsReader v × IsTally byes v
+  first_tally byes ports v byes_is is = subst (λ (u : View (Batch B)). IsReader u × IsTally byes u) (sym is) (
     record { view_is = refl },
     record {
       ports = ap length byes_is ∙ length-replicate ports false;
       byes_are = λ port below. ap (λ l. get_or l port false) byes_is ∙ get_or-replicate ports port false false below;
-      letters_are = refl;
     },
   )

@@ -5,13 +5,14 @@ use Rattle.std.specs.List.{All}
 use Rattle.atomic_table.specs.Seated.{TableId}
 use Rattle.atomic_table.specs.declared.badge.Badge.{Badge}
 use Rattle.crossbeam_channel.specs.declared.flavors.array.Key.{Key}
+use Rattle.rx_mailbox.specs.declared.batch.Batch.{Batch}
 use Rattle.rx_mailbox.specs.declared.letter.Letter.{Letter}
 use Rattle.rx_mailbox.specs.declared.letter.Post.{Post}
-use Rattle.rx_mailbox.specs.Letters.{letter, share, has_bye}
+use Rattle.rx_mailbox.specs.Letters.{letter, letters_with, share, has_bye}
 
 -- which box: all parts that come from one `open` name the same
 abbrev pub Box : Type 0 → Type 0
-Box B = TableId × Badge (Key (Letter B))
+Box B = TableId × Badge (Key (Letter (Batch B)))
 
 -- how many letters the box holds at most: its channel has a slot for each
 abbrev pub capacity_of : {B : Type 0} → Box B → ℕ
@@ -41,6 +42,14 @@ module _ {B : Type 0} where
   -- the port after it put one more letter
   abbrev pub with_post : Outgoing B → Post B → Outgoing B
   with_post port post = outgoing port.box port.number (port.own ++ letter port.number post ∷ [])
+
+  -- the port after it put a letter for each of these bodies
+  abbrev pub with_bodies : Outgoing B → List B → Outgoing B
+  with_bodies port bodies = outgoing port.box port.number (port.own ++ letters_with port.number bodies)
+
+  -- the inbox after it received these letters
+  abbrev pub with_letters : Incoming B → List (Letter B) → Incoming B
+  with_letters inbox xs = incoming inbox.box inbox.ports (inbox.received ++ xs)
 
   -- the inbox after it received one more letter
   abbrev pub with_letter : Incoming B → Letter B → Incoming B

@@ -1,5 +1,5 @@
 -- Lists of letters: what one port put, and where a port ends (this project's own rule).
-use Rattle.std.specs.Prelude.{◌≡◌, ◌==◌, ℕ, Bool, true, false, List, [], ◌∷◌}
+use Rattle.std.specs.Prelude.{◌≡◌, ◌==◌, ℕ, Bool, true, false, List, [], ◌∷◌, map}
 use Rattle.std.specs.List.{filter, list_any}
 use Rattle.rx_mailbox.specs.declared.letter.Letter.{Letter}
 use Rattle.rx_mailbox.specs.declared.letter.Post.{Post}
@@ -9,6 +9,10 @@ module _ {B : Type 0} where
   -- the letter of a port with this post
   abbrev pub letter : ℕ → Post B → Letter B
   letter from post = record { from = from; post = post }
+
+  -- the letters of a port with these bodies, in their order
+  abbrev pub letters_with : ℕ → List B → List (Letter B)
+  letters_with from bodies = map (λ body. letter from (Body body)) bodies
 
   -- the share of a port in a list of letters: its own letters, in their order
   abbrev pub share : ℕ → List (Letter B) → List (Letter B)

@@ -1,7 +1,9 @@
 pub mod Letters
+pub mod Batches
 pub mod Boxes
 pub mod Sizes
 pub mod Settling
 pub mod Rule
 pub mod Steps
+pub mod Hands
 pub mod Passes

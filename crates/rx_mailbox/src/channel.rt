@@ -6,6 +6,7 @@ ghost use Rattle.rx_mailbox.specs.declared.rule.View.TheVariants.{Sends};
 ghost use Rattle.rx_mailbox.specs.Letters.{letter};
 ghost use Rattle.rx_mailbox.specs.Passes.{own_of, IsPort, IsReader, TakesOne};
 
+use crate::batch::Batch;
 use crate::bells::Bells;
 use crate::letter::{Letter, Post};
 use crate::rule::{MailboxRule, Put, Take, View};
@@ -13,11 +14,11 @@ use crossbeam_channel::{Pass, RuledReceiver, RuledSender, TryRecvError, TrySendE
 use rx_heap::Heap;
 use std::sync::Wait;
 
-pub type BoxSender<B> = RuledSender<Letter<B>, View<B>, MailboxRule, Heap>;
+pub type BoxSender<B> = RuledSender<Letter<Batch<B>>, View<Batch<B>>, MailboxRule, Heap>;
 
-pub type BoxReceiver<B> = RuledReceiver<Letter<B>, View<B>, MailboxRule, Heap>;
+pub type BoxReceiver<B> = RuledReceiver<Letter<Batch<B>>, View<Batch<B>>, MailboxRule, Heap>;
 
-pub type BoxPass<B> = Pass<Letter<B>, View<B>>;
+pub type BoxPass<B> = Pass<Letter<Batch<B>>, View<Batch<B>>>;
 
 // Puts a letter of the port at the back, and waits while there is no room, or hands the post back. It rings no inbox that
 // sleeps, but where it waits for room.
@@ -27,8 +28,8 @@ pub fn put<B: Drop, R: Wait>(
     bells: &Bells,
     pass: &mut BoxPass<B>,
     number: u32,
-    post: Post<B>,
-) -> Result<(), Post<B>>
+    post: Post<Batch<B>>,
+) -> Result<(), Post<Batch<B>>>
     requires pass { IsSeatAt (sends_on sender.now) pass.old }
     requires port { IsPort number false (view pass.old) }
     ensures pass { IsSeatAt (sends_on sender.now) pass.new }
@@ -61,7 +62,7 @@ pub fn take<B: Drop, R: Wait>(
     rt: &R,
     receiver: &BoxReceiver<B>,
     pass: &mut BoxPass<B>,
-) -> Result<Letter<B>, TryRecvError>
+) -> Result<Letter<Batch<B>>, TryRecvError>
     requires pass { IsSeatAt (receives_on receiver.now) pass.old }
     requires reader { IsReader (view pass.old) }
     ensures pass { IsSeatAt (receives_on receiver.now) pass.new }

@@ -1,8 +1,7 @@
-ghost use Rattle.std.specs.Prelude.{◌≡◌, ◌++◌, ◌∷◌, []};
+ghost use Rattle.std.specs.Prelude.{◌≡◌, []};
 ghost use Rattle.crossbeam_channel.specs.Claims.{view};
 ghost use Rattle.rx_mailbox.specs.Boxes.{HasBye};
-ghost use Rattle.rx_mailbox.specs.Passes.{inbox_of, notes_of, IsReader};
-ghost use Rattle.rx_mailbox.specs.Settling.{GotAll};
+ghost use Rattle.rx_mailbox.specs.Passes.{inbox_of, IsNoted, IsReader, KeepsNotes};
 
 use crate::bells::SharedBells;
 use crate::channel::{BoxPass, BoxSender};
@@ -63,8 +62,8 @@ impl<B: Drop> EndedPort<B> {
         ensures reader { IsReader (view pass.new) }
         ensures free { pass.new.me.1 ≡ [] }
         ensures same { inbox_of pass.new ≡ inbox_of pass.old }
-        ensures noted { notes_of (view pass.new) ≡ notes_of (view pass.old) ++ (self.number, self.own) ∷ [] }
-        ensures got { GotAll (inbox_of pass.old) self }
+        ensures keeps { KeepsNotes (view pass.old) (view pass.new) }
+        ensures noted { IsNoted (view pass.new) self }
     {
         let EndedPort {
             number: _,

@@ -1,22 +1,23 @@
-ghost use Rattle.std.specs.Prelude.{◌≡◌, ◌<◌, ◌↔◌, [], true, if◌then◌else◌, vec_len, slice_set, IsTrue, IfOk, MatchResult};
-ghost use Rattle.rx_mailbox.specs.Letters.{ends};
-ghost use Rattle.rx_mailbox.specs.Boxes.{with_letter, HasBye, HasEachBye};
+ghost use Rattle.std.specs.Prelude.{◌≡◌, ◌<◌, ◌↔◌, [], IsTrue, IfOk, IfSome, MatchOption, MatchResult};
 ghost use Rattle.crossbeam_channel.specs.Claims.{view};
-ghost use Rattle.rx_mailbox.specs.Passes.{inbox_of, taken_of, IsReader};
+ghost use Rattle.rx_mailbox.specs.Boxes.{with_letter, HasBye, HasEachBye};
+ghost use Rattle.rx_mailbox.specs.Passes.{inbox_of, IsReader};
 ghost use Rattle.rx_mailbox.specs.Settling.{letter_count};
 
+use crate::batch::Batch;
 use crate::bell::LOOKS_WITHIN;
-use crate::bells::SharedBells;
-use crate::channel::{BoxPass, BoxReceiver, take};
+use crate::channel::BoxPass;
+use crate::inlet::Inlet;
 use crate::letter::{Letter, Post};
+use crate::lists::SharedLists;
 use crate::try_recv_fault::TryRecvFault;
-use crossbeam_channel::TryRecvError;
 use rx_heap::Heap;
+use std::collections::VecDeque;
 use std::error::Error;
-use std::fmt;
 use std::marker::Model;
 use std::sync::Wait;
 use std::time::Duration;
+use std::{fmt, mem};
 
 /// Every port of the box was dropped, ended or not, and the box is empty: no letter will come any more.
 #[derive(Clone, Copy, Debug, PartialEq, Eq)]
@@ -32,11 +33,11 @@ impl Error for Gone {}
 
 /// The receiver of a box. Contracts see how many ports the box has, and the letters that were received, in their order.
 pub struct Inbox<B: Drop> {
-    pub(crate) receiver: BoxReceiver<B>,
-    pub(crate) bells: SharedBells,
-    pub(crate) pass: BoxPass<B>,
-    // Of each port, whether its Bye was received.
-    pub(crate) byes: Vec<bool, Heap>,
+    pub(crate) inlet: Inlet<B>,
+    pub(crate) lists: SharedLists<B>,
+    // The bodies in hand, and the number of their port.
+    pub(crate) hand: VecDeque<B, Heap>,
+    pub(crate) from: u32,
     // How many letters were received.
     pub(crate) letters: u64,
 }
@@ -45,29 +46,26 @@ pub struct Inbox<B: Drop> {
 impl<B: Drop> Drop for Inbox<B> {
     fn drop(self) {
         let Inbox {
-            receiver,
-            bells,
-            pass: _,
-            byes: _,
+            inlet: _,
+            lists: _,
+            hand: _,
+            from: _,
             letters: _,
         } = self;
-        // A port that waits for room is told once the inbox is gone.
-        drop(receiver);
-        bells.room.ring();
     }
 }
 
 impl<B: Drop> Model for Inbox<B> {
-    ghost use Rattle.crossbeam_channel.specs.Claims.{view as pass_view, IsSeatAt};
-    ghost use Rattle.crossbeam_channel.specs.Ends.{receives_on};
+    ghost use Rattle.std.specs.Prelude.{◌≡◌, length};
     ghost use Rattle.rx_mailbox.specs.Boxes.{Incoming};
-    ghost use Rattle.rx_mailbox.specs.Passes.{inbox_of, IsReader, IsTally};
+    ghost use Rattle.rx_mailbox.specs.Hands.{without, IsHand};
+    ghost use Rattle.rx_mailbox.specs.Settling.{letter_count};
 
     ghost Value = { Incoming B };
 
-    ghost view = { λ i. inbox_of i.pass };
+    ghost view = { λ i. without i.inlet (length i.hand.items) };
 
-    ghost invariant = { λ i. IsSeatAt (receives_on i.receiver) i.pass × IsReader (pass_view i.pass) × IsTally i.byes.items i.letters (pass_view i.pass) };
+    ghost invariant = { λ i. IsHand i.inlet i.from i.hand.items × (i.letters ≡ letter_count (without i.inlet (length i.hand.items)).received) };
 }
 
 impl<B: Drop> Inbox<B> {
@@ -84,13 +82,13 @@ impl<B: Drop> Inbox<B> {
         for _ in rt.forever() {
             match self.try_recv(rt) {
                 Ok(letter) => {
-                    self.bells.letter.rise(looks);
+                    self.inlet.bell().rise(looks);
                     return Ok(letter);
                 }
                 Err(TryRecvFault::Gone) => return Err(Gone),
                 Err(TryRecvFault::Empty) => {}
             }
-            looks = self.bells.letter.wait(rt, looks);
+            looks = self.inlet.bell().wait(rt, looks);
         }
         unreachable!()
     }
@@ -112,15 +110,15 @@ impl<B: Drop> Inbox<B> {
         for _ in 0..LOOKS_WITHIN {
             match self.try_recv(rt) {
                 Ok(letter) => {
-                    self.bells.letter.rise(looks);
+                    self.inlet.bell().rise(looks);
                     return Ok(letter);
                 }
                 Err(TryRecvFault::Gone) => return Err(TryRecvFault::Gone),
                 Err(TryRecvFault::Empty) => {}
             }
-            looks = self.bells.letter.wait_within(rt, looks, most);
+            looks = self.inlet.bell().wait_within(rt, looks, most);
         }
-        self.bells.letter.rise(looks);
+        self.inlet.bell().rise(looks);
         self.try_recv(rt)
     }
 
@@ -133,55 +131,86 @@ impl<B: Drop> Inbox<B> {
         ensures port { IfOk result (λ letter. letter.from < self.old.ports) }
         ensures before_bye { IfOk result (λ letter. ¬ HasBye self.old letter.from) }
     {
-        let letter = match take(rt, &self.receiver, &mut self.pass) {
-            Ok(letter) => letter,
-            Err(TryRecvError::Empty) => return Err(TryRecvFault::Empty),
-            Err(TryRecvError::Disconnected) => return Err(TryRecvFault::Gone),
-        };
-        self.bells.room.ring();
-        mark(&mut self.byes, &letter);
+        for _ in rt.forever() {
+            if let Some(letter) = self.next_in_hand() {
+                return Ok(letter);
+            }
+            if let Some(letter) = self.receive(rt)? {
+                return Ok(letter);
+            }
+        }
+        unreachable!()
+    }
+
+    // The next letter in hand, if there is one.
+    fn next_in_hand(&mut self) -> Option<Letter<B>>
+        ensures received { MatchOption result (self.new ≡ self.old) (λ letter. self.new ≡ with_letter self.old letter) }
+        ensures port { IfSome result (λ letter. letter.from < self.old.ports) }
+        ensures before_bye { IfSome result (λ letter. ¬ HasBye self.old letter.from) }
+    {
+        let body = self.hand.pop_front()?;
         self.letters = self.letters.saturating_add(1);
-        Ok(letter)
+        Some(Letter {
+            from: self.from,
+            post: Post::Body(body),
+        })
+    }
+
+    // Takes what comes next where nothing is in hand. None where there is something in hand then.
+    #[inline(never)] // once for each batch
+    fn receive<R: Wait>(&mut self, rt: &R) -> Result<Option<Letter<B>>, TryRecvFault>
+        ensures received { MatchResult result
+            (λ came. MatchOption came (self.new ≡ self.old) (λ letter. self.new ≡ with_letter self.old letter))
+            (λ _. self.new ≡ self.old) }
+        ensures port { IfOk result (λ came. IfSome came (λ letter. letter.from < self.old.ports)) }
+        ensures before_bye { IfOk result (λ came. IfSome came (λ letter. ¬ HasBye self.old letter.from)) }
+    {
+        if !self.hand.is_empty() {
+            return Ok(None);
+        }
+        let Letter { from, post } = self.inlet.take(rt)?;
+        let post = match post {
+            Post::Bye => Post::Bye,
+            Post::Body(Batch::One(body)) => Post::Body(body),
+            Post::Body(Batch::Many(bodies)) => {
+                self.lists.keep(rt, mem::replace(&mut self.hand, bodies));
+                self.from = from;
+                return Ok(None);
+            }
+        };
+        self.letters = self.letters.saturating_add(1);
+        Ok(Some(Letter { from, post }))
     }
 
     // Its pass, and how many letters were received.
     pub(crate) fn into_pass(self) -> (BoxPass<B>, u64)
+        requires each_bye { HasEachBye self }
         ensures pass { inbox_of result.0 ≡ self }
         ensures reader { IsReader (view result.0) }
         ensures free { result.0.me.1 ≡ [] }
-        ensures letters { result.1 ≡ letter_count (taken_of (view result.0)) }
+        ensures letters { result.1 ≡ letter_count self.received }
     {
         let Inbox {
-            receiver: _,
-            bells: _,
-            pass,
-            byes: _,
+            inlet,
+            lists: _,
+            hand: _,
+            from: _,
             letters,
         } = self;
-        (pass, letters)
+        (inlet.into_pass(), letters)
     }
 
     /// How many ports the box has.
     pub fn ports(&self) -> usize
         ensures { result ≡ self.now.ports }
     {
-        self.byes.len()
+        self.inlet.ports()
     }
 
     /// Whether the Bye of each port was received.
     pub fn has_each_bye(&self) -> bool
         ensures { IsTrue result ↔ HasEachBye self.now }
     {
-        self.byes.iter().all(|came| *came)
-    }
-}
-
-// Marks the port of the letter as ended, where the letter is a Bye.
-fn mark<B>(byes: &mut Vec<bool, Heap>, letter: &Letter<B>)
-    requires { letter.now.from < vec_len byes.old }
-    ensures { byes.new.items ≡ (if ends letter.now.post then slice_set byes.old.items letter.now.from true else byes.old.items) }
-{
-    if let Post::Bye = letter.post {
-        byes[letter.from as usize] = true;
+        self.inlet.has_each_bye()
     }
 }

@@ -9,14 +9,18 @@
 //! contracts; `Rule.antt` has the rule that the channel of a box keeps at every moment.
 #![tactic(auto)]
 
+mod batch;
 mod bell;
 mod bells;
 mod channel;
 mod ended_port;
 mod inbox;
+mod inlet;
 mod letter;
+mod lists;
 mod new_box;
 mod opening;
+mod outlet;
 mod port;
 mod rule;
 mod settle_cause;

@@ -3,17 +3,22 @@ ghost use Rattle.crossbeam_channel.specs.Claims.{view, IsSeatAt};
 ghost use Rattle.crossbeam_channel.specs.Ends.{sends_on, receives_on};
 ghost use Rattle.rx_mailbox.specs.declared.rule.View.TheVariants.{Receives};
 ghost use Rattle.rx_mailbox.specs.Boxes.{capacity_of, outgoing};
-ghost use Rattle.rx_mailbox.specs.Passes.{box_of, inbox_of, IsReader, IsTally};
+ghost use Rattle.rx_mailbox.specs.Passes.{box_of, inbox_of, taken_of, IsReader, IsTally};
 ghost use Rattle.rx_mailbox.specs.Sizes.{IsSize};
 
+use crate::batch::Batch;
 use crate::bells::{Bells, SharedBells};
 use crate::channel::{BoxPass, BoxReceiver, BoxSender};
 use crate::inbox::Inbox;
+use crate::inlet::Inlet;
 use crate::letter::Letter;
+use crate::lists::{Lists, SharedLists};
+use crate::outlet::Outlet;
 use crate::port::Port;
 use crate::rule::{MailboxRule, SplitPort, View};
 use crossbeam_channel::bounded_with;
 use rx_heap::{Heap, Memory};
+use std::collections::VecDeque;
 use std::sync::Arc;
 
 /// A box whose ports are being made: both ends of its channel, and the pass that those of the ports are split from.
@@ -21,8 +26,12 @@ pub(crate) struct NewBox<B: Drop> {
     sender: BoxSender<B>,
     receiver: BoxReceiver<B>,
     bells: SharedBells,
+    lists: SharedLists<B>,
+    hand: VecDeque<B, Heap>,
     pass: BoxPass<B>,
     byes: Vec<bool, Heap>,
+    heap: Heap,
+    ghost none: { hand.items ≡ [] },
     ghost sends: { IsSeatAt (sends_on sender) pass },
     ghost receives: { IsSeatAt (receives_on receiver) pass },
 }
@@ -34,8 +43,11 @@ impl<B: Drop> Drop for NewBox<B> {
             sender: _,
             receiver: _,
             bells: _,
+            lists: _,
+            hand: _,
             pass: _,
             byes: _,
+            heap: _,
         } = self;
     }
 }
@@ -45,20 +57,29 @@ impl<B: Drop> NewBox<B> {
     pub(crate) fn new(alloc: Heap, capacity: usize, senders: u32) -> Result<NewBox<B>, Memory>
         requires { IsSize capacity senders }
         ensures view { IfOk result (λ new. view new.pass ≡ Receives 0 [] []) }
-        ensures tally { IfOk result (λ new. IsTally {B = B} new.byes.items 0 (Receives senders [] [])) }
+        ensures tally { IfOk result (λ new. IsTally {B = B} new.byes.items (Receives senders [] [])) }
         ensures capacity { IfOk result (λ new. capacity_of (box_of new.pass) ≡ capacity) }
     {
         let byes = vec![in alloc.clone()?; false; senders as usize]?;
         let bells = Bells::shared(alloc.clone()?)?;
-        let (sender, receiver, pass) = bounded_with::<Letter<B>, View<B>, MailboxRule, Heap>(
-            alloc, capacity,
-        )?;
+        let lists = Lists::shared(alloc.clone()?)?;
+        let hand = VecDeque::new(alloc.clone()?);
+        let heap = alloc.clone()?;
+        let (sender, receiver, pass) = bounded_with::<
+            Letter<Batch<B>>,
+            View<Batch<B>>,
+            MailboxRule,
+            Heap,
+        >(alloc, capacity)?;
         Ok(NewBox {
             sender,
             receiver,
             bells,
+            lists,
+            hand,
             pass,
             byes,
+            heap,
         })
     }
 
@@ -72,34 +93,51 @@ impl<B: Drop> NewBox<B> {
     {
         // The sender comes last, so that no way out has to let one go: that would be proved for itself.
         let bells = Arc::try_clone(&self.bells)?;
+        let lists = Arc::try_clone(&self.lists)?;
+        let held = VecDeque::new(self.heap.clone()?);
         let sender = self.sender.try_clone()?;
         let own = sender.another::<SplitPort>(&mut self.pass);
-        Ok(Port {
+        let outlet = Outlet {
             number,
             sender,
             bells,
             pass: own,
+        };
+        Ok(Port {
+            outlet,
+            lists,
+            held,
         })
     }
 
     /// Its inbox, once each port is made.
     pub(crate) fn into_inbox(self) -> Inbox<B>
         requires reader { IsReader (view self.pass) }
-        requires tally { IsTally self.byes.items 0 (view self.pass) }
+        requires tally { IsTally self.byes.items (view self.pass) }
+        requires first { taken_of (view self.pass) ≡ [] }
         ensures { result ≡ inbox_of self.pass }
     {
         let NewBox {
             sender: _,
             receiver,
             bells,
+            lists,
+            hand,
             pass,
             byes,
+            heap: _,
         } = self;
-        Inbox {
+        let inlet = Inlet {
             receiver,
             bells,
             pass,
             byes,
+        };
+        Inbox {
+            inlet,
+            lists,
+            hand,
+            from: 0,
             letters: 0,
         }
     }

@@ -1,49 +1,45 @@
-ghost use Rattle.std.specs.Prelude.{◌≡◌, MatchResult};
+ghost use Rattle.std.specs.Prelude.{◌≡◌, [], true, MatchResult};
 ghost use Rattle.rx_mailbox.specs.declared.letter.Post.TheVariants.{Body, Bye};
-ghost use Rattle.rx_mailbox.specs.Boxes.{with_post};
+ghost use Rattle.rx_mailbox.specs.Boxes.{with_bodies, with_post};
 
-use crate::bells::SharedBells;
-use crate::channel::{BoxPass, BoxSender, put};
 use crate::ended_port::EndedPort;
-use crate::letter::Post;
+use crate::lists::SharedLists;
+use crate::outlet::Outlet;
+use rx_heap::Heap;
+use std::collections::VecDeque;
 use std::marker::Model;
+use std::mem;
 use std::sync::Wait;
 
-/// One sender of a box. Contracts see its number and its own list, the letters that it put, in their order.
+/// One sender of a box. Contracts see its number and its own list, the letters that it put, in their order, with those that it
+/// holds back so that several go into the box at once.
 pub struct Port<B: Drop> {
-    pub(crate) number: u32,
-    pub(crate) sender: BoxSender<B>,
-    pub(crate) bells: SharedBells,
-    pub(crate) pass: BoxPass<B>,
+    pub(crate) outlet: Outlet<B>,
+    pub(crate) lists: SharedLists<B>,
+    // The bodies that it holds back.
+    pub(crate) held: VecDeque<B, Heap>,
 }
 
 // It stands here, and isn't derived, so that what lets go of a port is one call that is proved once.
 impl<B: Drop> Drop for Port<B> {
     fn drop(self) {
         let Port {
-            number: _,
-            sender,
-            bells,
-            pass: _,
+            outlet: _,
+            lists: _,
+            held: _,
         } = self;
-        // The inbox is told once the last port is gone.
-        drop(sender);
-        bells.letter.ring();
     }
 }
 
 impl<B: Drop> Model for Port<B> {
-    ghost use Rattle.std.specs.Prelude.{false};
-    ghost use Rattle.crossbeam_channel.specs.Claims.{view as pass_view, IsSeatAt};
-    ghost use Rattle.crossbeam_channel.specs.Ends.{sends_on};
-    ghost use Rattle.rx_mailbox.specs.Boxes.{Outgoing};
-    ghost use Rattle.rx_mailbox.specs.Passes.{port_of, IsPort};
+    ghost use Rattle.std.specs.Prelude.{⊤};
+    ghost use Rattle.rx_mailbox.specs.Boxes.{Outgoing, with_bodies};
 
     ghost Value = { Outgoing B };
 
-    ghost view = { λ p. port_of p.number p.pass };
+    ghost view = { λ p. with_bodies p.outlet p.held.items };
 
-    ghost invariant = { λ p. IsSeatAt (sends_on p.sender) p.pass × IsPort p.number false (pass_view p.pass) };
+    ghost invariant = { λ p. ⊤ };
 }
 
 impl<B: Drop> Port<B> {
@@ -51,75 +47,134 @@ impl<B: Drop> Port<B> {
     pub fn number(&self) -> u32
         ensures { result ≡ self.now.number }
     {
-        self.number
+        self.outlet.number()
     }
 
     /// Puts a letter with this body at the back of the box, and waits while the box is full. `Err` hands the body back
     /// where the inbox is gone, and nothing changed.
     pub fn send<R: Wait>(&mut self, rt: &R, body: B) -> Result<(), B>
         ensures { MatchResult result
-            (λ _. self.new ≡ with_post self.old (Post.Body body))
+            (λ _. self.new ≡ with_post self.old (Body body))
             (λ back. (back ≡ body) × (self.new ≡ self.old)) }
     {
-        let outcome = self.send_quietly(rt, body);
-        self.ring();
+        if !put_held(rt, &mut self.outlet, &self.lists, &mut self.held) {
+            return Err(body);
+        }
+        let outcome = self.outlet.put_one(rt, body);
+        self.outlet.ring();
         outcome
     }
 
-    /// As `send`, but wakes no inbox that sleeps: where a letter or more were put so, `ring` is to follow. A wait for room
-    /// wakes it, as do a letter of another port and the end of this one.
+    /// As `send`, but may hold the letter back so that it goes into the box with some that follow, and wakes no inbox that sleeps:
+    /// where a letter or more were put so, `ring` is to follow. What is held back goes at the latest before the next letter that
+    /// is not, and before the end of this port; a port that is let go without an end keeps it for itself.
     pub fn send_quietly<R: Wait>(&mut self, rt: &R, body: B) -> Result<(), B>
         ensures { MatchResult result
-            (λ _. self.new ≡ with_post self.old (Post.Body body))
+            (λ _. self.new ≡ with_post self.old (Body body))
             (λ back. (back ≡ body) × (self.new ≡ self.old)) }
     {
-        let outcome = put(
-            rt,
-            &self.sender,
-            &self.bells,
-            &mut self.pass,
-            self.number,
-            Post::Body(body),
-        );
-        match outcome {
-            Ok(()) => Ok(()),
-            Err(Post::Body(body)) => Err(body),
-            Err(Post::Bye) => unreachable!(),
+        if self.held.len() < self.held.capacity() {
+            self.held.push_back_reserved(body);
+            return Ok(());
         }
+        self.send_on(rt, body)
     }
 
-    /// Wakes the inbox, if it sleeps.
-    pub fn ring(&self) {
-        self.bells.letter.ring();
+    // The same where no more can be held back.
+    #[inline(never)] // once for each batch
+    fn send_on<R: Wait>(&mut self, rt: &R, body: B) -> Result<(), B>
+        ensures { MatchResult result
+            (λ _. self.new ≡ with_post self.old (Body body))
+            (λ back. (back ≡ body) × (self.new ≡ self.old)) }
+    {
+        if !put_held(rt, &mut self.outlet, &self.lists, &mut self.held) {
+            return Err(body);
+        }
+        if self.held.capacity() == 0
+            && let Some(list) = self.lists.take(rt)
+        {
+            self.held = list;
+        }
+        if self.held.len() < self.held.capacity() {
+            self.held.push_back_reserved(body);
+            return Ok(());
+        }
+        self.outlet.put_one(rt, body)
+    }
+
+    /// Puts what is held back into the box, and waits while the box is full. Then it wakes the inbox, if it sleeps. Where the
+    /// inbox is gone what is held back stays so.
+    pub fn ring<R: Wait>(&mut self, rt: &R)
+        ensures { self.new ≡ self.old }
+    {
+        let _is_there = put_held(rt, &mut self.outlet, &self.lists, &mut self.held);
+        self.outlet.ring();
     }
 
     /// Puts Bye at the back of the box, after which this port sends nothing, and waits while the box is full. `Err`
     /// hands the port back where the inbox is gone, and nothing changed.
     pub fn finish<R: Wait>(self, rt: &R) -> Result<EndedPort<B>, Port<B>>
-        ensures { MatchResult result (λ ended. ended ≡ with_post self Post.Bye) (λ back. back ≡ self) }
+        ensures { MatchResult result (λ ended. ended ≡ with_post self Bye) (λ back. back ≡ self) }
     {
         let Port {
-            number,
-            sender,
-            bells,
-            mut pass,
+            mut outlet,
+            lists,
+            mut held,
         } = self;
-        match put(rt, &sender, &bells, &mut pass, number, Post::Bye) {
-            Ok(()) => {
-                bells.letter.ring();
-                Ok(EndedPort {
-                    number,
-                    sender,
-                    bells,
-                    pass,
-                })
-            }
-            Err(_) => Err(Port {
-                number,
-                sender,
-                bells,
-                pass,
+        if !put_held(rt, &mut outlet, &lists, &mut held) {
+            return Err(Port {
+                outlet,
+                lists,
+                held,
+            });
+        }
+        match outlet.finish(rt) {
+            Ok(ended) => Ok(ended),
+            Err(outlet) => Err(Port {
+                outlet,
+                lists,
+                held,
             }),
         }
     }
+}
+
+// Puts what is held back, and answers whether nothing is any more. It is where the inbox is gone.
+fn put_held<B: Drop, R: Wait>(
+    rt: &R,
+    outlet: &mut Outlet<B>,
+    lists: &SharedLists<B>,
+    held: &mut VecDeque<B, Heap>,
+) -> bool
+    ensures same { with_bodies outlet.new held.new.items ≡ with_bodies outlet.old held.old.items }
+    ensures none { result ≡ true → held.new.items ≡ [] }
+{
+    if held.len() < 2 {
+        return put_each(rt, outlet, held);
+    }
+    let Some(empty) = lists.take(rt) else {
+        return put_each(rt, outlet, held);
+    };
+    let bodies = mem::replace(held, empty);
+    match outlet.put_many(rt, bodies) {
+        Ok(()) => true,
+        Err(bodies) => {
+            lists.keep(rt, mem::replace(held, bodies));
+            false
+        }
+    }
+}
+
+// Puts what is held back, one body after another, as `put_held` does.
+fn put_each<B: Drop, R: Wait>(rt: &R, outlet: &mut Outlet<B>, held: &mut VecDeque<B, Heap>) -> bool
+    ensures same { with_bodies outlet.new held.new.items ≡ with_bodies outlet.old held.old.items }
+    ensures none { result ≡ true → held.new.items ≡ [] }
+{
+    while let Some(body) = held.pop_front() {
+        if let Err(body) = outlet.put_one(rt, body) {
+            held.push_front_reserved(body);
+            return false;
+        }
+    }
+    true
 }

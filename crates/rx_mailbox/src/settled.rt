@@ -15,15 +15,14 @@ pub struct Settled<B: Drop> {
 
 impl<B: Drop> Model for Settled<B> {
     ghost use Rattle.std.specs.Prelude.{◌≡◌};
-    ghost use Rattle.crossbeam_channel.specs.Claims.{view as pass_view};
-    ghost use Rattle.rx_mailbox.specs.Passes.{SettledView, settled_of, taken_of, IsEmptied};
+    ghost use Rattle.rx_mailbox.specs.Passes.{SettledView, settled_of, IsEmptied};
     ghost use Rattle.rx_mailbox.specs.Settling.{letter_count};
 
     ghost Value = { SettledView B };
 
     ghost view = { λ s. settled_of s.pass };
 
-    ghost invariant = { λ s. IsEmptied (settled_of s.pass) × (s.letters ≡ letter_count (taken_of (pass_view s.pass))) };
+    ghost invariant = { λ s. IsEmptied (settled_of s.pass) × (s.letters ≡ letter_count (settled_of s.pass).received) };
 }
 
 impl<B: Drop> Settled<B> {

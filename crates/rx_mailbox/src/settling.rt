@@ -2,7 +2,7 @@ ghost use Rattle.std.specs.Prelude.{◌≡◌, ◌==◌, ◌<◌, ◌↔◌, ℕ
 ghost use Rattle.std.specs.List.{All, count_by};
 ghost use Rattle.crossbeam_channel.specs.Claims.{view};
 ghost use Rattle.rx_mailbox.specs.Boxes.{AreOf, HasBye, HasEachBye};
-ghost use Rattle.rx_mailbox.specs.Passes.{inbox_in, inbox_of, IsEmptied, IsNoted, IsReader};
+ghost use Rattle.rx_mailbox.specs.Passes.{inbox_in, inbox_of, IsEmptied, IsNoted, IsReader, KeepsNotes};
 ghost use Rattle.rx_mailbox.specs.Settling.{IsEachOnce, GotAll, IsCause};
 
 use crate::channel::BoxPass;
@@ -96,8 +96,8 @@ fn join_all<B: Drop>(pass: &mut BoxPass<B>, ports: Vec<EndedPort<B>, Heap>)
     requires byes { All (λ port. HasBye (inbox_of pass.old) port.number) ports.items }
     ensures reader { IsReader (view pass.new) }
     ensures same { inbox_of pass.new ≡ inbox_of pass.old }
+    ensures keeps { KeepsNotes (view pass.old) (view pass.new) }
     ensures noted { All (IsNoted (view pass.new)) ports.items }
-    ensures got { All (GotAll (inbox_of pass.old)) ports.items }
 {
     for port in ports {
         port.join_into(pass);

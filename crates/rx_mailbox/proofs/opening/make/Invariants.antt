@@ -10,7 +10,7 @@ use Rattle.rx_mailbox.proofs.opening.make.Given as goal
 abbrev pub invariant-loop-number : goal.invariant-loop-number
 invariant-loop-number g l = record {
   view : view l.new.pass ≡ Receives l.number [] [];
-  tally : IsTally {B = g.row.B.Denot} l.new.byes.items 0 (Receives l.senders [] []);
+  tally : IsTally {B = g.row.B.Denot} l.new.byes.items (Receives l.senders [] []);
   capacity : capacity_of (box_of l.new.pass) ≡ l.capacity;
   ports : l.ports.items ≡ map (λ number. outgoing (box_of l.new.pass) number []) (range_with_len 0 l.number);
 }

@@ -1,10 +1,11 @@
-use Rattle.std.proofs.Common.{◌≡◌, ◌∙◌, true, sym, refl, subst, rules}
+use Rattle.std.proofs.Common.{◌≡◌, ◌∙◌, true, sym, ap, refl, subst, rules}
 use Rattle.std.specs.List.{All}
+use Rattle.std.proofs.lemmas.List.Elements.{All-weaker}
 use Rattle.crossbeam_channel.specs.Claims.{view}
 use Rattle.rx_mailbox.specs.Boxes.{Outgoing, Incoming, HasBye}
-use Rattle.rx_mailbox.specs.Passes.{inbox_of, settled_of, IsEmptied}
+use Rattle.rx_mailbox.specs.Passes.{settled_of, taken_of, IsEmptied, IsNoted}
 use Rattle.rx_mailbox.specs.Settling.{GotAll}
-use Rattle.rx_mailbox.proofs.Joins.{byes_of_all, leaves_empty}
+use Rattle.rx_mailbox.proofs.Joins.{byes_of_all, leaves_empty, noted_came}
 use Rattle.rx_mailbox.proofs.settling.settle.Given as given
 use Rattle.rx_mailbox.proofs.settling.settle.Goals as goal
 
@@ -27,15 +28,21 @@ returns-clause-complete g c =
 -- by what the pass knows the box is empty
 is_emptied : (g : given.Over) (c : goal.After-join_all g) → IsEmptied (settled_of c.join_all.new.pass)
 is_emptied g c =
-    let ports = c.args.ports.items in
     let pass = c.join_all.new.pass in
     let once = c.is_each_once.ensures.0 c.if-not-is_each_once.false in
-    let got = subst (λ (inbox : Incoming _). All (GotAll inbox) ports) c.into_pass-pass.ensures.pass c.join_all.ensures.got in
-    let same = c.join_all.ensures.same ∙ c.into_pass-pass.ensures.pass in
+    let made = ap (λ (i : Incoming _). i.ports) (c.join_all.ensures.same ∙ c.into_pass-pass.ensures.pass) in
     record {
+      taken = taken_of (view pass);
       knows_both = c.join_all.ensures.reader.view_is;
-      queue = leaves_empty (view pass) c.args.inbox (inbox_of pass) ports c.join_all.ensures.reader same refl refl c.join_all.ensures.noted once got;
+      received = refl;
+      queue = leaves_empty (view pass) c.args.inbox.ports c.args.ports.items c.join_all.ensures.reader made c.join_all.ensures.noted once;
     }
+
+pub returns-clause-shares : goal.returns-clause-shares
+returns-clause-shares g c =
+    let pass = c.join_all.new.pass in
+    let received = ap (λ (i : Incoming _). i.received) (c.join_all.ensures.same ∙ c.into_pass-pass.ensures.pass) in
+    All-weaker (IsNoted (view pass)) (GotAll c.args.inbox) (λ port is. noted_came (view pass) c.args.inbox port received is) c.args.ports.items c.join_all.ensures.noted
 
 pub returns-clause-empty : goal.returns-clause-empty
 returns-clause-empty g c = is_emptied g c

@@ -1,6 +1,6 @@
 -- Every Bye was received where each port is marked.
 use Rattle.std.proofs.Common.{rules}
-use Rattle.rx_mailbox.proofs.inbox.Inbox.has_each_bye.Goals as goal
+use Rattle.rx_mailbox.proofs.inlet.Inlet.has_each_bye.Goals as goal
 
 pub returns : goal.returns
 returns g c = search rules

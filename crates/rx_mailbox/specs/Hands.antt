@@ -1,0 +1,14 @@
+-- What an inbox has in hand: letters that came with others at once, and that it did not hand out yet (this project's own rule).
+use Rattle.std.specs.Prelude.{◌≡◌, ◌≢◌, ◌<◌, ◌-◌, ℕ, List, [], ◌++◌, length, take}
+use Rattle.rx_mailbox.specs.Letters.{letters_with}
+use Rattle.rx_mailbox.specs.Boxes.{Incoming, incoming, HasBye}
+
+module _ {B : Type 0} where
+  -- what was received of all that came, where so many letters are in hand
+  abbrev pub without : Incoming B → ℕ → Incoming B
+  without inlet in_hand = incoming inlet.box inlet.ports (take (length inlet.received - in_hand) inlet.received)
+
+  -- these bodies, of a port that has not ended, came last and are in hand
+  pub record IsHand (inlet : Incoming B) (from : ℕ) (hand : List B) : Type 0 where
+    pub whole : inlet.received ≡ (without inlet (length hand)).received ++ letters_with from hand
+    pub port : hand ≢ [] → (from < inlet.ports) × ¬ HasBye inlet from

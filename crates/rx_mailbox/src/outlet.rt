@@ -1,0 +1,148 @@
+ghost use Rattle.std.specs.Prelude.{◌≡◌, MatchResult};
+ghost use Rattle.rx_mailbox.specs.declared.letter.Post.TheVariants.{Body, Bye};
+ghost use Rattle.rx_mailbox.specs.Batches.{bodies_in};
+ghost use Rattle.rx_mailbox.specs.Boxes.{with_bodies, with_post};
+
+use crate::batch::Batch;
+use crate::bells::SharedBells;
+use crate::channel::{BoxPass, BoxSender, put};
+use crate::ended_port::EndedPort;
+use crate::letter::Post;
+use rx_heap::Heap;
+use std::collections::VecDeque;
+use std::marker::Model;
+use std::sync::Wait;
+
+/// The way by which a port puts letters into its box. Contracts see a port that holds nothing back. No put wakes an inbox that
+/// sleeps, but where it waits for room.
+pub(crate) struct Outlet<B: Drop> {
+    pub(crate) number: u32,
+    pub(crate) sender: BoxSender<B>,
+    pub(crate) bells: SharedBells,
+    pub(crate) pass: BoxPass<B>,
+}
+
+// It stands here, and isn't derived, so that what lets go of an outlet is one call that is proved once.
+impl<B: Drop> Drop for Outlet<B> {
+    fn drop(self) {
+        let Outlet {
+            number: _,
+            sender,
+            bells,
+            pass: _,
+        } = self;
+        // The inbox is told once the last port is gone.
+        drop(sender);
+        bells.letter.ring();
+    }
+}
+
+impl<B: Drop> Model for Outlet<B> {
+    ghost use Rattle.std.specs.Prelude.{false};
+    ghost use Rattle.crossbeam_channel.specs.Claims.{view as pass_view, IsSeatAt};
+    ghost use Rattle.crossbeam_channel.specs.Ends.{sends_on};
+    ghost use Rattle.rx_mailbox.specs.Boxes.{Outgoing};
+    ghost use Rattle.rx_mailbox.specs.Passes.{port_of, IsPort};
+
+    ghost Value = { Outgoing B };
+
+    ghost view = { λ o. port_of o.number o.pass };
+
+    ghost invariant = { λ o. IsSeatAt (sends_on o.sender) o.pass × IsPort o.number false (pass_view o.pass) };
+}
+
+impl<B: Drop> Outlet<B> {
+    /// The number of its port.
+    pub(crate) fn number(&self) -> u32
+        ensures { result ≡ self.now.number }
+    {
+        self.number
+    }
+
+    /// Puts a body, and waits while the box is full. `Err` hands it back where the inbox is gone, and nothing changed.
+    pub(crate) fn put_one<R: Wait>(&mut self, rt: &R, body: B) -> Result<(), B>
+        ensures { MatchResult result
+            (λ _. self.new ≡ with_post self.old (Body body))
+            (λ back. (back ≡ body) × (self.new ≡ self.old)) }
+    {
+        match self.put(rt, Batch::One(body)) {
+            Ok(()) => Ok(()),
+            Err(Batch::One(body)) => Err(body),
+            Err(Batch::Many(_)) => unreachable!(),
+        }
+    }
+
+    /// Puts several bodies at once, and waits while the box is full. `Err` hands them back where the inbox is gone, and nothing
+    /// changed.
+    pub(crate) fn put_many<R: Wait>(
+        &mut self,
+        rt: &R,
+        bodies: VecDeque<B, Heap>,
+    ) -> Result<(), VecDeque<B, Heap>>
+        ensures { MatchResult result
+            (λ _. self.new ≡ with_bodies self.old bodies.items)
+            (λ back. (back.items ≡ bodies.items) × (self.new ≡ self.old)) }
+    {
+        match self.put(rt, Batch::Many(bodies)) {
+            Ok(()) => Ok(()),
+            Err(Batch::Many(bodies)) => Err(bodies),
+            Err(Batch::One(_)) => unreachable!(),
+        }
+    }
+
+    // Puts a batch.
+    fn put<R: Wait>(&mut self, rt: &R, batch: Batch<B>) -> Result<(), Batch<B>>
+        ensures { MatchResult result
+            (λ _. self.new ≡ with_bodies self.old (bodies_in batch))
+            (λ back. (back ≡ batch) × (self.new ≡ self.old)) }
+    {
+        let outcome = put(
+            rt,
+            &self.sender,
+            &self.bells,
+            &mut self.pass,
+            self.number,
+            Post::Body(batch),
+        );
+        match outcome {
+            Ok(()) => Ok(()),
+            Err(Post::Body(batch)) => Err(batch),
+            Err(Post::Bye) => unreachable!(),
+        }
+    }
+
+    /// Wakes the inbox, if it sleeps.
+    pub(crate) fn ring(&self) {
+        self.bells.letter.ring();
+    }
+
+    /// Puts Bye, after which this port puts nothing, and waits while the box is full. `Err` hands the outlet back where the inbox
+    /// is gone, and nothing changed.
+    pub(crate) fn finish<R: Wait>(self, rt: &R) -> Result<EndedPort<B>, Outlet<B>>
+        ensures { MatchResult result (λ ended. ended ≡ with_post self Bye) (λ back. back ≡ self) }
+    {
+        let Outlet {
+            number,
+            sender,
+            bells,
+            mut pass,
+        } = self;
+        match put(rt, &sender, &bells, &mut pass, number, Post::Bye) {
+            Ok(()) => {
+                bells.letter.ring();
+                Ok(EndedPort {
+                    number,
+                    sender,
+                    bells,
+                    pass,
+                })
+            }
+            Err(_) => Err(Outlet {
+                number,
+                sender,
+                bells,
+                pass,
+            }),
+        }
+    }
+}
