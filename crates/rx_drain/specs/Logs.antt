@@ -5,11 +5,10 @@ use Rattle.std.specs.Prelude.{◌==◌, ◌+◌, ◌||◌, ◌&&◌, if◌then�
 use Rattle.rx_mailbox.specs.declared.letter.Letter.{Letter}
 use Rattle.rx_mailbox.specs.declared.letter.Post.{Post}
 use Rattle.rx_mailbox.specs.declared.letter.Post.TheVariants.{Body, Bye}
-use Rattle.rx_mailbox.specs.Letters.{letter, ends}
+use Rattle.rx_mailbox.specs.Letters.{letter, ends, posts}
 use Rattle.rx_pump.specs.declared.call.Call.{Call}
 use Rattle.rx_pump.specs.declared.out.Out.{Out}
 use Rattle.rx_pump.specs.declared.out.Out.TheVariants.{Attach, Give, Detach}
-use Rattle.rx_pump.specs.Sends.{posts}
 use Rattle.rx_sink.specs.Attachments.{Attachment, Why, Mark, Sent, Change, Service, attaching, detaching, flushed, giving, kept_for, left, unchanged}
 use Rattle.rx_sink.specs.Stands.{addressed}
 use Rattle.rx_drain.specs.Calls.{calls_to}

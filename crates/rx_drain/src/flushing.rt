@@ -3,8 +3,9 @@ ghost use Rattle.std.specs.Prelude.{◌≡◌, ◌+◌, ◌<◌, ◌≤◌, fals
 ghost use Rattle.rx_pump.specs.Pumps.{AreSame};
 ghost use Rattle.rx_drain.specs.Drainers.{Fits, FlushesAll, FlushesAt, any_may_wait, view_of};
 
-use crate::sending::{send_asks, wake_all};
+use crate::sending::send_asks;
 use crate::{DrainFault, DrainerLeft};
+use rx_pump::ring_all;
 use rx_sink::{Kept, Sink, flush_one};
 use std::sync::Wait;
 use std::sync::atomic::AtomicU64;
@@ -29,9 +30,8 @@ pub fn flush_all<S: Sink, R: Wait>(
     ensures ports { AreSame (view_of hands.old false None).ports (view_of hands.new false result).ports }
     ensures flushes { FlushesAll S.acts (view_of hands.old false None) (view_of hands.new false result) }
 {
-    let mut asked = false;
-    let fault = flush_each(rt, hands, leave, false, &mut asked);
-    wake_all(&hands.parts.subjects, asked);
+    let fault = flush_each(rt, hands, leave, false);
+    ring_all(rt, &mut hands.parts.subjects);
     fault
 }
 
@@ -48,20 +48,18 @@ pub fn look_after<S: Sink, R: Wait>(
     ensures ports { AreSame (view_of hands.old false None).ports (view_of hands.new false result).ports }
     ensures flushes { FlushesAll S.acts (view_of hands.old false None) (view_of hands.new false result) }
 {
-    let mut asked = false;
-    let fault = flush_each(rt, hands, leave, true, &mut asked);
-    wake_all(&hands.parts.subjects, asked);
+    let fault = flush_each(rt, hands, leave, true);
+    ring_all(rt, &mut hands.parts.subjects);
     fault
 }
 
-// Flushes all sinks, or each in which something may wait, and wakes no subject that sleeps: many requests are put before one is
-// woken. It notes whether something was asked.
+// Flushes all sinks, or each in which something may wait. What it asks for may be held back, so that many requests go
+// at once.
 fn flush_each<S: Sink, R: Wait>(
     rt: &R,
     hands: &mut DrainerLeft<S>,
     leave: usize,
     all: bool,
-    asked: &mut bool,
 ) -> Option<DrainFault>
     requires { Fits leave false None hands.old }
     ensures fits { Fits leave false result hands.new }
@@ -74,7 +72,7 @@ fn flush_each<S: Sink, R: Wait>(
     while place > 0 {
         place -= 1;
         if all || hands.kept[place].may_wait {
-            let fault = flush_at(rt, hands, leave, place, asked);
+            let fault = flush_at(rt, hands, leave, place);
             if fault.is_some() {
                 return fault;
             }
@@ -121,14 +119,13 @@ pub fn may_wait<S: Sink>(kept: &[Kept<S>]) -> bool
     kept.iter().any(|one| one.may_wait)
 }
 
-// Flushes the sink at this place, and asks its subject for what is due, unless the sink is stuck. It notes whether something was
-// asked, and answers the fault, if there is one.
+// Flushes the sink at this place, and asks its subject for what is due, unless the sink is stuck. It answers the fault, if
+// there is one.
 fn flush_at<S: Sink, R: Wait>(
     rt: &R,
     hands: &mut DrainerLeft<S>,
     leave: usize,
     place: usize,
-    asked: &mut bool,
 ) -> Option<DrainFault>
     requires within { place < vec_len hands.old.kept }
     requires fits { Fits leave false None hands.old }
@@ -142,6 +139,5 @@ fn flush_at<S: Sink, R: Wait>(
     let subject = one.subject;
     let who = one.who;
     let asks = flush_one(&mut hands.kept, &mut hands.put_away, place, subject, who);
-    *asked = *asked || asks.items > 0 || asks.leaves;
     send_asks(rt, &mut hands.parts.subjects, subject, asks)
 }

@@ -6,11 +6,11 @@ ghost use Rattle.rx_pump.specs.Pumps.{AreSame};
 ghost use Rattle.rx_drain.specs.Drainers.{Fits, Goes, HandlesLetter, IsOfSubject, Pays, TakesMore, TakesSome, any_may_wait, view_of};
 
 use crate::flushing::{flush_all, flush_last, look_after, may_wait};
-use crate::sending::{part_all, send_asks, wake, wake_all};
+use crate::sending::{part_all, send_asks};
 use crate::serving_out::{finish_unserved, into_sink, serve_out};
 use crate::{DrainFault, DrainerLeft};
 use rx_mailbox::{Gone, Letter, Post, TryRecvFault};
-use rx_pump::{Out, finish_all};
+use rx_pump::{Out, finish_all, ring_all};
 use rx_sink::{Sink, put_all_away};
 use std::sync::Wait;
 use std::time::Duration;
@@ -66,7 +66,6 @@ pub fn handle<S: Sink, R: Wait>(
     );
     let _rest = finish_unserved(unserved);
     let fault = send_asks(rt, &mut hands.parts.subjects, from, asks);
-    wake(&hands.parts.subjects, from);
     Handled { left, fault }
 }
 
@@ -171,7 +170,8 @@ pub fn handle_more<S: Sink, R: Wait>(
     now
 }
 
-// Has go out what waits in the sinks, unless there is a fault. Once the drainer has left there are none.
+// Has go out what waits in the sinks, unless there is a fault, and what is held back for the subjects. Once the drainer has left
+// there are none.
 pub fn handle_rest<S: Sink, R: Wait>(
     rt: &R,
     hands: &mut DrainerLeft<S>,
@@ -187,6 +187,7 @@ pub fn handle_rest<S: Sink, R: Wait>(
     ensures pays { Pays S.acts (view_of hands.old handled.left handled.fault) (view_of hands.new result.left result.fault) }
 {
     if handled.left || handled.fault.is_some() {
+        ring_all(rt, &mut hands.parts.subjects);
         return handled;
     }
     let fault = flush_all(rt, hands, leave);
@@ -229,7 +230,6 @@ fn leave_all<S: Sink, R: Wait>(rt: &R, hands: &mut DrainerLeft<S>, leave: u32) -
     ensures handles { HandlesLetter S.acts (letters.letter leave Bye) (view_of hands.old false None) (view_of hands.new true result) }
 {
     let fault = part_all(rt, &mut hands.parts.subjects, hands.kept.as_slice());
-    wake_all(&hands.parts.subjects, true);
     put_all_away(&mut hands.kept, &mut hands.put_away);
     if fault.is_some() {
         return fault;

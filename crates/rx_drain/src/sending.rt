@@ -11,8 +11,8 @@ use rx_pump::Call;
 use rx_sink::{Asks, Kept, Sink};
 use std::sync::Wait;
 
-// Asks the subject for what it is to be asked, one item after another, and wakes no subject that sleeps. It answers the fault,
-// if there is one.
+// Asks the subject for what it is to be asked, one item after another. That may be held back, and need not wake the subject. It
+// answers the fault, if there is one.
 pub fn send_asks<S: Drop, R: Wait>(
     rt: &R,
     subjects: &mut Vec<Port<Call<S>>, Heap>,
@@ -34,8 +34,8 @@ pub fn send_asks<S: Drop, R: Wait>(
     None
 }
 
-// Asks for what is due of each sink, and has its observer disposed of, in their order, and wakes no subject that sleeps. It
-// answers the fault, if there is one.
+// Asks for what is due of each sink, and has its observer disposed of, in their order, as `send_asks` does. It answers the fault, if
+// there is one.
 pub fn part_all<S: Sink, R: Wait>(
     rt: &R,
     subjects: &mut Vec<Port<Call<S>>, Heap>,
@@ -57,25 +57,7 @@ pub fn part_all<S: Sink, R: Wait>(
     None
 }
 
-// Wakes the subject at a place, if there is a port to it and it sleeps.
-pub fn wake<S: Drop>(subjects: &Vec<Port<Call<S>>, Heap>, subject: u32) {
-    if let Some(port) = subjects.get(subject as usize) {
-        port.ring();
-    }
-}
-
-// Wakes the subjects that sleep, if something was asked of any.
-pub fn wake_all<S: Drop>(subjects: &Vec<Port<Call<S>>, Heap>, asked: bool) {
-    if !asked {
-        return;
-    }
-    for port in subjects.iter() {
-        port.ring();
-    }
-}
-
-// Sends an event to the subject at a place, if there is a port to it, and does not wake it. It answers the fault, if there is
-// one.
+// Sends an event to the subject at a place, if there is a port to it, as `send_asks` does. It answers the fault, if there is one.
 fn send<S: Drop, R: Wait>(
     rt: &R,
     subjects: &mut Vec<Port<Call<S>>, Heap>,

@@ -10,7 +10,7 @@ use Rattle.rx_mailbox.specs.declared.batch.Batch.{Batch}
 use Rattle.rx_mailbox.specs.declared.letter.Letter.{Letter}
 use Rattle.rx_mailbox.specs.declared.letter.Post.{Post}
 use Rattle.rx_mailbox.specs.declared.letter.Post.TheVariants.{Body, Bye}
-use Rattle.rx_mailbox.specs.Letters.{letter, letters_with, share, ends, has_bye}
+use Rattle.rx_mailbox.specs.Letters.{letter, posts, share, ends, has_bye}
 use Rattle.rx_mailbox.specs.Batches.{bodies_in, carried, carried_by, unpacked}
 
 module _ {B : Type 0} where
@@ -21,27 +21,27 @@ module _ {B : Type 0} where
   -- THE LETTERS OF ONE PORT
 
   -- the share of their port in letters of bodies is all of them
-  share-with : (port : ℕ) (bodies : List B) → share port (letters_with port bodies) ≡ letters_with port bodies
+  share-with : (port : ℕ) (bodies : List B) → share port (posts port bodies) ≡ posts port bodies
   share-with port [] = refl
   share-with port (body ∷ bodies) =
-      ap (λ b. cond b (letter port (Body body) ∷ share port (letters_with port bodies)) (share port (letters_with port bodies))) (eq-eqb port port refl)
+      ap (λ b. cond b (letter port (Body body) ∷ share port (posts port bodies)) (share port (posts port bodies))) (eq-eqb port port refl)
       ∙ ap (λ l. letter port (Body body) ∷ l) (share-with port bodies)
 
   -- that of another port is none
-  share-without : (port from : ℕ) (bodies : List B) → from ≢ port → share port (letters_with from bodies) ≡ []
+  share-without : (port from : ℕ) (bodies : List B) → from ≢ port → share port (posts from bodies) ≡ []
   share-without port from [] apart = refl
   share-without port from (body ∷ bodies) apart =
-      ap (λ b. cond b (letter from (Body body) ∷ share port (letters_with from bodies)) (share port (letters_with from bodies))) (ne_eqb from port apart)
+      ap (λ b. cond b (letter from (Body body) ∷ share port (posts from bodies)) (share port (posts from bodies))) (ne_eqb from port apart)
       ∙ share-without port from bodies apart
 
   -- no Bye stands among letters of bodies
-  pub bye-with : (from : ℕ) (bodies : List B) → has_bye (letters_with from bodies) ≡ false
+  pub bye-with : (from : ℕ) (bodies : List B) → has_bye (posts from bodies) ≡ false
   bye-with from [] = refl
   bye-with from (body ∷ bodies) = bye-with from bodies
 
-  pub bye_share-with : (port from : ℕ) (bodies : List B) → has_bye (share port (letters_with from bodies)) ≡ false
+  pub bye_share-with : (port from : ℕ) (bodies : List B) → has_bye (share port (posts from bodies)) ≡ false
   bye_share-with port from bodies = ⊎_elim
-      (λ same. ap (λ n. has_bye (share port (letters_with n bodies))) same ∙ ap has_bye (share-with port bodies) ∙ bye-with port bodies)
+      (λ same. ap (λ n. has_bye (share port (posts n bodies))) same ∙ ap has_bye (share-with port bodies) ∙ bye-with port bodies)
       (λ apart. ap has_bye (share-without port from bodies apart))
       (cases_eq from port)
 
@@ -91,8 +91,8 @@ module _ {B : Type 0} where
   bye_share-append port xs ys = ap has_bye (filter-append _ xs ys) ∙ list_any-append (λ (y : Letter B). ends y.post) (share port xs) (share port ys)
 
   -- letters of bodies hold no Bye
-  pub bye_share-before : (port from : ℕ) (xs : List (Letter B)) (bodies : List B) → has_bye (share port (xs ++ letters_with from bodies)) ≡ has_bye (share port xs)
+  pub bye_share-before : (port from : ℕ) (xs : List (Letter B)) (bodies : List B) → has_bye (share port (xs ++ posts from bodies)) ≡ has_bye (share port xs)
   bye_share-before port from xs bodies =
-      bye_share-append port xs (letters_with from bodies)
+      bye_share-append port xs (posts from bodies)
       ∙ ap (λ b. has_bye (share port xs) || b) (bye_share-with port from bodies)
       ∙ or-false (has_bye (share port xs))

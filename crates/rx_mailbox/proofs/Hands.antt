@@ -4,7 +4,7 @@ use Rattle.std.proofs.Math.Seq.{take-append_seam, take-length}
 use Rattle.std.proofs.lemmas.List.{length-append, length-map, length_push}
 use Rattle.rx_mailbox.specs.declared.letter.Letter.{Letter}
 use Rattle.rx_mailbox.specs.declared.letter.Post.TheVariants.{Body}
-use Rattle.rx_mailbox.specs.Letters.{letter, letters_with, share, has_bye}
+use Rattle.rx_mailbox.specs.Letters.{letter, posts, share, has_bye}
 use Rattle.rx_mailbox.specs.Boxes.{Incoming, incoming, with_letters, HasBye, HasEachBye}
 use Rattle.rx_mailbox.specs.Hands.{without, IsHand}
 use Rattle.rx_mailbox.specs.Settling.{letter_count}
@@ -16,20 +16,20 @@ counted_more letters received x is = let n : length (received ++ x ∷ []) ≡ l
 
 module _ {B : Type 0} where
   -- what is left of a list without its end
-  seam : (received front : List (Letter B)) (from : ℕ) (hand : List B) → received ≡ front ++ letters_with from hand → take (length received - length hand) received ≡ front
+  seam : (received front : List (Letter B)) (from : ℕ) (hand : List B) → received ≡ front ++ posts from hand → take (length received - length hand) received ≡ front
   seam received front from hand is =
-      let count : length received ≡ length front + length hand = ap length is ∙ length-append front (letters_with from hand) ∙ ap (λ n. length front + n) (length-map hand (λ body. letter from (Body body))) in
+      let count : length received ≡ length front + length hand = ap length is ∙ length-append front (posts from hand) ∙ ap (λ n. length front + n) (length-map hand (λ body. letter from (Body body))) in
       let short : length received - length hand ≡ length front = omega arith in
-      ap (λ n. take n received) short ∙ ap (λ l. take (length front) l) is ∙ take-append_seam front (letters_with from hand)
+      ap (λ n. take n received) short ∙ ap (λ l. take (length front) l) is ∙ take-append_seam front (posts from hand)
 
   -- the first body in hand is handed out
   pub handed_out : (inlet : Incoming B) (from : ℕ) (body : B) (rest : List B) → IsHand inlet from (body ∷ rest)
       → IsHand inlet from rest × ((without inlet (length rest)).received ≡ (without inlet (length (body ∷ rest))).received ++ letter from (Body body) ∷ [])
   handed_out inlet from body rest hand =
       let front = (without inlet (length (body ∷ rest))).received ++ letter from (Body body) ∷ [] in
-      let whole : inlet.received ≡ front ++ letters_with from rest = hand.whole ∙ sym (append_assoc (without inlet (length (body ∷ rest))).received (letter from (Body body) ∷ []) (letters_with from rest)) in
+      let whole : inlet.received ≡ front ++ posts from rest = hand.whole ∙ sym (append_assoc (without inlet (length (body ∷ rest))).received (letter from (Body body) ∷ []) (posts from rest)) in
       let is : (without inlet (length rest)).received ≡ front = seam inlet.received front from rest whole in
-      (record { whole = whole ∙ ap (λ l. l ++ letters_with from rest) (sym is); port = λ _. hand.port (λ e. cc) }, is)
+      (record { whole = whole ∙ ap (λ l. l ++ posts from rest) (sym is); port = λ _. hand.port (λ e. cc) }, is)
 
   -- an inbox with nothing in hand has handed out all that came
   pub none_in_hand : (inlet : Incoming B) (hand : List B) → hand ≡ [] → without inlet (length hand) ≡ inlet
@@ -38,15 +38,14 @@ module _ {B : Type 0} where
       ap (λ (l : List B). without inlet (length l)) none ∙ ap (λ n. incoming inlet.box inlet.ports (take n inlet.received)) all ∙ ap (λ l. incoming inlet.box inlet.ports l) (take-length inlet.received)
 
   -- bodies that came at once are taken in hand, where nothing is
-  pub hand_filled : (inlet next : Incoming B) (from : ℕ) (hand bodies : List B) → hand ≡ [] → next ≡ with_letters inlet (letters_with from bodies) → from < inlet.ports → ¬ HasBye inlet from
+  pub hand_filled : (inlet next : Incoming B) (from : ℕ) (hand bodies : List B) → hand ≡ [] → next ≡ with_letters inlet (posts from bodies) → from < inlet.ports → ¬ HasBye inlet from
       → IsHand next from bodies × (without next (length bodies) ≡ without inlet (length hand))
   hand_filled inlet next from hand bodies none is below open_yet =
-      let received : next.received ≡ inlet.received ++ letters_with from bodies = ap (λ (i : Incoming B). i.received) is in
+      let received : next.received ≡ inlet.received ++ posts from bodies = ap (λ (i : Incoming B). i.received) is in
       let front : (without next (length bodies)).received ≡ inlet.received = seam next.received inlet.received from bodies received in
-      let bye = ap (λ l. has_bye (share from l)) received ∙ bye_share-before from from inlet.received bodies in
-      (
+      let bye = ap (λ l. has_bye (share from l)) received ∙ bye_share-before from from inlet.received bodies in (
         record {
-          whole = received ∙ ap (λ l. l ++ letters_with from bodies) (sym front);
+          whole = received ∙ ap (λ l. l ++ posts from bodies) (sym front);
           port = λ _. (subst (λ (i : Incoming B). from < i.ports) (sym is) below, λ yes. open_yet (sym bye ∙ yes));
         },
         ap (λ l. incoming next.box next.ports l) front ∙ ap (λ (i : Incoming B). incoming i.box i.ports inlet.received) is ∙ sym (none_in_hand inlet hand none),

@@ -6,7 +6,7 @@ use Rattle.rx_mailbox.specs.declared.batch.Batch.TheVariants.{One, Many}
 use Rattle.rx_mailbox.specs.declared.letter.Letter.{Letter}
 use Rattle.rx_mailbox.specs.declared.letter.Post.{Post}
 use Rattle.rx_mailbox.specs.declared.letter.Post.TheVariants.{Body, Bye}
-use Rattle.rx_mailbox.specs.Letters.{letter, letters_with}
+use Rattle.rx_mailbox.specs.Letters.{letter, posts}
 
 module _ {B : Type 0} where
   -- the bodies of a batch, in their order
@@ -16,7 +16,7 @@ module _ {B : Type 0} where
 
   -- the letters that a port's post to the channel carries: one for each body, or the Bye
   abbrev pub carried_by : ℕ → Post (Batch B) → List (Letter B)
-  carried_by from (Body batch) = letters_with from (bodies_in batch)
+  carried_by from (Body batch) = posts from (bodies_in batch)
   carried_by from Bye = letter from Bye ∷ []
 
   -- the letters that a letter of the channel carries

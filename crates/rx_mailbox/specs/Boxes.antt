@@ -8,7 +8,7 @@ use Rattle.crossbeam_channel.specs.declared.flavors.array.Key.{Key}
 use Rattle.rx_mailbox.specs.declared.batch.Batch.{Batch}
 use Rattle.rx_mailbox.specs.declared.letter.Letter.{Letter}
 use Rattle.rx_mailbox.specs.declared.letter.Post.{Post}
-use Rattle.rx_mailbox.specs.Letters.{letter, letters_with, share, has_bye}
+use Rattle.rx_mailbox.specs.Letters.{letter, posts, share, has_bye}
 
 -- which box: all parts that come from one `open` name the same
 abbrev pub Box : Type 0 → Type 0
@@ -44,8 +44,8 @@ module _ {B : Type 0} where
   with_post port post = outgoing port.box port.number (port.own ++ letter port.number post ∷ [])
 
   -- the port after it put a letter for each of these bodies
-  abbrev pub with_bodies : Outgoing B → List B → Outgoing B
-  with_bodies port bodies = outgoing port.box port.number (port.own ++ letters_with port.number bodies)
+  abbrev pub with_bodies : List B → Outgoing B → Outgoing B
+  with_bodies bodies port = outgoing port.box port.number (port.own ++ posts port.number bodies)
 
   -- the inbox after it received these letters
   abbrev pub with_letters : Incoming B → List (Letter B) → Incoming B

@@ -1,6 +1,6 @@
 -- What an inbox has in hand: letters that came with others at once, and that it did not hand out yet (this project's own rule).
 use Rattle.std.specs.Prelude.{◌≡◌, ◌≢◌, ◌<◌, ◌-◌, ℕ, List, [], ◌++◌, length, take}
-use Rattle.rx_mailbox.specs.Letters.{letters_with}
+use Rattle.rx_mailbox.specs.Letters.{posts}
 use Rattle.rx_mailbox.specs.Boxes.{Incoming, incoming, HasBye}
 
 module _ {B : Type 0} where
@@ -10,5 +10,5 @@ module _ {B : Type 0} where
 
   -- these bodies, of a port that has not ended, came last and are in hand
   pub record IsHand (inlet : Incoming B) (from : ℕ) (hand : List B) : Type 0 where
-    pub whole : inlet.received ≡ (without inlet (length hand)).received ++ letters_with from hand
+    pub whole : inlet.received ≡ (without inlet (length hand)).received ++ posts from hand
     pub port : hand ≢ [] → (from < inlet.ports) × ¬ HasBye inlet from

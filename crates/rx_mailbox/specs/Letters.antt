@@ -11,8 +11,8 @@ module _ {B : Type 0} where
   letter from post = record { from = from; post = post }
 
   -- the letters of a port with these bodies, in their order
-  abbrev pub letters_with : ℕ → List B → List (Letter B)
-  letters_with from bodies = map (λ body. letter from (Body body)) bodies
+  abbrev pub posts : ℕ → List B → List (Letter B)
+  posts from bodies = map (λ body. letter from (Body body)) bodies
 
   -- the share of a port in a list of letters: its own letters, in their order
   abbrev pub share : ℕ → List (Letter B) → List (Letter B)

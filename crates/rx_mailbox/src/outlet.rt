@@ -80,7 +80,7 @@ impl<B: Drop> Outlet<B> {
         bodies: VecDeque<B, Heap>,
     ) -> Result<(), VecDeque<B, Heap>>
         ensures { MatchResult result
-            (λ _. self.new ≡ with_bodies self.old bodies.items)
+            (λ _. self.new ≡ with_bodies bodies.items self.old)
             (λ back. (back.items ≡ bodies.items) × (self.new ≡ self.old)) }
     {
         match self.put(rt, Batch::Many(bodies)) {
@@ -93,7 +93,7 @@ impl<B: Drop> Outlet<B> {
     // Puts a batch.
     fn put<R: Wait>(&mut self, rt: &R, batch: Batch<B>) -> Result<(), Batch<B>>
         ensures { MatchResult result
-            (λ _. self.new ≡ with_bodies self.old (bodies_in batch))
+            (λ _. self.new ≡ with_bodies (bodies_in batch) self.old)
             (λ back. (back ≡ batch) × (self.new ≡ self.old)) }
     {
         let outcome = put(

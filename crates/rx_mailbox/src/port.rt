@@ -37,7 +37,7 @@ impl<B: Drop> Model for Port<B> {
 
     ghost Value = { Outgoing B };
 
-    ghost view = { λ p. with_bodies p.outlet p.held.items };
+    ghost view = { λ p. with_bodies p.held.items p.outlet };
 
     ghost invariant = { λ p. ⊤ };
 }
@@ -65,9 +65,9 @@ impl<B: Drop> Port<B> {
         outcome
     }
 
-    /// As `send`, but may hold the letter back so that it goes into the box with some that follow, and wakes no inbox that sleeps:
-    /// where a letter or more were put so, `ring` is to follow. What is held back goes at the latest before the next letter that
-    /// is not, and before the end of this port; a port that is let go without an end keeps it for itself.
+    /// As `send`, but may hold the letter back, so that it goes into the box with some that follow, and need not wake an inbox
+    /// that sleeps: where a letter or more were put so, `ring` is to follow. What is held back goes before a letter that is not
+    /// and before the end of this port. A port that is let go without an end keeps it for itself.
     pub fn send_quietly<R: Wait>(&mut self, rt: &R, body: B) -> Result<(), B>
         ensures { MatchResult result
             (λ _. self.new ≡ with_post self.old (Body body))
@@ -90,6 +90,8 @@ impl<B: Drop> Port<B> {
         if !put_held(rt, &mut self.outlet, &self.lists, &mut self.held) {
             return Err(body);
         }
+        // Who never rests rings seldom.
+        self.outlet.ring();
         if self.held.capacity() == 0
             && let Some(list) = self.lists.take(rt)
         {
@@ -146,7 +148,7 @@ fn put_held<B: Drop, R: Wait>(
     lists: &SharedLists<B>,
     held: &mut VecDeque<B, Heap>,
 ) -> bool
-    ensures same { with_bodies outlet.new held.new.items ≡ with_bodies outlet.old held.old.items }
+    ensures same { with_bodies held.new.items outlet.new ≡ with_bodies held.old.items outlet.old }
     ensures none { result ≡ true → held.new.items ≡ [] }
 {
     if held.len() < 2 {
@@ -167,7 +169,7 @@ fn put_held<B: Drop, R: Wait>(
 
 // Puts what is held back, one body after another, as `put_held` does.
 fn put_each<B: Drop, R: Wait>(rt: &R, outlet: &mut Outlet<B>, held: &mut VecDeque<B, Heap>) -> bool
-    ensures same { with_bodies outlet.new held.new.items ≡ with_bodies outlet.old held.old.items }
+    ensures same { with_bodies held.new.items outlet.new ≡ with_bodies held.old.items outlet.old }
     ensures none { result ≡ true → held.new.items ≡ [] }
 {
     while let Some(body) = held.pop_front() {

@@ -1,5 +1,5 @@
 -- The reply with the ticket of a call is the reply to that call.
-use Rattle.std.proofs.Common.{◌≡◌, ◌∙◌, sym, refl, ap, subst, ℕ, ◌+◌, ◌<◌, ◌==◌, ◌⊎◌, List, [], ◌∷◌, ◌++◌, append-nil, length, length-append, map, get_or, Option, Some, Ok, Err, slice_get, inl, inr, arith}
+use Rattle.std.proofs.Common.{◌≡◌, ◌∙◌, sym, refl, ap, subst, ℕ, ◌<◌, ◌==◌, ◌⊎◌, List, [], ◌∷◌, ◌++◌, append-nil, length, length-append, map, get_or, Option, Some, Ok, Err, slice_get, inl, inr, arith}
 use Rattle.std.specs.List.{All, Contains}
 use Rattle.std.specs.Option.{option_map}
 use Rattle.std.proofs.Math.Seq.{get_or-append_seam}
@@ -14,12 +14,11 @@ use Rattle.rx_history.specs.Histories.{answer}
 use Rattle.rx_mailbox.specs.declared.letter.Letter.{Letter}
 use Rattle.rx_mailbox.specs.declared.letter.Post.{Post}
 use Rattle.rx_mailbox.specs.declared.letter.Post.TheVariants.{Body, Bye}
-use Rattle.rx_mailbox.specs.Letters.{letter, share}
-use Rattle.rx_mailbox.specs.Boxes.{Outgoing, Incoming, with_letter}
+use Rattle.rx_mailbox.specs.Letters.{letter, share, posts}
+use Rattle.rx_mailbox.specs.Boxes.{Outgoing, Incoming, with_letter, with_bodies}
 use Rattle.rx_pump.specs.declared.call.Call.{Call}
 use Rattle.rx_pump.specs.declared.reply.Reply.{Reply}
 use Rattle.rx_pump.specs.Marks.{Marked, NoLetters, Made, Refused, Ended, letters_of, history_of, replies, reply_to, to_port}
-use Rattle.rx_pump.specs.Sends.{posts, with_bodies}
 use Rattle.rx_pump.specs.Desks.{DeskView, Called, next_call, ticket_in, tickets_in, Rise}
 use Rattle.rx_pump.specs.Replying.{IsReplyTo, Meets}
 use Rattle.rx_pump.proofs.Pumping.{option_map_some}

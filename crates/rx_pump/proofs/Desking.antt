@@ -8,15 +8,16 @@ use Rattle.std.specs.Option.{option_map}
 use Rattle.rx_mailbox.specs.declared.letter.Letter.{Letter}
 use Rattle.rx_mailbox.specs.declared.letter.Post.{Post}
 use Rattle.rx_mailbox.specs.declared.letter.Post.TheVariants.{Body, Bye}
-use Rattle.rx_mailbox.specs.Letters.{letter}
-use Rattle.rx_mailbox.specs.Boxes.{Outgoing, Incoming}
+use Rattle.rx_mailbox.specs.Letters.{letter, posts}
+use Rattle.rx_mailbox.specs.Boxes.{Outgoing, Incoming, with_bodies}
 use Rattle.rx_pump.specs.declared.call.Call.{Call}
 use Rattle.rx_pump.specs.declared.call_error.CallError.{CallError}
 use Rattle.rx_pump.specs.declared.call_error.CallError.TheVariants.{SubjectGone, Strange}
 use Rattle.rx_pump.specs.declared.reply.Reply.{Reply}
 use Rattle.rx_pump.specs.Desks.{DeskView, AreUpTo, IsUpTo, KeepsDesk, ReceivesReply, Rise, TicketsRise, ticket_in, tickets_in}
 use Rattle.rx_pump.specs.Marks.{to_port}
-use Rattle.rx_pump.specs.Sends.{posts, with_bodies, with_bye, Puts, EndsSome}
+use Rattle.rx_pump.specs.Pumps.{IsFresh}
+use Rattle.rx_pump.specs.Sends.{with_bye, Puts, EndsSome}
 use Rattle.rx_pump.proofs.Pumping.{AreSame-puts}
 use Rattle.rx_pump.proofs.Replied.{tickets_in-append}
 use Rattle.rx_pump.proofs.Answering.{Rise-push}
@@ -104,6 +105,15 @@ module _ {S : Type 0} where
       let at : slice_get after k ≡ Some (with_bodies (to_port subject k call) old) = put.at k ∙ ap (option_map (with_bodies (to_port subject k call))) (slice_get-get_or before k d inside) in
       let now : get_or after k d ≡ with_bodies (to_port subject k call) old = get_or_from_slice_get after k _ d at in
       subst (λ (p : Outgoing (Call S)). Rise (tickets_in p.own)) (sym now) (Rise-post ticket old.number subject k call old.own next (up k d inside) (rise k d inside))
+
+  -- new ports put nothing, so none has a ticket
+  pub AreUpTo-fresh : (ports : List (Outgoing (Call S))) → All IsFresh ports → AreUpTo 0 ports
+  AreUpTo-fresh ports fresh = All-weaker IsFresh (λ (port : Outgoing (Call S)). All (λ x. IsUpTo 0 x.post) port.own)
+      (λ port none. subst (λ l. All (λ (x : Letter (Call S)). IsUpTo 0 x.post) l) (sym none) (All-nil (λ (x : Letter (Call S)). IsUpTo 0 x.post))) ports fresh
+
+  pub TicketsRise-fresh : (ports : List (Outgoing (Call S))) → All IsFresh ports → TicketsRise ports
+  TicketsRise-fresh ports fresh = All-weaker IsFresh (λ (port : Outgoing (Call S)). Rise (tickets_in port.own))
+      (λ port none. subst (λ (l : List (Letter (Call S))). Rise (tickets_in l)) (sym none) (λ i j d before within. absurd (omega arith))) ports fresh
 
   -- a Bye has no ticket
   pub TicketsRise-byes : (ports : List (Outgoing (Call S))) → TicketsRise ports → TicketsRise (map with_bye ports)

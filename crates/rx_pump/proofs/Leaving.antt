@@ -3,7 +3,7 @@ use Rattle.std.proofs.Common.{◌≡◌, ◌∙◌, sym, refl, ap, subst, ℕ, �
 use Rattle.std.proofs.lemmas.List.{map-append, length-map}
 use Rattle.std.proofs.lemmas.Option.{slice_get-map}
 use Rattle.rx_mailbox.specs.declared.letter.Post.TheVariants.{Bye}
-use Rattle.rx_mailbox.specs.Letters.{letter}
+use Rattle.rx_mailbox.specs.Letters.{letter, posts}
 use Rattle.rx_mailbox.specs.Boxes.{Outgoing, Incoming, HasEachBye}
 use Rattle.rx_note.specs.declared.rules.Rules.{Rules}
 use Rattle.rx_hub.specs.Hubs.{HubView}
@@ -15,8 +15,8 @@ use Rattle.rx_pump.specs.declared.out.Out.{Out}
 use Rattle.rx_pump.specs.declared.reply.Reply.{Reply}
 use Rattle.rx_pump.specs.declared.pump_stop.PumpStop.{PumpStop}
 use Rattle.rx_pump.specs.Marks.{Marked, route, replies}
-use Rattle.rx_pump.specs.Sends.{posts, with_bye, EndsSome}
-use Rattle.rx_pump.specs.Pumps.{PumpView, HavePut, HavePutUpTo, AreSame, port_place, Accounts, Pumps, IsPumped, KeepsPump}
+use Rattle.rx_pump.specs.Sends.{with_bye, EndsSome}
+use Rattle.rx_pump.specs.Pumps.{PumpView, HavePut, HavePutUpTo, AreSame, port_place, Accounts, IsPumped, KeepsPump}
 use Rattle.rx_pump.specs.Serving.{HaveEnded, HaveEndedSome, HasPumped, StopsInTurn, IsNextToEnd, StopsAtEnd, PumpHasStopped}
 use Rattle.rx_pump.proofs.Placing.{slice_get-append_left, slice_get-append_right}
 use Rattle.rx_pump.proofs.Pumping.{HavePut-same, AreSame-length, option_map_some}

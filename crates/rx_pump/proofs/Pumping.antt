@@ -1,5 +1,5 @@
 -- What a pump did with the letters so far, and with one letter more.
-use Rattle.std.proofs.Common.{◌≡◌, ◌∙◌, sym, refl, ap, subst, ℕ, ◌+◌, ◌-◌, ◌^◌, ◌<◌, ◌%◌, ◌==◌, min, Bool, true, false, List, [], ◌∷◌, ◌++◌, append_assoc, append-nil, length, map, Option, Some, None, slice_get, inl, inr, arith}
+use Rattle.std.proofs.Common.{◌≡◌, ◌∙◌, sym, refl, ap, subst, ℕ, ◌+◌, ◌-◌, ◌^◌, ◌<◌, ◌%◌, ◌==◌, min, List, [], ◌∷◌, ◌++◌, append_assoc, length, map, Option, Some, None, slice_get, inl, inr, arith}
 use Rattle.std.proofs.lemmas.Bool.Decides.{eqb_tells}
 use Rattle.std.proofs.lemmas.List.{map-append, length-map}
 use Rattle.std.proofs.lemmas.List.Elements.{filter-append}
@@ -8,14 +8,14 @@ use Rattle.std.specs.List.{All}
 use Rattle.std.specs.Option.{option_map}
 use Rattle.rx_note.specs.declared.rules.Rules.{Rules}
 use Rattle.rx_mailbox.specs.declared.letter.Post.TheVariants.{Body}
-use Rattle.rx_mailbox.specs.Letters.{letter}
-use Rattle.rx_mailbox.specs.Boxes.{Outgoing}
+use Rattle.rx_mailbox.specs.Letters.{letter, posts}
+use Rattle.rx_mailbox.specs.Boxes.{Outgoing, with_bodies}
 use Rattle.rx_pump.specs.declared.out.Out.{Out}
 use Rattle.rx_pump.specs.declared.pump_fault.PumpFault.{PumpFault}
 use Rattle.rx_pump.specs.declared.pump_fault.PumpFault.TheVariants.{InboxGone, DrainerGone, CallerGone}
 use Rattle.rx_pump.specs.declared.reply.Reply.{Reply}
 use Rattle.rx_pump.specs.Marks.{Marked, sent, replies, for_drainer, who_of, to_port}
-use Rattle.rx_pump.specs.Sends.{posts, with_bodies, Puts, PutsFor}
+use Rattle.rx_pump.specs.Sends.{Puts, PutsFor}
 use Rattle.rx_pump.specs.Turns.{Ports, Sends}
 use Rattle.rx_pump.specs.Pumps.{counted, HavePut, IsFresh, port_place, AreSame, before_last, PutAll, HavePutUpTo}
 use Rattle.rx_pump.proofs.Placing.{same_by_place}

@@ -6,10 +6,11 @@ use Rattle.std.proofs.lemmas.List.{map-append, set-get_or}
 use Rattle.std.proofs.lemmas.List.Elements.{filter-append}
 use Rattle.std.proofs.lemmas.Option.{slice_get_read, slice_get_past}
 use Rattle.std.specs.Option.{option_map}
-use Rattle.rx_mailbox.specs.Boxes.{Outgoing, outgoing}
+use Rattle.rx_mailbox.specs.Boxes.{Outgoing, outgoing, with_bodies}
+use Rattle.rx_mailbox.specs.Letters.{posts}
 use Rattle.rx_pump.specs.declared.out.Out.{Out}
 use Rattle.rx_pump.specs.Marks.{to_port, for_drainer, who_of}
-use Rattle.rx_pump.specs.Sends.{posts, with_bodies, Puts, PutsFor, StopsAt, SendsOuts}
+use Rattle.rx_pump.specs.Sends.{Puts, PutsFor, StopsAt, SendsOuts}
 use Rattle.rx_pump.proofs.Placing.{slice_get-set_same, slice_get-set_other, option_map-same, option_map-then}
 
 module _ {X : Type 0} where

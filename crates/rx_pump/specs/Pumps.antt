@@ -5,6 +5,7 @@ use Rattle.rx_history.specs.Histories.{NoEvents}
 use Rattle.rx_hub.specs.Hubs.{HubView, StandsFor}
 use Rattle.rx_mailbox.specs.declared.letter.Letter.{Letter}
 use Rattle.rx_mailbox.specs.Boxes.{Box, Outgoing, Incoming, with_letter}
+use Rattle.rx_mailbox.specs.Letters.{posts}
 use Rattle.rx_pump.specs.declared.call.Call.{Call}
 use Rattle.rx_pump.specs.declared.out.Out.{Out}
 use Rattle.rx_pump.specs.declared.pump_fault.PumpFault.{PumpFault}
@@ -13,7 +14,6 @@ use Rattle.rx_pump.specs.declared.pump_parts.PumpParts.{PumpParts}
 use Rattle.rx_pump.specs.declared.reply.Reply.{Reply}
 use Rattle.rx_note.specs.declared.rules.Rules.{Rules}
 use Rattle.rx_pump.specs.Marks.{Marked, NoLetters, Made, Refused, Ended, letters_of, bodies_in, refused_in, history_of, AreAcceptable, sent, who_of, for_drainer, route, replies}
-use Rattle.rx_pump.specs.Sends.{posts}
 
 -- a count of a pump, up to the greatest `u64`
 abbrev pub counted : ℕ → ℕ

@@ -7,12 +7,11 @@ use Rattle.rx_note.specs.declared.rules.Rules.{Rules}
 use Rattle.rx_history.specs.Histories.{answer}
 use Rattle.rx_mailbox.specs.declared.letter.Letter.{Letter}
 use Rattle.rx_mailbox.specs.declared.letter.Post.TheVariants.{Body, Bye}
-use Rattle.rx_mailbox.specs.Letters.{letter, share}
+use Rattle.rx_mailbox.specs.Letters.{letter, share, posts}
 use Rattle.rx_mailbox.specs.Boxes.{Outgoing}
 use Rattle.rx_pump.specs.declared.call.Call.{Call}
 use Rattle.rx_pump.specs.declared.reply.Reply.{Reply}
 use Rattle.rx_pump.specs.Marks.{Marked, NoLetters, Made, Refused, Ended, letters_of, history_of, replies, reply_to}
-use Rattle.rx_pump.specs.Sends.{posts}
 use Rattle.rx_pump.specs.Desks.{DeskView, Called, next_call, tickets_in, Rise}
 
 -- the replies to a port have the tickets of its calls, in their order: each call is replied to once

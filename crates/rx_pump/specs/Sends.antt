@@ -1,22 +1,12 @@
 -- What several ports put, each its own bodies (this project's own rule).
 use Rattle.std.specs.Prelude.{◌≡◌, ◌<◌, ℕ, List, ◌∷◌, ◌++◌, length, map, slice_get, Result, Ok, Err, ◌%◌}
 use Rattle.std.specs.Option.{option_map}
-use Rattle.rx_mailbox.specs.declared.letter.Letter.{Letter}
-use Rattle.rx_mailbox.specs.declared.letter.Post.TheVariants.{Body, Bye}
-use Rattle.rx_mailbox.specs.Letters.{letter}
-use Rattle.rx_mailbox.specs.Boxes.{Outgoing, outgoing, with_post}
+use Rattle.rx_mailbox.specs.declared.letter.Post.TheVariants.{Bye}
+use Rattle.rx_mailbox.specs.Boxes.{Outgoing, with_post, with_bodies}
 use Rattle.rx_pump.specs.declared.out.Out.{Out}
 use Rattle.rx_pump.specs.Marks.{for_drainer, who_of}
 
 module _ {X : Type 0} where
-  -- the letters of a port with these bodies
-  abbrev pub posts : ℕ → List X → List (Letter X)
-  posts port bodies = map (λ body. letter port (Body body)) bodies
-
-  -- the port after it put these bodies
-  abbrev pub with_bodies : List X → Outgoing X → Outgoing X
-  with_bodies bodies port = outgoing port.box port.number (port.own ++ posts port.number bodies)
-
   -- the port at each place put its bodies, and nothing else
   pub record Puts (bodies : ℕ → List X) (before after : List (Outgoing X)) : Type 0 where
     pub count : length after ≡ length before

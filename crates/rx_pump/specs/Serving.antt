@@ -1,14 +1,13 @@
 -- What a pump leaves that has served to its end, or to a fault (this project's own rule).
 use Rattle.std.specs.Prelude.{◌≡◌, ◌+◌, ◌<◌, ◌⊎◌, ℕ, List, [], ◌∷◌, ◌++◌, length, Some, None, slice_get}
 use Rattle.rx_mailbox.specs.declared.letter.Post.TheVariants.{Bye}
-use Rattle.rx_mailbox.specs.Letters.{letter}
+use Rattle.rx_mailbox.specs.Letters.{letter, posts}
 use Rattle.rx_mailbox.specs.Boxes.{Outgoing, HasEachBye}
 use Rattle.rx_pump.specs.declared.pump_end.PumpEnd.{PumpEnd}
 use Rattle.rx_pump.specs.declared.pump_fault.PumpFault.{PumpFault}
 use Rattle.rx_pump.specs.declared.pump_fault.PumpFault.TheVariants.{InboxGone, DrainerGone, CallerGone}
 use Rattle.rx_pump.specs.declared.pump_stop.PumpStop.{PumpStop}
 use Rattle.rx_pump.specs.Marks.{Marked, bodies_in, refused_in, route, replies}
-use Rattle.rx_pump.specs.Sends.{posts}
 use Rattle.rx_pump.specs.Pumps.{counted, HavePut, HavePutUpTo, AreSame, Accounts, PumpView}
 
 module _ {X : Type 0} where

@@ -10,7 +10,7 @@ use crate::out::Out;
 use crate::pump_fault::PumpFault;
 use crate::pump_parts::PumpParts;
 use crate::reply::Reply;
-use crate::sending::{detach, leaver, part, send_all, wake_all};
+use crate::sending::{detach, leaver, part, send_all};
 use rx_heap::Heap;
 use rx_mailbox::Port;
 use rx_note::{Answer, Given, Refusal};
@@ -65,29 +65,9 @@ fn is_memory(answered: Result<Answer, Refusal>) -> bool
     matches!(answered, Err(Refusal::Memory))
 }
 
-// Sends what a call sends, and then its reply. It answers the fault, if there is one. The caller is woken first, so that
-// it goes on beside the drainers; each of these is woken once, for all that it was sent.
+// Sends what a call sends, and then its reply. It answers the fault, if there is one. The caller is woken, so that it goes on,
+// and the drainers need not be.
 fn send<S: Drop, R: Wait>(
-    rt: &R,
-    parts: &mut PumpParts<S>,
-    first: Option<Out<S>>,
-    outs: &mut Vec<Given, Heap>,
-    last: Option<Out<S>>,
-    port: u32,
-    reply: Reply<S>,
-) -> Option<PumpFault>
-    requires { 0 < vec_len parts.old.drainers }
-    ensures sends { Sends result (option_to_list first ++ map give outs.old.items ++ option_to_list last) port reply (ports_of parts.old) (ports_of parts.new) }
-    ensures inbox { parts.new.inbox ≡ parts.old.inbox }
-    ensures hub { parts.new.hub ≡ parts.old.hub }
-{
-    let fault = send_unheard(rt, parts, first, outs, last, port, reply);
-    wake_all(&parts.drainers);
-    fault
-}
-
-// The same, but no drainer is woken.
-fn send_unheard<S: Drop, R: Wait>(
     rt: &R,
     parts: &mut PumpParts<S>,
     first: Option<Out<S>>,

@@ -28,6 +28,7 @@ mod pump_fault;
 mod pump_parts;
 mod pump_stop;
 mod reply;
+mod ringing;
 mod rooms;
 mod sending;
 
@@ -44,4 +45,5 @@ pub use pump_fault::PumpFault;
 pub use pump_parts::PumpParts;
 pub use pump_stop::PumpStop;
 pub use reply::Reply;
+pub use ringing::ring_all;
 pub use rooms::room;

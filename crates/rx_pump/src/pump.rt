@@ -1,4 +1,5 @@
-ghost use Rattle.std.specs.Prelude.{◌≡◌, ◌+◌, ◌<◌, ◌≤◌, [], vec_len, vec_capacity, if◌then◌else◌, Some, None, Err, MatchResult, OnOk, IfSome};
+ghost use Rattle.std.specs.Prelude.{◌≡◌, ◌+◌, ◌<◌, ◌≤◌, [], vec_len, vec_capacity, if◌then◌else◌, Some, None, Err, MatchResult, OnOk, IfOk, IfSome};
+ghost use Rattle.rx_mailbox.specs.Boxes.{with_letter, HasBye};
 ghost use Rattle.rx_pump.specs.Pumps.{AreFresh, counted};
 
 use crate::call::Call;
@@ -10,10 +11,12 @@ use crate::pump_fault::PumpFault;
 use crate::pump_parts::PumpParts;
 use crate::pump_stop::PumpStop;
 use crate::reply::Reply;
+use crate::ringing::ring_all;
 use crate::rooms::room;
+use crate::sending::Drainers;
 use rx_heap::Heap;
 use rx_hub::Hub;
-use rx_mailbox::{EndedPort, Inbox, Letter, Port, Post};
+use rx_mailbox::{EndedPort, Gone, Inbox, Letter, Port, Post};
 use rx_note::Given;
 use std::marker::Model;
 use std::sync::Wait;
@@ -121,10 +124,24 @@ impl<S: Drop> Pump<S> {
         ensures kept { KeepsPump self.old self.new }
         ensures over { IfSome self.old.fault (λ fault. (result ≡ Err fault) × (self.new ≡ self.old)) }
     {
+        let outcome = self.take_one(rt);
+        self.wake_drainers(rt);
+        outcome
+    }
+
+    // A turn after which some of what was sent may be held back, until the next waits for its letter.
+    fn take_one<R: Wait>(&mut self, rt: &R) -> Result<(), PumpFault>
+        ensures pumped { IsPumped self.new }
+        ensures fault { MatchResult result (λ _. self.new.fault ≡ None) (λ fault. self.new.fault ≡ Some fault) }
+        ensures took { OnOk result (TakesCall self.old.inbox self.new.inbox) }
+        ensures gone { result ≡ Err PumpFault.InboxGone → self.new.inbox ≡ self.old.inbox }
+        ensures kept { KeepsPump self.old self.new }
+        ensures over { IfSome self.old.fault (λ fault. (result ≡ Err fault) × (self.new ≡ self.old)) }
+    {
         if let Some(fault) = self.fault {
             return Err(fault);
         }
-        let Ok(letter) = self.parts.inbox.recv(rt) else {
+        let Ok(letter) = receive(rt, &mut self.parts.inbox, &mut self.parts.drainers) else {
             self.fault = Some(PumpFault::InboxGone);
             return Err(PumpFault::InboxGone);
         };
@@ -148,7 +165,10 @@ impl<S: Drop> Pump<S> {
         let mut pump = self;
         match pump.take_all(rt) {
             Ok(()) => pump.finish(rt),
-            Err(fault) => Err(pump.stop(fault)),
+            Err(fault) => {
+                pump.wake_drainers(rt);
+                Err(pump.stop(fault))
+            }
         }
     }
 
@@ -173,6 +193,13 @@ impl<S: Drop> Pump<S> {
         parts
     }
 
+    // Has go out what is held back for the drainers, and wakes those that sleep.
+    fn wake_drainers<R: Wait>(&mut self, rt: &R)
+        ensures { self.new ≡ self.old }
+    {
+        ring_all(rt, &mut self.parts.drainers);
+    }
+
     // Takes letters until the Bye of each port came.
     fn take_all<R: Wait>(&mut self, rt: &R) -> Result<(), PumpFault>
         ensures fault { MatchResult result (λ _. self.new.fault ≡ None) (λ fault. self.new.fault ≡ Some fault) }
@@ -189,7 +216,7 @@ impl<S: Drop> Pump<S> {
             if is_over {
                 return Ok(());
             }
-            self.turn(rt)?;
+            self.take_one(rt)?;
         }
         unreachable!()
     }
@@ -274,6 +301,23 @@ impl<S: Drop> Pump<S> {
     {
         self.refused
     }
+}
+
+// Takes the letter that comes next, and waits while there is none. Before it waits, what is held back for the drainers goes out.
+fn receive<S: Drop, R: Wait>(
+    rt: &R,
+    inbox: &mut Inbox<Call<S>>,
+    drainers: &mut Drainers<S>,
+) -> Result<Letter<Call<S>>, Gone>
+    ensures received { MatchResult result (λ letter. inbox.new ≡ with_letter inbox.old letter) (λ _. inbox.new ≡ inbox.old) }
+    ensures before_bye { IfOk result (λ letter. ¬ HasBye inbox.old letter.from) }
+    ensures drainers { drainers.new.items ≡ drainers.old.items }
+{
+    if let Ok(letter) = inbox.try_recv(rt) {
+        return Ok(letter);
+    }
+    ring_all(rt, drainers);
+    inbox.recv(rt)
 }
 
 // The count with one more, if it counts.

@@ -48,7 +48,7 @@ pub fn detach<S: Drop>(leaver: Option<u32>, answered: Result<Answer, Refusal>) -
 }
 
 // Sends what a call sends: the sink of the observer that it made, the notes that it gave, and that an observer left. It
-// wakes no drainer. `Err` has the place of the drainer that is gone.
+// need not wake a drainer, and may hold some back. `Err` has the place of the drainer that is gone.
 pub fn send_all<S: Drop, R: Wait>(
     rt: &R,
     drainers: &mut Drainers<S>,
@@ -95,13 +95,6 @@ fn give_all<S: Drop, R: Wait>(
         send(rt, drainers, Out::Give { who, note })?;
     }
     Ok(())
-}
-
-// Wakes the drainers that sleep.
-pub fn wake_all<S: Drop>(drainers: &Drainers<S>) {
-    for drainer in drainers.iter() {
-        drainer.ring();
-    }
 }
 
 // Sends an out to the drainer of its observer.

@@ -2,7 +2,7 @@
 use Rattle.std.specs.Prelude.{◌≡◌, ℕ, List, [], ◌∷◌, ◌++◌, length, Some, slice_get}
 use Rattle.rx_mailbox.specs.declared.letter.Post.TheVariants.{Bye}
 use Rattle.rx_mailbox.specs.Boxes.{Outgoing}
-use Rattle.rx_mailbox.specs.Letters.{letter, share}
+use Rattle.rx_mailbox.specs.Letters.{letter, share, posts}
 use Rattle.rx_mailbox.specs.Passes.{SettledView}
 use Rattle.rx_pump.specs.declared.call.Call.{Call}
 use Rattle.rx_pump.specs.declared.ended_desk.EndedDesk.{EndedDesk}
@@ -11,7 +11,6 @@ use Rattle.rx_pump.specs.declared.pump_end.PumpEnd.{PumpEnd}
 use Rattle.rx_pump.specs.declared.reply.Reply.{Reply}
 use Rattle.rx_pump.specs.Marks.{Marked, letters_of, replies, route}
 use Rattle.rx_pump.specs.Pumps.{PumpView}
-use Rattle.rx_pump.specs.Sends.{posts}
 use Rattle.rx_sink.specs.Acts.{Acts}
 use Rattle.rx_server.specs.declared.report.Report.{Report}
 use Rattle.rx_server.specs.Servers.{Closes, ServerView}

@@ -2,9 +2,9 @@
 use Rattle.std.proofs.Common.{◌≡◌, ◌∙◌, sym, refl, ap, subst, ℕ, ◌+◌, ◌<◌, ◌%◌, List, [], ◌∷◌, ◌++◌, append_assoc, append-nil, length, get_or, Ok, Err, arith}
 use Rattle.std.proofs.Math.ListN.{set}
 use Rattle.std.proofs.lemmas.List.{set-get_or, length-append}
-use Rattle.rx_mailbox.specs.Boxes.{Outgoing}
+use Rattle.rx_mailbox.specs.Boxes.{Outgoing, with_bodies}
 use Rattle.rx_pump.specs.Marks.{to_port}
-use Rattle.rx_pump.specs.Sends.{with_bodies, Puts}
+use Rattle.rx_pump.specs.Sends.{Puts}
 use Rattle.rx_pump.proofs.Putting.{Puts-at, Puts-none, Puts-same, Puts-then}
 use Rattle.rx_workers.specs.Accepting.{dealt, Deals, Accepts, AcceptsAll, AcceptsNext}
 use Rattle.rx_workers.specs.declared.accepting.AcceptStop.{AcceptStop}

@@ -3,11 +3,10 @@ use Rattle.std.proofs.Common.{◌≡◌, ◌∙◌, sym, refl, ap, subst, ℕ, �
 use Rattle.std.specs.List.{All}
 use Rattle.std.proofs.lemmas.List.Elements.{All-head, All-tail, All-push, All-same}
 use Rattle.rx_mailbox.specs.Boxes.{Incoming, with_letter}
-use Rattle.rx_mailbox.specs.Letters.{letter, share}
+use Rattle.rx_mailbox.specs.Letters.{letter, share, posts}
 use Rattle.rx_mailbox.specs.declared.letter.Letter.{Letter}
 use Rattle.rx_mailbox.specs.declared.letter.Post.{Post}
 use Rattle.rx_mailbox.specs.declared.letter.Post.TheVariants.{Body, Bye}
-use Rattle.rx_pump.specs.Sends.{posts}
 use Rattle.rx_workers.specs.Working.{State, Deed, Admitted, GivenUp, Dismissed, Abandoned, Turned, Parted, came, Works}
 
 module _ {X : Type 0} where

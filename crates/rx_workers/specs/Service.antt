@@ -4,9 +4,8 @@ use Rattle.std.specs.Prelude.{◌≡◌, ◌⊎◌, ◌+◌, ◌<◌, ◌%◌, �
 use Rattle.rx_config.specs.declared.config.Config.{Config}
 use Rattle.rx_mailbox.specs.declared.letter.Post.TheVariants.{Bye}
 use Rattle.rx_mailbox.specs.Boxes.{Outgoing, capacity_of, incoming, outgoing}
-use Rattle.rx_mailbox.specs.Letters.{letter}
+use Rattle.rx_mailbox.specs.Letters.{letter, posts}
 use Rattle.rx_pump.specs.Desks.{DeskView}
-use Rattle.rx_pump.specs.Sends.{posts}
 use Rattle.rx_sink.specs.declared.line_sink.LineSink.{LineSink}
 use Rattle.rx_workers.specs.Accepting.{Accepts, AcceptsAll, dealt}
 use Rattle.rx_workers.specs.Crews.{NamesLast}

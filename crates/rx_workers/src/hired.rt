@@ -3,8 +3,8 @@ ghost use Rattle.std.specs.Prelude.{◌≡◌, ◌≤◌, [], List, IsTrue, vec_
 ghost use Rattle.rx_config.specs.declared.config.Config.{Config};
 ghost use Rattle.rx_mailbox.specs.Boxes.{outgoing};
 ghost use Rattle.rx_mailbox.specs.Settling.{GotAll};
+ghost use Rattle.rx_mailbox.specs.Letters.{posts};
 ghost use Rattle.rx_pump.specs.Desks.{KeepsDesk};
-ghost use Rattle.rx_pump.specs.Sends.{posts};
 ghost use Rattle.rx_workers.specs.Crews.{worker_desk};
 ghost use Rattle.rx_workers.specs.Service.{HasServedJust, IsNewOver};
 

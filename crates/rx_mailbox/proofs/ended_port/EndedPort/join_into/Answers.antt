@@ -29,4 +29,4 @@ returns-clause-noted g c =
     let own : unpacked (own_of (view c.self.inside.pass)) ≡ c.args.self.own = ap (λ (p : Outgoing _). p.own) c.self.view_is in
     let bye = ap (λ n. has_bye (share n taken)) number ∙ sym (bye_share c.args.self.number taken) ∙ c.requires.bye in
     subst (λ v. IsNoted v c.args.self) (sym same)
-        (joined_notes _ _ _ _ _ _ _ c.requires.reader c.self.invariant.1 c.absorb.ensures.rule c.learn_as.ensures.rule.1 number own bye)
+    (joined_notes _ _ _ _ _ _ _ c.requires.reader c.self.invariant.1 c.absorb.ensures.rule c.learn_as.ensures.rule.1 number own bye)

@@ -19,7 +19,7 @@ filled g c =
     let zero : length hand ≡ 0 = search rules in
     let post : c.in_ok-from.field-0.post ≡ Body (Many c.replace.new.dest) = search rules in
     hand_filled c.self.inside.inlet c.take.new.self from hand c.replace.new.dest.items (nil_from_length hand zero)
-        (c.in_ok-from.ensures.taken ∙ ap (λ p. with_letters c.self.inside.inlet (carried_by from p)) post) c.in_ok-from.ensures.port c.in_ok-from.ensures.before_bye
+    (c.in_ok-from.ensures.taken ∙ ap (λ p. with_letters c.self.inside.inlet (carried_by from p)) post) c.in_ok-from.ensures.port c.in_ok-from.ensures.before_bye
 
 pub invariant_of-self-in-Body-Many : goal.invariant_of-self-in-Body-Many
 invariant_of-self-in-Body-Many g c =

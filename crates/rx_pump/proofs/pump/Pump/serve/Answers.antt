@@ -1,6 +1,8 @@
 use Rattle.std.proofs.Common.{◌∙◌, sym, ap, Err, inl, inr, subst}
 use Rattle.std.proofs.lemmas.Result.{MatchResult-weaker}
 use Rattle.rx_mailbox.specs.Boxes.{Incoming, HasEachBye}
+use Rattle.rx_pump.specs.Pumps.{PumpView}
+use Rattle.rx_pump.specs.Serving.{PumpHasStopped}
 use Rattle.rx_pump.proofs.Leaving.{HasPumped-kept, PumpHasStopped-kept}
 use Rattle.rx_pump.proofs.pump.Pump.serve.Goals as goal
 
@@ -12,6 +14,9 @@ returns-in-Ok g c =
 
 pub returns-in-Err : goal.returns-in-Err
 returns-in-Err g c =
+    let same = c.wake_drainers.ensures in
+    let stopped = subst (λ (p : PumpView _). PumpHasStopped p c.stop.result) same c.stop.ensures.stopped in
+    let inbox = c.stop.ensures.inbox ∙ ap (λ (p : PumpView _). p.inbox) same in
     PumpHasStopped-kept c.args.self c.take_all.new.self c.stop.result c.in-Err.ensures.kept c.in-Err.ensures.none
     (λ gone whole. inr (λ each. c.in-Err.ensures.waited (ap Err (sym c.stop.ensures.fault ∙ gone)) whole
-    (subst (λ (i : Incoming _). HasEachBye i) c.stop.ensures.inbox each))) c.stop.ensures.stopped
+    (subst (λ (i : Incoming _). HasEachBye i) inbox each))) stopped
