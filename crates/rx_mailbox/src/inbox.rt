@@ -131,11 +131,24 @@ impl<B: Drop> Inbox<B> {
         ensures port { IfOk result (λ letter. letter.from < self.old.ports) }
         ensures before_bye { IfOk result (λ letter. ¬ HasBye self.old letter.from) }
     {
+        match self.next_in_hand() {
+            Some(letter) => Ok(letter),
+            None => self.take_next(rt),
+        }
+    }
+
+    // The same, where nothing is in hand.
+    #[inline(never)] // once for each batch
+    fn take_next<R: Wait>(&mut self, rt: &R) -> Result<Letter<B>, TryRecvFault>
+        ensures received { MatchResult result (λ letter. self.new ≡ with_letter self.old letter) (λ _. self.new ≡ self.old) }
+        ensures port { IfOk result (λ letter. letter.from < self.old.ports) }
+        ensures before_bye { IfOk result (λ letter. ¬ HasBye self.old letter.from) }
+    {
         for _ in rt.forever() {
-            if let Some(letter) = self.next_in_hand() {
+            if let Some(letter) = self.receive(rt)? {
                 return Ok(letter);
             }
-            if let Some(letter) = self.receive(rt)? {
+            if let Some(letter) = self.next_in_hand() {
                 return Ok(letter);
             }
         }
@@ -143,6 +156,7 @@ impl<B: Drop> Inbox<B> {
     }
 
     // The next letter in hand, if there is one.
+    #[inline(always)] // once for each letter
     fn next_in_hand(&mut self) -> Option<Letter<B>>
         ensures received { MatchOption result (self.new ≡ self.old) (λ letter. self.new ≡ with_letter self.old letter) }
         ensures port { IfSome result (λ letter. letter.from < self.old.ports) }
@@ -157,7 +171,6 @@ impl<B: Drop> Inbox<B> {
     }
 
     // Takes what comes next where nothing is in hand. None where there is something in hand then.
-    #[inline(never)] // once for each batch
     fn receive<R: Wait>(&mut self, rt: &R) -> Result<Option<Letter<B>>, TryRecvFault>
         ensures received { MatchResult result
             (λ came. MatchOption came (self.new ≡ self.old) (λ letter. self.new ≡ with_letter self.old letter))

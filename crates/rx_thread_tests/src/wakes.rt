@@ -63,6 +63,8 @@ fn send_many(rt: &(impl Wait + Abort), mut port: Port<u32>, load: Load) {
             assert!(rt; port.send_quietly(rt, body).is_ok());
         }
     }
+    // What a port holds back when it goes is lost.
+    port.ring(rt);
 }
 
 // Receives until no letter will come any more, looks that the bodies of each port come in their order, and counts them.

@@ -1,5 +1,5 @@
 use Rattle.std.proofs.Common.{◌≡◌}
-use Rattle.rx_mailbox.proofs.inbox.Inbox.try_recv.Given as goal
+use Rattle.rx_mailbox.proofs.inbox.Inbox.take_next.Given as goal
 
 -- no letter was taken yet
 abbrev pub invariant-loop : goal.invariant-loop
