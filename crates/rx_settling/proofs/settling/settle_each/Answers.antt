@@ -1,10 +1,21 @@
 use Rattle.std.proofs.Common.{◌≡◌, ◌∙◌, [], ◌∷◌, ◌++◌, sym, ap, subst, length, length-append, append_assoc, List, arith}
 use Rattle.std.proofs.lemmas.Slice.Zip.{all_zipped_more}
-use Rattle.std.specs.List.{AllZip}
+use Rattle.std.specs.List.{All, AllZip}
+use Rattle.std.proofs.lemmas.List.Elements.{All-head, All-tail}
 use Rattle.std.specs.Vec.Iter.{into_iter_items}
-use Rattle.rx_settling.specs.Parts.{FirstUnsettled, Settles}
+use Rattle.rx_settling.specs.Parts.{AreOfOneBox, FirstUnsettled, Settles}
 use Rattle.rx_settling.proofs.Causes.{first-unsettled}
 use Rattle.rx_settling.proofs.settling.settle_each.Goals as goal
+
+-- what holds of each holds of the one that stands between others
+All-middle : {X : Type 0} (P : X → Type 0) (before : List X) (x : X) (after : List X) → All P (before ++ x ∷ after) → P x
+All-middle P [] x after all = All-head P x after all
+All-middle P (y ∷ before) x after all = All-middle P before x after (All-tail P y (before ++ x ∷ after) all)
+
+pub settle-requires : goal.settle-requires
+settle-requires g c =
+    let parts = ap (λ (l : List _). c.loop-parts.yielded ++ l) (sym c.in-Some.ensures.steps.0) ∙ c.loop-parts.invariant.parts in
+    All-middle AreOfOneBox c.loop-parts.yielded c.in-Some.parts (into_iter_items c.next.new.self) (subst (All AreOfOneBox) (sym parts) c.requires.parts)
 
 pub loop-parts-preserved : goal.loop-parts-preserved
 loop-parts-preserved g c =

@@ -15,6 +15,11 @@ settle-requires g c =
     let same = ap (λ (i : Incoming _). i.box) c.receive_byes.ensures.received.received in
     λ k d within. of k d within ∙ sym same
 
+pub returns-in_default : goal.returns-in_default
+returns-in_default g c =
+    let came : c.args.self.inbox ≡ Some c.in_ok-inbox.inbox = ap (λ (parts : PartsView _). parts.inbox) (sym c.self.view_is) ∙ c.in_ok-inbox.was in
+    cannot c.args.self c.in_ok-inbox.inbox c.receive_byes.new.inbox came c.receive_byes.ensures.received (λ both. c.in_default.ensures.byes both.1)
+
 pub returns-in_default-settle : goal.returns-in_default-settle
 returns-in_default-settle g c =
     let came : c.args.self.inbox ≡ Some c.in_ok-inbox.inbox = ap (λ (parts : PartsView _). parts.inbox) (sym c.self.view_is) ∙ c.in_ok-inbox.was in
