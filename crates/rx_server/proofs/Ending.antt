@@ -1,5 +1,5 @@
 -- What all parts of a server left, once its threads have ended well.
-use Rattle.std.proofs.Common.{◌≡◌, ◌∙◌, sym, refl, ap, subst, ℕ, suc, ◌+◌, List, [], ◌∷◌, ◌++◌, length, map, Vec, vec_capacity, Result, Ok, Err, inl, inr, IfErr, IfOk, MatchResult, arith}
+use Rattle.std.proofs.Common.{◌≡◌, ◌∙◌, sym, refl, ap, subst, ℕ, ◌+◌, List, [], ◌∷◌, ◌++◌, length, map, Vec, vec_capacity, arith}
 use Rattle.std.proofs.lemmas.List.Elements.{All-append, All-cons, All-head, All-nil, All-tail, All-weaker}
 use Rattle.std.proofs.lemmas.Slice.Zip.{AllZip-long}
 use Rattle.std.specs.List.{All, AllZip, enumerate_from, zip}
@@ -8,22 +8,17 @@ use Rattle.rx_mailbox.specs.Boxes.{Box, HasEachBye, Outgoing}
 use Rattle.rx_pump.specs.declared.call.Call.{Call}
 use Rattle.rx_pump.specs.declared.ended_desk.EndedDesk.{EndedDesk}
 use Rattle.rx_pump.specs.declared.out.Out.{Out}
-use Rattle.rx_pump.specs.declared.pump_end.PumpEnd.{PumpEnd}
-use Rattle.rx_pump.specs.Marks.{Marked}
 use Rattle.rx_pump.specs.Pumps.{AreSame, PumpView, port_place}
 use Rattle.rx_pump.specs.Sends.{with_bye}
 use Rattle.rx_pump.specs.Serving as pump_serving
 use Rattle.rx_sink.specs.Acts.{Acts}
-use Rattle.rx_drain.specs.declared.drain_end.DrainEnd.{DrainEnd}
 use Rattle.rx_drain.specs.Drainers.{DrainerView}
 use Rattle.rx_drain.specs.Serving as drainer_serving
-use Rattle.rx_server.specs.declared.close_fault.CloseFault.{CloseFault}
-use Rattle.rx_server.specs.declared.report.Report.{Report}
 use Rattle.rx_server.specs.declared.rooms.Rooms.{Rooms}
 use Rattle.rx_server.specs.Leaving.{AreRow, HasItsBoxes, HasLeft}
 use Rattle.rx_server.specs.Returning.{AreEmpty}
 use Rattle.rx_server.specs.Rooms.{AreRooms, HoldBoxes}
-use Rattle.rx_server.specs.Servers.{CannotTell, Closes, Fails, HaveSettled, IsEndOf, IsWhole, Reports, ServerView, Unsettles}
+use Rattle.rx_server.specs.Servers.{IsEndOf, IsWhole, ServerView}
 use Rattle.rx_server.specs.Wirings.{Wiring, desks_of, drainer_of, ports_at, pump_of}
 use Rattle.rx_server.proofs.Desks.{bye-places, end-boxes}
 use Rattle.rx_server.proofs.Joining.{hubs-count, made-count, zip-count}
@@ -160,59 +155,3 @@ module _ {S Rest : Type 0} (acts : Acts S Rest) (server : ServerView S Rest) (wh
         subjects_fit = omega (arith, pump_count, subject_room, rooms.subjects_fit, left.pumps.ok);
         put_away_fits = omega (arith, drainer_count, away_room, rooms.put_away_fits, left.drainers.ok);
       }
-
--- there is one choice of marks for all letters
-pub choose-marks : {S : Type 0} (pumps : List (PumpView S)) (ends : List (PumpEnd S)) → AllZip pump_serving.HasPumped pumps ends
-    → (marks : List (Marked S)) × (length marks ≡ length ends) × AllZip (λ pump x. pump_serving.PumpServes pump x.0 x.1) pumps (zip ends marks)
-choose-marks [] [] all = ([], refl, tt)
-choose-marks [] (end ∷ ends) all = absurd all
-choose-marks (pump ∷ pumps) [] all = absurd all
-choose-marks (pump ∷ pumps) (end ∷ ends) all =
-    let rest = choose-marks pumps ends all.1 in (all.0.0 ∷ rest.0, ap suc rest.1, (all.0.1, rest.2))
-
--- HOW CLOSING ENDED
-
-module _ {S Rest : Type 0} (acts : Acts S Rest) (server : ServerView S Rest) (whole : IsWhole server) (pump_ends : List (PumpEnd S)) (drain_ends : List (DrainEnd S Rest)) (ended finished : List (EndedDesk S))
-    (pumped : AllZip pump_serving.HasPumped server.pumps pump_ends) (drained : AllZip (drainer_serving.HasDrained acts) server.drainers drain_ends) where
-  -- all boxes settled, or one did not
-  pub settled-or-not : (r : Result (Report S Rest) CloseFault) (desks : ℕ) → All (IsEndOf server.made) finished → desks ≡ length whole.wiring.replies
-      → IfOk r (λ report. HaveSettled report.boxes (map with_bye server.leaves) (ended ++ (server.kept ++ finished)) pump_ends drain_ends)
-      → IfOk r (λ report. Reports report pump_ends drain_ends) → IfErr r (Unsettles desks (map with_bye server.leaves) (ended ++ (server.kept ++ finished)) pump_ends drain_ends)
-      → MatchResult r (Closes acts server ended) (Fails acts server ended)
-  settled-or-not (Ok report) desks own k settled reports fault =
-      let marks = choose-marks server.pumps pump_ends pumped in
-      record {
-        marks = marks.0;
-        pump_ends = pump_ends;
-        drain_ends = drain_ends;
-        finished = finished;
-        pumped = marks.2;
-        each_marked = marks.1;
-        drained = drained;
-        of_server = own;
-        settled = settled;
-        reports = reports;
-      }
-  settled-or-not (Err fault) desks own k settled reports why =
-      inr (record {
-        pump_ends = pump_ends;
-        drain_ends = drain_ends;
-        finished = finished;
-        pumped = pumped;
-        drained = drained;
-        of_server = own;
-        why = inr (subst (λ n. Unsettles n (map with_bye server.leaves) (ended ++ (server.kept ++ finished)) pump_ends drain_ends fault) (k ∙ sym (desks-many acts server whole)) why);
-      })
-
-  -- a drainer could not be told to leave
-  pub not-told : (fault : CloseFault) → All (IsEndOf server.made) finished → CannotTell acts server.leaves fault → Fails acts server ended fault
-  not-told fault own why =
-      inr (record {
-        pump_ends = pump_ends;
-        drain_ends = drain_ends;
-        finished = finished;
-        pumped = pumped;
-        drained = drained;
-        of_server = own;
-        why = inl why;
-      })

@@ -1,5 +1,5 @@
 -- Which thread of a server could not be had.
-use Rattle.std.proofs.Common.{◌≡◌, ◌∙◌, sym, refl, subst, ℕ, ◌<◌, ◌≤◌, ◌≢◌, ◌⊎◌, length, inl, inr, arith}
+use Rattle.std.proofs.Common.{sym, refl, subst, ℕ, ◌<◌, ◌≤◌, ◌≢◌, ◌⊎◌, length, inl, inr, arith}
 use Rattle.rx_config.specs.declared.config.Config.{Config}
 use Rattle.rx_server.specs.declared.start_fault.Role.{Role}
 use Rattle.rx_server.specs.declared.start_fault.Role.TheVariants.{Drainer, Pump, Worker}

@@ -1,4 +1,4 @@
--- Why a box of a server did not settle.
+-- How the boxes of a server settled, or why one did not.
 use Rattle.std.proofs.Common.{◌≡◌, sym, refl, subst, ℕ, List, ◌++◌, length, inl, inr}
 use Rattle.std.specs.List.{AllZip}
 use Rattle.rx_mailbox.specs.Boxes.{Outgoing}
@@ -15,7 +15,7 @@ use Rattle.rx_server.specs.declared.close_fault.CloseFault.{CloseFault}
 use Rattle.rx_server.specs.declared.rooms.Rooms.{Rooms}
 use Rattle.rx_server.specs.declared.start_fault.Role.TheVariants.{Drainer, Pump, Worker}
 use Rattle.rx_server.specs.Leaving.{HasLeft}
-use Rattle.rx_server.specs.Returning.{AreEmpty, CameTwice, StopsAt}
+use Rattle.rx_server.specs.Returning.{AreEmpty, CameTwice, HaveSettledSo, StopsAt}
 use Rattle.rx_server.specs.Servers.{Unsettles}
 use Rattle.rx_server.specs.Wirings.{Wiring}
 use Rattle.rx_server.proofs.Settled.{CameBack, ends-count}
@@ -26,6 +26,29 @@ pub twice : {S Rest : Type 0} (workers : ℕ) (leaves : List (Outgoing (Out S)))
 twice workers leaves desks pumps drainers fault (is, came) =
     subst (λ (f : CloseFault). Unsettles workers leaves desks pumps drainers f) (sym is) (refl, inl (came, refl, refl))
 
+-- before anything came back there were as many boxes as pumps, drainers and desks ended
+pub none-came : {S Rest : Type 0} (w : Wiring S) (rooms : Rooms S Rest) (ended : List (EndedDesk S)) → HasLeft w rooms ended
+    → AreEmpty (length rooms.pumps.items) (length rooms.drainers.items) (length rooms.returned.replies.items) rooms.returned
+none-came w rooms ended left =
+    subst (λ n. AreEmpty n (length rooms.drainers.items) (length rooms.returned.replies.items) rooms.returned) (sym (ends-count w.subjects (λ end. end.inbox.box) rooms.pumps.items left.pumps))
+    (subst (λ n. AreEmpty (length w.subjects) n (length rooms.returned.replies.items) rooms.returned) (sym (ends-count w.drainers (λ end. end.inbox.box) rooms.drainers.items left.drainers))
+    (subst (λ n. AreEmpty (length w.subjects) (length w.drainers) n rooms.returned) (sym left.nothing_came.reply_count) left.nothing_came))
+
+-- the boxes of the subjects settled with what came back
+pub settled-so : {S Rest : Type 0} (w : Wiring S) (rooms : Rooms S Rest) (ended : List (EndedDesk S)) (left : HasLeft w rooms ended)
+    (subjects : List (PartsView (Call S))) (drainers : List (PartsView (Out S))) (replies : List (PartsView (Reply S))) → CameBack w rooms ended left subjects drainers replies
+    → (settled : List (SettledView (Call S))) → AllZip Settles subjects settled
+    → HaveSettledSo (length rooms.returned.replies.items) rooms.leaves.items (ended ++ rooms.desks.items) rooms.pumps.items rooms.drainers.items settled
+settled-so w rooms ended left subjects drainers replies came settled settle = record {
+  start = rooms.returned;
+  nothing_came = none-came w rooms ended left;
+  calls = subjects;
+  outs = drainers;
+  answers = replies;
+  came = came;
+  settle = settle;
+}
+
 -- the box that is named is the first that cannot settle
 pub first-box : {S Rest : Type 0} (w : Wiring S) (rooms : Rooms S Rest) (ended : List (EndedDesk S)) (left : HasLeft w rooms ended)
     (subjects : List (PartsView (Call S))) (drainers : List (PartsView (Out S))) (replies : List (PartsView (Reply S))) → CameBack w rooms ended left subjects drainers replies
@@ -35,10 +58,7 @@ first-box w rooms ended left subjects drainers replies came fault (cause, stops)
   cause,
   inr (record {
     start = rooms.returned;
-    nothing_came =
-        subst (λ n. AreEmpty n (length rooms.drainers.items) (length rooms.returned.replies.items) rooms.returned) (sym (ends-count w.subjects (λ end. end.inbox.box) rooms.pumps.items left.pumps))
-        (subst (λ n. AreEmpty (length w.subjects) n (length rooms.returned.replies.items) rooms.returned) (sym (ends-count w.drainers (λ end. end.inbox.box) rooms.drainers.items left.drainers))
-        (subst (λ n. AreEmpty (length w.subjects) (length w.drainers) n rooms.returned) (sym left.nothing_came.reply_count) left.nothing_came));
+    nothing_came = none-came w rooms ended left;
     calls = subjects;
     outs = drainers;
     answers = replies;

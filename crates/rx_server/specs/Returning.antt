@@ -1,8 +1,8 @@
 -- What comes back of the boxes of a server, as its parts end (this project's own rule).
-use Rattle.std.specs.Prelude.{◌≡◌, ◌+◌, ◌++◌, ℕ, List, [], ◌∷◌, length, map}
-use Rattle.std.specs.List.{All, AllZip, FoldsTo}
+use Rattle.std.specs.Prelude.{◌≡◌, ◌==◌, ◌<◌, ◌+◌, ◌++◌, ℕ, List, [], ◌∷◌, length, map}
+use Rattle.std.specs.List.{All, AllZip, Contains, FoldsTo, count_by}
 use Rattle.rx_drain.specs.declared.drain_end.DrainEnd.{DrainEnd}
-use Rattle.rx_mailbox.specs.Boxes.{Outgoing}
+use Rattle.rx_mailbox.specs.Boxes.{HasEachBye, Incoming, Outgoing}
 use Rattle.rx_mailbox.specs.Passes.{SettledView}
 use Rattle.rx_pump.specs.declared.call.Call.{Call}
 use Rattle.rx_pump.specs.declared.ended_desk.EndedDesk.{EndedDesk}
@@ -12,7 +12,7 @@ use Rattle.rx_pump.specs.declared.reply.Reply.{Reply}
 use Rattle.rx_server.specs.declared.returned.Returned.{Returned}
 use Rattle.rx_server.specs.declared.start_fault.Role.{Role}
 use Rattle.rx_server.specs.declared.start_fault.Role.TheVariants.{Drainer, Pump, Worker}
-use Rattle.rx_settling.specs.Parts.{FirstUnsettled, IsEmpty, LacksInbox, PartsView, Settles, dealt, dealt_each, given, placed}
+use Rattle.rx_settling.specs.Parts.{FirstUnsettled, IsEmpty, LacksInbox, PartsView, ReceivesMore, Settles, dealt, dealt_each, given, placed}
 
 module _ {S : Type 0} where
   -- nothing came back yet of so many boxes, and there is room for each port that was made of them
@@ -59,6 +59,19 @@ module _ {S : Type 0} where
     pub parts : first ++ one ∷ (between ++ other ∷ rest) ≡ desks
     pub same : number_of one.ports.items ≡ number_of other.ports.items
 
+  -- of so many desks each came back once
+  abbrev pub EachDeskOnce : ℕ → List (EndedDesk S) → Type 0
+  EachDeskOnce made desks = (number : ℕ) → number < made → count_by (λ desk. number_of desk.ports.items == number) desks ≡ 1
+
+  -- the box of the replies to the desk of this number, which came back, lacks a Bye, with what it still received
+  pub record LacksBye (number : ℕ) (desks : List (EndedDesk S)) : Type 0 where
+    pub desk : EndedDesk S
+    pub came : Contains desks desk
+    pub number_is : number_of desk.ports.items ≡ number
+    pub after : Incoming (Reply S)
+    pub received : ReceivesMore desk.inbox after
+    pub missing : ¬ HasEachBye after
+
   -- the box that counts as this thread is the first that cannot settle, pumps before drainers before workers: those before it did
   abbrev pub StopsAt : Role → ℕ → List (PartsView (Call S)) → List (PartsView (Out S)) → List (PartsView (Reply S)) → Type 0
   StopsAt Pump place calls outs answers = (settled : List (SettledView (Call S))) × FirstUnsettled calls settled place
@@ -90,3 +103,13 @@ module _ {S Rest : Type 0} where
     pub answers : List (PartsView (Reply S))
     pub came : HaveComeBack start leaves desks pumps drainers calls outs answers
     pub stops : StopsAt role place calls outs answers
+
+  -- with what came back so, these are the boxes of the subjects that settled
+  pub record HaveSettledSo (workers : ℕ) (leaves : List (Outgoing (Out S))) (desks : List (EndedDesk S)) (pumps : List (PumpEnd S)) (drainers : List (DrainEnd S Rest)) (settled : List (SettledView (Call S))) : Type 0 where
+    pub start : Returned S
+    pub nothing_came : AreEmpty (length pumps) (length drainers) workers start
+    pub calls : List (PartsView (Call S))
+    pub outs : List (PartsView (Out S))
+    pub answers : List (PartsView (Reply S))
+    pub came : HaveComeBack start leaves desks pumps drainers calls outs answers
+    pub settle : AllZip Settles calls settled

@@ -28,7 +28,7 @@ use Rattle.rx_server.specs.declared.settled_boxes.SettledBoxes.{SettledBoxes}
 use Rattle.rx_server.specs.declared.start_fault.Role.{Role}
 use Rattle.rx_server.specs.declared.start_fault.Role.TheVariants.{Drainer, Pump, Worker}
 use Rattle.rx_server.specs.Ends.{FirstStopped, AreOver}
-use Rattle.rx_server.specs.Returning.{CameTwice, IsFirstUnsettled}
+use Rattle.rx_server.specs.Returning.{CameTwice, EachDeskOnce, IsFirstUnsettled, LacksBye}
 use Rattle.rx_server.specs.Wirings.{Wiring, IsWired, joined_parts}
 
 -- a server: its configuration, its pumps and drainers as they were before their first turn, the ports by which the drainers are
@@ -179,6 +179,7 @@ module _ {S Rest : Type 0} (acts : Acts S Rest) where
     pub each_marked : length marks ≡ length pump_ends
     pub drained : AllZip (drainer_serving.HasDrained acts) server.drainers drain_ends
     pub of_server : All (IsEndOf server.made) finished
+    pub each_desk : EachDeskOnce (length server.made) (ended ++ (server.kept ++ finished))
     pub settled : HaveSettled report.boxes (map with_bye server.leaves) (ended ++ (server.kept ++ finished)) pump_ends drain_ends
     pub reports : Reports report pump_ends drain_ends
 
@@ -210,6 +211,13 @@ module _ {S Rest : Type 0} (acts : Acts S Rest) where
   abbrev pub CannotTell : List (Outgoing (Out S)) → CloseFault → Type 0
   CannotTell leaves fault = (fault.cause ≡ Unsettled) × (fault.thread ≡ Drainer) × (fault.index < length leaves)
 
+  -- not each of so many desks came back once, and the first pump is named, to whose box each desk has a port; or each did, and the
+  -- box of the replies to the one that is named lacks a Bye
+  abbrev pub LacksDeskOrBye : ℕ → List (EndedDesk S) → CloseFault → Type 0
+  LacksDeskOrBye made desks fault =
+      ((fault.thread ≡ Pump) × (fault.index ≡ 0) × ¬ EachDeskOnce made desks)
+      ⊎ ((fault.thread ≡ Worker) × EachDeskOnce made desks × LacksBye fault.index desks)
+
   -- all threads served to their end, and yet a box did not settle, with the desks that were handed in, those that the server kept,
   -- and those that it ended itself
   pub record LeavesUnsettled (server : ServerView S Rest) (ended : List (EndedDesk S)) (fault : CloseFault) : Type 0 where
@@ -220,6 +228,7 @@ module _ {S Rest : Type 0} (acts : Acts S Rest) where
     pub drained : AllZip (drainer_serving.HasDrained acts) server.drainers drain_ends
     pub of_server : All (IsEndOf server.made) finished
     pub why : CannotTell server.leaves fault ⊎ Unsettles (length server.made) (map with_bye server.leaves) (ended ++ (server.kept ++ finished)) pump_ends drain_ends fault
+    pub wanting : CannotTell server.leaves fault ⊎ LacksDeskOrBye (length server.made) (ended ++ (server.kept ++ finished)) fault
 
   -- a thread stopped at a fault of its own, or all served to their end and a box did not settle
   abbrev pub Fails : ServerView S Rest → List (EndedDesk S) → CloseFault → Type 0

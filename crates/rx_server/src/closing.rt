@@ -31,8 +31,9 @@ impl<S: Sink> Server<S> {
     /// # Errors
     ///
     /// `Ended`: a thread ended by a fault of its own, the first such pump, else the first such drainer; all threads have ended
-    /// then too. `Unsettled`: all served to their end, and a box did not settle, since a desk that was handed out was not handed
-    /// in, or is gone. It is the first such box of a pump, else of a drainer, else of a worker.
+    /// then too. `Unsettled`: all served to their end, and a box did not settle. It names the first pump where not each desk of
+    /// the server came back once, since one that was handed out was not handed in, or is gone; a drainer that could not be told
+    /// to leave; or a worker whose box of replies lacks a Bye. Where a report is answered, each desk came back once.
     pub fn close<R: Threads + Wait>(
         self,
         rt: &R,

@@ -2,7 +2,7 @@
 ghost use Rattle.std.specs.Prelude.{◌≡◌, ◌+◌, ◌++◌, ◌^◌, ◌<◌, [], length, map, IfErr, IfOk};
 ghost use Rattle.std.specs.List.{sum_by};
 ghost use Rattle.rx_pump.specs.Pumps.{counted};
-ghost use Rattle.rx_server.specs.Returning.{CameTwice, HaveComeBack};
+ghost use Rattle.rx_server.specs.Returning.{CameTwice, HaveComeBack, HaveSettledSo};
 ghost use Rattle.rx_server.specs.Servers.{HaveSettled, Reports, Unsettles, report_of};
 ghost use Rattle.rx_server.specs.Wirings.{Wiring};
 
@@ -93,6 +93,7 @@ impl<S: Sink> Rooms<S> {
     ) -> Result<Report<S>, CloseFault>
         requires { (w : Wiring S) × HasLeft w self ended.items }
         ensures settled { IfOk result (λ report. HaveSettled report.boxes self.leaves.items (ended.items ++ self.desks.items) self.pumps.items self.drainers.items) }
+        ensures by_calls { IfOk result (λ report. HaveSettledSo (length self.returned.replies.items) self.leaves.items (ended.items ++ self.desks.items) self.pumps.items self.drainers.items report.boxes.subjects.items) }
         ensures reports { IfOk result (λ report. Reports report self.pumps.items self.drainers.items) }
         ensures fault { IfErr result (Unsettles (length self.returned.replies.items) self.leaves.items (ended.items ++ self.desks.items) self.pumps.items self.drainers.items) }
     {

@@ -1,8 +1,8 @@
-use Rattle.std.proofs.Common.{◌≡◌, ◌++◌, sym, subst, length}
+use Rattle.std.proofs.Common.{◌++◌, sym, subst, length}
 use Rattle.std.proofs.lemmas.Result.{err_from_is_err_and}
 use Rattle.rx_server.specs.Rooms.{HoldBoxes}
 use Rattle.rx_server.proofs.Settled.{boxes-fit, drainers-fit, have-settled, replies-fit, subjects-fit}
-use Rattle.rx_server.proofs.Unsettling.{first-box, twice}
+use Rattle.rx_server.proofs.Unsettling.{first-box, settled-so, twice}
 use Rattle.rx_server.proofs.rooms.Rooms.settle.Goals as goal
 
 pub settle-requires-clause-room : goal.settle-requires-clause-room
@@ -47,3 +47,9 @@ returns-clause-settled g c =
     let settled = c.in_ok-boxes.ensures in
     have-settled c.requires.0 c.args.self c.args.ended.items c.requires.1 parts.subjects.items parts.drainers.items parts.replies.items c.in_ok-all.ensures.came
     c.in_ok-boxes.boxes settled.subjects settled.drainers settled.replies
+
+pub returns-clause-by_calls : goal.returns-clause-by_calls
+returns-clause-by_calls g c =
+    let parts = c.in_ok-all.all.returned in
+    settled-so c.requires.0 c.args.self c.args.ended.items c.requires.1 parts.subjects.items parts.drainers.items parts.replies.items c.in_ok-all.ensures.came
+    c.in_ok-boxes.boxes.subjects.items c.in_ok-boxes.ensures.subjects

@@ -9,8 +9,10 @@ use Rattle.rx_drain.specs.Drainers.{DrainerView}
 use Rattle.rx_drain.specs.Serving as drainer_serving
 use Rattle.rx_server.specs.declared.returned.Returned.{Returned}
 use Rattle.rx_server.specs.declared.close_fault.CloseFault.{CloseFault}
+use Rattle.rx_server.specs.Returning.{HaveSettledSo}
 use Rattle.rx_server.specs.Servers.{HaveSettled, IsDeskOf, IsFirst, Unsettles}
-use Rattle.rx_server.proofs.Ending.{desks-many, has-left, not-told, settled-or-not}
+use Rattle.rx_server.proofs.Closed.{not-told, settled-or-not}
+use Rattle.rx_server.proofs.Ending.{desks-many, has-left}
 use Rattle.rx_server.proofs.Joining.{leaves-fit}
 use Rattle.rx_server.proofs.Whole.{desks-own}
 use Rattle.rx_server.proofs.server.Server.close.Goals as goal
@@ -54,13 +56,15 @@ returns-in-Ok g c =
     ap (λ (list : Vec _ _). list.items) others.leaves ∙ c.in-Ok.ensures.ended.0
     ∙ ap (λ (l : List _). l ++ map with_bye parts.result.1.items) parts.ensures.rooms.no_leaves ∙ ap (map with_bye) parts.ensures.leaves in
     let desks = ap (λ (list : Vec _ _). list.items) others.desks ∙ more.1 ∙ ap (λ (l : List _). l ++ more.0) parts.ensures.kept in
-    settled-or-not g.S.Sink.acts self whole left.pumps.items left.drainers.items c.args.ended.items more.0
+    settled-or-not g.S.Sink.acts self whole left.pumps.items left.drainers.items c.args.ended.items more.0 c.requires
     (subst (λ (pumps : List (PumpView _)). AllZip pump_serving.HasPumped pumps left.pumps.items) parts.ensures.pumps c.in_ok-join.ensures.pumped)
     (subst (λ (drainers : List (DrainerView _ _)). AllZip (drainer_serving.HasDrained g.S.Sink.acts) drainers left.drainers.items) parts.ensures.drainers c.in_ok-join.ensures.drained)
     c.settle.result (length left.returned.replies.items) more.2
     (ap (λ (r : Returned _). length r.replies.items) others.returned ∙ empty.reply_count ∙ desks-many g.S.Sink.acts self whole)
     (subst (λ (l : List _). IfOk c.settle.result (λ report. HaveSettled report.boxes l (c.args.ended.items ++ (self.kept ++ more.0)) left.pumps.items left.drainers.items)) leaves
     (subst (λ (l : List _). IfOk c.settle.result (λ report. HaveSettled report.boxes left.leaves.items (c.args.ended.items ++ l) left.pumps.items left.drainers.items)) desks c.settle.ensures.settled))
+    (subst (λ (l : List _). IfOk c.settle.result (λ report. HaveSettledSo (length left.returned.replies.items) l (c.args.ended.items ++ (self.kept ++ more.0)) left.pumps.items left.drainers.items report.boxes.subjects.items)) leaves
+    (subst (λ (l : List _). IfOk c.settle.result (λ report. HaveSettledSo (length left.returned.replies.items) left.leaves.items (c.args.ended.items ++ l) left.pumps.items left.drainers.items report.boxes.subjects.items)) desks c.settle.ensures.by_calls))
     c.settle.ensures.reports
     (subst (λ (l : List _). IfErr c.settle.result (Unsettles (length left.returned.replies.items) l (c.args.ended.items ++ (self.kept ++ more.0)) left.pumps.items left.drainers.items)) leaves
     (subst (λ (l : List _). IfErr c.settle.result (Unsettles (length left.returned.replies.items) left.leaves.items (c.args.ended.items ++ l) left.pumps.items left.drainers.items)) desks c.settle.ensures.fault))
@@ -77,7 +81,7 @@ returns-in-Err g c =
     let count = ap length some.ended in
     let below : c.in-Err.place < length self.leaves = omega (arith, leaves, ap length parts.ensures.leaves, cut, length-append some.done c.finish_all-told.new.ports.items, some.some, count, ap length parts.ensures.rooms.no_leaves, length-append parts.result.3.leaves.items (map with_bye some.done), length-map some.done with_bye, c.in-Err.ensures.ended.1, c.finish_all-told.new.ended.ok) in
     let more = c.finish_desks.ensures self.made (subst (All (IsDeskOf self.made)) (sym parts.ensures.desks) (desks-own self whole)) in
-    not-told g.S.Sink.acts self whole left.pumps.items left.drainers.items c.args.ended.items more.0
+    not-told g.S.Sink.acts self whole left.pumps.items left.drainers.items c.args.ended.items more.0 c.requires
     (subst (λ (pumps : List (PumpView _)). AllZip pump_serving.HasPumped pumps left.pumps.items) parts.ensures.pumps c.in_ok-join.ensures.pumped)
     (subst (λ (drainers : List (DrainerView _ _)). AllZip (drainer_serving.HasDrained g.S.Sink.acts) drainers left.drainers.items) parts.ensures.drainers c.in_ok-join.ensures.drained)
     c.unsettled.result more.2
