@@ -7,52 +7,42 @@ use std::sync::{Arc, Mutex, Wait};
 // How many bodies a port holds back at most.
 const LENGTH: usize = 32;
 
-// How many lists are kept for later.
-const SPARE: usize = 16;
+// How many lists a box has at most.
+const MOST: usize = 32;
 
-/// The lists of a box in which its ports hold bodies back. Its inbox empties them and they come back here, so that few are made
-/// and a batch takes no memory of its own.
+/// The lists of a box in which its ports hold bodies back. Its inbox empties them and they come back here, so that a batch takes
+/// no memory.
 #[derive(Drop)]
 pub(crate) struct Lists<B: Drop> {
-    heap: Heap,
     spare: Mutex<Vec<VecDeque<B, Heap>, Heap>>,
 }
 
 pub(crate) type SharedLists<B> = Arc<Lists<B>, Heap>;
 
 impl<B: Drop> Lists<B> {
-    pub(crate) fn shared(alloc: Heap) -> Result<SharedLists<B>, Memory> {
-        let spare = Vec::with_capacity(alloc.clone()?, SPARE)?;
+    /// Those of a box for so many letters: a list for four of them, but no more than 32.
+    pub(crate) fn shared(alloc: Heap, capacity: usize) -> Result<SharedLists<B>, Memory> {
+        let count = MOST.min(capacity / 4);
+        let mut spare = Vec::with_capacity(alloc.clone()?, count)?;
+        for _ in 0..count {
+            spare.push(VecDeque::with_capacity(alloc.clone()?, LENGTH)?)?;
+        }
         let lists = Lists {
-            heap: alloc.clone()?,
             spare: Mutex::new(spare),
         };
         Ok(Arc::new(alloc, lists)?)
     }
 
-    /// An empty list. None where there is no memory for one.
+    /// An empty list, if one is left.
     pub(crate) fn take<R: Wait>(&self, rt: &R) -> Option<VecDeque<B, Heap>>
         ensures { IfSome result (λ list. list.items ≡ []) }
     {
-        let spare = self.spare.lock(rt).pop();
-        match spare {
-            Some(mut list) => {
-                list.clear();
-                Some(list)
-            }
-            None => self.make(),
-        }
+        let mut list = self.spare.lock(rt).pop()?;
+        list.clear();
+        Some(list)
     }
 
-    // A new list.
-    fn make(&self) -> Option<VecDeque<B, Heap>>
-        ensures { IfSome result (λ list. list.items ≡ []) }
-    {
-        let heap = self.heap.clone().ok()?;
-        VecDeque::with_capacity(heap, LENGTH).ok()
-    }
-
-    /// Keeps an empty list for later, where there is room for it and it has room itself.
+    /// Keeps an empty list for later, where it has room and there is room for it.
     pub(crate) fn keep<R: Wait>(&self, rt: &R, list: VecDeque<B, Heap>) {
         if list.capacity() == 0 {
             return;

@@ -62,7 +62,7 @@ impl<B: Drop> NewBox<B> {
     {
         let byes = vec![in alloc.clone()?; false; senders as usize]?;
         let bells = Bells::shared(alloc.clone()?)?;
-        let lists = Lists::shared(alloc.clone()?)?;
+        let lists = Lists::shared(alloc.clone()?, capacity)?;
         let hand = VecDeque::new(alloc.clone()?);
         let heap = alloc.clone()?;
         let (sender, receiver, pass) = bounded_with::<

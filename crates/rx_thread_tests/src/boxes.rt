@@ -277,7 +277,7 @@ fn receive_many(rt: &(impl Wait + Abort), inbox: &mut Inbox<u32>, bodies: u32) {
 #[test]
 fn held_letters_come_in_order(rt: HostRuntime) {
     let alloc = unlimited(&rt);
-    let (mut inbox, mut first) = first_of_two::<u32>(&rt, copy(&rt, &alloc), 8);
+    let (mut inbox, mut first) = first_of_two::<u32>(&rt, copy(&rt, &alloc), 64);
     hold_many(&rt, &mut first, 200);
     first.ring(&rt);
     receive_many(&rt, &mut inbox, 200);
