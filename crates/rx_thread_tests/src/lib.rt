@@ -16,6 +16,8 @@ mod drainers;
 #[cfg(test)]
 mod expecting;
 #[cfg(test)]
+mod holding;
+#[cfg(test)]
 mod letters;
 #[cfg(test)]
 mod line_sinks;
