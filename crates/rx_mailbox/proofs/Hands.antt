@@ -1,11 +1,11 @@
 -- What an inbox hands out, and what stays in hand.
-use Rattle.std.proofs.Common.{◌≡◌, ◌+◌, ◌-◌, ◌<◌, ◌^◌, min, ℕ, List, [], ◌∷◌, ◌++◌, length, take, refl, sym, ap, ◌∙◌, subst, append_assoc, arith}
+use Rattle.std.proofs.Common.{◌≡◌, ◌≢◌, ◌+◌, ◌-◌, ◌<◌, ◌^◌, min, ℕ, List, [], ◌∷◌, ◌++◌, Result, Ok, Err, MatchResult, length, take, refl, sym, ap, ◌∙◌, subst, append_assoc, arith}
 use Rattle.std.proofs.Math.Seq.{take-append_seam, take-length}
 use Rattle.std.proofs.lemmas.List.{length-append, length-map, length_push}
 use Rattle.rx_mailbox.specs.declared.letter.Letter.{Letter}
 use Rattle.rx_mailbox.specs.declared.letter.Post.TheVariants.{Body}
 use Rattle.rx_mailbox.specs.Letters.{letter, posts, share, has_bye}
-use Rattle.rx_mailbox.specs.Boxes.{Incoming, incoming, with_letters, HasBye, HasEachBye}
+use Rattle.rx_mailbox.specs.Boxes.{Incoming, incoming, with_letter, with_letters, HasBye, HasEachBye}
 use Rattle.rx_mailbox.specs.Hands.{without, IsHand}
 use Rattle.rx_mailbox.specs.Settling.{letter_count}
 use Rattle.rx_mailbox.proofs.Batches.{bye_share-before}
@@ -50,6 +50,41 @@ module _ {B : Type 0} where
         },
         ap (λ l. incoming next.box next.ports l) front ∙ ap (λ (i : Incoming B). incoming i.box i.ports inlet.received) is ∙ sym (none_in_hand inlet hand none),
       )
+
+  -- the first of the letters that came at once is handed out, and those that follow it are in hand, where nothing was
+  pub first_opened : (inlet next : Incoming B) (from : ℕ) (hand rest : List B) (came : List (Letter B)) (x : Letter B) → hand ≡ [] → next ≡ with_letters inlet came → came ≡ x ∷ posts from rest
+      → (rest ≢ [] → (bodies : List B) × (came ≡ posts from bodies)) → from < inlet.ports → ¬ HasBye inlet from
+      → IsHand next from rest × (without next (length rest) ≡ with_letter (without inlet (length hand)) x)
+  first_opened inlet next from hand rest came x none is opened of_port below open_yet =
+      let all : next.received ≡ inlet.received ++ came = ap (λ (i : Incoming B). i.received) is in
+      let received : next.received ≡ (inlet.received ++ x ∷ []) ++ posts from rest = all ∙ ap (λ l. inlet.received ++ l) opened ∙ sym (append_assoc inlet.received (x ∷ []) (posts from rest)) in
+      let front : (without next (length rest)).received ≡ inlet.received ++ x ∷ [] = seam next.received (inlet.received ++ x ∷ []) from rest received in (
+        record {
+          whole = received ∙ ap (λ l. l ++ posts from rest) (sym front);
+          port = λ some.
+              let bodies = of_port some in
+              let bye = ap (λ l. has_bye (share from l)) (all ∙ ap (λ l. inlet.received ++ l) bodies.1) ∙ bye_share-before from from inlet.received bodies.0 in
+              (subst (λ (i : Incoming B). from < i.ports) (sym is) below, λ yes. open_yet (sym bye ∙ yes));
+        },
+        ap (λ l. incoming next.box next.ports l) front ∙ ap (λ (i : Incoming B). incoming i.box i.ports (inlet.received ++ x ∷ [])) is
+            ∙ ap (λ (i : Incoming B). with_letter i x) (sym (none_in_hand inlet hand none)),
+      )
+
+  -- what came at once is opened where nothing was in hand: the inbox hands out its first letter, and counts it, unless it has none
+  pub opens : {E : Type 0} (inlet next : Incoming B) (from letters count : ℕ) (hand rest : List B) (came : List (Letter B)) (r : Result (Letter B) E) → hand ≡ [] → next ≡ with_letters inlet came
+      → MatchResult r (λ x. came ≡ x ∷ posts from rest) (λ _. (came ≡ []) × (rest ≡ []))
+      → (rest ≢ [] → (bodies : List B) × (came ≡ posts from bodies)) → from < inlet.ports → ¬ HasBye inlet from
+      → letters ≡ letter_count (without inlet (length hand)).received
+      → MatchResult r (λ _. count ≡ min (letters + 1) (2 ^ 64 - 1)) (λ _. count ≡ letters)
+      → (IsHand next from rest × (count ≡ letter_count (without next (length rest)).received))
+      × MatchResult r (λ x. without next (length rest) ≡ with_letter (without inlet (length hand)) x) (λ _. without next (length rest) ≡ without inlet (length hand))
+  opens inlet next from letters count hand rest came (Ok x) none is opened of_port below open_yet counts counted =
+      let first = first_opened inlet next from hand rest came x none is opened of_port below open_yet in
+      ((first.0, counted ∙ counted_more letters (without inlet (length hand)).received x counts ∙ ap (λ (i : Incoming B). letter_count i.received) (sym first.1)), first.1)
+  opens inlet next from letters count hand rest came (Err e) none is opened of_port below open_yet counts counted =
+      let filled = hand_filled inlet next from hand [] none (is ∙ ap (λ l. with_letters inlet l) opened.0) below open_yet in
+      let same : without next (length rest) ≡ without inlet (length hand) = ap (λ (l : List B). without next (length l)) opened.1 ∙ filled.1 in
+      ((subst (λ (l : List B). IsHand next from l) (sym opened.1) filled.0, counted ∙ counts ∙ ap (λ (i : Incoming B). letter_count i.received) (sym same)), same)
 
   -- the Byes that were handed out are those that came
   pub byes_of_hand : (inlet : Incoming B) (from : ℕ) (hand : List B) (port : ℕ) → IsHand inlet from hand → has_bye (share port inlet.received) ≡ has_bye (share port (without inlet (length hand)).received)

@@ -8,7 +8,7 @@ use std::time::Duration;
 // How often who waits looks again, with a pause after each look, before it sleeps. A sleep and a wake cost about as much as all
 // these looks, and what is waited for mostly comes meanwhile. It lets no other thread go first: from Linux 6.18 on a thread that
 // does so falls behind all others on its core by a slice each time, and a letter then waits for milliseconds.
-const LOOKS: u32 = 200;
+const LOOKS: u32 = 1_000;
 
 /// How often who waits for a bounded time looks before it slept, and no more often.
 pub(crate) const LOOKS_WITHIN: u32 = LOOKS + 2;

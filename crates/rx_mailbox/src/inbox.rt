@@ -1,6 +1,8 @@
-ghost use Rattle.std.specs.Prelude.{◌≡◌, ◌<◌, ◌↔◌, [], IsTrue, IfOk, IfSome, MatchOption, MatchResult};
+ghost use Rattle.std.specs.Prelude.{◌≡◌, ◌≢◌, ◌<◌, ◌+◌, ◌-◌, ◌^◌, ◌↔◌, ◌∷◌, [], List, min, IsTrue, IfOk, IfSome, MatchOption, MatchResult};
 ghost use Rattle.crossbeam_channel.specs.Claims.{view};
+ghost use Rattle.rx_mailbox.specs.Batches.{carried};
 ghost use Rattle.rx_mailbox.specs.Boxes.{with_letter, HasBye, HasEachBye};
+ghost use Rattle.rx_mailbox.specs.Letters.{posts};
 ghost use Rattle.rx_mailbox.specs.Passes.{inbox_of, IsReader};
 ghost use Rattle.rx_mailbox.specs.Settling.{letter_count};
 
@@ -78,9 +80,12 @@ impl<B: Drop> Inbox<B> {
         ensures port { IfOk result (λ letter. letter.from < self.old.ports) }
         ensures before_bye { IfOk result (λ letter. ¬ HasBye self.old letter.from) }
     {
+        if let Some(letter) = self.next_in_hand() {
+            return Ok(letter);
+        }
         let mut looks = 0;
         for _ in rt.forever() {
-            match self.try_recv(rt) {
+            match self.look(rt) {
                 Ok(letter) => {
                     self.inlet.bell().rise(looks);
                     return Ok(letter);
@@ -106,9 +111,12 @@ impl<B: Drop> Inbox<B> {
         ensures port { IfOk result (λ letter. letter.from < self.old.ports) }
         ensures before_bye { IfOk result (λ letter. ¬ HasBye self.old letter.from) }
     {
+        if let Some(letter) = self.next_in_hand() {
+            return Ok(letter);
+        }
         let mut looks = 0;
         for _ in 0..LOOKS_WITHIN {
-            match self.try_recv(rt) {
+            match self.look(rt) {
                 Ok(letter) => {
                     self.inlet.bell().rise(looks);
                     return Ok(letter);
@@ -119,7 +127,7 @@ impl<B: Drop> Inbox<B> {
             looks = self.inlet.bell().wait_within(rt, looks, most);
         }
         self.inlet.bell().rise(looks);
-        self.try_recv(rt)
+        self.look(rt)
     }
 
     /// Takes the letter at the front of the box, and waits for none. `Err` where there is none, and nothing changed: it
@@ -133,66 +141,52 @@ impl<B: Drop> Inbox<B> {
     {
         match self.next_in_hand() {
             Some(letter) => Ok(letter),
-            None => self.take_next(rt),
+            None => self.look(rt),
         }
     }
 
-    // The same, where nothing is in hand.
-    #[inline(never)] // once for each batch
-    fn take_next<R: Wait>(&mut self, rt: &R) -> Result<Letter<B>, TryRecvFault>
+    // The next of the letters that came with another which was handed out, if one is left.
+    #[inline(always)] // once for each letter
+    fn next_in_hand(&mut self) -> Option<Letter<B>>
+        ensures received { MatchOption result (self.new ≡ self.old) (λ letter. self.new ≡ with_letter self.old letter) }
+
+        // It is from a port of the box whose Bye had not come.
+        ensures port { IfSome result (λ letter. letter.from < self.old.ports) }
+        ensures before_bye { IfSome result (λ letter. ¬ HasBye self.old letter.from) }
+    {
+        match self.hand.pop_front() {
+            Some(body) => {
+                self.letters = self.letters.saturating_add(1);
+                Some(Letter {
+                    from: self.from,
+                    post: Post::Body(body),
+                })
+            }
+            None => None,
+        }
+    }
+
+    // Takes what comes next, as `try_recv` does, where nothing is in hand, and else nothing.
+    #[inline(never)] // a look in vain makes no room for what comes of a letter
+    fn look<R: Wait>(&mut self, rt: &R) -> Result<Letter<B>, TryRecvFault>
         ensures received { MatchResult result (λ letter. self.new ≡ with_letter self.old letter) (λ _. self.new ≡ self.old) }
         ensures port { IfOk result (λ letter. letter.from < self.old.ports) }
         ensures before_bye { IfOk result (λ letter. ¬ HasBye self.old letter.from) }
     {
-        for _ in rt.forever() {
-            if let Some(letter) = self.receive(rt)? {
-                return Ok(letter);
-            }
-            if let Some(letter) = self.next_in_hand() {
-                return Ok(letter);
-            }
-        }
-        unreachable!()
-    }
-
-    // The next letter in hand, if there is one.
-    #[inline(always)] // once for each letter
-    fn next_in_hand(&mut self) -> Option<Letter<B>>
-        ensures received { MatchOption result (self.new ≡ self.old) (λ letter. self.new ≡ with_letter self.old letter) }
-        ensures port { IfSome result (λ letter. letter.from < self.old.ports) }
-        ensures before_bye { IfSome result (λ letter. ¬ HasBye self.old letter.from) }
-    {
-        let body = self.hand.pop_front()?;
-        self.letters = self.letters.saturating_add(1);
-        Some(Letter {
-            from: self.from,
-            post: Post::Body(body),
-        })
-    }
-
-    // Takes what comes next where nothing is in hand. None where there is something in hand then.
-    fn receive<R: Wait>(&mut self, rt: &R) -> Result<Option<Letter<B>>, TryRecvFault>
-        ensures received { MatchResult result
-            (λ came. MatchOption came (self.new ≡ self.old) (λ letter. self.new ≡ with_letter self.old letter))
-            (λ _. self.new ≡ self.old) }
-        ensures port { IfOk result (λ came. IfSome came (λ letter. letter.from < self.old.ports)) }
-        ensures before_bye { IfOk result (λ came. IfSome came (λ letter. ¬ HasBye self.old letter.from)) }
-    {
         if !self.hand.is_empty() {
-            return Ok(None);
+            return Err(TryRecvFault::Empty);
         }
-        let Letter { from, post } = self.inlet.take(rt)?;
-        let post = match post {
-            Post::Bye => Post::Bye,
-            Post::Body(Batch::One(body)) => Post::Body(body),
-            Post::Body(Batch::Many(bodies)) => {
-                self.lists.keep(rt, mem::replace(&mut self.hand, bodies));
-                self.from = from;
-                return Ok(None);
-            }
-        };
-        self.letters = self.letters.saturating_add(1);
-        Ok(Some(Letter { from, post }))
+        match self.inlet.take(rt) {
+            Ok(came) => open_batch(
+                rt,
+                &self.lists,
+                &mut self.hand,
+                &mut self.from,
+                &mut self.letters,
+                came,
+            ),
+            Err(fault) => Err(fault),
+        }
     }
 
     // Its pass, and how many letters were received.
@@ -226,4 +220,40 @@ impl<B: Drop> Inbox<B> {
     {
         self.inlet.has_each_bye()
     }
+}
+
+// Hands out the first letter of what came at once, and takes those that follow it in hand, where nothing was. `Empty` where it
+// carries none.
+#[inline(never)] // a look in vain makes no room for it
+fn open_batch<B: Drop, R: Wait>(
+    rt: &R,
+    lists: &SharedLists<B>,
+    hand: &mut VecDeque<B, Heap>,
+    from: &mut u32,
+    letters: &mut u64,
+    came: Letter<Batch<B>>,
+) -> Result<Letter<B>, TryRecvFault>
+    requires { hand.old.items ≡ [] }
+    ensures opened { MatchResult result
+        (λ first. carried came ≡ first ∷ posts came.from hand.new.items)
+        (λ _. (carried came ≡ []) × (hand.new.items ≡ [])) }
+    ensures bodies { hand.new.items ≢ [] → (bodies : List B) × (carried came ≡ posts came.from bodies) }
+    ensures from { (from.new ≡ came.from) × IfOk result (λ first. first.from ≡ came.from) }
+    ensures letters { MatchResult result (λ _. letters.new ≡ min (letters.old + 1) (2 ^ 64 - 1)) (λ _. letters.new ≡ letters.old) }
+{
+    let Letter { from: port, post } = came;
+    *from = port;
+    let post = match post {
+        Post::Bye => Post::Bye,
+        Post::Body(Batch::One(body)) => Post::Body(body),
+        Post::Body(Batch::Many(bodies)) => {
+            lists.keep(rt, mem::replace(hand, bodies));
+            match hand.pop_front() {
+                Some(body) => Post::Body(body),
+                None => return Err(TryRecvFault::Empty),
+            }
+        }
+    };
+    *letters = letters.saturating_add(1);
+    Ok(Letter { from: port, post })
 }

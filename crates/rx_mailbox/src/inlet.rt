@@ -63,14 +63,15 @@ impl<B: Drop> Inlet<B> {
         ensures port { IfOk result (λ x. x.from < self.old.ports) }
         ensures before_bye { IfOk result (λ x. ¬ HasBye self.old x.from) }
     {
-        let letter = match take(rt, &self.receiver, &mut self.pass) {
-            Ok(letter) => letter,
-            Err(TryRecvError::Empty) => return Err(TryRecvFault::Empty),
-            Err(TryRecvError::Disconnected) => return Err(TryRecvFault::Gone),
-        };
-        self.bells.room.ring();
-        mark(&mut self.byes, &letter);
-        Ok(letter)
+        match take(rt, &self.receiver, &mut self.pass) {
+            Ok(letter) => {
+                self.bells.room.ring();
+                mark(&mut self.byes, &letter);
+                Ok(letter)
+            }
+            Err(TryRecvError::Empty) => Err(TryRecvFault::Empty),
+            Err(TryRecvError::Disconnected) => Err(TryRecvFault::Gone),
+        }
     }
 
     /// What its inbox waits on for a letter.

@@ -107,6 +107,7 @@ impl<B: Drop> NewBox<B> {
             outlet,
             lists,
             held,
+            owes_ring: false,
         })
     }
 

@@ -18,6 +18,8 @@ pub struct Port<B: Drop> {
     pub(crate) lists: SharedLists<B>,
     // The bodies that it holds back.
     pub(crate) held: VecDeque<B, Heap>,
+    // It put a letter into the box and has not rung since.
+    pub(crate) owes_ring: bool,
 }
 
 // It stands here, and isn't derived, so that what lets go of a port is one call that is proved once.
@@ -27,6 +29,7 @@ impl<B: Drop> Drop for Port<B> {
             outlet: _,
             lists: _,
             held: _,
+            owes_ring: _,
         } = self;
     }
 }
@@ -61,6 +64,7 @@ impl<B: Drop> Port<B> {
             return Err(body);
         }
         let outcome = self.outlet.put_one(rt, body);
+        self.owes_ring = false;
         self.outlet.ring();
         outcome
     }
@@ -91,6 +95,7 @@ impl<B: Drop> Port<B> {
             return Err(body);
         }
         // Who never rests rings seldom.
+        self.owes_ring = false;
         self.outlet.ring();
         if self.held.capacity() == 0
             && let Some(list) = self.lists.take(rt)
@@ -101,15 +106,20 @@ impl<B: Drop> Port<B> {
             self.held.push_back_reserved(body);
             return Ok(());
         }
+        self.owes_ring = true;
         self.outlet.put_one(rt, body)
     }
 
-    /// Puts what is held back into the box, and waits while the box is full. Then it wakes the inbox, if it sleeps. Where the
-    /// inbox is gone what is held back stays so.
+    /// Puts what is held back into the box, and waits while the box is full. Then it wakes the inbox, if it sleeps. Nothing is
+    /// done where nothing was sent quietly since it was last done. Where the inbox is gone what is held back stays so.
     pub fn ring<R: Wait>(&mut self, rt: &R)
         ensures { self.new ≡ self.old }
     {
+        if self.held.is_empty() && !self.owes_ring {
+            return;
+        }
         let _is_there = put_held(rt, &mut self.outlet, &self.lists, &mut self.held);
+        self.owes_ring = false;
         self.outlet.ring();
     }
 
@@ -122,12 +132,14 @@ impl<B: Drop> Port<B> {
             mut outlet,
             lists,
             mut held,
+            owes_ring,
         } = self;
         if !put_held(rt, &mut outlet, &lists, &mut held) {
             return Err(Port {
                 outlet,
                 lists,
                 held,
+                owes_ring,
             });
         }
         match outlet.finish(rt) {
@@ -136,6 +148,7 @@ impl<B: Drop> Port<B> {
                 outlet,
                 lists,
                 held,
+                owes_ring,
             }),
         }
     }

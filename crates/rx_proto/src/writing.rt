@@ -54,8 +54,16 @@ fn write_plain<W: Write>(writer: &mut W, note: &Note) -> Result<(), WriteFault>
     if text_len(note) <= SHORT_TEXT {
         write_bytes(writer, note_line::<SHORT_LINE>(note).as_bytes())
     } else {
-        write_bytes(writer, note_line::<NOTE_LINE>(note).as_bytes())
+        write_long(writer, note)
     }
+}
+
+// Writes the line of a note with a long text in the first version.
+#[inline(never)] // so that a short one makes no room for it
+fn write_long<W: Write>(writer: &mut W, note: &Note) -> Result<(), WriteFault>
+    ensures { Writes result (W.contents writer.old) (W.contents writer.new) (note_line Version.One note.now) }
+{
+    write_bytes(writer, note_line::<NOTE_LINE>(note).as_bytes())
 }
 
 // Writes the line of a note in the second version.
