@@ -1,6 +1,8 @@
 -- One call: what the hub answered and gave, and what the ports put.
-use Rattle.std.proofs.Common.{◌≡◌, ◌≢◌, ◌⊎◌, ◌∙◌, sym, refl, ap, subst, ℕ, ◌+◌, ◌-◌, ◌^◌, min, Bool, true, false, List, [], ◌++◌, map, option_to_list, Option, Some, None, Result, Ok, Err, inl, inr}
+use Rattle.std.proofs.Common.{◌≡◌, ◌≢◌, ◌≤◌, ◌⊎◌, ◌∙◌, sym, refl, ap, subst, ℕ, ◌+◌, ◌-◌, ◌^◌, min, Bool, true, false, List, [], ◌++◌, map, option_to_list, Option, Some, None, Result, Ok, Err, MatchResult, length, append-nil, inl, inr}
 use Rattle.rx_note.specs.declared.answer.Answer.{Answer}
+use Rattle.rx_note.specs.declared.answer.Answer.TheVariants as answers
+use Rattle.rx_note.specs.declared.event.Event.TheVariants.{Request}
 use Rattle.rx_note.specs.declared.given.Given.{Given}
 use Rattle.rx_note.specs.declared.refusal.Refusal.{Refusal}
 use Rattle.rx_note.specs.declared.refusal.Refusal.TheVariants as refusals
@@ -9,7 +11,12 @@ use Rattle.rx_hub.specs.Hubs.{HubView, StandsFor, Steps, MayMiss, is_miss}
 use Rattle.rx_pump.specs.declared.call.Call.{Call}
 use Rattle.rx_pump.specs.declared.out.Out.{Out}
 use Rattle.rx_pump.specs.declared.pump_fault.PumpFault.{PumpFault}
-use Rattle.rx_pump.specs.Marks.{attach_of, detach_of, leaver, give, sent_by, sent_back, reply_to}
+use Rattle.rx_pump.specs.declared.pump_fault.PumpFault.TheVariants.{DrainerGone}
+use Rattle.rx_pump.specs.declared.reply.Reply.{Reply}
+use Rattle.rx_mailbox.specs.Boxes.{Outgoing}
+use Rattle.rx_pump.specs.Marks.{attach_of, detach_of, leaver, give, sent_by, sent_back, reply_to, to_port}
+use Rattle.rx_pump.specs.Sends.{Puts, SendsOuts}
+use Rattle.rx_pump.proofs.Putting.{Puts-no_place}
 use Rattle.rx_pump.specs.Turns.{Ports, Sends, IsMade, IsRefused, HandlesCall}
 
 -- an answer is Memory, or it is not
@@ -111,3 +118,39 @@ module _ {S : Type 0} where
       (subst (λ (l : List (Out S)). Sends fault l port (reply_to call answered) before then) outs
       (subst (λ (sink : Option S). Sends fault (option_to_list first ++ map give given ++ option_to_list last) port (record { ticket = call.ticket; result = answered; sink = sink }) before then) back_is
       sends)))
+
+  -- a call that brings no sink has none attached, and none goes back
+  no_attach : (answered : Result Answer Refusal) → [] ≡ attach_of {S = S} answered None
+  no_attach (Ok answers.Admitted) = refl
+  no_attach (Ok (answers.Joined who)) = refl
+  no_attach (Ok answers.Asked) = refl
+  no_attach (Ok answers.Left) = refl
+  no_attach (Err refusal) = refl
+
+  no_back : (answered : Result Answer Refusal) → None ≡ sent_back {S = S} answered None
+  no_back (Ok answers.Admitted) = refl
+  no_back (Ok (answers.Joined who)) = refl
+  no_back (Ok answers.Asked) = refl
+  no_back (Ok answers.Left) = refl
+  no_back (Err refusal) = refl
+
+  -- the notes were sent, or a drainer is gone; from a port with no place for a reply none was put
+  pub sends_notes : (notes : List (Out S)) (sent : Result (Unit {0}) ℕ) (fault : Option PumpFault) (port : ℕ) (reply : Reply S) (before then : Ports S)
+      → SendsOuts notes sent before.drainers then.drainers → then.replies ≡ before.replies → length before.replies ≤ port
+      → MatchResult sent (λ _. fault ≡ None) (λ place. fault ≡ Some (DrainerGone place)) → Sends fault notes port reply before then
+  sends_notes notes (Ok done) fault port reply before then puts same silent is =
+      subst (λ (f : Option PumpFault). Sends f notes port reply before then) (sym is)
+      (puts, subst (λ (l : List (Outgoing (Reply S))). Puts (λ p. to_port port p reply) before.replies l) (sym same) (Puts-no_place before.replies port reply silent))
+  sends_notes notes (Err place) fault port reply before then stops same silent is =
+      subst (λ (f : Option PumpFault). Sends f notes port reply before then) (sym is) (stops, same)
+
+  -- a request that brings no sink was handled
+  pub handled_request : (hub after : HubView) (before then : Ports S) (answered : Result Answer Refusal) (given : List Given) (was_refused : Bool) (fault : Option PumpFault) (port who n ticket : ℕ)
+      → was_refused ≡ is_miss answered
+      → Stepped hub after answered given port (record { ticket = ticket; event = Request who n; sink = None })
+      → Sends fault (map give given) port (record { ticket = ticket; result = answered; sink = None }) before then
+      → HandlesCall hub after before then was_refused fault port (record { ticket = ticket; event = Request who n; sink = None })
+  handled_request hub after before then answered given was_refused fault port who n ticket refused_is stepped sends =
+      handled_with hub after before then answered given None None None None was_refused fault port (record { ticket = ticket; event = Request who n; sink = None })
+      refused_is (no_attach answered) (no_back answered) refl refl stepped
+      (subst (λ (l : List (Out S)). Sends fault l port (record { ticket = ticket; result = answered; sink = None }) before then) (sym (append-nil (map give given))) sends)

@@ -1,5 +1,6 @@
 // One call: the hub takes its event, and the ports put what it gave and answered.
-ghost use Rattle.std.specs.Prelude.{◌≡◌, ◌<◌, ◌++◌, map, vec_len, option_to_list, MatchOption};
+ghost use Rattle.std.specs.Prelude.{◌≡◌, ◌<◌, ◌≤◌, ◌++◌, ℕ, Some, None, map, vec_len, option_to_list, MatchOption, MatchResult};
+ghost use Rattle.rx_note.specs.declared.event.Event.TheVariants.{Request};
 ghost use Rattle.rx_hub.specs.Hubs.{is_miss};
 ghost use Rattle.rx_pump.specs.Marks.{give, to_port};
 ghost use Rattle.rx_pump.specs.Sends.{Puts};
@@ -10,10 +11,10 @@ use crate::out::Out;
 use crate::pump_fault::PumpFault;
 use crate::pump_parts::PumpParts;
 use crate::reply::Reply;
-use crate::sending::{detach, leaver, part, send_all};
+use crate::sending::{detach, give_all, leaver, part, send_all};
 use rx_heap::Heap;
 use rx_mailbox::Port;
-use rx_note::{Answer, Given, Refusal};
+use rx_note::{Answer, Event, Given, Refusal};
 use std::sync::Wait;
 
 // What became of a call.
@@ -25,7 +26,64 @@ pub struct Handled {
 }
 
 // Hands a call from a port to the hub, and sends what comes of it. `outs` is but room.
+#[inline(always)] // once for each call, which is moved no further where it asks for items
 pub fn handle<S: Drop, R: Wait>(
+    rt: &R,
+    parts: &mut PumpParts<S>,
+    outs: &mut Vec<Given, Heap>,
+    port: u32,
+    call: Call<S>,
+) -> Handled
+    requires { 0 < vec_len parts.old.drainers }
+    ensures handles { HandlesCall parts.old.hub parts.new.hub (ports_of parts.old) (ports_of parts.new) result.refused result.fault port call }
+    ensures inbox { parts.new.inbox ≡ parts.old.inbox }
+{
+    if let Event::Request { who, n } = call.event
+        && call.sink.is_none()
+        && port as usize >= parts.replies.len()
+    {
+        return handle_request(rt, parts, outs, port, who, n);
+    }
+    handle_any(rt, parts, outs, port, call)
+}
+
+// The same of a call that asks for items and brings no sink, and that is told no reply: of a drainer's, the commonest by far.
+fn handle_request<S: Drop, R: Wait>(
+    rt: &R,
+    parts: &mut PumpParts<S>,
+    outs: &mut Vec<Given, Heap>,
+    port: u32,
+    who: u32,
+    n: u32,
+) -> Handled
+    requires some { 0 < vec_len parts.old.drainers }
+    requires silent { vec_len parts.old.replies ≤ port }
+    ensures handles { (ticket : ℕ) → HandlesCall parts.old.hub parts.new.hub (ports_of parts.old) (ports_of parts.new) result.refused result.fault port
+        (record { ticket = ticket; event = Request who n; sink = None }) }
+    ensures inbox { parts.new.inbox ≡ parts.old.inbox }
+{
+    outs.clear();
+    let answered = parts.hub.step(port, Event::Request { who, n }, outs);
+    let sent = give_all(rt, &mut parts.drainers, outs);
+    Handled {
+        refused: is_memory(answered),
+        fault: drainer_gone(sent),
+    }
+}
+
+// The fault where a drainer is gone.
+fn drainer_gone(sent: Result<(), usize>) -> Option<PumpFault>
+    ensures { MatchResult sent (λ _. result ≡ None) (λ place. result ≡ Some (PumpFault.DrainerGone place)) }
+{
+    match sent {
+        Ok(()) => None,
+        Err(place) => Some(PumpFault::DrainerGone(place)),
+    }
+}
+
+// The same of any call.
+#[inline(never)] // so that a request makes no room for it
+fn handle_any<S: Drop, R: Wait>(
     rt: &R,
     parts: &mut PumpParts<S>,
     outs: &mut Vec<Given, Heap>,

@@ -79,8 +79,8 @@ fn send_any<S: Drop, R: Wait>(
     }
 }
 
-// Sends the notes, in their order.
-fn give_all<S: Drop, R: Wait>(
+// Sends the notes, in their order, as `send_all` does.
+pub fn give_all<S: Drop, R: Wait>(
     rt: &R,
     drainers: &mut Drainers<S>,
     outs: &mut Vec<Given, Heap>,

@@ -3,7 +3,7 @@ use Rattle.rx_hub.specs.Hubs.{HubView, Steps}
 use Rattle.rx_note.specs.declared.given.Given.{Given}
 use Rattle.rx_pump.specs.Turns.{ports_of, HandlesCall}
 use Rattle.rx_pump.proofs.Calls.{handled_with}
-use Rattle.rx_pump.proofs.handling.handle.Goals as goal
+use Rattle.rx_pump.proofs.handling.handle_any.Goals as goal
 
 pub returns-clause-handles : goal.returns-clause-handles
 returns-clause-handles g c =
