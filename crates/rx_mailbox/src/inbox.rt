@@ -13,6 +13,7 @@ use crate::inlet::Inlet;
 use crate::letter::{Letter, Post};
 use crate::lists::SharedLists;
 use crate::try_recv_fault::TryRecvFault;
+use crossbeam_channel::TryRecvError;
 use rx_heap::Heap;
 use std::collections::VecDeque;
 use std::error::Error;
@@ -185,7 +186,8 @@ impl<B: Drop> Inbox<B> {
                 &mut self.letters,
                 came,
             ),
-            Err(fault) => Err(fault),
+            Err(TryRecvError::Empty) => Err(TryRecvFault::Empty),
+            Err(TryRecvError::Disconnected) => Err(TryRecvFault::Gone),
         }
     }
 

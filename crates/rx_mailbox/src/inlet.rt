@@ -10,7 +10,6 @@ use crate::bell::Bell;
 use crate::bells::SharedBells;
 use crate::channel::{BoxPass, BoxReceiver, take};
 use crate::letter::{Letter, Post};
-use crate::try_recv_fault::TryRecvFault;
 use crossbeam_channel::TryRecvError;
 use rx_heap::Heap;
 use std::marker::Model;
@@ -56,22 +55,19 @@ impl<B: Drop> Model for Inlet<B> {
 impl<B: Drop> Inlet<B> {
     /// Takes what a port put at once, and waits for nothing. `Err` where there is none, and nothing changed: it says whether
     /// some may still come.
-    pub(crate) fn take<R: Wait>(&mut self, rt: &R) -> Result<Letter<Batch<B>>, TryRecvFault>
+    pub(crate) fn take<R: Wait>(&mut self, rt: &R) -> Result<Letter<Batch<B>>, TryRecvError>
         ensures taken { MatchResult result (λ x. self.new ≡ with_letters self.old (carried x)) (λ _. self.new ≡ self.old) }
 
         // It is from a port of the box whose Bye had not come.
         ensures port { IfOk result (λ x. x.from < self.old.ports) }
         ensures before_bye { IfOk result (λ x. ¬ HasBye self.old x.from) }
     {
-        match take(rt, &self.receiver, &mut self.pass) {
-            Ok(letter) => {
-                self.bells.room.ring();
-                mark(&mut self.byes, &letter);
-                Ok(letter)
-            }
-            Err(TryRecvError::Empty) => Err(TryRecvFault::Empty),
-            Err(TryRecvError::Disconnected) => Err(TryRecvFault::Gone),
+        let taken = take(rt, &self.receiver, &mut self.pass);
+        if let Ok(letter) = &taken {
+            self.bells.room.ring();
+            mark(&mut self.byes, letter);
         }
+        taken
     }
 
     /// What its inbox waits on for a letter.
