@@ -1,3 +1,4 @@
+ghost use Rattle.std.specs.Prelude.{◌≤◌, length};
 ghost use Rattle.rx_proto.specs.Bytes.{Writes};
 ghost use Rattle.rx_proto.specs.Printing.{reply_line, joined_line, note_line};
 
@@ -61,6 +62,7 @@ fn write_plain<W: Write>(writer: &mut W, note: &Note) -> Result<(), WriteFault>
 // Writes the line of a note with a long text in the first version.
 #[inline(never)] // so that a short one makes no room for it
 fn write_long<W: Write>(writer: &mut W, note: &Note) -> Result<(), WriteFault>
+    requires { length (note_line Version.One note.now) ≤ NOTE_LINE }
     ensures { Writes result (W.contents writer.old) (W.contents writer.new) (note_line Version.One note.now) }
 {
     write_bytes(writer, note_line::<NOTE_LINE>(note).as_bytes())

@@ -3,10 +3,10 @@ ghost use Rattle.std.specs.Prelude.{◌≡◌, true, false};
 /// What the subject of an observer is to be asked: one item more, so many times, and then to let the observer go.
 #[derive(Clone, Copy, Debug, PartialEq, Eq)]
 pub struct Asks {
-    /// The observer's number at its subject.
-    pub who: u32,
     /// How often one item more is asked for.
     pub items: u64,
+    /// The observer's number at its subject.
+    pub who: u32,
     /// The observer is to be let go.
     pub leaves: bool,
 }
