@@ -135,9 +135,9 @@ module _ {S : Type 0} where
   no_back (Err refusal) = refl
 
   -- the notes were sent, or a drainer is gone; from a port with no place for a reply none was put
-  pub sends_notes : (notes : List (Out S)) (sent : Result (Unit {0}) ℕ) (fault : Option PumpFault) (port : ℕ) (reply : Reply S) (before then : Ports S)
-      → SendsOuts notes sent before.drainers then.drainers → then.replies ≡ before.replies → length before.replies ≤ port
-      → MatchResult sent (λ _. fault ≡ None) (λ place. fault ≡ Some (DrainerGone place)) → Sends fault notes port reply before then
+  pub sends_notes : (notes : List (Out S)) (outcome : Result (Unit {0}) ℕ) (fault : Option PumpFault) (port : ℕ) (reply : Reply S) (before then : Ports S)
+      → SendsOuts notes outcome before.drainers then.drainers → then.replies ≡ before.replies → length before.replies ≤ port
+      → MatchResult outcome (λ _. fault ≡ None) (λ place. fault ≡ Some (DrainerGone place)) → Sends fault notes port reply before then
   sends_notes notes (Ok done) fault port reply before then puts same silent is =
       subst (λ (f : Option PumpFault). Sends f notes port reply before then) (sym is)
       (puts, subst (λ (l : List (Outgoing (Reply S))). Puts (λ p. to_port port p reply) before.replies l) (sym same) (Puts-no_place before.replies port reply silent))

@@ -64,18 +64,18 @@ fn handle_request<S: Drop, R: Wait>(
 {
     outs.clear();
     let answered = parts.hub.step(port, Event::Request { who, n }, outs);
-    let sent = give_all(rt, &mut parts.drainers, outs);
+    let outcome = give_all(rt, &mut parts.drainers, outs);
     Handled {
         refused: is_memory(answered),
-        fault: drainer_gone(sent),
+        fault: drainer_gone(outcome),
     }
 }
 
 // The fault where a drainer is gone.
-fn drainer_gone(sent: Result<(), usize>) -> Option<PumpFault>
-    ensures { MatchResult sent (λ _. result ≡ None) (λ place. result ≡ Some (PumpFault.DrainerGone place)) }
+fn drainer_gone(outcome: Result<(), usize>) -> Option<PumpFault>
+    ensures { MatchResult outcome (λ _. result ≡ None) (λ place. result ≡ Some (PumpFault.DrainerGone place)) }
 {
-    match sent {
+    match outcome {
         Ok(()) => None,
         Err(place) => Some(PumpFault::DrainerGone(place)),
     }

@@ -11,7 +11,7 @@ pub returns-clause-handles : goal.returns-clause-handles
 returns-clause-handles g c = λ ticket.
     let hub = c.args.parts.now.hub in
     let before = ports_of c.args.parts.now in
-    let then = ports_of (record c.args.parts.now { hub = c.step-answered.new.self; drainers = c.give_all-sent.new.drainers }) in
+    let then = ports_of (record c.args.parts.now { hub = c.step-answered.new.self; drainers = c.give_all-outcome.new.drainers }) in
     let step = c.step-answered in
     let none = c.clear.ensures.items in
     handled_request hub step.new.self before then step.result step.new.outs.items c.is_memory.result c.drainer_gone.result c.args.port c.args.who c.args.n ticket
@@ -23,5 +23,5 @@ returns-clause-handles g c = λ ticket.
       accepted = step.ensures.accepted;
       rules = step.ensures.rules;
     })
-    (sends_notes (map give step.new.outs.items) c.give_all-sent.result c.drainer_gone.result c.args.port (record { ticket = ticket; result = step.result; sink = None }) before then
-    c.give_all-sent.ensures refl (omega (arith, c.requires.silent, c.args.parts.now.replies.ok.0)) c.drainer_gone.ensures)
+    (sends_notes (map give step.new.outs.items) c.give_all-outcome.result c.drainer_gone.result c.args.port (record { ticket = ticket; result = step.result; sink = None }) before then
+    c.give_all-outcome.ensures refl (omega (arith, c.requires.silent, c.args.parts.now.replies.ok.0)) c.drainer_gone.ensures)
