@@ -13,13 +13,13 @@ use Rattle.rx_pump.proofs.Pumping.{AreSame-length}
 use Rattle.rx_sink.specs.declared.kept.Kept.{Kept}
 use Rattle.rx_sink.specs.Acts.{Acts}
 use Rattle.rx_sink.specs.Attachments.{Attachment, Why, closed}
-use Rattle.rx_sink.specs.Stands.{IsKept, Stand, addressed}
+use Rattle.rx_sink.specs.KeptSinks.{IsKept, Stand, addressed}
 use Rattle.rx_drain.specs.declared.drain_fault.DrainFault.{DrainFault}
 use Rattle.rx_drain.specs.declared.drain_fault.DrainFault.TheVariants.{InboxGone, SubjectGone}
 use Rattle.rx_drain.specs.Calls.{partings_of}
 use Rattle.rx_drain.specs.Credit.{AreAllPaid, IsPaid}
 use Rattle.rx_drain.specs.Logs.{Log, Next, Flush, letters, kept_in, sent_in}
-use Rattle.rx_drain.specs.Drainers.{DrainerView, IsOfSubject, SentUpTo, Stands, HandlesLetter, FlushesAt, FlushesAll}
+use Rattle.rx_drain.specs.Drainers.{DrainerView, IsOfSubject, SentUpTo, StandsForLog, HandlesLetter, FlushesAt, FlushesAll}
 use Rattle.rx_drain.proofs.Crediting.{paid_by_flush, paid_without}
 use Rattle.rx_drain.proofs.Standing.{handles_next, stands_left}
 
@@ -45,8 +45,8 @@ module _ {S Rest : Type 0} (acts : Acts S Rest) where
   -- from all for which the drainer stood it came to this by some flushes, and of the sinks from this place on only stuck ones
   -- are left unpaid
   pub record Flushing (place : ℕ) (before now : DrainerView S Rest) : Type 0 where
-    pub stands : (log : Log S) → Stands acts (length before.ports) log before
-        → (more : Log S) × (letters more ≡ letters log) × Stands acts (length before.ports) more now × AllByRecursion IsPaid (drop place (kept_in (length before.ports) more))
+    pub stands : (log : Log S) → StandsForLog acts (length before.ports) log before
+        → (more : Log S) × (letters more ≡ letters log) × StandsForLog acts (length before.ports) more now × AllByRecursion IsPaid (drop place (kept_in (length before.ports) more))
 
   -- none was flushed yet
   pub Flushing-none : (place : ℕ) (before : DrainerView S Rest) → length before.kept ≤ place → Flushing place before before
@@ -76,10 +76,10 @@ module _ {S Rest : Type 0} (acts : Acts S Rest) where
         let count : length now.ports ≡ n = AreSame-length before.ports now.ports same in
         let g = f.stands log s in
         let behind = subst (λ (i : ℕ). AllByRecursion IsPaid (drop i (kept_in n g.0))) place_is g.3 in
-        let one = at.stands g.0 (subst (λ (m : ℕ). Stands acts m g.0 now) (sym count) g.2) in (
+        let one = at.stands g.0 (subst (λ (m : ℕ). StandsForLog acts m g.0 now) (sym count) g.2) in (
           Flush g.0 at.one.subject at.one.who one.0,
           g.1,
-          subst (λ (m : ℕ). Stands acts m (Flush g.0 at.one.subject at.one.who one.0) after) count one.1,
+          subst (λ (m : ℕ). StandsForLog acts m (Flush g.0 at.one.subject at.one.who one.0) after) count one.1,
           paid_by_flush acts n g.0 now.kept g.2.sinks.kept_are next at.one one.0 at.stood behind,
         ));
   }
@@ -111,7 +111,7 @@ module _ {S Rest : Type 0} (acts : Acts S Rest) where
 
   -- from all for which the drainer stood it came to this by some flushes
   abbrev pub ComesTo : DrainerView S Rest → DrainerView S Rest → Type 0
-  ComesTo before now = (log : Log S) → Stands acts (length before.ports) log before → (more : Log S) × (letters more ≡ letters log) × Stands acts (length before.ports) more now
+  ComesTo before now = (log : Log S) → StandsForLog acts (length before.ports) log before → (more : Log S) × (letters more ≡ letters log) × StandsForLog acts (length before.ports) more now
 
   pub comes_nowhere : (view : DrainerView S Rest) → ComesTo view view
   comes_nowhere view log s = (log, refl, s)
@@ -124,8 +124,8 @@ module _ {S Rest : Type 0} (acts : Acts S Rest) where
         fault = flushes.fault;
         stands = λ log s.
             (let c = comes log s in
-            let f = flushes.stands c.0 (subst (λ (m : ℕ). Stands acts m c.0 now) (sym count) c.2) in
-            (f.0, f.1 ∙ c.1, subst (λ (m : ℕ). Stands acts m f.0 after) count f.2, λ none. subst (λ (m : ℕ). AreAllPaid m f.0) count (f.3 none)));
+            let f = flushes.stands c.0 (subst (λ (m : ℕ). StandsForLog acts m c.0 now) (sym count) c.2) in
+            (f.0, f.1 ∙ c.1, subst (λ (m : ℕ). StandsForLog acts m f.0 after) count f.2, λ none. subst (λ (m : ℕ). AreAllPaid m f.0) count (f.3 none)));
       }
 
   -- and goes on, where that was no fault
@@ -147,8 +147,8 @@ module _ {S Rest : Type 0} (acts : Acts S Rest) where
         handles.0,
         λ log s.
             (let f = flushes.stands log s in
-            let h = handles.1 f.0 (subst (λ (m : ℕ). Stands acts m f.0 mid) (sym count) f.2) in
-            (h.0, h.1 ∙ f.1, h.2, subst (λ (m : ℕ). Stands acts m (Next h.0 x h.2) after) count h.3)),
+            let h = handles.1 f.0 (subst (λ (m : ℕ). StandsForLog acts m f.0 mid) (sym count) f.2) in
+            (h.0, h.1 ∙ f.1, h.2, subst (λ (m : ℕ). StandsForLog acts m (Next h.0 x h.2) after) count h.3)),
       )
 
   -- what stopped is stopped where more would follow, and a Bye

@@ -9,12 +9,12 @@ use Rattle.rx_note.specs.declared.note.Note.{Note}
 use Rattle.rx_pump.specs.declared.out.Out.{Out}
 use Rattle.rx_pump.specs.declared.out.Out.TheVariants.{Attach, Give, Detach}
 use Rattle.rx_sink.specs.declared.flow.Flow.{Flow}
-use Rattle.rx_sink.specs.Attachments.{Attachment, Why, Mark, Fine, Fault, NoMemory, Change, is_clear, is_held_back, is_last, is_of, kept_for, without, replaced, with_note, with_flush, paid, attached, given, settled, serving, served_yet, flushed, written, detached, let_go, closed, brought}
+use Rattle.rx_sink.specs.Attachments.{Attachment, Why, Mark, Fine, Fault, NoMemory, Change, is_clear, is_held_back, is_last, is_of, kept_for, without, replaced, with_note, with_flush, paid, attached, notified, settled, serving, served_yet, flushed, written, detached, let_go, closed, brought}
 use Rattle.rx_drain.specs.Logs.{Log, NoLetters, Next, Flush, letters, has_left, letter_change, kept_in, change, flush_change, gone_in, missed_in}
 use Rattle.rx_drain.proofs.Changing.{post_change, post_by}
 use Rattle.rx_drain.specs.Once.{times, found_by, missed_by, place_by, letter_by, places_by, found_in, missed_at, EachOnce}
 use Rattle.rx_drain.proofs.Taking.{some_split}
-use Rattle.rx_sink.proofs.Counts.{missed_given, missed_flushed, missed_detached}
+use Rattle.rx_sink.proofs.Counts.{missed_notified, missed_flushed, missed_detached}
 
 pub times-append : (n : ℕ) (xs ys : List ℕ) → times n (xs ++ ys) ≡ times n xs + times n ys
 times-append n [] ys = (let e : times n ys ≡ 0 + times n ys = omega arith in e)
@@ -170,7 +170,7 @@ module _ {S : Type 0} where
   post_misses true place from (Body out) mark kept = refl
   post_misses true place from Bye mark kept = refl
   post_misses false place from (Body (Attach who sink)) mark kept = place_misses mark place (brought place from who sink) (kept_for from who kept) kept
-  post_misses false place from (Body (Give who note)) mark kept = sym (missed_given mark from who note (kept_for from who kept) kept)
+  post_misses false place from (Body (Give who note)) mark kept = sym (missed_notified mark from who note (kept_for from who kept) kept)
   post_misses false place from (Body (Detach who)) mark kept = sym (missed_detached from who (kept_for from who kept) kept)
   post_misses false place from Bye mark kept = refl
 
@@ -275,7 +275,7 @@ module _ {S : Type 0} where
   moves_serve_yet n s w note mark true a kept is = refl
   moves_serve_yet n s w note mark false a kept is = moves_serve n s w note mark a kept is
 
-  moves_give : (n s w : ℕ) (note : Note) (mark : Mark) (o : Option (Attachment S)) (kept : List (Attachment S)) → kept_for s w kept ≡ o → Moves n kept [] (given mark s w note o kept)
+  moves_give : (n s w : ℕ) (note : Note) (mark : Mark) (o : Option (Attachment S)) (kept : List (Attachment S)) → kept_for s w kept ≡ o → Moves n kept [] (notified mark s w note o kept)
   moves_give n s w note mark None kept is = refl
   moves_give n s w note mark (Some a) kept is = moves_serve_yet n s w note mark a.over a kept is
 

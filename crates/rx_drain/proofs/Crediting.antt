@@ -11,8 +11,8 @@ use Rattle.rx_sink.specs.declared.flow.Flow.{Flow}
 use Rattle.rx_sink.specs.declared.flow.Flow.TheVariants.{Clear, Ready, Stuck}
 use Rattle.rx_sink.specs.declared.kept.Kept.{Kept}
 use Rattle.rx_sink.specs.Acts.{Acts, Step, Takes, Flushes}
-use Rattle.rx_sink.specs.Attachments.{Attachment, Mark, Fine, Fault, NoMemory, Apart, is_clear, is_held_back, is_last, may_wait, is_of, kept_for, without, replaced, with_note, with_flush, paid, attached, given, settled, serving, served_yet, flushed, written, detached, let_go, brought}
-use Rattle.rx_sink.specs.Stands.{IsKept}
+use Rattle.rx_sink.specs.Attachments.{Attachment, Mark, Fine, Fault, NoMemory, Apart, is_clear, is_held_back, is_last, may_wait, is_of, kept_for, without, replaced, with_note, with_flush, paid, attached, notified, settled, serving, served_yet, flushed, written, detached, let_go, brought}
+use Rattle.rx_sink.specs.KeptSinks.{IsKept}
 use Rattle.rx_drain.specs.Credit.{IsPaid}
 use Rattle.rx_drain.specs.Logs.{Log, NoLetters, Next, Flush, letters, has_left, letter_change, kept_in}
 use Rattle.rx_drain.proofs.Changing.{post_change}
@@ -65,7 +65,7 @@ module _ {S : Type 0} where
   withheld_serve_yet s w note mark true a kept all = all
   withheld_serve_yet s w note mark false a kept all = withheld_serve s w note mark a kept all
 
-  withheld_give : (s w : ℕ) (note : Note) (mark : Mark) (o : Option (Attachment S)) (kept : List (Attachment S)) → AllByRecursion Withheld kept → AllByRecursion Withheld (given mark s w note o kept).kept
+  withheld_give : (s w : ℕ) (note : Note) (mark : Mark) (o : Option (Attachment S)) (kept : List (Attachment S)) → AllByRecursion Withheld kept → AllByRecursion Withheld (notified mark s w note o kept).kept
   withheld_give s w note mark None kept all = all
   withheld_give s w note mark (Some a) kept all = withheld_serve_yet s w note mark a.over a kept all
 

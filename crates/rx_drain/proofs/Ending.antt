@@ -17,7 +17,7 @@ use Rattle.rx_sink.specs.declared.kept.Kept.{Kept}
 use Rattle.rx_sink.specs.declared.put_away.PutAway.{PutAway}
 use Rattle.rx_sink.specs.Acts.{Acts}
 use Rattle.rx_sink.specs.Attachments.{Attachment, Mark, flushed, kept_for}
-use Rattle.rx_sink.specs.Stands.{IsKept, IsPutAway, addressed}
+use Rattle.rx_sink.specs.KeptSinks.{IsKept, IsPutAway, addressed}
 use Rattle.rx_drain.specs.declared.drain_end.DrainEnd.{DrainEnd}
 use Rattle.rx_drain.specs.declared.drain_fault.DrainFault.{DrainFault}
 use Rattle.rx_drain.specs.declared.drain_fault.DrainFault.TheVariants.{InboxGone}
@@ -25,7 +25,7 @@ use Rattle.rx_drain.specs.declared.drain_stop.DrainStop.{DrainStop}
 use Rattle.rx_drain.specs.Logs.{Log, NoLetters, Next, Flush, letters, has_left, letter_change, kept_in, sent_in}
 use Rattle.rx_drain.proofs.Changing.{post_change}
 use Rattle.rx_drain.specs.Credit.{IsPaid, AreAllPaid}
-use Rattle.rx_drain.specs.Drainers.{DrainerView, HaveSent, SentUpTo, Stands, Drains, IsDrained, HandlesLetter, FlushesAll, Goes, Pays, KeepsDrainer, TakesMore, TakesSome, with_letters, view_of}
+use Rattle.rx_drain.specs.Drainers.{DrainerView, HaveSent, SentUpTo, StandsForLog, Drains, IsDrained, HandlesLetter, FlushesAll, Goes, Pays, KeepsDrainer, TakesMore, TakesSome, with_letters, view_of}
 use Rattle.rx_drain.specs.Serving.{HasDrained, DrainerHasStopped}
 
 pub bool_cases : (b : Bool) → (b ≡ true) ⊎ (b ≡ false)
@@ -89,9 +89,9 @@ module _ {S Rest : Type 0} (acts : Acts S Rest) where
   -- A TURN
 
   -- the same, whatever the inbox
-  stands_too : (leave : ℕ) (log : Log S) (before after : DrainerView S Rest) → after ≡ record before { inbox = after.inbox } → Stands acts leave log before → Stands acts leave log after
+  stands_too : (leave : ℕ) (log : Log S) (before after : DrainerView S Rest) → after ≡ record before { inbox = after.inbox } → StandsForLog acts leave log before → StandsForLog acts leave log after
   stands_too leave log before after is s =
-      subst (λ (v : DrainerView S Rest). Stands acts leave log v) (sym is) (record { left = s.left; sent = s.sent; sinks = s.sinks; missed = s.missed; took = s.took })
+      subst (λ (v : DrainerView S Rest). StandsForLog acts leave log v) (sym is) (record { left = s.left; sent = s.sent; sinks = s.sinks; missed = s.missed; took = s.took })
 
   -- no letter came
   pub drained_gone : (before after : DrainerView S Rest) → before.fault ≡ None → after ≡ record before { fault = Some InboxGone } → IsDrained acts before → IsDrained acts after
@@ -116,7 +116,7 @@ module _ {S Rest : Type 0} (acts : Acts S Rest) where
       → mid ≡ record before { inbox = mid.inbox; fault = None } → mid.inbox ≡ with_letter before.inbox x → after.inbox ≡ mid.inbox
       → AreSame mid.ports after.ports → HandlesLetter acts x mid after → Goes acts before after
   goes_letter before mid after x whole mid_is received kept same handles log d =
-      let P : DrainerView S Rest → Type 0 = λ v. Stands acts (length v.ports) log v in
+      let P : DrainerView S Rest → Type 0 = λ v. StandsForLog acts (length v.ports) log v in
       let base : P (record before { inbox = mid.inbox; fault = None }) = record {
         left = d.stands.left;
         sent = subst (λ (f : Option DrainFault). SentUpTo f before.left (addressed (sent_in (length before.ports) log)) before.ports) whole d.stands.sent;
@@ -129,7 +129,7 @@ module _ {S Rest : Type 0} (acts : Acts S Rest) where
         Next next.0 x next.2,
         record {
           received = ap (λ (i : Incoming (Out S)). i.received) (kept ∙ received) ∙ ap (λ (l : List (Letter (Out S))). l ++ x ∷ []) (d.received ∙ sym next.1);
-          stands = subst (λ (n : ℕ). Stands acts n (Next next.0 x next.2) after) count next.3;
+          stands = subst (λ (n : ℕ). StandsForLog acts n (Next next.0 x next.2) after) count next.3;
         },
       )
 
@@ -149,7 +149,7 @@ module _ {S Rest : Type 0} (acts : Acts S Rest) where
         f.0,
         record {
           received = ap (λ (i : Incoming (Out S)). i.received) kept ∙ d.received ∙ sym f.1;
-          stands = subst (λ (n : ℕ). Stands acts n f.0 after) count f.2;
+          stands = subst (λ (n : ℕ). StandsForLog acts n f.0 after) count f.2;
         },
         λ none. subst (λ (n : ℕ). AreAllPaid n f.0) count (f.3 none),
       )

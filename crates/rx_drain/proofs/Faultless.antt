@@ -4,7 +4,7 @@ use Rattle.std.specs.List.{AllByRecursion}
 use Rattle.rx_note.specs.declared.note.Note.{Note}
 use Rattle.rx_sink.specs.Acts.{Acts}
 use Rattle.rx_sink.specs.Attachments.{Attachment, Why, TookLast, Detached, Closed, FailedAtStart, FailedAt, FailedAtFlush}
-use Rattle.rx_sink.specs.Stands.{Last}
+use Rattle.rx_sink.specs.KeptSinks.{Last}
 use Rattle.rx_sink.proofs.Taking.{tells_faults}
 use Rattle.rx_drain.specs.Logs.{letters, gone_in}
 use Rattle.rx_drain.specs.Served.{TookOf, served, FaultlessSinksTookAll}

@@ -14,12 +14,12 @@ use Rattle.rx_pump.specs.declared.out.Out.{Out}
 use Rattle.rx_pump.specs.declared.out.Out.TheVariants.{Attach, Give, Detach}
 use Rattle.rx_pump.proofs.Placing.{slice_get-append_left, slice_get-append_right}
 use Rattle.rx_sink.specs.declared.flow.Flow.{Flow}
-use Rattle.rx_sink.specs.Attachments.{Attachment, Why, TookLast, Detached, FailedAtStart, FailedAt, FailedAtFlush, Mark, Fine, Fault, NoMemory, Sent, Change, is_clear, is_held_back, is_last, is_of, kept_for, without, replaced, with_note, with_flush, paid, request, requests, dispose, parting, partings, attached, given, settled, serving, served_yet, flushed, written, detached, let_go, closed, brought}
+use Rattle.rx_sink.specs.Attachments.{Attachment, Why, TookLast, Detached, FailedAtStart, FailedAt, FailedAtFlush, Mark, Fine, Fault, NoMemory, Sent, Change, is_clear, is_held_back, is_last, is_of, kept_for, without, replaced, with_note, with_flush, paid, request, requests, dispose, parting, partings, attached, notified, settled, serving, served_yet, flushed, written, detached, let_go, closed, brought}
 use Rattle.rx_drain.specs.Logs.{Log, NoLetters, Next, Flush, letters, has_left, letter_change, kept_in, change, flush_change, gone_in, sent_in}
 use Rattle.rx_drain.proofs.Changing.{post_change, post_by}
 use Rattle.rx_drain.specs.Once.{times, found_by, missed_by, place_by, letter_by, found_in, missed_at}
 use Rattle.rx_drain.specs.Served.{StandsAt}
-use Rattle.rx_drain.specs.Sent.{asks, at_end, sent_for, to_subject, asked, dues, asked_in_all, IsSentForEach}
+use Rattle.rx_drain.specs.Sent.{item_requests, at_end, sent_for, to_subject, asked, dues, asked_in_all, IsSentForEach}
 use Rattle.rx_drain.proofs.Counting.{times-append, kept_places, gone_places, below, without_places, same, once, once_in_all, misses}
 use Rattle.rx_drain.proofs.Taking.{all_append, some_split}
 
@@ -67,11 +67,11 @@ all_keep_due place due expected xs ys m [] only apart all = tt
 all_keep_due place due expected xs ys m (z ∷ zs) only apart all =
     (keep_due (place z) xs ys (due z) (expected z) (only (place z) apart.0) all.0, all_keep_due place due expected xs ys m zs only apart.1 all.1)
 
-asks_more : (who : ℕ) (notes : List Note) (note : Note) → asks who (notes ++ note ∷ []) ≡ asks who notes ++ (if is_last note then [] else Request who 1 ∷ [])
-asks_more who [] note = append-nil (if is_last note then [] else Request who 1 ∷ [])
-asks_more who (first ∷ notes) note =
+item_requests_more : (who : ℕ) (notes : List Note) (note : Note) → item_requests who (notes ++ note ∷ []) ≡ item_requests who notes ++ (if is_last note then [] else Request who 1 ∷ [])
+item_requests_more who [] note = append-nil (if is_last note then [] else Request who 1 ∷ [])
+item_requests_more who (first ∷ notes) note =
     let here : List Event = (if is_last first then [] else Request who 1 ∷ []) in
-    ap (λ l. here ++ l) (asks_more who notes note) ∙ sym (append_assoc here (asks who notes) (if is_last note then [] else Request who 1 ∷ []))
+    ap (λ l. here ++ l) (item_requests_more who notes note) ∙ sym (append_assoc here (item_requests who notes) (if is_last note then [] else Request who 1 ∷ []))
 
 times_self : (n : ℕ) → times n (n ∷ []) ≡ 1
 times_self n = ap (λ t. (if t then 1 else 0) + 0) (eq-eqb n n refl)
@@ -258,10 +258,10 @@ module _ {S : Type 0} where
 
   -- what was sent, what is due, and more
   in_all : (xs ys : List Sent) (a : Attachment S) (more : List Event) → sent_for a.place xs ++ dues a ≡ asked a → sent_for a.place ys ≡ dues a ++ to_subject a more
-      → sent_for a.place (xs ++ ys) ≡ to_subject a (asks a.who a.taken ++ more)
+      → sent_for a.place (xs ++ ys) ≡ to_subject a (item_requests a.who a.taken ++ more)
   in_all xs ys a more so_far now =
       sent_append a.place xs ys ∙ ap (λ l. sent_for a.place xs ++ l) now ∙ sym (append_assoc (sent_for a.place xs) (dues a) (to_subject a more))
-      ∙ ap (λ l. l ++ to_subject a more) so_far ∙ sym (map-append (λ (event : Event). (a.subject, event)) (asks a.who a.taken) more)
+      ∙ ap (λ l. l ++ to_subject a more) so_far ∙ sym (map-append (λ (event : Event). (a.subject, event)) (item_requests a.who a.taken) more)
 
   closing : (xs : List Sent) (pre post : List (Attachment S)) → ((n : ℕ) → times n (kept_places (pre ++ post)) ≤ 1) → Asked xs post
       → AskedAll (xs ++ partings (pre ++ post)) (closed post)
@@ -328,10 +328,10 @@ module _ {S : Type 0} where
           ap (λ l. sent_for a.place xs ++ to_subject a l) (sym (replicate_more a.due (Request a.who 1)))
           ∙ ap (λ l. sent_for a.place xs ++ l) (map-append (λ (event : Event). (a.subject, event)) (replicate a.due (Request a.who 1)) (Request a.who 1 ∷ []))
           ∙ sym (append_assoc (sent_for a.place xs) (dues a) (to_subject a (Request a.who 1 ∷ []))) ∙ ap (λ l. l ++ to_subject a (Request a.who 1 ∷ [])) so_far
-          ∙ sym (map-append (λ (event : Event). (a.subject, event)) (asks a.who a.taken) (Request a.who 1 ∷ []))
-          ∙ ap (to_subject a) (sym (asks_more a.who a.taken note ∙ ap (λ t. asks a.who a.taken ++ (if t then [] else Request a.who 1 ∷ [])) last))
+          ∙ sym (map-append (λ (event : Event). (a.subject, event)) (item_requests a.who a.taken) (Request a.who 1 ∷ []))
+          ∙ ap (to_subject a) (sym (item_requests_more a.who a.taken note ∙ ap (λ t. item_requests a.who a.taken ++ (if t then [] else Request a.who 1 ∷ [])) last))
       note_due true note flow last =
-          so_far ∙ ap (to_subject a) (sym (asks_more a.who a.taken note ∙ ap (λ t. asks a.who a.taken ++ (if t then [] else Request a.who 1 ∷ [])) last ∙ append-nil (asks a.who a.taken)))
+          so_far ∙ ap (to_subject a) (sym (item_requests_more a.who a.taken note ∙ ap (λ t. item_requests a.who a.taken ++ (if t then [] else Request a.who 1 ∷ [])) last ∙ append-nil (item_requests a.who a.taken)))
 
       note_place : (l : Bool) (note : Note) (flow : Flow) → (with_note l note flow a).place ≡ a.place
       note_place true note flow = refl
@@ -364,7 +364,7 @@ module _ {S : Type 0} where
           record {
             still = asked_without s w a kept xs (parting b) is few_here only kept_all;
             ended = gone_more (parting b) (paid b, why) (gone_stays (parting b) a.place only none_there)
-                (in_all xs (parting b) b (Dispose b.who ∷ []) now (parting_here b) ∙ ap (λ l. to_subject b (asks b.who b.taken ++ l)) (sym end));
+                (in_all xs (parting b) b (Dispose b.who ∷ []) now (parting_here b) ∙ ap (λ l. to_subject b (item_requests b.who b.taken ++ l)) (sym end));
           }
 
       told_settle : (leaves held_back : Bool) (b : Attachment S) (took : ℕ) → b.place ≡ a.place → sent_for b.place xs ++ dues b ≡ asked b
@@ -401,7 +401,7 @@ module _ {S : Type 0} where
           }
       told_lets_go true = (let t = told_ended a TookLast 0 refl refl so_far in record { still = t.still; ended = t.ended })
 
-    told_give : (s w : ℕ) (note : Note) (mark : Mark) (o : Option (Attachment S)) → kept_for s w kept ≡ o → Told xs gone (given mark s w note o kept)
+    told_give : (s w : ℕ) (note : Note) (mark : Mark) (o : Option (Attachment S)) → kept_for s w kept ≡ o → Told xs gone (notified mark s w note o kept)
     told_give s w note mark None is = told_idle
     told_give s w note mark (Some a) is = told_serve_yet s w a is mark a.over note
 
@@ -481,7 +481,7 @@ module _ {S : Type 0} where
     quiet_serve_yet s w note mark true a other = refl
     quiet_serve_yet s w note mark false a other = quiet_serve s w note mark a other
 
-    quiet_give : (s w : ℕ) (note : Note) (mark : Mark) (o : Option (Attachment S)) → kept_for s w kept ≡ o → sent_for n (given mark s w note o kept).sends ≡ []
+    quiet_give : (s w : ℕ) (note : Note) (mark : Mark) (o : Option (Attachment S)) → kept_for s w kept ≡ o → sent_for n (notified mark s w note o kept).sends ≡ []
     quiet_give s w note mark None is = refl
     quiet_give s w note mark (Some a) is = quiet_serve_yet s w note mark a.over a (found_has (λ (d : Attachment S). d.place ≢ n) s w a kept is apart)
 

@@ -6,7 +6,7 @@ use Rattle.rx_sink.specs.declared.flow.Flow.TheVariants.{Clear, Stuck}
 use Rattle.rx_sink.specs.declared.kept.Kept.{Kept}
 use Rattle.rx_sink.specs.Acts.{Acts, Step, Takes, Flushes, last_by, Makes}
 use Rattle.rx_sink.specs.Attachments.{Attachment, is_clear, may_wait}
-use Rattle.rx_sink.specs.Stands.{IsKept}
+use Rattle.rx_sink.specs.KeptSinks.{IsKept}
 use Rattle.rx_sink.specs.Waiting.{NeverWaits}
 use Rattle.rx_drain.specs.Credit.{IsPaid}
 use Rattle.rx_drain.specs.Drainers.{any_may_wait}

@@ -21,14 +21,14 @@ use Rattle.rx_sink.specs.declared.flow.Flow.TheVariants.{Clear}
 use Rattle.rx_sink.specs.declared.kept.Kept.{Kept}
 use Rattle.rx_sink.specs.Acts.{Acts, raised}
 use Rattle.rx_sink.specs.Attachments.{Attachment, Why, Mark, Fine, Change, brought, flushing, kept_for, unchanged, left, closed, dispose, requests, parting, partings, request}
-use Rattle.rx_sink.specs.Stands.{Stand, Tends, IsKept, IsPutAway, addressed, sinks, tallied}
-use Rattle.rx_sink.proofs.Counts.{missed_attached, missed_given, missed_flushed, missed_detached, took_attached, took_given, took_flushed, took_detached}
+use Rattle.rx_sink.specs.KeptSinks.{Stand, Tends, IsKept, IsPutAway, addressed, sinks, tallied}
+use Rattle.rx_sink.proofs.Counts.{missed_attached, missed_notified, missed_flushed, missed_detached, took_attached, took_notified, took_flushed, took_detached}
 use Rattle.rx_drain.specs.declared.drain_fault.DrainFault.{DrainFault}
 use Rattle.rx_drain.specs.declared.drain_fault.DrainFault.TheVariants.{InboxGone, SubjectGone}
 use Rattle.rx_drain.specs.Calls.{calls_to, parting_of, partings_of, SendsEvents}
 use Rattle.rx_drain.specs.Logs.{Log, Next, Flush, letters, has_left, out_change, service_of, letter_change, kept_in, change, flush_change, gone_in, sent_in, missed_in, taken_in, put_by}
 use Rattle.rx_drain.proofs.Changing.{post_change}
-use Rattle.rx_drain.specs.Drainers.{DrainerView, IsOfSubject, HaveSent, SentUpTo, Stands, HandlesLetter}
+use Rattle.rx_drain.specs.Drainers.{DrainerView, IsOfSubject, HaveSent, SentUpTo, StandsForLog, HandlesLetter}
 use Rattle.rx_drain.proofs.Events.{calls_to-append}
 
 module _ {S : Type 0} where
@@ -36,14 +36,14 @@ module _ {S : Type 0} where
   missed_out : (place subject : ℕ) (out : Out S) (mark : Mark) (kept : List (Attachment S))
       → ((out_change place subject out mark kept).missed ≡ 0) ⊎ ((out_change place subject out mark kept).missed ≡ 1)
   missed_out place subject (Attach who sink) mark kept = missed_attached mark (brought place subject who sink) (kept_for subject who kept) kept
-  missed_out place subject (Give who note) mark kept = inl (missed_given mark subject who note (kept_for subject who kept) kept)
+  missed_out place subject (Give who note) mark kept = inl (missed_notified mark subject who note (kept_for subject who kept) kept)
   missed_out place subject (Detach who) mark kept = inl (missed_detached subject who (kept_for subject who kept) kept)
 
   -- by a letter one note is taken at most
   took_out : (place subject : ℕ) (out : Out S) (mark : Mark) (kept : List (Attachment S))
       → ((out_change place subject out mark kept).took ≡ 0) ⊎ ((out_change place subject out mark kept).took ≡ 1)
   took_out place subject (Attach who sink) mark kept = inl (took_attached mark (brought place subject who sink) (kept_for subject who kept) kept)
-  took_out place subject (Give who note) mark kept = took_given mark subject who note (kept_for subject who kept) kept
+  took_out place subject (Give who note) mark kept = took_notified mark subject who note (kept_for subject who kept) kept
   took_out place subject (Detach who) mark kept = inl (took_detached subject who (kept_for subject who kept) kept)
 
 tallied-more : (m n k : ℕ) → m ≡ min n (2 ^ 64 - 1) → (k ≡ 0) ⊎ (k ≡ 1) → tallied m k ≡ min (n + k) (2 ^ 64 - 1)
@@ -197,7 +197,7 @@ module _ {S Rest : Type 0} (acts : Acts S Rest) where
     pub took : after.taken ≡ min (taken_in leave log + c.took) (2 ^ 64 - 1)
 
   stands_next : (leave : ℕ) (log : Log S) (x : Letter (Out S)) (mark : Mark) (after : DrainerView S Rest) (c : Change S)
-      → change leave log x mark ≡ c → after.left ≡ has_left leave (Next log x mark) → Changed leave log after c → Stands acts leave (Next log x mark) after
+      → change leave log x mark ≡ c → after.left ≡ has_left leave (Next log x mark) → Changed leave log after c → StandsForLog acts leave (Next log x mark) after
   stands_next leave log x mark after c is left_is changed =
       let now = subst (Changed leave log after) (sym is) changed in
       record {
@@ -209,7 +209,7 @@ module _ {S Rest : Type 0} (acts : Acts S Rest) where
       }
 
   -- nothing changes
-  idle : (leave : ℕ) (log : Log S) (view : DrainerView S Rest) → Stands acts leave log view → Changed leave log view (unchanged (kept_in leave log))
+  idle : (leave : ℕ) (log : Log S) (view : DrainerView S Rest) → StandsForLog acts leave log view → Changed leave log view (unchanged (kept_in leave log))
   idle leave log view s = record {
     sent = sent_same view.fault view.left _ _ view.ports (sym (append-nil (addressed (sent_in leave log)))) s.sent;
     sinks = record {
@@ -222,7 +222,7 @@ module _ {S Rest : Type 0} (acts : Acts S Rest) where
   }
 
   -- a letter after the Bye of the leave port
-  pub stands_idle_left : (leave : ℕ) (log : Log S) (x : Letter (Out S)) (view : DrainerView S Rest) → view.left ≡ true → Stands acts leave log view → Stands acts leave (Next log x (Fine Clear)) view
+  pub stands_idle_left : (leave : ℕ) (log : Log S) (x : Letter (Out S)) (view : DrainerView S Rest) → view.left ≡ true → StandsForLog acts leave log view → StandsForLog acts leave (Next log x (Fine Clear)) view
   stands_idle_left leave log x view left_is s =
       let was : has_left leave log ≡ true = sym s.left ∙ left_is in
       stands_next leave log x (Fine Clear) view _ (ap (λ b. letter_change b leave (length (letters log)) x (Fine Clear) (kept_in leave log)) was)
@@ -230,7 +230,7 @@ module _ {S Rest : Type 0} (acts : Acts S Rest) where
 
   -- a body of the leave port before that
   pub stands_idle_leave : (leave : ℕ) (log : Log S) (from : ℕ) (out : Out S) (view : DrainerView S Rest)
-      → view.left ≡ false → (from == leave) ≡ true → Stands acts leave log view → Stands acts leave (Next log (letter from (Body out)) (Fine Clear)) view
+      → view.left ≡ false → (from == leave) ≡ true → StandsForLog acts leave log view → StandsForLog acts leave (Next log (letter from (Body out)) (Fine Clear)) view
   stands_idle_leave leave log from out view left_is test s =
       let was : has_left leave log ≡ false = sym s.left ∙ left_is in
       stands_next leave log (letter from (Body out)) (Fine Clear) view _
@@ -240,7 +240,7 @@ module _ {S Rest : Type 0} (acts : Acts S Rest) where
 
   -- a Bye of a subject before that
   pub stands_idle_bye : (leave : ℕ) (log : Log S) (from : ℕ) (view : DrainerView S Rest)
-      → view.left ≡ false → (from == leave) ≡ false → Stands acts leave log view → Stands acts leave (Next log (letter from Bye) (Fine Clear)) view
+      → view.left ≡ false → (from == leave) ≡ false → StandsForLog acts leave log view → StandsForLog acts leave (Next log (letter from Bye) (Fine Clear)) view
   stands_idle_bye leave log from view left_is test s =
       let was : has_left leave log ≡ false = sym s.left ∙ left_is in
       stands_next leave log (letter from Bye) (Fine Clear) view _
@@ -253,7 +253,7 @@ module _ {S Rest : Type 0} (acts : Acts S Rest) where
       → ended ≡ [] → before.ports ≡ ended ++ a → after.ports ≡ ended ++ b → before.left ≡ false → after.left ≡ false → before.fault ≡ None → (from == leave) ≡ false
       → ((place : ℕ) → Tends acts (service_of place from out) from (sinks before.kept before.away before.misses before.taken) (sinks after.kept after.away after.misses after.taken) events back)
       → SendsEvents after.fault (map (λ event. (from, event)) events) a b
-      → Stands acts leave log before → (mark : Mark) × Stands acts leave (Next log (letter from (Body out)) mark) after
+      → StandsForLog acts leave log before → (mark : Mark) × StandsForLog acts leave (Next log (letter from (Body out)) mark) after
   stands_served leave log from out before after ended a b events back none before_ports after_ports left_is left_after whole test serves sends s =
       let was : has_left leave log ≡ false = sym s.left ∙ left_is in
       let place = length (letters log) in
@@ -284,7 +284,7 @@ module _ {S Rest : Type 0} (acts : Acts S Rest) where
       → after.misses ≡ before.misses → after.taken ≡ before.taken
       → ((misses taken : ℕ) → Tends acts (flushing subject who) subject (sinks before.kept before.away misses taken) (sinks after.kept after.away misses taken) events None)
       → SendsEvents after.fault (map (λ event. (subject, event)) events) a b
-      → Stands acts leave log before → (mark : Mark) × Stands acts leave (Flush log subject who mark) after
+      → StandsForLog acts leave log before → (mark : Mark) × StandsForLog acts leave (Flush log subject who mark) after
   stands_flushed leave log subject who before after ended a b events none before_ports after_ports left_is left_after whole same_misses same_taken flushes sends s =
       let did = flushes before.misses before.taken (kept_in leave log) (gone_in leave log) s.sinks in
       let mark = did.0 in
@@ -339,7 +339,7 @@ module _ {S Rest : Type 0} (acts : Acts S Rest) where
       → ((held : List (Attachment S)) (gone : List (Attachment S × Why)) → Stand acts held gone before.kept before.away → Stand acts [] (gone ++ closed held) after.kept after.away)
       → (SentUpTo before.fault before.left (addressed (sent_in leave log)) before.ports
       → SentUpTo after.fault true (addressed (sent_in leave log) ++ partings_of before.kept) after.ports)
-      → Stands acts leave log before → (mark : Mark) × Stands acts leave (Next log (letter from Bye) mark) after
+      → StandsForLog acts leave log before → (mark : Mark) × StandsForLog acts leave (Next log (letter from Bye) mark) after
   stands_left leave log from before after from_is left_is left_after empty same_misses same_taken closes sends s =
       let was : has_left leave log ≡ false = sym s.left ∙ left_is in
       let test : (from == leave) ≡ true = eq-eqb from leave from_is in
@@ -363,7 +363,7 @@ module _ {S Rest : Type 0} (acts : Acts S Rest) where
   -- no sink was flushed before it
   pub handles_next : (x : Letter (Out S)) (before after : DrainerView S Rest)
       → IsOfSubject after.fault
-      × ((log : Log S) → Stands acts (length before.ports) log before → (mark : Mark) × Stands acts (length before.ports) (Next log x mark) after)
+      × ((log : Log S) → StandsForLog acts (length before.ports) log before → (mark : Mark) × StandsForLog acts (length before.ports) (Next log x mark) after)
       → HandlesLetter acts x before after
   handles_next x before after h = (h.0, λ log s. (let next = h.1 log s in (log, refl, next.0, next.1)))
 

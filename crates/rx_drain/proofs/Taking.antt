@@ -11,7 +11,7 @@ use Rattle.rx_pump.specs.declared.out.Out.{Out}
 use Rattle.rx_pump.specs.declared.out.Out.TheVariants.{Attach, Give, Detach}
 use Rattle.rx_pump.proofs.Placing.{slice_get-append_left, slice_get-append_right}
 use Rattle.rx_sink.specs.declared.flow.Flow.{Flow}
-use Rattle.rx_sink.specs.Attachments.{Attachment, Why, TookLast, Detached, Closed, FailedAtStart, FailedAt, FailedAtFlush, Mark, Fine, Fault, NoMemory, Change, Apart, is_clear, is_held_back, is_last, is_of, kept_for, without, replaced, with_note, with_flush, paid, attached, given, settled, serving as serve_note, served_yet, flushed, written, detached, let_go, closed, brought}
+use Rattle.rx_sink.specs.Attachments.{Attachment, Why, TookLast, Detached, Closed, FailedAtStart, FailedAt, FailedAtFlush, Mark, Fine, Fault, NoMemory, Change, Apart, is_clear, is_held_back, is_last, is_of, kept_for, without, replaced, with_note, with_flush, paid, attached, notified, settled, serving as serve_note, served_yet, flushed, written, detached, let_go, closed, brought}
 use Rattle.rx_drain.specs.Logs.{Log, NoLetters, Next, Flush, letters, has_left, letter_change, kept_in, change, flush_change, gone_in}
 use Rattle.rx_drain.proofs.Changing.{post_change}
 use Rattle.rx_drain.specs.Served.{Bearing, Bears, Stops, Passes, from_leave, from_subject, bearing, notes_in, TookOf, bearings, served, StandsAt, SinksTook}
@@ -465,7 +465,7 @@ module _ {S : Type 0} (leave : ℕ) (xs : List (Letter (Out S))) where
         let g = goes_serve from w note mark a test over f in record { open_ones = g.open_ones; apart = g.apart; shut_ones = g.shut_ones }
 
     goes_give : (from w : ℕ) (note : Note) (mark : Mark) (o : Option (Attachment S)) → (from == leave) ≡ false → kept_for from w kept ≡ o
-        → Goes (letter from (Body (Give w note))) (given mark from w note o kept)
+        → Goes (letter from (Body (Give w note))) (notified mark from w note o kept)
     goes_give from w note mark None test is = record {
       open_ones = none_pass leave from w xs _ kept (λ a other. passes_give S (from == leave) (a.subject == from) a.who w note test other) is all;
       apart = apart;

@@ -11,7 +11,7 @@ use Rattle.rx_sink.specs.declared.kept.Kept.{Kept}
 use Rattle.rx_sink.specs.declared.put_away.PutAway.{PutAway}
 use Rattle.rx_sink.specs.Acts.{Acts}
 use Rattle.rx_sink.specs.Attachments.{Mark}
-use Rattle.rx_sink.specs.Stands.{Stand, addressed}
+use Rattle.rx_sink.specs.KeptSinks.{Stand, addressed}
 use Rattle.rx_drain.specs.declared.drain_fault.DrainFault.{DrainFault}
 use Rattle.rx_drain.specs.declared.drain_fault.DrainFault.TheVariants.{InboxGone, SubjectGone}
 use Rattle.rx_drain.specs.declared.drainer_left.DrainerLeft.{DrainerLeft}
@@ -108,7 +108,7 @@ module _ {S : Type 0} where
 
 module _ {S Rest : Type 0} (acts : Acts S Rest) where
   -- the sinks and the ports of a drainer are what marked letters mean, where this is the number of the leave port
-  pub record Stands (leave : ℕ) (log : Log S) (view : DrainerView S Rest) : Type 0 where
+  pub record StandsForLog (leave : ℕ) (log : Log S) (view : DrainerView S Rest) : Type 0 where
     pub left : view.left ≡ has_left leave log
     pub sent : SentUpTo view.fault view.left (addressed (sent_in leave log)) view.ports
     pub sinks : Stand acts (kept_in leave log) (gone_in leave log) view.kept view.away
@@ -118,7 +118,7 @@ module _ {S Rest : Type 0} (acts : Acts S Rest) where
   -- what a drainer did with the letters that it received is what the marked letters mean
   pub record Drains (view : DrainerView S Rest) (log : Log S) : Type 0 where
     pub received : view.inbox.received ≡ letters log
-    pub stands : Stands (length view.ports) log view
+    pub stands : StandsForLog (length view.ports) log view
 
   -- there are such marks, and without a fault only stuck sinks are left unpaid
   abbrev pub IsDrained : DrainerView S Rest → Type 0
@@ -137,8 +137,8 @@ module _ {S Rest : Type 0} (acts : Acts S Rest) where
   abbrev pub HandlesLetter : Letter (Out S) → DrainerView S Rest → DrainerView S Rest → Type 0
   HandlesLetter x before after =
       IsOfSubject after.fault
-      × ((log : Log S) → Stands (length before.ports) log before
-      → (more : Log S) × (letters more ≡ letters log) × (mark : Mark) × Stands (length before.ports) (Next more x mark) after)
+      × ((log : Log S) → StandsForLog (length before.ports) log before
+      → (more : Log S) × (letters more ≡ letters log) × (mark : Mark) × StandsForLog (length before.ports) (Next more x mark) after)
 
   -- the drainer went on: from each list of marked letters whose meaning it did it came to another
   abbrev pub Goes : DrainerView S Rest → DrainerView S Rest → Type 0
@@ -153,14 +153,14 @@ module _ {S Rest : Type 0} (acts : Acts S Rest) where
     pub one : Kept S
     pub stood : slice_get before.kept place ≡ Some one
     pub fault : IsOfSubject after.fault
-    pub stands : (log : Log S) → Stands (length before.ports) log before → (mark : Mark) × Stands (length before.ports) (Flush log one.subject one.who mark) after
+    pub stands : (log : Log S) → StandsForLog (length before.ports) log before → (mark : Mark) × StandsForLog (length before.ports) (Flush log one.subject one.who mark) after
 
   -- sinks were flushed: with some flushes more it stands for the same letters, and unless a subject is gone only stuck sinks
   -- are left unpaid
   pub record FlushesAll (before after : DrainerView S Rest) : Type 0 where
     pub fault : IsOfSubject after.fault
-    pub stands : (log : Log S) → Stands (length before.ports) log before
-        → (more : Log S) × (letters more ≡ letters log) × Stands (length before.ports) more after × (after.fault ≡ None → AreAllPaid (length before.ports) more)
+    pub stands : (log : Log S) → StandsForLog (length before.ports) log before
+        → (more : Log S) × (letters more ≡ letters log) × StandsForLog (length before.ports) more after × (after.fault ≡ None → AreAllPaid (length before.ports) more)
 
 -- A NEW DRAINER
 

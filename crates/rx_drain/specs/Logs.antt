@@ -10,8 +10,7 @@ use Rattle.rx_pump.specs.declared.call.Call.{Call}
 use Rattle.rx_pump.specs.declared.out.Out.{Out}
 use Rattle.rx_pump.specs.declared.out.Out.TheVariants.{Attach, Give, Detach}
 use Rattle.rx_sink.specs.Attachments.{Attachment, Why, Mark, Sent, Change, Service, attaching, detaching, flushed, giving, kept_for, left, unchanged}
-use Rattle.rx_sink.specs.Stands.{addressed}
-use Rattle.rx_drain.specs.Calls.{calls_to}
+use Rattle.rx_sink.specs.KeptSinks.{addressed}
 
 -- letters, and flushes of the sink of an observer of a subject, with their marks, the latest outermost
 pub data Log (S : Type 0) : Type 0 where
@@ -104,10 +103,6 @@ module _ {S : Type 0} where
   taken_in leave NoLetters = 0
   taken_in leave (Next log x mark) = taken_in leave log + (change leave log x mark).took
   taken_in leave (Flush log subject who mark) = taken_in leave log + (flush_change leave log subject who mark).took
-
-  -- the calls that are owed to subject d
-  abbrev pub owed : ℕ → Log S → ℕ → List (Call S)
-  owed leave log d = calls_to d (addressed (sent_in leave log))
 
   -- what a port has put that put these calls, and once the drainer left a Bye
   abbrev pub put_by : Bool → ℕ → List (Call S) → List (Letter (Call S))

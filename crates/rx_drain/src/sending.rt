@@ -1,6 +1,6 @@
 // What a drainer sends its subjects.
 ghost use Rattle.std.specs.Prelude.{[], ◌∷◌, map};
-ghost use Rattle.rx_sink.specs.Stands.{events_of};
+ghost use Rattle.rx_sink.specs.KeptSinks.{events_of};
 ghost use Rattle.rx_drain.specs.Calls.{SendsEvents, partings_of};
 
 use crate::DrainFault;

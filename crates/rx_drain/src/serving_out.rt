@@ -1,6 +1,6 @@
 // What a letter of a subject does to the sinks.
 ghost use Rattle.std.specs.Prelude.{◌≡◌, ◌+◌, ◌≤◌, ℕ, vec_len, vec_capacity};
-ghost use Rattle.rx_sink.specs.Stands.{Tends, events_of, sinks};
+ghost use Rattle.rx_sink.specs.KeptSinks.{Tends, events_of, sinks};
 ghost use Rattle.rx_drain.specs.Drainers.{Finishes};
 ghost use Rattle.rx_drain.specs.Logs.{service_of, sink_in};
 

@@ -14,7 +14,7 @@ use Rattle.rx_pump.specs.declared.out.Out.{Out}
 use Rattle.rx_pump.specs.declared.pump_fault.PumpFault.{PumpFault}
 use Rattle.rx_pump.specs.declared.pump_fault.PumpFault.TheVariants.{InboxGone, DrainerGone, CallerGone}
 use Rattle.rx_pump.specs.declared.reply.Reply.{Reply}
-use Rattle.rx_pump.specs.Marks.{Marked, sent, replies, for_drainer, who_of, to_port}
+use Rattle.rx_pump.specs.Marks.{Marked, outs_in, replies, for_drainer, who_of, to_port}
 use Rattle.rx_pump.specs.Sends.{Puts, PutsFor}
 use Rattle.rx_pump.specs.Turns.{Ports, Sends}
 use Rattle.rx_pump.specs.Pumps.{counted, HavePut, IsFresh, port_place, AreSame, before_last, PutAll, HavePutUpTo}
@@ -76,7 +76,7 @@ module _ {S : Type 0} where
   -- one letter more is among the marked ones, and sends these outs and this reply
   pub record IsMore (rules : Rules) (B more : Marked S) (outs : List (Out S)) (port : ℕ) (reply : Reply S) : Type 0 where
     pub before : before_last more ≡ B
-    pub sends : sent rules B ++ outs ≡ sent rules more
+    pub sends : outs_in rules B ++ outs ≡ outs_in rules more
     pub replies_are : (p : ℕ) → replies rules p B ++ to_port port p reply ≡ replies rules p more
 
   -- the same ports, which have put what one letter more sends, or stopped there
@@ -101,7 +101,7 @@ module _ {S : Type 0} where
       → Sends fault outs port reply before after → HaveSent fault rules more before after
   HaveSent-of None rules B more outs port reply before after some is put sends = record {
     put = record {
-      routed = routed-more (sent rules B) outs (sent rules more) before.drainers after.drainers is.sends put.routed sends.0;
+      routed = routed-more (outs_in rules B) outs (outs_in rules more) before.drainers after.drainers is.sends put.routed sends.0;
       replied = HavePut-same _ _ after.replies is.replies_are (HavePut-puts _ _ before.replies after.replies put.replied sends.1);
     };
     drainers = AreSame-puts _ before.drainers after.drainers sends.0;
@@ -118,11 +118,11 @@ module _ {S : Type 0} where
           done = stop.done;
           next = stop.next;
           rest = stop.rest;
-          parts = ap (λ (first : Marked S). sent rules first ++ stop.done ++ stop.next ∷ stop.rest) is.before ∙ append_assoc (sent rules B) stop.done (stop.next ∷ stop.rest)
-              ∙ ap (λ l. sent rules B ++ l) stop.parts ∙ is.sends;
+          parts = ap (λ (first : Marked S). outs_in rules first ++ stop.done ++ stop.next ∷ stop.rest) is.before ∙ append_assoc (outs_in rules B) stop.done (stop.next ∷ stop.rest)
+              ∙ ap (λ l. outs_in rules B ++ l) stop.parts ∙ is.sends;
           gone = gone;
-          routed = routed-more (sent rules B) stop.done (sent rules (before_last more) ++ stop.done) before.drainers after.drainers
-              (ap (λ (first : Marked S). sent rules first ++ stop.done) (sym is.before)) put.routed stop.put;
+          routed = routed-more (outs_in rules B) stop.done (outs_in rules (before_last more) ++ stop.done) before.drainers after.drainers
+              (ap (λ (first : Marked S). outs_in rules first ++ stop.done) (sym is.before)) put.routed stop.put;
           replied = subst (HavePut (λ p. replies rules p (before_last more))) (sym sends.1)
               (HavePut-same _ _ before.replies (λ p. ap (λ (first : Marked S). replies rules p first) (sym is.before)) put.replied);
         };
@@ -135,7 +135,7 @@ module _ {S : Type 0} where
       next = reply;
       gone = ap (λ (first : Marked S). replies rules place first ++ reply ∷ []) is.before
           ∙ ap (λ l. replies rules place B ++ l) (sym (to_port-own port place reply sends.2)) ∙ is.replies_are place;
-      routed = routed-more (sent rules B) outs (sent rules more) before.drainers after.drainers is.sends put.routed sends.0;
+      routed = routed-more (outs_in rules B) outs (outs_in rules more) before.drainers after.drainers is.sends put.routed sends.0;
       replied = subst (HavePut (λ p. replies rules p (before_last more))) (sym sends.1)
           (HavePut-same _ _ before.replies (λ p. ap (λ (first : Marked S). replies rules p first) (sym is.before)) put.replied);
     };

@@ -15,7 +15,7 @@ use Rattle.rx_pump.specs.declared.out.Out.{Out}
 use Rattle.rx_pump.specs.declared.pump_fault.PumpFault.{PumpFault}
 use Rattle.rx_pump.specs.declared.pump_fault.PumpFault.TheVariants.{InboxGone}
 use Rattle.rx_pump.specs.declared.reply.Reply.{Reply}
-use Rattle.rx_pump.specs.Marks.{Marked, NoLetters, Made, Refused, Ended, bodies_in, refused_in, AreAcceptable, history_of, sent, sent_by, reply_to}
+use Rattle.rx_pump.specs.Marks.{Marked, NoLetters, Made, Refused, Ended, bodies_in, refused_in, AreAcceptable, history_of, outs_in, sent_by, reply_to}
 use Rattle.rx_pump.specs.Turns.{Ports, Sends, IsMade, IsRefused, HandlesCall}
 use Rattle.rx_pump.specs.Pumps.{counted, PumpView, PutAll, HavePutUpTo, Pumps, IsPumped, AreFresh, fresh_pump, KeepsPump}
 use Rattle.rx_pump.proofs.Pumping.{HavePut-fresh, IsMore, HaveSent, HaveSent-of, counted-more, counted-plus}
@@ -95,7 +95,7 @@ module _ {S : Type 0} where
   more_made rules B port call = record { before = refl; sends = refl; replies_are = λ p. refl }
 
   more_refused : (rules : Rules) (B : Marked S) (port : ℕ) (call : Call S) → IsMore rules B (Refused B port call) [] port (reply_to call (Err Memory))
-  more_refused rules B port call = record { before = refl; sends = append-nil (sent rules B); replies_are = λ p. refl }
+  more_refused rules B port call = record { before = refl; sends = append-nil (outs_in rules B); replies_are = λ p. refl }
 
   made : (before after : PumpView S) (port : ℕ) (call : Call S) (B : Marked S) → TakesCall before after false port call → Pumps before B
       → IsMade before.hub after.hub (ports_in before) (ports_in after) after.fault port call (history_of B) → Pumps after (Made B port call)

@@ -109,11 +109,11 @@ module _ {S : Type 0} where
       ++ detach_of (leaver call.event) (answer rules H call.event)
 
   -- all that the letters send
-  abbrev pub sent : Rules → Marked S → List (Out S)
-  sent rules NoLetters = []
-  sent rules (Made B port call) = sent rules B ++ sent_by rules (history_of B) port call
-  sent rules (Refused B port call) = sent rules B
-  sent rules (Ended B port) = sent rules B
+  abbrev pub outs_in : Rules → Marked S → List (Out S)
+  outs_in rules NoLetters = []
+  outs_in rules (Made B port call) = outs_in rules B ++ sent_by rules (history_of B) port call
+  outs_in rules (Refused B port call) = outs_in rules B
+  outs_in rules (Ended B port) = outs_in rules B
 
   -- of several outs those for drainer d of n: an observer is that of its number modulo the number of drainers
   abbrev pub for_drainer : ℕ → ℕ → List (Out S) → List (Out S)
@@ -121,7 +121,7 @@ module _ {S : Type 0} where
 
   -- the route of drainer d of n
   abbrev pub route : Rules → ℕ → ℕ → Marked S → List (Out S)
-  route rules n d B = for_drainer n d (sent rules B)
+  route rules n d B = for_drainer n d (outs_in rules B)
 
   -- WHAT GOES BACK
 

@@ -13,7 +13,7 @@ use Rattle.rx_pump.specs.declared.pump_fault.PumpFault.TheVariants.{InboxGone, D
 use Rattle.rx_pump.specs.declared.pump_parts.PumpParts.{PumpParts}
 use Rattle.rx_pump.specs.declared.reply.Reply.{Reply}
 use Rattle.rx_note.specs.declared.rules.Rules.{Rules}
-use Rattle.rx_pump.specs.Marks.{Marked, NoLetters, Made, Refused, Ended, letters_of, bodies_in, refused_in, history_of, AreAcceptable, sent, who_of, for_drainer, route, replies}
+use Rattle.rx_pump.specs.Marks.{Marked, NoLetters, Made, Refused, Ended, letters_of, bodies_in, refused_in, history_of, AreAcceptable, outs_in, who_of, for_drainer, route, replies}
 
 -- a count of a pump, up to the greatest `u64`
 abbrev pub counted : ℕ → ℕ
@@ -72,9 +72,9 @@ module _ {S : Type 0} where
     pub done : List (Out S)
     pub next : Out S
     pub rest : List (Out S)
-    pub parts : sent rules (before_last B) ++ done ++ next ∷ rest ≡ sent rules B
+    pub parts : outs_in rules (before_last B) ++ done ++ next ∷ rest ≡ outs_in rules B
     pub gone : who_of next % length drainers ≡ place
-    pub routed : HavePut (λ d. for_drainer (length drainers) d (sent rules (before_last B) ++ done)) drainers
+    pub routed : HavePut (λ d. for_drainer (length drainers) d (outs_in rules (before_last B) ++ done)) drainers
     pub replied : HavePut (λ p. replies rules p (before_last B)) callers
 
   -- the caller at this place is gone: all was put but the reply to the last letter, which is for it

@@ -7,13 +7,13 @@ use Rattle.rx_script.specs.declared.asked.Asked.TheVariants as asked
 use Rattle.rx_script.specs.declared.script.Script.{Script}
 use Rattle.rx_script.specs.declared.topic.Topic.{Topic}
 use Rattle.rx_proto.specs.Reading.{same_word}
-use Rattle.rx_script.specs.Scripts.{Stands, AllStand}
+use Rattle.rx_script.specs.Scripts.{StandsForSubject, AllStand}
 use Rattle.rx_script.specs.Tellings.{IsIn}
 use Rattle.rx_script.specs.Transcripts.{Subject, State, subject_of, taking, all_taking, after_asked}
 
 -- one topic more
 pub AllStand-push : (topics : List Topic) (subjects : List Subject) (topic : Topic) (subject : Subject)
-    → AllStand topics subjects → Stands topic subject → AllStand (topics ++ topic ∷ []) (subjects ++ subject ∷ [])
+    → AllStand topics subjects → StandsForSubject topic subject → AllStand (topics ++ topic ∷ []) (subjects ++ subject ∷ [])
 AllStand-push [] [] topic subject all one = (one, tt)
 AllStand-push [] (s ∷ subjects) topic subject all one = absurd all
 AllStand-push (t ∷ topics) [] topic subject all one = absurd all
@@ -23,9 +23,9 @@ AllStand-push (t ∷ topics) (s ∷ subjects) topic subject all one = (all.0, Al
 pub record IsFound (topics : List Topic) (subjects : List Subject) (name : List ℕ) (place : ℕ) (d : Topic) : Type 0 where
   pub subject : Subject
   pub is : subject_of subjects name ≡ Some subject
-  pub stands : Stands (get_or topics place d) subject
-  pub keeps : (topic : Topic) → Stands topic subject → AllStand (set topics place topic) subjects
-  pub takes : (topic : Topic) (event : Event) → Stands topic (taking subject event) → AllStand (set topics place topic) (all_taking subjects name event)
+  pub stands : StandsForSubject (get_or topics place d) subject
+  pub keeps : (topic : Topic) → StandsForSubject topic subject → AllStand (set topics place topic) subjects
+  pub takes : (topic : Topic) (event : Event) → StandsForSubject topic (taking subject event) → AllStand (set topics place topic) (all_taking subjects name event)
 
 found : (topics : List Topic) (subjects : List Subject) (name : List ℕ) (place : ℕ) (d : Topic) → AllStand topics subjects → place < length topics
     → same_word (get_or topics place d).name name ≡ true → ((k : ℕ) → k < place → same_word (get_or topics k d).name name ≡ false)
@@ -92,7 +92,7 @@ some_topic (topic ∷ topics) place lt = topic
 pub IsIn-after : (script after : Script) (state : State) (name : List ℕ) (place : ℕ) (d : Topic) (event : Event) (missed : Bool) (topic : Topic)
     → IsIn script state → (f : IsFound script.topics.items state.subjects name place d)
     → after.topics.items ≡ set script.topics.items place topic → after.moment ≡ script.moment → after.version ≡ script.version
-    → Stands topic (cond missed f.subject (taking f.subject event)) → IsIn after (cond missed state (after_asked state (asked.Event name event)))
+    → StandsForSubject topic (cond missed f.subject (taking f.subject event)) → IsIn after (cond missed state (after_asked state (asked.Event name event)))
 IsIn-after script after state name place d event true topic is_in f topics moment version one = record {
   subjects = subst (λ (ts : List Topic). AllStand ts state.subjects) (sym topics) (f.keeps topic one);
   moment = moment ∙ is_in.moment;

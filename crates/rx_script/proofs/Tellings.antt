@@ -17,7 +17,7 @@ use Rattle.rx_proto.specs.declared.version.Version.{Version}
 use Rattle.rx_proto.specs.declared.word.Word.TheVariants as words
 use Rattle.rx_proto.specs.Printing.{reply_line}
 use Rattle.rx_script.specs.Printing.{given_line}
-use Rattle.rx_script.specs.Scripts.{Stands}
+use Rattle.rx_script.specs.Scripts.{StandsForSubject}
 use Rattle.rx_session.specs.Responses.{response_to}
 use Rattle.rx_script.specs.Transcripts.{Subject, given_lines, event_written, takes_it_with_memory, taking}
 
@@ -38,7 +38,7 @@ pub record Told (topic : Topic) (hub : HubView) (event : Event) (version : Versi
   pub accepted : missed ≡ true → takes_it_with_memory event subject ≡ true
   pub written : reply_line (response_to answered) ++ given_lines version topic.name given
       ≡ cond missed (reply_line (Refused words.Memory)) (event_written version subject event)
-  pub stands : Stands (record topic { hub = hub }) (cond missed subject (taking subject event))
+  pub stands : StandsForSubject (record topic { hub = hub }) (cond missed subject (taking subject event))
 
 both : (a b : Bool) → a ≡ true → b ≡ true → (a && b) ≡ true
 both true true p q = refl
@@ -51,7 +51,7 @@ pub told : (topic : Topic) (hub : HubView) (event : Event) (version : Version) (
     → (answered ≡ Err refused.Memory → (hub.state ≡ topic.hub.state) × (given ≡ []))
     → (answered ≡ Err refused.Memory → (H : History) → StandsFor topic.hub.state H → MayMiss topic.hub.state.rules H (0, event))
     → hub.state.rules ≡ topic.hub.state.rules
-    → Stands topic subject → Told topic hub event version answered given subject
+    → StandsForSubject topic subject → Told topic hub event version answered given subject
 told topic hub event version answered given subject steps misses accepted rules stands = elim (is_memory answered) [
   | inl missed ↦ record {
     missed = true;

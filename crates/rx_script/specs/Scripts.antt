@@ -59,7 +59,7 @@ pub record Runs (subjects : List Subject) (end : SessionEnd) (read_old read_new 
 -- ONE EVENT
 
 -- the hub of a topic stands for the history of a subject
-pub record Stands (topic : Topic) (subject : Subject) : Type 0 where
+pub record StandsForSubject (topic : Topic) (subject : Subject) : Type 0 where
   pub name : topic.name ≡ subject.name
   pub rules : topic.hub.state.rules ≡ subject.rules
   pub history : StandsFor topic.hub.state subject.history
@@ -69,21 +69,21 @@ abbrev pub AllStand : List Topic → List Subject → Type 0
 AllStand [] [] = Unit {0}
 AllStand [] (subject ∷ subjects) = ⊥
 AllStand (topic ∷ topics) [] = ⊥
-AllStand (topic ∷ topics) (subject ∷ subjects) = Stands topic subject × AllStand topics subjects
+AllStand (topic ∷ topics) (subject ∷ subjects) = StandsForSubject topic subject × AllStand topics subjects
 
 -- what a topic did that took an event: its answer and the notes given were put in a version, and it stands for the subject that has taken
 -- it; or an event that would have been accepted met want of memory
 abbrev pub TakesEvent : Result (Unit {0}) WriteFault → Topic → Topic → Event → Version → List ℕ → List ℕ → Option (List ℕ) → Option (List ℕ) → Type 0
 TakesEvent result topic topic_after event version held held_after old new =
-    (subject : Subject) → Stands topic subject
+    (subject : Subject) → StandsForSubject topic subject
     → (missed : Bool) × (missed ≡ true → takes_it_with_memory event subject ≡ true)
     × Puts result held held_after old new (if missed then reply_line (Refused words.Memory) else event_written version subject event)
-    × Stands topic_after (if missed then subject else taking subject event)
+    × StandsForSubject topic_after (if missed then subject else taking subject event)
 
 -- the same of the topic at a place of several
 abbrev pub TakesAt : Result Told WriteFault → List Topic → List Topic → ℕ → Topic → Event → Version → List ℕ → List ℕ → Option (List ℕ) → Option (List ℕ) → Type 0
 TakesAt result topics topics_after place d event version held held_after old new =
-    (subject : Subject) → Stands (slice_index_or topics place d) subject
+    (subject : Subject) → StandsForSubject (slice_index_or topics place d) subject
     → (missed : Bool) × (missed ≡ true → takes_it_with_memory event subject ≡ true)
     × Puts result held held_after old new (if missed then reply_line (Refused words.Memory) else event_written version subject event)
-    × (topic_after : Topic) × (topics_after ≡ slice_set topics place topic_after) × Stands topic_after (if missed then subject else taking subject event)
+    × (topic_after : Topic) × (topics_after ≡ slice_set topics place topic_after) × StandsForSubject topic_after (if missed then subject else taking subject event)

@@ -49,17 +49,17 @@ new_state subjects = record { subjects = subjects; moment = 0; version = One }
 -- WHAT A LINE ASKS
 
 -- what a line asks at a moment, at which its event comes; a SUB, which no script has, would join with a request for none
-abbrev pub asks : ℕ → ScriptLine → Asked
-asks moment (Command (Pub name text)) = asked.Event name (events.Emit (Next (record { from = 0; place = 0; text = text })) moment)
-asks moment (Command (End name)) = asked.Event name (events.Emit Completed moment)
-asks moment (Command (Fail name text)) = asked.Event name (events.Emit (Failed text) moment)
-asks moment (Command (Sub name policy)) = asked.Event name (events.Join policy 0 moment)
-asks moment (Command (Hello number)) = asked.Hello number
-asks moment (Command Quit) = asked.Quit
-asks moment (At next) = asked.At next
-asks moment (Join name policy first) = asked.Event name (events.Join policy first moment)
-asks moment (Request name who n) = asked.Event name (events.Request who n)
-asks moment (Dispose name who) = asked.Event name (events.Dispose who)
+abbrev pub asked_at : ℕ → ScriptLine → Asked
+asked_at moment (Command (Pub name text)) = asked.Event name (events.Emit (Next (record { from = 0; place = 0; text = text })) moment)
+asked_at moment (Command (End name)) = asked.Event name (events.Emit Completed moment)
+asked_at moment (Command (Fail name text)) = asked.Event name (events.Emit (Failed text) moment)
+asked_at moment (Command (Sub name policy)) = asked.Event name (events.Join policy 0 moment)
+asked_at moment (Command (Hello number)) = asked.Hello number
+asked_at moment (Command Quit) = asked.Quit
+asked_at moment (At next) = asked.At next
+asked_at moment (Join name policy first) = asked.Event name (events.Join policy first moment)
+asked_at moment (Request name who n) = asked.Event name (events.Request who n)
+asked_at moment (Dispose name who) = asked.Event name (events.Dispose who)
 
 -- whether an event has a text, for which it takes memory
 abbrev pub has_text : Event → Bool
@@ -130,7 +130,7 @@ is_quit asked.Quit = true
 
 -- whether a line met want of memory; only one that takes memory can
 abbrev pub misses : State → ScriptLine → Bool → Bool
-misses state line missed = missed && wants_memory state.subjects (asks state.moment line)
+misses state line missed = missed && wants_memory state.subjects (asked_at state.moment line)
 
 -- what is written for what a line asks
 abbrev pub asked_written : State → Asked → List ℕ
@@ -144,7 +144,7 @@ asked_written state asked.Quit = reply_line responses.Done
 abbrev pub line_written : State → Result ScriptLine BadLine → Bool → List ℕ
 line_written state (Err fault) missed = reply_line (response_to_fault fault)
 line_written state (Ok line) missed =
-    if misses state line missed then reply_line (responses.Refused words.Memory) else asked_written state (asks state.moment line)
+    if misses state line missed then reply_line (responses.Refused words.Memory) else asked_written state (asked_at state.moment line)
 
 -- the state after what a line asks: a subject has taken the event, or the moment or the version is another
 abbrev pub after_asked : State → Asked → State
@@ -156,7 +156,7 @@ after_asked state asked.Quit = state
 -- the state after a line
 abbrev pub after_line : State → Result ScriptLine BadLine → Bool → State
 after_line state (Err fault) missed = state
-after_line state (Ok line) missed = if misses state line missed then state else after_asked state (asks state.moment line)
+after_line state (Ok line) missed = if misses state line missed then state else after_asked state (asked_at state.moment line)
 
 -- whether a line ends the script
 abbrev pub ends_script : Result ScriptLine BadLine → Bool

@@ -1,6 +1,6 @@
 ghost use Rattle.std.specs.Prelude.{◌≡◌};
 ghost use Rattle.rx_note.specs.declared.event.Event.TheVariants.{Emit, Join};
-ghost use Rattle.rx_script.specs.Transcripts.{asks};
+ghost use Rattle.rx_script.specs.Transcripts.{asked_at};
 
 use rx_note::{Event, Item, Note, Policy};
 use rx_proto::{Command, Name, ScriptLine};
@@ -20,7 +20,7 @@ pub enum Asked {
 
 /// What a line of a script asks at a moment, in milliseconds, at which its event comes.
 pub fn asked_by(line: ScriptLine, moment: u64) -> Asked
-    ensures { result ≡ asks moment line }
+    ensures { result ≡ asked_at moment line }
 {
     match line {
         ScriptLine::Command(Command::Pub { name, text }) => {

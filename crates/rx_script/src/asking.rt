@@ -4,7 +4,7 @@ ghost use Rattle.std.specs.Prelude.{◌≡◌, ℕ, true, Some, IfOk};
 ghost use Rattle.rx_proto.specs.Grammar.{IsSpelled, IsText};
 ghost use Rattle.rx_proto.specs.Reading.{meaning_of};
 ghost use Rattle.rx_script.specs.Asking.{MakesEvent, name_asked, names_subject};
-ghost use Rattle.rx_script.specs.Transcripts.{asks};
+ghost use Rattle.rx_script.specs.Transcripts.{asked_at};
 
 use rx_heap::{Heap, Memory};
 use rx_note::{Event, Item, Note, Policy, Text};
@@ -14,7 +14,7 @@ use rx_proto::Line;
 #[inline(always)] // once for each line of a script
 pub fn name_in<'a>(line: &Line<'a>) -> &'a [u8]
     requires { names_subject (meaning_of line.now) ≡ true }
-    ensures { (moment : ℕ) → name_asked (asks moment (meaning_of line.now)) ≡ Some result.now }
+    ensures { (moment : ℕ) → name_asked (asked_at moment (meaning_of line.now)) ≡ Some result.now }
 {
     match line {
         Line::Pub { name, .. } => name,
@@ -39,7 +39,7 @@ pub fn event_in(
 ) -> Result<Event, Memory>
     requires spelled { IsSpelled (meaning_of line.now) }
     requires named { names_subject (meaning_of line.now) ≡ true }
-    ensures { MakesEvent result (asks moment (meaning_of line.now)) }
+    ensures { MakesEvent result (asked_at moment (meaning_of line.now)) }
 {
     match line {
         Line::Pub { text, .. } => {

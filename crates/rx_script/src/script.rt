@@ -9,7 +9,7 @@ ghost use Rattle.rx_proto.specs.Printing.{reply_line};
 ghost use Rattle.rx_proto.specs.Reading.{meaning_of};
 ghost use Rattle.rx_script.specs.Asking.{names_subject};
 ghost use Rattle.rx_script.specs.Scripts.{Runs, TakesEvent, new_subjects};
-ghost use Rattle.rx_script.specs.Transcripts.{asks, given_lines};
+ghost use Rattle.rx_script.specs.Transcripts.{asked_at, given_lines};
 
 use crate::asking::{event_in, name_in};
 use crate::printing::put_given;
@@ -202,7 +202,7 @@ impl Script {
         line: &Line<'_>,
     ) -> Result<Told, WriteFault>
         requires { IsSpelled (meaning_of line.now) }
-        ensures { CarriesOut result self.old self.new (W.contents writer.old) (W.contents writer.new) (asks self.old.moment (meaning_of line.now)) }
+        ensures { CarriesOut result self.old self.new (W.contents writer.old) (W.contents writer.new) (asked_at self.old.moment (meaning_of line.now)) }
     {
         self.carry_out(writer, line)
     }
@@ -211,7 +211,7 @@ impl Script {
     #[inline(always)] // so that a Pub has code of its own
     fn carry_out<W: Write>(&mut self, writer: &mut W, line: &Line<'_>) -> Result<Told, WriteFault>
         requires { IsSpelled (meaning_of line.now) }
-        ensures { CarriesOut result self.old self.new (W.contents writer.old) (W.contents writer.new) (asks self.old.moment (meaning_of line.now)) }
+        ensures { CarriesOut result self.old self.new (W.contents writer.old) (W.contents writer.new) (asked_at self.old.moment (meaning_of line.now)) }
     {
         match line {
             Line::Quit => {
@@ -237,7 +237,7 @@ impl Script {
     fn ask<W: Write>(&mut self, writer: &mut W, line: &Line<'_>) -> Result<Told, WriteFault>
         requires spelled { IsSpelled (meaning_of line.now) }
         requires named { names_subject (meaning_of line.now) ≡ true }
-        ensures { CarriesOut result self.old self.new (W.contents writer.old) (W.contents writer.new) (asks self.old.moment (meaning_of line.now)) }
+        ensures { CarriesOut result self.old self.new (W.contents writer.old) (W.contents writer.new) (asked_at self.old.moment (meaning_of line.now)) }
     {
         let Some(place) = place_of(&self.topics, name_in(line)) else {
             return self.refuse(writer, Word::Subject);

@@ -1,6 +1,6 @@
 ghost use Rattle.std.specs.Prelude.{◌≡◌, IfOk, position};
 ghost use Rattle.rx_proto.specs.Reading.{same_word};
-ghost use Rattle.rx_script.specs.Scripts.{Stands, AllStand, new_subject, new_subjects};
+ghost use Rattle.rx_script.specs.Scripts.{StandsForSubject, AllStand, new_subject, new_subjects};
 
 use rx_config::SubjectConfig;
 use rx_heap::{Heap, Memory};
@@ -28,7 +28,7 @@ impl Drop for Topic {
 impl Topic {
     /// The topic of a subject, with no event yet. Its memory is that of its budget, or the shared one.
     fn new(shared: &Heap, subject: SubjectConfig) -> Result<Topic, Memory>
-        ensures { IfOk result (λ topic. Stands topic (new_subject subject)) }
+        ensures { IfOk result (λ topic. StandsForSubject topic (new_subject subject)) }
     {
         let heap = subject.memory(shared).clone()?;
         let SubjectConfig {

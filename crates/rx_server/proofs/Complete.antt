@@ -23,8 +23,8 @@ use Rattle.rx_sink.specs.Acts.{Acts}
 use Rattle.rx_drain.specs.declared.drain_end.DrainEnd.{DrainEnd}
 use Rattle.rx_drain.specs.Drainers.{DrainerView}
 use Rattle.rx_drain.specs.Serving as drainer_serving
-use Rattle.rx_settling.specs.Parts.{FirstUnsettled, PartsView, Settles, dealt_each, given}
-use Rattle.rx_settling.proofs.Gathered.{dealt-inboxes, dealt_each-count, dealt_each-inboxes, given-all, given-count, given-ports, inboxes_of}
+use Rattle.rx_settling.specs.Parts.{FirstUnsettled, PartsView, Settles, dealt_each, with_inboxes}
+use Rattle.rx_settling.proofs.Gathered.{dealt-inboxes, dealt_each-count, dealt_each-inboxes, with_inboxes-all, with_inboxes-count, with_inboxes-ports, inboxes_of}
 use Rattle.rx_server.specs.declared.close_fault.CloseFault.{CloseFault}
 use Rattle.rx_server.specs.declared.returned.Returned.{Returned}
 use Rattle.rx_server.specs.declared.start_fault.Role.{Role}
@@ -172,25 +172,25 @@ module _ {S Rest : Type 0} (acts : Acts S Rest) (server : ServerView S Rest) (wh
     abbrev call_numbers : List ℕ
     call_numbers = range_with_len (length w.replies) (length w.drainers) ++ map number desks
 
-    given-many : length (given pump_inboxes start.subjects.items) ≡ length w.subjects
-    given-many = given-count pump_inboxes start.subjects.items ∙ nothing.subject_count ∙ pump-ends-many
+    with_inboxes-many : length (with_inboxes pump_inboxes start.subjects.items) ≡ length w.subjects
+    with_inboxes-many = with_inboxes-count pump_inboxes start.subjects.items ∙ nothing.subject_count ∙ pump-ends-many
 
     calls-numbers : HaveNumbers call_numbers calls
     calls-numbers =
-        let first = given pump_inboxes start.subjects.items in
-        let none = numbers-same [] start.subjects.items first (given-ports pump_inboxes start.subjects.items) (none-yet (length server.made + length drain_ends) start.subjects.items nothing.subjects_empty) in
+        let first = with_inboxes pump_inboxes start.subjects.items in
+        let none = numbers-same [] start.subjects.items first (with_inboxes-ports pump_inboxes start.subjects.items) (none-yet (length server.made + length drain_ends) start.subjects.items nothing.subjects_empty) in
         let zeroth : length w.replies + 0 ≡ length w.replies = omega arith in
-        let by_drainers = numbers-dealt_each (length w.subjects) [] (range_with_len (length w.replies) (length w.drainers)) calls_of_drainers first given-many
+        let by_drainers = numbers-dealt_each (length w.subjects) [] (range_with_len (length w.replies) (length w.drainers)) calls_of_drainers first with_inboxes-many
         (drainer-rows acts w 0 (length w.replies) w.drainers drain_ends zeroth drainers-wired) none in
         let by_desks = numbers-dealt_each (length w.subjects) (range_with_len (length w.replies) (length w.drainers)) (map number desks) calls_of_desks (dealt_each calls_of_drainers first)
-        (dealt_each-count calls_of_drainers first ∙ given-many) (desk-rows w some desks has-boxes) by_drainers in
+        (dealt_each-count calls_of_drainers first ∙ with_inboxes-many) (desk-rows w some desks has-boxes) by_drainers in
         subst (HaveNumbers call_numbers) (sym came.subjects_are) by_desks
 
     calls-inboxes : inboxes_of calls ≡ map Some pump_inboxes
     calls-inboxes =
-        let first = given pump_inboxes start.subjects.items in
+        let first = with_inboxes pump_inboxes start.subjects.items in
         ap inboxes_of came.subjects_are ∙ dealt_each-inboxes calls_of_desks (dealt_each calls_of_drainers first) ∙ dealt_each-inboxes calls_of_drainers first
-        ∙ given-all pump_inboxes start.subjects.items (length-map pump_ends (λ end. end.inbox) ∙ sym nothing.subject_count)
+        ∙ with_inboxes-all pump_inboxes start.subjects.items (length-map pump_ends (λ end. end.inbox) ∙ sym nothing.subject_count)
 
     desks-each : EachDeskOnce (length server.made) desks → AreEach 0 (length w.replies) (map number desks)
     desks-each each = record {
@@ -209,8 +209,8 @@ module _ {S Rest : Type 0} (acts : Acts S Rest) (server : ServerView S Rest) (wh
 
     calls-some : 0 < length calls
     calls-some =
-        let count = ap length came.subjects_are ∙ dealt_each-count calls_of_desks (dealt_each calls_of_drainers (given pump_inboxes start.subjects.items))
-        ∙ dealt_each-count calls_of_drainers (given pump_inboxes start.subjects.items) ∙ given-many in
+        let count = ap length came.subjects_are ∙ dealt_each-count calls_of_desks (dealt_each calls_of_drainers (with_inboxes pump_inboxes start.subjects.items))
+        ∙ dealt_each-count calls_of_drainers (with_inboxes pump_inboxes start.subjects.items) ∙ with_inboxes-many in
         omega (arith, some, count)
 
     -- one that settled tells that each desk came back once
@@ -259,16 +259,16 @@ module _ {S Rest : Type 0} (acts : Acts S Rest) (server : ServerView S Rest) (wh
         let many = nothing.drainer_count ∙ drain-ends-many in
         let none = none-yet (length pump_ends + 1) start.drainers.items nothing.drainers_empty in
         let by_pumps = numbers-dealt_each (length w.drainers) [] (range_with_len 0 (length w.subjects)) outs_of_pumps start.drainers.items many rows-of-pumps.0 none in
-        let given_ = numbers-same (range_with_len 0 (length w.subjects)) dealt_ (given drainer_inboxes dealt_) (given-ports drainer_inboxes dealt_) by_pumps in
+        let with_inboxes_ = numbers-same (range_with_len 0 (length w.subjects)) dealt_ (with_inboxes drainer_inboxes dealt_) (with_inboxes-ports drainer_inboxes dealt_) by_pumps in
         subst (HaveNumbers out_numbers) (sym came.drainers_are)
-        (numbers-dealt_each (length w.drainers) (range_with_len 0 (length w.subjects)) (length w.subjects ∷ []) (map with_bye server.leaves ∷ []) (given drainer_inboxes dealt_)
-        (given-count drainer_inboxes dealt_ ∙ dealt_each-count outs_of_pumps start.drainers.items ∙ many) (leave-row, tt) given_)
+        (numbers-dealt_each (length w.drainers) (range_with_len 0 (length w.subjects)) (length w.subjects ∷ []) (map with_bye server.leaves ∷ []) (with_inboxes drainer_inboxes dealt_)
+        (with_inboxes-count drainer_inboxes dealt_ ∙ dealt_each-count outs_of_pumps start.drainers.items ∙ many) (leave-row, tt) with_inboxes_)
 
     outs-inboxes : inboxes_of outs ≡ map Some drainer_inboxes
     outs-inboxes =
         let dealt_ = dealt_each outs_of_pumps start.drainers.items in
-        ap inboxes_of came.drainers_are ∙ dealt-inboxes (map with_bye server.leaves) (given drainer_inboxes dealt_)
-        ∙ given-all drainer_inboxes dealt_ (length-map drain_ends (λ end. end.inbox) ∙ sym (dealt_each-count outs_of_pumps start.drainers.items ∙ nothing.drainer_count))
+        ap inboxes_of came.drainers_are ∙ dealt-inboxes (map with_bye server.leaves) (with_inboxes drainer_inboxes dealt_)
+        ∙ with_inboxes-all drainer_inboxes dealt_ (length-map drain_ends (λ end. end.inbox) ∙ sym (dealt_each-count outs_of_pumps start.drainers.items ∙ nothing.drainer_count))
 
     outs-settle : (settled : List (SettledView (Out S))) (place : ℕ) → ¬ FirstUnsettled outs settled place
     outs-settle =

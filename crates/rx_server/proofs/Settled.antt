@@ -13,8 +13,8 @@ use Rattle.rx_pump.specs.declared.out.Out.{Out}
 use Rattle.rx_pump.specs.declared.pump_end.PumpEnd.{PumpEnd}
 use Rattle.rx_pump.specs.declared.reply.Reply.{Reply}
 use Rattle.rx_drain.specs.declared.drain_end.DrainEnd.{DrainEnd}
-use Rattle.rx_settling.specs.Parts.{AreOfOneBox, PartsView, ReceivesMore, Settles, dealt, dealt_each, given}
-use Rattle.rx_settling.proofs.Gathered.{AllInboxes, AllPorts, dealt-all, dealt-inboxes, dealt-of, dealt_each-all, dealt_each-count, dealt_each-inboxes, dealt_each-of, empty-inboxes, empty-ports, given-all, given-count, given-ports, inboxes-of, inboxes_of, of-one-box, ports-of, ports-same, received-none, settled-at, settled-came, settled-empty, settled-got}
+use Rattle.rx_settling.specs.Parts.{AreOfOneBox, PartsView, ReceivesMore, Settles, dealt, dealt_each, with_inboxes}
+use Rattle.rx_settling.proofs.Gathered.{AllInboxes, AllPorts, dealt-all, dealt-inboxes, dealt-of, dealt_each-all, dealt_each-count, dealt_each-inboxes, dealt_each-of, empty-inboxes, empty-ports, with_inboxes-all, with_inboxes-count, with_inboxes-ports, inboxes-of, inboxes_of, of-one-box, ports-of, ports-same, received-none, settled-at, settled-came, settled-empty, settled-got}
 use Rattle.rx_settling.proofs.Rows.{dealt-count}
 use Rattle.rx_server.specs.declared.rooms.Rooms.{Rooms}
 use Rattle.rx_server.specs.declared.settled_boxes.SettledBoxes.{SettledBoxes}
@@ -76,14 +76,14 @@ module _ {S Rest : Type 0} (w : Wiring S) (rooms : Rooms S Rest) (ended : List (
 
     pub subjects-count : length subjects ≡ length w.subjects
     subjects-count =
-        ap length came.subjects_are ∙ dealt_each-count calls_of_desks (dealt_each calls_of_drainers (given (map (λ end. end.inbox) rooms.pumps.items) rooms.returned.subjects.items))
-        ∙ dealt_each-count calls_of_drainers (given (map (λ end. end.inbox) rooms.pumps.items) rooms.returned.subjects.items)
-        ∙ given-count (map (λ end. end.inbox) rooms.pumps.items) rooms.returned.subjects.items ∙ left.nothing_came.subject_count
+        ap length came.subjects_are ∙ dealt_each-count calls_of_desks (dealt_each calls_of_drainers (with_inboxes (map (λ end. end.inbox) rooms.pumps.items) rooms.returned.subjects.items))
+        ∙ dealt_each-count calls_of_drainers (with_inboxes (map (λ end. end.inbox) rooms.pumps.items) rooms.returned.subjects.items)
+        ∙ with_inboxes-count (map (λ end. end.inbox) rooms.pumps.items) rooms.returned.subjects.items ∙ left.nothing_came.subject_count
 
     pub drainers-count : length drainers ≡ length w.drainers
     drainers-count =
-        ap length came.drainers_are ∙ dealt-count rooms.leaves.items (given (map (λ end. end.inbox) rooms.drainers.items) (dealt_each outs_of_pumps rooms.returned.drainers.items))
-        ∙ given-count (map (λ end. end.inbox) rooms.drainers.items) (dealt_each outs_of_pumps rooms.returned.drainers.items)
+        ap length came.drainers_are ∙ dealt-count rooms.leaves.items (with_inboxes (map (λ end. end.inbox) rooms.drainers.items) (dealt_each outs_of_pumps rooms.returned.drainers.items))
+        ∙ with_inboxes-count (map (λ end. end.inbox) rooms.drainers.items) (dealt_each outs_of_pumps rooms.returned.drainers.items)
         ∙ dealt_each-count outs_of_pumps rooms.returned.drainers.items ∙ left.nothing_came.drainer_count
 
     pub replies-count : length replies ≡ length w.replies
@@ -102,15 +102,15 @@ module _ {S Rest : Type 0} (w : Wiring S) (rooms : Rooms S Rest) (ended : List (
 
     subject-inboxes : inboxes_of subjects ≡ map Some (map (λ end. end.inbox) rooms.pumps.items)
     subject-inboxes =
-        ap inboxes_of came.subjects_are ∙ dealt_each-inboxes calls_of_desks (dealt_each calls_of_drainers (given (map (λ end. end.inbox) rooms.pumps.items) rooms.returned.subjects.items))
-        ∙ dealt_each-inboxes calls_of_drainers (given (map (λ end. end.inbox) rooms.pumps.items) rooms.returned.subjects.items)
-        ∙ given-all (map (λ end. end.inbox) rooms.pumps.items) rooms.returned.subjects.items
+        ap inboxes_of came.subjects_are ∙ dealt_each-inboxes calls_of_desks (dealt_each calls_of_drainers (with_inboxes (map (λ end. end.inbox) rooms.pumps.items) rooms.returned.subjects.items))
+        ∙ dealt_each-inboxes calls_of_drainers (with_inboxes (map (λ end. end.inbox) rooms.pumps.items) rooms.returned.subjects.items)
+        ∙ with_inboxes-all (map (λ end. end.inbox) rooms.pumps.items) rooms.returned.subjects.items
         (length-map rooms.pumps.items (λ end. end.inbox) ∙ ends-count w.subjects (λ end. end.inbox.box) rooms.pumps.items left.pumps ∙ sym left.nothing_came.subject_count)
 
     drainer-inboxes : inboxes_of drainers ≡ map Some (map (λ end. end.inbox) rooms.drainers.items)
     drainer-inboxes =
-        ap inboxes_of came.drainers_are ∙ dealt-inboxes rooms.leaves.items (given (map (λ end. end.inbox) rooms.drainers.items) (dealt_each outs_of_pumps rooms.returned.drainers.items))
-        ∙ given-all (map (λ end. end.inbox) rooms.drainers.items) (dealt_each outs_of_pumps rooms.returned.drainers.items)
+        ap inboxes_of came.drainers_are ∙ dealt-inboxes rooms.leaves.items (with_inboxes (map (λ end. end.inbox) rooms.drainers.items) (dealt_each outs_of_pumps rooms.returned.drainers.items))
+        ∙ with_inboxes-all (map (λ end. end.inbox) rooms.drainers.items) (dealt_each outs_of_pumps rooms.returned.drainers.items)
         (length-map rooms.drainers.items (λ end. end.inbox) ∙ ends-count w.drainers (λ end. end.inbox.box) rooms.drainers.items left.drainers
         ∙ sym (dealt_each-count outs_of_pumps rooms.returned.drainers.items ∙ left.nothing_came.drainer_count))
 
@@ -122,12 +122,12 @@ module _ {S Rest : Type 0} (w : Wiring S) (rooms : Rooms S Rest) (ended : List (
     pub subjects-fit : All AreOfOneBox subjects
     subjects-fit =
         let start = empty-ports Of _ w.subjects rooms.returned.subjects.items (sym left.nothing_came.subject_count) left.nothing_came.subjects_empty in
-        let given_ports = ports-same Of w.subjects rooms.returned.subjects.items (given (map (λ end. end.inbox) rooms.pumps.items) rooms.returned.subjects.items)
-        (given-ports (map (λ end. end.inbox) rooms.pumps.items) rooms.returned.subjects.items) start in
-        let by_drainers = dealt_each-of Of w.subjects calls_of_drainers (given (map (λ end. end.inbox) rooms.pumps.items) rooms.returned.subjects.items)
+        let with_inboxes_ports = ports-same Of w.subjects rooms.returned.subjects.items (with_inboxes (map (λ end. end.inbox) rooms.pumps.items) rooms.returned.subjects.items)
+        (with_inboxes-ports (map (λ end. end.inbox) rooms.pumps.items) rooms.returned.subjects.items) start in
+        let by_drainers = dealt_each-of Of w.subjects calls_of_drainers (with_inboxes (map (λ end. end.inbox) rooms.pumps.items) rooms.returned.subjects.items)
         (All-made (AllZip Of w.subjects) (λ end. end.ports.items) rooms.drainers.items
-        (All-weaker (λ (end : DrainEnd S Rest). AreRow w.subjects end.ports.items) (λ (end : DrainEnd S Rest). AllZip Of w.subjects end.ports.items) (λ end are. ports-of w.subjects end.ports.items are) rooms.drainers.items left.to_subjects)) given_ports in
-        let by_desks = dealt_each-of Of w.subjects calls_of_desks (dealt_each calls_of_drainers (given (map (λ end. end.inbox) rooms.pumps.items) rooms.returned.subjects.items))
+        (All-weaker (λ (end : DrainEnd S Rest). AreRow w.subjects end.ports.items) (λ (end : DrainEnd S Rest). AllZip Of w.subjects end.ports.items) (λ end are. ports-of w.subjects end.ports.items are) rooms.drainers.items left.to_subjects)) with_inboxes_ports in
+        let by_desks = dealt_each-of Of w.subjects calls_of_desks (dealt_each calls_of_drainers (with_inboxes (map (λ end. end.inbox) rooms.pumps.items) rooms.returned.subjects.items))
         (All-made (AllZip Of w.subjects) (λ desk. desk.ports.items) (ended ++ rooms.desks.items)
         (All-weaker (HasItsBoxes w) (λ (desk : EndedDesk S). AllZip Of w.subjects desk.ports.items) (λ desk has. ports-of w.subjects desk.ports.items (desk-row w desk has)) (ended ++ rooms.desks.items) left.desks)) by_drainers in
         let ports = subst (λ (l : List (PartsView (Call S))). AllPorts Of w.subjects l) (sym came.subjects_are) by_desks in
@@ -139,10 +139,10 @@ module _ {S Rest : Type 0} (w : Wiring S) (rooms : Rooms S Rest) (ended : List (
         let by_pumps = dealt_each-of Of w.drainers outs_of_pumps rooms.returned.drainers.items
         (All-made (AllZip Of w.drainers) (λ end. end.drainers.items) rooms.pumps.items
         (All-weaker (λ (end : PumpEnd S). AreRow w.drainers end.drainers.items) (λ (end : PumpEnd S). AllZip Of w.drainers end.drainers.items) (λ end are. ports-of w.drainers end.drainers.items are) rooms.pumps.items left.to_drainers)) start in
-        let given_ports = ports-same Of w.drainers (dealt_each outs_of_pumps rooms.returned.drainers.items) (given (map (λ end. end.inbox) rooms.drainers.items) (dealt_each outs_of_pumps rooms.returned.drainers.items))
-        (given-ports (map (λ end. end.inbox) rooms.drainers.items) (dealt_each outs_of_pumps rooms.returned.drainers.items)) by_pumps in
-        let by_leaves = dealt-of Of w.drainers rooms.leaves.items (given (map (λ end. end.inbox) rooms.drainers.items) (dealt_each outs_of_pumps rooms.returned.drainers.items))
-        (ports-of w.drainers rooms.leaves.items left.leaves) given_ports in
+        let with_inboxes_ports = ports-same Of w.drainers (dealt_each outs_of_pumps rooms.returned.drainers.items) (with_inboxes (map (λ end. end.inbox) rooms.drainers.items) (dealt_each outs_of_pumps rooms.returned.drainers.items))
+        (with_inboxes-ports (map (λ end. end.inbox) rooms.drainers.items) (dealt_each outs_of_pumps rooms.returned.drainers.items)) by_pumps in
+        let by_leaves = dealt-of Of w.drainers rooms.leaves.items (with_inboxes (map (λ end. end.inbox) rooms.drainers.items) (dealt_each outs_of_pumps rooms.returned.drainers.items))
+        (ports-of w.drainers rooms.leaves.items left.leaves) with_inboxes_ports in
         let ports = subst (λ (l : List (PartsView (Out S))). AllPorts Of w.drainers l) (sym came.drainers_are) by_leaves in
         of-one-box w.drainers drainers ports (subst (AllInboxes w.drainers) (sym drainer-inboxes) (inboxes-of w.drainers (map (λ end. end.inbox) rooms.drainers.items) (map-twice (λ inbox. inbox.box) (λ end. end.inbox) rooms.drainers.items ∙ left.drainers)))
 
@@ -170,18 +170,18 @@ module _ {S Rest : Type 0} (w : Wiring S) (rooms : Rooms S Rest) (ended : List (
       -- what the boxes of the subjects received
       calls-got : All (GotEach boxes.subjects.items) calls_of_desks × All (GotEach boxes.subjects.items) calls_of_drainers
       calls-got =
-          let given_subjects = given (map (λ end. end.inbox) rooms.pumps.items) rooms.returned.subjects.items in
-          let given_count = given-count (map (λ end. end.inbox) rooms.pumps.items) rooms.returned.subjects.items ∙ left.nothing_came.subject_count in
+          let with_inboxes_subjects = with_inboxes (map (λ end. end.inbox) rooms.pumps.items) rooms.returned.subjects.items in
+          let with_inboxes_count = with_inboxes-count (map (λ end. end.inbox) rooms.pumps.items) rooms.returned.subjects.items ∙ left.nothing_came.subject_count in
           let all = subst (λ (l : List (PartsView (Call S))). AllPorts Got boxes.subjects.items l) came.subjects_are (settled-got subjects boxes.subjects.items subjects_settled) in
-          let later_count = dealt_each-count calls_of_drainers given_subjects ∙ given_count in
-          let desks = dealt_each-all Got boxes.subjects.items calls_of_desks (dealt_each calls_of_drainers given_subjects)
-          (All-made (λ (ports : List (Outgoing (Call S))). length ports ≡ length (dealt_each calls_of_drainers given_subjects)) (λ desk. desk.ports.items) (ended ++ rooms.desks.items)
-          (All-weaker (HasItsBoxes w) (λ (desk : EndedDesk S). length desk.ports.items ≡ length (dealt_each calls_of_drainers given_subjects))
-          (λ desk has. row-count w.subjects desk.ports.items (length (dealt_each calls_of_drainers given_subjects)) (sym later_count) (desk-row w desk has)) (ended ++ rooms.desks.items) left.desks)) all in
-          let drainers_too = dealt_each-all Got boxes.subjects.items calls_of_drainers given_subjects
-          (All-made (λ (ports : List (Outgoing (Call S))). length ports ≡ length given_subjects) (λ end. end.ports.items) rooms.drainers.items
-          (All-weaker (λ (end : DrainEnd S Rest). AreRow w.subjects end.ports.items) (λ (end : DrainEnd S Rest). length end.ports.items ≡ length given_subjects)
-          (λ end are. row-count w.subjects end.ports.items (length given_subjects) (sym given_count) are) rooms.drainers.items left.to_subjects)) desks.1 in
+          let later_count = dealt_each-count calls_of_drainers with_inboxes_subjects ∙ with_inboxes_count in
+          let desks = dealt_each-all Got boxes.subjects.items calls_of_desks (dealt_each calls_of_drainers with_inboxes_subjects)
+          (All-made (λ (ports : List (Outgoing (Call S))). length ports ≡ length (dealt_each calls_of_drainers with_inboxes_subjects)) (λ desk. desk.ports.items) (ended ++ rooms.desks.items)
+          (All-weaker (HasItsBoxes w) (λ (desk : EndedDesk S). length desk.ports.items ≡ length (dealt_each calls_of_drainers with_inboxes_subjects))
+          (λ desk has. row-count w.subjects desk.ports.items (length (dealt_each calls_of_drainers with_inboxes_subjects)) (sym later_count) (desk-row w desk has)) (ended ++ rooms.desks.items) left.desks)) all in
+          let drainers_too = dealt_each-all Got boxes.subjects.items calls_of_drainers with_inboxes_subjects
+          (All-made (λ (ports : List (Outgoing (Call S))). length ports ≡ length with_inboxes_subjects) (λ end. end.ports.items) rooms.drainers.items
+          (All-weaker (λ (end : DrainEnd S Rest). AreRow w.subjects end.ports.items) (λ (end : DrainEnd S Rest). length end.ports.items ≡ length with_inboxes_subjects)
+          (λ end are. row-count w.subjects end.ports.items (length with_inboxes_subjects) (sym with_inboxes_count) are) rooms.drainers.items left.to_subjects)) desks.1 in
           (desks.0, drainers_too.0)
 
       -- what the boxes of the drainers received
@@ -191,9 +191,9 @@ module _ {S Rest : Type 0} (w : Wiring S) (rooms : Rooms S Rest) (ended : List (
           let inboxes = map (λ end. end.inbox) rooms.drainers.items in
           let before_count = dealt_each-count outs_of_pumps rooms.returned.drainers.items ∙ left.nothing_came.drainer_count in
           let all = subst (λ (l : List (PartsView (Out S))). AllPorts Got boxes.drainers.items l) came.drainers_are (settled-got drainers boxes.drainers.items drainers_settled) in
-          let leaves_count = row-count w.drainers rooms.leaves.items (length (given inboxes before)) (sym (given-count inboxes before ∙ before_count)) left.leaves in
-          let leaves_too = dealt-all Got boxes.drainers.items rooms.leaves.items (given inboxes before) leaves_count all in
-          let rest = ports-same Got boxes.drainers.items (given inboxes before) before (sym (given-ports inboxes before)) leaves_too.1 in
+          let leaves_count = row-count w.drainers rooms.leaves.items (length (with_inboxes inboxes before)) (sym (with_inboxes-count inboxes before ∙ before_count)) left.leaves in
+          let leaves_too = dealt-all Got boxes.drainers.items rooms.leaves.items (with_inboxes inboxes before) leaves_count all in
+          let rest = ports-same Got boxes.drainers.items (with_inboxes inboxes before) before (sym (with_inboxes-ports inboxes before)) leaves_too.1 in
           let pumps = dealt_each-all Got boxes.drainers.items outs_of_pumps rooms.returned.drainers.items
           (All-made (λ (ports : List (Outgoing (Out S))). length ports ≡ length rooms.returned.drainers.items) (λ end. end.drainers.items) rooms.pumps.items
           (All-weaker (λ (end : PumpEnd S). AreRow w.drainers end.drainers.items) (λ (end : PumpEnd S). length end.drainers.items ≡ length rooms.returned.drainers.items)

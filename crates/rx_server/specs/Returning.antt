@@ -12,7 +12,7 @@ use Rattle.rx_pump.specs.declared.reply.Reply.{Reply}
 use Rattle.rx_server.specs.declared.returned.Returned.{Returned}
 use Rattle.rx_server.specs.declared.start_fault.Role.{Role}
 use Rattle.rx_server.specs.declared.start_fault.Role.TheVariants.{Drainer, Pump, Worker}
-use Rattle.rx_settling.specs.Parts.{FirstUnsettled, IsEmpty, LacksInbox, PartsView, ReceivesMore, Settles, dealt, dealt_each, given, placed}
+use Rattle.rx_settling.specs.Parts.{FirstUnsettled, IsEmpty, LacksInbox, PartsView, ReceivesMore, Settles, dealt, dealt_each, with_inboxes, placed}
 
 module _ {S : Type 0} where
   -- nothing came back yet of so many boxes, and there is room for each port that was made of them
@@ -89,8 +89,8 @@ module _ {S Rest : Type 0} where
   -- of the replies the ports of the pumps, and the inboxes of the desks
   pub record HaveComeBack (start : Returned S) (leaves : List (Outgoing (Out S))) (desks : List (EndedDesk S)) (pumps : List (PumpEnd S)) (drainers : List (DrainEnd S Rest))
       (calls : List (PartsView (Call S))) (outs : List (PartsView (Out S))) (answers : List (PartsView (Reply S))) : Type 0 where
-    pub subjects_are : calls ≡ dealt_each (map (λ desk. desk.ports.items) desks) (dealt_each (map (λ end. end.ports.items) drainers) (given (map (λ end. end.inbox) pumps) start.subjects.items))
-    pub drainers_are : outs ≡ dealt leaves (given (map (λ end. end.inbox) drainers) (dealt_each (map (λ end. end.drainers.items) pumps) start.drainers.items))
+    pub subjects_are : calls ≡ dealt_each (map (λ desk. desk.ports.items) desks) (dealt_each (map (λ end. end.ports.items) drainers) (with_inboxes (map (λ end. end.inbox) pumps) start.subjects.items))
+    pub drainers_are : outs ≡ dealt leaves (with_inboxes (map (λ end. end.inbox) drainers) (dealt_each (map (λ end. end.drainers.items) pumps) start.drainers.items))
     pub replies_are : FoldsTo ReturnsInbox (dealt_each (map (λ end. end.replies.items) pumps) start.replies.items) desks answers
 
   -- with what came back to new boxes, as many as there are pumps, drainers and workers, the one that counts as this thread is

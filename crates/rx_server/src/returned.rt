@@ -4,7 +4,7 @@ ghost use Rattle.std.specs.List.{All, AllZip, sum_by};
 ghost use Rattle.rx_pump.specs.Pumps.{counted};
 ghost use Rattle.rx_server.specs.Returning.{ComesAgain, HaveReturned, StopsAt, number_of};
 ghost use Rattle.rx_server.specs.Servers.{report_of};
-ghost use Rattle.rx_settling.specs.Parts.{AreOfOneBox, HasRoom, Settles, dealt_each, given, missing};
+ghost use Rattle.rx_settling.specs.Parts.{AreOfOneBox, HasRoom, Settles, dealt_each, with_inboxes, missing};
 
 use crate::close_fault::{CloseCause, CloseFault};
 use crate::report::SubjectReport;
@@ -148,7 +148,7 @@ pub(crate) fn return_pumps<S: Sink>(
     requires replies { All (λ end. length end.replies.items ≡ length replies.old.items) ends.items }
     requires replies_fit { All (HasRoom (length ends.items)) replies.old.items }
     ensures reports { result.items ≡ map report_of ends.items }
-    ensures subjects { subjects.new.items ≡ given (map (λ end. end.inbox) ends.items) subjects.old.items }
+    ensures subjects { subjects.new.items ≡ with_inboxes (map (λ end. end.inbox) ends.items) subjects.old.items }
     ensures drainers { drainers.new.items ≡ dealt_each (map (λ end. end.drainers.items) ends.items) drainers.old.items }
     ensures replies { replies.new.items ≡ dealt_each (map (λ end. end.replies.items) ends.items) replies.old.items }
 {
@@ -202,7 +202,7 @@ pub(crate) fn return_drainers<S: Sink>(
     requires ports_fit { All (HasRoom (length ends.items)) subjects.old.items }
     ensures taken { result.0 ≡ counted (sum_by (λ end. end.taken) ends.items) }
     ensures put_away { map (λ list. list.items) result.1.items ≡ map (λ end. end.put_away.items) ends.items }
-    ensures drainers { drainers.new.items ≡ given (map (λ end. end.inbox) ends.items) drainers.old.items }
+    ensures drainers { drainers.new.items ≡ with_inboxes (map (λ end. end.inbox) ends.items) drainers.old.items }
     ensures subjects { subjects.new.items ≡ dealt_each (map (λ end. end.ports.items) ends.items) subjects.old.items }
 {
     let mut lists = lists;

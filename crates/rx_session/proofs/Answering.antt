@@ -233,9 +233,9 @@ pub steps_by : (step : Step) (old new : Option (List ℕ)) (before after : LineS
 steps_by step old new before after none advances = none_match before.end _ _ none advances
 
 -- a line means in a session what is asked by what was read of it
-pub asks : (read : Result Line BadLine) (line : List ℕ) → Gives meaning_of read (line_read line) → session_read line ≡ asked_by read
-asks (Ok read) line gives = ap (λ r. r >>= in_session) gives
-asks (Err fault) line gives = ap (λ r. r >>= in_session) gives
+pub asked_by-read : (read : Result Line BadLine) (line : List ℕ) → Gives meaning_of read (line_read line) → session_read line ≡ asked_by read
+asked_by-read (Ok read) line gives = ap (λ r. r >>= in_session) gives
+asked_by-read (Err fault) line gives = ap (λ r. r >>= in_session) gives
 
 -- what was read of a line is spelled by one
 pub spelled : (read : Result Line BadLine) (line : List ℕ) → Gives meaning_of read (line_read line) → IfOk read (λ l. IsSpelled (meaning_of l))

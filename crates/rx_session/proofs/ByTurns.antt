@@ -273,15 +273,15 @@ module _ {D W : Type 0} (p : Parties D W) where
       (inl (closed there desk after version held_after ends.Quit (IsAt-put there desk writer after version held held_after l.is_at holds) nothing))
 
   -- what is held was sent
-  pub sent : (start : Place D W) (first : List ℕ) (read_old read_now : Option (List ℕ)) (desk : D) (writer : W) (session : OpenSession) (held_after : List ℕ) (result : Turn W)
+  pub held_sent : (start : Place D W) (first : List ℕ) (read_old read_now : Option (List ℕ)) (desk : D) (writer : W) (session : OpenSession) (held_after : List ℕ) (result : Turn W)
       → Sitting p start first read_old read_now desk writer session → Sends p.contents result session.quits writer session.outbox held_after
       → Sits p result start first read_old read_now desk (record session { outbox = held_after })
-  sent start first read_old read_now desk writer session held_after (turns.Again after) s sends =
+  held_sent start first read_old read_now desk writer session held_after (turns.Again after) s sends =
       IsOpen-put start first read_old read_now desk writer after session.version session.outbox held_after session.quits session.feed.skips (unread session.feed.lines) s sends.2
-  sent start first read_old read_now desk writer session held_after (turns.Waits after) s sends = absurd sends
-  sent start first read_old read_now desk writer session held_after (turns.Stuck after) s sends =
+  held_sent start first read_old read_now desk writer session held_after (turns.Waits after) s sends = absurd sends
+  held_sent start first read_old read_now desk writer session held_after (turns.Stuck after) s sends =
       IsOpen-put start first read_old read_now desk writer after session.version session.outbox held_after session.quits session.feed.skips (unread session.feed.lines) s sends
-  sent start first read_old read_now desk writer session held_after (turns.Over end back) s sends =
+  held_sent start first read_old read_now desk writer session held_after (turns.Over end back) s sends =
       let Goal : SessionEnd → Option W → Type 0 = λ e b. IsOver p start first read_old read_now (record { end = e; desk = desk; back = b }) in
       let made : (e : SessionEnd) → end ≡ e → Goal e (Some sends.0) → Goal end back =
       λ e is over. subst (λ (b : Option W). Goal end b) (sym sends.1) (subst (λ (x : SessionEnd). Goal x (Some sends.0)) (sym is) over) in

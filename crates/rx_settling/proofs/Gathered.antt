@@ -6,7 +6,7 @@ use Rattle.rx_mailbox.specs.Boxes.{Box, HasEachBye, Incoming, Outgoing, incoming
 use Rattle.rx_mailbox.specs.declared.letter.Letter.{Letter}
 use Rattle.rx_mailbox.specs.Passes.{IsEmptied, SettledView, inbox_in}
 use Rattle.rx_mailbox.specs.Settling.{GotAll}
-use Rattle.rx_settling.specs.Parts.{AreOfOneBox, IsEmpty, PartsView, ReceivesMore, Settles, dealt, dealt_each, given, placed, with_inbox}
+use Rattle.rx_settling.specs.Parts.{AreOfOneBox, IsEmpty, PartsView, ReceivesMore, Settles, dealt, dealt_each, with_inboxes, placed, with_inbox}
 use Rattle.rx_settling.proofs.Rows.{dealt-count}
 
 module _ {X B : Type 0} (P : X → Outgoing B → Type 0) where
@@ -85,20 +85,20 @@ module _ {B : Type 0} where
   dealt_each-more (row ∷ rows) ports boxes = dealt_each-more rows ports (dealt row boxes)
 
   -- and inboxes that come back leave the ports as they are
-  pub given-ports : (inboxes : List (Incoming B)) (boxes : List (PartsView B)) → ports_of (given inboxes boxes) ≡ ports_of boxes
-  given-ports [] boxes = refl
-  given-ports (inbox ∷ inboxes) [] = refl
-  given-ports (inbox ∷ inboxes) (parts ∷ boxes) = ap (λ (l : List (List (Outgoing B))). parts.ports ∷ l) (given-ports inboxes boxes)
+  pub with_inboxes-ports : (inboxes : List (Incoming B)) (boxes : List (PartsView B)) → ports_of (with_inboxes inboxes boxes) ≡ ports_of boxes
+  with_inboxes-ports [] boxes = refl
+  with_inboxes-ports (inbox ∷ inboxes) [] = refl
+  with_inboxes-ports (inbox ∷ inboxes) (parts ∷ boxes) = ap (λ (l : List (List (Outgoing B))). parts.ports ∷ l) (with_inboxes-ports inboxes boxes)
 
   pub placed-ports : (place : ℕ) (inbox : Incoming B) (boxes : List (PartsView B)) → ports_of (placed place inbox boxes) ≡ ports_of boxes
   placed-ports place inbox [] = refl
   placed-ports zero inbox (parts ∷ boxes) = refl
   placed-ports (suc place) inbox (parts ∷ boxes) = ap (λ (l : List (List (Outgoing B))). parts.ports ∷ l) (placed-ports place inbox boxes)
 
-  pub given-count : (inboxes : List (Incoming B)) (boxes : List (PartsView B)) → length (given inboxes boxes) ≡ length boxes
-  given-count [] boxes = refl
-  given-count (inbox ∷ inboxes) [] = refl
-  given-count (inbox ∷ inboxes) (parts ∷ boxes) = ap suc (given-count inboxes boxes)
+  pub with_inboxes-count : (inboxes : List (Incoming B)) (boxes : List (PartsView B)) → length (with_inboxes inboxes boxes) ≡ length boxes
+  with_inboxes-count [] boxes = refl
+  with_inboxes-count (inbox ∷ inboxes) [] = refl
+  with_inboxes-count (inbox ∷ inboxes) (parts ∷ boxes) = ap suc (with_inboxes-count inboxes boxes)
 
   pub placed-count : (place : ℕ) (inbox : Incoming B) (boxes : List (PartsView B)) → length (placed place inbox boxes) ≡ length boxes
   placed-count place inbox [] = refl
@@ -106,19 +106,19 @@ module _ {B : Type 0} where
   placed-count (suc place) inbox (parts ∷ boxes) = ap suc (placed-count place inbox boxes)
 
   -- where each inbox came back
-  pub given-all : (inboxes : List (Incoming B)) (boxes : List (PartsView B)) → length inboxes ≡ length boxes → inboxes_of (given inboxes boxes) ≡ map Some inboxes
-  given-all [] [] count = refl
-  given-all [] (parts ∷ boxes) count = absurd (omega arith)
-  given-all (inbox ∷ inboxes) [] count = absurd (omega arith)
-  given-all (inbox ∷ inboxes) (parts ∷ boxes) count = ap (λ (l : List (Option (Incoming B))). Some inbox ∷ l) (given-all inboxes boxes (omega arith))
+  pub with_inboxes-all : (inboxes : List (Incoming B)) (boxes : List (PartsView B)) → length inboxes ≡ length boxes → inboxes_of (with_inboxes inboxes boxes) ≡ map Some inboxes
+  with_inboxes-all [] [] count = refl
+  with_inboxes-all [] (parts ∷ boxes) count = absurd (omega arith)
+  with_inboxes-all (inbox ∷ inboxes) [] count = absurd (omega arith)
+  with_inboxes-all (inbox ∷ inboxes) (parts ∷ boxes) count = ap (λ (l : List (Option (Incoming B))). Some inbox ∷ l) (with_inboxes-all inboxes boxes (omega arith))
 
   -- one inbox more
-  pub given-more : (inboxes : List (Incoming B)) (inbox : Incoming B) (boxes : List (PartsView B))
-      → placed (length inboxes) inbox (given inboxes boxes) ≡ given (inboxes ++ inbox ∷ []) boxes
-  given-more [] inbox [] = refl
-  given-more [] inbox (parts ∷ boxes) = refl
-  given-more (first ∷ inboxes) inbox [] = refl
-  given-more (first ∷ inboxes) inbox (parts ∷ boxes) = ap (λ (l : List (PartsView B)). with_inbox first parts ∷ l) (given-more inboxes inbox boxes)
+  pub with_inboxes-more : (inboxes : List (Incoming B)) (inbox : Incoming B) (boxes : List (PartsView B))
+      → placed (length inboxes) inbox (with_inboxes inboxes boxes) ≡ with_inboxes (inboxes ++ inbox ∷ []) boxes
+  with_inboxes-more [] inbox [] = refl
+  with_inboxes-more [] inbox (parts ∷ boxes) = refl
+  with_inboxes-more (first ∷ inboxes) inbox [] = refl
+  with_inboxes-more (first ∷ inboxes) inbox (parts ∷ boxes) = ap (λ (l : List (PartsView B)). with_inbox first parts ∷ l) (with_inboxes-more inboxes inbox boxes)
 
   -- ONE BOX EACH
 

@@ -3,7 +3,7 @@ use Rattle.std.proofs.Common.{◌≡◌, ◌∙◌, refl, sym, ap, ℕ, zero, su
 use Rattle.std.proofs.lemmas.List.Elements.{All-cons, All-head, All-nil, All-tail, All-weaker}
 use Rattle.std.specs.List.{All}
 use Rattle.rx_mailbox.specs.Boxes.{Incoming, Outgoing}
-use Rattle.rx_settling.specs.Parts.{HasRoom, IsEmpty, IsFullAt, LacksInbox, PartsView, dealt, dealt_each, given, lacking, missing, placed, with_inbox, with_port}
+use Rattle.rx_settling.specs.Parts.{HasRoom, IsEmpty, IsFullAt, LacksInbox, PartsView, dealt, dealt_each, with_inboxes, lacking, missing, placed, with_inbox, with_port}
 
 module _ {B : Type 0} where
   -- boxes to which nothing came back have room for all their ports
@@ -40,12 +40,12 @@ module _ {B : Type 0} where
       (All-weaker (HasRoom (length (ports ∷ rows) + more)) (HasRoom (suc (length rows + more))) (λ parts has. omega (arith, has)) boxes room))
 
   -- inboxes take none
-  pub given-room : (more : ℕ) (inboxes : List (Incoming B)) (boxes : List (PartsView B)) → All (HasRoom more) boxes → All (HasRoom more) (given inboxes boxes)
-  given-room more [] boxes room = room
-  given-room more (inbox ∷ inboxes) [] room = All-nil (HasRoom more)
-  given-room more (inbox ∷ inboxes) (parts ∷ boxes) room =
-      All-cons (HasRoom more) (with_inbox inbox parts) (given inboxes boxes) (All-head (HasRoom more) parts boxes room)
-      (given-room more inboxes boxes (All-tail (HasRoom more) parts boxes room))
+  pub with_inboxes-room : (more : ℕ) (inboxes : List (Incoming B)) (boxes : List (PartsView B)) → All (HasRoom more) boxes → All (HasRoom more) (with_inboxes inboxes boxes)
+  with_inboxes-room more [] boxes room = room
+  with_inboxes-room more (inbox ∷ inboxes) [] room = All-nil (HasRoom more)
+  with_inboxes-room more (inbox ∷ inboxes) (parts ∷ boxes) room =
+      All-cons (HasRoom more) (with_inbox inbox parts) (with_inboxes inboxes boxes) (All-head (HasRoom more) parts boxes room)
+      (with_inboxes-room more inboxes boxes (All-tail (HasRoom more) parts boxes room))
 
   -- INBOXES THAT ARE MISSING
 
@@ -92,14 +92,14 @@ module _ {B : Type 0} where
   dealt_each-none (ports ∷ rows) boxes none = dealt_each-none rows (dealt ports boxes) (dealt-none ports boxes none)
 
   -- behind those that came back the next one lacks its inbox
-  pub given-lacks : (inboxes : List (Incoming B)) (boxes : List (PartsView B)) → All (λ parts. parts.inbox ≡ None) boxes → LacksInbox (length inboxes) (given inboxes boxes)
-  given-lacks [] [] none = λ parts at. cc
-  given-lacks [] (parts ∷ boxes) none =
+  pub with_inboxes-lacks : (inboxes : List (Incoming B)) (boxes : List (PartsView B)) → All (λ parts. parts.inbox ≡ None) boxes → LacksInbox (length inboxes) (with_inboxes inboxes boxes)
+  with_inboxes-lacks [] [] none = λ parts at. cc
+  with_inboxes-lacks [] (parts ∷ boxes) none =
       λ one at.
       let same : parts ≡ one = cc in
       ap (λ (p : PartsView B). p.inbox) (sym same) ∙ All-head (λ (parts : PartsView B). parts.inbox ≡ None) parts boxes none
-  given-lacks (inbox ∷ inboxes) [] none = λ parts at. cc
-  given-lacks (inbox ∷ inboxes) (parts ∷ boxes) none = given-lacks inboxes boxes (All-tail (λ (parts : PartsView B). parts.inbox ≡ None) parts boxes none)
+  with_inboxes-lacks (inbox ∷ inboxes) [] none = λ parts at. cc
+  with_inboxes-lacks (inbox ∷ inboxes) (parts ∷ boxes) none = with_inboxes-lacks inboxes boxes (All-tail (λ (parts : PartsView B). parts.inbox ≡ None) parts boxes none)
 
   -- one that came back leaves the others as they are
   pub placed-lacks : (place other : ℕ) (inbox : Incoming B) (boxes : List (PartsView B)) → ¬ (place ≡ other) → LacksInbox other boxes → LacksInbox other (placed place inbox boxes)

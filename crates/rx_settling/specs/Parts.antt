@@ -56,10 +56,10 @@ module _ {B : Type 0} where
   dealt_each (ports ∷ rows) boxes = dealt_each rows (dealt ports boxes)
 
   -- the inboxes of the first boxes came back
-  abbrev pub given : List (Incoming B) → List (PartsView B) → List (PartsView B)
-  given [] boxes = boxes
-  given (inbox ∷ inboxes) [] = []
-  given (inbox ∷ inboxes) (parts ∷ boxes) = with_inbox inbox parts ∷ given inboxes boxes
+  abbrev pub with_inboxes : List (Incoming B) → List (PartsView B) → List (PartsView B)
+  with_inboxes [] boxes = boxes
+  with_inboxes (inbox ∷ inboxes) [] = []
+  with_inboxes (inbox ∷ inboxes) (parts ∷ boxes) = with_inbox inbox parts ∷ with_inboxes inboxes boxes
 
   -- the inbox of the box at this place came back
   abbrev pub placed : ℕ → Incoming B → List (PartsView B) → List (PartsView B)

@@ -1,7 +1,7 @@
 -- How many sinks found no memory and how many notes are taken, by what comes to the sinks.
 use Rattle.std.proofs.Common.{◌≡◌, ◌⊎◌, inl, inr, refl, ◌&&◌, ℕ, Bool, true, false, List, Option, Some, None}
 use Rattle.rx_note.specs.declared.note.Note.{Note}
-use Rattle.rx_sink.specs.Attachments.{Attachment, Mark, Fine, Fault, NoMemory, is_clear, is_held_back, is_last, given, settled, serving, served_yet, flushed, written, attached, detached, let_go, with_note, with_flush}
+use Rattle.rx_sink.specs.Attachments.{Attachment, Mark, Fine, Fault, NoMemory, is_clear, is_held_back, is_last, notified, settled, serving, served_yet, flushed, written, attached, detached, let_go, with_note, with_flush}
 
 -- MISSES
 
@@ -23,10 +23,10 @@ module _ {S : Type 0} where
   missed_served_yet mark false subject who note a kept = missed_served mark subject who note a kept
 
   -- a note misses nothing
-  pub missed_given : (mark : Mark) (subject who : ℕ) (note : Note) (o : Option (Attachment S)) (kept : List (Attachment S))
-      → (given mark subject who note o kept).missed ≡ 0
-  missed_given mark subject who note None kept = refl
-  missed_given mark subject who note (Some a) kept = missed_served_yet mark a.over subject who note a kept
+  pub missed_notified : (mark : Mark) (subject who : ℕ) (note : Note) (o : Option (Attachment S)) (kept : List (Attachment S))
+      → (notified mark subject who note o kept).missed ≡ 0
+  missed_notified mark subject who note None kept = refl
+  missed_notified mark subject who note (Some a) kept = missed_served_yet mark a.over subject who note a kept
 
   missed_written : (mark : Mark) (subject who : ℕ) (a : Attachment S) (kept : List (Attachment S)) → (written mark subject who a kept).missed ≡ 0
   missed_written (Fine flow) subject who a kept = missed_settled (a.over && is_clear flow) (is_held_back flow a.due) subject who 0 (with_flush flow a) kept
@@ -100,7 +100,7 @@ module _ {S : Type 0} where
   took_served_yet mark true subject who note a kept = inl refl
   took_served_yet mark false subject who note a kept = took_served mark subject who note a kept
 
-  pub took_given : (mark : Mark) (subject who : ℕ) (note : Note) (o : Option (Attachment S)) (kept : List (Attachment S))
-      → ((given mark subject who note o kept).took ≡ 0) ⊎ ((given mark subject who note o kept).took ≡ 1)
-  took_given mark subject who note None kept = inl refl
-  took_given mark subject who note (Some a) kept = took_served_yet mark a.over subject who note a kept
+  pub took_notified : (mark : Mark) (subject who : ℕ) (note : Note) (o : Option (Attachment S)) (kept : List (Attachment S))
+      → ((notified mark subject who note o kept).took ≡ 0) ⊎ ((notified mark subject who note o kept).took ≡ 1)
+  took_notified mark subject who note None kept = inl refl
+  took_notified mark subject who note (Some a) kept = took_served_yet mark a.over subject who note a kept

@@ -7,7 +7,7 @@ use Rattle.std.specs.List.{AllZip, position, position_from, remove}
 use Rattle.rx_sink.specs.declared.kept.Kept.{Kept}
 use Rattle.rx_sink.specs.Acts.{Acts}
 use Rattle.rx_sink.specs.Attachments.{Attachment, Apart, is_for, is_of, kept_for, without, replaced}
-use Rattle.rx_sink.specs.Stands.{IsKept}
+use Rattle.rx_sink.specs.KeptSinks.{IsKept}
 use Rattle.rx_sink.proofs.Apartness.{bool_cases, both_true, key_is, none_split}
 
 module _ {A B : Type 0} (R : A → B → Type 0) where

@@ -10,7 +10,7 @@ use Rattle.rx_proto.specs.declared.version.Version.{Version}
 use Rattle.rx_sink.specs.declared.flow.Flow.{Flow}
 use Rattle.rx_sink.specs.Acts.{Acts, Step, Takes, Flushes, notes_by, Makes, Took, raised}
 use Rattle.rx_sink.specs.Attachments.{Attachment, Why, TookLast, Detached, Closed, FailedAtStart, FailedAt, FailedAtFlush}
-use Rattle.rx_sink.specs.Stands.{Last}
+use Rattle.rx_sink.specs.KeptSinks.{Last}
 use Rattle.rx_sink.specs.Taken.{has_failed, lines_of, KeepsNotes, WritesLines, CountsNotes, TellsFaults}
 
 module _ {S Rest : Type 0} (acts : Acts S Rest) where

@@ -15,8 +15,8 @@ use Rattle.rx_sink.specs.declared.kept.Kept.{Kept}
 use Rattle.rx_sink.specs.declared.put_away.PutAway.{PutAway}
 use Rattle.rx_sink.specs.declared.sink.SinkFault.{SinkFault}
 use Rattle.rx_sink.specs.Acts.{Acts, Step, Takes, Flushes, notes_by, last_by, Makes, Took, raised}
-use Rattle.rx_sink.specs.Attachments.{Attachment, Why, TookLast, Detached, Closed, FailedAtStart, FailedAt, FailedAtFlush, Mark, Fine, Fault, NoMemory, Sent, Change, is_clear, is_held_back, is_last, may_wait, brought, kept_for, given, settled, answered, serving, served_yet, flushed, written, attached, detached, let_go, unchanged, with_note, with_flush, paid, request, requests, dispose, parting, without, replaced, closed}
-use Rattle.rx_sink.specs.Stands.{IsKept, Last, IsPutAway, Stand, Did, Pushes, Parts, MayPart, EndsAct, SettlesDue, TakesNote, FaultedAt, FaultedAtFlush, Flushed, addressed, tallied, events_of}
+use Rattle.rx_sink.specs.Attachments.{Attachment, Why, TookLast, Detached, Closed, FailedAtStart, FailedAt, FailedAtFlush, Mark, Fine, Fault, NoMemory, Sent, Change, is_clear, is_held_back, is_last, may_wait, brought, kept_for, notified, settled, answered, serving, served_yet, flushed, written, attached, detached, let_go, unchanged, with_note, with_flush, paid, request, requests, dispose, parting, without, replaced, closed}
+use Rattle.rx_sink.specs.KeptSinks.{IsKept, Last, IsPutAway, Stand, Did, Pushes, Parts, MayPart, EndsAct, SettlesDue, TakesNote, FaultedAt, FaultedAtFlush, Flushed, addressed, tallied, events_of}
 use Rattle.rx_sink.proofs.Apartness.{apart_but, apart_push, apart_with}
 use Rattle.rx_sink.proofs.Finding.{AllZip-more, Found, remove-set, set-same, slice_get-set}
 
@@ -266,27 +266,27 @@ module _ {S Rest : Type 0} (acts : Acts S Rest) where
       settles = due_more flow (f.one.due + 1) (f.a.due + 1) now asks (ap (λ (n : ℕ). n + 1) f.tie.due) settles;
     }
 
-    to_given : (mark : Mark) (note : Note) → f.one.over ≡ false → serving mark subject who note f.a held ≡ given mark subject who note (kept_for subject who held) held
-    to_given mark note open_yet =
-        sym (ap (λ o. given mark subject who note o held) f.found ∙ ap (λ b. served_yet b mark subject who note f.a held) (sym f.tie.over ∙ open_yet))
+    to_notified : (mark : Mark) (note : Note) → f.one.over ≡ false → serving mark subject who note f.a held ≡ notified mark subject who note (kept_for subject who held) held
+    to_notified mark note open_yet =
+        sym (ap (λ o. notified mark subject who note o held) f.found ∙ ap (λ b. served_yet b mark subject who note f.a held) (sym f.tie.over ∙ open_yet))
 
     -- the sink took it, or that was a fault
-    pub given_one : (r : Result Asks SinkFault) (n : ℕ) (note : Note) (now : Kept S) (asks : Asks) (kept_after : List (Kept S)) (away_after : List (PutAway Rest)) → f.one.over ≡ false
+    pub notified_one : (r : Result Asks SinkFault) (n : ℕ) (note : Note) (now : Kept S) (asks : Asks) (kept_after : List (Kept S)) (away_after : List (PutAway Rest)) → f.one.over ≡ false
         → MatchResult r (λ said. TakesNote acts note f.one now said) (λ _. FaultedAt acts note f.one now)
         → now.subject ≡ f.one.subject → now.who ≡ f.one.who → EndsAct acts place r (set kept place now) kept_after away away_after asks
-        → (mark : Mark) × Did acts (given mark subject who note (kept_for subject who held) held) gone kept_after away_after (map (λ event. (subject, event)) (events_of asks))
-        × ((if is_ok r then raised n else n) ≡ tallied n (given mark subject who note (kept_for subject who held) held).took)
-    given_one (Ok said) n note now asks kept_after away_after open_yet did same_subject same_who ends =
+        → (mark : Mark) × Did acts (notified mark subject who note (kept_for subject who held) held) gone kept_after away_after (map (λ event. (subject, event)) (events_of asks))
+        × ((if is_ok r then raised n else n) ≡ tallied n (notified mark subject who note (kept_for subject who held) held).took)
+    notified_one (Ok said) n note now asks kept_after away_after open_yet did same_subject same_who ends =
         let is = noted (is_last note) note did.flow now said open_yet did.took did.faultless same_subject same_who did.over did.may_wait did.settles in
-        let same = to_given (Fine did.flow) note open_yet in
+        let same = to_notified (Fine did.flow) note open_yet in
         let b = with_note (is_last note) note did.flow f.a in (
           Fine did.flow,
           subst (λ (c : Change S). Did acts c gone kept_after away_after (map (λ event. (subject, event)) (events_of asks))) same
               (answered_did did.flow b now said asks 1 kept_after away_after is ends),
           subst (λ (c : Change S). raised n ≡ tallied n c.took) same (settled_counts (b.over && is_clear did.flow) (is_held_back did.flow b.due) n subject who b held),
         )
-    given_one (Err fault) n note now asks kept_after away_after open_yet did same_subject same_who ends =
-        let same = to_given Fault note open_yet in (
+    notified_one (Err fault) n note now asks kept_after away_after open_yet did same_subject same_who ends =
+        let same = to_notified Fault note open_yet in (
           Fault,
           subst (λ (c : Change S). Did acts c gone kept_after away_after (map (λ event. (subject, event)) (events_of asks))) same
               (parted kept_after away_after now (FailedAt note) asks same_subject same_who did.due (f.one.sink, f.tie.took, did.faulted, did.rose) ends),
@@ -294,13 +294,13 @@ module _ {S Rest : Type 0} (acts : Acts S Rest) where
         )
 
     -- it took a terminal before
-    pub given_over : (n : ℕ) (note : Note) (asks : Asks) → f.one.over ≡ true → asks ≡ record { who = who; items = 0; leaves = false }
-        → Did acts (given Fault subject who note (kept_for subject who held) held) gone kept away (map (λ event. (subject, event)) (events_of asks))
-        × (n ≡ tallied n (given Fault subject who note (kept_for subject who held) held).took)
-    given_over n note asks over none =
-        let same : unchanged held ≡ given Fault subject who note (kept_for subject who held) held =
-        sym (ap (λ o. given Fault subject who note o held) f.found ∙ ap (λ b. served_yet b Fault subject who note f.a held) (sym f.tie.over ∙ over)) in (
-          subst (λ (e : Asks). Did acts (given Fault subject who note (kept_for subject who held) held) gone kept away (map (λ event. (subject, event)) (events_of e))) (sym none)
+    pub notified_over : (n : ℕ) (note : Note) (asks : Asks) → f.one.over ≡ true → asks ≡ record { who = who; items = 0; leaves = false }
+        → Did acts (notified Fault subject who note (kept_for subject who held) held) gone kept away (map (λ event. (subject, event)) (events_of asks))
+        × (n ≡ tallied n (notified Fault subject who note (kept_for subject who held) held).took)
+    notified_over n note asks over none =
+        let same : unchanged held ≡ notified Fault subject who note (kept_for subject who held) held =
+        sym (ap (λ o. notified Fault subject who note o held) f.found ∙ ap (λ b. served_yet b Fault subject who note f.a held) (sym f.tie.over ∙ over)) in (
+          subst (λ (e : Asks). Did acts (notified Fault subject who note (kept_for subject who held) held) gone kept away (map (λ event. (subject, event)) (events_of e))) (sym none)
               (subst (λ (c : Change S). Did acts c gone kept away []) same (unchanged_stands held gone kept away stand)),
           subst (λ (c : Change S). n ≡ tallied n c.took) same refl,
         )
@@ -359,13 +359,13 @@ module _ {S Rest : Type 0} (acts : Acts S Rest) where
       subst (λ (e : Asks). Did acts c gone kept away (map (λ event. (subject, event)) (events_of e))) (sym none)
       (subst (λ (d : Change S). Did acts d gone kept away []) (sym is) (unchanged_stands held gone kept away stand))
 
-  pub given_nobody : (n subject who : ℕ) (held : List (Attachment S)) (gone : List (Attachment S × Why)) (kept : List (Kept S)) (away : List (PutAway Rest)) (note : Note) (asks : Asks)
+  pub notified_nobody : (n subject who : ℕ) (held : List (Attachment S)) (gone : List (Attachment S × Why)) (kept : List (Kept S)) (away : List (PutAway Rest)) (note : Note) (asks : Asks)
       → Stand acts held gone kept away → kept_for subject who held ≡ None → asks ≡ record { who = who; items = 0; leaves = false }
-      → Did acts (given Fault subject who note (kept_for subject who held) held) gone kept away (map (λ event. (subject, event)) (events_of asks))
-      × (n ≡ tallied n (given Fault subject who note (kept_for subject who held) held).took)
-  given_nobody n subject who held gone kept away note asks stand none empty = (
-    nothing_there held gone kept away subject who asks _ stand empty (ap (λ o. given Fault subject who note o held) none),
-    sym (ap (λ o. tallied n (given Fault subject who note o held).took) none),
+      → Did acts (notified Fault subject who note (kept_for subject who held) held) gone kept away (map (λ event. (subject, event)) (events_of asks))
+      × (n ≡ tallied n (notified Fault subject who note (kept_for subject who held) held).took)
+  notified_nobody n subject who held gone kept away note asks stand none empty = (
+    nothing_there held gone kept away subject who asks _ stand empty (ap (λ o. notified Fault subject who note o held) none),
+    sym (ap (λ o. tallied n (notified Fault subject who note o held).took) none),
   )
 
   pub flushed_nobody : (subject who : ℕ) (held : List (Attachment S)) (gone : List (Attachment S × Why)) (kept : List (Kept S)) (away : List (PutAway Rest)) (asks : Asks)

@@ -199,9 +199,9 @@ module _ {S : Type 0} where
   served_yet false mark subject who note a kept = serving mark subject who note a kept
 
   -- a note comes for an observer: it is lost where no sink is kept for it
-  abbrev pub given : Mark → ℕ → ℕ → Note → Option (Attachment S) → List (Attachment S) → Change S
-  given mark subject who note (Some a) kept = served_yet a.over mark subject who note a kept
-  given mark subject who note None kept = unchanged kept
+  abbrev pub notified : Mark → ℕ → ℕ → Note → Option (Attachment S) → List (Attachment S) → Change S
+  notified mark subject who note (Some a) kept = served_yet a.over mark subject who note a kept
+  notified mark subject who note None kept = unchanged kept
 
   -- it is flushed: the sink wrote what it could, or that was a fault
   abbrev pub written : Mark → ℕ → ℕ → Attachment S → List (Attachment S) → Change S
@@ -252,7 +252,7 @@ module _ {S : Type 0} where
 
   -- a note comes for an observer
   abbrev pub giving : ℕ → ℕ → Note → Service S
-  giving subject who note = record { changed = λ mark held. given mark subject who note (kept_for subject who held) held; unserved = λ mark held. None }
+  giving subject who note = record { changed = λ mark held. notified mark subject who note (kept_for subject who held) held; unserved = λ mark held. None }
 
   -- the sink of an observer is flushed
   abbrev pub flushing : ℕ → ℕ → Service S

@@ -1,6 +1,6 @@
 pub mod Acts
 pub mod Attachments
-pub mod Stands
+pub mod KeptSinks
 pub mod Kinds
 pub mod Taken
 pub mod Waiting

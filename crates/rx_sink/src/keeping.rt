@@ -3,7 +3,7 @@ ghost use Rattle.std.specs.Prelude.{◌≡◌, if◌then◌else◌, ◌+◌, ◌
 ghost use Rattle.std.specs.List.{position};
 ghost use Rattle.rx_sink.specs.Acts.{raised};
 ghost use Rattle.rx_sink.specs.Attachments.{Attachment, Why, attaching, closed, detaching, flushing, giving, is_for};
-ghost use Rattle.rx_sink.specs.Stands.{EndsAct, IsKeptAt, Parts, Pushes, Stand, Tends, events_of, sinks};
+ghost use Rattle.rx_sink.specs.KeptSinks.{EndsAct, IsKeptAt, Parts, Pushes, Stand, Tends, events_of, sinks};
 
 use crate::{Asks, Kept, Places, PutAway, Sink, SinkFault};
 use rx_heap::Heap;

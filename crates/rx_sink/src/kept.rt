@@ -1,6 +1,6 @@
 ghost use Rattle.std.specs.Prelude.{◌≡◌, ◌+◌, ◌≤◌, ◌^◌, if◌then◌else◌, true, false, MatchResult};
 ghost use Rattle.rx_sink.specs.Attachments.{is_clear, is_held_back, is_last};
-ghost use Rattle.rx_sink.specs.Stands.{FaultedAt, FaultedAtFlush, Flushed, SettlesDue, TakesNote};
+ghost use Rattle.rx_sink.specs.KeptSinks.{FaultedAt, FaultedAtFlush, Flushed, SettlesDue, TakesNote};
 
 use crate::{Asks, Flow, Sink, SinkFault};
 use rx_note::Note;

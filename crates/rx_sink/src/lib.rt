@@ -8,7 +8,7 @@
 //!
 //! The crate above rests on those functions ([`attach`], [`give`], [`flush_one`], [`detach`], [`put_all_away`]): each does to
 //! the lists what the rules of one attachment say (`specs/Attachments.antt`), whatever kind of sink it is. `specs/Acts.antt`
-//! has the words in which a kind of sink tells what its calls do, `specs/Stands.antt` what the lists stand for. [`laws`] says
+//! has the words in which a kind of sink tells what its calls do, `specs/KeptSinks.antt` what the lists stand for. [`laws`] says
 //! what the sinks of this crate have taken, and that nothing waits in them.
 #![tactic(auto)]
 

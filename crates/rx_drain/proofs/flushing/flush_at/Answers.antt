@@ -1,6 +1,6 @@
 use Rattle.std.proofs.Common.{◌∙◌, sym, refl, ap, ◌++◌, length, map, Some, arith}
 use Rattle.std.proofs.lemmas.Option.{slice_get-get_or}
-use Rattle.rx_sink.specs.Stands.{events_of}
+use Rattle.rx_sink.specs.KeptSinks.{events_of}
 use Rattle.rx_drain.proofs.Standing.{same_sent, of_sent, stands_flushed}
 use Rattle.rx_drain.proofs.flushing.flush_at.Goals as goal
 

@@ -1,6 +1,6 @@
 use Rattle.std.proofs.Common.{◌≡◌, ◌==◌, false, refl, length, length-append, map, ◌++◌, None, eq-eqb, arith}
 use Rattle.std.proofs.lemmas.Bool.{ne_eqb}
-use Rattle.rx_sink.specs.Stands.{events_of}
+use Rattle.rx_sink.specs.KeptSinks.{events_of}
 use Rattle.rx_drain.proofs.Standing.{same_sent, of_sent, stands_served, stands_idle_left, stands_idle_leave, handles_body, handles_next}
 use Rattle.rx_drain.specs.Drainers.{view_of}
 use Rattle.rx_sink.specs.declared.flow.Flow.TheVariants.{Clear}

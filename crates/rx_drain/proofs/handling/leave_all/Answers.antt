@@ -4,7 +4,7 @@ use Rattle.rx_mailbox.specs.Boxes.{Outgoing}
 use Rattle.rx_pump.specs.Sends.{with_bye, EndsSome}
 use Rattle.rx_pump.proofs.Pumping.{AreSame-length}
 use Rattle.rx_sink.specs.declared.kept.Kept.{Kept}
-use Rattle.rx_sink.specs.Stands.{addressed}
+use Rattle.rx_sink.specs.KeptSinks.{addressed}
 use Rattle.rx_drain.specs.Calls.{SendsEvents, partings_of}
 use Rattle.rx_drain.specs.Logs.{sent_in}
 use Rattle.rx_drain.proofs.Events.{sent_none}

@@ -1,5 +1,5 @@
 use Rattle.std.proofs.Common.{◌∙◌, sym, subst, ℕ, true, map, arith}
-use Rattle.rx_sink.specs.Stands.{events_of}
+use Rattle.rx_sink.specs.KeptSinks.{events_of}
 use Rattle.rx_drain.specs.Calls.{SendsEvents}
 use Rattle.rx_drain.proofs.Events.{disposed_more, disposed_some, disposed_all}
 use Rattle.rx_drain.proofs.sending.part_all.Goals as goal

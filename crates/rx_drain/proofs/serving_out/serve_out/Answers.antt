@@ -1,6 +1,6 @@
 use Rattle.std.proofs.Common.{sym, subst, None}
 use Rattle.rx_pump.specs.declared.out.Out.{Out}
-use Rattle.rx_sink.specs.Stands.{Tends, events_of, sinks}
+use Rattle.rx_sink.specs.KeptSinks.{Tends, events_of, sinks}
 use Rattle.rx_drain.specs.Logs.{service_of}
 use Rattle.rx_drain.proofs.serving_out.serve_out.Goals as goal
 

@@ -5,9 +5,9 @@ use Rattle.std.specs.List.{All}
 use Rattle.std.specs.Vec.Iter.{into_iter_items}
 use Rattle.rx_mailbox.specs.Boxes.{Incoming}
 use Rattle.rx_drain.specs.declared.drain_end.DrainEnd.{DrainEnd}
-use Rattle.rx_settling.specs.Parts.{HasRoom, LacksInbox, dealt, dealt_each, given, placed}
-use Rattle.rx_settling.proofs.Gathered.{dealt_each-count, dealt_each-more, given-count, given-more}
-use Rattle.rx_settling.proofs.Room.{dealt-room, given-lacks, not-full}
+use Rattle.rx_settling.specs.Parts.{HasRoom, LacksInbox, dealt, dealt_each, with_inboxes, placed}
+use Rattle.rx_settling.proofs.Gathered.{dealt_each-count, dealt_each-more, with_inboxes-count, with_inboxes-more}
+use Rattle.rx_settling.proofs.Room.{dealt-room, with_inboxes-lacks, not-full}
 use Rattle.rx_server.proofs.Returning.{All-here}
 use Rattle.rx_server.proofs.returned.return_drainers.Goals as goal
 
@@ -18,7 +18,7 @@ put_inbox-requires g c =
     let listed = ap length before.listed ∙ length-map c.loop-end.yielded (λ end. end.put_away.items) in
     let all = ap length before.ends in
     let parts = length-append c.loop-end.yielded (into_iter_items c.loop-end.end-iterator) in
-    let drainers = ap length before.inboxes ∙ given-count (map (λ end. end.inbox) c.loop-end.yielded) c.args.drainers.now.items in
+    let drainers = ap length before.inboxes ∙ with_inboxes-count (map (λ end. end.inbox) c.loop-end.yielded) c.args.drainers.now.items in
     omega (arith, lists, listed, all, parts, drainers, c.requires.count, c.len-place.ensures, c.loop-end.lists.ok, ap length c.in-Some.ensures.steps.0)
 
 pub deal-requires : goal.deal-requires
@@ -41,7 +41,7 @@ unreachable-requires g c =
     c.in_default.ensures.twice
     (subst (λ n. LacksInbox n c.loop-end.drainers.items) (sym place)
     (subst (LacksInbox (length (map inbox_of c.loop-end.yielded))) (sym before.inboxes)
-    (given-lacks (map inbox_of c.loop-end.yielded) c.args.drainers.now.items c.requires.inboxes)))
+    (with_inboxes-lacks (map inbox_of c.loop-end.yielded) c.args.drainers.now.items c.requires.inboxes)))
 
 pub unreachable-requires-in_default-deal : goal.unreachable-requires-in_default-deal
 unreachable-requires-in_default-deal g c =
@@ -70,8 +70,8 @@ loop-end-preserved g c =
       inboxes =
           c.in-Ok.ensures.put ∙ ap (λ n. placed n c.in-Some.end.inbox c.loop-end.drainers.items) place
           ∙ ap (placed (length (map (λ (end : DrainEnd _ _). end.inbox) c.loop-end.yielded)) c.in-Some.end.inbox) before.inboxes
-          ∙ given-more (map (λ (end : DrainEnd _ _). end.inbox) c.loop-end.yielded) c.in-Some.end.inbox c.args.drainers.now.items
-          ∙ ap (λ (l : List (Incoming _)). given l c.args.drainers.now.items) (sym (map_push (λ (end : DrainEnd _ _). end.inbox) c.loop-end.yielded c.in-Some.end));
+          ∙ with_inboxes-more (map (λ (end : DrainEnd _ _). end.inbox) c.loop-end.yielded) c.in-Some.end.inbox c.args.drainers.now.items
+          ∙ ap (λ (l : List (Incoming _)). with_inboxes l c.args.drainers.now.items) (sym (map_push (λ (end : DrainEnd _ _). end.inbox) c.loop-end.yielded c.in-Some.end));
       ports_fit =
           let n = length (into_iter_items c.next.new.self) in
           subst (All (HasRoom n)) (sym c.in-Ok-deal.ensures)

@@ -4,9 +4,9 @@ use Rattle.std.specs.List.{All}
 use Rattle.std.specs.Vec.Iter.{into_iter_items}
 use Rattle.rx_mailbox.specs.Boxes.{Incoming}
 use Rattle.rx_pump.specs.declared.pump_end.PumpEnd.{PumpEnd}
-use Rattle.rx_settling.specs.Parts.{HasRoom, LacksInbox, dealt, dealt_each, given, placed}
-use Rattle.rx_settling.proofs.Gathered.{dealt_each-count, dealt_each-more, given-count, given-more}
-use Rattle.rx_settling.proofs.Room.{dealt-room, given-lacks, not-full}
+use Rattle.rx_settling.specs.Parts.{HasRoom, LacksInbox, dealt, dealt_each, with_inboxes, placed}
+use Rattle.rx_settling.proofs.Gathered.{dealt_each-count, dealt_each-more, with_inboxes-count, with_inboxes-more}
+use Rattle.rx_settling.proofs.Room.{dealt-room, with_inboxes-lacks, not-full}
 use Rattle.rx_server.specs.declared.report.SubjectReport.{SubjectReport}
 use Rattle.rx_server.specs.Servers.{report_of}
 use Rattle.rx_server.proofs.Returning.{All-here}
@@ -18,7 +18,7 @@ put_inbox-requires g c =
     let place = ap length before.listed ∙ length-map c.loop-end.yielded report_of in
     let all = ap length before.ends in
     let parts = length-append c.loop-end.yielded (into_iter_items c.loop-end.end-iterator) in
-    let subjects = ap length before.inboxes ∙ given-count (map (λ end. end.inbox) c.loop-end.yielded) c.args.subjects.now.items in
+    let subjects = ap length before.inboxes ∙ with_inboxes-count (map (λ end. end.inbox) c.loop-end.yielded) c.args.subjects.now.items in
     omega (arith, place, all, parts, subjects, c.requires.count, c.len-place.ensures, c.loop-end.reports.ok, ap length c.in-Some.ensures.steps.0)
 
 pub deal-requires : goal.deal-requires
@@ -48,7 +48,7 @@ unreachable-requires g c =
     c.in_default.ensures.twice
     (subst (λ n. LacksInbox n c.loop-end.subjects.items) (sym place)
     (subst (LacksInbox (length (map inbox_of c.loop-end.yielded))) (sym before.inboxes)
-    (given-lacks (map inbox_of c.loop-end.yielded) c.args.subjects.now.items c.requires.inboxes)))
+    (with_inboxes-lacks (map inbox_of c.loop-end.yielded) c.args.subjects.now.items c.requires.inboxes)))
 
 pub unreachable-requires-in_default-deal : goal.unreachable-requires-in_default-deal
 unreachable-requires-in_default-deal g c =
@@ -83,8 +83,8 @@ loop-end-preserved g c =
       inboxes =
           c.in-Ok.ensures.put ∙ ap (λ n. placed n c.in-Some.end.inbox c.loop-end.subjects.items) place
           ∙ ap (placed (length (map inbox_of c.loop-end.yielded)) c.in-Some.end.inbox) before.inboxes
-          ∙ given-more (map inbox_of c.loop-end.yielded) c.in-Some.end.inbox c.args.subjects.now.items
-          ∙ ap (λ (l : List (Incoming _)). given l c.args.subjects.now.items) (sym (map_push inbox_of c.loop-end.yielded c.in-Some.end));
+          ∙ with_inboxes-more (map inbox_of c.loop-end.yielded) c.in-Some.end.inbox c.args.subjects.now.items
+          ∙ ap (λ (l : List (Incoming _)). with_inboxes l c.args.subjects.now.items) (sym (map_push inbox_of c.loop-end.yielded c.in-Some.end));
       outs =
           c.in-Ok-deal.ensures ∙ ap (dealt c.in-Some.end.drainers.items) before.outs
           ∙ sym (dealt_each-more (map outs_of c.loop-end.yielded) c.in-Some.end.drainers.items c.args.drainers.now.items)

@@ -1,7 +1,7 @@
 use Rattle.std.proofs.Common.{◌≡◌, ◌++◌, ◌+◌, ◌≤◌, length, map, vec_len, vec_capacity}
 use Rattle.std.specs.List.{All}
 use Rattle.std.specs.Vec.Iter.{into_iter_items}
-use Rattle.rx_settling.specs.Parts.{HasRoom, dealt_each, given}
+use Rattle.rx_settling.specs.Parts.{HasRoom, dealt_each, with_inboxes}
 use Rattle.rx_server.specs.Servers.{report_of}
 use Rattle.rx_server.proofs.returned.return_pumps.Given as goal
 
@@ -11,7 +11,7 @@ invariant-loop-end g l = record {
   ends : l.yielded ++ into_iter_items l.end-iterator ≡ l.fn.ends.items;
   listed : l.reports.items ≡ map report_of l.yielded;
   room : vec_len l.reports + length (into_iter_items l.end-iterator) ≤ vec_capacity l.reports;
-  inboxes : l.subjects.items ≡ given (map (λ end. end.inbox) l.yielded) l.initial.subjects.items;
+  inboxes : l.subjects.items ≡ with_inboxes (map (λ end. end.inbox) l.yielded) l.initial.subjects.items;
   outs : l.drainers.items ≡ dealt_each (map (λ end. end.drainers.items) l.yielded) l.initial.drainers.items;
   drainers_fit : All (HasRoom (length (into_iter_items l.end-iterator))) l.drainers.items;
   replies_fit : All (HasRoom (length (into_iter_items l.end-iterator))) l.replies.items;

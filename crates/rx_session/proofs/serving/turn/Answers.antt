@@ -9,7 +9,7 @@ use Rattle.rx_session.specs.Steps.{IsTold}
 use Rattle.rx_session.specs.Turns.{Carries}
 use Rattle.rx_session.specs.declared.input_end.InputEnd.TheVariants as inputs
 use Rattle.rx_session.specs.declared.step.Step.TheVariants.{Line, Long, EndOfInput, ReadFault, TooManyReads}
-use Rattle.rx_session.proofs.Answering.{asks, long_read, refused, spelled, steps_by, taken}
+use Rattle.rx_session.proofs.Answering.{asked_by-read, long_read, refused, spelled, steps_by, taken}
 use Rattle.rx_session.proofs.Stepping.{told-is_line}
 use Rattle.rx_session.proofs.serving.turn.Goals as goal
 
@@ -35,7 +35,7 @@ returns-in-Line g c =
       takes = taken _ _ _ _ (λ line. IsTold line c.in-Line.len c.advance.new.self.window) _
           (λ line told at is.
           subst (λ (reading : Result Command BadLine). says reading at)
-          (sym (asks c.read_line_without_lf-read.result c.line.result.now c.read_line_without_lf-read.ensures) ∙ ap session_read (c.line.ensures ∙ told.bytes))
+          (sym (asked_by-read c.read_line_without_lf-read.result c.line.result.now c.read_line_without_lf-read.ensures) ∙ ap session_read (c.line.ensures ∙ told.bytes))
           (c.carry_out.ensures at is))
           steps.0;
       goes_on = steps.1;

@@ -4,7 +4,7 @@ use Rattle.rx_sink.specs.declared.flow.Flow.TheVariants.{Clear}
 use Rattle.rx_sink.specs.declared.kept.Kept.{Kept}
 use Rattle.rx_sink.specs.declared.put_away.PutAway.{PutAway}
 use Rattle.rx_sink.specs.Attachments.{Fine, Fault, NoMemory, is_for, attached, brought, kept_for, unserved}
-use Rattle.rx_sink.specs.Stands.{IsKeptAt, tallied}
+use Rattle.rx_sink.specs.KeptSinks.{IsKeptAt, tallied}
 use Rattle.rx_sink.proofs.Counts.{took_attached}
 use Rattle.rx_sink.proofs.Finding.{located, missing}
 use Rattle.rx_sink.proofs.Tending.{attached_beside, attached_fine, attached_fault, attached_nowhere, said_so}

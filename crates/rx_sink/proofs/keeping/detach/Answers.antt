@@ -2,7 +2,7 @@ use Rattle.std.proofs.Common.{◌∙◌, sym, refl, ap, subst}
 use Rattle.std.specs.List.{position}
 use Rattle.rx_sink.specs.declared.kept.Kept.{Kept}
 use Rattle.rx_sink.specs.Attachments.{Fault, is_for, kept_for}
-use Rattle.rx_sink.specs.Stands.{IsKeptAt, Parts, tallied}
+use Rattle.rx_sink.specs.KeptSinks.{IsKeptAt, Parts, tallied}
 use Rattle.rx_sink.proofs.Counts.{missed_detached, took_detached}
 use Rattle.rx_sink.proofs.Finding.{located, missing}
 use Rattle.rx_sink.proofs.Tending.{detached_one, detached_nobody, same_one}

@@ -2,7 +2,7 @@ use Rattle.std.proofs.Common.{◌∙◌, sym, refl, ap, subst, MatchResult}
 use Rattle.std.specs.List.{position}
 use Rattle.rx_sink.specs.declared.kept.Kept.{Kept}
 use Rattle.rx_sink.specs.Attachments.{is_for, kept_for}
-use Rattle.rx_sink.specs.Stands.{IsKeptAt, FaultedAtFlush, Flushed, tallied}
+use Rattle.rx_sink.specs.KeptSinks.{IsKeptAt, FaultedAtFlush, Flushed, tallied}
 use Rattle.rx_sink.proofs.Counts.{missed_flushed, took_flushed}
 use Rattle.rx_sink.proofs.Finding.{located, missing}
 use Rattle.rx_sink.proofs.Tending.{flushed_one, flushed_nobody, same_one}

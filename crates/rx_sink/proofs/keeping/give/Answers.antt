@@ -3,20 +3,20 @@ use Rattle.std.specs.List.{position}
 use Rattle.rx_sink.specs.declared.kept.Kept.{Kept}
 use Rattle.rx_sink.specs.Acts.{raised}
 use Rattle.rx_sink.specs.Attachments.{Fault, is_for, kept_for}
-use Rattle.rx_sink.specs.Stands.{IsKeptAt, TakesNote, FaultedAt, tallied}
-use Rattle.rx_sink.proofs.Counts.{missed_given}
+use Rattle.rx_sink.specs.KeptSinks.{IsKeptAt, TakesNote, FaultedAt, tallied}
+use Rattle.rx_sink.proofs.Counts.{missed_notified}
 use Rattle.rx_sink.proofs.Finding.{located, missing}
-use Rattle.rx_sink.proofs.Tending.{given_one, given_over, given_nobody, same_one}
+use Rattle.rx_sink.proofs.Tending.{notified_one, notified_over, notified_nobody, same_one}
 use Rattle.rx_sink.proofs.keeping.give.Goals as goal
 
 pub returns-in_default-clause-gives : goal.returns-in_default-clause-gives
 returns-in_default-clause-gives g c = λ misses held gone stand.
     let none = ap (position (is_for c.args.subject c.args.who)) (sym c.as_slice.ensures.value) ∙ c.find.ensures.none c.in_default.is in
-    let did = given_nobody g.S.Sink.acts c.args.taken.now c.args.subject c.args.who held gone c.args.kept.now.items c.args.away.now.items c.args.note c.nothing.result
+    let did = notified_nobody g.S.Sink.acts c.args.taken.now c.args.subject c.args.who held gone c.args.kept.now.items c.args.away.now.items c.args.note c.nothing.result
     stand (missing g.S.Sink.acts c.args.subject c.args.who held c.args.kept.now.items stand.kept_are none) c.nothing.ensures in (
       Fault,
       did.0,
-      sym (ap (tallied misses) (missed_given Fault c.args.subject c.args.who c.args.note (kept_for c.args.subject c.args.who held) held)),
+      sym (ap (tallied misses) (missed_notified Fault c.args.subject c.args.who c.args.note (kept_for c.args.subject c.args.who held) held)),
       did.1,
       refl,
     )
@@ -26,11 +26,11 @@ returns-then-index-clause-gives g c = λ misses held gone stand.
     let here = subst (IsKeptAt c.args.subject c.args.who c.in-Some.place) c.as_slice.ensures.value c.in-Some.ensures.found in
     let f = located g.S.Sink.acts c.args.subject c.args.who held c.args.kept.now.items c.in-Some.place here.0 stand.kept_are stand.apart here.1 here.2 in
     let same = same_one c.args.kept.now.items c.in-Some.place f.one c.index.result.now f.at c.index.ensures in
-    let did = given_over g.S.Sink.acts c.args.subject c.args.who c.in-Some.place held gone c.args.kept.now.items c.args.away.now.items stand f c.args.taken.now c.args.note c.nothing-then-index.result
+    let did = notified_over g.S.Sink.acts c.args.subject c.args.who c.in-Some.place held gone c.args.kept.now.items c.args.away.now.items stand f c.args.taken.now c.args.note c.nothing-then-index.result
     (ap (λ (k : Kept _). k.over) same ∙ c.if-index.true) c.nothing-then-index.ensures in (
       Fault,
       did.0,
-      sym (ap (tallied misses) (missed_given Fault c.args.subject c.args.who c.args.note (kept_for c.args.subject c.args.who held) held)),
+      sym (ap (tallied misses) (missed_notified Fault c.args.subject c.args.who c.args.note (kept_for c.args.subject c.args.who held) held)),
       did.1,
       refl,
     )
@@ -41,7 +41,7 @@ returns-clause-gives g c = λ misses held gone stand.
     let f = located g.S.Sink.acts c.args.subject c.args.who held c.args.kept.now.items c.in-Some.place here.0 stand.kept_are stand.apart here.1 here.2 in
     let read = same_one c.args.kept.now.items c.in-Some.place f.one c.index.result.now f.at c.index.ensures in
     let same = same_one c.args.kept.now.items c.in-Some.place f.one c.index_mut.result.now f.at c.index_mut.ensures.value in
-    let did = given_one g.S.Sink.acts c.args.subject c.args.who c.in-Some.place held gone c.args.kept.now.items c.args.away.now.items stand f
+    let did = notified_one g.S.Sink.acts c.args.subject c.args.who c.in-Some.place held gone c.args.kept.now.items c.args.away.now.items stand f
     c.take-took.result c.args.taken.now c.args.note c.take-took.new.self c.end_act.result c.end_act.new.kept.items c.end_act.new.away.items
     (ap (λ (k : Kept _). k.over) read ∙ c.if-index.false)
     (subst (λ (k : Kept _). MatchResult c.take-took.result (λ said. TakesNote g.S.Sink.acts c.args.note k c.take-took.new.self said) (λ _. FaultedAt g.S.Sink.acts c.args.note k c.take-took.new.self))
@@ -50,7 +50,7 @@ returns-clause-gives g c = λ misses held gone stand.
     c.end_act.ensures.ends in (
       did.0,
       did.1,
-      sym (ap (tallied misses) (missed_given did.0 c.args.subject c.args.who c.args.note (kept_for c.args.subject c.args.who held) held)),
+      sym (ap (tallied misses) (missed_notified did.0 c.args.subject c.args.who c.args.note (kept_for c.args.subject c.args.who held) held)),
       c.tallied.ensures ∙ ap (λ b. if b then raised c.args.taken.now else c.args.taken.now) c.is_ok.ensures.value ∙ did.2,
       refl,
     )

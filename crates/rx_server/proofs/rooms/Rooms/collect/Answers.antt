@@ -7,9 +7,9 @@ use Rattle.std.specs.List.{All, FoldsTo}
 use Rattle.rx_pump.specs.declared.ended_desk.EndedDesk.{EndedDesk}
 use Rattle.rx_pump.specs.declared.pump_end.PumpEnd.{PumpEnd}
 use Rattle.rx_drain.specs.declared.drain_end.DrainEnd.{DrainEnd}
-use Rattle.rx_settling.specs.Parts.{HasRoom, IsEmpty, LacksInbox, PartsView, dealt, dealt_each, given, missing}
-use Rattle.rx_settling.proofs.Gathered.{dealt_each-count, given-count}
-use Rattle.rx_settling.proofs.Room.{dealt_each-lacks, dealt_each-missing, dealt_each-none, dealt_each-room, empty-lacks, empty-missing, empty-room, given-room, not-full}
+use Rattle.rx_settling.specs.Parts.{HasRoom, IsEmpty, LacksInbox, PartsView, dealt, dealt_each, with_inboxes, missing}
+use Rattle.rx_settling.proofs.Gathered.{dealt_each-count, with_inboxes-count}
+use Rattle.rx_settling.proofs.Room.{dealt_each-lacks, dealt_each-missing, dealt_each-none, dealt_each-room, empty-lacks, empty-missing, empty-room, with_inboxes-room, not-full}
 use Rattle.rx_server.specs.Leaving.{AreRow, HasItsBoxes}
 use Rattle.rx_server.specs.Returning.{ReturnsInbox, number_of}
 use Rattle.rx_server.proofs.Returning.{All-back, All-front, FoldsTo-append, again-behind, again-front, came-twice, desk-number, desk-row, returns-count}
@@ -65,7 +65,7 @@ pub return_drainers-taken-requires-clause-ports : goal.return_drainers-taken-req
 return_drainers-taken-requires-clause-ports g c =
     let w = c.requires.0 in
     let left = c.requires.1 in
-    let s1 = ap length c.return_pumps-subjects.ensures.subjects ∙ given-count (map (λ end. end.inbox) c.args.self.pumps.items) c.args.self.returned.subjects.items in
+    let s1 = ap length c.return_pumps-subjects.ensures.subjects ∙ with_inboxes-count (map (λ end. end.inbox) c.args.self.pumps.items) c.args.self.returned.subjects.items in
     let n = length c.return_pumps-subjects.new.subjects.items in
     All-weaker (λ (end : DrainEnd _ _). AreRow w.subjects end.ports.items) (λ (end : DrainEnd _ _). length end.ports.items ≡ n)
     (λ end are. row-count w.subjects end.ports.items n (sym (s1 ∙ left.nothing_came.subject_count)) are) c.args.self.drainers.items left.to_subjects
@@ -83,17 +83,17 @@ return_drainers-taken-requires-clause-ports_fit g c =
     let left = c.requires.1 in
     let ends = ends-count w.drainers (λ end. end.inbox.box) c.args.self.drainers.items left.drainers in
     let inboxes = map (λ end. end.inbox) c.args.self.pumps.items in
-    let room = given-room (length w.replies + length w.drainers) inboxes c.args.self.returned.subjects.items
+    let room = with_inboxes-room (length w.replies + length w.drainers) inboxes c.args.self.returned.subjects.items
     (empty-room (length w.replies + length w.drainers) c.args.self.returned.subjects.items left.nothing_came.subjects_empty) in
     subst (All (HasRoom (length c.args.self.drainers.items))) (sym c.return_pumps-subjects.ensures.subjects)
-    (All-weaker (HasRoom (length w.replies + length w.drainers)) (HasRoom (length c.args.self.drainers.items)) (λ parts has. omega (arith, has, ends)) (given inboxes c.args.self.returned.subjects.items) room)
+    (All-weaker (HasRoom (length w.replies + length w.drainers)) (HasRoom (length c.args.self.drainers.items)) (λ parts has. omega (arith, has, ends)) (with_inboxes inboxes c.args.self.returned.subjects.items) room)
 
 pub deal-requires : goal.deal-requires
 deal-requires g c =
     let w = c.requires.0 in
     let left = c.requires.1 in
     let d1 = ap length c.return_pumps-subjects.ensures.drainers ∙ dealt_each-count (map (λ end. end.drainers.items) c.args.self.pumps.items) c.args.self.returned.drainers.items in
-    let d2 = ap length c.return_drainers-taken.ensures.drainers ∙ given-count (map (λ end. end.inbox) c.args.self.drainers.items) c.return_pumps-subjects.new.drainers.items ∙ d1 in
+    let d2 = ap length c.return_drainers-taken.ensures.drainers ∙ with_inboxes-count (map (λ end. end.inbox) c.args.self.drainers.items) c.return_pumps-subjects.new.drainers.items ∙ d1 in
     row-count w.drainers c.args.self.leaves.items (length c.return_drainers-taken.new.drainers.items) (sym (d2 ∙ left.nothing_came.drainer_count)) left.leaves
 
 -- there is room for the ports that tell the drainers to leave
@@ -108,15 +108,15 @@ unreachable-requires g c =
     let room = dealt_each-room 1 rows start
     (All-weaker (HasRoom (length w.subjects + 1)) (HasRoom (length rows + 1)) (λ parts has. omega (arith, has, ends)) start
     (empty-room (length w.subjects + 1) start left.nothing_came.drainers_empty)) in
-    let all = subst (All (HasRoom 1)) (sym (c.return_drainers-taken.ensures.drainers ∙ ap (given inboxes) c.return_pumps-subjects.ensures.drainers))
-    (given-room 1 inboxes (dealt_each rows start) room) in
+    let all = subst (All (HasRoom 1)) (sym (c.return_drainers-taken.ensures.drainers ∙ ap (with_inboxes inboxes) c.return_pumps-subjects.ensures.drainers))
+    (with_inboxes-room 1 inboxes (dealt_each rows start) room) in
     not-full 0 _ c.return_drainers-taken.new.drainers.items all c.in_default.ensures
 
 pub return_desks-requires-clause-ports : goal.return_desks-requires-clause-ports
 return_desks-requires-clause-ports g c =
     let w = c.requires.0 in
     let left = c.requires.1 in
-    let s1 = ap length c.return_pumps-subjects.ensures.subjects ∙ given-count (map (λ end. end.inbox) c.args.self.pumps.items) c.args.self.returned.subjects.items in
+    let s1 = ap length c.return_pumps-subjects.ensures.subjects ∙ with_inboxes-count (map (λ end. end.inbox) c.args.self.pumps.items) c.args.self.returned.subjects.items in
     let s2 = ap length c.return_drainers-taken.ensures.subjects ∙ dealt_each-count (map (λ end. end.ports.items) c.args.self.drainers.items) c.return_pumps-subjects.new.subjects.items ∙ s1 in
     let n = length c.return_drainers-taken.new.subjects.items in
     All-weaker (HasItsBoxes w) (λ (desk : EndedDesk _). length desk.ports.items ≡ n)
@@ -144,11 +144,11 @@ return_desks-requires-clause-room g c =
     ap missing c.return_pumps-subjects.ensures.replies
     ∙ dealt_each-missing (map (λ end. end.replies.items) c.args.self.pumps.items) c.args.self.returned.replies.items
     ∙ empty-missing (length w.subjects) c.args.self.returned.replies.items left.nothing_came.replies_empty ∙ left.nothing_came.reply_count in
-    let given_room = given-room (length rows + n) inboxes start
+    let with_inboxes_room = with_inboxes-room (length rows + n) inboxes start
     (All-weaker (HasRoom (length w.replies + length w.drainers)) (HasRoom (length rows + n)) (λ parts has. omega (arith, has, ends, count)) start
     (empty-room (length w.replies + length w.drainers) start left.nothing_came.subjects_empty)) in
     subst (All (HasRoom n)) (sym (c.return_drainers-taken.ensures.subjects ∙ ap (dealt_each rows) c.return_pumps-subjects.ensures.subjects))
-    (dealt_each-room n rows (given inboxes start) given_room)
+    (dealt_each-room n rows (with_inboxes inboxes start) with_inboxes_room)
 
 -- a desk came back twice
 pub returns-in_err-return_desks-clause-twice : goal.returns-in_err-return_desks-clause-twice
@@ -168,7 +168,7 @@ pub return_desks-requires-2-clause-ports : goal.return_desks-requires-2-clause-p
 return_desks-requires-2-clause-ports g c =
     let w = c.requires.0 in
     let left = c.requires.1 in
-    let s1 = ap length c.return_pumps-subjects.ensures.subjects ∙ given-count (map (λ end. end.inbox) c.args.self.pumps.items) c.args.self.returned.subjects.items in
+    let s1 = ap length c.return_pumps-subjects.ensures.subjects ∙ with_inboxes-count (map (λ end. end.inbox) c.args.self.pumps.items) c.args.self.returned.subjects.items in
     let s2 = ap length c.return_drainers-taken.ensures.subjects ∙ dealt_each-count (map (λ end. end.ports.items) c.args.self.drainers.items) c.return_pumps-subjects.new.subjects.items ∙ s1 in
     let s3 = ap length c.in_ok-return_desks.ensures.returned.ports ∙ dealt_each-count (map (λ desk. desk.ports.items) c.args.ended.items) c.return_drainers-taken.new.subjects.items ∙ s2 in
     let n = length c.return_desks.new.subjects.items in
@@ -211,7 +211,7 @@ returns-clause-came g c =
           (c.return_drainers-taken.ensures.subjects ∙ ap (dealt_each (map (λ end. end.ports.items) c.args.self.drainers.items)) c.return_pumps-subjects.ensures.subjects);
       drainers_are =
           c.in-Ok.ensures ∙ ap (dealt c.args.self.leaves.items)
-          (c.return_drainers-taken.ensures.drainers ∙ ap (given (map (λ end. end.inbox) c.args.self.drainers.items)) c.return_pumps-subjects.ensures.drainers);
+          (c.return_drainers-taken.ensures.drainers ∙ ap (with_inboxes (map (λ end. end.inbox) c.args.self.drainers.items)) c.return_pumps-subjects.ensures.drainers);
       replies_are = FoldsTo-append _ _ c.args.ended.items c.args.self.desks.items c.return_desks.new.replies.items c.return_desks-2.new.replies.items
           (subst (λ start. FoldsTo ReturnsInbox start c.args.ended.items c.return_desks.new.replies.items) c.return_pumps-subjects.ensures.replies c.in_ok-return_desks.ensures.returned.inboxes)
           c.in_ok-return_desks-2.ensures.returned.inboxes;
