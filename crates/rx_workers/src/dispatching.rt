@@ -122,7 +122,9 @@ fn watch_all<L: Listener>(
     requires no_bell { bells.old.items ≡ [] }
     requires bells { count ≤ vec_capacity bells.old }
     ensures readiness { OnOk result (vec_len readiness.new ≡ count) }
+    ensures bells { OnOk result (vec_len bells.new ≡ count) }
     ensures fault { IfErr result (λ fault. (place : ℕ) × (fault ≡ ServeFault.Thread place) × (place < count)) }
+    ensures first { IfErr result (λ fault. fault ≡ ServeFault.Thread (vec_len readiness.new)) }
 {
     for place in 0..count {
         let Ok(watch) = listener.watch() else {
