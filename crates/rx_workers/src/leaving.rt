@@ -1,5 +1,5 @@
 // What a turn of a session leaves at its place.
-ghost use Rattle.std.specs.Prelude.{◌≡◌};
+ghost use Rattle.std.specs.Prelude.{◌≡◌, if◌then◌else◌};
 ghost use Rattle.rx_workers.specs.Working.{GoesOn, Leaves, left_by};
 
 use crate::client::{Client, Follower, Talk};
@@ -66,7 +66,9 @@ fn talks<C: Drop, W: Drop>(
 }
 
 // Has a connection told as ready again where its session has no further turn now.
-fn again<C, P: Readiness<C>>(reader: &C, pause: Pause, readiness: &mut P) -> Aim {
+fn again<C, P: Readiness<C>>(reader: &C, pause: Pause, readiness: &mut P) -> Aim
+    ensures { result ≡ (if pause.is_last then Aim.Both else pause.aim) }
+{
     if !pause.is_last {
         return pause.aim;
     }
@@ -75,7 +77,9 @@ fn again<C, P: Readiness<C>>(reader: &C, pause: Pause, readiness: &mut P) -> Aim
 }
 
 // Has a connection watched for this.
-fn watch<C, P: Readiness<C>>(reader: &C, pause: Pause, aim: Aim, readiness: &mut P) -> Aim {
+fn watch<C, P: Readiness<C>>(reader: &C, pause: Pause, aim: Aim, readiness: &mut P) -> Aim
+    ensures { result ≡ aim }
+{
     if pause.aim != aim {
         readiness.change(reader, pause.place, aim);
     }
