@@ -1,5 +1,5 @@
 // Rows of ports, one of each box, that are dealt to their boxes.
-ghost use Rattle.std.specs.Prelude.{◌≡◌, ◌<◌, length, IfOk, MatchResult, OnErr, OnOk};
+ghost use Rattle.std.specs.Prelude.{◌≡◌, ◌<◌, length, take, IfOk, MatchResult, OnErr, OnOk};
 ghost use Rattle.std.specs.List.{All};
 ghost use Rattle.rx_settling.specs.Parts.{IsEmpty, IsFullAt, LacksInbox, dealt, placed};
 
@@ -36,7 +36,7 @@ pub fn deal<B: Drop>(
     requires { length ports.items ≡ length boxes.old.items }
     ensures { MatchResult result
         (λ _. boxes.new.items ≡ dealt ports.items boxes.old.items)
-        (λ place. IsFullAt place boxes.old.items) }
+        (λ place. IsFullAt place boxes.old.items × (boxes.new.items ≡ dealt (take place ports.items) boxes.old.items)) }
 {
     let mut place = 0;
     for port in ports {

@@ -41,7 +41,7 @@ unreachable-requires g c =
     let fewer = placed-missing place c.in-Some.desk.inbox c.loop-desk.replies.items within c.in-Ok.ensures.once
     ∙ ap (λ (l : List _). suc (missing l)) (sym c.in-Ok.ensures.put) in
     not-full (missing c.put_inbox.new.boxes.items) _ c.loop-desk.subjects.items
-    (subst (λ n. All (HasRoom n) c.loop-desk.subjects.items) fewer before.room) c.in_default-deal.ensures
+    (subst (λ n. All (HasRoom n) c.loop-desk.subjects.items) fewer before.room) c.in_default-deal.ensures.0
 
 pub returns-in_default-clause-returned : goal.returns-in_default-clause-returned
 returns-in_default-clause-returned g c =

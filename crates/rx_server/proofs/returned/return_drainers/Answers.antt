@@ -47,7 +47,7 @@ pub unreachable-requires-in_default-deal : goal.unreachable-requires-in_default-
 unreachable-requires-in_default-deal g c =
     let n = length (into_iter_items c.next.new.self) in
     not-full n _ c.loop-end.subjects.items
-    (subst (λ (l : List _). All (HasRoom (length l)) c.loop-end.subjects.items) c.in-Some.ensures.steps.0 c.loop-end.invariant.ports_fit) c.in_default-deal.ensures
+    (subst (λ (l : List _). All (HasRoom (length l)) c.loop-end.subjects.items) c.in-Some.ensures.steps.0 c.loop-end.invariant.ports_fit) c.in_default-deal.ensures.0
 
 pub loop-end-preserved : goal.loop-end-preserved
 loop-end-preserved g c =

@@ -54,13 +54,13 @@ pub unreachable-requires-in_default-deal : goal.unreachable-requires-in_default-
 unreachable-requires-in_default-deal g c =
     let n = length (into_iter_items c.next.new.self) in
     not-full n _ c.loop-end.drainers.items
-    (subst (λ (l : List _). All (HasRoom (length l)) c.loop-end.drainers.items) c.in-Some.ensures.steps.0 c.loop-end.invariant.drainers_fit) c.in_default-deal.ensures
+    (subst (λ (l : List _). All (HasRoom (length l)) c.loop-end.drainers.items) c.in-Some.ensures.steps.0 c.loop-end.invariant.drainers_fit) c.in_default-deal.ensures.0
 
 pub unreachable-requires-in_default-deal-2 : goal.unreachable-requires-in_default-deal-2
 unreachable-requires-in_default-deal-2 g c =
     let n = length (into_iter_items c.next.new.self) in
     not-full n _ c.loop-end.replies.items
-    (subst (λ (l : List _). All (HasRoom (length l)) c.loop-end.replies.items) c.in-Some.ensures.steps.0 c.loop-end.invariant.replies_fit) c.in_default-deal-2.ensures
+    (subst (λ (l : List _). All (HasRoom (length l)) c.loop-end.replies.items) c.in-Some.ensures.steps.0 c.loop-end.invariant.replies_fit) c.in_default-deal-2.ensures.0
 
 pub loop-end-preserved : goal.loop-end-preserved
 loop-end-preserved g c =

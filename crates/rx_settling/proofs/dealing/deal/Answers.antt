@@ -1,6 +1,8 @@
-use Rattle.std.proofs.Common.{◌≡◌, ◌∙◌, ◌<◌, sym, ap, List, [], ◌∷◌, ◌++◌, append_assoc, get_or, length, length-append, slice_get, slice_set, subst, Some, arith}
+use Rattle.std.proofs.Common.{◌≡◌, ◌∙◌, ◌<◌, sym, ap, List, [], ◌∷◌, ◌++◌, append_assoc, get_or, length, length-append, slice_get, slice_set, subst, take, Some, arith}
+use Rattle.std.proofs.Math.Seq.{take-append_seam}
+use Rattle.std.proofs.lemmas.List.{set-get_or}
 use Rattle.std.specs.Vec.Iter.{into_iter_items}
-use Rattle.rx_settling.specs.Parts.{PartsView, dealt, with_port}
+use Rattle.rx_settling.specs.Parts.{IsFullAt, PartsView, dealt, with_port}
 use Rattle.rx_settling.proofs.Rows.{dealt-behind, dealt-count, dealt-more, parts-at}
 use Rattle.rx_settling.proofs.dealing.deal.Goals as goal
 
@@ -41,4 +43,11 @@ returns-then-not-put_port g c =
     c.index_mut.ensures.value ∙ ap (λ (l : List (PartsView _)). get_or l c.loop-port.place c.index_mut.result.now) before.boxes
     ∙ ap (λ n. get_or (dealt c.loop-port.yielded old) n c.index_mut.result.now) before.place ∙ dealt-behind c.loop-port.yielded old c.index_mut.result.now in
     let at = parts-at old (length c.loop-port.yielded) c.index_mut.result.now within is in
-    (c.index_mut.result.now, subst (λ n. slice_get old n ≡ Some c.index_mut.result.now) (sym before.place) at, c.put_port.ensures.full c.if-not-put_port.true)
+    let full : IsFullAt c.loop-port.place old = (c.index_mut.result.now, subst (λ n. slice_get old n ≡ Some c.index_mut.result.now) (sym before.place) at, c.put_port.ensures.full c.if-not-put_port.true) in
+    let first : take c.loop-port.place c.args.ports.items ≡ c.loop-port.yielded =
+    ap (take c.loop-port.place) (sym before.ports) ∙ ap (λ n. take n (c.loop-port.yielded ++ into_iter_items c.loop-port.port-iterator)) before.place
+    ∙ take-append_seam c.loop-port.yielded (into_iter_items c.loop-port.port-iterator) in (
+      full,
+      ap (λ (parts : PartsView _). slice_set c.loop-port.boxes.items c.loop-port.place parts) (c.put_port.ensures.same c.if-not-put_port.true ∙ c.index_mut.ensures.value)
+          ∙ set-get_or c.loop-port.boxes.items c.loop-port.place c.index_mut.result.now ∙ before.boxes ∙ ap (λ (l : List _). dealt l old) (sym first),
+    )

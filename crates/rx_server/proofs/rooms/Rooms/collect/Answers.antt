@@ -110,7 +110,7 @@ unreachable-requires g c =
     (empty-room (length w.subjects + 1) start left.nothing_came.drainers_empty)) in
     let all = subst (All (HasRoom 1)) (sym (c.return_drainers-taken.ensures.drainers ∙ ap (with_inboxes inboxes) c.return_pumps-subjects.ensures.drainers))
     (with_inboxes-room 1 inboxes (dealt_each rows start) room) in
-    not-full 0 _ c.return_drainers-taken.new.drainers.items all c.in_default.ensures
+    not-full 0 _ c.return_drainers-taken.new.drainers.items all c.in_default.ensures.0
 
 pub return_desks-requires-clause-ports : goal.return_desks-requires-clause-ports
 return_desks-requires-clause-ports g c =
