@@ -224,7 +224,7 @@ fn join_both<R: Host>(rt: &R, caller: &mut Caller<Meeting<R>>, come: &Arc<Atomic
     }
 }
 
-// A desk of a server joins them, and emits one item.
+// A desk of a server joins them, emits one item, and stays until both took it.
 fn emit_to_both<R: Host>(
     rt: &R,
     heap: &Heap,
@@ -236,6 +236,7 @@ fn emit_to_both<R: Host>(
     let mut caller = caller_of(rt, server);
     join_both(rt, &mut caller, come);
     expect_answer(rt, caller.emit(rt, heap, 0, b'a'), Ok(Answer::Admitted));
+    expect_that(rt, Meeting::all_come(rt, come), "both took it");
     caller.finish_alone(rt, heap)
 }
 

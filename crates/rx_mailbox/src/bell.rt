@@ -5,13 +5,16 @@ use std::sync::Wait;
 use std::sync::atomic::{AtomicU64, Ordering};
 use std::time::Duration;
 
-// How often who waits looks again, with a pause after each look, before it sleeps. A sleep and a wake cost about as much as all
-// these looks, and what is waited for mostly comes meanwhile. It lets no other thread go first: from Linux 6.18 on a thread that
-// does so falls behind all others on its core by a slice each time, and a letter then waits for milliseconds.
+// How often who waits looks again, with a pause after each look, before it sleeps. A sleep and a wake cost about as much as many
+// looks, and what is waited for mostly comes meanwhile. It lets no other thread go first: on Linux 6.18 a thread that does so falls
+// behind all others on its core by a slice each time, and a letter then waits for milliseconds.
 const LOOKS: u32 = 1_000;
 
+// How often who waits for a bounded time does. Such a one mostly wrote to a peer, who may wait for its core until it sleeps.
+const FEW_LOOKS: u32 = 200;
+
 /// How often who waits for a bounded time looks before it slept, and no more often.
-pub(crate) const LOOKS_WITHIN: u32 = LOOKS + 2;
+pub(crate) const LOOKS_WITHIN: u32 = FEW_LOOKS + 2;
 
 const AWAKE: u64 = 0;
 
@@ -55,18 +58,31 @@ impl Bell {
         looks + 1
     }
 
-    /// Waits as `wait` does, but sleeps no longer than about so long.
+    /// Waits as `wait` does, but looks less often before it sleeps, and sleeps no longer than about so long.
     pub(crate) fn wait_within<R: Wait>(&self, rt: &R, looks: u32, most: Duration) -> u32 {
-        if looks <= LOOKS {
-            return self.wait(rt, looks);
+        if looks < FEW_LOOKS {
+            hint::spin_loop();
+        } else if looks == FEW_LOOKS {
+            self.state.store(ASLEEP, Ordering::SeqCst);
+        } else {
+            self.state.park_timeout(rt, ASLEEP as u32, most);
+            return LOOKS_WITHIN;
         }
-        self.state.park_timeout(rt, ASLEEP as u32, most);
-        LOOKS_WITHIN
+        looks + 1
     }
 
-    /// Ends a wait of so many looks, of the only one who waits here.
+    /// Ends a wait by `wait` of so many looks, of the only one who waits here.
     pub(crate) fn rise(&self, looks: u32) {
-        if looks > LOOKS {
+        self.rise_after(looks, LOOKS);
+    }
+
+    /// Ends such a wait by `wait_within`.
+    pub(crate) fn rise_within(&self, looks: u32) {
+        self.rise_after(looks, FEW_LOOKS);
+    }
+
+    fn rise_after(&self, looks: u32, most: u32) {
+        if looks > most {
             self.state.store(AWAKE, Ordering::SeqCst);
         }
     }

@@ -119,7 +119,7 @@ impl<B: Drop> Inbox<B> {
         for _ in 0..LOOKS_WITHIN {
             match self.look(rt) {
                 Ok(letter) => {
-                    self.inlet.bell().rise(looks);
+                    self.inlet.bell().rise_within(looks);
                     return Ok(letter);
                 }
                 Err(TryRecvFault::Gone) => return Err(TryRecvFault::Gone),
@@ -127,7 +127,7 @@ impl<B: Drop> Inbox<B> {
             }
             looks = self.inlet.bell().wait_within(rt, looks, most);
         }
-        self.inlet.bell().rise(looks);
+        self.inlet.bell().rise_within(looks);
         self.look(rt)
     }
 

@@ -36,11 +36,17 @@ impl<C: Clock + Clone + Drop> Meeting<C> {
 impl<C: Clock + Drop> Meeting<C> {
     fn meets(&self) -> bool {
         self.come.fetch_add(1, Ordering::SeqCst);
+        Meeting::all_come(&self.clock, &self.come)
+    }
+
+    /// Waits until all have come, by this clock and this count, or for some ten seconds, and says whether they have. A server
+    /// that is closed before may put their sinks away first.
+    pub fn all_come(clock: &C, come: &Arc<AtomicU64, Global>) -> bool {
         for _ in 0..LOOKS {
-            if self.come.load(Ordering::SeqCst) >= SINKS {
+            if come.load(Ordering::SeqCst) >= SINKS {
                 return true;
             }
-            thread::sleep(&self.clock, Duration::from_millis(1));
+            thread::sleep(clock, Duration::from_millis(1));
         }
         false
     }
