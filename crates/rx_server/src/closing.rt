@@ -18,13 +18,19 @@ use rx_heap::Heap;
 use rx_pump::{CallDesk, EndedDesk, PumpEnd, finish_all};
 use rx_sink::Sink;
 use std::sync::Wait;
+use std::sync::atomic::AtomicU64;
 use std::thread::Threads;
+use std::time::Duration;
 use std::vec::IntoIter;
+
+// For how long a server that is closed rests before its drainers are told to leave, in milliseconds.
+const REST: u64 = 20;
 
 impl<S: Sink> Server<S> {
     ghost use Rattle.rx_server.specs.Servers.{Closes, Fails, IsEndOf};
 
-    /// Ends the desks that were not handed out and tells the drainers to leave; then waits until all threads have ended,
+    /// Ends the desks that were not handed out and, some milliseconds later, so that the notes of what was answered are on their
+    /// way, tells the drainers to leave; then waits until all threads have ended,
     /// receives what is still on its way to the desks, settles each box that `start` made, and reports. Handed in are the
     /// desks that were handed out, each ended.
     ///
@@ -44,6 +50,7 @@ impl<S: Sink> Server<S> {
     {
         let (running, mut leaves, mut desks, mut rooms) = self.into_parts();
         finish_desks(rt, &mut desks, &mut rooms.desks);
+        rest(rt);
         let told = finish_all(rt, &mut leaves, &mut rooms.leaves);
         running.join(rt, &mut rooms)?;
         match told {
@@ -51,6 +58,12 @@ impl<S: Sink> Server<S> {
             Err(place) => Err(CloseFault::unsettled(Role::Drainer, place)),
         }
     }
+}
+
+// Lets some milliseconds pass: nobody wakes it. A pump answers a call at once, and has the notes go that it gave once no call waits
+// for it. So the last of them are on their way before the drainers are told to leave.
+fn rest<R: Wait>(rt: &R) {
+    AtomicU64::new(0).park_timeout(rt, 0, Duration::from_millis(REST));
 }
 
 // Ends the desks, and puts them behind what was ended: until the pumps have ended, replies may be on their way to them. One
