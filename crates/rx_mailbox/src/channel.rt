@@ -37,7 +37,29 @@ pub fn put<B: Drop, R: Wait>(
         (λ _. view pass.new ≡ Sends number (own_of (view pass.old) ++ letter number post ∷ []))
         (λ back. (back ≡ post) × (view pass.new ≡ view pass.old)) }
 {
-    let mut letter = Letter { from: number, post };
+    match sender.try_send_as::<Put, R>(rt, pass, Letter { from: number, post }) {
+        Ok(()) => Ok(()),
+        Err(refused) => put_again(rt, sender, bells, pass, refused.into_inner()),
+    }
+}
+
+// The same of a letter that was refused once.
+#[inline(never)] // so that a letter for which there is room is moved less often
+fn put_again<B: Drop, R: Wait>(
+    rt: &R,
+    sender: &BoxSender<B>,
+    bells: &Bells,
+    pass: &mut BoxPass<B>,
+    refused: Letter<Batch<B>>,
+) -> Result<(), Post<Batch<B>>>
+    requires pass { IsSeatAt (sends_on sender.now) pass.old }
+    requires port { IsPort refused.from false (view pass.old) }
+    ensures pass { IsSeatAt (sends_on sender.now) pass.new }
+    ensures put { MatchResult result
+        (λ _. view pass.new ≡ Sends refused.from (own_of (view pass.old) ++ letter refused.from refused.post ∷ []))
+        (λ back. (back ≡ refused.post) × (view pass.new ≡ view pass.old)) }
+{
+    let mut letter = refused;
     let mut looks = 0;
     for _ in rt.forever() {
         match sender.try_send_as::<Put, R>(rt, pass, letter) {

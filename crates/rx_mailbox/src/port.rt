@@ -60,7 +60,7 @@ impl<B: Drop> Port<B> {
             (λ _. self.new ≡ with_post self.old (Body body))
             (λ back. (back ≡ body) × (self.new ≡ self.old)) }
     {
-        if !put_held(rt, &mut self.outlet, &self.lists, &mut self.held) {
+        if !self.held.is_empty() && !put_held(rt, &mut self.outlet, &self.lists, &mut self.held) {
             return Err(body);
         }
         let outcome = self.outlet.put_one(rt, body);

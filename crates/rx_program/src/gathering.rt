@@ -118,7 +118,12 @@ impl<C: Clock + Drop> Write for Gathering<C> {
             return Ok(());
         }
         let (sent, ended) = self.send();
-        self.waiting.drain(..sent.min(self.waiting.len()));
+        // A drain turns the bytes round that go, as well as those that stay.
+        if sent >= self.waiting.len() {
+            self.waiting.clear();
+        } else {
+            self.waiting.drain(..sent);
+        }
         match ended {
             Err(fault) if fault.kind() == ErrorKind::WouldBlock => Err(self.stuck(sent)),
             Err(fault) => Err(fault),
