@@ -1,5 +1,5 @@
 -- What the calls of the sinks of this crate do (this project's own rule).
-use Rattle.std.specs.Prelude.{◌≡◌, ◌<◌, ◌≤◌, ◌↔◌, ◌⊎◌, nat_le, IsTrue, ℕ, Bool, true, false, List, [], ◌∷◌, ◌++◌, Option, Some, None, vec_len, vec_capacity}
+use Rattle.std.specs.Prelude.{◌≡◌, ◌+◌, ◌-◌, ◌^◌, ◌<◌, ◌≤◌, ◌↔◌, ◌⊎◌, ◌||◌, if◌then◌else◌, min, nat_le, nat_lt, IsTrue, ℕ, Bool, true, false, List, [], ◌∷◌, ◌++◌, Option, Some, None, vec_len, vec_capacity}
 use Rattle.std.specs.Io.KnownBytes.{Appends}
 use Rattle.std.specs.declared.alloc.Global.{Global}
 use Rattle.std.specs.declared.vec.Vec.{Vec}
@@ -8,7 +8,7 @@ use Rattle.rx_note.specs.declared.note.Note.{Note}
 use Rattle.rx_proto.specs.Bytes.{AppendsPrefix}
 use Rattle.rx_proto.specs.Printing.{joined_line, note_line}
 use Rattle.rx_sink.specs.declared.flow.Flow.{Flow}
-use Rattle.rx_sink.specs.declared.flow.Flow.TheVariants.{Clear}
+use Rattle.rx_sink.specs.declared.flow.Flow.TheVariants.{Clear, Ready, Stuck}
 use Rattle.rx_sink.specs.declared.line_rest.LineRest.{LineRest}
 use Rattle.rx_sink.specs.declared.line_sink.LineSink.{LineSink}
 use Rattle.rx_sink.specs.declared.memory_sink.MemorySink.{MemorySink}
@@ -34,21 +34,40 @@ memory_acts = record {
   faults = λ s. s.faults;
 }
 
--- nothing waits in a sink, unless its writer gathers what it is given
-abbrev pub WaitsBy : Bool → Flow → Type 0
-WaitsBy gathers flow = gathers ≡ false → flow ≡ Clear
+-- how many lines a writer that gathers may hold, and its sink is served more at once
+abbrev pub most_ahead : ℕ
+most_ahead = 48
+
+-- how many lines were written since nothing waited, with one more, up to the greatest `u32`: they are counted where the writer
+-- gathers what it is given
+abbrev pub ahead_with_one : Bool → ℕ → ℕ
+ahead_with_one false ahead = ahead
+ahead_with_one true ahead = min (ahead + 1) (2 ^ 32 - 1)
+
+-- how a sink stands behind a line: by whether its writer gathers, whether a flush found it stuck, and how many lines were written
+-- since nothing waited
+abbrev pub flow_behind : Bool → Bool → ℕ → Flow
+flow_behind false stuck ahead = Clear
+flow_behind true stuck ahead = if stuck || nat_lt most_ahead ahead then Stuck else Ready
+
+-- what a flush leaves: where nothing waits any more, the lines are counted anew; only over a writer that gathers it finds the sink
+-- stuck, which then stays so until a flush finds that nothing waits
+abbrev pub FlushLeaves : {W : Type 0} → Flow → LineSink W → LineSink W → Type 0
+FlushLeaves Clear s t = (t.ahead ≡ 0) × (t.stuck ≡ false)
+FlushLeaves Ready s t = ⊥
+FlushLeaves Stuck s t = (s.gathers ≡ true) × (t.ahead ≡ s.ahead) × (t.stuck ≡ true)
 
 -- a sink over a writer writes each line in its version, or a front of it at a fault, and counts the notes that it took; a flush
 -- writes nothing more. Nothing ever waits in it, unless its writer gathers what it is given
 abbrev pub line_acts : {W : Type 0} → (W → Option (List ℕ)) → Acts (LineSink W) LineRest
 line_acts contents = record {
   started = λ s who t. Appends (contents s.writer) (contents t.writer) (joined_line who) × (t.notes ≡ s.notes) × (t.faults ≡ s.faults) × (t.gathers ≡ s.gathers)
-      × (t.version ≡ s.version);
+      × (t.version ≡ s.version) × (t.ahead ≡ s.ahead) × (t.stuck ≡ s.stuck);
   start_faulted = λ s who t. AppendsPrefix (contents s.writer) (contents t.writer) (joined_line who) × (t.notes ≡ s.notes) × (t.faults ≡ raised s.faults);
-  took = λ s note flow t. WaitsBy s.gathers flow × Appends (contents s.writer) (contents t.writer) (note_line s.version note) × (t.notes ≡ raised s.notes) × (t.faults ≡ s.faults)
-      × (t.gathers ≡ s.gathers) × (t.version ≡ s.version);
+  took = λ s note flow t. (flow ≡ flow_behind s.gathers s.stuck t.ahead) × Appends (contents s.writer) (contents t.writer) (note_line s.version note) × (t.notes ≡ raised s.notes)
+      × (t.faults ≡ s.faults) × (t.gathers ≡ s.gathers) × (t.version ≡ s.version) × (t.ahead ≡ ahead_with_one s.gathers s.ahead) × (t.stuck ≡ s.stuck);
   take_faulted = λ s note t. AppendsPrefix (contents s.writer) (contents t.writer) (note_line s.version note) × (t.notes ≡ s.notes) × (t.faults ≡ raised s.faults);
-  flushed = λ s flow t. WaitsBy s.gathers flow × Appends (contents s.writer) (contents t.writer) [] × (t.notes ≡ s.notes) × (t.faults ≡ s.faults) × (t.gathers ≡ s.gathers)
+  flushed = λ s flow t. FlushLeaves flow s t × Appends (contents s.writer) (contents t.writer) [] × (t.notes ≡ s.notes) × (t.faults ≡ s.faults) × (t.gathers ≡ s.gathers)
       × (t.version ≡ s.version);
   flush_faulted = λ s t. Appends (contents s.writer) (contents t.writer) [] × (t.notes ≡ s.notes) × (t.faults ≡ raised s.faults);
   finished = λ s rest. (rest.notes ≡ s.notes) × (IsTrue rest.failed ↔ (0 < s.faults));

@@ -1,5 +1,5 @@
 ghost use Rattle.std.specs.Prelude.{◌≡◌, true, false};
-ghost use Rattle.rx_sink.specs.Kinds.{WaitsBy};
+ghost use Rattle.rx_sink.specs.Kinds.{ahead_with_one, flow_behind};
 
 use crate::{Flow, LineRest, Sink, SinkFault};
 use rx_note::Note;
@@ -66,8 +66,8 @@ impl<W: Write + Drop> LineSink<W> {
 
     // How it stands once one line more was written.
     fn flow(&mut self) -> Flow
-        ensures flow { WaitsBy self.old.gathers result }
-        ensures rest { (self.new.writer ≡ self.old.writer) × (self.new.notes ≡ self.old.notes) × (self.new.faults ≡ self.old.faults) × (self.new.gathers ≡ self.old.gathers) × (self.new.version ≡ self.old.version) }
+        ensures answer { result ≡ flow_behind self.old.gathers self.old.stuck self.new.ahead }
+        ensures rest { self.new ≡ record self.old { ahead = ahead_with_one self.old.gathers self.old.ahead } }
     {
         if !self.gathers {
             return Flow::Clear;
