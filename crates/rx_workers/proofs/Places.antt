@@ -1,7 +1,9 @@
 -- The places of a worker's clients.
 use Rattle.std.proofs.Common.{◌≡◌, ◌<◌, ℕ, zero, suc, Bool, true, false, List, [], ◌∷◌, ◌++◌, length, slice_set, Option, None, refl, sym, ap, ◌∙◌, if◌then◌else◌}
 use Rattle.std.proofs.lemmas.List.{get_or-set_same, get_or-set_other}
-use Rattle.rx_workers.specs.Clients.{AreSameClients, Sets, client_at}
+use Rattle.std.specs.List.{All}
+use Rattle.std.proofs.lemmas.List.Elements.{All-cons, All-head, All-nil, All-tail}
+use Rattle.rx_workers.specs.Clients.{AreSameClients, IsQuiet, IsTalk, Sets, client_at}
 use Rattle.rx_workers.specs.declared.client.Client.{Client}
 
 module _ {C W : Type 0} where
@@ -33,3 +35,15 @@ module _ {C W : Type 0} where
   -- a place that was vacant is set
   pub Sets-vacant : (place : ℕ) (a b c : List (Option (Client C W))) (x : Option (Client C W)) → AreSameClients a b → client_at place b ≡ None → Sets place b c (client_at place b) x → Sets place a c None x
   Sets-vacant place a b c x same vacant q = record { was_there = sym (same place) ∙ vacant; is_there = q.is_there; others = λ other apart. q.others other apart ∙ same other }
+
+  -- where no session is under way at any of these places, none is at any place
+  pub quiet-places : (clients : List (Option (Client C W))) → All (λ slot. ¬ IsTalk slot) clients → IsQuiet clients
+  quiet-places [] none zero = λ talks. talks
+  quiet-places [] none (suc place) = λ talks. talks
+  quiet-places (client ∷ clients) none zero = All-head (λ (slot : Option (Client C W)). ¬ IsTalk slot) client clients none
+  quiet-places (client ∷ clients) none (suc place) = quiet-places clients (All-tail (λ (slot : Option (Client C W)). ¬ IsTalk slot) client clients none) place
+
+  pub quiet-each : (clients : List (Option (Client C W))) → IsQuiet clients → All (λ slot. ¬ IsTalk slot) clients
+  quiet-each [] quiet = All-nil (λ (slot : Option (Client C W)). ¬ IsTalk slot)
+  quiet-each (client ∷ clients) quiet =
+      All-cons (λ (slot : Option (Client C W)). ¬ IsTalk slot) client clients (quiet zero) (quiet-each clients (λ place. quiet (suc place)))

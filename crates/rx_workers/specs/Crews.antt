@@ -1,6 +1,6 @@
 -- The desks of a crew: those that are here, and those that its workers have (this project's own rule).
 use Rattle.std.specs.Prelude.{◌≡◌, ◌+◌, ◌<◌, ℕ, Bool, true, false, List, ◌++◌, length, map, reverse, Option, None, Some}
-use Rattle.rx_mailbox.specs.Boxes.{Outgoing}
+use Rattle.rx_mailbox.specs.Boxes.{Incoming, Outgoing, HasBye}
 use Rattle.std.specs.List.{AllZip}
 use Rattle.rx_pump.specs.Desks.{DeskView, KeepsDesk}
 use Rattle.rx_sink.specs.declared.line_sink.LineSink.{LineSink}
@@ -28,6 +28,10 @@ module _ {M C W : Type 0} where
   -- a port to the inbox of a worker
   abbrev pub IsPortOf : WorkerView M C W → Outgoing (C × W) → Type 0
   IsPortOf worker port = port.box ≡ worker.inbox.box
+
+-- the box has this port alone, and its Bye was received
+abbrev pub SettlesWith : {B : Type 0} → Incoming B → Outgoing B → Type 0
+SettlesWith inbox port = (inbox.ports ≡ 1) × (port.number ≡ 0) × HasBye inbox 0
 
 -- the first place that was lost, with one more of which it is known whether it has all
 abbrev pub first_lost : Option ℕ → ℕ → Bool → Option ℕ

@@ -47,6 +47,10 @@ pub record State (M C W : Type 0) : Type 0 where
 abbrev pub state : {M C W : Type 0} → SessionView M (LineSink W) → Incoming (C × W) → List (Option (Client C W)) → ℕ → Bool → State M C W
 state session inbox clients sessions is_open = record { session = session; inbox = inbox; clients = clients; sessions = sessions; is_open = is_open }
 
+-- no connection comes to it any more, and no session is under way
+abbrev pub IsFinished : {M C W : Type 0} → State M C W → Type 0
+IsFinished at = (at.is_open ≡ false) × IsQuiet at.clients
+
 -- one thing that a worker does: a connection came, and was given a place, or was given up; the Bye came; the inbox told that no
 -- letter comes any more; the session at a place had a turn; the follower at a place was parted with. Why it does so no definition
 -- says

@@ -1,4 +1,5 @@
 ghost use Rattle.std.specs.Prelude.{◌≡◌, ◌<◌, ◌↔◌, [], IfOk, IfSome, IsTrue, MatchOption, None, Some, length};
+ghost use Rattle.std.specs.List.{All};
 ghost use Rattle.rx_workers.specs.Clients.{AreSameClients, IsQuiet, IsTalk, Sets, client_at};
 ghost use Rattle.rx_workers.specs.declared.client.Client.TheVariants.{Follows, Talks};
 
@@ -94,10 +95,17 @@ impl<C: Drop, W: Drop> Clients<C, W> {
 
     /// Whether no session is under way.
     pub fn is_quiet(&self) -> bool
-        ensures { IsTrue result → IsQuiet self.now }
+        ensures { IsTrue result ↔ IsQuiet self.now }
     {
-        self.places.iter().all(|slot| !is_talk(slot))
+        none_talks(&self.places)
     }
+}
+
+// Whether a session is under way at none of these places.
+fn none_talks<C: Drop, W: Drop>(places: &Vec<Option<Client<C, W>>, Heap>) -> bool
+    ensures { IsTrue result ↔ All (λ slot. ¬ IsTalk slot) places.now.items }
+{
+    places.iter().all(|slot| !is_talk(slot))
 }
 
 // Whether a session is under way there.

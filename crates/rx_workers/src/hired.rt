@@ -1,11 +1,11 @@
 //! Workers that were hired for desks, and how they end.
-ghost use Rattle.std.specs.Prelude.{◌≡◌, ◌≤◌, [], List, IsTrue, vec_capacity};
+ghost use Rattle.std.specs.Prelude.{◌≡◌, ◌≤◌, ◌↔◌, [], List, IsTrue, vec_capacity};
 ghost use Rattle.rx_config.specs.declared.config.Config.{Config};
 ghost use Rattle.rx_mailbox.specs.Boxes.{outgoing};
 ghost use Rattle.rx_mailbox.specs.Settling.{GotAll};
 ghost use Rattle.rx_mailbox.specs.Letters.{posts};
 ghost use Rattle.rx_pump.specs.Desks.{KeepsDesk};
-ghost use Rattle.rx_workers.specs.Crews.{worker_desk};
+ghost use Rattle.rx_workers.specs.Crews.{SettlesWith, worker_desk};
 ghost use Rattle.rx_workers.specs.Service.{HasServedJust, IsNewOver};
 
 use crate::accepting::ring_at;
@@ -103,7 +103,8 @@ fn has_settled<T: Drop>(inbox: Inbox<T>, port: EndedPort<T>, room: Vec<EndedPort
     requires of_box { port.box ≡ inbox.box }
     requires none { room.items ≡ [] }
     requires room { 1 ≤ vec_capacity room }
-    ensures { IsTrue result → GotAll inbox port }
+    ensures settles { IsTrue result ↔ SettlesWith inbox port }
+    ensures came { IsTrue result → GotAll inbox port }
 {
     let mut ports = room;
     ports.push_reserved(port);

@@ -1,6 +1,5 @@
-ghost use Rattle.std.specs.Prelude.{◌≡◌, [], false, true, IsTrue};
-ghost use Rattle.rx_workers.specs.Clients.{IsQuiet};
-ghost use Rattle.rx_workers.specs.Working.{Goes, state};
+ghost use Rattle.std.specs.Prelude.{◌≡◌, ◌↔◌, [], true, IsTrue};
+ghost use Rattle.rx_workers.specs.Working.{Goes, IsFinished, state};
 
 use crate::admitting::admit;
 use crate::client::Talk;
@@ -73,8 +72,7 @@ impl<'a, R, M: Drop, C: Drop, W: Write + Drop> Shift<'a, R, M, C, W> {
 
     /// Whether no connection comes any more, and no session is under way.
     pub fn is_over(&self) -> bool
-        ensures closed { IsTrue result → self.now.is_open ≡ false }
-        ensures quiet { IsTrue result → IsQuiet self.now.clients }
+        ensures { IsTrue result ↔ IsFinished self.now }
     {
         !self.is_open && self.clients.is_quiet()
     }

@@ -20,7 +20,7 @@ pub returns-clause-served : goal.returns-clause-served
 returns-clause-served g c = elim c.match-dismissed.branch [
   | in-Some w ↦
       rw w.has_all-is (λ yes config xs new port_is.
-      let got = subst (λ (p : Outgoing _). GotAll c.join-desk.result.inbox p) w.in-Some.ensures (w.has_settled-has_all.ensures yes) in
+      let got = subst (λ (p : Outgoing _). GotAll c.join-desk.result.inbox p) w.in-Some.ensures (w.has_settled-has_all.ensures.came yes) in
       let ended = subst (λ (v : WorkerView _ _ _). HasEnded g.M.Moments.tells g.C.Read.remaining g.W.Write.contents v c.join-desk.result) c.self.view_is c.join-desk.ensures in
       served_just g.M.Moments.tells g.C.Read.remaining g.W.Write.contents config (worker_desk c.args.self) c.args.self c.join-desk.result xs c.args.port ended new port_is got)
   | in-None w ↦ λ yes config xs new port_is. absurd (true≢false (sym yes ∙ w.has_all-is))
