@@ -18,7 +18,7 @@ use Rattle.rx_sink.specs.Attachments.{Attachment, Why, TookLast, Detached, Faile
 use Rattle.rx_drain.specs.Logs.{Log, NoLetters, Next, Flush, letters, has_left, letter_change, kept_in, change, flush_change, gone_in, sent_in}
 use Rattle.rx_drain.proofs.Changing.{post_change, post_by}
 use Rattle.rx_drain.specs.Once.{times, found_by, missed_by, place_by, letter_by, found_in, missed_at}
-use Rattle.rx_drain.specs.Served.{StandsAt}
+use Rattle.rx_drain.specs.Served.{AttachCame}
 use Rattle.rx_drain.specs.Sent.{item_requests, at_end, sent_for, to_subject, asked, dues, asked_in_all, IsSentForEach}
 use Rattle.rx_drain.proofs.Counting.{times-append, kept_places, gone_places, below, without_places, same, once, once_in_all, misses}
 use Rattle.rx_drain.proofs.Taking.{all_append, some_split}
@@ -218,7 +218,7 @@ module _ {S : Type 0} where
   abbrev Other : List ℕ → List Sent → List (Letter (Out S)) → ℕ → Type 0
   Other missed xs received n =
       ((times n missed ≡ 0) × (sent_for n xs ≡ []))
-      ⊎ ((times n missed ≡ 1) × (a : Attachment S) × (a.place ≡ n) × StandsAt received a × (sent_for n xs ≡ to_subject a (Dispose a.who ∷ [])))
+      ⊎ ((times n missed ≡ 1) × (a : Attachment S) × (a.place ≡ n) × AttachCame received a × (sent_for n xs ≡ to_subject a (Dispose a.who ∷ [])))
 
   record Told (xs : List Sent) (gone : List (Attachment S × Why)) (c : Change S) : Type 0 where
     pub still : Asked (xs ++ c.sends) c.kept
@@ -610,7 +610,7 @@ module _ {S : Type 0} (leave : ℕ) where
 -- a place that was missed, or was not
 module _ {S : Type 0} where
   was_missed : (missed : List ℕ) (xs : List Sent) (received : List (Letter (Out S))) (n : ℕ) → times n missed ≡ 1 → Other missed xs received n
-      → (a : Attachment S) × (a.place ≡ n) × StandsAt received a × (sent_for n xs ≡ to_subject a (Dispose a.who ∷ []))
+      → (a : Attachment S) × (a.place ≡ n) × AttachCame received a × (sent_for n xs ≡ to_subject a (Dispose a.who ∷ []))
   was_missed missed xs received n one (inl (none, is)) = absurd (omega (arith, one, none))
   was_missed missed xs received n one (inr (_, a, place, stands, is)) = (a, place, stands, is)
 

@@ -14,7 +14,7 @@ use Rattle.rx_sink.specs.declared.flow.Flow.{Flow}
 use Rattle.rx_sink.specs.Attachments.{Attachment, Why, TookLast, Detached, Closed, FailedAtStart, FailedAt, FailedAtFlush, Mark, Fine, Fault, NoMemory, Change, Apart, is_clear, is_held_back, is_last, is_of, kept_for, without, replaced, with_note, with_flush, paid, attached, notified, settled, serving as serve_note, served_yet, flushed, written, detached, let_go, closed, brought}
 use Rattle.rx_drain.specs.Logs.{Log, NoLetters, Next, Flush, letters, has_left, letter_change, kept_in, change, flush_change, gone_in}
 use Rattle.rx_drain.proofs.Changing.{post_change}
-use Rattle.rx_drain.specs.Served.{Bearing, Bears, Stops, Passes, from_leave, from_subject, bearing, notes_in, TookOf, bearings, served, StandsAt, SinksTook}
+use Rattle.rx_drain.specs.Served.{Bearing, Bears, Stops, Passes, from_leave, from_subject, bearing, notes_in, TookOf, bearings, served, AttachCame, SinksTook}
 use Rattle.rx_sink.proofs.Apartness.{apart_but, apart_push, apart_with, both_true, key_is, none_replaced, none_split, none_without}
 use Rattle.rx_drain.proofs.Ending.{bool_cases, kept_none}
 
@@ -100,14 +100,14 @@ so_either false = refl
 module _ {S : Type 0} (leave : ℕ) where
   -- an attachment whose sink is kept
   record Open (xs : List (Letter (Out S))) (a : Attachment S) : Type 0 where
-    pub at : StandsAt xs a
+    pub at : AttachCame xs a
     pub within : a.place < length xs
     pub taken : a.taken ≡ served leave a xs
     pub still : is_open (bearings leave a xs) ≡ not a.over
 
   -- one that has ended
   record Shut (xs : List (Letter (Out S))) (end : Attachment S × Why) : Type 0 where
-    pub at : StandsAt xs end.0
+    pub at : AttachCame xs end.0
     pub within : end.0.place < length xs
     pub took : TookOf end.1 end.0.taken (served leave end.0 xs)
     pub shut : IsShut end.1 (is_open (bearings leave end.0 xs))
@@ -240,7 +240,7 @@ module _ {S : Type 0} (leave : ℕ) where
       ap (map (bearing leave a)) (drop_all (a.place + 1) (xs ++ x ∷ []) (omega (arith, is, length-append xs (x ∷ []))))
 
   new_at : (xs : List (Letter (Out S))) (from who : ℕ) (sink : S)
-      → StandsAt (xs ++ letter from (Body (Attach who sink)) ∷ []) (brought (length xs) from who sink)
+      → AttachCame (xs ++ letter from (Body (Attach who sink)) ∷ []) (brought (length xs) from who sink)
   new_at xs from who sink =
       ap (slice_get (xs ++ letter from (Body (Attach who sink)) ∷ [])) (let e : length xs ≡ length xs + 0 = omega arith in e)
       ∙ slice_get-append_right xs (letter from (Body (Attach who sink)) ∷ []) 0
