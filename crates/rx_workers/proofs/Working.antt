@@ -97,7 +97,7 @@ module _ {M C W : Type 0} (tells : M → ℕ → M → Type 0) (remaining : C �
     pub sitting : Sitting (among (calls tells remaining contents)) (first_place begun connection.1) [] (remaining connection.0) (remaining talk.reader) now talk.writer talk.session.value
 
   -- it stands at a place
-  record StandsAt (clients : List (Option (Client C W))) (connection : C × W) : Type 0 where
+  record IsThere (clients : List (Option (Client C W))) (connection : C × W) : Type 0 where
     pub place : ℕ
     pub talk : Talk C W
     pub there : client_at place clients ≡ Some (Talks talk)
@@ -105,7 +105,7 @@ module _ {M C W : Type 0} (tells : M → ℕ → M → Type 0) (remaining : C �
 
   -- it does, or the connection was served
   abbrev IsKnown : List (Option (Client C W)) → C × W → Type 0
-  IsKnown clients connection = StandsAt clients connection ⊎ IsServed tells remaining contents connection
+  IsKnown clients connection = IsThere clients connection ⊎ IsServed tells remaining contents connection
 
   -- a connection that was given a place
   known_new : (place : ℕ) (before after : List (Option (Client C W))) (connection : C × W) (talk : Talk C W) (desk : SessionView M (LineSink W))
@@ -127,7 +127,7 @@ module _ {M C W : Type 0} (tells : M → ℕ → M → Type 0) (remaining : C �
       })
 
   -- it stands where it stood
-  known_there : (before after : List (Option (Client C W))) (connection : C × W) (s : StandsAt before connection) → client_at s.place after ≡ client_at s.place before → IsKnown after connection
+  known_there : (before after : List (Option (Client C W))) (connection : C × W) (s : IsThere before connection) → client_at s.place after ≡ client_at s.place before → IsKnown after connection
   known_there before after connection s same = inl (record { place = s.place; talk = s.talk; there = same ∙ s.there; under_way = s.under_way })
 
   -- nobody went
