@@ -1,16 +1,17 @@
 -- The desks of a server, as their calls left them and once they have ended.
-use Rattle.std.proofs.Common.{◌≡◌, ◌∙◌, sym, refl, ap, subst, ℕ, zero, suc, ◌+◌, List, [], ◌∷◌, ◌++◌, append_assoc, append-nil, length, map, slice_get, Some, arith}
-use Rattle.std.proofs.lemmas.List.Elements.{All-cons, All-head, All-nil, All-push, All-tail}
-use Rattle.std.specs.List.{All, AllZip, enumerate_from}
+use Rattle.std.proofs.Common.{◌≡◌, ◌∙◌, ◌<◌, sym, refl, ap, subst, ℕ, zero, suc, ◌+◌, List, [], ◌∷◌, ◌++◌, append_assoc, append-nil, length, length-append, map, slice_get, Option, Some, arith}
+use Rattle.std.proofs.lemmas.List.Elements.{All-cons, All-head, All-nil, All-push, All-tail, filter_map-append}
+use Rattle.std.proofs.lemmas.Slice.Zip.{all_zipped_more}
+use Rattle.std.specs.List.{All, AllZip, enumerate_from, filter_map}
 use Rattle.rx_mailbox.specs.Boxes.{Box, Outgoing}
 use Rattle.rx_pump.specs.declared.call.Call.{Call}
 use Rattle.rx_pump.specs.declared.ended_desk.EndedDesk.{EndedDesk}
 use Rattle.rx_pump.specs.declared.reply.Reply.{Reply}
 use Rattle.rx_pump.specs.Desks.{DeskView, KeepsDesk}
 use Rattle.rx_pump.specs.Pumps.{port_place}
-use Rattle.rx_pump.specs.Sends.{with_bye}
+use Rattle.rx_pump.specs.Sends.{EndsSome, with_bye}
 use Rattle.rx_server.specs.Leaving.{HasItsBoxes}
-use Rattle.rx_server.specs.Servers.{EndsMore, IsDeskOf, IsEndOf}
+use Rattle.rx_server.specs.Servers.{EndsMore, IsFateOf, EndsEach, IsDeskOf, IsEndOf}
 use Rattle.rx_server.specs.Wirings.{Wiring, desk_of, desks_of, ports_at}
 
 module _ {X : Type 0} where
@@ -18,6 +19,10 @@ module _ {X : Type 0} where
   pub bye-places : (ports : List (Outgoing X)) → map port_place (map with_bye ports) ≡ map port_place ports
   bye-places [] = refl
   bye-places (port ∷ ports) = ap (λ (l : List (Box X × ℕ)). port_place port ∷ l) (bye-places ports)
+
+  -- where a port could not end there was one
+  pub any-left : (ports left before after : List (Outgoing X)) → EndsSome ports left before after → 0 < length ports
+  any-left ports left before after some = omega (arith, some.some, length-append some.done left, ap length some.parts)
 
 module _ {S : Type 0} where
   -- a desk that was not used is as it was made
@@ -90,6 +95,39 @@ module _ {S : Type 0} where
           All-tail (IsDeskOf made) desk rest desks,
         );
   }
+
+  -- of these desks each was to end but those that are left
+  pub record GoneThrough (start : List (DeskView S)) (before after : List (EndedDesk S)) (left : List (DeskView S)) : Type 0 where
+    pub past : List (DeskView S)
+    pub parts : past ++ left ≡ start
+    pub each : EndsEach past before after
+
+  pub gone-none : (start : List (DeskView S)) (before : List (EndedDesk S)) → GoneThrough start before before start
+  gone-none start before = record { past = []; parts = refl; each = record { fates = []; each = tt; left = sym (append-nil before) } }
+
+  -- one more was
+  pub gone-more : (start : List (DeskView S)) (before after later : List (EndedDesk S)) (desk : DeskView S) (fate : Option (EndedDesk S)) (left rest : List (DeskView S))
+      → left ≡ desk ∷ rest → later ≡ after ++ filter_map (λ one. one) (fate ∷ []) → IsFateOf desk fate → GoneThrough start before after left → GoneThrough start before later rest
+  gone-more start before after later desk fate left rest cut put finishes some =
+      let kept = λ (fates : List (Option (EndedDesk S))). filter_map (λ one. one) fates in
+      record {
+        past = some.past ++ desk ∷ [];
+        parts = append_assoc some.past (desk ∷ []) rest ∙ ap (λ (l : List (DeskView S)). some.past ++ l) (sym cut) ∙ some.parts;
+        each = record {
+          fates = some.each.fates ++ fate ∷ [];
+          each = all_zipped_more IsFateOf some.past some.each.fates desk fate some.each.each finishes;
+          left =
+              put ∙ ap (λ (l : List (EndedDesk S)). l ++ kept (fate ∷ [])) some.each.left
+              ∙ append_assoc before (kept some.each.fates) (kept (fate ∷ []))
+              ∙ ap (λ (l : List (EndedDesk S)). before ++ l) (sym (filter_map-append (λ one. one) some.each.fates (fate ∷ [])));
+        };
+      }
+
+  -- once none is left, each was
+  pub gone-all : (start : List (DeskView S)) (before after : List (EndedDesk S)) (left : List (DeskView S)) → left ≡ [] → GoneThrough start before after left → EndsEach start before after
+  gone-all start before after left none some =
+      let all : some.past ≡ start = sym (append-nil some.past) ∙ ap (λ (l : List (DeskView S)). some.past ++ l) (sym none) ∙ some.parts in
+      subst (λ (desks : List (DeskView S)). EndsEach desks before after) all some.each
 
   -- AS THEY WERE MADE
 

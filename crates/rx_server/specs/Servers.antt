@@ -1,6 +1,6 @@
 -- A server, and what it leaves when it is closed (this project's own rule).
-use Rattle.std.specs.Prelude.{◌≡◌, ◌<◌, ◌⊎◌, ℕ, List, [], ◌∷◌, ◌++◌, length, map, Some, slice_get}
-use Rattle.std.specs.List.{All, AllZip, sum_by, zip}
+use Rattle.std.specs.Prelude.{◌≡◌, ◌<◌, ◌⊎◌, ℕ, List, [], ◌∷◌, ◌++◌, length, map, Option, None, Some, slice_get}
+use Rattle.std.specs.List.{All, AllZip, filter_map, sum_by, zip}
 use Rattle.rx_hub.specs.Hubs.{HubView}
 use Rattle.rx_mailbox.specs.Boxes.{Outgoing}
 use Rattle.rx_mailbox.specs.Passes.{IsEmptied, SettledView, inbox_in}
@@ -65,6 +65,18 @@ module _ {S : Type 0} where
   -- some of these desks ended, and what they left stands behind what others left
   abbrev pub EndsMore : List (DeskView S) → List (EndedDesk S) → List (EndedDesk S) → Type 0
   EndsMore made before after = (more : List (EndedDesk S)) × (after ≡ before ++ more) × All (IsEndOf made) more
+
+  -- what becomes of a desk that is to end: it left this, each of its ports with its Bye, or it was given up, which is so only where
+  -- a port of it had not ended
+  abbrev pub IsFateOf : DeskView S → Option (EndedDesk S) → Type 0
+  IsFateOf desk (Some end) = (end.ports.items ≡ desk.ended ++ map with_bye desk.ports) × (end.inbox ≡ desk.inbox)
+  IsFateOf desk None = 0 < length desk.ports
+
+  -- each of these desks was to end, and what they left stands in their order behind what others left
+  pub record EndsEach (desks : List (DeskView S)) (before after : List (EndedDesk S)) : Type 0 where
+    pub fates : List (Option (EndedDesk S))
+    pub each : AllZip IsFateOf desks fates
+    pub left : after ≡ before ++ filter_map (λ fate. fate) fates
 
 module _ {S Rest : Type 0} where
   -- the server of these parts

@@ -6,7 +6,7 @@ ghost use Rattle.rx_pump.specs.Desks.{DeskView};
 ghost use Rattle.rx_pump.specs.Serving as pump_serving;
 ghost use Rattle.rx_drain.specs.Serving as drainer_serving;
 ghost use Rattle.rx_server.specs.Ends.{Keeps, NamesFirst};
-ghost use Rattle.rx_server.specs.Servers.{EndsMore, IsDeskOf};
+ghost use Rattle.rx_server.specs.Servers.{EndsMore, EndsEach, IsDeskOf};
 
 use crate::close_fault::CloseFault;
 use crate::report::Report;
@@ -74,7 +74,9 @@ pub(crate) fn finish_desks<S: Drop, R: Wait>(
     ended: &mut Vec<EndedDesk<S>, Heap>,
 )
     requires { vec_len ended.old + length (into_iter_items desks.old) ≤ vec_capacity ended.old }
-    ensures { (made : List (DeskView S)) → All (IsDeskOf made) (into_iter_items desks.old) → EndsMore made ended.old.items ended.new.items }
+    ensures none { into_iter_items desks.new ≡ [] }
+    ensures each { EndsEach (into_iter_items desks.old) ended.old.items ended.new.items }
+    ensures own { (made : List (DeskView S)) → All (IsDeskOf made) (into_iter_items desks.old) → EndsMore made ended.old.items ended.new.items }
 {
     while let Some(desk) = desks.next() {
         if let Ok(desk) = desk.finish(rt) {

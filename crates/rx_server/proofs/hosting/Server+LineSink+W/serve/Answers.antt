@@ -54,7 +54,7 @@ invariant_of-self g c =
     c.take_all.ensures.taken ∙ ap (λ (ds : List (DeskView _)). ds ++ into_iter_items s.desks) c.in-Ok.ensures.items in
     let own = subst (All (IsDeskOf s.made.value.items)) (sym taken) (desks-own server c.self.invariant.0) in
     let went = desks-went s.made.value.items c.take_all.new.taken.items c.serve_connections-served.new.desks.items c.serve_connections-served.ensures.desks own in
-    let more = c.finish_desks.ensures s.made.value.items (subst (All (IsDeskOf s.made.value.items)) (sym c.into_iter.ensures.rest) went) in
+    let more = c.finish_desks.ensures.own s.made.value.items (subst (All (IsDeskOf s.made.value.items)) (sym c.into_iter.ensures.rest) went) in
     let whole = whole-after server c.self.invariant.0 (into_iter_items s.desks) [] more.0 (sym (append-nil (into_iter_items s.desks))) more.2 in (
       subst (λ (kept : List _). IsWhole (server_of (arc_value s.config) s.running.pumps.items (map (λ drainer. drainer.handle.promise.0.value) s.running.drainers.items) s.leaves.items s.made.value.items (into_iter_items c.take_all.new.left) kept)) (sym more.1)
           (subst (λ (desks : List (DeskView _)). IsWhole (server_of (arc_value s.config) s.running.pumps.items (map (λ drainer. drainer.handle.promise.0.value) s.running.drainers.items) s.leaves.items s.made.value.items desks (s.rooms.desks.items ++ more.0))) (sym c.take_all.ensures.none) whole),
@@ -79,7 +79,7 @@ returns-clause-same g c =
     c.take_all.ensures.taken ∙ ap (λ (ds : List (DeskView _)). ds ++ into_iter_items s.desks) c.in-Ok.ensures.items in
     let own = subst (All (IsDeskOf s.made.value.items)) (sym taken) (desks-own server c.self.invariant.0) in
     let went = desks-went s.made.value.items c.take_all.new.taken.items c.serve_connections-served.new.desks.items c.serve_connections-served.ensures.desks own in
-    let more = c.finish_desks.ensures s.made.value.items (subst (All (IsDeskOf s.made.value.items)) (sym c.into_iter.ensures.rest) went) in
+    let more = c.finish_desks.ensures.own s.made.value.items (subst (All (IsDeskOf s.made.value.items)) (sym c.into_iter.ensures.rest) went) in
     rw (← c.self.view_is)
     (record {
       config = refl;

@@ -32,7 +32,7 @@ settle-requires g c =
     let start = parts.result.3 in
     let left = c.join.new.rooms in
     let others = c.in_ok-join.ensures.others in
-    let more = c.finish_desks.ensures self.made (subst (All (IsDeskOf self.made)) (sym parts.ensures.desks) (desks-own self whole)) in (
+    let more = c.finish_desks.ensures.own self.made (subst (All (IsDeskOf self.made)) (sym parts.ensures.desks) (desks-own self whole)) in (
       whole.wiring,
       has-left g.S.Sink.acts self whole start left c.args.ended.items more.0 parts.ensures.rooms others.returned others.settled others.subjects others.put_away
           (ap (λ (list : Vec _ _). list.items) others.leaves ∙ c.in-Ok.ensures.ended.0
@@ -51,7 +51,7 @@ returns-in-Ok g c =
     let left = c.join.new.rooms in
     let others = c.in_ok-join.ensures.others in
     let empty = parts.ensures.rooms.nothing_came in
-    let more = c.finish_desks.ensures self.made (subst (All (IsDeskOf self.made)) (sym parts.ensures.desks) (desks-own self whole)) in
+    let more = c.finish_desks.ensures.own self.made (subst (All (IsDeskOf self.made)) (sym parts.ensures.desks) (desks-own self whole)) in
     let leaves =
     ap (λ (list : Vec _ _). list.items) others.leaves ∙ c.in-Ok.ensures.ended.0
     ∙ ap (λ (l : List _). l ++ map with_bye parts.result.1.items) parts.ensures.rooms.no_leaves ∙ ap (map with_bye) parts.ensures.leaves in
@@ -80,7 +80,7 @@ returns-in-Err g c =
     let cut = ap length some.parts in
     let count = ap length some.ended in
     let below : c.in-Err.place < length self.leaves = omega (arith, leaves, ap length parts.ensures.leaves, cut, length-append some.done c.finish_all-told.new.ports.items, some.some, count, ap length parts.ensures.rooms.no_leaves, length-append parts.result.3.leaves.items (map with_bye some.done), length-map some.done with_bye, c.in-Err.ensures.ended.1, c.finish_all-told.new.ended.ok) in
-    let more = c.finish_desks.ensures self.made (subst (All (IsDeskOf self.made)) (sym parts.ensures.desks) (desks-own self whole)) in
+    let more = c.finish_desks.ensures.own self.made (subst (All (IsDeskOf self.made)) (sym parts.ensures.desks) (desks-own self whole)) in
     not-told g.S.Sink.acts self whole left.pumps.items left.drainers.items c.args.ended.items more.0 c.requires
     (subst (λ (pumps : List (PumpView _)). AllZip pump_serving.HasPumped pumps left.pumps.items) parts.ensures.pumps c.in_ok-join.ensures.pumped)
     (subst (λ (drainers : List (DrainerView _ _)). AllZip (drainer_serving.HasDrained g.S.Sink.acts) drainers left.drainers.items) parts.ensures.drainers c.in_ok-join.ensures.drained)
