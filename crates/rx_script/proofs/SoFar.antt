@@ -12,7 +12,7 @@ use Rattle.rx_session.specs.Bytes.{Holds, Loses}
 use Rattle.rx_proto.specs.LineFeeds.{HasNoLf}
 use Rattle.rx_session.specs.Lines.{without_cr, lines_of, BeginsWithLine, TakesLine, TakesNoLine}
 use Rattle.rx_proto.specs.Reading.{script_read}
-use Rattle.rx_script.specs.Scripts.{AllStand, Runs}
+use Rattle.rx_script.specs.Scripts.{StandForSubjects, Runs}
 use Rattle.rx_session.specs.Steps.{unread}
 use Rattle.rx_script.specs.Tellings.{IsIn, Turns, TellsOn}
 use Rattle.rx_script.specs.Transcripts.{Subject, State, new_state, line_written, after_line, ends_script, transcript, has_end}
@@ -64,7 +64,7 @@ SoFar-put subjects read_old read_now w0 w1 w2 script after rest rest_after h sam
       told = Appends-trans w0 w1 w2 h.written holds.written h.told holds.told;
       now = h.now;
       is_in = record {
-        subjects = subst (λ (ts : List Topic). AllStand ts h.now.subjects) (sym same_topics) h.is_in.subjects;
+        subjects = subst (λ (ts : List Topic). StandForSubjects ts h.now.subjects) (sym same_topics) h.is_in.subjects;
         moment = same_moment ∙ h.is_in.moment;
         version = same_version ∙ h.is_in.version;
       };

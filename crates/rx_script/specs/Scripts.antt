@@ -65,11 +65,11 @@ pub record StandsForSubject (topic : Topic) (subject : Subject) : Type 0 where
   pub history : StandsFor topic.hub.state subject.history
 
 -- each topic's hub stands for the history of the subject at its place
-abbrev pub AllStand : List Topic → List Subject → Type 0
-AllStand [] [] = Unit {0}
-AllStand [] (subject ∷ subjects) = ⊥
-AllStand (topic ∷ topics) [] = ⊥
-AllStand (topic ∷ topics) (subject ∷ subjects) = StandsForSubject topic subject × AllStand topics subjects
+abbrev pub StandForSubjects : List Topic → List Subject → Type 0
+StandForSubjects [] [] = Unit {0}
+StandForSubjects [] (subject ∷ subjects) = ⊥
+StandForSubjects (topic ∷ topics) [] = ⊥
+StandForSubjects (topic ∷ topics) (subject ∷ subjects) = StandsForSubject topic subject × StandForSubjects topics subjects
 
 -- what a topic did that took an event: its answer and the notes given were put in a version, and it stands for the subject that has taken
 -- it; or an event that would have been accepted met want of memory

@@ -22,14 +22,14 @@ use Rattle.rx_session.specs.Bytes.{Holds, Puts}
 use Rattle.rx_session.specs.Lines.{TakesLine, TakesNoLine}
 use Rattle.rx_proto.specs.LineFeeds.{HasNoLf}
 use Rattle.rx_proto.specs.Reading.{script_read}
-use Rattle.rx_script.specs.Scripts.{AllStand}
+use Rattle.rx_script.specs.Scripts.{StandForSubjects}
 use Rattle.rx_session.specs.Steps.{unread, GoesOn}
 use Rattle.rx_proto.specs.Printing.{reply_line}
 use Rattle.rx_script.specs.Transcripts.{State, wants_memory, is_quit, asked_written, after_asked, line_written, after_line, ends_script}
 
 -- the run of a script is in a state: its topics stand for the subjects, and the moment and the version are the same
 pub record IsIn (script : Script) (state : State) : Type 0 where
-  pub subjects : AllStand script.topics.items state.subjects
+  pub subjects : StandForSubjects script.topics.items state.subjects
   pub moment : script.moment ≡ state.moment
   pub version : script.version ≡ state.version
 

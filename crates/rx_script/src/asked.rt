@@ -19,7 +19,7 @@ pub enum Asked {
 }
 
 /// What a line of a script asks at a moment, in milliseconds, at which its event comes.
-pub fn asked_by(line: ScriptLine, moment: u64) -> Asked
+pub fn asked_at(line: ScriptLine, moment: u64) -> Asked
     ensures { result ≡ asked_at moment line }
 {
     match line {

@@ -5,7 +5,7 @@ ghost use Rattle.rx_session.specs.Bytes.{Puts};
 ghost use Rattle.rx_proto.specs.Reading.{script_read};
 ghost use Rattle.rx_script.specs.Scripts.{new_subjects};
 
-use crate::asked::{Asked, asked_by};
+use crate::asked::{Asked, asked_at};
 use crate::ledger::Ledger;
 use crate::ledger_list::{enter, ledgers_of};
 use crate::observed::Observed;
@@ -114,7 +114,7 @@ fn enter_line(alloc: &Heap, audit: &mut Audit, line: &[u8]) -> Result<Option<Ses
     ensures { IfOk result (λ end. Enters end (state_in audit.old) (state_in audit.new) (script_read line.now)) }
 {
     match parse_script(alloc, line) {
-        Ok(line) => enter_asked(audit, asked_by(line, audit.moment)),
+        Ok(line) => enter_asked(audit, asked_at(line, audit.moment)),
         Err(LineError::Long) => Ok(None),
         Err(LineError::Syntax) => Ok(None),
         Err(LineError::Memory) => Err(Memory),

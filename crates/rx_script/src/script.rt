@@ -80,7 +80,7 @@ impl Drop for Script {
 impl Script {
     ghost use Rattle.rx_script.specs.Scripts.{TakesAt};
     ghost use Rattle.std.specs.Prelude.{List, Option, ℕ};
-    ghost use Rattle.rx_script.specs.Scripts.{AllStand};
+    ghost use Rattle.rx_script.specs.Scripts.{StandForSubjects};
     ghost use Rattle.rx_session.specs.declared.line_state.LineState.{LineState};
     ghost use Rattle.rx_session.specs.Steps.{unread, Goes};
     ghost use Rattle.rx_script.specs.Tellings.{CarriesOut, IsIn, IsInHand, MayBeTold, Quits, Tells, TellsOn, Turns, reading_of};
@@ -89,7 +89,7 @@ impl Script {
     // The run of a script over these topics, with no line yet.
     #[inline(always)] // so that its outbox is made where it stays
     fn new(alloc: Heap, topics: Vec<Topic, Heap>) -> Script
-        ensures state { (subjects : List Subject) → AllStand topics.items subjects → IsIn result (new_state subjects) }
+        ensures state { (subjects : List Subject) → StandForSubjects topics.items subjects → IsIn result (new_state subjects) }
         ensures outbox { result.outbox ≡ [] }
     {
         Script {

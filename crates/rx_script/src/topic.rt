@@ -1,6 +1,6 @@
 ghost use Rattle.std.specs.Prelude.{◌≡◌, IfOk, position};
 ghost use Rattle.rx_proto.specs.Reading.{same_word};
-ghost use Rattle.rx_script.specs.Scripts.{StandsForSubject, AllStand, new_subject, new_subjects};
+ghost use Rattle.rx_script.specs.Scripts.{StandsForSubject, StandForSubjects, new_subject, new_subjects};
 
 use rx_config::SubjectConfig;
 use rx_heap::{Heap, Memory};
@@ -49,7 +49,7 @@ pub fn topics_of(
     alloc: &Heap,
     subjects: Vec<SubjectConfig, Heap>,
 ) -> Result<Vec<Topic, Heap>, Memory>
-    ensures { IfOk result (λ topics. AllStand topics.items (new_subjects subjects.items)) }
+    ensures { IfOk result (λ topics. StandForSubjects topics.items (new_subjects subjects.items)) }
 {
     let mut topics = Vec::with_capacity(alloc.clone()?, subjects.len())?;
     for subject in subjects {
