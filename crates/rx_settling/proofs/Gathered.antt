@@ -1,5 +1,5 @@
 -- What holds of all parts of boxes, and of the rows that were dealt to them.
-use Rattle.std.proofs.Common.{◌≡◌, ◌∙◌, sym, refl, ap, subst, ℕ, zero, suc, ◌<◌, List, [], ◌∷◌, ◌++◌, length, slice_get, Option, None, Some, map, append-nil, arith}
+use Rattle.std.proofs.Common.{◌≡◌, ◌∙◌, sym, refl, ap, subst, ℕ, zero, suc, List, [], ◌∷◌, ◌++◌, length, slice_get, Option, Some, map, append-nil, arith}
 use Rattle.std.proofs.lemmas.List.Elements.{All-cons, All-head, All-nil, All-pop, All-push, All-tail, All-weaker}
 use Rattle.std.specs.List.{All, AllZip}
 use Rattle.rx_mailbox.specs.Boxes.{Box, HasEachBye, Incoming, Outgoing, incoming}
