@@ -10,7 +10,6 @@ use Rattle.rx_pump.specs.declared.call.Call.{Call}
 use Rattle.rx_pump.specs.declared.out.Out.{Out}
 use Rattle.rx_pump.specs.declared.out.Out.TheVariants.{Attach, Give, Detach}
 use Rattle.rx_sink.specs.Attachments.{Attachment, Why, Mark, Sent, Change, Service, attaching, detaching, flushed, giving, kept_for, left, unchanged}
-use Rattle.rx_sink.specs.KeptSinks.{addressed}
 
 -- letters, and flushes of the sink of an observer of a subject, with their marks, the latest outermost
 pub data Log (S : Type 0) : Type 0 where

@@ -1,4 +1,4 @@
-use Rattle.std.proofs.Common.{rules, ◌≡◌, ◌∙◌, sym, subst, List, [], length, MatchResult}
+use Rattle.std.proofs.Common.{rules, ◌≡◌, sym, subst, length, MatchResult}
 use Rattle.std.proofs.lemmas.List.{nil_from_length}
 use Rattle.rx_mailbox.specs.Batches.{carried}
 use Rattle.rx_mailbox.specs.Boxes.{Incoming, with_letter}
