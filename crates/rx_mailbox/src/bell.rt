@@ -8,13 +8,10 @@ use std::time::Duration;
 // How often who waits looks again, with a pause after each look, before it sleeps. A sleep and a wake cost about as much as many
 // looks, and what is waited for mostly comes meanwhile. It lets no other thread go first: on Linux 6.18 a thread that does so falls
 // behind all others on its core by a slice each time, and a letter then waits for milliseconds.
-const LOOKS: u32 = 1_000;
+pub(crate) const LOOKS: u32 = 1_000;
 
 // How often who waits for a bounded time does. Such a one mostly wrote to a peer, who may wait for its core until it sleeps.
-const FEW_LOOKS: u32 = 200;
-
-/// How often who waits for a bounded time looks before it slept, and no more often.
-pub(crate) const LOOKS_WITHIN: u32 = FEW_LOOKS + 2;
+pub(crate) const FEW_LOOKS: u32 = 200;
 
 const AWAKE: u64 = 0;
 
@@ -44,44 +41,43 @@ impl Bell {
         }
     }
 
-    /// Waits after so many looks in vain, and answers how many they are from then on.
-    pub(crate) fn wait<R: Wait>(&self, rt: &R, looks: u32) -> u32 {
-        if looks < LOOKS {
+    /// Waits after so many looks in vain, of so many before it sleeps. It answers how many they are from then on, which is `most`
+    /// after a sleep.
+    pub(crate) fn wait<R: Wait>(&self, rt: &R, looks: u32, most: u32) -> u32 {
+        if looks < most {
             hint::spin_loop();
-        } else if looks == LOOKS {
+        } else if looks == most {
             // It sleeps only if the next look is in vain as well.
             self.state.store(ASLEEP, Ordering::SeqCst);
         } else {
             self.state.park(rt, ASLEEP as u32);
-            return LOOKS;
+            return most;
         }
-        looks + 1
+        looks.saturating_add(1)
     }
 
-    /// Waits as `wait` does, but looks less often before it sleeps, and sleeps no longer than about so long.
-    pub(crate) fn wait_within<R: Wait>(&self, rt: &R, looks: u32, most: Duration) -> u32 {
-        if looks < FEW_LOOKS {
+    /// Waits as `wait` does, but sleeps no longer than about so long, and once. It answers nothing after that sleep.
+    pub(crate) fn wait_within<R: Wait>(
+        &self,
+        rt: &R,
+        looks: u32,
+        most: u32,
+        longest: Duration,
+    ) -> Option<u32> {
+        if looks < most {
             hint::spin_loop();
-        } else if looks == FEW_LOOKS {
+        } else if looks == most {
             self.state.store(ASLEEP, Ordering::SeqCst);
         } else {
-            self.state.park_timeout(rt, ASLEEP as u32, most);
-            return LOOKS_WITHIN;
+            self.state.park_timeout(rt, ASLEEP as u32, longest);
+            self.state.store(AWAKE, Ordering::SeqCst);
+            return None;
         }
-        looks + 1
+        Some(looks.saturating_add(1))
     }
 
-    /// Ends a wait by `wait` of so many looks, of the only one who waits here.
-    pub(crate) fn rise(&self, looks: u32) {
-        self.rise_after(looks, LOOKS);
-    }
-
-    /// Ends such a wait by `wait_within`.
-    pub(crate) fn rise_within(&self, looks: u32) {
-        self.rise_after(looks, FEW_LOOKS);
-    }
-
-    fn rise_after(&self, looks: u32, most: u32) {
+    /// Ends a wait of so many looks, of so many before a sleep, of the only one who waits here.
+    pub(crate) fn rise(&self, looks: u32, most: u32) {
         if looks > most {
             self.state.store(AWAKE, Ordering::SeqCst);
         }

@@ -7,6 +7,7 @@ ghost use Rattle.rx_mailbox.specs.Letters.{letter};
 ghost use Rattle.rx_mailbox.specs.Passes.{own_of, IsPort, IsReader, TakesOne};
 
 use crate::batch::Batch;
+use crate::bell::LOOKS;
 use crate::bells::Bells;
 use crate::letter::{Letter, Post};
 use crate::rule::{MailboxRule, Put, Take, View};
@@ -74,7 +75,7 @@ fn put_again<B: Drop, R: Wait>(
         }
         // The inbox may sleep beside a box that was filled without a ring.
         bells.letter.ring();
-        looks = bells.room.wait(rt, looks);
+        looks = bells.room.wait(rt, looks, LOOKS);
     }
     unreachable!()
 }

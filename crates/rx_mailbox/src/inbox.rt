@@ -1,4 +1,4 @@
-ghost use Rattle.std.specs.Prelude.{◌≡◌, ◌≢◌, ◌<◌, ◌+◌, ◌-◌, ◌^◌, ◌↔◌, ◌∷◌, [], List, min, IsTrue, IfOk, IfSome, MatchOption, MatchResult};
+ghost use Rattle.std.specs.Prelude.{◌≡◌, ◌≢◌, ◌<◌, ◌+◌, ◌-◌, ◌^◌, ◌↔◌, ◌∷◌, [], List, min, IsTrue, IfErr, IfOk, IfSome, MatchOption, MatchResult};
 ghost use Rattle.crossbeam_channel.specs.Claims.{view};
 ghost use Rattle.rx_mailbox.specs.Batches.{carried};
 ghost use Rattle.rx_mailbox.specs.Boxes.{with_letter, HasBye, HasEachBye};
@@ -7,11 +7,12 @@ ghost use Rattle.rx_mailbox.specs.Passes.{inbox_of, IsReader};
 ghost use Rattle.rx_mailbox.specs.Settling.{letter_count};
 
 use crate::batch::Batch;
-use crate::bell::LOOKS_WITHIN;
+use crate::bell::{FEW_LOOKS, LOOKS};
 use crate::channel::BoxPass;
 use crate::inlet::Inlet;
 use crate::letter::{Letter, Post};
 use crate::lists::SharedLists;
+use crate::patience::Patience;
 use crate::try_recv_fault::TryRecvFault;
 use crossbeam_channel::TryRecvError;
 use rx_heap::Heap;
@@ -43,6 +44,8 @@ pub struct Inbox<B: Drop> {
     pub(crate) from: u32,
     // How many letters were received.
     pub(crate) letters: u64,
+    // How long it looks for a letter before it sleeps.
+    pub(crate) patience: Patience,
 }
 
 // It stands here, and isn't derived, so that what lets go of an inbox is one call that is proved once.
@@ -54,6 +57,7 @@ impl<B: Drop> Drop for Inbox<B> {
             hand: _,
             from: _,
             letters: _,
+            patience: _,
         } = self;
     }
 }
@@ -84,17 +88,19 @@ impl<B: Drop> Inbox<B> {
         if let Some(letter) = self.next_in_hand() {
             return Ok(letter);
         }
+        let looks_at_most = self.patience.looks(LOOKS);
         let mut looks = 0;
         for _ in rt.forever() {
             match self.look(rt) {
                 Ok(letter) => {
-                    self.inlet.bell().rise(looks);
+                    self.inlet.bell().rise(looks, looks_at_most);
+                    self.patience.learn(looks >= looks_at_most);
                     return Ok(letter);
                 }
                 Err(TryRecvFault::Gone) => return Err(Gone),
                 Err(TryRecvFault::Empty) => {}
             }
-            looks = self.inlet.bell().wait(rt, looks);
+            looks = self.inlet.bell().wait(rt, looks, looks_at_most);
         }
         unreachable!()
     }
@@ -115,20 +121,31 @@ impl<B: Drop> Inbox<B> {
         if let Some(letter) = self.next_in_hand() {
             return Ok(letter);
         }
+        let looks_at_most = self.patience.looks(FEW_LOOKS);
         let mut looks = 0;
-        for _ in 0..LOOKS_WITHIN {
+        for _ in rt.forever() {
             match self.look(rt) {
                 Ok(letter) => {
-                    self.inlet.bell().rise_within(looks);
+                    self.inlet.bell().rise(looks, looks_at_most);
+                    self.patience.learn(looks >= looks_at_most);
                     return Ok(letter);
                 }
                 Err(TryRecvFault::Gone) => return Err(TryRecvFault::Gone),
                 Err(TryRecvFault::Empty) => {}
             }
-            looks = self.inlet.bell().wait_within(rt, looks, most);
+            match self
+                .inlet
+                .bell()
+                .wait_within(rt, looks, looks_at_most, most)
+            {
+                Some(more) => looks = more,
+                None => {
+                    self.patience.learn(true);
+                    return self.look(rt);
+                }
+            }
         }
-        self.inlet.bell().rise_within(looks);
-        self.look(rt)
+        unreachable!()
     }
 
     /// Takes the letter at the front of the box, and waits for none. `Err` where there is none, and nothing changed: it
@@ -205,6 +222,7 @@ impl<B: Drop> Inbox<B> {
             hand: _,
             from: _,
             letters,
+            patience: _,
         } = self;
         (inlet.into_pass(), letters)
     }
@@ -240,6 +258,7 @@ fn open_batch<B: Drop, R: Wait>(
         (λ first. carried came ≡ first ∷ posts came.from hand.new.items)
         (λ _. (carried came ≡ []) × (hand.new.items ≡ [])) }
     ensures bodies { hand.new.items ≢ [] → (bodies : List B) × (carried came ≡ posts came.from bodies) }
+    ensures empty { IfErr result (λ fault. fault ≡ TryRecvFault.Empty) }
     ensures from { (from.new ≡ came.from) × IfOk result (λ first. first.from ≡ came.from) }
     ensures letters { MatchResult result (λ _. letters.new ≡ min (letters.old + 1) (2 ^ 64 - 1)) (λ _. letters.new ≡ letters.old) }
 {

@@ -21,6 +21,7 @@ mod lists;
 mod new_box;
 mod opening;
 mod outlet;
+mod patience;
 mod port;
 mod rule;
 mod settle_cause;

@@ -14,6 +14,7 @@ use crate::inlet::Inlet;
 use crate::letter::Letter;
 use crate::lists::{Lists, SharedLists};
 use crate::outlet::Outlet;
+use crate::patience::Patience;
 use crate::port::Port;
 use crate::rule::{MailboxRule, SplitPort, View};
 use crossbeam_channel::bounded_with;
@@ -140,6 +141,7 @@ impl<B: Drop> NewBox<B> {
             hand,
             from: 0,
             letters: 0,
+            patience: Patience::new(),
         }
     }
 }
