@@ -1,5 +1,5 @@
 // How often who waits looks before it sleeps, where its last wait ended in a sleep.
-const SOON: u32 = 100;
+const SOON: u32 = 40;
 
 // Of so many such waits in a row one has as many looks as any other.
 const SHORT_WAITS: u32 = 8;
