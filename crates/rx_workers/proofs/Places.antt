@@ -1,10 +1,13 @@
 -- The places of a worker's clients.
-use Rattle.std.proofs.Common.{◌≡◌, ◌<◌, ℕ, zero, suc, Bool, true, false, List, [], ◌∷◌, ◌++◌, length, slice_set, Option, None, refl, sym, ap, ◌∙◌, if◌then◌else◌}
+use Rattle.std.proofs.Common.{◌≡◌, ◌<◌, ℕ, zero, suc, Bool, true, false, List, [], ◌∷◌, ◌++◌, length, slice_set, Option, None, Some, is_none, true≢false, refl, sym, ap, subst, ◌∙◌, if◌then◌else◌}
 use Rattle.std.proofs.lemmas.List.{get_or-set_same, get_or-set_other}
+use Rattle.std.proofs.lemmas.List.Quantifiers.{position-Some}
 use Rattle.std.specs.List.{All}
 use Rattle.std.proofs.lemmas.List.Elements.{All-cons, All-head, All-nil, All-tail}
-use Rattle.rx_workers.specs.Clients.{AreSameClients, IsQuiet, IsTalk, Sets, client_at}
+use Rattle.rx_workers.specs.Clients.{AreSameClients, IsQuiet, IsTalk, Sets, client_at, first_vacant}
 use Rattle.rx_workers.specs.declared.client.Client.{Client}
+use Rattle.rx_workers.specs.declared.client.Client.TheVariants.{Talks}
+use Rattle.rx_workers.specs.declared.client.Talk.{Talk}
 
 module _ {C W : Type 0} where
   -- a vacant place more
@@ -18,6 +21,16 @@ module _ {C W : Type 0} where
   pub client_at-pushed : (pushed : Bool) (before after : List (Option (Client C W))) → after ≡ (if pushed then before ++ None ∷ [] else before) → AreSameClients before after
   client_at-pushed true before after is place = ap (λ (xs : List (Option (Client C W))). client_at place xs) is ∙ client_at-more place before
   client_at-pushed false before after is place = ap (λ (xs : List (Option (Client C W))). client_at place xs) is
+
+  nobody : (client : Option (Client C W)) → is_none client ≡ true → client ≡ None
+  nobody None is = refl
+  nobody (Some client) is = absurd (true≢false (sym is))
+
+  -- the first vacant place is vacant
+  pub vacant_there : (place : ℕ) (clients : List (Option (Client C W))) → first_vacant clients ≡ Some place → (client_at place clients ≡ None) × (place < length clients)
+  vacant_there place clients first =
+      let at = position-Some is_none clients place None first in
+      (nobody (client_at place clients) at.1, at.0)
 
   -- one place is set
   pub Sets-set : (place : ℕ) (before after : List (Option (Client C W))) (client : Option (Client C W)) → place < length before → after ≡ slice_set before place client
@@ -35,6 +48,10 @@ module _ {C W : Type 0} where
   -- a place that was vacant is set
   pub Sets-vacant : (place : ℕ) (a b c : List (Option (Client C W))) (x : Option (Client C W)) → AreSameClients a b → client_at place b ≡ None → Sets place b c (client_at place b) x → Sets place a c None x
   Sets-vacant place a b c x same vacant q = record { was_there = sym (same place) ∙ vacant; is_there = q.is_there; others = λ other apart. q.others other apart ∙ same other }
+
+  -- where a session stands one is under way
+  pub is_talk : (client : Option (Client C W)) (talk : Talk C W) → client ≡ Some (Talks talk) → IsTalk client
+  is_talk client talk is = subst (λ (c : Option (Client C W)). IsTalk c) (sym is) tt
 
   -- where no session is under way at any of these places, none is at any place
   pub quiet-places : (clients : List (Option (Client C W))) → All (λ slot. ¬ IsTalk slot) clients → IsQuiet clients

@@ -1,5 +1,6 @@
 -- The clients of a worker, each at a place of its own (this project's own rule).
-use Rattle.std.specs.Prelude.{◌≡◌, ◌≢◌, ℕ, List, Option, None, Some, slice_index_or}
+use Rattle.std.specs.Prelude.{◌≡◌, ◌≢◌, ℕ, List, Option, None, Some, is_none, slice_index_or}
+use Rattle.std.specs.List.{position}
 use Rattle.rx_workers.specs.declared.client.Client.{Client}
 use Rattle.rx_workers.specs.declared.client.Client.TheVariants.{Talks, Follows}
 
@@ -7,6 +8,10 @@ module _ {C W : Type 0} where
   -- who is at a place; at one that is vacant, or that there isn't, nobody
   abbrev pub client_at : ℕ → List (Option (Client C W)) → Option (Client C W)
   client_at place clients = slice_index_or clients place None
+
+  -- the first place that is vacant
+  abbrev pub first_vacant : List (Option (Client C W)) → Option ℕ
+  first_vacant clients = position is_none clients
 
   -- nobody came, went or changed
   abbrev pub AreSameClients : List (Option (Client C W)) → List (Option (Client C W)) → Type 0
@@ -24,6 +29,12 @@ module _ {C W : Type 0} where
   IsTalk (Some (Talks talk)) = Unit {0}
   IsTalk (Some (Follows follower)) = ⊥
 
-  -- none is, at any place
+  -- an observer joined, who is watched
+  abbrev pub IsFollower : Option (Client C W) → Type 0
+  IsFollower None = ⊥
+  IsFollower (Some (Talks talk)) = ⊥
+  IsFollower (Some (Follows follower)) = Unit {0}
+
+  -- no session is, at any place
   abbrev pub IsQuiet : List (Option (Client C W)) → Type 0
   IsQuiet clients = (place : ℕ) → ¬ IsTalk (client_at place clients)

@@ -83,6 +83,13 @@ module _ {X : Type 0} where
   admitted (Turned place ∷ deeds) = admitted deeds
   admitted (Parted place ∷ deeds) = admitted deeds
 
+-- whether a session goes on at once, by what its turn came to
+abbrev pub goes_on : {W : Type 0} → Turn W → Bool
+goes_on (Again writer) = true
+goes_on (Waits writer) = false
+goes_on (Stuck writer) = false
+goes_on (Over end back) = false
+
 module _ {C W : Type 0} where
   -- a session that began with its connection
   pub record Begins (connection : C × W) (talk : Talk C W) : Type 0 where
@@ -152,6 +159,10 @@ module _ {M C W : Type 0} (tells : M → ℕ → M → Type 0) (remaining : C �
     pub inbox : after.inbox ≡ before.inbox
     pub sessions : after.sessions ≡ before.sessions
     pub is_open : after.is_open ≡ before.is_open
+
+  -- it had one, which came to this: whether it goes on at once
+  abbrev pub HasTurnTo : ℕ → Bool → State M C W → State M C W → Type 0
+  HasTurnTo place at_once before after = (had : HasTurn place before after) × (at_once ≡ goes_on had.result)
 
   -- a letter came by a port of the box, and the desk made no call
   pub record Receives (post : Post (C × W)) (before after : State M C W) : Type 0 where

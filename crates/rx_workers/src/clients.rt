@@ -1,6 +1,6 @@
-ghost use Rattle.std.specs.Prelude.{◌≡◌, ◌<◌, ◌↔◌, [], IfOk, IfSome, IsTrue, MatchOption, None, Some, length};
+ghost use Rattle.std.specs.Prelude.{◌≡◌, ◌<◌, ◌↔◌, [], ◌∷◌, ◌++◌, IfNone, IfOk, IfSome, IsTrue, MatchOption, None, OnErr, OnOk, OnSome, Some, length};
 ghost use Rattle.std.specs.List.{All};
-ghost use Rattle.rx_workers.specs.Clients.{AreSameClients, IsQuiet, IsTalk, Sets, client_at};
+ghost use Rattle.rx_workers.specs.Clients.{AreSameClients, IsFollower, IsQuiet, IsTalk, Sets, client_at, first_vacant};
 ghost use Rattle.rx_workers.specs.declared.client.Client.TheVariants.{Follows, Talks};
 
 use crate::client::{Client, Follower, Talk};
@@ -40,13 +40,17 @@ impl<C: Drop, W: Drop> Clients<C, W> {
         }
     }
 
-    /// A place that is vacant.
+    /// A place that is vacant: one more, behind the others, where none of them is.
     pub fn vacancy(&mut self) -> Result<usize, Memory>
         ensures vacant { IfOk result (λ place. client_at place self.new ≡ None) }
         ensures within { IfOk result (λ place. place < length self.new) }
         ensures same { AreSameClients self.old self.new }
+        ensures kept { OnSome (first_vacant self.old) (self.new ≡ self.old) }
+        ensures grown { IfNone (first_vacant self.old) (OnOk result (self.new ≡ self.old ++ None ∷ [])) }
+        ensures full { OnErr result (first_vacant self.old ≡ None) }
+        ensures failed { OnErr result (self.new ≡ self.old) }
     {
-        if let Some(place) = self.places.iter().position(|slot| slot.is_none()) {
+        if let Some(place) = first_vacant(&self.places) {
             return Ok(place);
         }
         let place = self.places.len();
@@ -67,6 +71,7 @@ impl<C: Drop, W: Drop> Clients<C, W> {
     /// Takes the session under way at this place. It is vacant then.
     pub fn take_talk(&mut self, place: usize) -> Option<Talk<C, W>>
         ensures taken { MatchOption result (self.new ≡ self.old) (λ talk. Sets place self.old self.new (Some (Talks talk)) None) }
+        ensures none { IfNone result (¬ IsTalk (client_at place self.old)) }
         ensures within { IfSome result (λ _. place < length self.new) }
     {
         match self.places.get(place) {
@@ -81,7 +86,8 @@ impl<C: Drop, W: Drop> Clients<C, W> {
 
     /// Takes the follower at this place. It is vacant then.
     pub fn take_follower(&mut self, place: usize) -> Option<Follower<C>>
-        ensures { MatchOption result (self.new ≡ self.old) (λ follower. Sets place self.old self.new (Some (Follows follower)) None) }
+        ensures taken { MatchOption result (self.new ≡ self.old) (λ follower. Sets place self.old self.new (Some (Follows follower)) None) }
+        ensures none { IfNone result (¬ IsFollower (client_at place self.old)) }
     {
         match self.places.get(place) {
             Some(Some(Client::Follows(_))) => {}
@@ -99,6 +105,13 @@ impl<C: Drop, W: Drop> Clients<C, W> {
     {
         none_talks(&self.places)
     }
+}
+
+// The first of these places that is vacant.
+fn first_vacant<C: Drop, W: Drop>(places: &Vec<Option<Client<C, W>>, Heap>) -> Option<usize>
+    ensures { result ≡ first_vacant places.now.items }
+{
+    places.iter().position(|slot| slot.is_none())
 }
 
 // Whether a session is under way at none of these places.

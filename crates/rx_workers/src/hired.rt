@@ -1,5 +1,5 @@
 //! Workers that were hired for desks, and how they end.
-ghost use Rattle.std.specs.Prelude.{◌≡◌, ◌≤◌, ◌↔◌, [], List, IsTrue, vec_capacity};
+ghost use Rattle.std.specs.Prelude.{◌≡◌, ◌≤◌, ◌↔◌, [], List, IfSome, IsSomeAnd, IsTrue, vec_capacity};
 ghost use Rattle.rx_config.specs.declared.config.Config.{Config};
 ghost use Rattle.rx_mailbox.specs.Boxes.{outgoing};
 ghost use Rattle.rx_mailbox.specs.Settling.{GotAll};
@@ -90,11 +90,26 @@ impl<M: Moments + Drop, C: Read + Drop, W: Write + Drop, P: Drop> Hired<M, C, W,
             inbox,
             sessions: _,
         } = worker.join(rt);
-        let has_all = match dismissed {
-            Some(port) => has_settled(inbox, port, room),
-            None => false,
-        };
+        let has_all = ended_and_settled(inbox, dismissed, room);
         Returned { desk, has_all }
+    }
+}
+
+// Whether the one port of a box ended, and the box settles with it: all that the port put has come then.
+fn ended_and_settled<T: Drop>(
+    inbox: Inbox<T>,
+    dismissed: Option<EndedPort<T>>,
+    room: Vec<EndedPort<T>, Heap>,
+) -> bool
+    requires of_box { IfSome dismissed (λ port. port.box ≡ inbox.box) }
+    requires none { room.items ≡ [] }
+    requires room { 1 ≤ vec_capacity room }
+    ensures settles { IsTrue result ↔ IsSomeAnd dismissed (SettlesWith inbox) }
+    ensures came { IsTrue result → IsSomeAnd dismissed (GotAll inbox) }
+{
+    match dismissed {
+        Some(port) => has_settled(inbox, port, room),
+        None => false,
     }
 }
 

@@ -1,6 +1,6 @@
 // What a turn of a session leaves at its place.
 ghost use Rattle.std.specs.Prelude.{◌≡◌, if◌then◌else◌};
-ghost use Rattle.rx_workers.specs.Working.{GoesOn, Leaves, left_by};
+ghost use Rattle.rx_workers.specs.Working.{GoesOn, Leaves, goes_on, left_by};
 
 use crate::client::{Client, Follower, Talk};
 use crate::joined::Joined;
@@ -29,7 +29,8 @@ pub fn leave<C: Drop, W: Drop, P: Readiness<C>>(
     pause: Pause,
     readiness: &mut P,
 ) -> (bool, Option<Client<C, W>>)
-    ensures { Leaves turned reader session.value joined result.1 }
+    ensures goes_on { result.0 ≡ goes_on turned }
+    ensures leaves { Leaves turned reader session.value joined result.1 }
 {
     match turned {
         Turn::Again(writer) => {

@@ -1,5 +1,7 @@
-ghost use Rattle.std.specs.Prelude.{◌≡◌, ◌↔◌, [], true, IsTrue};
-ghost use Rattle.rx_workers.specs.Working.{Goes, IsFinished, state};
+ghost use Rattle.std.specs.Prelude.{◌≡◌, ◌↔◌, ◌⊎◌, [], false, true, IsFalse, IsTrue};
+ghost use Rattle.rx_mailbox.specs.declared.letter.Post.TheVariants.{Body};
+ghost use Rattle.rx_workers.specs.Clients.{IsTalk, client_at};
+ghost use Rattle.rx_workers.specs.Working.{Goes, HasTurnTo, IsFinished, Receives, state};
 
 use crate::admitting::admit;
 use crate::client::Talk;
@@ -112,7 +114,9 @@ impl<'a, R: Wait, M: Moments + Drop, C: Read + Drop, W: Write + Drop> Shift<'a, 
 
     // Gives the next connection a place, if one came. Whether another one may be there.
     fn admit_next<P: Readiness<C>>(&mut self, rt: &R, readiness: &mut P) -> bool
-        ensures { Goes M.tells C.remaining W.contents self.old self.new }
+        ensures goes { Goes M.tells C.remaining W.contents self.old self.new }
+        ensures came { IsTrue result → (connection : C × W) × Receives M.tells C.remaining W.contents (Body connection) self.old self.new }
+        ensures none { IsFalse result → (self.new ≡ self.old) ⊎ (self.new.is_open ≡ false) }
     {
         let letter = match self.inbox.try_recv(rt) {
             Ok(letter) => letter,
@@ -163,7 +167,10 @@ impl<'a, R: Wait, M: Moments + Drop, C: Read + Drop, W: Write + Drop> Shift<'a, 
     // The session at this place has a turn, if there is one. Whether it goes on at once: where this is the last turn for now,
     // its connection is told as ready again.
     fn turn<P: Readiness<C>>(&mut self, place: usize, is_last: bool, readiness: &mut P) -> bool
-        ensures { Goes M.tells C.remaining W.contents self.old self.new }
+        ensures goes { Goes M.tells C.remaining W.contents self.old self.new }
+        ensures turned { IsTalk (client_at place self.old.clients) → HasTurnTo M.tells C.remaining W.contents place result self.old self.new }
+        ensures idle { ¬ IsTalk (client_at place self.old.clients) → result ≡ false }
+        ensures kept { ¬ IsTalk (client_at place self.old.clients) → self.new ≡ self.old }
     {
         let Some(talk) = self.clients.take_talk(place) else {
             return false;

@@ -1,34 +1,45 @@
 -- What came is one deed, and so is that nothing comes any more.
-use Rattle.std.proofs.Common.{◌∙◌, ap, false, refl}
+use Rattle.std.proofs.Common.{◌∙◌, ap, false, true≢false, refl}
 use Rattle.rx_mailbox.specs.Boxes.{Incoming, with_letter}
 use Rattle.rx_mailbox.specs.Letters.{letter}
-use Rattle.rx_workers.specs.Working.{Abandoned, Admitted, Dismissed, GivenUp, state}
+use Rattle.rx_mailbox.specs.declared.letter.Post.TheVariants.{Body}
+use Rattle.rx_workers.specs.Working.{State, Abandoned, Admitted, Dismissed, GivenUp, Receives, state}
 use Rattle.rx_workers.proofs.Working.{Goes-one}
 use Rattle.rx_workers.proofs.shift.Shift.admit_next.Goals as goal
 
 -- there was no memory for the connection
 pub returns-in_default : goal.returns-in_default
 returns-in_default g c =
-    let received = c.in-Ok.ensures.received ∙ ap (λ post. with_letter c.self.inside.inbox (letter c.in-Ok.letter.from post)) c.in-Body.is in
-    rw (← c.self.view_is)
-    (Goes-one g.M.Moments.tells g.C.Read.remaining g.W.Write.contents (GivenUp c.in-Body.connection)
-    (state c.self.inside.desk c.self.inside.inbox c.self.inside.clients c.self.inside.sessions c.self.inside.is_open)
-    (state c.self.inside.desk c.try_recv.new.self c.admit-admitted.new.clients c.self.inside.sessions c.self.inside.is_open)
-    (record { from = c.in-Ok.letter.from; of_box = c.in-Ok.ensures.port; inbox = received; session = refl }, c.in_default.ensures, refl, refl))
+    let inbox = c.in-Ok.ensures.received ∙ ap (λ post. with_letter c.self.inside.inbox (letter c.in-Ok.letter.from post)) c.in-Body.is in
+    let before : State _ _ _ = state c.self.inside.desk c.self.inside.inbox c.self.inside.clients c.self.inside.sessions c.self.inside.is_open in
+    let after : State _ _ _ = state c.self.inside.desk c.try_recv.new.self c.admit-admitted.new.clients c.self.inside.sessions c.self.inside.is_open in
+    let received : Receives g.M.Moments.tells g.C.Read.remaining g.W.Write.contents (Body c.in-Body.connection) before after =
+    record { from = c.in-Ok.letter.from; of_box = c.in-Ok.ensures.port; inbox = inbox; session = refl } in
+    rw (← c.self.view_is) (record {
+      goes = Goes-one g.M.Moments.tells g.C.Read.remaining g.W.Write.contents (GivenUp c.in-Body.connection) before after (received, c.in_default.ensures, refl, refl);
+      came = λ _. (c.in-Body.connection, received);
+      none = λ no. absurd (true≢false no);
+    })
 
 -- it has a place
 pub returns-in-Some : goal.returns-in-Some
 returns-in-Some g c =
-    let received = c.in-Ok.ensures.received ∙ ap (λ post. with_letter c.self.inside.inbox (letter c.in-Ok.letter.from post)) c.in-Body.is in
-    rw (← c.self.view_is)
-    (Goes-one g.M.Moments.tells g.C.Read.remaining g.W.Write.contents (Admitted c.in-Body.connection c.in-Some.field-0)
-    (state c.self.inside.desk c.self.inside.inbox c.self.inside.clients c.self.inside.sessions c.self.inside.is_open)
-    (state c.self.inside.desk c.try_recv.new.self c.admit-admitted.new.clients c.saturating_add-self-inside.result c.self.inside.is_open)
-    (record { from = c.in-Ok.letter.from; of_box = c.in-Ok.ensures.port; inbox = received; session = refl }, c.in-Some.ensures, c.saturating_add-self-inside.ensures, refl))
+    let inbox = c.in-Ok.ensures.received ∙ ap (λ post. with_letter c.self.inside.inbox (letter c.in-Ok.letter.from post)) c.in-Body.is in
+    let before : State _ _ _ = state c.self.inside.desk c.self.inside.inbox c.self.inside.clients c.self.inside.sessions c.self.inside.is_open in
+    let after : State _ _ _ = state c.self.inside.desk c.try_recv.new.self c.admit-admitted.new.clients c.saturating_add-self-inside.result c.self.inside.is_open in
+    let received : Receives g.M.Moments.tells g.C.Read.remaining g.W.Write.contents (Body c.in-Body.connection) before after =
+    record { from = c.in-Ok.letter.from; of_box = c.in-Ok.ensures.port; inbox = inbox; session = refl } in
+    rw (← c.self.view_is) (record {
+      goes =
+          Goes-one g.M.Moments.tells g.C.Read.remaining g.W.Write.contents (Admitted c.in-Body.connection c.in-Some.field-0) before after
+          (received, c.in-Some.ensures, c.saturating_add-self-inside.ensures, refl);
+      came = λ _. (c.in-Body.connection, received);
+      none = λ no. absurd (true≢false no);
+    })
 
 -- the Bye came
-pub returns-in-Bye : goal.returns-in-Bye
-returns-in-Bye g c =
+pub returns-in-Bye-clause-goes : goal.returns-in-Bye-clause-goes
+returns-in-Bye-clause-goes g c =
     let received = c.in-Ok.ensures.received ∙ ap (λ post. with_letter c.self.inside.inbox (letter c.in-Ok.letter.from post)) c.in-Bye.is in
     rw (← c.self.view_is)
     (Goes-one g.M.Moments.tells g.C.Read.remaining g.W.Write.contents Dismissed
@@ -37,8 +48,8 @@ returns-in-Bye g c =
     (record { from = c.in-Ok.letter.from; of_box = c.in-Ok.ensures.port; inbox = received; session = refl }, λ place. refl, refl, refl))
 
 -- nothing comes any more
-pub returns-in-Err-Gone : goal.returns-in-Err-Gone
-returns-in-Err-Gone g c =
+pub returns-in-Err-Gone-clause-goes : goal.returns-in-Err-Gone-clause-goes
+returns-in-Err-Gone-clause-goes g c =
     rw (← c.self.view_is)
     (Goes-one g.M.Moments.tells g.C.Read.remaining g.W.Write.contents Abandoned
     (state c.self.inside.desk c.self.inside.inbox c.self.inside.clients c.self.inside.sessions c.self.inside.is_open)

@@ -10,4 +10,4 @@ returns g c =
     (Goes-one g.M.Moments.tells g.C.Read.remaining g.W.Write.contents (Parted c.args.place)
     (state c.self.inside.desk c.self.inside.inbox c.self.inside.clients c.self.inside.sessions c.self.inside.is_open)
     (state c.dispose.new.self c.self.inside.inbox c.take_follower.new.self c.self.inside.sessions c.self.inside.is_open)
-    (c.in-Some.follower, c.dispose.ensures, c.in-Some.ensures, refl, refl, refl))
+    (c.in-Some.follower, c.dispose.ensures, c.in-Some.ensures.taken, refl, refl, refl))

@@ -1,27 +1,32 @@
 -- A turn is one deed.
 use Rattle.std.proofs.Common.{Some, None, refl}
-use Rattle.rx_workers.specs.Working.{Turned, state}
+use Rattle.rx_workers.specs.Working.{State, HasTurn, Turned, state}
 use Rattle.rx_workers.specs.declared.client.Client.TheVariants.{Talks}
-use Rattle.rx_workers.proofs.Places.{Sets-then}
+use Rattle.rx_workers.proofs.Places.{Sets-then, is_talk}
 use Rattle.rx_workers.proofs.Working.{Goes-one}
 use Rattle.rx_workers.proofs.shift.Shift.turn.Goals as goal
 
 pub returns : goal.returns
 returns g c =
-    rw (← c.self.view_is)
-    (Goes-one g.M.Moments.tells g.C.Read.remaining g.W.Write.contents (Turned c.args.place)
-    (state c.self.inside.desk c.self.inside.inbox c.self.inside.clients c.self.inside.sessions c.self.inside.is_open)
-    (state c.turn-turned.new.desk c.self.inside.inbox c.put.new.self c.self.inside.sessions c.self.inside.is_open)
-    (record {
+    let before : State _ _ _ = state c.self.inside.desk c.self.inside.inbox c.self.inside.clients c.self.inside.sessions c.self.inside.is_open in
+    let after : State _ _ _ = state c.turn-turned.new.desk c.self.inside.inbox c.put.new.self c.self.inside.sessions c.self.inside.is_open in
+    let talks = is_talk _ c.in-Some.talk c.in-Some.ensures.taken.was_there in
+    let had : HasTurn g.M.Moments.tells g.C.Read.remaining g.W.Write.contents c.args.place before after = record {
       talk = c.in-Some.talk;
       result = c.turn-turned.result;
       reader = c.turn-turned.new.reader;
       session = c.turn-turned.new.self;
       left = c.leave-goes_on.result.1;
       turn = rw (← c.deref_mut.ensures.value) (record { sits = c.turn-turned.ensures.sits; quits = c.turn-turned.ensures.quits });
-      leaves = rw (← c.joined-joined.ensures) c.leave-goes_on.ensures;
+      leaves = rw (← c.joined-joined.ensures) c.leave-goes_on.ensures.leaves;
       sets = Sets-then c.args.place c.self.inside.clients c.take_talk.new.self c.put.new.self (Some (Talks c.in-Some.talk)) None c.leave-goes_on.result.1 c.in-Some.ensures.taken c.put.ensures;
       inbox = refl;
       sessions = refl;
       is_open = refl;
-    }))
+    } in
+    rw (← c.self.view_is) (record {
+      goes = Goes-one g.M.Moments.tells g.C.Read.remaining g.W.Write.contents (Turned c.args.place) before after had;
+      turned = λ _. (had, c.leave-goes_on.ensures.goes_on);
+      idle = λ none. absurd (none talks);
+      kept = λ none. absurd (none talks);
+    })

@@ -6,8 +6,8 @@ loop-turn-init g c = Goes-same g.M.Moments.tells g.C.Read.remaining g.W.Write.co
 
 pub returns-then-not-turn : goal.returns-then-not-turn
 returns-then-not-turn g c =
-    Goes-then g.M.Moments.tells g.C.Read.remaining g.W.Write.contents c.args.self.now c.loop-turn.self c.turn.new.self c.loop-turn.invariant c.turn.ensures
+    Goes-then g.M.Moments.tells g.C.Read.remaining g.W.Write.contents c.args.self.now c.loop-turn.self c.turn.new.self c.loop-turn.invariant c.turn.ensures.goes
 
 pub loop-turn-preserved : goal.loop-turn-preserved
 loop-turn-preserved g c =
-    Goes-then g.M.Moments.tells g.C.Read.remaining g.W.Write.contents c.args.self.now c.loop-turn.self c.turn.new.self c.loop-turn.invariant c.turn.ensures
+    Goes-then g.M.Moments.tells g.C.Read.remaining g.W.Write.contents c.args.self.now c.loop-turn.self c.turn.new.self c.loop-turn.invariant c.turn.ensures.goes
