@@ -1,5 +1,5 @@
 -- What came is one deed, and so is that nothing comes any more.
-use Rattle.std.proofs.Common.{◌∙◌, ap, false, true≢false, refl}
+use Rattle.std.proofs.Common.{◌∙◌, ap, false, refl}
 use Rattle.rx_mailbox.specs.Boxes.{Incoming, with_letter}
 use Rattle.rx_mailbox.specs.Letters.{letter}
 use Rattle.rx_mailbox.specs.declared.letter.Post.TheVariants.{Body}
@@ -18,7 +18,7 @@ returns-in_default g c =
     rw (← c.self.view_is) (record {
       goes = Goes-one g.M.Moments.tells g.C.Read.remaining g.W.Write.contents (GivenUp c.in-Body.connection) before after (received, c.in_default.ensures, refl, refl);
       came = λ _. (c.in-Body.connection, received);
-      none = λ no. absurd (true≢false no);
+      none = λ no. cc;
     })
 
 -- it has a place
@@ -34,7 +34,7 @@ returns-in-Some g c =
           Goes-one g.M.Moments.tells g.C.Read.remaining g.W.Write.contents (Admitted c.in-Body.connection c.in-Some.field-0) before after
           (received, c.in-Some.ensures, c.saturating_add-self-inside.ensures, refl);
       came = λ _. (c.in-Body.connection, received);
-      none = λ no. absurd (true≢false no);
+      none = λ no. cc;
     })
 
 -- the Bye came
