@@ -108,6 +108,7 @@ impl<B: Drop> NewBox<B> {
             outlet,
             lists,
             held,
+            spare: None,
             owes_ring: false,
         })
     }

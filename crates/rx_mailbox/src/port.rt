@@ -1,4 +1,4 @@
-ghost use Rattle.std.specs.Prelude.{◌≡◌, [], true, MatchResult};
+ghost use Rattle.std.specs.Prelude.{◌≡◌, [], true, IfSome, MatchResult};
 ghost use Rattle.rx_mailbox.specs.declared.letter.Post.TheVariants.{Body, Bye};
 ghost use Rattle.rx_mailbox.specs.Boxes.{with_bodies, with_post};
 
@@ -18,6 +18,8 @@ pub struct Port<B: Drop> {
     pub(crate) lists: SharedLists<B>,
     // The bodies that it holds back.
     pub(crate) held: VecDeque<B, Heap>,
+    // An empty list that takes the place of that one when it goes into the box, if the port took one.
+    pub(crate) spare: Option<VecDeque<B, Heap>>,
     // It put a letter into the box and has not rung since.
     pub(crate) owes_ring: bool,
 }
@@ -29,6 +31,7 @@ impl<B: Drop> Drop for Port<B> {
             outlet: _,
             lists: _,
             held: _,
+            spare: _,
             owes_ring: _,
         } = self;
     }
@@ -60,7 +63,15 @@ impl<B: Drop> Port<B> {
             (λ _. self.new ≡ with_post self.old (Body body))
             (λ back. (back ≡ body) × (self.new ≡ self.old)) }
     {
-        if !self.held.is_empty() && !put_held(rt, &mut self.outlet, &self.lists, &mut self.held) {
+        if !self.held.is_empty()
+            && !put_held(
+                rt,
+                &mut self.outlet,
+                &self.lists,
+                &mut self.spare,
+                &mut self.held,
+            )
+        {
             return Err(body);
         }
         let outcome = self.outlet.put_one(rt, body);
@@ -91,7 +102,13 @@ impl<B: Drop> Port<B> {
             (λ _. self.new ≡ with_post self.old (Body body))
             (λ back. (back ≡ body) × (self.new ≡ self.old)) }
     {
-        if !put_held(rt, &mut self.outlet, &self.lists, &mut self.held) {
+        if !put_held(
+            rt,
+            &mut self.outlet,
+            &self.lists,
+            &mut self.spare,
+            &mut self.held,
+        ) {
             return Err(body);
         }
         // Who never rests rings seldom.
@@ -110,6 +127,26 @@ impl<B: Drop> Port<B> {
         self.outlet.put_one(rt, body)
     }
 
+    /// Whether the next body that is sent quietly is held back, and goes with all that is held back already in one batch. Nothing
+    /// is put or waited for; a port that can't hold bodies yet is made able to, where its box has lists left.
+    pub fn may_hold<R: Wait>(&mut self, rt: &R) -> bool
+        ensures { self.new ≡ self.old }
+    {
+        if self.spare.is_none() {
+            self.spare = self.lists.take(rt);
+        }
+        if self.spare.is_none() {
+            return false;
+        }
+        if self.held.is_empty()
+            && self.held.capacity() == 0
+            && let Some(list) = self.lists.take(rt)
+        {
+            self.held = list;
+        }
+        self.held.len() < self.held.capacity()
+    }
+
     /// Puts what is held back into the box, and waits while the box is full. Then it wakes the inbox, if it sleeps. Nothing is
     /// done where nothing was sent quietly since it was last done. Where the inbox is gone what is held back stays so.
     pub fn ring<R: Wait>(&mut self, rt: &R)
@@ -118,7 +155,13 @@ impl<B: Drop> Port<B> {
         if self.held.is_empty() && !self.owes_ring {
             return;
         }
-        let _is_there = put_held(rt, &mut self.outlet, &self.lists, &mut self.held);
+        let _is_there = put_held(
+            rt,
+            &mut self.outlet,
+            &self.lists,
+            &mut self.spare,
+            &mut self.held,
+        );
         self.owes_ring = false;
         self.outlet.ring();
     }
@@ -132,13 +175,15 @@ impl<B: Drop> Port<B> {
             mut outlet,
             lists,
             mut held,
+            mut spare,
             owes_ring,
         } = self;
-        if !put_held(rt, &mut outlet, &lists, &mut held) {
+        if !put_held(rt, &mut outlet, &lists, &mut spare, &mut held) {
             return Err(Port {
                 outlet,
                 lists,
                 held,
+                spare,
                 owes_ring,
             });
         }
@@ -148,6 +193,7 @@ impl<B: Drop> Port<B> {
                 outlet,
                 lists,
                 held,
+                spare,
                 owes_ring,
             }),
         }
@@ -159,6 +205,7 @@ fn put_held<B: Drop, R: Wait>(
     rt: &R,
     outlet: &mut Outlet<B>,
     lists: &SharedLists<B>,
+    spare: &mut Option<VecDeque<B, Heap>>,
     held: &mut VecDeque<B, Heap>,
 ) -> bool
     ensures same { with_bodies held.new.items outlet.new ≡ with_bodies held.old.items outlet.old }
@@ -167,7 +214,7 @@ fn put_held<B: Drop, R: Wait>(
     if held.len() < 2 {
         return put_each(rt, outlet, held);
     }
-    let Some(empty) = lists.take(rt) else {
+    let Some(empty) = empty_list(rt, lists, spare) else {
         return put_each(rt, outlet, held);
     };
     let bodies = mem::replace(held, empty);
@@ -177,6 +224,24 @@ fn put_held<B: Drop, R: Wait>(
             lists.keep(rt, mem::replace(held, bodies));
             false
         }
+    }
+}
+
+// An empty list, the spare one or one of the box's, if there is one.
+fn empty_list<B: Drop, R: Wait>(
+    rt: &R,
+    lists: &SharedLists<B>,
+    spare: &mut Option<VecDeque<B, Heap>>,
+) -> Option<VecDeque<B, Heap>>
+    ensures { IfSome result (λ list. list.items ≡ []) }
+{
+    match mem::replace(spare, None) {
+        Some(list) => {
+            let mut list = list;
+            list.clear();
+            Some(list)
+        }
+        None => lists.take(rt),
     }
 }
 

@@ -153,3 +153,9 @@ module _ {S : Type 0} where
   KeepsDesk-call before after subject ticket call answered put received ended =
       let box = ReceivesReply-box before.inbox after.inbox subject ticket answered received in
       record { ports = AreSame-puts _ before.ports after.ports put; box = box.0; count = box.1; ended = ended }
+
+  -- a call that was put without a wait leaves them too
+  pub KeepsDesk-sent : (before after : DeskView S) (subject : ℕ) (call : Call S) → Puts (λ place. to_port subject place call) before.ports after.ports → after.inbox ≡ before.inbox → after.ended ≡ before.ended
+      → KeepsDesk before after
+  KeepsDesk-sent before after subject call put inbox ended =
+      record { ports = AreSame-puts _ before.ports after.ports put; box = ap (λ (i : Incoming (Reply S)). i.box) inbox; count = ap (λ (i : Incoming (Reply S)). i.ports) inbox; ended = ended }

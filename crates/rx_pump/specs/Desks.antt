@@ -84,6 +84,13 @@ module _ {S : Type 0} where
     pub tickets : after.tickets ≡ before.tickets + 1
     pub ended : after.ended ≡ before.ended
 
+  -- the desk put just its next call, to this subject and without a sink, and received nothing
+  pub record IsPosted (before after : DeskView S) (subject : ℕ) (event : Event) : Type 0 where
+    pub goes : ¬ IsOver before
+    pub sent : IsSent before after subject event None
+    pub inbox : after.inbox ≡ before.inbox
+    pub is_over : after.is_over ≡ before.is_over
+
   -- what came is no reply of this subject to this ticket, and this is its sink
   abbrev pub IsStrange : ℕ → ℕ → ℕ → Post (Reply S) → Option S → Type 0
   IsStrange subject ticket from (Body reply) sink = (sink ≡ reply.sink) × ¬ ((from ≡ subject) × (reply.ticket ≡ ticket))
@@ -131,3 +138,8 @@ module _ {S : Type 0} where
   is_strange (Ok reply) = false
   is_strange (Err (SubjectGone sink)) = false
   is_strange (Err (Strange sink)) = true
+
+  -- what an answer did that was waited for: one letter was received, or none by a desk that made no call any more
+  pub record Awaits (before after : DeskView S) (subject ticket : ℕ) (answered : Result (Reply S) (CallError S)) : Type 0 where
+    pub over : before.is_over ≡ true → (answered ≡ Err (SubjectGone None)) × (after ≡ before)
+    pub receives : before.is_over ≡ false → ReceivesReply before.inbox after.inbox subject ticket answered × (after ≡ record before { inbox = after.inbox; is_over = is_strange answered })

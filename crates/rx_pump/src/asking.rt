@@ -10,6 +10,7 @@ use crate::call_error::CallError;
 use crate::reply::Reply;
 use rx_heap::Heap;
 use rx_mailbox::{Inbox, Letter, Port, Post};
+use rx_note::Event;
 use std::sync::Wait;
 
 // Sends a call to a subject. `Err` has the sink of a call that was handed back.
@@ -27,6 +28,36 @@ pub fn send_call<S: Drop, R: Wait>(
     match ports[subject].send(rt, call) {
         Ok(()) => Ok(()),
         Err(back) => Err(back.sink),
+    }
+}
+
+// Whether a call to a subject would be held back, so that it goes with others.
+pub fn may_post<S: Drop, R: Wait>(
+    rt: &R,
+    ports: &mut Vec<Port<Call<S>>, Heap>,
+    subject: usize,
+) -> bool
+    requires { subject < vec_len ports.old }
+    ensures { ports.new.items ≡ ports.old.items }
+{
+    ports[subject].may_hold(rt)
+}
+
+// Sends a call to a subject, behind those that wait to go with it. `Err` has the event of a call that was handed back.
+pub fn post_call<S: Drop, R: Wait>(
+    rt: &R,
+    ports: &mut Vec<Port<Call<S>>, Heap>,
+    subject: usize,
+    call: Call<S>,
+) -> Result<(), Event>
+    requires { subject < vec_len ports.old }
+    ensures { MatchResult result
+        (λ _. Puts (λ place. to_port subject place call) ports.old.items ports.new.items)
+        (λ back. (back ≡ call.event) × (ports.new.items ≡ ports.old.items)) }
+{
+    match ports[subject].send_quietly(rt, call) {
+        Ok(()) => Ok(()),
+        Err(back) => Err(back.event),
     }
 }
 

@@ -3,7 +3,7 @@ ghost use Rattle.std.specs.List.{All};
 ghost use Rattle.rx_pump.specs.Pumps.{IsFresh};
 ghost use Rattle.rx_pump.specs.Sends.{with_bye, EndsSome};
 
-use crate::asking::{is_strange, receive, send_call};
+use crate::asking::{is_strange, may_post, post_call, receive, send_call};
 use crate::call::Call;
 use crate::call_error::CallError;
 use crate::desk_parts::DeskParts;
@@ -17,8 +17,8 @@ use rx_note::Event;
 use std::marker::Model;
 use std::sync::Wait;
 
-/// A caller's side: its ports to subjects, and the inbox of its replies. It makes one call at a time, each with the next
-/// ticket from 1 on.
+/// A caller's side: its ports to subjects, and the inbox of its replies. It makes one call at a time, or posts some and has their
+/// answers then, in their order; each has the next ticket, from 1 on.
 pub struct CallDesk<S: Drop> {
     ports: Vec<Port<Call<S>>, Heap>,
     inbox: Inbox<Reply<S>>,
@@ -56,7 +56,7 @@ impl<S: Drop> Model for CallDesk<S> {
 }
 
 impl<S: Drop> CallDesk<S> {
-    ghost use Rattle.rx_pump.specs.Desks.{Called, IsOver, KeepsDesk, TicketsRise, fresh_desk};
+    ghost use Rattle.rx_pump.specs.Desks.{Awaits, Called, IsOver, IsPosted, KeepsDesk, TicketsRise, fresh_desk};
 
     /// A desk of new ports, one to each subject, and the inbox of their replies. `Err` gives them back where there was no
     /// memory for it.
@@ -121,6 +121,63 @@ impl<S: Drop> CallDesk<S> {
         let answered = receive(rt, &mut self.inbox, subject, ticket);
         self.is_over = is_strange(&answered);
         answered
+    }
+
+    /// Sends a call of this event to a subject, without a sink, and waits for no reply: that is to be waited for by `answer`. The
+    /// call goes with others that are sent so, at the latest as the first of their answers is waited for. `Err` gives the event
+    /// back, and nothing changed: where the desk makes no call any more, where the subject is gone, or where the call would have to
+    /// go alone.
+    pub fn post<R: Wait>(&mut self, rt: &R, subject: usize, event: Event) -> Result<(), Event>
+        requires { subject < length self.old.ports + length self.old.ended }
+        ensures posted { MatchResult result
+            (λ _. IsPosted self.old self.new subject event)
+            (λ back. (back ≡ event) × (self.new ≡ self.old)) }
+        ensures kept { KeepsDesk self.old self.new }
+    {
+        if self.is_over || self.tickets == u64::MAX || !may_post(rt, &mut self.ports, subject) {
+            return Err(event);
+        }
+        let ticket = self.tickets + 1;
+        let call = Call {
+            ticket,
+            event,
+            sink: None,
+        };
+        match post_call(rt, &mut self.ports, subject, call) {
+            Ok(()) => {
+                self.tickets = ticket;
+                Ok(())
+            }
+            Err(event) => Err(event),
+        }
+    }
+
+    /// Waits for the reply of a subject to the call with this ticket, the oldest of those that were posted and have no answer. A
+    /// desk that makes no call any more answers `SubjectGone` at once, and nothing changed. Refused else as `call` is.
+    pub fn answer<R: Wait>(
+        &mut self,
+        rt: &R,
+        subject: usize,
+        ticket: u64,
+    ) -> Result<Reply<S>, CallError<S>>
+        requires { subject < length self.old.ports + length self.old.ended }
+        ensures awaits { Awaits self.old self.new subject ticket result }
+        ensures kept { KeepsDesk self.old self.new }
+    {
+        if self.is_over {
+            return Err(CallError::SubjectGone { sink: None });
+        }
+        self.ports[subject].ring(rt);
+        let answered = receive(rt, &mut self.inbox, subject, ticket);
+        self.is_over = is_strange(&answered);
+        answered
+    }
+
+    /// How many tickets it used, and so the ticket of the last call that it sent.
+    pub fn tickets(&self) -> u64
+        ensures { result ≡ self.now.tickets }
+    {
+        self.tickets
     }
 
     /// Ends the ports in their order. `Err` gives the desk back where a subject is gone: from then on each call is

@@ -1,4 +1,5 @@
-//! Two desks that emit at a pump, each of the three on a thread of its own: all is admitted, and all boxes settle.
+//! Two desks that emit at a pump, each of the three on a thread of its own, call by call and several calls together: all is
+//! admitted, and all boxes settle.
 
 ghost use Rattle.std.specs.Prelude.{◌≡◌, ◌≤◌, ◌<◌, [], ◌∷◌, length, map, vec_len};
 ghost use Rattle.std.specs.List.{All};
@@ -47,6 +48,9 @@ fn one<B: Drop>(rt: &impl Abort, alloc: Heap, capacity: usize) -> (Inbox<B>, Por
 // How many items each of two desks emits.
 const ITEMS: u64 = 100;
 
+// How many of its calls are posted before their replies are waited for.
+const TOGETHER: u64 = 10;
+
 // A desk of one subject.
 fn desk_of(
     rt: &impl Abort,
@@ -65,17 +69,47 @@ fn desk_of(
     }
 }
 
+// An item.
+fn item(rt: &impl Abort, alloc: &Heap) -> Event {
+    let text = Text::new(copy(rt, alloc), b"a").expect(rt, "a text");
+    let note = Note::Next(Item::new(text));
+    Event::Emit { note, at: 0 }
+}
+
 // Emits an item, and looks that the subject admits it.
 fn admit(rt: &(impl Wait + Abort), alloc: &Heap, desk: &mut CallDesk<u8>)
     requires { 0 < length desk.old.ports }
     ensures { KeepsDesk desk.old desk.new }
 {
-    let text = Text::new(copy(rt, alloc), b"a").expect(rt, "a text");
-    let note = Note::Next(Item::new(text));
-    let event = Event::Emit { note, at: 0 };
-    match desk.call(rt, 0, event, None) {
+    match desk.call(rt, 0, item(rt, alloc), None) {
         Ok(reply) => expect_answer(rt, reply.result, Ok(Answer::Admitted)),
         Err(_) => panic!(rt; "no reply"),
+    }
+}
+
+// Posts some items.
+fn post_some(rt: &(impl Wait + Abort), alloc: &Heap, desk: &mut CallDesk<u8>)
+    requires { 0 < length desk.old.ports }
+    ensures { KeepsDesk desk.old desk.new }
+{
+    for _ in 0..TOGETHER {
+        let posted = desk.post(rt, 0, item(rt, alloc));
+        expect_that(rt, posted.is_ok(), "a call is posted");
+    }
+}
+
+// Waits for their answers, behind those to so many earlier calls, and looks that the subject admits each.
+fn admit_posted(rt: &(impl Wait + Abort), desk: &mut CallDesk<u8>, before: u64)
+    requires { 0 < length desk.old.ports }
+    ensures { KeepsDesk desk.old desk.new }
+{
+    let mut ticket = before;
+    for _ in 0..TOGETHER {
+        ticket = ticket.saturating_add(1);
+        match desk.answer(rt, 0, ticket) {
+            Ok(reply) => expect_answer(rt, reply.result, Ok(Answer::Admitted)),
+            Err(_) => panic!(rt; "no reply"),
+        }
     }
 }
 
@@ -104,9 +138,12 @@ fn emit_all(
     ensures inbox { result.inbox.box ≡ inbox.box }
 {
     let mut desk = desk_of(rt, &alloc, port, inbox);
-    for _ in 0..ITEMS {
+    for _ in 0..ITEMS - TOGETHER {
         admit(rt, &alloc, &mut desk);
     }
+    let before = desk.tickets();
+    post_some(rt, &alloc, &mut desk);
+    admit_posted(rt, &mut desk, before);
     finish_desk(rt, desk)
 }
 
@@ -216,7 +253,7 @@ fn close_all(
 
 // Two desks emit, and the pump serves, each on a thread of its own; then their boxes settle.
 fn exchange<R: Threads + Wait + Abort + Sync>(rt: &R, alloc: &Heap) -> (u64, u64) {
-    let (inbox, first, second) = two::<Call<u8>>(rt, copy(rt, alloc), 8);
+    let (inbox, first, second) = two::<Call<u8>>(rt, copy(rt, alloc), 16);
     let (_outs, drainer, _) = two::<Out<u8>>(rt, copy(rt, alloc), 1);
     let (first_inbox, first_caller) = one::<Reply<u8>>(rt, copy(rt, alloc), 1);
     let (second_inbox, second_caller) = one::<Reply<u8>>(rt, copy(rt, alloc), 1);
