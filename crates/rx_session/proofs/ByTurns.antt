@@ -8,11 +8,10 @@ use Rattle.rx_proto.specs.Reading.{session_read}
 use Rattle.rx_proto.specs.declared.command.Command.{Command}
 use Rattle.rx_proto.specs.declared.command.Command.TheVariants.{Quit}
 use Rattle.rx_proto.specs.declared.line_error.BadLine.{BadLine}
-use Rattle.rx_proto.specs.declared.line_error.LineError.{LineError}
 use Rattle.rx_proto.specs.declared.response.Response.TheVariants.{Done}
 use Rattle.rx_proto.specs.declared.version.Version.{Version}
 use Rattle.rx_session.specs.Bytes.{Holds, Loses}
-use Rattle.rx_session.specs.Feeds.{IsRest, IsLine, Comes, Tells as TellsOf}
+use Rattle.rx_session.specs.Feeds.{IsRest, Comes}
 use Rattle.rx_session.specs.Lines.{BeginsWithLine, lines_of, without_cr}
 use Rattle.rx_session.specs.Sessions.{Parties, Place, Outcome, Serves, Session, Goes, Faults, Closes, Stops, answered, end_of}
 use Rattle.rx_session.specs.OpenSessions.{Sends, Reaches, Through, Listens, Leaves, IsOpen, IsOver, CarriesOut, IsNew, first_place, Sitting, Carried, Sits}
@@ -26,8 +25,6 @@ use Rattle.rx_session.specs.declared.serving.Turned.{Turned}
 use Rattle.rx_session.specs.declared.serving.Turned.TheVariants.{On, Over}
 use Rattle.rx_session.specs.declared.session_end.SessionEnd.{SessionEnd}
 use Rattle.rx_session.specs.declared.session_end.SessionEnd.TheVariants as ends
-use Rattle.rx_session.specs.declared.step.Step.{Step}
-use Rattle.rx_session.specs.declared.step.Step.TheVariants as steps
 use Rattle.rx_session.specs.declared.turn.Turn.{Turn}
 use Rattle.rx_session.specs.declared.turn.Turn.TheVariants as turns
 use Rattle.rx_session.proofs.Answering.{told}
@@ -80,7 +77,7 @@ module _ {D W : Type 0} (p : Parties D W) where
       record { read = t.read; consumed = Consumes-kept read_old read_now read_new t.read t.consumed kept; lines = t.lines; told = t.told; reached = t.reached }
 
   -- a line was carried out, and the session goes on
-  Through-line : (start : Place D W) (first : List ℕ) (read_old read_now : Option (List ℕ)) (at place : Place D W) (rest line left : List ℕ)
+  pub Through-line : (start : Place D W) (first : List ℕ) (read_old read_now : Option (List ℕ)) (at place : Place D W) (rest line left : List ℕ)
       → Through p start first read_old read_now at rest → BeginsWithLine rest line left → Goes p (session_read (without_cr line)) at place
       → Through p start first read_old read_now place left
   Through-line start first read_old read_now at place rest line left t begins goes = record {
@@ -162,7 +159,7 @@ module _ {D W : Type 0} (p : Parties D W) where
   }
 
   -- the line that a step told was carried out
-  line_on : (start : Place D W) (first : List ℕ) (read_old read_now : Option (List ℕ)) (at : Place D W) (rest line left : List ℕ) (result : Turned W) (desk : D) (session : OpenSession)
+  pub line_on : (start : Place D W) (first : List ℕ) (read_old read_now : Option (List ℕ)) (at : Place D W) (rest line left : List ℕ) (result : Turned W) (desk : D) (session : OpenSession)
       → Through p start first read_old read_now at rest → BeginsWithLine rest line left → IsRest session.feed.skips (unread session.feed.lines) left
       → CarriesOut p session.quits (session_read (without_cr line)) at result desk session.version session.outbox → Carried p result start first read_old read_now desk session
   line_on start first read_old read_now at rest line left (On writer) desk session t begins is carries =
@@ -180,34 +177,6 @@ module _ {D W : Type 0} (p : Parties D W) where
   listening : (start : Place D W) (first : List ℕ) (read_old read_now : Option (List ℕ)) (now : Hands D W) (quits skips : Bool) (unread : List ℕ) → quits ≡ false
       → Listens p start first read_old read_now now skips unread → IsOpen p start first read_old read_now now quits skips unread
   listening start first read_old read_now now quits skips unread is s = subst (λ (q : Bool). IsOpen p start first read_old read_now now q skips unread) (sym is) s
-
-  -- the same by what was told of the line
-  pub carry_on : (start : Place D W) (first : List ℕ) (read_old read_now : Option (List ℕ)) (now : Hands D W) (step : Step) (window : List ℕ) (skips : Bool) (unread_before : List ℕ) (feed : Feed) (result : Turned W) (desk : D) (session : OpenSession)
-      → Listens p start first read_old read_now now skips unread_before
-      → ((rest : List ℕ) → IsRest skips unread_before rest → TellsOf (Some step) rest window feed.skips (unread feed.lines)) → session.feed ≡ feed
-      → ((line : List ℕ) (at : Place D W) → IsLine step line window → IsAt p at now → CarriesOut p session.quits (session_read line) at result desk session.version session.outbox)
-      → Carried p result start first read_old read_now desk session
-  carry_on start first read_old read_now now (steps.Line len) window skips unread_before feed result desk session s tells same carries =
-      let t = tells s.rest s.is_rest in
-      line_on start first read_old read_now s.at s.rest t.line t.left result desk session s.through t.begins (subst (λ (f : Feed). IsRest f.skips (unread f.lines) t.left) (sym same) t.is_rest)
-      (carries (without_cr t.line) s.at t.said s.is_at)
-  carry_on start first read_old read_now now steps.Long window skips unread_before feed result desk session s tells same carries =
-      let t = tells s.rest s.is_rest in
-      line_on start first read_old read_now s.at s.rest t.line t.left result desk session s.through t.begins (subst (λ (f : Feed). IsRest f.skips (unread f.lines) t.left) (sym same) t.is_rest)
-      (carries (without_cr t.line) s.at t.said s.is_at)
-  carry_on start first read_old read_now now steps.EndOfInput window skips unread_before feed result desk session s tells same carries = absurd (tells s.rest s.is_rest)
-  carry_on start first read_old read_now now steps.ReadFault window skips unread_before feed result desk session s tells same carries = absurd (tells s.rest s.is_rest)
-  carry_on start first read_old read_now now steps.TooManyReads window skips unread_before feed result desk session s tells same carries = absurd (tells s.rest s.is_rest)
-
-  -- what is unread goes by another name
-  pub Sitting-kept : (start : Place D W) (first : List ℕ) (read_old read_now : Option (List ℕ)) (desk : D) (writer : W) (session : OpenSession) (feed : Feed) → session.quits ≡ false
-      → Sitting p start first read_old read_now desk writer session → ((rest : List ℕ) → IsRest session.feed.skips (unread session.feed.lines) rest → IsRest feed.skips (unread feed.lines) rest)
-      → Sitting p start first read_old read_now desk writer (record session { feed = feed })
-  Sitting-kept start first read_old read_now desk writer session feed is sitting kept =
-      let now = hands desk writer session.version session.outbox in
-      let s = listens start first read_old read_now now session.quits session.feed.skips (unread session.feed.lines) is sitting in
-      listening start first read_old read_now now session.quits feed.skips (unread feed.lines) is
-      (record { at = s.at; rest = s.rest; through = s.through; is_rest = kept s.rest s.is_rest; is_at = s.is_at })
 
   -- what was held was written, or a front of it
   IsOpen-put : (start : Place D W) (first : List ℕ) (read_old read_now : Option (List ℕ)) (desk : D) (writer after : W) (version : Version) (held held_after : List ℕ) (quits skips : Bool) (unread : List ℕ)

@@ -11,3 +11,4 @@ pub mod Sheds
 pub mod SoFar
 pub mod Stepping
 pub mod Written
+pub mod Gathering

@@ -11,3 +11,5 @@ pub mod Sessions
 pub mod Steps
 pub mod Turns
 pub mod Windows
+pub mod Begun
+pub mod Gathering

@@ -1,4 +1,4 @@
-ghost use Rattle.std.specs.Prelude.{◌≡◌, ◌≤◌, ◌+◌, ◌++◌, [], IfOk, IsTrue, OnOk, drop, length, take};
+ghost use Rattle.std.specs.Prelude.{◌≡◌, ◌≤◌, ◌+◌, ◌*◌, ◌++◌, [], IfOk, IsTrue, OnOk, drop, length, take};
 ghost use Rattle.std.specs.Io.KnownBytes.{Appends, Keeps};
 ghost use Rattle.rx_proto.specs.Bytes.{Writes};
 ghost use Rattle.rx_proto.specs.Printing.{note_line, reply_line};
@@ -14,6 +14,9 @@ pub const BLOCK: usize = 8192;
 
 // The room for any line that is written.
 const LINE_ROOM: usize = 2048;
+
+// The room for the line of any response.
+const RESPONSE_ROOM: usize = 64;
 
 /// Gathers what is to be written by a writer that stands beside it. It takes no memory. Contracts see an outbox as the
 /// list of the bytes that it holds.
@@ -181,9 +184,10 @@ impl Outbox {
 
     // Holds the line of a response too, for which there is room. By far the most are OK, which is copied by a fixed size.
     #[inline(always)] // a part of `put_reply`
-    fn push_reply(&mut self, response: Response)
+    pub(crate) fn push_reply(&mut self, response: Response)
         requires { length self.old + 2048 ≤ 8192 }
-        ensures { self.new ≡ self.old ++ reply_line response }
+        ensures line { self.new ≡ self.old ++ reply_line response }
+        ensures short { length self.new ≤ length self.old + 64 }
     {
         if let Response::Done = response {
             return self.push(b"OK\n");
@@ -196,7 +200,8 @@ impl Outbox {
     #[inline(never)] // so that an OK stays short
     fn push_other_reply(&mut self, response: Response)
         requires { length self.old + 2048 ≤ 8192 }
-        ensures { self.new ≡ self.old ++ reply_line response }
+        ensures line { self.new ≡ self.old ++ reply_line response }
+        ensures short { length self.new ≤ length self.old + 64 }
     {
         match response {
             Response::Refused(word) => self.push(refusal_line(word)),
@@ -243,6 +248,13 @@ impl Outbox {
         ensures { IsTrue result → length self.now + 2048 ≤ 8192 }
     {
         BLOCK - self.len >= LINE_ROOM
+    }
+
+    /// Whether it has room for any line that is written behind so many responses and one more.
+    pub(crate) fn has_room_for(&self, responses: u32) -> bool
+        ensures { IsTrue result → length self.now + 64 * (responses + 1) + 2048 ≤ 8192 }
+    {
+        BLOCK - self.len >= LINE_ROOM + RESPONSE_ROOM * (responses as usize + 1)
     }
 
     /// Whether it holds nothing.

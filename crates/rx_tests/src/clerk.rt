@@ -34,6 +34,8 @@ impl<'a, W: Drop> Desk<W> for Clerk<'a> {
 
     ghost emits = { λ old name note response new. Unit {0} };
 
+    ghost waits = { λ base begun now. ⊥ };
+
     ghost follows = { λ old name policy version writer answer new. Unit {0} };
 
     fn memory(&self, name: &Name) -> Option<&Heap> {
@@ -48,6 +50,14 @@ impl<'a, W: Drop> Desk<W> for Clerk<'a> {
             return Response::Refused(Word::Subject);
         }
         self.asked.put(sign_of(&note));
+        Response::Done
+    }
+
+    fn begin(&mut self, _name: &Name, note: Note, _behind: u32) -> Result<(), Note> {
+        Err(note)
+    }
+
+    fn answer(&mut self) -> Response {
         Response::Done
     }
 

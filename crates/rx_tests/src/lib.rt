@@ -41,6 +41,7 @@ mod protocol;
 #[cfg(test)]
 mod refusals;
 #[cfg(test)]
+mod scribe;
 mod sessions;
 #[cfg(test)]
 mod sheet;

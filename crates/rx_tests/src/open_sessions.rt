@@ -7,10 +7,9 @@
 
 use crate::expecting::{expect_count, expect_told};
 use crate::heaps::unlimited;
+use crate::scribe::{Scribe, writing};
 use rx_heap::Heap;
-use rx_note::{Note, Policy};
-use rx_proto::{Name, Response, Version, Word};
-use rx_session::{Desk, Follow, OpenSession, SessionEnd, Turn, serve_lines};
+use rx_session::{OpenSession, SessionEnd, Turn, serve_lines};
 use rx_signs::Told;
 use std::io::{self, ErrorKind, Read, Write};
 
@@ -109,8 +108,8 @@ fn halting(input: Input, step: usize, pauses: u64) -> Halts {
 
 /// Takes so many bytes a call until it is full, when it faults. A flush of what it took may have to wait too.
 #[derive(Drop)]
-struct Sips {
-    held: Told,
+pub(crate) struct Sips {
+    pub(crate) held: Told,
     flushed: usize,
     step: usize,
     room: usize,
@@ -149,62 +148,6 @@ fn sipping(step: usize, pauses: u64, flushes: u64) -> Sips {
     }
 }
 
-/// Answers each note alike, keeps a writer or gives it back, and notes what it was asked.
-#[derive(Drop)]
-struct Scribe<'a> {
-    heap: &'a Heap,
-    asked: Told,
-    takes: bool,
-}
-
-impl<'a> Desk<Sips> for Scribe<'a> {
-    ghost knows = { λ desk name. Unit {0} };
-
-    ghost emits = { λ old name note response new. Unit {0} };
-
-    ghost follows = { λ old name policy version writer answer new. Unit {0} };
-
-    fn memory(&self, _name: &Name) -> Option<&Heap> {
-        Some(self.heap)
-    }
-
-    fn emit(&mut self, _name: &Name, note: Note) -> Response {
-        self.asked.put(match note {
-            Note::Next(_) => b'n',
-            Note::Completed => b'c',
-            Note::Failed(_) => b'f',
-        });
-        Response::Done
-    }
-
-    fn follow(
-        &mut self,
-        _name: &Name,
-        _policy: Policy,
-        version: Version,
-        writer: Sips,
-    ) -> Follow<Sips> {
-        self.asked.put(match version {
-            Version::One => b's',
-            Version::Two => b't',
-        });
-        self.asked.put_digit(writer.held.len());
-        if self.takes {
-            Follow::Taken
-        } else {
-            Follow::Back(Response::Refused(Word::Full), writer)
-        }
-    }
-}
-
-fn writing<'a>(heap: &'a Heap, takes: bool) -> Scribe<'a> {
-    Scribe {
-        heap,
-        asked: Told::new(),
-        takes,
-    }
-}
-
 fn sign_of_end(end: SessionEnd) -> u8 {
     match end {
         SessionEnd::Quit => b'Q',
@@ -228,7 +171,7 @@ fn told_of(end: SessionEnd, back: Option<Sips>, scribe: &Scribe<'_>) -> Told {
 
 // What a session by turns tells, and nothing where it is not over after so many.
 fn told_by_turns(heap: &Heap, reader: &mut Halts, writer: Sips, takes: bool) -> Told {
-    let mut scribe = writing(heap, takes);
+    let mut scribe = writing(heap, takes, 3);
     let mut session = OpenSession::new(u64::MAX);
     let mut held = writer;
     for _ in 0..100_000 {
@@ -243,7 +186,7 @@ fn told_by_turns(heap: &Heap, reader: &mut Halts, writer: Sips, takes: bool) -> 
 
 // What a session that waits tells.
 fn told_at_once(heap: &Heap, input: Input, takes: bool) -> Told {
-    let mut scribe = writing(heap, takes);
+    let mut scribe = writing(heap, takes, 3);
     let mut reader = halting(input, 65_536, 0);
     let writer = sipping(65_536, 0, 0);
     let (end, back) = serve_lines(&mut reader, writer, &mut scribe, u64::MAX);
@@ -251,7 +194,7 @@ fn told_at_once(heap: &Heap, input: Input, takes: bool) -> Told {
 }
 
 // How many `x` a peer sends, what behind them, whether the desk keeps the writer, and what is told.
-const SESSIONS: [(usize, &str, bool, &str); 13] = [
+const SESSIONS: [(usize, &str, bool, &str); 16] = [
     (
         0,
         "PUB s a\nNOPE\nQUIT\nPUB s b\n",
@@ -273,6 +216,19 @@ const SESSIONS: [(usize, &str, bool, &str); 13] = [
         "HELLO 2\nSUB s BUFFER DELAY\nPUB s a\n",
         false,
         "EOK\nERR FULL\nOK\n|t3n",
+    ),
+    (
+        0,
+        "PUB s a\nPUB s e\nPUB s a\nPUB s e\nPUB s e\nEND s\nPUB s e\nQUIT\n",
+        true,
+        "QOK\nERR ENDED\nOK\nERR ENDED\nERR ENDED\nOK\nERR ENDED\nOK\n|nnnnncn",
+    ),
+    (0, "PUB s a\nPUB s a\nSUB s BUFFER DELAY\n", true, "H|nns6"),
+    (
+        0,
+        "PUB s a\nPUB s e\nHELLO 3\nPUB s a\n",
+        true,
+        "EOK\nERR ENDED\nERR VERSION\nOK\n|nnn",
     ),
     (
         0,
@@ -409,10 +365,46 @@ fn turns_come_to_this(rt: HostRuntime) {
         };
         let mut reader = halting(input, *step, *pauses);
         let writer = sipping(65_536, *writes, *flushes);
-        let mut scribe = writing(&heap, true);
+        let mut scribe = writing(&heap, true, 3);
         let told_now = told_turns(&mut reader, writer, &mut scribe, *turns);
         expect_told(&rt, told_now.as_bytes(), told, told);
         expect_count(&rt, reader.reads, *reads, told);
         expect_count(&rt, scribe.asked.len() as u64, *asked, told);
+    }
+}
+
+// How many items a peer sends at once and how many the desk lets be begun; how many are begun behind others, and the most that wait.
+const TOGETHER: [(usize, u64, u64, u64); 6] = [
+    (1, 100, 0, 1),
+    (2, 100, 1, 2),
+    (32, 100, 31, 32),
+    (33, 100, 31, 32),
+    (5, 2, 2, 2),
+    (5, 0, 0, 0),
+];
+
+#[test]
+fn items_are_begun_together(rt: HostRuntime) {
+    let heap = unlimited(&rt);
+    for (items, room, behind, most) in &TOGETHER {
+        let input = Input {
+            unit: "PUB s a\n",
+            times: *items,
+            rest: "",
+        };
+        let mut reader = halting(input, 65_536, 0);
+        let writer = sipping(65_536, 0, 0);
+        let mut scribe = writing(&heap, true, *room);
+        let told = told_turns(&mut reader, writer, &mut scribe, 1);
+        expect_told(&rt, told.as_bytes(), "A", "one turn");
+        expect_count(&rt, scribe.asked.len() as u64, *items as u64, "items");
+        expect_count(
+            &rt,
+            scribe.answered as u64,
+            scribe.begun.len() as u64,
+            "answers",
+        );
+        expect_count(&rt, scribe.behind, *behind, "begun behind others");
+        expect_count(&rt, scribe.most, *most, "begun at once");
     }
 }

@@ -18,7 +18,7 @@ use Rattle.rx_sink.specs.declared.line_sink.LineSink.{LineSink}
 use Rattle.rx_workers.specs.Accepting.{dealt, Deals, AcceptsAll}
 use Rattle.rx_workers.specs.Crews.{AreOut, IsPortOf, NamesLast, worker_desk, first_lost}
 use Rattle.rx_workers.specs.Service.{DealsUntil, HasServedJust, HaveServedFrom, HaveServedAll, IsNewOver, ServesUntil, fault_in, port_to, session_over, with_lost}
-use Rattle.rx_workers.specs.SessionDesks.{SessionView}
+use Rattle.rx_workers.specs.SessionDesks.{SessionView, no_queue}
 use Rattle.rx_workers.specs.Telling.{IsTold}
 use Rattle.rx_workers.specs.Workers.{HasEnded, worker_at_end}
 use Rattle.rx_workers.specs.Working.{WorkerView, worker, HasWorked, state, came}
@@ -70,25 +70,25 @@ module _ {M C W : Type 0} (tells : M → ℕ → M → Type 0) (remaining : C �
   -- the box of a worker that has ended is the one that it had
   pub ended_box : (one : WorkerView (Unit {0}) C W) (end : WorkerEnd C W) → HasEnded tells remaining contents one end → end.inbox.box ≡ one.inbox.box
   ended_box one end ended =
-      (works_came (λ _ moment _. IsTold tells moment) remaining contents ended.1.deeds (state one.session one.inbox [] 0 true)
-      (state (worker_at_end one ended.0 end).session end.inbox ended.1.clients end.sessions false) ended.1.works).box
+      (works_came (λ _ moment _. IsTold tells moment) remaining contents ended.2.deeds (state one.session one.inbox [] 0 true)
+      (state (worker_at_end one ended.0 ended.1 end).session end.inbox ended.2.clients end.sessions false) ended.2.works).box
 
 module _ {M C W : Type 0} (tells : M → ℕ → M → Type 0) (remaining : C → Option (List ℕ)) (contents : W → Option (List ℕ)) (config : Config) where
   -- what an inbox of a new worker has received
   received_new : (desk : DeskView (LineSink W)) (one : WorkerView (Unit {0}) C W) (end : WorkerEnd C W) (xs : List (C × W)) (port : Outgoing (C × W)) (ended : HasEnded tells remaining contents one end)
       → IsNewOver config desk one → port ≡ outgoing one.inbox.box 0 (posts 0 xs) → GotAll end.inbox (with_bye port)
-      → (end.inbox ≡ incoming one.inbox.box 1 (posts 0 xs ++ letter 0 Bye ∷ [])) × (came ended.1.deeds ≡ xs)
+      → (end.inbox ≡ incoming one.inbox.box 1 (posts 0 xs ++ letter 0 Bye ∷ [])) × (came ended.2.deeds ≡ xs)
   received_new desk one end xs port ended new port_is got =
-      let h = works_came (λ _ moment _. IsTold tells moment) remaining contents ended.1.deeds
+      let h = works_came (λ _ moment _. IsTold tells moment) remaining contents ended.2.deeds
       (state one.session one.inbox [] 0 true)
-      (state (worker_at_end one ended.0 end).session end.inbox ended.1.clients end.sessions false) ended.1.works in
+      (state (worker_at_end one ended.0 ended.1 end).session end.inbox ended.2.clients end.sessions false) ended.2.works in
       let ports_are : one.inbox.ports ≡ 1 = ap (λ (i : Incoming (C × W)). i.ports) new.inbox in
       let none : one.inbox.received ≡ [] = ap (λ (i : Incoming (C × W)). i.received) new.inbox in
       let nothing : All (IsFrom one.inbox.ports) one.inbox.received = subst (λ (l : List (Letter (C × W))). All (IsFrom one.inbox.ports) l) (sym none) (All-nil (IsFrom one.inbox.ports)) in
       let from : All (IsFrom 1) end.inbox.received = subst (λ (n : ℕ). All (IsFrom n) end.inbox.received) ports_are (h.from nothing) in
       let all : GotAll end.inbox (with_bye (outgoing one.inbox.box 0 (posts 0 xs))) = subst (λ (p : Outgoing (C × W)). GotAll end.inbox (with_bye p)) port_is got in
       let inbox : end.inbox ≡ incoming one.inbox.box 1 (posts 0 xs ++ letter 0 Bye ∷ []) = settled_inbox end.inbox one.inbox.box xs h.box (h.ports ∙ ports_are) from all in
-      let bodies_are : bodies end.inbox.received ≡ came ended.1.deeds = h.bodies_are ∙ ap (λ (l : List (Letter (C × W))). bodies l ++ came ended.1.deeds) none in
+      let bodies_are : bodies end.inbox.received ≡ came ended.2.deeds = h.bodies_are ∙ ap (λ (l : List (Letter (C × W))). bodies l ++ came ended.2.deeds) none in
       (inbox, sym bodies_are ∙ ap (λ (i : Incoming (C × W)). bodies i.received) inbox ∙ bodies-posts xs)
 
   -- THE WORKER OF A DESK that ended, and whose box settled
@@ -99,13 +99,13 @@ module _ {M C W : Type 0} (tells : M → ℕ → M → Type 0) (remaining : C �
       let T : ℕ → Type 0 = IsTold tells in
       let H : WorkerView (Unit {0}) C W → Type 0 = λ w. (h : HasWorked (λ _ moment _. IsTold tells moment) remaining contents one w end.sessions) × (came h.deeds ≡ xs) in
       let inbox = received_new desk one end xs port ended new port_is got in
-      let session : (worker_at_end one ended.0 end).session ≡ session_over config end.desk ended.0 =
-      ap (λ (s : SessionView (Unit {0}) (LineSink W)). record { subjects = s.subjects; window = s.window; moments = tt; calls = end.desk; joined = ended.0 }) new.session in
-      let start : H (worker_at_end one ended.0 end) = (ended.1, inbox.1) in
-      let left : H (worker (session_over config end.desk ended.0) end.inbox) = subst (λ (s : SessionView (Unit {0}) (LineSink W)). H (worker s end.inbox)) session start in
-      let whole : H (worker (session_over config end.desk ended.0) (incoming one.inbox.box 1 (posts 0 xs ++ letter 0 Bye ∷ []))) =
-      subst (λ (i : Incoming (C × W)). H (worker (session_over config end.desk ended.0) i)) inbox.0 left in
-      record { one = one; joined = ended.0; sessions = end.sessions; is_new = new; worked = whole.0; came_are = whole.1 }
+      let session : (worker_at_end one ended.0 ended.1 end).session ≡ session_over config end.desk ended.0 ended.1 =
+      ap (λ (s : SessionView (Unit {0}) (LineSink W)). record { subjects = s.subjects; window = s.window; moments = tt; calls = end.desk; joined = ended.0; queue = ended.1 }) new.session in
+      let start : H (worker_at_end one ended.0 ended.1 end) = (ended.2, inbox.1) in
+      let left : H (worker (session_over config end.desk ended.0 ended.1) end.inbox) = subst (λ (s : SessionView (Unit {0}) (LineSink W)). H (worker s end.inbox)) session start in
+      let whole : H (worker (session_over config end.desk ended.0 ended.1) (incoming one.inbox.box 1 (posts 0 xs ++ letter 0 Bye ∷ []))) =
+      subst (λ (i : Incoming (C × W)). H (worker (session_over config end.desk ended.0 ended.1) i)) inbox.0 left in
+      record { one = one; joined = ended.0; queue = ended.1; sessions = end.sessions; is_new = new; worked = whole.0; came_are = whole.1 }
 
   -- WORKER BY WORKER
 
@@ -220,7 +220,7 @@ module _ {C W : Type 0} where
   pub new_own : (config : Config) (desk : DeskView (LineSink W)) (one : WorkerView (Unit {0}) C W) → IsNewOver config desk one → IsNewOver config (worker_desk one) one
   new_own config desk one new =
       let is : worker_desk one ≡ desk = ap (λ (s : SessionView (Unit {0}) (LineSink W)). s.calls) new.session in
-      record { session = new.session ∙ ap (λ d. session_over config d None) (sym is); inbox = new.inbox; room = new.room }
+      record { session = new.session ∙ ap (λ d. session_over config d None no_queue) (sym is); inbox = new.inbox; room = new.room }
 
   -- the port of one worker more
   pub ports_more : (workers workers_after : List (WorkerView (Unit {0}) C W)) (ports ports_after : List (Outgoing (C × W))) (one : WorkerView (Unit {0}) C W) (port : Outgoing (C × W))

@@ -17,7 +17,7 @@ use Rattle.rx_session.proofs.Amongst.{Sitting-then}
 use Rattle.rx_session.proofs.ByTurns.{IsOver-session, Sitting-new}
 use Rattle.rx_sink.specs.declared.line_sink.LineSink.{LineSink}
 use Rattle.rx_workers.specs.Clients.{AreSameClients, IsQuiet, IsTalk, Sets, client_at}
-use Rattle.rx_workers.specs.SessionDesks.{SessionView, KeepsSession}
+use Rattle.rx_workers.specs.SessionDesks.{Queue, SessionView, KeepsSession}
 use Rattle.rx_config.specs.declared.subject_config.SubjectConfig.{SubjectConfig}
 use Rattle.rx_workers.specs.declared.client.Client.{Client}
 use Rattle.rx_workers.specs.declared.client.Client.TheVariants.{Talks, Follows}
@@ -272,28 +272,28 @@ module _ {M C W : Type 0} (tells : M → ℕ → M → Type 0) (remaining : C �
 
 -- a session's desk of which these parts are known
 session_is : {S : Type 0} (session : SessionView (Unit {0}) S) (subjects : List SubjectConfig) (window : ℕ) (desk : DeskView S)
-    → session.subjects ≡ subjects → session.window ≡ window → session.calls ≡ desk → session ≡ record { subjects = subjects; window = window; moments = tt; calls = desk; joined = session.joined }
+    → session.subjects ≡ subjects → session.window ≡ window → session.calls ≡ desk → session ≡ record { subjects = subjects; window = window; moments = tt; calls = desk; joined = session.joined; queue = session.queue }
 session_is session subjects window desk same_subjects same_window same_calls =
-    ap (λ s. record { subjects = s; window = session.window; moments = tt; calls = session.calls; joined = session.joined }) same_subjects
-    ∙ ap (λ w. record { subjects = subjects; window = w; moments = tt; calls = session.calls; joined = session.joined }) same_window
-    ∙ ap (λ c. record { subjects = subjects; window = window; moments = tt; calls = c; joined = session.joined }) same_calls
+    ap (λ s. record { subjects = s; window = session.window; moments = tt; calls = session.calls; joined = session.joined; queue = session.queue }) same_subjects
+    ∙ ap (λ w. record { subjects = subjects; window = w; moments = tt; calls = session.calls; joined = session.joined; queue = session.queue }) same_window
+    ∙ ap (λ c. record { subjects = subjects; window = window; moments = tt; calls = c; joined = session.joined; queue = session.queue }) same_calls
 
 module _ {C W : Type 0} (tells : Unit {0} → ℕ → Unit {0} → Type 0) (remaining : C → Option (List ℕ)) (contents : W → Option (List ℕ)) where
   -- a worker that has worked, by what it left
   pub worked-end : (before : WorkerView (Unit {0}) C W) (session after : SessionView (Unit {0}) (LineSink W)) (inbox : Incoming (C × W)) (end : WorkerEnd C W) (sessions : ℕ)
       → before ≡ worker session inbox → end.desk ≡ after.calls → HasWorked tells remaining contents (worker session inbox) (worker after end.inbox) sessions
-      → (joined : Option Joined) × HasWorked tells remaining contents before (worker_at_end before joined end) sessions
+      → (joined : Option Joined) × (queue : Queue) × HasWorked tells remaining contents before (worker_at_end before joined queue end) sessions
   worked-end before session after inbox end sessions begins desk worked =
       let H : WorkerView (Unit {0}) C W → Type 0 = λ w. HasWorked tells remaining contents w (worker after end.inbox) sessions in
       let from : H before = subst H (sym begins) worked in
-      let left : after ≡ (worker_at_end before after.joined end).session = session_is after before.session.subjects before.session.window end.desk from.kept.subjects from.kept.window (sym desk) in
-      (after.joined, subst (λ (s : SessionView (Unit {0}) (LineSink W)). HasWorked tells remaining contents before (worker s end.inbox) sessions) left from)
+      let left : after ≡ (worker_at_end before after.joined after.queue end).session = session_is after before.session.subjects before.session.window end.desk from.kept.subjects from.kept.window (sym desk) in
+      (after.joined, after.queue, subst (λ (s : SessionView (Unit {0}) (LineSink W)). HasWorked tells remaining contents before (worker s end.inbox) sessions) left from)
 
   -- so a worker has that was at work
   pub worker-ended : (before : WorkerView (Unit {0}) C W) (session : SessionView (Unit {0}) (LineSink W)) (inbox : Incoming (C × W)) (begun shift : State (Unit {0}) C W) (end : WorkerEnd C W)
       → before ≡ worker session inbox → begun ≡ state session inbox [] 0 true → Goes tells remaining contents begun shift → shift.is_open ≡ false → IsQuiet shift.clients
       → end.desk ≡ shift.session.calls → end.inbox ≡ shift.inbox → end.sessions ≡ shift.sessions
-      → (joined : Option Joined) × HasWorked tells remaining contents before (worker_at_end before joined end) end.sessions
+      → (joined : Option Joined) × (queue : Queue) × HasWorked tells remaining contents before (worker_at_end before joined queue end) end.sessions
   worker-ended before session inbox begun shift end begins begun_is goes closed quiet desk inbox_is sessions_are =
       let from : Goes tells remaining contents (state session inbox [] 0 true) shift = subst (λ (s : State (Unit {0}) C W). Goes tells remaining contents s shift) begun_is goes in
       let all = has_worked tells remaining contents session inbox shift from closed quiet in

@@ -9,7 +9,7 @@ use Rattle.rx_pump.specs.Desks.{DeskView}
 use Rattle.rx_sink.specs.declared.line_sink.LineSink.{LineSink}
 use Rattle.rx_workers.specs.Accepting.{Accepts, AcceptsAll, dealt}
 use Rattle.rx_workers.specs.Crews.{NamesLast}
-use Rattle.rx_workers.specs.SessionDesks.{SessionView}
+use Rattle.rx_workers.specs.SessionDesks.{Queue, SessionView, no_queue}
 use Rattle.rx_workers.specs.Telling.{IsTold}
 use Rattle.rx_workers.specs.Working.{WorkerView, worker, HasWorked, came}
 use Rattle.rx_workers.specs.declared.accepting.AcceptStop.{AcceptStop}
@@ -19,8 +19,8 @@ use Rattle.rx_workers.specs.declared.serve_fault.ServeFault.{ServeFault}
 use Rattle.rx_workers.specs.declared.serve_fault.ServeFault.TheVariants.{NoDesk, Accept, Thread, Memory}
 
 -- the desk of a worker's sessions over a desk that makes its calls, by a configuration
-abbrev pub session_over : {W : Type 0} → Config → DeskView (LineSink W) → Option Joined → SessionView (Unit {0}) (LineSink W)
-session_over config desk joined = record { subjects = config.subjects.items; window = config.window; moments = tt; calls = desk; joined = joined }
+abbrev pub session_over : {W : Type 0} → Config → DeskView (LineSink W) → Option Joined → Queue → SessionView (Unit {0}) (LineSink W)
+session_over config desk joined queue = record { subjects = config.subjects.items; window = config.window; moments = tt; calls = desk; joined = joined; queue = queue }
 
 module _ {C W : Type 0} where
   -- the port to the inbox of a worker, by which nothing was sent yet
@@ -29,7 +29,7 @@ module _ {C W : Type 0} where
 
   -- a worker that begins, over this desk: its box is new, has one port, and room for 16 connections
   pub record IsNewOver (config : Config) (desk : DeskView (LineSink W)) (one : WorkerView (Unit {0}) C W) : Type 0 where
-    pub session : one.session ≡ session_over config desk None
+    pub session : one.session ≡ session_over config desk None no_queue
     pub inbox : one.inbox ≡ incoming one.inbox.box 1 []
     pub room : capacity_of one.inbox.box ≡ 16
 
@@ -39,11 +39,12 @@ module _ {M C W : Type 0} (tells : M → ℕ → M → Type 0) (remaining : C �
   pub record HasServedJust (connections : List (C × W)) (desk after : DeskView (LineSink W)) : Type 0 where
     pub one : WorkerView (Unit {0}) C W
     pub joined : Option Joined
+    pub queue : Queue
     pub sessions : ℕ
     pub is_new : IsNewOver config desk one
     pub worked :
         HasWorked (λ _ moment _. IsTold tells moment) remaining contents one
-        (worker (session_over config after joined) (incoming one.inbox.box 1 (posts 0 connections ++ letter 0 Bye ∷ []))) sessions
+        (worker (session_over config after joined queue) (incoming one.inbox.box 1 (posts 0 connections ++ letter 0 Bye ∷ []))) sessions
     pub came_are : came worked.deeds ≡ connections
 
   -- the workers of these desks, of which the first is worker d of n, each served the connections that were dealt to it

@@ -1,6 +1,6 @@
 -- What a session's desk does: it makes one call to the subject of a name, and answers by what came of it (this project's
 -- own rule).
-use Rattle.std.specs.Prelude.{◌≡◌, ◌<◌, ◌≤◌, ℕ, true, false, List, length, Option, None, Some, MatchOption, Result, Ok, Err, position, if◌then◌else◌}
+use Rattle.std.specs.Prelude.{◌≡◌, ◌<◌, ◌≤◌, ℕ, true, false, List, [], length, Option, None, Some, MatchOption, Result, Ok, Err, position, if◌then◌else◌}
 use Rattle.rx_note.specs.Choices.{Choice}
 use Rattle.rx_note.specs.declared.answer.Answer.{Answer}
 use Rattle.rx_note.specs.declared.answer.Answer.TheVariants as answers
@@ -24,14 +24,26 @@ use Rattle.rx_workers.specs.Responses.{response_of, has_joined, sink_back}
 use Rattle.rx_workers.specs.declared.joined.Joined.{Joined}
 use Rattle.rx_config.specs.declared.subject_config.SubjectConfig.{SubjectConfig}
 
+-- the notes that a session's desk began to emit: the place of their subject, the events whose calls are still to be sent, and how
+-- many calls were sent and have no answer yet
+pub record Queue : Type 0 where
+  pub subject : ℕ
+  pub events : List Event
+  pub sent : ℕ
+
+-- the queue of a desk that never began a note
+abbrev pub no_queue : Queue
+no_queue = record { subject = 0; events = []; sent = 0 }
+
 -- a session's desk: the subjects, by whose names it finds them, the first request of an observer, where its moments come
--- from, the desk that makes its calls, and whom its last Join made
+-- from, the desk that makes its calls, whom its last Join made, and what it began to emit
 pub record SessionView (M S : Type 0) : Type 0 where
   pub subjects : List SubjectConfig
   pub window : ℕ
   pub moments : M
   pub calls : DeskView S
   pub joined : Option Joined
+  pub queue : Queue
 
 -- the place of the first subject of a name
 abbrev pub place_of : List ℕ → List SubjectConfig → Option ℕ
@@ -81,14 +93,15 @@ module _ {M W : Type 0} (tells : M → ℕ → M → Type 0) where
     pub at : ℕ
     pub told : tells before.moments at after.moments
     pub called : Called before.calls after.calls subject (event at) sink answered
-    pub over : IsOver before.calls → (answered ≡ Err (SubjectGone sink)) × (after.calls ≡ before.calls)
+    pub over : IsOver before.calls → answered ≡ Err (SubjectGone sink)
     pub kept : KeepsSession before after
 
-  -- a note was emitted at the subject at this place, and the response is that of the answer
+  -- a note was emitted at the subject at this place, and the response is that of the answer. (Of a desk that makes no call any more
+  -- the call may have been put together with an earlier one, before that.)
   abbrev pub EmitsAt : SessionView M (LineSink W) → Note → Response → SessionView M (LineSink W) → ℕ → Type 0
   EmitsAt before note response after subject =
       (answered : Result (Reply (LineSink W)) (CallError (LineSink W))) × CallsOnce before after subject (λ at. Emit note at) None answered
-      × (response ≡ response_of answered) × (after.joined ≡ before.joined)
+      × (response ≡ response_of answered) × (after.joined ≡ before.joined) × (after.queue.events ≡ before.queue.events) × (after.queue.sent ≡ before.queue.sent)
 
   -- an Emit at the subject of a name; without such a subject no call is made
   abbrev pub emits : SessionView M (LineSink W) → List ℕ → Note → Response → SessionView M (LineSink W) → Type 0
@@ -101,6 +114,7 @@ module _ {M W : Type 0} (tells : M → ℕ → M → Type 0) where
   FollowsAt before policy version writer result after subject =
       (answered : Result (Reply (LineSink W)) (CallError (LineSink W)))
       × CallsOnce before after subject (λ at. Join policy before.window at) (Some (line_sink version writer)) answered × (result ≡ followed answered)
+      × (IsOver before.calls → after.calls ≡ before.calls) × (after.queue ≡ before.queue)
       × (after.joined ≡ joined_by subject answered)
 
   -- a Join at the subject of a name; without such a subject no call is made, and the writer comes back
@@ -116,3 +130,4 @@ module _ {M W : Type 0} where
     pub none : length before.subjects ≤ observer.subject → after ≡ before
     pub kept : KeepsSession before after
     pub joined : after.joined ≡ before.joined
+    pub queue : after.queue ≡ before.queue

@@ -13,6 +13,7 @@
 
 mod accepting;
 mod admitting;
+mod begun;
 mod client;
 mod clients;
 mod dispatching;

@@ -1,7 +1,8 @@
-ghost use Rattle.std.specs.Prelude.{◌≡◌, ◌+◌, None, length, vec_len};
+ghost use Rattle.std.specs.Prelude.{◌≡◌, ◌+◌, ◌<◌, ◌⊎◌, ◌∷◌, List, None, length, vec_len, IsTrue};
 ghost use Rattle.rx_proto.specs.Reading.{same_word};
-ghost use Rattle.rx_workers.specs.SessionDesks.{followed, joined_by, place_of};
+ghost use Rattle.rx_workers.specs.SessionDesks.{followed, joined_by, no_queue, place_of};
 
+use crate::begun::Begun;
 use crate::joined::Joined;
 use crate::moments::Moments;
 use crate::responding::{has_joined, response_of, sink_back};
@@ -17,7 +18,7 @@ use std::marker::Model;
 use std::sync::Wait;
 
 /// The desk of a session: it finds the subject of a name in the configuration, and makes one call to it for each command,
-/// with the moment at which the call is made.
+/// with the moment at which the command was given. What is begun waits for its call, so that several go to their subject together.
 #[derive(Drop)]
 pub struct SessionDesk<'a, R, M: Drop, W: Write + Drop> {
     rt: &'a R,
@@ -28,16 +29,23 @@ pub struct SessionDesk<'a, R, M: Drop, W: Write + Drop> {
     calls: CallDesk<LineSink<W>>,
     // Whom the last Join made.
     joined: Option<Joined>,
+    // The place of the subject of what was begun.
+    subject: usize,
+    // The events of what was begun whose calls are still to be sent.
+    begun: Begun,
+    // How many calls were sent that have no answer yet.
+    sent: u32,
 }
 
 impl<'a, R, M: Drop, W: Write + Drop> Model for SessionDesk<'a, R, M, W> {
     ghost use Rattle.std.specs.Prelude.{◌+◌, ◌≡◌, length, vec_len};
     ghost use Rattle.rx_sink.specs.declared.line_sink.LineSink.{LineSink};
+    ghost use Rattle.rx_workers.specs.Queues.{events_of};
     ghost use Rattle.rx_workers.specs.SessionDesks.{SessionView};
 
     ghost Value = { SessionView M (LineSink W) };
 
-    ghost view = { λ d. record { subjects = d.config.now.subjects.items; window = d.config.now.window; moments = d.moments; calls = d.calls; joined = d.joined } };
+    ghost view = { λ d. record { subjects = d.config.now.subjects.items; window = d.config.now.window; moments = d.moments; calls = d.calls; joined = d.joined; queue = record { subject = d.subject; events = events_of d.begun; sent = d.sent } } };
 
     ghost invariant = { λ d. length d.calls.ports + length d.calls.ended ≡ vec_len d.config.now.subjects };
 }
@@ -55,7 +63,7 @@ impl<'a, R, M: Drop, W: Write + Drop> SessionDesk<'a, R, M, W> {
         moments: M,
     ) -> SessionDesk<'a, R, M, W>
         requires { length calls.ports + length calls.ended ≡ vec_len config.now.subjects }
-        ensures { result ≡ record { subjects = config.now.subjects.items; window = config.now.window; moments = moments; calls = calls; joined = None } }
+        ensures { result ≡ record { subjects = config.now.subjects.items; window = config.now.window; moments = moments; calls = calls; joined = None; queue = no_queue } }
     {
         SessionDesk {
             rt,
@@ -64,6 +72,9 @@ impl<'a, R, M: Drop, W: Write + Drop> SessionDesk<'a, R, M, W> {
             moments,
             calls,
             joined: None,
+            subject: 0,
+            begun: Begun::new(),
+            sent: 0,
         }
     }
 
@@ -106,12 +117,79 @@ impl<'a, R: Wait, M: Moments + Drop, W: Write + Drop> SessionDesk<'a, R, M, W> {
     }
 }
 
+impl<'a, R: Wait, M: Moments + Drop, W: Write + Drop> SessionDesk<'a, R, M, W> {
+    ghost use Rattle.rx_note.specs.declared.note.Note.{Note};
+    ghost use Rattle.rx_session.specs.Begun.{Asked, IsBehind};
+    ghost use Rattle.rx_workers.specs.Queues.{Waits};
+    ghost use Rattle.rx_workers.specs.SessionDesks.{SessionView, emits};
+
+    // Whether a note for the subject at this place may be begun behind so many: these are just what is begun, and for the same one.
+    fn goes_behind(&self, place: usize, behind: u32) -> bool
+        ensures { IsTrue result → (length self.now.queue.events + self.now.queue.sent ≡ behind) × ((behind ≡ 0) ⊎ (place ≡ self.now.queue.subject)) }
+    {
+        let begun = (self.begun.len() as u64).saturating_add(u64::from(self.sent));
+        begun == u64::from(behind) && (behind == 0 || place == self.subject)
+    }
+
+    // Posts what was begun, as much of it as can go together, where that is more than one.
+    fn post_begun(&mut self)
+        requires { self.old.queue.subject < length self.old.subjects }
+        ensures waits { (base : SessionView M (LineSink W)) (begun : List Asked) → Waits M.tells base begun self.old → Waits M.tells base begun self.new }
+        ensures subject { self.new.queue.subject ≡ self.old.queue.subject }
+        ensures subjects { self.new.subjects ≡ self.old.subjects }
+    {
+        if self.begun.len() < 2 {
+            return;
+        }
+        while self.sent < u32::MAX
+            && let Some(event) = self.begun.take_first()
+        {
+            if let Err(back) = self.calls.post(self.rt, self.subject, event) {
+                self.begun.put_back(back);
+                return;
+            }
+            self.sent += 1;
+        }
+    }
+
+    // The response to the oldest call that was posted and has none.
+    fn next_answer(&mut self) -> Response
+        requires subject { self.old.queue.subject < length self.old.subjects }
+        requires some { 0 < self.old.queue.sent }
+        ensures { (base : SessionView M (LineSink W)) (first : Asked) (rest : List Asked) → Waits M.tells base (first ∷ rest) self.old
+            → (after : SessionView M (LineSink W)) × emits M.tells base first.name first.note result after × IsBehind (Waits M.tells) after rest self.new }
+    {
+        let before = self.calls.tickets().saturating_sub(u64::from(self.sent));
+        self.sent -= 1;
+        let ticket = before.saturating_add(1);
+        let answered = self.calls.answer(self.rt, self.subject, ticket);
+        response_of(&answered)
+    }
+
+    // Makes the call of the first event that was begun, alone.
+    fn call_begun(&mut self) -> Response
+        requires subject { self.old.queue.subject < length self.old.subjects }
+        requires none { self.old.queue.sent ≡ 0 }
+        ensures { (base : SessionView M (LineSink W)) (first : Asked) (rest : List Asked) → Waits M.tells base (first ∷ rest) self.old
+            → (after : SessionView M (LineSink W)) × emits M.tells base first.name first.note result after × IsBehind (Waits M.tells) after rest self.new }
+    {
+        let Some(event) = self.begun.take_first() else {
+            return Response::Done;
+        };
+        let answered = self.calls.call(self.rt, self.subject, event, None);
+        response_of(&answered)
+    }
+}
+
 impl<'a, R: Wait, M: Moments + Drop, W: Write + Drop> Desk<W> for SessionDesk<'a, R, M, W> {
+    ghost use Rattle.rx_workers.specs.Queues.{Waits};
     ghost use Rattle.rx_workers.specs.SessionDesks.{emits, follows, knows};
 
     ghost knows = { knows };
 
     ghost emits = { emits M.tells };
+
+    ghost waits = { Waits M.tells };
 
     ghost follows = { follows M.tells };
 
@@ -130,6 +208,32 @@ impl<'a, R: Wait, M: Moments + Drop, W: Write + Drop> Desk<W> for SessionDesk<'a
         let event = Event::Emit { note, at };
         let answered = self.calls.call(self.rt, place, event, None);
         response_of(&answered)
+    }
+
+    fn begin(&mut self, name: &Name, note: Note, behind: u32) -> Result<(), Note> {
+        let Some(place) = self.place_of(name) else {
+            return Err(note);
+        };
+        if !self.goes_behind(place, behind) || !self.begun.has_room(self.heap) {
+            return Err(note);
+        }
+        let at = self.moments.now();
+        self.subject = place;
+        self.begun.push(Event::Emit { note, at });
+        Ok(())
+    }
+
+    fn answer(&mut self) -> Response {
+        if self.subject >= self.config.subjects.len() {
+            return Response::Done;
+        }
+        if self.sent == 0 {
+            self.post_begun();
+        }
+        if self.sent == 0 {
+            return self.call_begun();
+        }
+        self.next_answer()
     }
 
     fn follow(&mut self, name: &Name, policy: Policy, version: Version, writer: W) -> Follow<W> {

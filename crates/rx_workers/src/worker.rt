@@ -1,5 +1,6 @@
 ghost use Rattle.std.specs.Prelude.{◌≡◌, ◌+◌, None, length, vec_len};
 ghost use Rattle.std.specs.Arc.{arc_value};
+ghost use Rattle.rx_workers.specs.SessionDesks.{no_queue};
 
 use crate::moments::Moments;
 use crate::readiness::Readiness;
@@ -48,11 +49,12 @@ impl<M: Drop, C: Drop, W: Write + Drop, P: Drop> Drop for Worker<M, C, W, P> {
 impl<M: Drop, C: Drop, W: Write + Drop, P: Drop> Model for Worker<M, C, W, P> {
     ghost use Rattle.std.specs.Prelude.{◌≡◌, ◌+◌, None, length, vec_len};
     ghost use Rattle.std.specs.Arc.{arc_value};
+    ghost use Rattle.rx_workers.specs.SessionDesks.{no_queue};
     ghost use Rattle.rx_workers.specs.Working.{WorkerView, worker};
 
     ghost Value = { WorkerView (Unit {0}) C W };
 
-    ghost view = { λ w. worker (record { subjects = (arc_value w.config).subjects.items; window = (arc_value w.config).window; moments = tt; calls = w.desk; joined = None }) w.inbox };
+    ghost view = { λ w. worker (record { subjects = (arc_value w.config).subjects.items; window = (arc_value w.config).window; moments = tt; calls = w.desk; joined = None; queue = no_queue }) w.inbox };
 
     ghost invariant = { λ w. length w.desk.ports + length w.desk.ended ≡ vec_len (arc_value w.config).subjects };
 }
@@ -78,7 +80,7 @@ impl<M: Moments + Drop, C: Read + Drop, W: Write + Drop, P: Readiness<C> + Drop>
         readiness: P,
     ) -> Worker<M, C, W, P>
         requires { length desk.ports + length desk.ended ≡ vec_len (arc_value config).subjects }
-        ensures { result ≡ worker (record { subjects = (arc_value config).subjects.items; window = (arc_value config).window; moments = tt; calls = desk; joined = None }) inbox }
+        ensures { result ≡ worker (record { subjects = (arc_value config).subjects.items; window = (arc_value config).window; moments = tt; calls = desk; joined = None; queue = no_queue }) inbox }
     {
         Worker {
             heap,

@@ -5,4 +5,4 @@ pub returns-in-Err : goal.returns-in-Err
 returns-in-Err g c = Loses-more _ _ _ _ _ _ c.in-Err.ensures.puts
 
 pub returns : goal.returns
-returns g c = Holds-pushed _ _ _ _ _ _ c.in-Ok.ensures.puts c.push_reply.ensures
+returns g c = Holds-pushed _ _ _ _ _ _ c.in-Ok.ensures.puts c.push_reply.ensures.line

@@ -1,0 +1,12 @@
+use Rattle.std.proofs.Common.{◌+◌, ◌*◌, ◌<◌, ◌≤◌, ℕ, List, Option, length}
+use Rattle.rx_session.specs.Gathering.{Gathering}
+use Rattle.rx_session.specs.OpenSessions.{Sitting}
+use Rattle.rx_session.specs.Sessions.{Place, parties}
+use Rattle.rx_session.proofs.open_session.OpenSession.carry_lines.Given as goal
+
+abbrev pub invariant-loop : goal.invariant-loop
+invariant-loop g l =
+    ((start : Place g.row.D.Denot g.row.W.Denot) (first : List ℕ) (read_old read_now : Option (List ℕ))
+    → Sitting (parties g.D.Desk.knows g.D.Desk.emits g.D.Desk.follows g.W.Write.contents) start first read_old read_now l.initial.desk l.initial.held l.initial.self
+    → Gathering (parties g.D.Desk.knows g.D.Desk.emits g.D.Desk.follows g.W.Write.contents) g.D.Desk.waits start first read_old read_now l.desk l.held l.self l.begun)
+    × (0 < l.begun → length l.self.outbox + 64 * l.begun ≤ 6144)
