@@ -42,6 +42,7 @@ mod protocol;
 mod refusals;
 #[cfg(test)]
 mod scribe;
+#[cfg(test)]
 mod sessions;
 #[cfg(test)]
 mod sheet;
