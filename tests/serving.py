@@ -41,9 +41,13 @@ class Server:
         self.told_in = f"{self.folder}/told"
         with open(f"{self.folder}/s.toml", "w", encoding="ascii") as file:
             file.write(config)
-        words = ["sh", "-c", begun_by, "", rxline, "serve", f"{self.folder}/s.toml", self.path]
+        self.words = ["sh", "-c", begun_by, "", rxline, "serve", f"{self.folder}/s.toml", self.path]
+        self.start()
+
+    def start(self):
+        """Starts it; what one before told is gone."""
         with open(self.told_in, "wb") as faults:
-            self.process = subprocess.Popen(words, stdout=subprocess.PIPE, stderr=faults)
+            self.process = subprocess.Popen(self.words, stdout=subprocess.PIPE, stderr=faults)
 
     def __enter__(self):
         self.expect([self.listening()])

@@ -21,11 +21,12 @@ static void print_given(hazoxe_subject *subject) {
 
 int main(void) {
     hazoxe_subject subject = HAZOXE_EMPTY;
-    hazoxe_rules rules = {.kind = HAZOXE_REPLAY, .count = 16, .observers = 64, .joins = 1000, .items = 1000};
-    uint32_t who;
-    uint32_t code = hazoxe_open(&subject, &rules, NULL, 0);
+    hazoxe_rules rules = HAZOXE_RULES(HAZOXE_REPLAY);
+    uint32_t who, code;
+    rules.count = 16;
+    code = hazoxe_open(&subject, &rules, NULL, 0);
     if (code != HAZOXE_OK) {
-        fprintf(stderr, "not opened: %u\n", code);
+        fprintf(stderr, "not opened: %s\n", hazoxe_strerror(code));
         return 1;
     }
     hazoxe_next(&subject, 0, 0, "hello", 5); /* no observer yet, but Replay keeps it */

@@ -29,6 +29,9 @@
 extern "C" {
 #endif
 
+/* The version of this header, as MAJOR.MINOR.PATCH. */
+#define HAZOXE_VERSION "0.1.0"
+
 /* What a call came to. 1 to 7 are a subject's refusals, in its order; HAZOXE_MEMORY comes last in each call. */
 #define HAZOXE_OK 0
 #define HAZOXE_ENDED 1            /* the subject has ended */
@@ -99,6 +102,9 @@ typedef struct {
     uint32_t items;     /* the most in all, at least 1 */
 } hazoxe_rules;
 
+/* Rules to begin with: a subject of this kind, with the greatest limits, no count, age or budget. */
+#define HAZOXE_RULES(kind) {0, 0, (uint32_t)(kind), 0, 64, UINT32_MAX, UINT32_MAX}
+
 /* A note that was given, without its text. */
 typedef struct {
     uint32_t observer; /* the number of the observer that it was given to */
@@ -138,6 +144,36 @@ uint32_t hazoxe_proved_take_many(hazoxe_subject *subject, hazoxe_note *notes, si
                                  hazoxe_taken *taken);
 uint32_t hazoxe_proved_waiting(hazoxe_subject *subject, uint32_t who, size_t *count);
 uint32_t hazoxe_proved_count(hazoxe_subject *subject, hazoxe_counts *counts);
+
+/* What the number that a call answered means, in a few words without a full stop; of a number that is none of them, that. */
+static inline const char *hazoxe_strerror(uint32_t code) {
+    static const char *const sentences[] = {
+        "done",
+        "the subject has ended",
+        "as many observers are held as may be",
+        "as many joins or items were accepted as may be",
+        "a request is for at least 1 item",
+        "no observer of that number is held",
+        "more than 4294967295 items would be owed",
+        "there is no memory, or the budget has no bytes left",
+        "there is no subject, or it is closed",
+        "there is a subject already",
+        "there is no such kind",
+        "a seed is for a Behavior alone",
+        "a count is 1 to 4096, and for a Replay alone",
+        "an age is at least 1 millisecond, and for a Replay alone",
+        "limits are 1 to 64 observers, and at least 1 join and item",
+        "a text has at most 1024 bytes",
+        "a text has no line feed",
+        "there is no such strategy",
+        "a room has 0 to 1024 items, under Latest 1 to 1024, under Buffer 0",
+        "there is no such error mode",
+        "no note waits to be taken",
+        "the text has more bytes than the buffer",
+        "a pointer is NULL",
+    };
+    return code <= HAZOXE_NULL ? sentences[code] : "there is no such answer";
+}
 
 /* A text of no bytes, for one that is NULL. */
 static inline const uint8_t *hazoxe_bytes(const void *text) {
@@ -235,6 +271,32 @@ static inline uint32_t hazoxe_waiting(hazoxe_subject *subject, uint32_t who, siz
 static inline uint32_t hazoxe_count(hazoxe_subject *subject, hazoxe_counts *counts) {
     if (subject == NULL || counts == NULL) return HAZOXE_NULL;
     return hazoxe_proved_count(subject, counts);
+}
+
+/* What the notes of one observer go to. */
+typedef struct {
+    uint32_t observer;                                                    /* its number */
+    void (*call)(void *context, const hazoxe_note *note, const char *text); /* not NULL; the text has no NUL behind it */
+    void *context;                                                        /* handed to each call */
+} hazoxe_handler;
+
+/* Takes each note that waits to be taken, in their order, and hands it to the handler of its observer, the first of `count`
+ * that has its number: so none is lost to another observer's loop. A note whose observer has no handler waits on, with those
+ * behind it. A handler may call for the subject, but not close it. NO_SUBJECT; NO_OBSERVER, at a note without a handler. */
+static inline uint32_t hazoxe_dispatch(hazoxe_subject *subject, const hazoxe_handler *handlers, size_t count) {
+    hazoxe_note note;
+    uint8_t text[1024];
+    uint32_t code;
+    if (subject == NULL || (handlers == NULL && count > 0)) return HAZOXE_NULL;
+    while ((code = hazoxe_proved_peek(subject, &note)) == HAZOXE_OK) {
+        size_t place = 0;
+        while (place < count && handlers[place].observer != note.observer) place++;
+        if (place == count) return HAZOXE_NO_OBSERVER;
+        code = hazoxe_proved_take(subject, &note, text, sizeof text);
+        if (code != HAZOXE_OK) return code;
+        handlers[place].call(handlers[place].context, &note, (const char *)text);
+    }
+    return code == HAZOXE_NOTHING_GIVEN ? HAZOXE_OK : code;
 }
 
 #ifdef __cplusplus

@@ -10,7 +10,7 @@
 
 A subject passes each note from its producers to its observers, in order and once. Each observer says how many items it wants,
 and by its strategy what becomes of those that it did not ask for yet. A call that is refused raises `Refused`, and leaves the
-subject as it was. One thread uses a subject at a time.
+subject as it was. Threads may share a subject: no two calls of the library overlap, since each keeps Python's global lock.
 
 The library is the file that the variable HAZOXE names, else libhazoxe.so beside this file. This module is not proved: it hands
 on what it is told.
@@ -18,12 +18,20 @@ on what it is told.
 
 import ctypes
 import enum
+import itertools
 import os
+import sys
+import threading
+from collections import deque
 from ctypes import POINTER, byref, c_char_p, c_size_t, c_uint32, c_uint64, c_void_p
-from typing import Iterator, NamedTuple, Optional
+from typing import Deque, Dict, Iterator, NamedTuple, Optional, Tuple, Union
+
+__version__ = "0.1.0"
 
 MOST = 2**32 - 1  # of joins, of items, and of items that are owed
 MAX_TEXT = 1024  # bytes
+
+Text = Union[bytes, bytearray, memoryview]
 
 
 class Kind(enum.IntEnum):
@@ -82,13 +90,41 @@ class Cause(enum.IntEnum):
     BAD_ROOM = 18
     BAD_ERRORS = 19
     NOTHING_GIVEN = 20
+    BUFFER_TOO_SMALL = 21
+    NULL = 22
+
+
+SENTENCES = {
+    Cause.ENDED: "the subject has ended",
+    Cause.FULL: "as many observers are held as may be",
+    Cause.SPENT: "as many joins or items were accepted as may be",
+    Cause.ZERO_REQUEST: "a request is for at least 1 item",
+    Cause.NO_OBSERVER: "no observer of that number is held",
+    Cause.TOO_MUCH: "more than 4294967295 items would be owed",
+    Cause.MEMORY: "there is no memory, or the budget has no bytes left",
+    Cause.NO_SUBJECT: "there is no subject, or it is closed",
+    Cause.HOLDS_SUBJECT: "there is a subject already",
+    Cause.BAD_KIND: "there is no such kind",
+    Cause.BAD_SEED: "a seed is for a Behavior alone",
+    Cause.BAD_COUNT: "a count is 1 to 4096, and for a Replay alone",
+    Cause.BAD_AGE: "an age is at least 1 millisecond, and for a Replay alone",
+    Cause.BAD_LIMITS: "limits are 1 to 64 observers, and at least 1 join and item",
+    Cause.TOO_LONG: "a text has at most 1024 bytes",
+    Cause.HAS_LF: "a text has no line feed",
+    Cause.BAD_STRATEGY: "there is no such strategy",
+    Cause.BAD_ROOM: "a room has 0 to 1024 items, under Latest 1 to 1024, under Buffer 0",
+    Cause.BAD_ERRORS: "there is no such error mode",
+    Cause.NOTHING_GIVEN: "no note waits to be taken",
+    Cause.BUFFER_TOO_SMALL: "the text has more bytes than the buffer",
+    Cause.NULL: "a pointer is NULL",
+}
 
 
 class Refused(Exception):
     """A call did nothing, for this cause."""
 
     def __init__(self, cause: Cause):
-        super().__init__(cause.name)
+        super().__init__(f"{cause.name}: {SENTENCES[cause]}")
         self.cause = cause
 
 
@@ -131,7 +167,26 @@ class _Counts(ctypes.Structure):
 
 _SEEDED = 2  # the library's number of Behavior with a seed
 
-_library = ctypes.CDLL(os.environ.get("HAZOXE") or os.path.join(os.path.dirname(__file__), "libhazoxe.so"))
+_HOW_TO_BUILD = """
+In the repository it is built by
+    (cd crates/hazoxe_c && rt lib)
+    cc -shared -fPIC -o bindings/python/libhazoxe.so -Wl,--whole-archive crates/hazoxe_c/out/libhazoxe_c.a \\
+        -Wl,--no-whole-archive bindings/c/hazoxe_heap.c
+and another place for it is told by the variable HAZOXE."""
+
+
+def _load() -> ctypes.PyDLL:
+    """The library, by calls that keep the global lock: so no two of them overlap."""
+    if not getattr(sys, "_is_gil_enabled", lambda: True)():
+        raise ImportError("hazoxe: rests on Python's global lock, which this one runs without (PYTHON_GIL=1 brings it back)")
+    path = os.environ.get("HAZOXE") or os.path.join(os.path.dirname(os.path.abspath(__file__)), "libhazoxe.so")
+    try:
+        return ctypes.PyDLL(path)
+    except OSError as fault:
+        raise ImportError(f"hazoxe: the library is not to be had: {fault}.{_HOW_TO_BUILD}") from fault
+
+
+_library = _load()
 
 
 def _call(name: str, *types):
@@ -165,12 +220,38 @@ def _number(value: int, most: int = MOST) -> int:
     return value
 
 
+def _bytes(text: Text) -> bytes:
+    if isinstance(text, (bytes, bytearray, memoryview)):
+        return bytes(text)
+    raise TypeError(f"a text is bytes, a bytearray or a memoryview, not {type(text).__name__}; of a str, text.encode()")
+
+
+class _Place:
+    """Where the library writes one note."""
+
+    def __init__(self) -> None:
+        self.head = _Note()
+        self.text = ctypes.create_string_buffer(MAX_TEXT)
+
+    def note(self) -> Note:
+        head = self.head
+        return Note(head.observer, NoteKind(head.kind), head.port, head.place, self.text[: head.length])
+
+
 class Observer:
     """An observer of a subject, by its number."""
 
     def __init__(self, subject: "Subject", number: int):
         self.subject = subject
         self.number = number
+
+    def __repr__(self) -> str:
+        return f"<Observer {self.number} of {self.subject!r}>"
+
+    def given(self) -> Iterator[Note]:
+        """The notes that this observer was given and that were not taken yet, in their order; each that is yielded is taken.
+        The others' are put aside for their own iterators and for `Subject.given`; no budget counts what is put aside."""
+        return self.subject._notes(self.number)
 
     def request(self, n: int) -> None:
         """Requests n items more. ZERO_REQUEST, NO_OBSERVER, TOO_MUCH, MEMORY."""
@@ -186,13 +267,14 @@ class Observer:
 
 
 class Subject:
-    """A subject. Moments (`at`) are milliseconds of the caller's own clock, ports are numbers of the caller's own."""
+    """A subject. Moments (`at`) are milliseconds of the caller's own clock, ports are numbers of the caller's own. A text is
+    bytes, a bytearray or a memoryview."""
 
     def __init__(
         self,
         kind: Kind = Kind.PUBLISH,
         *,
-        seed: Optional[bytes] = None,
+        seed: Optional[Text] = None,
         count: Optional[int] = None,
         age: Optional[int] = None,
         observers: int = 64,
@@ -200,38 +282,59 @@ class Subject:
         items: int = MOST,
         budget: Optional[int] = None,
     ):
-        """HOLDS_SUBJECT never; BAD_SEED, TOO_LONG, HAS_LF, BAD_COUNT, BAD_AGE, BAD_LIMITS, MEMORY."""
+        """BAD_SEED, TOO_LONG, HAS_LF, BAD_COUNT, BAD_AGE, BAD_LIMITS, MEMORY; but a count or an age of 0 goes first."""
         self._raw = _Subject()
-        self._buffer = ctypes.create_string_buffer(MAX_TEXT)
-        self._note = _Note()
+        self._kind = Kind(kind)
+        self._taking = threading.RLock()
+        self._aside: Dict[int, Deque[Tuple[int, Note]]] = {}
+        self._serials = itertools.count()
         if count == 0 or age == 0:
             raise Refused(Cause.BAD_COUNT if count == 0 else Cause.BAD_AGE)
-        is_seeded = seed is not None and kind == Kind.BEHAVIOR
+        if seed is not None and self._kind != Kind.BEHAVIOR:
+            raise Refused(Cause.BAD_SEED)
         rules = _Rules(
             _number(age or 0, 2**64 - 1),
             _number(budget or 0, 2**64 - 1),
-            _SEEDED if is_seeded else kind,
+            self._kind if seed is None else _SEEDED,
             *(_number(number) for number in (count or 0, observers, joins, items)),
         )
-        _check(_open(byref(self._raw), byref(rules), seed or b"", len(seed or b"")))
+        first = b"" if seed is None else _bytes(seed)
+        _check(_open(byref(self._raw), byref(rules), first, len(first)))
 
-    def next(self, text: bytes, port: int = 0, at: int = 0) -> None:
+    def __repr__(self) -> str:
+        try:
+            return f"<Subject {self._kind.name}: {self.counts()}>"
+        except Refused:
+            return f"<Subject {self._kind.name}: closed>"
+
+    def next(self, text: Text, port: int = 0, at: int = 0) -> None:
         """A producer emits an item. TOO_LONG, HAS_LF, MEMORY for the text, ENDED, SPENT, MEMORY."""
+        text = _bytes(text)
         _check(_next(byref(self._raw), _number(port), _number(at, 2**64 - 1), text, len(text)))
 
     def complete(self, port: int = 0, at: int = 0) -> None:
         """A producer completes the subject. ENDED, MEMORY."""
         _check(_complete(byref(self._raw), _number(port), _number(at, 2**64 - 1)))
 
-    def error(self, text: bytes, port: int = 0, at: int = 0) -> None:
+    def error(self, text: Text, port: int = 0, at: int = 0) -> None:
         """A producer ends the subject by an error. TOO_LONG, HAS_LF, MEMORY for the text, ENDED, MEMORY."""
+        text = _bytes(text)
         _check(_error(byref(self._raw), _number(port), _number(at, 2**64 - 1), text, len(text)))
 
     def join(
-        self, strategy: Strategy = Strategy.BUFFER, room: int = 0, errors: Errors = Errors.DELAY, first: int = 0, at: int = 0
+        self,
+        strategy: Strategy = Strategy.BUFFER,
+        room: Optional[int] = None,
+        errors: Errors = Errors.DELAY,
+        first: int = 0,
+        at: int = 0,
     ) -> Observer:
-        """An observer joins, with a request of `first` items. BAD_ROOM, FULL, SPENT, MEMORY."""
+        """An observer joins, with a request of `first` items. A room that is left out is the least: 1 under LATEST, else 0.
+        BAD_ROOM, FULL, SPENT, MEMORY."""
         who = c_uint32()
+        strategy, errors = Strategy(strategy), Errors(errors)
+        if room is None:
+            room = 1 if strategy == Strategy.LATEST else 0
         asked = (strategy, _number(room), errors, _number(first), _number(at, 2**64 - 1))
         _check(_join(byref(self._raw), *asked, byref(who)))
         return Observer(self, who.value)
@@ -241,7 +344,7 @@ class Subject:
         _check(_request(byref(self._raw), _number(who), _number(n)))
 
     def dispose(self, who: int) -> None:
-        """Observer `who` leaves."""
+        """Observer `who` leaves. What it was given can still be taken."""
         _check(_dispose(byref(self._raw), _number(who)))
 
     def waiting(self, who: int) -> int:
@@ -253,22 +356,56 @@ class Subject:
     def counts(self) -> Counts:
         """What can be counted of it."""
         counts = _Counts()
-        _check(_count(byref(self._raw), byref(counts)))
-        return Counts(counts.observers, counts.joins, counts.given, counts.misses)
+        with self._taking:
+            _check(_count(byref(self._raw), byref(counts)))
+            aside = sum(map(len, self._aside.values()))
+        return Counts(counts.observers, counts.joins, counts.given + aside, counts.misses)
 
     def given(self) -> Iterator[Note]:
-        """The notes that were given and not taken yet, in their order; each that is yielded is taken."""
-        note, buffer = self._note, self._buffer
+        """The notes that were given and not taken yet, of all observers, in their order; each that is yielded is taken. Who wants
+        those of one observer goes by `Observer.given`, which leaves the others theirs."""
+        return self._notes(None)
+
+    def _notes(self, who: Optional[int]) -> Iterator[Note]:
+        place = _Place()
         while True:
-            number = _take(byref(self._raw), byref(note), buffer, MAX_TEXT)
-            if number == Cause.NOTHING_GIVEN:
+            note = self._first(who, place)
+            if note is None:
                 return
-            _check(number)
-            yield Note(note.observer, NoteKind(note.kind), note.port, note.place, buffer.raw[: note.length])
+            yield note
+
+    def _first(self, who: Optional[int], place: _Place) -> Optional[Note]:
+        """Takes the first note, or the first of observer `who`; those of others that come before it are put aside."""
+        with self._taking:
+            note = self._first_aside(who)
+            while note is None:
+                number = _take(byref(self._raw), byref(place.head), place.text, MAX_TEXT)
+                if number == Cause.NOTHING_GIVEN:
+                    return None
+                _check(number)
+                note = place.note()
+                if who not in (None, note.observer):
+                    self._aside.setdefault(note.observer, deque()).append((next(self._serials), note))
+                    note = None
+            return note
+
+    def _first_aside(self, who: Optional[int]) -> Optional[Note]:
+        """The first of all that were put aside, or of those of one observer."""
+        if who is None:
+            who = min(self._aside, key=lambda each: self._aside[each][0], default=None)
+        notes = self._aside.get(who)
+        if notes is None:
+            return None
+        _, note = notes.popleft()
+        if not notes:
+            del self._aside[who]
+        return note
 
     def close(self) -> None:
         """Lets go of it, with the notes that were not taken. Each later call raises NO_SUBJECT, but another of this one."""
-        _close(byref(self._raw))
+        with self._taking:
+            self._aside.clear()
+            _close(byref(self._raw))
 
     def __enter__(self) -> "Subject":
         return self
@@ -277,4 +414,5 @@ class Subject:
         self.close()
 
     def __del__(self) -> None:
-        self.close()
+        if hasattr(self, "_aside"):
+            self.close()

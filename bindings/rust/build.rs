@@ -1,4 +1,5 @@
-// Says where the proved library is: in the folder that HAZOXE_LIB names, else where `rt lib` leaves it in this repository.
+// Says where the proved library is: in the folder that HAZOXE_LIB names, else where `rt lib` leaves it in this repository; and how it
+// is built, where it is not there.
 use std::env;
 use std::path::PathBuf;
 
@@ -6,7 +7,12 @@ fn main() {
     let built = PathBuf::from(env::var("CARGO_MANIFEST_DIR").unwrap()).join("../../crates/hazoxe_c/out");
     let folder = env::var_os("HAZOXE_LIB").map_or(built, PathBuf::from);
     println!("cargo:rerun-if-env-changed=HAZOXE_LIB");
-    println!("cargo:rerun-if-changed={}", folder.join("libhazoxe_c.a").display());
+    let library = folder.join("libhazoxe_c.a");
+    println!("cargo:rerun-if-changed={}", library.display());
+    if !library.exists() {
+        println!("cargo:warning={} is not there: `rt lib` in crates/hazoxe_c builds it,", library.display());
+        println!("cargo:warning=and HAZOXE_LIB names the folder where it is elsewhere; nothing links without it");
+    }
     println!("cargo:rustc-link-search=native={}", folder.display());
     println!("cargo:rustc-link-lib=static=hazoxe_c");
 }

@@ -1,4 +1,5 @@
-/* Each refusal of the library by its number, and what a refusal leaves. It prints the calls that answered another number. */
+/* Each refusal of the library by its number, and what a refusal leaves. It prints the calls that answered another number. With the
+ * word `sentences` it prints what each number means, and with `without_budget` it leaves out the budgets. */
 #include "hazoxe.h"
 #include <stdio.h>
 #include <string.h>
@@ -61,7 +62,19 @@ static void calls_refuse(void) {
     expect("next into garbage", hazoxe_next(&garbage, 0, 0, "a", 1), HAZOXE_NO_SUBJECT);
     expect("next into NULL", hazoxe_next(NULL, 0, 0, "a", 1), HAZOXE_NULL);
     expect("join of none", hazoxe_join(&subject, 9, 0, 0, 0, 0, &who), HAZOXE_NO_SUBJECT);
+    expect("request of none", hazoxe_request(&subject, 0, 0), HAZOXE_NO_SUBJECT);
+    expect("leave none", hazoxe_dispose(&subject, 0), HAZOXE_NO_SUBJECT);
+    expect("complete none", hazoxe_complete(&subject, 0, 0), HAZOXE_NO_SUBJECT);
+    expect("fail none", hazoxe_error(&subject, 0, 0, "\n", 1), HAZOXE_NO_SUBJECT);
     expect("take of none", hazoxe_take(&subject, &note, buffer, 8), HAZOXE_NO_SUBJECT);
+    expect("peek at none", hazoxe_peek(&subject, &note), HAZOXE_NO_SUBJECT);
+    expect("who waits at none", hazoxe_waiting(&subject, 0, &count), HAZOXE_NO_SUBJECT);
+    expect("counts of none", hazoxe_count(&subject, &counts), HAZOXE_NO_SUBJECT);
+    expect("dispatch of none", hazoxe_dispatch(&subject, NULL, 0), HAZOXE_NO_SUBJECT);
+    expect("what stays where there is none", who == 7 && note.observer == 7 && note.kind == 7 && note.port == 7 && note.place == 7 &&
+           note.length == 7 && count == 7 && strcmp(buffer, "unsaid") == 0, 1);
+    expect("and of the counts", counts.observers == 7 && counts.joins == 7 && counts.given == 7 && counts.misses == 7, 1);
+    expect("still none", subject.hidden == NULL && subject.mark == 0, 1);
     expect("open", hazoxe_open(&subject, &rules, NULL, 0), HAZOXE_OK);
     expect("open again", hazoxe_open(&subject, &rules, NULL, 0), HAZOXE_HOLDS_SUBJECT);
     expect("strategy", hazoxe_join(&subject, 4, 9999, 9, 0, 0, &who), HAZOXE_BAD_STRATEGY);
@@ -95,8 +108,8 @@ static void calls_refuse(void) {
     expect("a text of no bytes", hazoxe_take(&subject, &note, NULL, 0), HAZOXE_OK);
     expect("its place and port", note.place == 1 && note.port == 4 && note.length == 0, 1);
     expect("more than can be owed", hazoxe_request(&subject, 0, 2), HAZOXE_TOO_MUCH);
-    expect("complete", hazoxe_complete(&subject, 0, 0), HAZOXE_OK);
-    expect("complete again", hazoxe_complete(&subject, 0, 0), HAZOXE_ENDED);
+    expect("an error of no bytes", hazoxe_error(&subject, 0, 0, NULL, 0), HAZOXE_OK);
+    expect("complete behind it", hazoxe_complete(&subject, 0, 0), HAZOXE_ENDED);
     expect("close with a note left", hazoxe_close(&subject), HAZOXE_OK);
     expect("close again", hazoxe_close(&subject), HAZOXE_NO_SUBJECT);
 }
@@ -148,36 +161,128 @@ static void takes_as_many_as_there_is_room_for(void) {
     }
 }
 
-/* A budget runs out, nothing is lost by it, and what goes gives its bytes back. */
-static void budget_is_kept(void) {
-    static char text[1024];
+/* What a handler heard. */
+struct heard {
+    char texts[32];
+    hazoxe_subject *subject;
+};
+
+static void hear(void *context, const hazoxe_note *note, const char *text) {
+    struct heard *heard = context;
+    strncat(heard->texts, note->kind == HAZOXE_COMPLETED ? "." : text, note->kind == HAZOXE_COMPLETED ? 1 : note->length);
+    if (heard->subject != NULL) hazoxe_request(heard->subject, note->observer, 1); /* one more, for each that came */
+}
+
+/* Each note goes to the handler of its observer, and the first that has none stays, with those behind it. */
+static void dispatches(void) {
     hazoxe_subject subject = HAZOXE_EMPTY;
-    hazoxe_rules rules = {.kind = HAZOXE_PUBLISH, .observers = 1, .joins = 1, .items = 1000, .budget = 100000};
-    hazoxe_counts counts;
-    size_t before, after;
-    uint32_t who, code;
+    hazoxe_rules rules = HAZOXE_RULES(HAZOXE_PUBLISH);
+    hazoxe_note note = {7, 7, 7, 7, 7};
+    struct heard all = {"", NULL}, some = {"", &subject};
+    hazoxe_handler handlers[] = {{1, hear, &some}, {0, hear, &all}};
+    uint32_t who;
     expect("open", hazoxe_open(&subject, &rules, NULL, 0), HAZOXE_OK);
-    expect("join", hazoxe_join(&subject, HAZOXE_BUFFER, 0, HAZOXE_DELAY, 0, 0, &who), HAZOXE_OK);
-    do {
-        hazoxe_waiting(&subject, who, &before);
-        code = hazoxe_next(&subject, 0, 0, text, sizeof text);
-        hazoxe_waiting(&subject, who, &after);
-    } while (code == HAZOXE_OK);
-    expect("the budget's end", code, HAZOXE_MEMORY);
-    expect("what waits stays", before == after && after > 20 && after < 100, 1);
-    expect("leave", hazoxe_dispose(&subject, who), HAZOXE_OK);
-    expect("bytes that came back", hazoxe_next(&subject, 0, 0, text, sizeof text), HAZOXE_OK);
-    expect("counts", hazoxe_count(&subject, &counts), HAZOXE_OK);
+    for (uint32_t observer = 0; observer < 3; observer++) {
+        hazoxe_join(&subject, HAZOXE_BUFFER, 0, HAZOXE_DELAY, observer == 0 ? 9 : 1, 0, &who);
+        if (observer == 1) hazoxe_next(&subject, 0, 0, "ab", 2);
+    }
+    hazoxe_next(&subject, 0, 0, "c", 1);
+    expect("no handlers", hazoxe_dispatch(&subject, NULL, 1), HAZOXE_NULL);
+    expect("a note that has no handler", hazoxe_dispatch(&subject, handlers, 2), HAZOXE_NO_OBSERVER);
+    expect("the first heard", strcmp(all.texts, "abc"), 0);
+    expect("the second asked for more in its handler", strcmp(some.texts, "ab"), 0);
+    expect("it waits", hazoxe_peek(&subject, &note), HAZOXE_OK);
+    expect("whose it is", note.observer, 2);
+    hazoxe_take(&subject, &note, all.texts + 10, 9);
+    expect("the others", hazoxe_dispatch(&subject, handlers, 2), HAZOXE_OK);
+    expect("the second heard", strcmp(some.texts, "abc"), 0);
+    hazoxe_complete(&subject, 0, 0);
+    hazoxe_dispose(&subject, 2);
+    expect("the end, to one that waits", hazoxe_dispatch(&subject, handlers, 1), HAZOXE_NO_OBSERVER);
     expect("close", hazoxe_close(&subject), HAZOXE_OK);
+}
+
+/* How many texts of 1,024 bytes a subject takes before a call is refused for want of memory. */
+static size_t taken_until_memory(hazoxe_subject *subject) {
+    static char text[1024];
+    size_t count = 0;
+    uint32_t code;
+    while ((code = hazoxe_next(subject, 0, 0, text, sizeof text)) == HAZOXE_OK && count < 1000) count++;
+    expect("the budget's end", code, HAZOXE_MEMORY);
+    return count;
+}
+
+/* A budget of so many bytes, and one observer that requests so many items first. */
+static hazoxe_subject with_budget(uint64_t budget, uint32_t first, uint32_t *who) {
+    hazoxe_subject subject = HAZOXE_EMPTY;
+    hazoxe_rules rules = HAZOXE_RULES(HAZOXE_PUBLISH);
+    rules.observers = 1;
+    rules.budget = budget;
+    expect("open", hazoxe_open(&subject, &rules, NULL, 0), HAZOXE_OK);
+    expect("join", hazoxe_join(&subject, HAZOXE_BUFFER, 0, HAZOXE_DELAY, first, 0, who), HAZOXE_OK);
+    return subject;
+}
+
+/* A budget runs out, of what waits and of what was given and not taken; nothing is lost by it, and what goes gives its bytes
+ * back. */
+static void budget_is_kept(void) {
+    for (uint32_t first = 0; first < 1000; first += 999) {
+        uint32_t who;
+        hazoxe_subject subject = with_budget(100000, first, &who);
+        hazoxe_counts counts;
+        size_t waits, count = taken_until_memory(&subject);
+        expect("what a budget holds", count > 20 && count < 100, 1);
+        expect("what waits", hazoxe_waiting(&subject, who, &waits), HAZOXE_OK);
+        expect("counts", hazoxe_count(&subject, &counts), HAZOXE_OK);
+        expect("nothing is lost", waits + counts.given, count);
+        expect("where it waits", waits, first == 0 ? count : 0);
+        expect("leave", hazoxe_dispose(&subject, who), HAZOXE_OK);
+        for (hazoxe_note note; counts.given > 0; counts.given--) {
+            char text[1024];
+            expect("take", hazoxe_take(&subject, &note, text, sizeof text), HAZOXE_OK);
+        }
+        expect("bytes that came back", hazoxe_next(&subject, 0, 0, NULL, 0), HAZOXE_OK);
+        expect("close", hazoxe_close(&subject), HAZOXE_OK);
+    }
+}
+
+/* What a burst of 10,000 notes needed goes back to the budget once they are taken. */
+static void a_burst_gives_its_bytes_back(void) {
+    uint32_t who;
+    hazoxe_subject fresh = with_budget(1000000, 0, &who), after = with_budget(1000000, 10000, &who);
+    char text[1024];
+    hazoxe_note note;
+    for (int place = 0; place < 10000; place++) expect("next", hazoxe_next(&after, 0, 0, "a", 1), HAZOXE_OK);
+    for (int place = 0; place < 10000; place++) expect("take", hazoxe_take(&after, &note, text, sizeof text), HAZOXE_OK);
+    size_t wanted = taken_until_memory(&fresh), got = taken_until_memory(&after);
+    expect("what the budget holds behind a burst", got + 20 > wanted && got < wanted + 20, 1);
+    hazoxe_close(&fresh);
+    hazoxe_close(&after);
+}
+
+/* A budget that holds no subject. */
+static void no_budget_to_speak_of(void) {
+    hazoxe_rules rules = HAZOXE_RULES(HAZOXE_PUBLISH);
     rules.budget = 1;
-    expect("no budget to speak of", hazoxe_open(&subject, &rules, text, 0), HAZOXE_MEMORY);
+    expect("no budget to speak of", opened(rules, NULL, 0), HAZOXE_MEMORY);
+}
+
+static void print_sentences(void) {
+    for (uint32_t code = HAZOXE_ENDED; code <= HAZOXE_NULL; code++) printf("%u %s\n", code, hazoxe_strerror(code));
 }
 
 int main(int count, char **words) {
-    (void)words;
+    if (count > 1 && strcmp(words[1], "sentences") == 0) {
+        print_sentences();
+        return strcmp(hazoxe_strerror(HAZOXE_NULL + 1), "there is no such answer");
+    }
     open_refuses();
     calls_refuse();
     takes_as_many_as_there_is_room_for();
-    if (count < 2) budget_is_kept(); /* the count of a budget is never given back, so valgrind runs without it */
+    dispatches();
+    if (count > 1) return wrong; /* the count of a budget is never given back, so valgrind runs without it */
+    budget_is_kept();
+    a_burst_gives_its_bytes_back();
+    no_budget_to_speak_of();
     return wrong;
 }

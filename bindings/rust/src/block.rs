@@ -96,6 +96,13 @@ pub struct Given<'a> {
     bytes_left: &'a mut usize,
 }
 
+impl Given<'_> {
+    /// The observer of the next note.
+    pub(crate) fn next_observer(&self) -> Option<u32> {
+        self.heads.as_slice().first().map(|head| head.observer)
+    }
+}
+
 impl<'a> Iterator for Given<'a> {
     type Item = Note<'a>;
 

@@ -74,13 +74,13 @@ impl fmt::Display for Error {
             Error::ZeroRequest => "a request is for at least 1 item",
             Error::NoObserver => "no observer of that number is held",
             Error::TooMuch => "more than 4294967295 items would be owed",
-            Error::Memory => "out of memory",
-            Error::BadCount => "a count is 1 to 4096",
-            Error::BadAge => "an age is at least 1 millisecond",
+            Error::Memory => "there is no memory, or the budget has no bytes left",
+            Error::BadCount => "a count is 1 to 4096, and for a Replay alone",
+            Error::BadAge => "an age is at least 1 millisecond, and for a Replay alone",
             Error::BadLimits => "limits are 1 to 64 observers, and at least 1 join and item",
             Error::TooLong => "a text has at most 1024 bytes",
             Error::HasLf => "a text has no line feed",
-            Error::BadRoom => "a room has 0 to 1024 items, under Latest 1 to 1024",
+            Error::BadRoom => "a room has 0 to 1024 items, under Latest 1 to 1024, under Buffer 0",
         })
     }
 }

@@ -2,7 +2,7 @@
 //!
 //! A [`Subject`] passes each note from its producers to its observers, in order and once. Each observer says how many items
 //! it wants, and by its [`Policy`] what becomes of those that it did not ask for yet. What the subject gives waits, in the
-//! order in which it was given, until it is taken ([`Subject::given`]).
+//! order in which it was given, until it is taken ([`Subject::given`], or by a callback of each observer, [`Dispatcher`]).
 //!
 //! ```
 //! use hazoxe::{Errors, Kind, Policy, Rules, Signal, Strategy, Subject};
@@ -33,6 +33,7 @@
 //! library takes its memory from `malloc`.
 
 mod block;
+mod dispatcher;
 mod error;
 mod heap;
 mod note;
@@ -42,6 +43,7 @@ mod rules;
 mod subject;
 
 pub use block::Given;
+pub use dispatcher::Dispatcher;
 pub use error::Error;
 pub use note::{Note, Signal};
 pub use policy::{Errors, Policy, Strategy};

@@ -13,7 +13,7 @@ pub struct Note<'a> {
 }
 
 /// What an observer is given: an item, or a terminal, after which nothing comes.
-#[derive(Clone, Copy, Debug, PartialEq, Eq, Hash)]
+#[derive(Clone, Copy, PartialEq, Eq, Hash)]
 pub enum Signal<'a> {
     /// An item of this text, by the port that it came by, with its place: how many items its subject accepted before it.
     Next { port: u32, place: u32, text: &'a [u8] },
@@ -21,6 +21,27 @@ pub enum Signal<'a> {
     Completed,
     /// An error of this text.
     Failed(&'a [u8]),
+}
+
+/// A text as it is written in Rust, `b"OVERFLOW"`.
+struct Escaped<'a>(&'a [u8]);
+
+impl fmt::Debug for Escaped<'_> {
+    fn fmt(&self, f: &mut fmt::Formatter<'_>) -> fmt::Result {
+        write!(f, "b\"{}\"", self.0.escape_ascii())
+    }
+}
+
+impl fmt::Debug for Signal<'_> {
+    fn fmt(&self, f: &mut fmt::Formatter<'_>) -> fmt::Result {
+        match *self {
+            Signal::Next { port, place, text } => {
+                f.debug_struct("Next").field("port", &port).field("place", &place).field("text", &Escaped(text)).finish()
+            }
+            Signal::Completed => f.write_str("Completed"),
+            Signal::Failed(text) => f.debug_tuple("Failed").field(&Escaped(text)).finish(),
+        }
+    }
 }
 
 impl<'a> Note<'a> {

@@ -19,7 +19,7 @@ use rx_note::{Item, Kind, Note, Text};
 use rx_proto::{Version, write_note};
 use rx_pump::EndedDesk;
 use rx_server::{Config, Report, Server, start};
-use rx_sink::{LineSink, MemorySink};
+use rx_sink::{LineSink, MemorySink, PutAway};
 use shelf::Shelf;
 use std::io::{Stdout, Write};
 use std::sync::Wait;
@@ -96,12 +96,19 @@ fn listen<R: Wait>(rt: &R, heap: &Heap, caller: Caller, out: Stdout) -> Result<E
 }
 
 fn write_report(report: &Report<Shelf>, out: &mut Stdout) -> Result<()> {
-    for away in report.put_away.iter().flatten() {
+    for rests in &report.put_away {
+        write_rests(rests.as_slice(), out)?;
+    }
+    writeln!(out, "{} notes were taken", report.taken)?;
+    Ok(())
+}
+
+fn write_rests(rests: &[PutAway<Option<Vec<Note, Heap>>>], out: &mut Stdout) -> Result<()> {
+    for away in rests {
         if let Some(notes) = &away.rest {
             write_kept(away.who, notes.as_slice(), out)?;
         }
     }
-    writeln!(out, "{} notes were taken", report.taken)?;
     Ok(())
 }
 

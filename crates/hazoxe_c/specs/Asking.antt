@@ -69,6 +69,6 @@ pub record Served (old : DeskView) (new : Option DeskView) (number : ℕ) (Did :
   pub told : number ≡ code result
   pub did : Did old desk result
 
--- a call did so where the struct holds a subject, and else nothing
-abbrev pub Serves : Option DeskView → Option DeskView → ℕ → (DeskView → DeskView → Result Unit Fault → Type 0) → Type 0
-Serves old new number Did = MatchOption old ((number ≡ 8) × (new ≡ None)) (λ desk. Served desk new number Did)
+-- a call did so where the struct holds a subject, and else nothing: what it may write to stays as it was
+abbrev pub Serves : Option DeskView → Option DeskView → ℕ → Type 0 → (DeskView → DeskView → Result Unit Fault → Type 0) → Type 0
+Serves old new number Stays Did = MatchOption old ((number ≡ 8) × (new ≡ None) × Stays) (λ desk. Served desk new number Did)

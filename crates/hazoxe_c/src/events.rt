@@ -1,3 +1,4 @@
+ghost use Rattle.std.specs.Prelude.{◌≡◌};
 ghost use Rattle.rx_note.specs.declared.note.Note.TheVariants.{Completed, Failed};
 ghost use Rattle.rx_note.specs.declared.event.Event.TheVariants.{Emit, Request, Dispose};
 ghost use Rattle.hazoxe_c.specs.Desks.{Stepped, Emitted, item_note};
@@ -18,7 +19,7 @@ pub extern "C" fn hazoxe_proved_next(
     at: u64,
     text: &[u8],
 ) -> u32
-    ensures { Serves subject.old.handle.value subject.new.handle.value result (Emitted port at item_note text.now) }
+    ensures { Serves subject.old.handle.value subject.new.handle.value result (Unit {0}) (Emitted port at item_note text.now) }
 {
     let Some(mut desk) = subject.take(alloc) else {
         return code(Err(Fault::NoSubject));
@@ -36,7 +37,7 @@ pub extern "C" fn hazoxe_proved_complete(
     port: u32,
     at: u64,
 ) -> u32
-    ensures { Serves subject.old.handle.value subject.new.handle.value result (Stepped (port, Emit Completed at)) }
+    ensures { Serves subject.old.handle.value subject.new.handle.value result (Unit {0}) (Stepped (port, Emit Completed at)) }
 {
     let Some(mut desk) = subject.take(alloc) else {
         return code(Err(Fault::NoSubject));
@@ -55,7 +56,7 @@ pub extern "C" fn hazoxe_proved_error(
     at: u64,
     text: &[u8],
 ) -> u32
-    ensures { Serves subject.old.handle.value subject.new.handle.value result (Emitted port at Failed text.now) }
+    ensures { Serves subject.old.handle.value subject.new.handle.value result (Unit {0}) (Emitted port at Failed text.now) }
 {
     let Some(mut desk) = subject.take(alloc) else {
         return code(Err(Fault::NoSubject));
@@ -78,7 +79,7 @@ pub extern "C" fn hazoxe_proved_join(
     at: u64,
     who: &mut u32,
 ) -> u32
-    ensures { Serves subject.old.handle.value subject.new.handle.value result
+    ensures { Serves subject.old.handle.value subject.new.handle.value result (who.new ≡ who.old)
         (λ old new. Joins (policy_read strategy room errors) first at old new who.old who.new) }
 {
     let Some(mut desk) = subject.take(alloc) else {
@@ -100,7 +101,7 @@ pub extern "C" fn hazoxe_proved_request(
     who: u32,
     n: u32,
 ) -> u32
-    ensures { Serves subject.old.handle.value subject.new.handle.value result (Stepped (0, Request who n)) }
+    ensures { Serves subject.old.handle.value subject.new.handle.value result (Unit {0}) (Stepped (0, Request who n)) }
 {
     let Some(mut desk) = subject.take(alloc) else {
         return code(Err(Fault::NoSubject));
@@ -113,7 +114,7 @@ pub extern "C" fn hazoxe_proved_request(
 /// Observer `who` leaves, with what waits for it. Refused in the order `NoSubject`, `NoObserver`; it takes no memory.
 #[unsafe(no_mangle)]
 pub extern "C" fn hazoxe_proved_dispose(alloc: Global, subject: &mut Subject, who: u32) -> u32
-    ensures { Serves subject.old.handle.value subject.new.handle.value result (Stepped (0, Dispose who)) }
+    ensures { Serves subject.old.handle.value subject.new.handle.value result (Unit {0}) (Stepped (0, Dispose who)) }
 {
     let Some(mut desk) = subject.take(alloc) else {
         return code(Err(Fault::NoSubject));

@@ -1,4 +1,4 @@
-ghost use Rattle.std.specs.Prelude.{◌≡◌, None};
+ghost use Rattle.std.specs.Prelude.{◌≡◌};
 ghost use Rattle.hazoxe_c.specs.Asking.{Serves};
 ghost use Rattle.hazoxe_c.specs.Batches.{TakesMany};
 ghost use Rattle.hazoxe_c.specs.Taking.{Peeks, TakesFirst};
@@ -17,7 +17,7 @@ pub extern "C" fn hazoxe_proved_peek(
     subject: &mut Subject,
     note: &mut NoteHead,
 ) -> u32
-    ensures { Serves subject.old.handle.value subject.new.handle.value result (Peeks note.old note.new) }
+    ensures { Serves subject.old.handle.value subject.new.handle.value result (note.new ≡ note.old) (Peeks note.old note.new) }
 {
     let Some(desk) = subject.take(alloc) else {
         return code(Err(Fault::NoSubject));
@@ -36,7 +36,8 @@ pub extern "C" fn hazoxe_proved_take(
     note: &mut NoteHead,
     buffer: &mut [u8],
 ) -> u32
-    ensures { Serves subject.old.handle.value subject.new.handle.value result (TakesFirst note.old note.new buffer.old buffer.new) }
+    ensures { Serves subject.old.handle.value subject.new.handle.value result ((note.new ≡ note.old) × (buffer.new ≡ buffer.old))
+        (TakesFirst note.old note.new buffer.old buffer.new) }
 {
     let Some(mut desk) = subject.take(alloc) else {
         return code(Err(Fault::NoSubject));
@@ -58,9 +59,9 @@ pub extern "C" fn hazoxe_proved_take_many(
     buffer: &mut [u8],
     taken: &mut Taken,
 ) -> u32
-    ensures serves { Serves subject.old.handle.value subject.new.handle.value result
+    ensures { Serves subject.old.handle.value subject.new.handle.value result
+        ((notes.new ≡ notes.old) × (buffer.new ≡ buffer.old) × (taken.new ≡ taken.old))
         (TakesMany taken.new notes.old notes.new buffer.old buffer.new) }
-    ensures kept { subject.old.handle.value ≡ None → (notes.new ≡ notes.old) × (buffer.new ≡ buffer.old) × (taken.new ≡ taken.old) }
 {
     let Some(mut desk) = subject.take(alloc) else {
         return code(Err(Fault::NoSubject));

@@ -1,3 +1,4 @@
+ghost use Rattle.std.specs.Prelude.{◌≡◌};
 ghost use Rattle.hazoxe_c.specs.Asking.{Serves};
 ghost use Rattle.hazoxe_c.specs.Taking.{Waits, Counted};
 
@@ -15,7 +16,7 @@ pub extern "C" fn hazoxe_proved_waiting(
     who: u32,
     count: &mut usize,
 ) -> u32
-    ensures { Serves subject.old.handle.value subject.new.handle.value result (Waits who count.old count.new) }
+    ensures { Serves subject.old.handle.value subject.new.handle.value result (count.new ≡ count.old) (Waits who count.old count.new) }
 {
     let Some(desk) = subject.take(alloc) else {
         return code(Err(Fault::NoSubject));
@@ -32,7 +33,7 @@ pub extern "C" fn hazoxe_proved_count(
     subject: &mut Subject,
     counts: &mut Counts,
 ) -> u32
-    ensures { Serves subject.old.handle.value subject.new.handle.value result (Counted counts.old counts.new) }
+    ensures { Serves subject.old.handle.value subject.new.handle.value result (counts.new ≡ counts.old) (Counted counts.old counts.new) }
 {
     let Some(desk) = subject.take(alloc) else {
         return code(Err(Fault::NoSubject));

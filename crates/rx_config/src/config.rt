@@ -8,7 +8,7 @@ use rx_proto::Name;
 /// What a run is made of. The limits are this project's own.
 #[derive(Drop, Debug)]
 pub struct Config {
-    /// The subjects, 1 to 16, each of another name.
+    /// The subjects, 1 to 16. Those that are read have each another name.
     pub subjects: Vec<SubjectConfig, Heap>,
     /// How many drainers hand notes to sinks, 1 to 8.
     pub drainers: u8,
@@ -18,9 +18,10 @@ pub struct Config {
     pub window: u8,
     /// How many connections are served, 1 to 4,294,967,295.
     pub connections: u32,
-    /// How long a peer may take no byte while some wait for it, 1 to 3,600 seconds.
+    /// How long the peer of an observer may take no byte while some wait for it, 1 to 3,600 seconds.
     pub stall: u16,
-    /// How long a session may send nothing before it is ended, 1 to 86,400 seconds; as long as it likes, where there is none.
+    /// How long a session may send nothing before it is ended, in seconds, of which 1 to 86,400 are read; as long as it likes, where
+    /// there is none.
     pub idle: Option<u64>,
     /// Whether a socket at the path of the server on which nobody listens any more is removed.
     pub takeover: bool,

@@ -8,7 +8,7 @@ use rx_note::Rules;
 use rx_proto::Name;
 
 /// A subject to be made: its name, its rules and its budget. Its kind is one that `Kind::check` passes, and its limits are 1 to
-/// 64 observers and 1 to 4,294,967,295 joins.
+/// 64 observers, and 1 to 4,294,967,295 joins and items.
 #[derive(Drop, Debug)]
 pub struct SubjectConfig {
     pub name: Name,

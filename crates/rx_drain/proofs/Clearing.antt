@@ -19,7 +19,7 @@ use Rattle.rx_drain.specs.declared.drain_fault.DrainFault.TheVariants.{InboxGone
 use Rattle.rx_drain.specs.Calls.{partings_of}
 use Rattle.rx_drain.specs.Credit.{AreAllPaid, IsPaid}
 use Rattle.rx_drain.specs.Logs.{Log, Next, Flush, letters, kept_in, sent_in}
-use Rattle.rx_drain.specs.Drainers.{DrainerView, IsOfSubject, SentUpTo, StandsForLog, HandlesLetter, FlushesAt, FlushesAll}
+use Rattle.rx_drain.specs.Drainers.{DrainerView, IsOfSubject, SentUpTo, StandsForLog, HandlesLetter, HandlesNext, HearsBye, FlushesAt, FlushesAll}
 use Rattle.rx_drain.proofs.Crediting.{paid_by_flush, paid_without}
 use Rattle.rx_drain.proofs.Standing.{handles_next, stands_left}
 
@@ -138,6 +138,15 @@ module _ {S Rest : Type 0} (acts : Acts S Rest) where
   comes_by before after flushes log s = (let f = flushes.stands log s in (f.0, f.1, f.2))
 
   -- BEFORE A LETTER
+
+  pub bye_flushed : (from : ℕ) (before mid after : DrainerView S Rest) → AreSame before.ports mid.ports → FlushesAll acts before mid → mid.fault ≡ None
+      → HandlesNext acts (letter from Bye) mid after → HearsBye acts from before after
+  bye_flushed from before mid after same flushes none handles log s =
+      let n = length before.ports in
+      let count : length mid.ports ≡ n = AreSame-length before.ports mid.ports same in
+      let f = flushes.stands log s in
+      let h = handles.1 f.0 (subst (λ (m : ℕ). StandsForLog acts m f.0 mid) (sym count) f.2) in
+      (f.0, f.1, f.3 none, h.0, subst (λ (m : ℕ). StandsForLog acts m (Next f.0 (letter from Bye) h.0) after) count h.1)
 
   pub handles_flushed : (x : Letter (Out S)) (before mid after : DrainerView S Rest) → AreSame before.ports mid.ports → FlushesAll acts before mid → HandlesLetter acts x mid after
       → HandlesLetter acts x before after

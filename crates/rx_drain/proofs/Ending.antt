@@ -25,7 +25,7 @@ use Rattle.rx_drain.specs.declared.drain_stop.DrainStop.{DrainStop}
 use Rattle.rx_drain.specs.Logs.{Log, NoLetters, Next, Flush, letters, has_left, letter_change, kept_in, sent_in}
 use Rattle.rx_drain.proofs.Changing.{post_change}
 use Rattle.rx_drain.specs.Credit.{IsPaid, AreAllPaid}
-use Rattle.rx_drain.specs.Drainers.{DrainerView, HaveSent, SentUpTo, StandsForLog, Drains, IsDrained, HandlesLetter, FlushesAll, Goes, Pays, KeepsDrainer, TakesMore, TakesSome, with_letters, view_of}
+use Rattle.rx_drain.specs.Drainers.{DrainerView, HaveSent, SentUpTo, StandsForLog, Drains, IsDrained, HandlesLetter, FlushesAll, Goes, Pays, KeepsDrainer, TakesMore, TakesSome, forgetful, with_letters, view_of}
 use Rattle.rx_drain.specs.Serving.{HasDrained, DrainerHasStopped}
 
 pub bool_cases : (b : Bool) → (b ≡ true) ⊎ (b ≡ false)
@@ -84,6 +84,17 @@ module _ {S Rest : Type 0} (acts : Acts S Rest) where
       };
     },
     λ none. tt,
+  )
+
+  -- the same, but that nothing of what its sinks leave is kept
+  pub drained_forgetful : (view : DrainerView S Rest) → IsDrained acts view → IsDrained acts (forgetful view)
+  drained_forgetful view (log, d, paid) = (
+    log,
+    record {
+      received = d.received;
+      stands = record { left = d.stands.left; sent = d.stands.sent; sinks = d.stands.sinks; missed = d.stands.missed; took = d.stands.took };
+    },
+    paid,
   )
 
   -- A TURN
@@ -221,35 +232,37 @@ module _ {S Rest : Type 0} (acts : Acts S Rest) where
   keeps_none view left_is (log, d, paid) =
       empty_zip (kept_in (length view.ports) log) view.kept (kept_none (length view.ports) log (sym d.stands.left ∙ left_is)) d.stands.sinks.kept_are
 
-  drains_end : (log : Log S) (inbox : Incoming (Out S)) (ports : List (Outgoing (Call S))) (away : List (PutAway Rest)) (misses taken : ℕ)
+  drains_end : (log : Log S) (inbox : Incoming (Out S)) (ports : List (Outgoing (Call S))) (away : List (PutAway Rest)) (keeps : Bool) (misses taken : ℕ)
       (all : List (Outgoing (Call S))) (kept : List (Kept S)) (left : Bool) (fault : Option DrainFault)
       → all ≡ ports → kept ≡ [] → left ≡ true → fault ≡ None
-      → Drains acts (record { inbox = inbox; ports = all; kept = kept; away = away; misses = misses; taken = taken; left = left; fault = fault }) log
-      → Drains acts (record { inbox = inbox; ports = ports; kept = []; away = away; misses = misses; taken = taken; left = true; fault = None }) log
-  drains_end log inbox ports away misses taken all kept left fault all_is kept_is left_is fault_is d =
-      subst (λ (f : Option DrainFault). Drains acts (record { inbox = inbox; ports = ports; kept = []; away = away; misses = misses; taken = taken; left = true; fault = f }) log) fault_is
-      (subst (λ (l : Bool). Drains acts (record { inbox = inbox; ports = ports; kept = []; away = away; misses = misses; taken = taken; left = l; fault = fault }) log) left_is
-      (subst (λ (k : List (Kept S)). Drains acts (record { inbox = inbox; ports = ports; kept = k; away = away; misses = misses; taken = taken; left = left; fault = fault }) log) kept_is
-      (subst (λ (p : List (Outgoing (Call S))). Drains acts (record { inbox = inbox; ports = p; kept = kept; away = away; misses = misses; taken = taken; left = left; fault = fault }) log) all_is d)))
+      → Drains acts (record { inbox = inbox; ports = all; kept = kept; away = away; keeps = keeps; misses = misses; taken = taken; left = left; fault = fault }) log
+      → Drains acts (record { inbox = inbox; ports = ports; kept = []; away = away; keeps = keeps; misses = misses; taken = taken; left = true; fault = None }) log
+  drains_end log inbox ports away keeps misses taken all kept left fault all_is kept_is left_is fault_is d =
+      subst (λ (f : Option DrainFault). Drains acts (record { inbox = inbox; ports = ports; kept = []; away = away; keeps = keeps; misses = misses; taken = taken; left = true; fault = f }) log) fault_is
+      (subst (λ (l : Bool). Drains acts (record { inbox = inbox; ports = ports; kept = []; away = away; keeps = keeps; misses = misses; taken = taken; left = l; fault = fault }) log) left_is
+      (subst (λ (k : List (Kept S)). Drains acts (record { inbox = inbox; ports = ports; kept = k; away = away; keeps = keeps; misses = misses; taken = taken; left = left; fault = fault }) log) kept_is
+      (subst (λ (p : List (Outgoing (Call S))). Drains acts (record { inbox = inbox; ports = p; kept = kept; away = away; keeps = keeps; misses = misses; taken = taken; left = left; fault = fault }) log) all_is d)))
 
   pub served_end : (view : DrainerView S Rest) (rest : List (Outgoing (Call S))) (end : DrainEnd S Rest)
-      → end.inbox ≡ view.inbox → view.ports ≡ end.ports.items ++ rest → rest ≡ [] → end.put_away.items ≡ view.away → end.places.misses ≡ view.misses → end.taken ≡ view.taken
+      → end.inbox ≡ view.inbox → view.ports ≡ end.ports.items ++ rest → rest ≡ [] → end.put_away.items ≡ view.away → end.put_away.keeps ≡ view.keeps → end.places.misses ≡ view.misses → end.taken ≡ view.taken
       → view.left ≡ true → view.fault ≡ None → HasEachBye view.inbox → IsDrained acts view → HasDrained acts view end
-  served_end view rest end inbox ports none away misses taken left_is whole each (log, d, paid) =
+  served_end view rest end inbox ports none away keeps misses taken left_is whole each (log, d, paid) =
       let all : view.ports ≡ end.ports.items = ports ∙ ap (λ l. end.ports.items ++ l) none ∙ append-nil end.ports.items in
-      let drains = drains_end log view.inbox end.ports.items view.away view.misses view.taken view.ports view.kept view.left view.fault all (keeps_none view left_is (log, d, paid)) left_is whole d in
-      let P : Incoming (Out S) → List (PutAway Rest) → ℕ → ℕ → Type 0 =
-      λ i w m t. Drains acts (record { inbox = i; ports = end.ports.items; kept = []; away = w; misses = m; taken = t; left = true; fault = None }) log in (
+      let drains = drains_end log view.inbox end.ports.items view.away view.keeps view.misses view.taken view.ports view.kept view.left view.fault all (keeps_none view left_is (log, d, paid)) left_is whole d in
+      let P : Incoming (Out S) → List (PutAway Rest) → Bool → ℕ → ℕ → Type 0 =
+      λ i w k m t. Drains acts (record { inbox = i; ports = end.ports.items; kept = []; away = w; keeps = k; misses = m; taken = t; left = true; fault = None }) log in (
         log,
         record {
-          drains = subst (λ i. P i end.put_away.items end.places.misses end.taken) (sym inbox) (subst (λ w. P view.inbox w end.places.misses end.taken) (sym away)
-              (subst (λ m. P view.inbox view.away m end.taken) (sym misses) (subst (λ t. P view.inbox view.away view.misses t) (sym taken) drains)));
+          drains = subst (λ i. P i end.put_away.items end.put_away.keeps end.places.misses end.taken) (sym inbox)
+              (subst (λ w. P view.inbox w end.put_away.keeps end.places.misses end.taken) (sym away) (subst (λ k. P view.inbox view.away k end.places.misses end.taken) (sym keeps)
+              (subst (λ m. P view.inbox view.away view.keeps m end.taken) (sym misses) (subst (λ t. P view.inbox view.away view.keeps view.misses t) (sym taken) drains))));
           each_bye = subst (λ (i : Incoming (Out S)). HasEachBye i) (sym inbox) each;
           over = λ _. inbox;
           places = record {
             box = ap (λ (i : Incoming (Out S)). i.box) inbox;
             count = ap (λ (i : Incoming (Out S)). i.ports) inbox;
             ports = ap (map port_place) (sym all);
+            keeps = keeps;
           };
         },
       )
@@ -270,7 +283,7 @@ module _ {S Rest : Type 0} (acts : Acts S Rest) where
       drains = s.drains;
       each_bye = s.each_bye;
       over = λ each. over_before before after end.inbox none s.over each;
-      places = record { box = s.places.box ∙ kept.box; count = s.places.count ∙ kept.count; ports = s.places.ports ∙ kept.ports };
+      places = record { box = s.places.box ∙ kept.box; count = s.places.count ∙ kept.count; ports = s.places.ports ∙ kept.ports; keeps = s.places.keeps ∙ kept.keeps };
     },
   )
 
@@ -284,7 +297,7 @@ module _ {S Rest : Type 0} (acts : Acts S Rest) where
           drains = subst (λ (n : ℕ). Drains acts (view_of stop.left (has_left n log) (Some stop.fault)) log) count s.drains;
           places =
               let p = subst (λ (n : ℕ). KeepsDrainer after (view_of stop.left (has_left n log) (Some stop.fault))) count s.places in
-              record { box = p.box ∙ kept.box; count = p.count ∙ kept.count; ports = p.ports ∙ kept.ports };
+              record { box = p.box ∙ kept.box; count = p.count ∙ kept.count; ports = p.ports ∙ kept.ports; keeps = p.keeps ∙ kept.keeps };
           waited = waited;
         },
       )

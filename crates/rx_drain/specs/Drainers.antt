@@ -2,7 +2,9 @@
 use Rattle.std.specs.Prelude.{◌≡◌, ◌+◌, ◌<◌, ◌≤◌, ◌⊎◌, ℕ, Bool, true, false, List, [], ◌∷◌, ◌++◌, length, Option, Some, None, slice_get, vec_len, vec_capacity}
 use Rattle.std.specs.List.{list_any}
 use Rattle.rx_mailbox.specs.declared.letter.Letter.{Letter}
+use Rattle.rx_mailbox.specs.declared.letter.Post.TheVariants.{Bye}
 use Rattle.rx_mailbox.specs.Boxes.{Outgoing, Incoming, incoming}
+use Rattle.rx_mailbox.specs.Letters.{letter}
 use Rattle.rx_note.specs.declared.event.Event.{Event}
 use Rattle.rx_pump.specs.declared.call.Call.{Call}
 use Rattle.rx_pump.specs.declared.out.Out.{Out}
@@ -12,6 +14,7 @@ use Rattle.rx_sink.specs.declared.put_away.PutAway.{PutAway}
 use Rattle.rx_sink.specs.Acts.{Acts}
 use Rattle.rx_sink.specs.Attachments.{Mark}
 use Rattle.rx_sink.specs.KeptSinks.{Stand, addressed}
+use Rattle.rx_sink.specs.Rests.{HasRoomFor}
 use Rattle.rx_drain.specs.declared.drain_fault.DrainFault.{DrainFault}
 use Rattle.rx_drain.specs.declared.drain_fault.DrainFault.TheVariants.{InboxGone, SubjectGone}
 use Rattle.rx_drain.specs.declared.drainer_left.DrainerLeft.{DrainerLeft}
@@ -20,13 +23,14 @@ use Rattle.rx_drain.specs.Calls.{calls_to}
 use Rattle.rx_drain.specs.Logs.{Log, Next, Flush, letters, has_left, kept_in, gone_in, sent_in, missed_in, taken_in, put_by}
 
 -- a drainer: its inbox, its ports to subjects in their order, ended or not, the sinks that it keeps, what those left that it
--- put away, how many sinks found no memory, how many notes they took, whether it was told to leave, and the fault that it
--- stopped at
+-- put away, and whether it keeps that, how many sinks found no memory, how many notes they took, whether it was told to leave,
+-- and the fault that it stopped at
 pub record DrainerView (S Rest : Type 0) : Type 0 where
   pub inbox : Incoming (Out S)
   pub ports : List (Outgoing (Call S))
   pub kept : List (Kept S)
   pub away : List (PutAway Rest)
+  pub keeps : Bool
   pub misses : ℕ
   pub taken : ℕ
   pub left : Bool
@@ -46,6 +50,7 @@ module _ {S Rest : Type 0} where
     ports = hands.ended.items ++ hands.parts.subjects.items;
     kept = hands.kept.items;
     away = hands.put_away.items;
+    keeps = hands.put_away.keeps;
     misses = hands.places.misses;
     taken = hands.taken;
     left = left;
@@ -56,7 +61,7 @@ module _ {S Rest : Type 0} where
   -- and then all do, unless a subject is gone
   pub record Fits (leave : ℕ) (left : Bool) (fault : Option DrainFault) (hands : DrainerLeft S Rest) : Type 0 where
     pub leave_is : leave ≡ vec_len hands.ended + vec_len hands.parts.subjects
-    pub away_room : vec_len hands.put_away + vec_len hands.kept ≤ vec_capacity hands.put_away
+    pub away_room : HasRoomFor (vec_len hands.kept) hands.put_away
     pub ended_room : vec_len hands.ended + vec_len hands.parts.subjects ≤ vec_capacity hands.ended
     pub open_ports : left ≡ false → hands.ended.items ≡ []
     pub ended_ports : left ≡ true → fault ≡ None → hands.parts.subjects.items ≡ []
@@ -140,6 +145,19 @@ module _ {S Rest : Type 0} (acts : Acts S Rest) where
       × ((log : Log S) → StandsForLog (length before.ports) log before
       → (more : Log S) × (letters more ≡ letters log) × (mark : Mark) × StandsForLog (length before.ports) (Next more x mark) after)
 
+  -- it was handled behind no flush
+  abbrev pub HandlesNext : Letter (Out S) → DrainerView S Rest → DrainerView S Rest → Type 0
+  HandlesNext x before after =
+      IsOfSubject after.fault
+      × ((log : Log S) → StandsForLog (length before.ports) log before → (mark : Mark) × StandsForLog (length before.ports) (Next log x mark) after)
+
+  -- the Bye of the leave port was heard behind a flush of each sink, by which all was paid that is due of those that are not stuck
+  abbrev pub HearsBye : ℕ → DrainerView S Rest → DrainerView S Rest → Type 0
+  HearsBye leave before after =
+      (log : Log S) → StandsForLog (length before.ports) log before
+      → (more : Log S) × (letters more ≡ letters log) × AreAllPaid (length before.ports) more
+      × (mark : Mark) × StandsForLog (length before.ports) (Next more (letter leave Bye) mark) after
+
   -- the drainer went on: from each list of marked letters whose meaning it did it came to another
   abbrev pub Goes : DrainerView S Rest → DrainerView S Rest → Type 0
   Goes before after = (log : Log S) → Drains before log → (more : Log S) × Drains after more
@@ -165,12 +183,17 @@ module _ {S Rest : Type 0} (acts : Acts S Rest) where
 -- A NEW DRAINER
 
 module _ {S Rest : Type 0} where
-  -- the drainer of these parts, before its first turn
-  abbrev pub fresh_drainer : Incoming (Out S) → List (Outgoing (Call S)) → DrainerView S Rest
-  fresh_drainer inbox ports = record { inbox = inbox; ports = ports; kept = []; away = []; misses = 0; taken = 0; left = false; fault = None }
+  -- the drainer of these parts, before its first turn, which keeps what its sinks leave or not
+  abbrev pub fresh_drainer : Bool → Incoming (Out S) → List (Outgoing (Call S)) → DrainerView S Rest
+  fresh_drainer keeps inbox ports = record { inbox = inbox; ports = ports; kept = []; away = []; keeps = keeps; misses = 0; taken = 0; left = false; fault = None }
 
-  -- what no turn changes: which boxes the inbox and the ports belong to
+  -- the same drainer, which keeps nothing of what its sinks leave
+  abbrev pub forgetful : DrainerView S Rest → DrainerView S Rest
+  forgetful view = record view { keeps = false }
+
+  -- what no turn changes: which boxes the inbox and the ports belong to, and whether it keeps what its sinks leave
   pub record KeepsDrainer (before after : DrainerView S Rest) : Type 0 where
     pub box : after.inbox.box ≡ before.inbox.box
     pub count : after.inbox.ports ≡ before.inbox.ports
     pub ports : AreSame before.ports after.ports
+    pub keeps : after.keeps ≡ before.keeps

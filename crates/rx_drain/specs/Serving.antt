@@ -3,6 +3,7 @@ use Rattle.std.specs.Prelude.{◌≡◌, true, [], length, Some, None}
 use Rattle.rx_mailbox.specs.Boxes.{HasEachBye}
 use Rattle.rx_sink.specs.Acts.{Acts}
 use Rattle.rx_drain.specs.declared.drain_end.DrainEnd.{DrainEnd}
+use Rattle.rx_drain.specs.declared.drain_fault.DrainFault.{DrainFault}
 use Rattle.rx_drain.specs.declared.drain_fault.DrainFault.TheVariants.{InboxGone}
 use Rattle.rx_drain.specs.declared.drain_stop.DrainStop.{DrainStop}
 use Rattle.rx_drain.specs.Logs.{Log, has_left}
@@ -16,6 +17,7 @@ module _ {S Rest : Type 0} where
     ports = end.ports.items;
     kept = [];
     away = end.put_away.items;
+    keeps = end.put_away.keeps;
     misses = end.places.misses;
     taken = end.taken;
     left = true;
@@ -46,3 +48,7 @@ module _ {S Rest : Type 0} (acts : Acts S Rest) where
   -- there are such marks
   abbrev pub DrainerHasStopped : DrainerView S Rest → DrainStop S Rest → Type 0
   DrainerHasStopped drainer stop = (log : Log S) × DrainerStops drainer stop log
+
+  -- it stopped at this fault, and left what is not kept
+  abbrev pub DrainerHasFailed : DrainerView S Rest → DrainFault → Type 0
+  DrainerHasFailed drainer fault = (stop : DrainStop S Rest) × DrainerHasStopped drainer stop × (stop.fault ≡ fault)

@@ -1,4 +1,4 @@
-ghost use Rattle.std.specs.Prelude.{◌≡◌, ◌+◌, false, [], Some, None, Err, vec_len, MatchResult, OnOk, IfSome};
+ghost use Rattle.std.specs.Prelude.{◌≡◌, ◌+◌, false, true, [], Some, None, Err, vec_len, MatchResult, OnOk, IfSome};
 ghost use Rattle.std.specs.List.{All};
 ghost use Rattle.rx_pump.specs.Pumps.{IsFresh};
 
@@ -8,10 +8,11 @@ use crate::drain_stop::DrainStop;
 use crate::drainer_left::DrainerLeft;
 use crate::drainer_parts::DrainerParts;
 use crate::handling::{handle_first, handle_more, handle_rest};
+use crate::sending::holds_back;
 use rx_heap::Heap;
 use rx_mailbox::{Inbox, Port};
 use rx_pump::{Call, Out, room};
-use rx_sink::{Places, Sink};
+use rx_sink::{Places, Rests, Sink};
 use std::marker::Model;
 use std::sync::Wait;
 
@@ -26,15 +27,16 @@ pub struct Drainer<S: Sink> {
     fault: Option<DrainFault>,
 }
 
-// It stands here, and isn't derived, so that what lets go of a drainer is one call that is proved once.
+// A drainer that is let go is gone for its subjects, which hear its Byes.
 impl<S: Sink> Drop for Drainer<S> {
     fn drop(self) {
         let Drainer {
-            hands: _,
+            hands,
             leave: _,
             left: _,
             fault: _,
         } = self;
+        hands.let_go();
     }
 }
 
@@ -52,11 +54,11 @@ impl<S: Sink> Model for Drainer<S> {
 
 impl<S: Sink> Drainer<S> {
     ghost use Rattle.rx_mailbox.specs.Boxes.{HasEachBye};
-    ghost use Rattle.rx_drain.specs.Drainers.{IsDrained, KeepsDrainer, TakesMore, TakesSome, any_may_wait, fresh_drainer, view_of};
+    ghost use Rattle.rx_drain.specs.Drainers.{IsDrained, KeepsDrainer, TakesMore, TakesSome, any_may_wait, forgetful, fresh_drainer, view_of};
     ghost use Rattle.rx_drain.specs.Serving.{HasDrained, DrainerHasStopped};
 
-    /// A drainer of new parts: one port to each subject, and an inbox with a port for each and one more, the leave port.
-    /// `Err` gives them back where there was no memory for it.
+    /// A drainer of new parts: one port to each subject, and an inbox with a port for each and one more, the leave port. It
+    /// keeps what its sinks leave. `Err` gives the parts back where there was no memory for it.
     pub fn new(
         alloc: Heap,
         inbox: Inbox<Out<S>>,
@@ -66,7 +68,7 @@ impl<S: Sink> Drainer<S> {
         requires received { inbox.received ≡ [] }
         requires fresh { All IsFresh subjects.items }
         ensures { MatchResult result
-            (λ drainer. drainer ≡ fresh_drainer inbox subjects.items)
+            (λ drainer. drainer ≡ fresh_drainer true inbox subjects.items)
             (λ back. back ≡ record { inbox = inbox; subjects = subjects }) }
     {
         let parts = DrainerParts { inbox, subjects };
@@ -81,7 +83,7 @@ impl<S: Sink> Drainer<S> {
             parts,
             ended,
             kept,
-            put_away: Vec::new(alloc),
+            put_away: Rests::new(alloc),
             places: Places::new(),
             taken: 0,
         };
@@ -93,7 +95,14 @@ impl<S: Sink> Drainer<S> {
         })
     }
 
-    /// Takes the letters that are there, some thousand at most, and waits while there is none. Then it flushes each sink in
+    /// Has it keep nothing of what its sinks leave, which is let go as each is put away: then it grows by none of them.
+    pub fn forget(&mut self)
+        ensures { self.new ≡ forgetful self.old }
+    {
+        self.hands.put_away.forget();
+    }
+
+    /// Takes the letters that are there, some thousands at most, and waits while there is none. Then it flushes each sink in
     /// which something may wait. While something waits in a sink it waits for a letter some milliseconds at most, and then
     /// flushes again, so a turn may have taken none. Where nothing waits it took one at least.
     ///
@@ -190,8 +199,8 @@ impl<S: Sink> Drainer<S> {
             if is_over {
                 return Ok(());
             }
-            // Without a sink there is nothing to look after.
-            let looks = !self.hands.kept.is_empty();
+            // Without a sink, and requests that wait for room, there is nothing to look after.
+            let looks = !self.hands.kept.is_empty() || holds_back(&self.hands.parts.subjects);
             self.turn_by(rt, looks)?;
         }
         unreachable!()

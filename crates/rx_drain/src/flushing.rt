@@ -5,7 +5,7 @@ ghost use Rattle.rx_drain.specs.Drainers.{Fits, FlushesAll, FlushesAt, any_may_w
 
 use crate::sending::send_asks;
 use crate::{DrainFault, DrainerLeft};
-use rx_pump::ring_all;
+use rx_pump::try_ring_all;
 use rx_sink::{Kept, Sink, flush_one};
 use std::sync::Wait;
 use std::sync::atomic::AtomicU64;
@@ -28,10 +28,11 @@ pub fn flush_all<S: Sink, R: Wait>(
     ensures fits { Fits leave false result hands.new }
     ensures inbox { hands.new.parts.inbox ≡ hands.old.parts.inbox }
     ensures ports { AreSame (view_of hands.old false None).ports (view_of hands.new false result).ports }
+    ensures keeps { hands.new.put_away.keeps ≡ hands.old.put_away.keeps }
     ensures flushes { FlushesAll S.acts (view_of hands.old false None) (view_of hands.new false result) }
 {
     let fault = flush_each(rt, hands, leave, false);
-    ring_all(rt, &mut hands.parts.subjects);
+    let _is_left = try_ring_all(rt, &mut hands.parts.subjects);
     fault
 }
 
@@ -46,10 +47,11 @@ pub fn look_after<S: Sink, R: Wait>(
     ensures fits { Fits leave false result hands.new }
     ensures inbox { hands.new.parts.inbox ≡ hands.old.parts.inbox }
     ensures ports { AreSame (view_of hands.old false None).ports (view_of hands.new false result).ports }
+    ensures keeps { hands.new.put_away.keeps ≡ hands.old.put_away.keeps }
     ensures flushes { FlushesAll S.acts (view_of hands.old false None) (view_of hands.new false result) }
 {
     let fault = flush_each(rt, hands, leave, true);
-    ring_all(rt, &mut hands.parts.subjects);
+    let _is_left = try_ring_all(rt, &mut hands.parts.subjects);
     fault
 }
 
@@ -65,6 +67,7 @@ fn flush_each<S: Sink, R: Wait>(
     ensures fits { Fits leave false result hands.new }
     ensures inbox { hands.new.parts.inbox ≡ hands.old.parts.inbox }
     ensures ports { AreSame (view_of hands.old false None).ports (view_of hands.new false result).ports }
+    ensures keeps { hands.new.put_away.keeps ≡ hands.old.put_away.keeps }
     ensures flushes { FlushesAll S.acts (view_of hands.old false None) (view_of hands.new false result) }
 {
     // From the last one on, so that a sink that is put away leaves the places of those to come as they are.
@@ -92,6 +95,7 @@ pub fn flush_last<S: Sink, R: Wait>(
     ensures fits { Fits leave false result hands.new }
     ensures inbox { hands.new.parts.inbox ≡ hands.old.parts.inbox }
     ensures ports { AreSame (view_of hands.old false None).ports (view_of hands.new false result).ports }
+    ensures keeps { hands.new.put_away.keeps ≡ hands.old.put_away.keeps }
     ensures flushes { FlushesAll S.acts (view_of hands.old false None) (view_of hands.new false result) }
 {
     for _ in 0..LAST_ROUNDS {
@@ -132,6 +136,7 @@ fn flush_at<S: Sink, R: Wait>(
     ensures fits { Fits leave false result hands.new }
     ensures inbox { hands.new.parts.inbox ≡ hands.old.parts.inbox }
     ensures ports { AreSame (view_of hands.old false None).ports (view_of hands.new false result).ports }
+    ensures keeps { hands.new.put_away.keeps ≡ hands.old.put_away.keeps }
     ensures len { vec_len hands.old.kept ≤ vec_len hands.new.kept + 1 }
     ensures flushes { FlushesAt S.acts place (view_of hands.old false None) (view_of hands.new false result) }
 {

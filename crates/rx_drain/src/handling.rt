@@ -3,23 +3,23 @@ ghost use Rattle.std.specs.Prelude.{◌≡◌, true, false, None, IfOk, OnOk, On
 ghost use Rattle.rx_mailbox.specs.declared.letter.Post.TheVariants.{Bye};
 ghost use Rattle.rx_mailbox.specs.Letters as letters;
 ghost use Rattle.rx_pump.specs.Pumps.{AreSame};
-ghost use Rattle.rx_drain.specs.Drainers.{Fits, Goes, HandlesLetter, IsOfSubject, Pays, TakesMore, TakesSome, any_may_wait, view_of};
+ghost use Rattle.rx_drain.specs.Drainers.{Fits, Goes, HandlesLetter, HandlesNext, HearsBye, IsOfSubject, Pays, TakesMore, TakesSome, any_may_wait, view_of};
 
 use crate::flushing::{flush_all, flush_last, look_after, may_wait};
-use crate::sending::{part_all, send_asks};
+use crate::sending::{holds_back, part_all, send_asks};
 use crate::serving_out::{finish_unserved, into_sink, serve_out};
 use crate::{DrainFault, DrainerLeft};
 use rx_mailbox::{Gone, Letter, Post, TryRecvFault};
-use rx_pump::{Out, finish_all, ring_all};
+use rx_pump::{Out, finish_all, try_ring_all};
 use rx_sink::{Sink, put_all_away};
 use std::sync::Wait;
 use std::time::Duration;
 
-// So many letters are taken at most before what waits in the sinks goes out. Credit bounds how many come, but for a first
-// request without a bound.
+// So many letters are taken at most before what waits in the sinks goes out, and the requests that are held back: four times as many
+// as the windows of 64 observers let come at once, so that one write has several windows' notes where more come meanwhile.
 const MOST_LETTERS: u32 = 4096;
 
-// How long a letter is waited for while something waits in a sink, in milliseconds.
+// How long a letter is waited for while something waits in a sink, or in a port for room, in milliseconds.
 const MOST_WAIT: u64 = 4;
 
 // How long a letter is waited for where nothing waits in a sink, before all sinks are looked after, in milliseconds.
@@ -45,6 +45,7 @@ pub fn handle<S: Sink, R: Wait>(
     ensures fits { Fits leave result.left result.fault hands.new }
     ensures inbox { hands.new.parts.inbox ≡ hands.old.parts.inbox }
     ensures ports { AreSame (view_of hands.old left None).ports (view_of hands.new result.left result.fault).ports }
+    ensures keeps { hands.new.put_away.keeps ≡ hands.old.put_away.keeps }
     ensures handles { HandlesLetter S.acts letter (view_of hands.old left None) (view_of hands.new result.left result.fault) }
 {
     let Letter { from, post } = letter;
@@ -86,6 +87,7 @@ pub fn handle_first<S: Sink, R: Wait>(
     ensures of_subject { IfOk result (λ now. IsOfSubject now.fault) }
     ensures takes_one { OnOk result (looks ≡ false → any_may_wait hands.old.kept.items ≡ false → TakesSome hands.old.parts.inbox hands.new.parts.inbox) }
     ensures ports { IfOk result (λ now. AreSame (view_of hands.old left None).ports (view_of hands.new now.left now.fault).ports) }
+    ensures keeps { OnOk result (hands.new.put_away.keeps ≡ hands.old.put_away.keeps) }
     ensures goes { IfOk result (λ now. Goes S.acts (view_of hands.old left None) (view_of hands.new now.left now.fault)) }
 {
     let waits = may_wait(&hands.kept);
@@ -93,7 +95,8 @@ pub fn handle_first<S: Sink, R: Wait>(
         let letter = hands.parts.inbox.recv(rt)?;
         return Ok(handle(rt, hands, leave, left, letter));
     }
-    match hands.parts.inbox.recv_within(rt, most_wait(waits)) {
+    let is_short = waits || holds_back(&hands.parts.subjects);
+    match hands.parts.inbox.recv_within(rt, most_wait(is_short)) {
         Ok(letter) => Ok(handle(rt, hands, leave, left, letter)),
         Err(TryRecvFault::Gone) => Err(Gone),
         Err(TryRecvFault::Empty) => Ok(handle_none(rt, hands, leave, waits)),
@@ -109,8 +112,8 @@ fn is_patient(left: bool, waits: bool, looks: bool) -> bool
 }
 
 // How long the next letter is waited for.
-fn most_wait(waits: bool) -> Duration {
-    if waits {
+fn most_wait(is_short: bool) -> Duration {
+    if is_short {
         Duration::from_millis(MOST_WAIT)
     } else {
         Duration::from_millis(MOST_IDLE)
@@ -130,6 +133,7 @@ fn handle_none<S: Sink, R: Wait>(
     ensures fits { Fits leave false result.fault hands.new }
     ensures inbox { hands.new.parts.inbox ≡ hands.old.parts.inbox }
     ensures ports { AreSame (view_of hands.old false None).ports (view_of hands.new false result.fault).ports }
+    ensures keeps { hands.new.put_away.keeps ≡ hands.old.put_away.keeps }
     ensures goes { Goes S.acts (view_of hands.old false None) (view_of hands.new false result.fault) }
 {
     if waits {
@@ -155,6 +159,7 @@ pub fn handle_more<S: Sink, R: Wait>(
     ensures of_subject { IsOfSubject result.fault }
     ensures inbox { TakesMore hands.old.parts.inbox hands.new.parts.inbox }
     ensures ports { AreSame (view_of hands.old handled.left handled.fault).ports (view_of hands.new result.left result.fault).ports }
+    ensures keeps { hands.new.put_away.keeps ≡ hands.old.put_away.keeps }
     ensures goes { Goes S.acts (view_of hands.old handled.left handled.fault) (view_of hands.new result.left result.fault) }
 {
     let mut now = handled;
@@ -184,10 +189,11 @@ pub fn handle_rest<S: Sink, R: Wait>(
     ensures of_subject { IsOfSubject result.fault }
     ensures inbox { hands.new.parts.inbox ≡ hands.old.parts.inbox }
     ensures ports { AreSame (view_of hands.old handled.left handled.fault).ports (view_of hands.new result.left result.fault).ports }
+    ensures keeps { hands.new.put_away.keeps ≡ hands.old.put_away.keeps }
     ensures pays { Pays S.acts (view_of hands.old handled.left handled.fault) (view_of hands.new result.left result.fault) }
 {
     if handled.left || handled.fault.is_some() {
-        ring_all(rt, &mut hands.parts.subjects);
+        let _is_left = try_ring_all(rt, &mut hands.parts.subjects);
         return handled;
     }
     let fault = flush_all(rt, hands, leave);
@@ -207,7 +213,9 @@ fn hear_bye<S: Sink, R: Wait>(
     ensures fits { Fits leave result.left result.fault hands.new }
     ensures inbox { hands.new.parts.inbox ≡ hands.old.parts.inbox }
     ensures ports { AreSame (view_of hands.old left None).ports (view_of hands.new result.left result.fault).ports }
+    ensures keeps { hands.new.put_away.keeps ≡ hands.old.put_away.keeps }
     ensures handles { HandlesLetter S.acts (letters.letter from Bye) (view_of hands.old left None) (view_of hands.new result.left result.fault) }
+    ensures flushed { left ≡ false → from ≡ leave → result.fault ≡ None → HearsBye S.acts from (view_of hands.old left None) (view_of hands.new result.left None) }
 {
     if left || from as usize != leave {
         return Handled { left, fault: None };
@@ -227,7 +235,8 @@ fn leave_all<S: Sink, R: Wait>(rt: &R, hands: &mut DrainerLeft<S>, leave: u32) -
     ensures fits { Fits leave true result hands.new }
     ensures inbox { hands.new.parts.inbox ≡ hands.old.parts.inbox }
     ensures ports { AreSame (view_of hands.old false None).ports (view_of hands.new true result).ports }
-    ensures handles { HandlesLetter S.acts (letters.letter leave Bye) (view_of hands.old false None) (view_of hands.new true result) }
+    ensures keeps { hands.new.put_away.keeps ≡ hands.old.put_away.keeps }
+    ensures handles { HandlesNext S.acts (letters.letter leave Bye) (view_of hands.old false None) (view_of hands.new true result) }
 {
     let fault = part_all(rt, &mut hands.parts.subjects, hands.kept.as_slice());
     put_all_away(&mut hands.kept, &mut hands.put_away);

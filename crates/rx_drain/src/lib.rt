@@ -37,5 +37,5 @@ pub use drainer_left::DrainerLeft;
 pub use drainer_parts::DrainerParts;
 pub use running_drainer::{NoThread, RunningDrainer, start_drainer};
 pub use rx_sink::{
-    Asks, Flow, Kept, LineRest, LineSink, MemorySink, Places, PutAway, Sink, SinkFault,
+    Asks, Flow, Kept, LineRest, LineSink, MemorySink, Places, PutAway, Rests, Sink, SinkFault,
 };

@@ -1,8 +1,9 @@
 //! Drainers in threads of their own.
 ghost use Rattle.std.specs.Prelude.{◌≡◌, MatchResult, IfOk};
+ghost use Rattle.rx_drain.specs.Serving.{HasDrained, DrainerHasFailed};
 
 use crate::drain_end::DrainEnd;
-use crate::drain_stop::DrainStop;
+use crate::drain_fault::DrainFault;
 use crate::drainer::Drainer;
 use rx_sink::Sink;
 use std::error::Error;
@@ -23,22 +24,23 @@ impl fmt::Display for NoThread {
 
 impl Error for NoThread {}
 
-/// What the thread of a drainer answers is what `serve` promises of that drainer.
+/// What the thread of a drainer answers is what `serve` promises of that drainer, but that of what it left at a fault there is the
+/// fault alone.
 #[derive(Drop)]
 pub struct Served<S: Sink>(Snapshot<Drainer<S>>);
 
-impl<S: Sink> Promise<Result<DrainEnd<S>, DrainStop<S>>> for Served<S> {
+impl<S: Sink> Promise<Result<DrainEnd<S>, DrainFault>> for Served<S> {
     ghost use Rattle.std.specs.Prelude.{MatchResult};
-    ghost use Rattle.rx_drain.specs.Serving.{HasDrained, DrainerHasStopped};
+    ghost use Rattle.rx_drain.specs.Serving.{HasDrained, DrainerHasFailed};
 
     ghost kept_by = { λ p result. MatchResult result
         (λ end. HasDrained S.acts p.0.value end)
-        (λ stop. DrainerHasStopped S.acts p.0.value stop) };
+        (λ fault. DrainerHasFailed S.acts p.0.value fault) };
 }
 
 /// A drainer that serves in a thread of its own. One that is let go without a `join` is not waited for.
 pub struct RunningDrainer<S: Sink> {
-    handle: PromisedHandle<Result<DrainEnd<S>, DrainStop<S>>, Served<S>>,
+    handle: PromisedHandle<Result<DrainEnd<S>, DrainFault>, Served<S>>,
 }
 
 // It stands here, and isn't derived, so that what lets go of a running drainer is one call that is proved once.
@@ -61,20 +63,29 @@ where
         return Err(NoThread);
     };
     let promise = Served(Snapshot::of(&drainer));
-    match thread::spawn_with(rt, promise, move || drainer.serve(&own)) {
+    match thread::spawn_with(rt, promise, move || serve(&own, drainer)) {
         Ok(handle) => Ok(RunningDrainer { handle }),
         Err(_) => Err(NoThread),
     }
 }
 
-impl<S: Sink> RunningDrainer<S> {
-    ghost use Rattle.rx_drain.specs.Serving.{HasDrained, DrainerHasStopped};
+// Serves to the end. At a fault nothing is kept but that, so that no subject waits for the drainer.
+fn serve<S: Sink, R: Wait>(rt: &R, drainer: Drainer<S>) -> Result<DrainEnd<S>, DrainFault>
+    ensures { MatchResult result (λ end. HasDrained S.acts drainer end) (λ fault. DrainerHasFailed S.acts drainer fault) }
+{
+    match drainer.serve(rt) {
+        Ok(end) => Ok(end),
+        Err(stop) => Err(stop.let_go()),
+    }
+}
 
-    /// Waits until the thread has ended. It answers what `serve` did.
-    pub fn join<R: Threads>(self, rt: &R) -> Result<DrainEnd<S>, DrainStop<S>>
+impl<S: Sink> RunningDrainer<S> {
+    /// Waits until the thread has ended. It answers what `serve` did, and at a fault that alone: all else was let go when the thread
+    /// ended, so that the subjects found the drainer gone.
+    pub fn join<R: Threads>(self, rt: &R) -> Result<DrainEnd<S>, DrainFault>
         ensures { MatchResult result
             (λ end. HasDrained S.acts self.handle.promise.0.value end)
-            (λ stop. DrainerHasStopped S.acts self.handle.promise.0.value stop) }
+            (λ fault. DrainerHasFailed S.acts self.handle.promise.0.value fault) }
     {
         let RunningDrainer { handle } = self;
         handle.join(rt)

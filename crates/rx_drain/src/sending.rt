@@ -11,8 +11,8 @@ use rx_pump::Call;
 use rx_sink::{Asks, Kept, Sink};
 use std::sync::Wait;
 
-// Asks the subject for what it is to be asked, one item after another. That may be held back, and need not wake the subject. It
-// answers the fault, if there is one.
+// Asks the subject for what it is to be asked, one item after another. That may be held back, need not wake the subject, and waits
+// for no room as long as there is memory: the subject may wait for room in the drainer's box. It answers the fault, if there is one.
 pub fn send_asks<S: Drop, R: Wait>(
     rt: &R,
     subjects: &mut Vec<Port<Call<S>>, Heap>,
@@ -75,8 +75,13 @@ fn send<S: Drop, R: Wait>(
         event,
         sink: None,
     };
-    let Ok(()) = subjects[place].send_quietly(rt, call) else {
+    let Ok(()) = subjects[place].hold(rt, call) else {
         return Some(DrainFault::SubjectGone(place));
     };
     None
+}
+
+// Whether requests are held back for which their box had no room.
+pub fn holds_back<S: Drop>(subjects: &Vec<Port<Call<S>>, Heap>) -> bool {
+    subjects.iter().any(|port| port.holds_back())
 }

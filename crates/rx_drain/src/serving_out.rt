@@ -1,32 +1,34 @@
 // What a letter of a subject does to the sinks.
-ghost use Rattle.std.specs.Prelude.{◌≡◌, ◌+◌, ◌≤◌, ℕ, vec_len, vec_capacity};
+ghost use Rattle.std.specs.Prelude.{◌≡◌, ℕ, vec_len};
 ghost use Rattle.rx_sink.specs.KeptSinks.{Tends, events_of, sinks};
+ghost use Rattle.rx_sink.specs.Rests.{HasRoomFor};
 ghost use Rattle.rx_drain.specs.Drainers.{Finishes};
 ghost use Rattle.rx_drain.specs.Logs.{service_of, sink_in};
 
 use rx_heap::Heap;
 use rx_pump::Out;
-use rx_sink::{Asks, Kept, Places, PutAway, Sink, attach, detach, give};
+use rx_sink::{Asks, Kept, Places, Rests, Sink, attach, detach, give};
 
 // A sink, a note or the leaving of an observer comes from a subject. It answers what the subject is to be asked, and a sink that
 // is left unserved, as it came.
 pub fn serve_out<S: Sink>(
     kept: &mut Vec<Kept<S>, Heap>,
-    away: &mut Vec<PutAway<S::Rest>, Heap>,
+    away: &mut Rests<S::Rest>,
     places: &mut Places,
     taken: &mut u64,
     subject: u32,
     out: Out<S>,
 ) -> (Asks, Option<S>)
-    requires room { vec_len away.old + vec_len kept.old ≤ vec_capacity away.old }
-    ensures room { vec_len away.new + vec_len kept.new ≤ vec_capacity away.new }
+    requires room { HasRoomFor (vec_len kept.old) away.old }
+    ensures room { HasRoomFor (vec_len kept.new) away.new }
+    ensures keeps { away.new.keeps ≡ away.old.keeps }
     ensures serves { (place : ℕ) → Tends S.acts (service_of place subject out) subject
         (sinks kept.old.items away.old.items places.old.misses taken.old) (sinks kept.new.items away.new.items places.new.misses taken.new) (events_of result.0) result.1 }
 {
     match out {
         Out::Attach { who, sink } => attach(kept, away, places, subject, who, sink),
-        Out::Give { who, note } => (give(kept, away, taken, subject, who, note), None),
-        Out::Detach { who } => (detach(kept, away, subject, who), None),
+        Out::Give { who, note } => (give(kept, away, places, taken, subject, who, note), None),
+        Out::Detach { who } => (detach(kept, away, places, subject, who), None),
     }
 }
 

@@ -82,6 +82,45 @@ impl<S: Drop> Caller<S> {
         self.call(rt, subject, Event::Emit { note, at: 0 }, None)
     }
 
+    // Posts the item of this one byte to a subject, and answers whether it goes.
+    pub(crate) fn post(
+        &mut self,
+        rt: &(impl Wait + Abort),
+        heap: &Heap,
+        subject: usize,
+        byte: u8,
+    ) -> bool
+        ensures { KeepsDesk self.old.desk self.new.desk }
+    {
+        assert!(rt; subject < self.desk.subjects(), "subject {subject}");
+        let text = Text::new(copy(rt, heap), &[byte]).expect(rt, "a text");
+        let note = Note::Next(Item::new(text));
+        self.desk
+            .post(rt, subject, Event::Emit { note, at: 0 })
+            .is_ok()
+    }
+
+    // What a subject answers to the oldest call that was posted, which has this ticket.
+    pub(crate) fn answer(
+        &mut self,
+        rt: &(impl Wait + Abort),
+        subject: usize,
+        ticket: u64,
+    ) -> Result<Answer, Refusal>
+        ensures { KeepsDesk self.old.desk self.new.desk }
+    {
+        assert!(rt; subject < self.desk.subjects(), "subject {subject}");
+        match self.desk.answer(rt, subject, ticket) {
+            Ok(reply) => reply.result,
+            Err(_) => panic!(rt; "no reply"),
+        }
+    }
+
+    // How many tickets it used.
+    pub(crate) fn tickets(&self) -> u64 {
+        self.desk.tickets()
+    }
+
     // Emits the item of this one byte into each of so many subjects, which admit it.
     fn emit_to_each(&mut self, rt: &(impl Wait + Abort), heap: &Heap, subjects: usize, byte: u8)
         ensures { KeepsDesk self.old.desk self.new.desk }

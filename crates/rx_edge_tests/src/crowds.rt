@@ -2,7 +2,7 @@
 //! again at its path. Nobody holds up another.
 
 use crate::expecting::{expect_that, expect_told};
-use crate::sockets::{Paths, Peer, expect_served, serve, write_config};
+use crate::sockets::{Paths, Peer, check, expect_served, serve, write_config};
 use rx_program::Host;
 use std::fs::{self, File};
 use std::io;
@@ -257,6 +257,32 @@ const LISTENED: &str = "0 s joins 0 refused 0\n|rxline: listening on rxline-agai
 
 const REFUSED: &str = "1 |rxline: cannot listen\n";
 
+// What is told of a check, behind the lines of the configuration.
+const NOTHING_IN_THE_WAY: &str = "|";
+
+const SERVED: &str = "|rxline-again.sock: another server listens there\nrxline: cannot listen\n";
+
+const ABANDONED: &str =
+    "|rxline-again.sock: a socket stands there on which nobody listens: takeover = true in [pool] has it removed\nrxline: cannot listen\n";
+
+const NO_SOCKET: &str =
+    "|rxline-again.sock: something stands there that is no socket, and is not removed\nrxline: cannot listen\n";
+
+// Whether this is told of a check of the path.
+fn is_checked(rt: &impl Host, wanted: &str) -> bool {
+    check(rt, &AGAIN).ends_with(wanted.as_bytes())
+}
+
+// Whether a server is answered, while a second one and a check are told that it listens: neither counts as its connection.
+fn is_answered_alone(rt: &impl Host) -> bool {
+    let mut peer = Peer::connected(rt, &AGAIN);
+    let second = serve(rt, &AGAIN);
+    let checked = is_checked(rt, SERVED);
+    peer.sends(b"PUB s a\nQUIT\n");
+    peer.hears_last(b"OK\nOK\n");
+    second.as_slice() == REFUSED.as_bytes() && checked && peer.is_right()
+}
+
 // Puts a file where a socket stands.
 fn put_file(rt: &impl Host, paths: &Paths) -> io::Result<()> {
     fs::remove_file(rt, paths.socket)?;
@@ -264,29 +290,35 @@ fn put_file(rt: &impl Host, paths: &Paths) -> io::Result<()> {
     Ok(())
 }
 
-// A path where a socket was left is taken over where the pool says so, and else refused; so is one where a file stands, which
-// stays.
+// A server that this pool says listens, alone, at the path.
+fn expect_listening(rt: &(impl Host + Abort + Sync), pool: &[u8], what: &str) -> Result<(), Fail> {
+    write_config(rt, &AGAIN, pool)?;
+    expect_that(rt, is_checked(rt, NOTHING_IN_THE_WAY), what);
+    let (told, right) = join(
+        rt,
+        || -> Vec<u8> { serve(rt, &AGAIN) },
+        || -> bool { is_answered_alone(rt) },
+    );
+    expect_that(rt, right, what);
+    expect_told(rt, told.as_slice(), LISTENED, what);
+    Ok(())
+}
+
+// A path where a socket was left is taken over where the pool says so, and else refused; so is one where a server listens, and
+// one where a file stands, which stays. A check tells which it is.
 #[test]
 fn a_path_is_taken_over(rt: HostRuntime) -> Result<(), Fail> {
-    write_config(&rt, &AGAIN, b"connections = 1\n")?;
-    let (told, right) = join(
-        &rt,
-        || -> Vec<u8> { serve(&rt, &AGAIN) },
-        || -> bool { is_answered(&rt, &AGAIN) },
-    );
-    expect_that(&rt, right, "a new path");
-    expect_told(&rt, told.as_slice(), LISTENED, "a new path");
+    expect_listening(&rt, b"connections = 1\n", "a new path")?;
     let told = serve(&rt, &AGAIN);
     expect_told(&rt, told.as_slice(), REFUSED, "a path that is left");
-    write_config(&rt, &AGAIN, b"connections = 1\ntakeover = true\n")?;
-    let (told, right) = join(
+    expect_that(&rt, is_checked(&rt, ABANDONED), "a path that is left");
+    expect_listening(
         &rt,
-        || -> Vec<u8> { serve(&rt, &AGAIN) },
-        || -> bool { is_answered(&rt, &AGAIN) },
-    );
-    expect_that(&rt, right, "a path taken over");
-    expect_told(&rt, told.as_slice(), LISTENED, "a path taken over");
+        b"connections = 1\ntakeover = true\n",
+        "a path taken over",
+    )?;
     put_file(&rt, &AGAIN)?;
+    expect_that(&rt, is_checked(&rt, NO_SOCKET), "a path of a file");
     let told = serve(&rt, &AGAIN);
     expect_served(&rt, &AGAIN, told.as_slice(), true, REFUSED)
 }

@@ -15,6 +15,7 @@ mod crowds;
 #[cfg(test)]
 mod expecting;
 #[cfg(test)]
+#[cfg(test)]
 mod order;
 #[cfg(test)]
 mod peers;

@@ -367,7 +367,7 @@ fn history_of(heap: &Heap, notes: &[Note]) -> Result<History, Fail> {
 // What the sink of observer 0 took.
 fn first_notes(report: &Report<Ledger>) -> &[Note] {
     for list in &report.put_away {
-        for away in list {
+        for away in list.as_slice() {
             if away.who == 0 {
                 return away.rest.as_slice();
             }
@@ -386,7 +386,7 @@ fn is_right(history: &History, away: &PutAway<Vec<Note, Heap>>) -> Result<bool, 
 fn count_right(report: &Report<Ledger>, history: &History) -> Result<u64, Fail> {
     let mut right: u64 = 0;
     for list in &report.put_away {
-        for away in list {
+        for away in list.as_slice() {
             right = right.saturating_add(u64::from(is_right(history, away)?));
         }
     }
@@ -397,7 +397,7 @@ fn count_right(report: &Report<Ledger>, history: &History) -> Result<u64, Fail> 
 fn count_all(report: &Report<Ledger>) -> u64 {
     let mut all: u64 = 0;
     for list in &report.put_away {
-        all = all.saturating_add(list.len() as u64);
+        all = all.saturating_add(list.as_slice().len() as u64);
     }
     all
 }

@@ -30,7 +30,7 @@ fn told_of<R: Read>(rt: &impl Host, words: &[&str], reader: &mut R) -> Vec<u8> {
 }
 
 // What is told of a run over the script.
-fn told_by(rt: &impl Host, words: &[&str]) -> Vec<u8> {
+pub(crate) fn told_by(rt: &impl Host, words: &[&str]) -> Vec<u8> {
     let mut reader = SCRIPT;
     told_of(rt, words, &mut reader)
 }
@@ -42,7 +42,7 @@ fn expect_run(rt: &(impl Host + Abort), words: &[&str], wanted: &str) {
 }
 
 // Words, and what is told of the run by them.
-const STATUSES: [(&[&str], &str); 8] = [
+const STATUSES: [(&[&str], &str); 10] = [
     (&[], "0 OK 0\nOK\ns 0 NEXT a\nOK\n|"),
     (
         &["script", "no/such/file"],
@@ -57,7 +57,15 @@ const STATUSES: [(&[&str], &str); 8] = [
     (&["audit", "."], "1 |rxline: cannot read config\n"),
     (
         &["check", "no/such/file"],
-        "1 |rxline: cannot read config\n",
+        "1 |no/such/file: No such file or directory (os error 2)\nrxline: cannot read config\n",
+    ),
+    (
+        &["check", "."],
+        "1 |.: Is a directory (os error 21)\nrxline: cannot read config\n",
+    ),
+    (
+        &["check", "no\n\u{1b}[2Jfile", "a"],
+        "1 |no\\x0a\\x1b[2Jfile: No such file or directory (os error 2)\nrxline: cannot read config\n",
     ),
     (&["--version"], "0 rxline 0.1.0\n|"),
     (
@@ -171,7 +179,7 @@ fn most_bytes_of_a_configuration(rt: HostRuntime) -> Result<(), Fail> {
 }
 
 // Words, and how what is told of the run by them begins and ends.
-const WRONG: [(&[&str], &str, &str); 5] = [
+const WRONG: [(&[&str], &str, &str); 6] = [
     (&["--help"], "0 Multicasts items", "|"),
     (&["serve", "--help"], "0 Serves on a new Unix socket", "|"),
     (
@@ -187,7 +195,12 @@ const WRONG: [(&[&str], &str, &str); 5] = [
     (
         &["check"],
         "2 |error: ",
-        "Usage: rxline check <config>\n\nFor more information, try '--help'.\n",
+        "Usage: rxline check <config> [socket]\n\nFor more information, try '--help'.\n",
+    ),
+    (
+        &["\u{1b}[2J"],
+        "2 |error: ",
+        "For more information, try '--help'.\n",
     ),
 ];
 
@@ -197,7 +210,57 @@ fn help_and_wrong_words(rt: HostRuntime) {
         let told = told_by(&rt, words);
         expect_that(&rt, told.starts_with(front.as_bytes()), front);
         expect_that(&rt, told.ends_with(back.as_bytes()), back);
+        expect_that(
+            &rt,
+            !told.as_slice().contains(&0x1b),
+            &"a word steers the terminal",
+        );
     }
+}
+
+// The lines of the configuration of `SEEDED`.
+const SEEDED_LINES: &str =
+    "subject s behavior observers 64 joins 4294967295 items 4294967295 seed z\npool drainers 1 workers 4 window 16 connections 4294967295 stall 60\n";
+
+// A path of more than 107 bytes.
+const LONG: &str =
+    "aaaaaaaaaaaaaaaaaaaaaaaaaaaaaaaaaaaaaaaaaaaaaaaaaaaaaaaaaaaaaaaaaaaaaaaaaaaaaaaaaaaaaaaaaaaaaaaaaaaaaaaaaaaa";
+
+// Paths of sockets, and what is told to be in the way there.
+const IN_THE_WAY: [(&str, &str); 4] = [
+    ("", ": the path of the socket is empty\n"),
+    (LONG, ": the path of the socket has more than 107 bytes\n"),
+    (
+        "no/such/socket",
+        ": No such file or directory (os error 2)\n",
+    ),
+    (
+        "no\nsuch/socket",
+        "no\\x0asuch/socket: No such file or directory (os error 2)\n",
+    ),
+];
+
+#[test]
+fn what_is_in_the_way_of_a_server(rt: HostRuntime) -> Result<(), Fail> {
+    write_config(&rt, SEEDED)?;
+    for (path, wanted) in &IN_THE_WAY {
+        let told = told_by(&rt, &["check", PATH, path]);
+        let front = format!(in rt.alloc(); "1 {SEEDED_LINES}|")?;
+        let back = format!(in rt.alloc(); "{wanted}rxline: cannot listen\n")?;
+        expect_that(&rt, told.starts_with(front.as_bytes()), path);
+        expect_that(&rt, told.ends_with(back.as_bytes()), path);
+    }
+    fs::remove_file(&rt, PATH)?;
+    Ok(())
+}
+
+#[test]
+fn most_bytes_of_a_configuration_that_is_checked(rt: HostRuntime) -> Result<(), Fail> {
+    let config = config_of(rt.alloc(), 65_537);
+    let told = told_over(&rt, "check", config.as_slice())?;
+    let wanted = "1 |rxline-test.toml: it has more than 65536 bytes\nrxline: cannot read config\n";
+    expect_told(&rt, told.as_slice(), wanted, "a file of these bytes");
+    Ok(())
 }
 
 /// Gives a line of so many letters, one a read.

@@ -164,7 +164,7 @@ fn notes_of<'a>(rt: &impl Abort, report: &'a Report<MemorySink>) -> &'a [Note] {
     match report.put_away.as_slice() {
         [list] => match list.as_slice() {
             [away] => away.rest.as_slice(),
-            _ => panic!(rt; "{} sinks", list.len()),
+            others => panic!(rt; "{} sinks", others.len()),
         },
         lists => panic!(rt; "{} drainers", lists.len()),
     }
@@ -255,7 +255,7 @@ fn report_of_two_drainers<R: Host>(
 fn told_of_meetings<R: Host>(report: &Report<Meeting<R>>) -> Told {
     let mut told = Told::new();
     for list in &report.put_away {
-        for away in list {
+        for away in list.as_slice() {
             told.put_digit(away.who as usize);
             told.put(if away.rest { b'm' } else { b'!' });
         }

@@ -1,7 +1,7 @@
 //! The program as a server, over a real socket: its peers, what it tells, and its report.
 
 use crate::expecting::{expect_that, expect_told};
-use crate::programs::{Unflushed, joined};
+use crate::programs::{Unflushed, joined, told_by};
 use rx_program::{Host, run_words};
 use std::fs::{self, File};
 use std::io::{self, Read, Write};
@@ -49,7 +49,14 @@ pub(crate) fn write_config(rt: &impl Host, paths: &Paths, pool: &[u8]) -> io::Re
 
 fn remove_files(rt: &impl Host, paths: &Paths) -> io::Result<()> {
     fs::remove_file(rt, paths.config)?;
+    let lock = format!(in rt.alloc(); "{}.lock", paths.socket)?;
+    fs::remove_file(rt, lock.as_str())?;
     fs::remove_file(rt, paths.socket)
+}
+
+/// What is told of a check of the configuration and of the path of the socket.
+pub(crate) fn check(rt: &impl Host, paths: &Paths) -> Vec<u8> {
+    told_by(rt, &["check", paths.config, paths.socket])
 }
 
 // What is told of the server.

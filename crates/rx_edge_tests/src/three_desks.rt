@@ -127,7 +127,7 @@ fn report_of_three_desks(rt: &impl Host, heap: &Heap) -> Report<MemorySink> {
 fn full_sinks_of(rt: &impl Abort, report: &Report<MemorySink>, subject: u32) -> u64 {
     let mut sinks: u64 = 0;
     for list in &report.put_away {
-        for away in list {
+        for away in list.as_slice() {
             if away.subject == subject {
                 expect_items(rt, away.rest.as_slice(), 30, 0..3, ITEMS);
                 sinks = sinks.saturating_add(1);

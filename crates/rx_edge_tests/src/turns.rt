@@ -146,6 +146,8 @@ impl<C> Readiness<C> for Everyone {
 
     fn change(&mut self, _connection: &C, _key: usize, _aim: Aim) {}
 
+    fn again(&mut self, _key: usize) {}
+
     fn forget(&mut self, _connection: &C) {}
 
     fn wait(&mut self) {

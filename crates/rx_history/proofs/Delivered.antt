@@ -27,7 +27,7 @@ use Rattle.rx_note.proofs.Sending.{sent-end}
 use Rattle.rx_note.proofs.Steps.{end_ahead}
 use Rattle.rx_note.proofs.Order.{line_items-in_order}
 use Rattle.rx_history.specs.Histories.{Entry, History, ◌▹◌, terminal_in, end_of, joins, held, is_held, may_join, item_count, accepts, followed_by, ended_by, last_item, offers_by, signalled, may_request, signals, given_to, line_of, waiting_for}
-use Rattle.rx_history.specs.Delivery.{items_among, IsTerminal, offered, offered_to, end_for, loses_nothing, ends_ahead, offers_at_once, EndsAsTheSubjectOrOverflows, EndStays, OverflowEndsIt, OverflowStaysBehind, OverflowGoesAhead, KeepsAll, IsSubsequence, LineIsInOrder, OffersAreInOrder, EachPortIsInOrder, GivenThenWaiting, GivenOnlyGrows, TerminalIsLast, LineEndsAsTheSubject, NothingFollowsATerminal, NothingFollowsTheEnd, ErrorGoesAhead, DisposeDiscards, NothingFollowsADispose, GivenAndOwed, GivenWithinRequests, NothingWaitsWhileOwed, WaitsWithinRoom}
+use Rattle.rx_history.specs.Delivery.{items_among, IsTerminal, offered, offered_to, end_for, loses_nothing, ends_ahead, offers_at_once, EndsAsTheSubjectOrOverflows, EndStays, OverflowEndsIt, OverflowStaysBehind, OverflowGoesAhead, KeepsAll, KeptIsAll, IsSubsequence, LineIsInOrder, OffersAreInOrder, EachPortIsInOrder, GivenThenWaiting, GivenOnlyGrows, TerminalIsLast, LineEndsAsTheSubject, NothingFollowsATerminal, NothingFollowsTheEnd, ErrorGoesAhead, DisposeDiscards, NothingFollowsADispose, GivenAndOwed, GivenWithinRequests, NothingWaitsWhileOwed, WaitsWithinRoom}
 use Rattle.rx_history.proofs.Accepting.{accepted}
 use Rattle.rx_history.proofs.Endings.{EndsBy, signals-ends, unended, ends_as_subject, ends_with_subject}
 use Rattle.rx_history.proofs.Feeding.{followed-behind, followed-overflow, followed-grows}
@@ -544,6 +544,9 @@ loses_none (Drop room) keeps = absurd (false≢true keeps)
 loses_none (Latest room) keeps = absurd (false≢true keeps)
 loses_none (Bounded room) keeps = λ ahead. refl
 
+pub kept_is_all : KeptIsAll
+kept_is_all s keeps = kept-all (policy_of s).strategy s refl (loses_none (policy_of s).strategy keeps) ∙ without-none s
+
 keeps_all_by : (rules : Rules) (H : History) (o : ℕ) (before : Option Signals) → signals rules H o ≡ before → is_held rules H o ≡ true
     → option_map loses_nothing (strategy_of before) ≡ Some true → option_map_or ends_ahead before false ≡ false → items_among (line_of rules H o) ≡ option_map_or offered before []
 keeps_all_by rules H o None none held chose behind = cc
@@ -551,8 +554,7 @@ keeps_all_by rules H o (Some s) is held chose behind =
     let keeps : loses_nothing (policy_of s).strategy ≡ true = cc in
     items_among-line rules H o s is held
     ∙ line_items-behind s behind
-    ∙ kept-all (policy_of s).strategy s refl (loses_none (policy_of s).strategy keeps)
-    ∙ without-none s
+    ∙ kept_is_all s keeps
 
 pub keeps_all : KeepsAll
 keeps_all rules H o holds chose behind = keeps_all_by rules H o (signals rules H o) refl holds chose behind

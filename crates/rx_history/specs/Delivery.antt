@@ -20,7 +20,7 @@ use Rattle.rx_note.specs.declared.text.Text.{Text}
 use Rattle.rx_note.specs.declared.errors.Errors.{Errors}
 use Rattle.rx_note.specs.declared.errors.Errors.TheVariants.{Ahead, Delay}
 use Rattle.rx_note.specs.Choices.{Choice}
-use Rattle.rx_note.specs.Signals.{Requested, Offered, Ended, Signals, Start, ◌▸◌, policy_of, demand, terminal_of, may_overflow, overflow, overflows, goes_ahead}
+use Rattle.rx_note.specs.Signals.{Requested, Offered, Ended, Signals, Start, ◌▸◌, policy_of, demand, kept, terminal_of, may_overflow, overflow, overflows, goes_ahead}
 use Rattle.rx_history.specs.Histories.{Entry, History, ◌▹◌, terminal_in, end_of, is_ended, is_completion, joins, is_held, item_count, accepts, item_in, items, unstamped, last_item, seed_item, signals, given_to, line_of, waiting_for, owed_to, outs}
 
 -- THE WORDS
@@ -204,7 +204,7 @@ TerminalIsLast =
     (rules : Rules) (H : History) (o : ℕ) (front : List Note) (note : Note) (back : List Note) → IsTerminal note
     → line_of rules H o ≡ front ++ note ∷ back → back ≡ []
 
--- but by Bounded, the line of an observer that is held is its items, and then the end of the subject where there is one
+-- except by Bounded, the line of an observer that is held is its items, and then the end of the subject where there is one
 abbrev pub LineEndsAsTheSubject : Type 0
 LineEndsAsTheSubject =
     (rules : Rules) (H : History) (o : ℕ) → is_held rules H o ≡ true → is_bounded rules H o ≡ false
@@ -306,6 +306,10 @@ WaitsWithinRoom =
     (rules : Rules) (H : History) (o room : ℕ)
     → (strategy_by rules H o ≡ Some (Drop room)) ⊎ (strategy_by rules H o ≡ Some (Latest room)) ⊎ (strategy_by rules H o ≡ Some (Bounded room))
     → length (items_among (waiting_for rules H o)) ≤ room
+
+-- under Buffer and Bounded every item offered is kept, for all signals of an observer
+abbrev pub KeptIsAll : Type 0
+KeptIsAll = (s : Signals) → loses_nothing (policy_of s).strategy ≡ true → kept s ≡ offered s
 
 -- under Buffer and Bounded every item offered is in the line, as long as no end went ahead of those that waited
 abbrev pub KeepsAll : Type 0

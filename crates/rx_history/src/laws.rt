@@ -1,7 +1,7 @@
 //! The laws of delivery, for every history: each function does nothing, and its contract is one law of
 //! `specs/Delivery.antt`.
 
-ghost use Rattle.rx_history.specs.Delivery.{LineIsInOrder, OffersAreInOrder, EachPortIsInOrder, PlacesAreCounted, PlacesRise, EachItemIsOffered, AsyncOffersTheLast, GivenThenWaiting, GivenOnlyGrows, OutsAreGiven, TerminalIsLast, LineEndsAsTheSubject, EndsAsTheSubjectOrOverflows, EndStays, NothingFollowsATerminal, NothingFollowsTheEnd, ErrorGoesAhead, OverflowEndsIt, OverflowStaysBehind, OverflowGoesAhead, DisposeDiscards, NothingFollowsADispose, GivenAndOwed, GivenWithinRequests, NothingWaitsWhileOwed, WaitsWithinRoom, KeepsAll};
+ghost use Rattle.rx_history.specs.Delivery.{LineIsInOrder, OffersAreInOrder, EachPortIsInOrder, PlacesAreCounted, PlacesRise, EachItemIsOffered, AsyncOffersTheLast, GivenThenWaiting, GivenOnlyGrows, OutsAreGiven, TerminalIsLast, LineEndsAsTheSubject, EndsAsTheSubjectOrOverflows, EndStays, NothingFollowsATerminal, NothingFollowsTheEnd, ErrorGoesAhead, OverflowEndsIt, OverflowStaysBehind, OverflowGoesAhead, DisposeDiscards, NothingFollowsADispose, GivenAndOwed, GivenWithinRequests, NothingWaitsWhileOwed, WaitsWithinRoom, KeepsAll, KeptIsAll};
 
 /// The items of a line are items offered to the observer, in their order and none twice.
 pub fn line_is_in_order()
@@ -28,12 +28,12 @@ pub fn places_rise()
     ensures { PlacesRise }
 {}
 
-/// But for Async, an item that is accepted is offered to every observer that is held and has no end, unless it overflows.
+/// Except of Async, an item that is accepted is offered to every observer that is held and has no end, unless it overflows.
 pub fn each_item_is_offered()
     ensures { EachItemIsOffered }
 {}
 
-/// Of an Async subject an observer that is held, but by Bounded, is offered the last item alone, and only once the subject
+/// Of an Async subject an observer that is held, except by Bounded, is offered the last item alone, and only once the subject
 /// completed.
 pub fn async_offers_the_last()
     ensures { AsyncOffersTheLast }
@@ -132,6 +132,11 @@ pub fn nothing_waits_while_owed()
 /// Under Drop, Latest and Bounded no more items wait than there is room for.
 pub fn waits_within_room()
     ensures { WaitsWithinRoom }
+{}
+
+/// Under Buffer and Bounded every item offered is kept.
+pub fn kept_is_all()
+    ensures { KeptIsAll }
 {}
 
 /// Under Buffer and Bounded every item offered is in the line, as long as no end went ahead of those that waited.

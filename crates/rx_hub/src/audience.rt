@@ -66,16 +66,14 @@ impl Audience {
         self.subscriptions.len()
     }
 
-    /// The place of the observer of this number. They stand by rising number, so unless some left it is that place: there it is
-    /// looked for first.
+    /// The place of the observer of this number. They stand by rising number, so that it need not be looked for among all.
     pub(crate) fn place_of(&self, who: u32) -> Option<usize>
         ensures found { IfSome result (λ place. IsAt self.now.observers place who) }
         ensures none { result ≡ None → position (λ o. o.who == who) self.now.observers ≡ None }
     {
-        let last = self.subscriptions.len().saturating_sub(1);
-        let guess = last.min(who as usize);
-        if is_at(&self.subscriptions, guess, who) {
-            return Some(guess);
+        let known = place_by_order(&self.subscriptions, who);
+        if known.is_some() {
+            return known;
         }
         place_in(&self.subscriptions, who)
     }
@@ -193,6 +191,29 @@ impl Audience {
             → (count ≤ length self.new.items) × (last_items self.new.items count ≡ last_items self.old.items count) }
     {
         self.tape.trim(keep);
+    }
+}
+
+// The place of the observer of this number, as the first number and, where some left between it and that one, halving tell it.
+fn place_by_order(subscriptions: &Vec<Subscription, Heap>, who: u32) -> Option<usize>
+    ensures { IfSome result (λ place. (place < length subscriptions.now.items) × ((default : Subscription) → (get_or subscriptions.now.items place default).who ≡ who)) }
+{
+    let guess = place_if_none_left(subscriptions, who);
+    if is_at(subscriptions, guess, who) {
+        return Some(guess);
+    }
+    let place = subscriptions.partition_point(|one| one.who < who);
+    if is_at(subscriptions, place, who) {
+        return Some(place);
+    }
+    None
+}
+
+// The place of the observer of this number, if none left that came between the first of all and it.
+fn place_if_none_left(subscriptions: &Vec<Subscription, Heap>, who: u32) -> usize {
+    match subscriptions.first() {
+        Some(first) => who.saturating_sub(first.who) as usize,
+        None => 0,
     }
 }
 

@@ -69,7 +69,7 @@ impl Model for Lane {
 }
 
 impl Lane {
-    /// The lane of an observer with this policy, by no signal yet. But under `Buffer` all its memory is taken here, for as many
+    /// The lane of an observer with this policy, by no signal yet. Except under `Buffer` all its memory is taken here, for as many
     /// items as the room; `Memory` where there was none.
     pub fn new(alloc: Heap, policy: Policy) -> Result<Lane, Memory>
         ensures { IfOk result (λ lane. StandsFor lane.state (Start policy)) }
@@ -102,7 +102,7 @@ impl Lane {
         })
     }
 
-    /// Makes room for `items` offers; but under `Buffer` there always is. `Memory` leaves the lane, and comes only where
+    /// Makes room for `items` offers; under `Buffer` there always is. `Memory` leaves the lane, and comes only where
     /// there was no such room already.
     pub fn reserve(&mut self, items: usize) -> Result<(), Memory>
         ensures state { self.new.state ≡ self.old.state }
@@ -121,7 +121,7 @@ impl Lane {
         self.owed
     }
 
-    /// How many items wait; but under `Buffer` no more than the room.
+    /// How many items wait; except under `Buffer` no more than the room.
     pub fn waiting_len(&self) -> usize
         ensures state { result ≡ length self.now.state.items }
         ensures waiting { (s : Signals) → StandsFor self.now.state s → result ≡ length (waiting_items s) }

@@ -1,3 +1,4 @@
+use crate::shown::Shown;
 use std::fmt;
 
 /// Where in a configuration a key stands.
@@ -35,7 +36,7 @@ impl fmt::Display for Advice<'_> {
         match self {
             Advice::Missing(key, wants) => write!(f, "{key} is missing: {wants}"),
             Advice::Wrong(key, wants) => write!(f, "{key} is wrong: {wants}"),
-            Advice::Unknown(key, known) => write!(f, "{key} is no key: {known}"),
+            Advice::Unknown(key, known) => write!(f, "{} is no key: {known}", Shown(key)),
         }
     }
 }

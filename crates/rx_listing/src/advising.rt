@@ -5,9 +5,10 @@ use crate::advice::{Advice, Place};
 use crate::key_rule::KeyRule;
 use crate::rules::{POOL, SUBJECT, pool_rule, subject_rule};
 use rx_config::ConfigError;
+use rx_proto::Name;
 use std::alloc::Global;
 use std::io::{self, Write};
-use toml::Table;
+use toml::{Table, Value};
 
 const TOP_KEYS: &str = "there are subject, as in: [[subject]], and pool, as in: [pool]";
 
@@ -17,114 +18,153 @@ const SUBJECT_KEYS: &str =
 const POOL_KEYS: &str =
     "a pool has drainers, workers, window, connections, stall, idle and takeover";
 
-/// Writes why the configuration that these bytes say is refused by this cause: the place and the key, what is right there, and
-/// an example; for bytes that are no TOML, the line and the column. Nothing is written where there is no more to say than the
-/// cause itself.
+/// The most subjects of a configuration: those behind them are not looked at.
+const MOST_SUBJECTS: usize = 16;
+
+/// Writes why the configuration that these bytes say is refused by this cause: of each key at fault the place, what is right
+/// there, and an example, a line each, in the order in which they are looked at; for bytes that are no TOML, the line and the
+/// column. Nothing is written where there is no more to say than the cause itself.
 pub fn advise<W: Write>(
     runtime: Global,
     bytes: &[u8],
     cause: ConfigError,
     writer: &mut W,
 ) -> io::Result<()> {
+    if matches!(cause, ConfigError::Memory) {
+        return Ok(());
+    }
     match toml::table_from_slice(runtime, bytes) {
-        Ok(table) => advise_on(&table, cause, writer),
+        Ok(table) => advise_on(&table, writer),
         Err(fault) if fault.is_memory() => Ok(()),
         Err(fault) => write!(writer, "{fault}"),
     }
 }
 
-// Writes why the configuration of this table is refused by this cause.
-fn advise_on<W: Write>(table: &Table, cause: ConfigError, writer: &mut W) -> io::Result<()> {
-    match cause {
-        ConfigError::UnknownKey => tell(Place::Top, unknown_at_top(table), writer),
-        ConfigError::BadPool => advise_on_pool(table, writer),
-        ConfigError::NoSubject => writeln!(
-            writer,
-            "config has to have a subject at least, as in: [[subject]] and below it name = \"prices\" and kind = \"publish\""
-        ),
-        ConfigError::BadSubject(index) => advise_on_subject(table, index, writer),
-        ConfigError::DuplicateName(index) => writeln!(
-            writer,
-            "subject {index}: name is wrong: no other subject may have it"
-        ),
-        ConfigError::TooManySubjects | ConfigError::Syntax | ConfigError::Memory => Ok(()),
-    }
-}
-
-fn tell<W: Write>(place: Place, advice: Option<Advice<'_>>, writer: &mut W) -> io::Result<()> {
-    match advice {
-        Some(advice) => writeln!(writer, "{place}: {advice}"),
-        None => Ok(()),
-    }
-}
-
-// The first key at the top that is none.
-fn unknown_at_top(table: &Table) -> Option<Advice<'_>> {
+// Writes what is wrong with the configuration of this table.
+fn advise_on<W: Write>(table: &Table, writer: &mut W) -> io::Result<()> {
     for key in table.keys() {
         if !matches!(key.as_str(), "subject" | "pool") {
-            return Some(Advice::Unknown(key.as_str(), TOP_KEYS));
+            tell(Place::Top, Advice::Unknown(key.as_str(), TOP_KEYS), writer)?;
         }
     }
-    None
+    advise_on_pool(table, writer)?;
+    match table.get("subject") {
+        Some(value) => match value.as_array() {
+            Some(subjects) if !subjects.is_empty() => advise_on_subjects(subjects, writer),
+            _ => tell_no_subject(writer),
+        },
+        None => tell_no_subject(writer),
+    }
 }
 
+fn tell_no_subject<W: Write>(writer: &mut W) -> io::Result<()> {
+    writeln!(
+        writer,
+        "config has to have a subject at least, as in: [[subject]] and below it name = \"prices\" and kind = \"publish\""
+    )
+}
+
+fn tell<W: Write>(place: Place, advice: Advice<'_>, writer: &mut W) -> io::Result<()> {
+    writeln!(writer, "{place}: {advice}")
+}
+
+// Writes what is wrong with the pool.
 fn advise_on_pool<W: Write>(table: &Table, writer: &mut W) -> io::Result<()> {
     let Some(value) = table.get("pool") else {
         return Ok(());
     };
-    match value.as_table() {
-        Some(pool) => tell(Place::Pool, in_pool(pool), writer),
-        None => writeln!(writer, "pool has to be a table, as in: [pool]"),
-    }
-}
-
-fn advise_on_subject<W: Write>(table: &Table, index: usize, writer: &mut W) -> io::Result<()> {
-    match entry_at(table, index) {
-        Some(subject) => tell(Place::Subject(index), in_subject(subject), writer),
-        None => writeln!(
-            writer,
-            "subject {index} has to be a table, as in: [[subject]]"
-        ),
-    }
-}
-
-// The table of the subject of this number.
-fn entry_at(table: &Table, index: usize) -> Option<&Table> {
-    table.get("subject")?.as_array()?.get(index)?.as_table()
-}
-
-// What is wrong with a pool.
-fn in_pool(pool: &Table) -> Option<Advice<'_>> {
+    let Some(pool) = value.as_table() else {
+        return writeln!(writer, "pool has to be a table, as in: [pool]");
+    };
     for key in POOL {
-        if let Some(advice) = at_key(pool, key, pool_rule(key)?, "") {
-            return Some(advice);
+        if let Some(rule) = pool_rule(key) {
+            tell_at(Place::Pool, at_key(pool, key, rule, ""), writer)?;
         }
     }
     for key in pool.keys() {
         if pool_rule(key.as_str()).is_none() {
-            return Some(Advice::Unknown(key.as_str(), POOL_KEYS));
+            tell(
+                Place::Pool,
+                Advice::Unknown(key.as_str(), POOL_KEYS),
+                writer,
+            )?;
         }
     }
-    None
+    Ok(())
 }
 
-// What is wrong with a subject.
-fn in_subject(subject: &Table) -> Option<Advice<'_>> {
+// Writes what is wrong with each subject, and with its name where an earlier one has it.
+fn advise_on_subjects<W: Write>(subjects: &[Value], writer: &mut W) -> io::Result<()> {
+    for (index, subject) in subjects.iter().enumerate().take(MOST_SUBJECTS) {
+        match subject.as_table() {
+            Some(table) => advise_on_subject(table, index, writer)?,
+            None => writeln!(
+                writer,
+                "subject {index} has to be a table, as in: [[subject]]"
+            )?,
+        }
+        if has_name_before(subjects, index) {
+            writeln!(
+                writer,
+                "subject {index}: name is wrong: no other subject may have it"
+            )?;
+        }
+    }
+    Ok(())
+}
+
+// Writes what is wrong with the keys of a subject.
+fn advise_on_subject<W: Write>(subject: &Table, index: usize, writer: &mut W) -> io::Result<()> {
     let kind = match subject.get("kind") {
         Some(kind) => kind.as_str().unwrap_or(""),
         None => "",
     };
     for key in SUBJECT {
-        if let Some(advice) = at_key(subject, key, subject_rule(key)?, kind) {
-            return Some(advice);
+        if let Some(rule) = subject_rule(key) {
+            tell_at(
+                Place::Subject(index),
+                at_key(subject, key, rule, kind),
+                writer,
+            )?;
         }
     }
     for key in subject.keys() {
         if subject_rule(key.as_str()).is_none() {
-            return Some(Advice::Unknown(key.as_str(), SUBJECT_KEYS));
+            let advice = Advice::Unknown(key.as_str(), SUBJECT_KEYS);
+            tell(Place::Subject(index), advice, writer)?;
         }
     }
-    None
+    Ok(())
+}
+
+// Whether the subject of this number has a name, and one before it has the same.
+fn has_name_before(subjects: &[Value], index: usize) -> bool {
+    let Some(name) = subjects.get(index).and_then(name_of) else {
+        return false;
+    };
+    for earlier in subjects.iter().take(index) {
+        if name_of(earlier) == Some(name) {
+            return true;
+        }
+    }
+    false
+}
+
+// The name of a subject, where it has one.
+fn name_of(subject: &Value) -> Option<&str> {
+    let name = subject.as_table()?.get("name")?.as_str()?;
+    if Name::new(name.as_bytes()).is_some() {
+        Some(name)
+    } else {
+        None
+    }
+}
+
+fn tell_at<W: Write>(place: Place, advice: Option<Advice<'_>>, writer: &mut W) -> io::Result<()> {
+    match advice {
+        Some(advice) => tell(place, advice, writer),
+        None => Ok(()),
+    }
 }
 
 // What is wrong with a key of this rule, in a subject of this kind.

@@ -9,6 +9,7 @@ ghost use Rattle.rx_mailbox.specs.Passes.{own_of, IsPort, IsReader, TakesOne};
 use crate::batch::Batch;
 use crate::bell::LOOKS;
 use crate::bells::Bells;
+use crate::leavings::Leavings;
 use crate::letter::{Letter, Post};
 use crate::rule::{MailboxRule, Put, Take, View};
 use crossbeam_channel::{Pass, RuledReceiver, RuledSender, TryRecvError, TrySendError};
@@ -21,12 +22,55 @@ pub type BoxReceiver<B> = RuledReceiver<Letter<Batch<B>>, View<Batch<B>>, Mailbo
 
 pub type BoxPass<B> = Pass<Letter<Batch<B>>, View<Batch<B>>>;
 
+// A post that was not put.
+#[derive(Drop)]
+pub struct Unput<B: Drop> {
+    pub post: Post<Batch<B>>,
+    // The box is full; else its inbox is gone.
+    pub is_full: bool,
+}
+
+// Puts a letter of the port at the back where there is room, and waits for none, or hands the post back. It rings no inbox.
+pub fn try_put<B: Drop, R: Wait>(
+    rt: &R,
+    sender: &BoxSender<B>,
+    pass: &mut BoxPass<B>,
+    number: u32,
+    post: Post<Batch<B>>,
+) -> Result<(), Unput<B>>
+    requires pass { IsSeatAt (sends_on sender.now) pass.old }
+    requires port { IsPort number false (view pass.old) }
+    ensures pass { IsSeatAt (sends_on sender.now) pass.new }
+    ensures put { MatchResult result
+        (λ _. view pass.new ≡ Sends number (own_of (view pass.old) ++ letter number post ∷ []))
+        (λ back. (back.post ≡ post) × (view pass.new ≡ view pass.old)) }
+{
+    match sender.try_send_as::<Put, R>(rt, pass, Letter { from: number, post }) {
+        Ok(()) => Ok(()),
+        Err(TrySendError::Full(back)) => {
+            let Letter { from: _, post } = back;
+            Err(Unput {
+                post,
+                is_full: true,
+            })
+        }
+        Err(error) => {
+            let Letter { from: _, post } = error.into_inner();
+            Err(Unput {
+                post,
+                is_full: false,
+            })
+        }
+    }
+}
+
 // Puts a letter of the port at the back, and waits while there is no room, or hands the post back. It rings no inbox that
 // sleeps, but where it waits for room.
 pub fn put<B: Drop, R: Wait>(
     rt: &R,
     sender: &BoxSender<B>,
     bells: &Bells,
+    leavings: &Leavings<B>,
     pass: &mut BoxPass<B>,
     number: u32,
     post: Post<Batch<B>>,
@@ -40,7 +84,7 @@ pub fn put<B: Drop, R: Wait>(
 {
     match sender.try_send_as::<Put, R>(rt, pass, Letter { from: number, post }) {
         Ok(()) => Ok(()),
-        Err(refused) => put_again(rt, sender, bells, pass, refused.into_inner()),
+        Err(refused) => put_again(rt, sender, bells, leavings, pass, refused.into_inner()),
     }
 }
 
@@ -50,6 +94,7 @@ fn put_again<B: Drop, R: Wait>(
     rt: &R,
     sender: &BoxSender<B>,
     bells: &Bells,
+    leavings: &Leavings<B>,
     pass: &mut BoxPass<B>,
     refused: Letter<Batch<B>>,
 ) -> Result<(), Post<Batch<B>>>
@@ -72,6 +117,10 @@ fn put_again<B: Drop, R: Wait>(
                 let Letter { from: _, post } = error.into_inner();
                 return Err(post);
             }
+        }
+        // Nobody else makes room where the inbox was let go.
+        if leavings.discard(rt) {
+            continue;
         }
         // The inbox may sleep beside a box that was filled without a ring.
         bells.letter.ring();

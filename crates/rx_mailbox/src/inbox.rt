@@ -10,6 +10,7 @@ use crate::batch::Batch;
 use crate::bell::{FEW_LOOKS, LOOKS};
 use crate::channel::BoxPass;
 use crate::inlet::Inlet;
+use crate::leavings::SharedLeavings;
 use crate::letter::{Letter, Post};
 use crate::lists::SharedLists;
 use crate::patience::Patience;
@@ -39,6 +40,7 @@ impl Error for Gone {}
 pub struct Inbox<B: Drop> {
     pub(crate) inlet: Inlet<B>,
     pub(crate) lists: SharedLists<B>,
+    pub(crate) leavings: SharedLeavings<B>,
     // The bodies in hand, and the number of their port.
     pub(crate) hand: VecDeque<B, Heap>,
     pub(crate) from: u32,
@@ -54,6 +56,7 @@ impl<B: Drop> Drop for Inbox<B> {
         let Inbox {
             inlet: _,
             lists: _,
+            leavings: _,
             hand: _,
             from: _,
             letters: _,
@@ -106,7 +109,7 @@ impl<B: Drop> Inbox<B> {
     }
 
     /// Takes the letter at the front of the box, and waits while there is none, but no longer than about so long. `Err` as by
-    /// `try_recv`.
+    /// `try_recv`. It looks but shortly before it sleeps, as one does who mostly wrote to a peer.
     pub fn recv_within<R: Wait>(
         &mut self,
         rt: &R,
@@ -118,10 +121,39 @@ impl<B: Drop> Inbox<B> {
         ensures port { IfOk result (λ letter. letter.from < self.old.ports) }
         ensures before_bye { IfOk result (λ letter. ¬ HasBye self.old letter.from) }
     {
+        self.recv_after(rt, FEW_LOOKS, most)
+    }
+
+    /// The same, but it looks before it sleeps as long as `recv` does.
+    pub fn recv_patiently<R: Wait>(
+        &mut self,
+        rt: &R,
+        most: Duration,
+    ) -> Result<Letter<B>, TryRecvFault>
+        ensures received { MatchResult result (λ letter. self.new ≡ with_letter self.old letter) (λ _. self.new ≡ self.old) }
+
+        // It is from a port of the box whose Bye had not come.
+        ensures port { IfOk result (λ letter. letter.from < self.old.ports) }
+        ensures before_bye { IfOk result (λ letter. ¬ HasBye self.old letter.from) }
+    {
+        self.recv_after(rt, LOOKS, most)
+    }
+
+    // The same, with so many looks at most before it sleeps.
+    fn recv_after<R: Wait>(
+        &mut self,
+        rt: &R,
+        looks_at_most: u32,
+        most: Duration,
+    ) -> Result<Letter<B>, TryRecvFault>
+        ensures received { MatchResult result (λ letter. self.new ≡ with_letter self.old letter) (λ _. self.new ≡ self.old) }
+        ensures port { IfOk result (λ letter. letter.from < self.old.ports) }
+        ensures before_bye { IfOk result (λ letter. ¬ HasBye self.old letter.from) }
+    {
         if let Some(letter) = self.next_in_hand() {
             return Ok(letter);
         }
-        let looks_at_most = self.patience.looks(FEW_LOOKS);
+        let looks_at_most = self.patience.looks(looks_at_most);
         let mut looks = 0;
         for _ in rt.forever() {
             match self.look(rt) {
@@ -194,7 +226,7 @@ impl<B: Drop> Inbox<B> {
         if !self.hand.is_empty() {
             return Err(TryRecvFault::Empty);
         }
-        match self.inlet.take(rt) {
+        match self.leavings.take_by(rt, &mut self.inlet) {
             Ok(came) => open_batch(
                 rt,
                 &self.lists,
@@ -219,12 +251,32 @@ impl<B: Drop> Inbox<B> {
         let Inbox {
             inlet,
             lists: _,
+            leavings: _,
             hand: _,
             from: _,
             letters,
             patience: _,
         } = self;
         (inlet.into_pass(), letters)
+    }
+
+    /// Whether the letter that comes next came together with the last one: no port need be rung for it.
+    pub fn has_more_in_hand(&self) -> bool {
+        !self.hand.is_empty()
+    }
+
+    /// Lets go of the inbox, and waits for nothing. Its ports do not find it gone: what they put goes nowhere.
+    pub fn let_go(self) {
+        let Inbox {
+            inlet,
+            lists: _,
+            leavings,
+            hand: _,
+            from: _,
+            letters: _,
+            patience: _,
+        } = self;
+        leavings.leave_inlet(inlet);
     }
 
     /// How many ports the box has.

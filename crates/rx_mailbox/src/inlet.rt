@@ -35,7 +35,7 @@ impl<B: Drop> Drop for Inlet<B> {
         } = self;
         // A port that waits for room is told once the inbox is gone.
         drop(receiver);
-        bells.room.ring();
+        bells.inbox_goes();
     }
 }
 

@@ -16,6 +16,7 @@ mod channel;
 mod ended_port;
 mod inbox;
 mod inlet;
+mod leavings;
 mod letter;
 mod lists;
 mod new_box;

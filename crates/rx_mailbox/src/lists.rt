@@ -1,14 +1,20 @@
-ghost use Rattle.std.specs.Prelude.{◌≡◌, [], IfSome};
+ghost use Rattle.std.specs.Prelude.{◌≡◌, ◌≤◌, [], IfSome};
 
 use rx_heap::{Heap, Memory};
 use std::collections::VecDeque;
 use std::sync::{Arc, Mutex, Wait};
 
-// How many bodies a port holds back at most.
+// How many bodies a list has room for at first.
 const LENGTH: usize = 32;
 
+/// How many bodies go together where their port may let its list grow: it puts them at the latest then, if there is room.
+pub(crate) const MOST_TOGETHER: usize = 128;
+
 // How many lists a box has at most.
-const MOST: usize = 32;
+const MOST: usize = 64;
+
+// Of each port one list is filled, one stands in the box, and one is in the inbox's hand.
+const FOR_EACH_PORT: usize = 3;
 
 /// The lists of a box in which its ports hold bodies back. Its inbox empties them and they come back here, so that a batch takes
 /// no memory.
@@ -20,9 +26,15 @@ pub(crate) struct Lists<B: Drop> {
 pub(crate) type SharedLists<B> = Arc<Lists<B>, Heap>;
 
 impl<B: Drop> Lists<B> {
-    /// Those of a box for so many letters: a list for four of them, but no more than 32.
-    pub(crate) fn shared(alloc: Heap, capacity: usize) -> Result<SharedLists<B>, Memory> {
-        let count = MOST.min(capacity / 4);
+    /// Those of a box for so many letters, with so many ports: a list for four letters and three for each port, but no more than 64.
+    pub(crate) fn shared(
+        alloc: Heap,
+        capacity: usize,
+        ports: usize,
+    ) -> Result<SharedLists<B>, Memory>
+        requires { ports ≤ 256 }
+    {
+        let count = MOST.min(capacity / 4 + FOR_EACH_PORT * ports);
         let mut spare = Vec::with_capacity(alloc.clone()?, count)?;
         for _ in 0..count {
             spare.push(VecDeque::with_capacity(alloc.clone()?, LENGTH)?)?;
@@ -42,9 +54,10 @@ impl<B: Drop> Lists<B> {
         Some(list)
     }
 
-    /// Keeps an empty list for later, where it has room and there is room for it.
+    /// Keeps an empty list for later, where there is room for it and it has the room that a list has. One that grew for want of room
+    /// in the box is let go.
     pub(crate) fn keep<R: Wait>(&self, rt: &R, list: VecDeque<B, Heap>) {
-        if list.capacity() == 0 {
+        if list.capacity() < LENGTH || list.capacity() > MOST_TOGETHER {
             return;
         }
         let mut spare = self.spare.lock(rt);

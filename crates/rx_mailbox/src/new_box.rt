@@ -11,6 +11,7 @@ use crate::bells::{Bells, SharedBells};
 use crate::channel::{BoxPass, BoxReceiver, BoxSender};
 use crate::inbox::Inbox;
 use crate::inlet::Inlet;
+use crate::leavings::{Leavings, SharedLeavings};
 use crate::letter::Letter;
 use crate::lists::{Lists, SharedLists};
 use crate::outlet::Outlet;
@@ -28,6 +29,7 @@ pub(crate) struct NewBox<B: Drop> {
     receiver: BoxReceiver<B>,
     bells: SharedBells,
     lists: SharedLists<B>,
+    leavings: SharedLeavings<B>,
     hand: VecDeque<B, Heap>,
     pass: BoxPass<B>,
     byes: Vec<bool, Heap>,
@@ -45,6 +47,7 @@ impl<B: Drop> Drop for NewBox<B> {
             receiver: _,
             bells: _,
             lists: _,
+            leavings: _,
             hand: _,
             pass: _,
             byes: _,
@@ -63,7 +66,8 @@ impl<B: Drop> NewBox<B> {
     {
         let byes = vec![in alloc.clone()?; false; senders as usize]?;
         let bells = Bells::shared(alloc.clone()?)?;
-        let lists = Lists::shared(alloc.clone()?, capacity)?;
+        let lists = Lists::shared(alloc.clone()?, capacity, senders as usize)?;
+        let leavings = Leavings::shared(alloc.clone()?, Arc::try_clone(&bells)?, senders as usize)?;
         let hand = VecDeque::new(alloc.clone()?);
         let heap = alloc.clone()?;
         let (sender, receiver, pass) = bounded_with::<
@@ -77,6 +81,7 @@ impl<B: Drop> NewBox<B> {
             receiver,
             bells,
             lists,
+            leavings,
             hand,
             pass,
             byes,
@@ -95,6 +100,7 @@ impl<B: Drop> NewBox<B> {
         // The sender comes last, so that no way out has to let one go: that would be proved for itself.
         let bells = Arc::try_clone(&self.bells)?;
         let lists = Arc::try_clone(&self.lists)?;
+        let leavings = Arc::try_clone(&self.leavings)?;
         let held = VecDeque::new(self.heap.clone()?);
         let sender = self.sender.try_clone()?;
         let own = sender.another::<SplitPort>(&mut self.pass);
@@ -107,6 +113,7 @@ impl<B: Drop> NewBox<B> {
         Ok(Port {
             outlet,
             lists,
+            leavings,
             held,
             spare: None,
             owes_ring: false,
@@ -125,6 +132,7 @@ impl<B: Drop> NewBox<B> {
             receiver,
             bells,
             lists,
+            leavings,
             hand,
             pass,
             byes,
@@ -139,6 +147,7 @@ impl<B: Drop> NewBox<B> {
         Inbox {
             inlet,
             lists,
+            leavings,
             hand,
             from: 0,
             letters: 0,

@@ -5,8 +5,9 @@ ghost use Rattle.rx_mailbox.specs.Boxes.{with_bodies, with_post};
 
 use crate::batch::Batch;
 use crate::bells::SharedBells;
-use crate::channel::{BoxPass, BoxSender, put};
+use crate::channel::{BoxPass, BoxSender, Unput, put, try_put};
 use crate::ended_port::EndedPort;
+use crate::leavings::Leavings;
 use crate::letter::Post;
 use rx_heap::Heap;
 use std::collections::VecDeque;
@@ -60,12 +61,17 @@ impl<B: Drop> Outlet<B> {
     }
 
     /// Puts a body, and waits while the box is full. `Err` hands it back where the inbox is gone, and nothing changed.
-    pub(crate) fn put_one<R: Wait>(&mut self, rt: &R, body: B) -> Result<(), B>
+    pub(crate) fn put_one<R: Wait>(
+        &mut self,
+        rt: &R,
+        leavings: &Leavings<B>,
+        body: B,
+    ) -> Result<(), B>
         ensures { MatchResult result
             (λ _. self.new ≡ with_post self.old (Body body))
             (λ back. (back ≡ body) × (self.new ≡ self.old)) }
     {
-        match self.put(rt, Batch::One(body)) {
+        match self.put(rt, leavings, Batch::One(body)) {
             Ok(()) => Ok(()),
             Err(Batch::One(body)) => Err(body),
             Err(Batch::Many(_)) => unreachable!(),
@@ -77,21 +83,57 @@ impl<B: Drop> Outlet<B> {
     pub(crate) fn put_many<R: Wait>(
         &mut self,
         rt: &R,
+        leavings: &Leavings<B>,
         bodies: VecDeque<B, Heap>,
     ) -> Result<(), VecDeque<B, Heap>>
         ensures { MatchResult result
             (λ _. self.new ≡ with_bodies bodies.items self.old)
             (λ back. (back.items ≡ bodies.items) × (self.new ≡ self.old)) }
     {
-        match self.put(rt, Batch::Many(bodies)) {
+        match self.put(rt, leavings, Batch::Many(bodies)) {
             Ok(()) => Ok(()),
             Err(Batch::Many(bodies)) => Err(bodies),
             Err(Batch::One(_)) => unreachable!(),
         }
     }
 
+    /// As `put_one` and `put_many`, but waits for no room: `Err` hands the batch back too where there is none.
+    pub(crate) fn try_put<R: Wait>(&mut self, rt: &R, batch: Batch<B>) -> Result<(), Batch<B>>
+        ensures { MatchResult result
+            (λ _. self.new ≡ with_bodies (bodies_in batch) self.old)
+            (λ back. (back ≡ batch) × (self.new ≡ self.old)) }
+    {
+        let outcome = try_put(
+            rt,
+            &self.sender,
+            &mut self.pass,
+            self.number,
+            Post::Body(batch),
+        );
+        match outcome {
+            Ok(()) => Ok(()),
+            Err(
+                Unput {
+                    post: Post::Body(batch),
+                    is_full: _,
+                },
+            ) => Err(batch),
+            Err(
+                Unput {
+                    post: Post::Bye,
+                    is_full: _,
+                },
+            ) => unreachable!(),
+        }
+    }
+
     // Puts a batch.
-    fn put<R: Wait>(&mut self, rt: &R, batch: Batch<B>) -> Result<(), Batch<B>>
+    fn put<R: Wait>(
+        &mut self,
+        rt: &R,
+        leavings: &Leavings<B>,
+        batch: Batch<B>,
+    ) -> Result<(), Batch<B>>
         ensures { MatchResult result
             (λ _. self.new ≡ with_bodies (bodies_in batch) self.old)
             (λ back. (back ≡ batch) × (self.new ≡ self.old)) }
@@ -100,6 +142,7 @@ impl<B: Drop> Outlet<B> {
             rt,
             &self.sender,
             &self.bells,
+            leavings,
             &mut self.pass,
             self.number,
             Post::Body(batch),
@@ -111,6 +154,11 @@ impl<B: Drop> Outlet<B> {
         }
     }
 
+    /// Whether the inbox is gone.
+    pub(crate) fn is_inbox_gone(&self) -> bool {
+        self.bells.is_inbox_gone()
+    }
+
     /// Wakes the inbox, if it sleeps.
     pub(crate) fn ring(&self) {
         self.bells.letter.ring();
@@ -118,7 +166,11 @@ impl<B: Drop> Outlet<B> {
 
     /// Puts Bye, after which this port puts nothing, and waits while the box is full. `Err` hands the outlet back where the inbox
     /// is gone, and nothing changed.
-    pub(crate) fn finish<R: Wait>(self, rt: &R) -> Result<EndedPort<B>, Outlet<B>>
+    pub(crate) fn finish<R: Wait>(
+        self,
+        rt: &R,
+        leavings: &Leavings<B>,
+    ) -> Result<EndedPort<B>, Outlet<B>>
         ensures { MatchResult result (λ ended. ended ≡ with_post self Bye) (λ back. back ≡ self) }
     {
         let Outlet {
@@ -127,7 +179,7 @@ impl<B: Drop> Outlet<B> {
             bells,
             mut pass,
         } = self;
-        match put(rt, &sender, &bells, &mut pass, number, Post::Bye) {
+        match put(rt, &sender, &bells, leavings, &mut pass, number, Post::Bye) {
             Ok(()) => {
                 bells.letter.ring();
                 Ok(EndedPort {
@@ -137,6 +189,32 @@ impl<B: Drop> Outlet<B> {
                     pass,
                 })
             }
+            Err(_) => Err(Outlet {
+                number,
+                sender,
+                bells,
+                pass,
+            }),
+        }
+    }
+
+    /// The same, but it waits for no room: `Err` hands the outlet back too where there is none.
+    pub(crate) fn try_finish<R: Wait>(self, rt: &R) -> Result<EndedPort<B>, Outlet<B>>
+        ensures { MatchResult result (λ ended. ended ≡ with_post self Bye) (λ back. back ≡ self) }
+    {
+        let Outlet {
+            number,
+            sender,
+            bells,
+            mut pass,
+        } = self;
+        match try_put(rt, &sender, &mut pass, number, Post::Bye) {
+            Ok(()) => Ok(EndedPort {
+                number,
+                sender,
+                bells,
+                pass,
+            }),
             Err(_) => Err(Outlet {
                 number,
                 sender,

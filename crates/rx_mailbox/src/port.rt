@@ -2,8 +2,10 @@ ghost use Rattle.std.specs.Prelude.{◌≡◌, [], true, IfSome, MatchResult};
 ghost use Rattle.rx_mailbox.specs.declared.letter.Post.TheVariants.{Body, Bye};
 ghost use Rattle.rx_mailbox.specs.Boxes.{with_bodies, with_post};
 
+use crate::batch::Batch;
 use crate::ended_port::EndedPort;
-use crate::lists::SharedLists;
+use crate::leavings::{Leavings, SharedLeavings};
+use crate::lists::{MOST_TOGETHER, SharedLists};
 use crate::outlet::Outlet;
 use rx_heap::Heap;
 use std::collections::VecDeque;
@@ -16,6 +18,7 @@ use std::sync::Wait;
 pub struct Port<B: Drop> {
     pub(crate) outlet: Outlet<B>,
     pub(crate) lists: SharedLists<B>,
+    pub(crate) leavings: SharedLeavings<B>,
     // The bodies that it holds back.
     pub(crate) held: VecDeque<B, Heap>,
     // An empty list that takes the place of that one when it goes into the box, if the port took one.
@@ -30,6 +33,7 @@ impl<B: Drop> Drop for Port<B> {
         let Port {
             outlet: _,
             lists: _,
+            leavings: _,
             held: _,
             spare: _,
             owes_ring: _,
@@ -68,13 +72,14 @@ impl<B: Drop> Port<B> {
                 rt,
                 &mut self.outlet,
                 &self.lists,
+                &self.leavings,
                 &mut self.spare,
                 &mut self.held,
             )
         {
             return Err(body);
         }
-        let outcome = self.outlet.put_one(rt, body);
+        let outcome = self.outlet.put_one(rt, &self.leavings, body);
         self.owes_ring = false;
         self.outlet.ring();
         outcome
@@ -88,6 +93,9 @@ impl<B: Drop> Port<B> {
             (λ _. self.new ≡ with_post self.old (Body body))
             (λ back. (back ≡ body) × (self.new ≡ self.old)) }
     {
+        if self.is_inbox_gone() {
+            return Err(body);
+        }
         if self.held.len() < self.held.capacity() {
             self.held.push_back_reserved(body);
             return Ok(());
@@ -106,6 +114,7 @@ impl<B: Drop> Port<B> {
             rt,
             &mut self.outlet,
             &self.lists,
+            &self.leavings,
             &mut self.spare,
             &mut self.held,
         ) {
@@ -124,7 +133,47 @@ impl<B: Drop> Port<B> {
             return Ok(());
         }
         self.owes_ring = true;
-        self.outlet.put_one(rt, body)
+        self.outlet.put_one(rt, &self.leavings, body)
+    }
+
+    /// As `send_quietly`, but waits for no room: where the box is full it holds back more than else, as long as there is memory for
+    /// it, and only then waits. So who sends by this alone never keeps the inbox's owner waiting while that one waits for it.
+    /// What is held back so goes by `try_ring`.
+    pub fn hold<R: Wait>(&mut self, rt: &R, body: B) -> Result<(), B>
+        ensures { MatchResult result
+            (λ _. self.new ≡ with_post self.old (Body body))
+            (λ back. (back ≡ body) × (self.new ≡ self.old)) }
+    {
+        if self.is_inbox_gone() {
+            return Err(body);
+        }
+        if self.held.len() < self.held.capacity() {
+            self.held.push_back_reserved(body);
+            return Ok(());
+        }
+        self.hold_on(rt, body)
+    }
+
+    // The same where no more can be held back as it is.
+    #[inline(never)] // once for each batch
+    fn hold_on<R: Wait>(&mut self, rt: &R, body: B) -> Result<(), B>
+        ensures { MatchResult result
+            (λ _. self.new ≡ with_post self.old (Body body))
+            (λ back. (back ≡ body) × (self.new ≡ self.old)) }
+    {
+        if self.held.len() >= MOST_TOGETHER {
+            let _is_left = self.try_ring(rt);
+        }
+        if self.held.is_empty()
+            && self.held.capacity() == 0
+            && let Some(list) = self.lists.take(rt)
+        {
+            self.held = list;
+        }
+        match self.held.push_back(body) {
+            Ok(()) => Ok(()),
+            Err(failed) => self.send_on(rt, failed.value),
+        }
     }
 
     /// Whether the next body that is sent quietly is held back, and goes with all that is held back already in one batch. Nothing
@@ -159,11 +208,66 @@ impl<B: Drop> Port<B> {
             rt,
             &mut self.outlet,
             &self.lists,
+            &self.leavings,
             &mut self.spare,
             &mut self.held,
         );
         self.owes_ring = false;
         self.outlet.ring();
+    }
+
+    /// As `ring`, but waits for no room. It answers whether something is still held back, which can go once there is room.
+    pub fn try_ring<R: Wait>(&mut self, rt: &R) -> bool
+        ensures { self.new ≡ self.old }
+    {
+        if self.held.is_empty() && !self.owes_ring {
+            return false;
+        }
+        let mut is_put = self.try_put_held(rt);
+        // Nobody else makes room where the inbox was let go.
+        if !is_put && self.leavings.discard(rt) {
+            is_put = self.try_put_held(rt);
+        }
+        self.owes_ring = false;
+        self.outlet.ring();
+        !is_put && !self.is_inbox_gone()
+    }
+
+    // Puts what is held back where there is room for it, and answers whether nothing is any more.
+    fn try_put_held<R: Wait>(&mut self, rt: &R) -> bool
+        ensures { self.new ≡ self.old }
+    {
+        try_put_held(
+            rt,
+            &mut self.outlet,
+            &self.lists,
+            &mut self.spare,
+            &mut self.held,
+        )
+    }
+
+    /// Whether it holds something back.
+    pub fn holds_back(&self) -> bool {
+        !self.held.is_empty()
+    }
+
+    /// Whether the inbox is gone: it was dropped. One that was let go counts as there.
+    pub fn is_inbox_gone(&self) -> bool {
+        self.outlet.is_inbox_gone()
+    }
+
+    /// Lets go of the port, and waits for nothing. What it holds back is lost, and its Bye comes behind all that it put, once the
+    /// box is empty.
+    pub fn let_go(self) {
+        let Port {
+            outlet,
+            lists: _,
+            leavings,
+            held: _,
+            spare: _,
+            owes_ring: _,
+        } = self;
+        leavings.leave_outlet(outlet);
     }
 
     /// Puts Bye at the back of the box, after which this port sends nothing, and waits while the box is full. `Err`
@@ -174,24 +278,27 @@ impl<B: Drop> Port<B> {
         let Port {
             mut outlet,
             lists,
+            leavings,
             mut held,
             mut spare,
             owes_ring,
         } = self;
-        if !put_held(rt, &mut outlet, &lists, &mut spare, &mut held) {
+        if !put_held(rt, &mut outlet, &lists, &leavings, &mut spare, &mut held) {
             return Err(Port {
                 outlet,
                 lists,
+                leavings,
                 held,
                 spare,
                 owes_ring,
             });
         }
-        match outlet.finish(rt) {
+        match outlet.finish(rt, &leavings) {
             Ok(ended) => Ok(ended),
             Err(outlet) => Err(Port {
                 outlet,
                 lists,
+                leavings,
                 held,
                 spare,
                 owes_ring,
@@ -205,6 +312,7 @@ fn put_held<B: Drop, R: Wait>(
     rt: &R,
     outlet: &mut Outlet<B>,
     lists: &SharedLists<B>,
+    leavings: &Leavings<B>,
     spare: &mut Option<VecDeque<B, Heap>>,
     held: &mut VecDeque<B, Heap>,
 ) -> bool
@@ -212,18 +320,45 @@ fn put_held<B: Drop, R: Wait>(
     ensures none { result ≡ true → held.new.items ≡ [] }
 {
     if held.len() < 2 {
-        return put_each(rt, outlet, held);
+        return put_each(rt, outlet, leavings, held);
     }
     let Some(empty) = empty_list(rt, lists, spare) else {
-        return put_each(rt, outlet, held);
+        return put_each(rt, outlet, leavings, held);
     };
     let bodies = mem::replace(held, empty);
-    match outlet.put_many(rt, bodies) {
+    match outlet.put_many(rt, leavings, bodies) {
         Ok(()) => true,
         Err(bodies) => {
             lists.keep(rt, mem::replace(held, bodies));
             false
         }
+    }
+}
+
+// The same, but it waits for no room.
+fn try_put_held<B: Drop, R: Wait>(
+    rt: &R,
+    outlet: &mut Outlet<B>,
+    lists: &SharedLists<B>,
+    spare: &mut Option<VecDeque<B, Heap>>,
+    held: &mut VecDeque<B, Heap>,
+) -> bool
+    ensures { with_bodies held.new.items outlet.new ≡ with_bodies held.old.items outlet.old }
+{
+    if held.len() < 2 {
+        return try_put_each(rt, outlet, held);
+    }
+    let Some(empty) = empty_list(rt, lists, spare) else {
+        return try_put_each(rt, outlet, held);
+    };
+    let bodies = mem::replace(held, empty);
+    match outlet.try_put(rt, Batch::Many(bodies)) {
+        Ok(()) => true,
+        Err(Batch::Many(bodies)) => {
+            lists.keep(rt, mem::replace(held, bodies));
+            false
+        }
+        Err(Batch::One(_)) => unreachable!(),
     }
 }
 
@@ -246,14 +381,40 @@ fn empty_list<B: Drop, R: Wait>(
 }
 
 // Puts what is held back, one body after another, as `put_held` does.
-fn put_each<B: Drop, R: Wait>(rt: &R, outlet: &mut Outlet<B>, held: &mut VecDeque<B, Heap>) -> bool
+fn put_each<B: Drop, R: Wait>(
+    rt: &R,
+    outlet: &mut Outlet<B>,
+    leavings: &Leavings<B>,
+    held: &mut VecDeque<B, Heap>,
+) -> bool
     ensures same { with_bodies held.new.items outlet.new ≡ with_bodies held.old.items outlet.old }
     ensures none { result ≡ true → held.new.items ≡ [] }
 {
     while let Some(body) = held.pop_front() {
-        if let Err(body) = outlet.put_one(rt, body) {
+        if let Err(body) = outlet.put_one(rt, leavings, body) {
             held.push_front_reserved(body);
             return false;
+        }
+    }
+    true
+}
+
+// Puts what is held back, one body after another, as `try_put_held` does.
+fn try_put_each<B: Drop, R: Wait>(
+    rt: &R,
+    outlet: &mut Outlet<B>,
+    held: &mut VecDeque<B, Heap>,
+) -> bool
+    ensures { with_bodies held.new.items outlet.new ≡ with_bodies held.old.items outlet.old }
+{
+    while let Some(body) = held.pop_front() {
+        match outlet.try_put(rt, Batch::One(body)) {
+            Ok(()) => {}
+            Err(Batch::One(body)) => {
+                held.push_front_reserved(body);
+                return false;
+            }
+            Err(Batch::Many(_)) => unreachable!(),
         }
     }
     true

@@ -1,5 +1,5 @@
 -- The command line: the words that the program takes, the task that they name, and what may be wrong with them.
-use Rattle.std.specs.Prelude.{◌≡◌, ◌⊎◌, ℕ, List, [], Option, None, Some, codes, true}
+use Rattle.std.specs.Prelude.{◌≡◌, ◌⊎◌, ℕ, List, [], Option, None, Some, codes, option_map, true}
 use Rattle.clap.specs.Simple.{on_top}
 use Rattle.clap.specs.Words.{App, IsAmong, Row, Rule, Text, fault_of, first_of, new_app, new_rule, subcommand_of, with_rule, with_subcommand}
 use Rattle.clap.specs.declared.error.kind.ErrorKind.{ErrorKind}
@@ -15,6 +15,10 @@ path = record (new_rule (codes "config")) { required = true }
 abbrev pub socket : Rule
 socket = record (new_rule (codes "socket")) { required = true }
 
+-- the path of a socket, which a command may have
+abbrev pub place : Rule
+place = new_rule (codes "socket")
+
 abbrev pub script_app : App
 script_app = with_rule (new_app (codes "script")) path
 
@@ -22,7 +26,7 @@ abbrev pub audit_app : App
 audit_app = with_rule (new_app (codes "audit")) path
 
 abbrev pub check_app : App
-check_app = with_rule (new_app (codes "check")) path
+check_app = with_rule (with_rule (new_app (codes "check")) path) place
 
 abbrev pub serve_app : App
 serve_app = with_rule (with_rule (new_app (codes "serve")) path) socket
@@ -39,6 +43,11 @@ line_app = with_subcommand (with_subcommand (with_subcommand (with_subcommand to
 abbrev pub Named : List ℕ → List ℕ → Option (Text × List Row) → Type 0
 Named command file named = (rows : List Row) × (named ≡ Some (command, rows)) × (first_of (codes "config") rows ≡ Some file)
 
+-- the command that checks was named, with this path, and with that of a socket where there is one
+abbrev pub NamedCheck : List ℕ → Option (List ℕ) → Option (Text × List Row) → Type 0
+NamedCheck file place named =
+    (rows : List Row) × (named ≡ Some (codes "check", rows)) × (first_of (codes "config") rows ≡ Some file) × (first_of (codes "socket") rows ≡ place)
+
 -- the command that serves was named, with these two paths
 abbrev pub NamedServe : List ℕ → List ℕ → Option (Text × List Row) → Type 0
 NamedServe file place named =
@@ -50,7 +59,7 @@ abbrev pub IsNamedBy : Option (Text × List Row) → Task → Type 0
 IsNamedBy named (Script None) = named ≡ None
 IsNamedBy named (Script (Some file)) = Named (codes "script") file.now named
 IsNamedBy named (Audit file) = Named (codes "audit") file.now named
-IsNamedBy named (Check file) = Named (codes "check") file.now named
+IsNamedBy named (Check file place) = NamedCheck file.now (option_map (λ s. s.now) place) named
 IsNamedBy named (Serve file place) = NamedServe file.now place.now named
 
 -- the words ask for a task: `clap` states no fault of them, and they name its command

@@ -175,17 +175,26 @@ Serves path done written_old written_new =
 abbrev pub Lists : Settings → Done → Option (List ℕ) → Option (List ℕ) → Type 0
 Lists settings done written_old written_new = IsShown done × Writes done written_old written_new (config_lines settings)
 
+-- it was looked whether a server may listen at the path of a socket; without one there is nothing to look at
+abbrev pub Looks : Option (List ℕ) → Done → Type 0
+Looks socket done = MatchOption socket (done ≡ Ok tt) (λ _. (done ≡ Ok tt) ⊎ (done ≡ Err faults.Listen))
+
+-- the lines of a configuration were written, and then it was looked at the path of a socket
+abbrev pub ListsAndLooks : Settings → Option (List ℕ) → Done → Option (List ℕ) → Option (List ℕ) → Type 0
+ListsAndLooks settings socket done written_old written_new =
+    (listed : Done) × Lists settings listed written_old written_new × MatchResult listed (λ _. Looks socket done) (λ fault. done ≡ Err fault)
+
 -- the configuration of a path was told; or there is none, or no memory to tell it, and nothing was written
-abbrev pub Checks : Option (List ℕ) → Done → Option (List ℕ) → Option (List ℕ) → Type 0
-Checks path done written_old written_new =
-    ((config : Config) × Configures path (settings_of config) × Lists (settings_of config) done written_old written_new)
+abbrev pub Checks : Option (List ℕ) → Option (List ℕ) → Done → Option (List ℕ) → Option (List ℕ) → Type 0
+Checks path socket done written_old written_new =
+    ((config : Config) × Configures path (settings_of config) × ListsAndLooks (settings_of config) socket done written_old written_new)
     ⊎ ((fault : ProgramFault) × (done ≡ Err fault) × LacksConfig path fault × (written_new ≡ written_old))
 
 -- a task was done; for a script and an audit nothing was told meanwhile, and to check or to serve nothing was read
 abbrev pub Does : Task → Done → Streams → Streams → Option (List ℕ) → Option (List ℕ) → Type 0
 Does (Script path) done old new told_old told = Over (option_map (λ s. s.now) path) RunsScript done old new × (told ≡ told_old)
 Does (Audit path) done old new told_old told = Over (Some path.now) RunsAudit done old new × (told ≡ told_old)
-Does (Check path) done old new told_old told = Checks (Some path.now) done old.written new.written × (new.left ≡ old.left)
+Does (Check path socket) done old new told_old told = Checks (Some path.now) (option_map (λ s. s.now) socket) done old.written new.written × (new.left ≡ old.left)
 Does (Serve path socket) done old new told_old told = Serves (Some path.now) done old.written new.written × (new.left ≡ old.left)
 
 -- THE PROGRAM

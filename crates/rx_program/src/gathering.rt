@@ -1,55 +1,60 @@
-use crate::link::Link;
+ghost use Rattle.std.specs.Prelude.{◌≡◌, ◌+◌, ◌-◌, ◌≤◌, [], length, take, drop, min, vec_len, OnOk};
+ghost use Rattle.std.specs.Io.{WritesAtMost};
+ghost use Rattle.std.specs.Io.KnownBytes.{Appends, WriteAppends};
+
 use rx_heap::Heap;
 use std::io;
 use std::io::{ErrorKind, Write};
-use std::net::Shutdown;
 use std::time::{Clock, Duration};
 
 /// How many bytes wait for a peer at most: 64 notes of the greatest length, in the second version, a terminal, and the first
 /// line.
 pub const MOST_WAITING: usize = 68_378;
 
-/// From so many bytes on, what is written goes out at once where nothing waits before it.
+/// From so many bytes on, what is written goes out at once where nothing waits before it; and no write has more. A socket has
+/// room again once its peer took all of a write, so what a peer takes shows by so many bytes at a time.
 const BLOCK: usize = 4_096;
 
 // How often a flush writes at most.
 const MOST_WRITES: u32 = 1_000;
 
-/// What waits for a peer until it is flushed, or until its socket takes it.
-pub(crate) struct Gathering<C: Clock + Drop> {
-    link: Link,
+/// What waits for a peer until it is flushed, or until its socket takes it. What the socket took and then what waits is just what
+/// was written here: none of it is lost, doubled or turned round on the way.
+pub(crate) struct Gathering<W: Write + Drop, C: Clock + Drop> {
+    wire: W,
     clock: C,
     waiting: Vec<u8, Heap>,
-    // How long the peer may take no byte while some wait for it.
+    // How long the peer may take no block while some bytes wait for it.
     stall: Duration,
-    // Since when it has taken none, by the clock.
+    // Since when its socket has taken none, by the clock.
     stuck_since: Option<Duration>,
 }
 
 // What still waits is tried once more, and waits no longer: a drainer that leaves has flushed it for as long as any may wait.
-// Then the peer hears the end, though the reading half may still be watched.
-impl<C: Clock + Drop> Drop for Gathering<C> {
+impl<W: Write + Drop, C: Clock + Drop> Drop for Gathering<W, C> {
     fn drop(self) {
         let Gathering {
-            link,
+            wire,
             clock: _,
             waiting,
             stall: _,
             stuck_since: _,
         } = self;
+        let mut wire = wire;
         if !waiting.is_empty() {
-            let mut stream = &*link;
-            let _ = stream.write(waiting.as_slice());
+            let _ = wire.write(waiting.as_slice());
         }
-        let _ = link.shutdown(Shutdown::Both);
     }
 }
 
-impl<C: Clock + Drop> Gathering<C> {
+impl<W: Write + Drop, C: Clock + Drop> Gathering<W, C> {
     /// Nothing waits yet.
-    pub(crate) fn new(link: Link, clock: C, alloc: Heap, stall: Duration) -> Gathering<C> {
+    pub(crate) fn new(wire: W, clock: C, alloc: Heap, stall: Duration) -> Gathering<W, C>
+        ensures wire { result.wire ≡ wire }
+        ensures none { result.waiting.items ≡ [] }
+    {
         Gathering {
-            link,
+            wire,
             clock,
             waiting: Vec::new(alloc),
             stall,
@@ -57,29 +62,11 @@ impl<C: Clock + Drop> Gathering<C> {
         }
     }
 
-    // Sends what waits, as far as the socket takes it, and says how many bytes that were and what stopped it.
-    fn send(&mut self) -> (usize, io::Result<()>) {
-        let mut sent = 0;
-        for _ in 0..MOST_WRITES {
-            let Some(rest) = self.waiting.as_slice().get(sent..) else {
-                return (sent, Ok(()));
-            };
-            if rest.is_empty() {
-                return (sent, Ok(()));
-            }
-            let mut stream = &*self.link;
-            match stream.write(rest) {
-                Ok(0) => return (sent, Err(io::Error::from(ErrorKind::WriteZero))),
-                Ok(more) => sent = sent.saturating_add(more),
-                Err(fault) if fault.kind() == ErrorKind::Interrupted => {}
-                Err(fault) => return (sent, Err(fault)),
-            }
-        }
-        (sent, Err(io::Error::from(ErrorKind::WouldBlock)))
-    }
-
     // The fault of a socket that takes no more bytes now: they wait, but not for ever where it takes none at all.
-    fn stuck(&mut self, sent: usize) -> io::Error {
+    fn stuck(&mut self, sent: usize) -> io::Error
+        ensures wire { self.new.wire ≡ self.old.wire }
+        ensures waiting { self.new.waiting ≡ self.old.waiting }
+    {
         let Ok(now) = self.clock.monotonic() else {
             return io::Error::from(ErrorKind::WouldBlock);
         };
@@ -96,16 +83,19 @@ impl<C: Clock + Drop> Gathering<C> {
     }
 }
 
-impl<C: Clock + Drop> Write for Gathering<C> {
+impl<W: Write + Drop, C: Clock + Drop> Write for Gathering<W, C> {
+    ghost use Rattle.std.specs.Prelude.{◌≡◌, []};
+    ghost use Rattle.std.specs.Io.KnownBytes.{Keeps, append_known};
+
+    ghost contents = { λ g. append_known (W.contents g.wire) g.waiting.items };
+
     fn write(&mut self, bytes: &[u8]) -> io::Result<usize> {
         if self.waiting.is_empty() && bytes.len() >= BLOCK {
-            let mut stream = &*self.link;
-            return stream.write(bytes);
+            return write_block(&mut self.wire, bytes);
         }
         if self.waiting.len().saturating_add(bytes.len()) > MOST_WAITING {
             self.flush()?;
-            let mut stream = &*self.link;
-            return stream.write(bytes);
+            return write_block(&mut self.wire, bytes);
         }
         match self.waiting.extend_from_slice(bytes) {
             Ok(()) => Ok(bytes.len()),
@@ -113,17 +103,12 @@ impl<C: Clock + Drop> Write for Gathering<C> {
         }
     }
 
-    fn flush(&mut self) -> io::Result<()> {
-        if self.waiting.is_empty() {
-            return Ok(());
-        }
-        let (sent, ended) = self.send();
-        // A drain turns the bytes round that go, as well as those that stay.
-        if sent >= self.waiting.len() {
-            self.waiting.clear();
-        } else {
-            self.waiting.drain(..sent);
-        }
+    fn flush(&mut self) -> io::Result<()>
+        ensures bytes { Keeps (append_known (W.contents self.old.wire) self.old.waiting.items) (append_known (W.contents self.new.wire) self.new.waiting.items) }
+        ensures ok { OnOk result (self.new.waiting.items ≡ []) }
+    {
+        let (sent, ended) = write_blocks(&mut self.wire, self.waiting.as_slice());
+        drop_front(&mut self.waiting, sent);
         match ended {
             Err(fault) if fault.kind() == ErrorKind::WouldBlock => Err(self.stuck(sent)),
             Err(fault) => Err(fault),
@@ -133,4 +118,53 @@ impl<C: Clock + Drop> Write for Gathering<C> {
             }
         }
     }
+}
+
+// Writes these bytes, a block at a time, as far as the writer takes them. It answers how many it took, and what stopped it.
+fn write_blocks<W: Write>(writer: &mut W, bytes: &[u8]) -> (usize, io::Result<()>)
+    ensures within { result.0 ≤ length bytes.now }
+    ensures all { OnOk result.1 (result.0 ≡ length bytes.now) }
+    ensures taken { Appends (W.contents writer.old) (W.contents writer.new) (take result.0 bytes.now) }
+{
+    let mut sent = 0;
+    for _ in 0..MOST_WRITES {
+        if sent == bytes.len() {
+            return (sent, Ok(()));
+        }
+        match write_block(writer, &bytes[sent..]) {
+            Ok(0) => return (sent, Err(io::Error::from(ErrorKind::WriteZero))),
+            Ok(more) => sent += more,
+            Err(fault) if fault.kind() == ErrorKind::Interrupted => {}
+            Err(fault) => return (sent, Err(fault)),
+        }
+    }
+    (sent, Err(io::Error::from(ErrorKind::WouldBlock)))
+}
+
+// Writes a block of these bytes at most.
+fn write_block<W: Write>(writer: &mut W, bytes: &[u8]) -> io::Result<usize>
+    ensures bound { WritesAtMost result bytes.now }
+    ensures bytes { WriteAppends (W.contents writer.old) (W.contents writer.new) result bytes.now }
+{
+    writer.write(front(bytes))
+}
+
+// What goes out of these bytes by one write.
+fn front(bytes: &[u8]) -> &[u8]
+    ensures { result.now ≡ take 4096 bytes.now }
+{
+    match bytes.get(..BLOCK) {
+        Some(front) => front,
+        None => bytes,
+    }
+}
+
+// Lets go of the first bytes.
+fn drop_front(waiting: &mut Vec<u8, Heap>, count: usize)
+    requires { count ≤ vec_len waiting.old }
+    ensures { waiting.new.items ≡ drop count waiting.old.items }
+{
+    let len = waiting.len();
+    waiting.as_mut_slice().copy_within(count..len, 0);
+    waiting.truncate(len - count);
 }

@@ -1,3 +1,4 @@
+use std::fs::File;
 use std::net::Net;
 use std::rt::Files;
 use std::sync::Wait;
@@ -6,7 +7,7 @@ use std::time::Clock;
 
 /// What the program is handed of its host: memory, files, sockets, a clock and threads.
 pub trait Host: AllocGlobal
-    + Files
+    + Files<File = File>
     + Net
     + Clock
     + Threads
@@ -16,5 +17,15 @@ pub trait Host: AllocGlobal
     + Send
     + 'static {}
 
-impl<T: AllocGlobal + Files + Net + Clock + Threads + Wait + Clone + Drop + Send + 'static> Host
-    for T {}
+impl<
+    T: AllocGlobal
+        + Files<File = File>
+        + Net
+        + Clock
+        + Threads
+        + Wait
+        + Clone
+        + Drop
+        + Send
+        + 'static,
+> Host for T {}

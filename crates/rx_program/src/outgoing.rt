@@ -1,5 +1,6 @@
 use crate::gathering::Gathering;
 use crate::link::Link;
+use crate::wire::Wire;
 use rx_heap::{Heap, Memory};
 use std::io;
 use std::io::Write;
@@ -12,7 +13,7 @@ use std::time::{Clock, Duration};
 /// What it holds stands in a box, so that a sink over it is small: it goes from thread to thread in a letter, and each letter of
 /// its kind has room for one.
 pub struct Outgoing<C: Clock + Drop> {
-    held: Box<Gathering<C>, Heap>,
+    held: Box<Gathering<Wire, C>, Heap>,
 }
 
 // It stands here, and isn't derived, so that what lets go of it is one call that is proved once.
@@ -26,7 +27,7 @@ impl<C: Clock + Drop> Outgoing<C> {
     /// The writing half of a connection. It and what waits take this memory. A flush has failed once the peer took no byte for
     /// so long while some waited for it.
     pub fn new(link: Link, clock: C, alloc: &Heap, stall: Duration) -> Result<Outgoing<C>, Memory> {
-        let gathering = Gathering::new(link, clock, alloc.clone()?, stall);
+        let gathering = Gathering::new(Wire::of(link), clock, alloc.clone()?, stall);
         match Box::new(alloc.clone()?, gathering) {
             Ok(held) => Ok(Outgoing { held }),
             Err(_) => Err(Memory),

@@ -4,11 +4,13 @@ use mio::{Events, Interest, Poll, Token, Waker};
 use rx_heap::Heap;
 use rx_server::{Aim, Bell, Readiness, Ready, WatchFault};
 use std::alloc::Global;
+use std::collections::VecDeque;
 use std::io;
 use std::net::Net;
 use std::time::{Clock, Duration};
 
-// How many connections are told at a time at most.
+// How many events of the system are told at a time at most, how many connections on which nothing happened for long, and how
+// many of those that are to be told again.
 const MOST_READY: usize = 256;
 
 // By which the bell is told, as no connection is.
@@ -18,7 +20,8 @@ const BELL: Token = Token(usize::MAX);
 const LOOK: u64 = 1;
 
 /// The readiness of the connections of a Unix socket, by the system's events. Where a peer may be idle only for so long, a
-/// connection is told too once nothing happened on it for as long, so that its session has a turn and finds that out.
+/// connection is told too once nothing happened on it for as long, so that its session has a turn and finds that out. One that is
+/// to be told again is told behind the others that are ready by then.
 pub struct Polling<C: Clock + Drop> {
     poll: Poll,
     // It takes memory of the runtime, as `mio` has no other.
@@ -26,9 +29,20 @@ pub struct Polling<C: Clock + Drop> {
     ready: Vec<Ready, Heap>,
     clock: C,
     idle: Option<Duration>,
-    // By key, when a connection was told last.
-    told: Vec<Duration, Heap>,
+    // By key.
+    watched: Vec<Watched, Heap>,
+    // The keys of those that are to be told again, each once, and with room for all.
+    again: VecDeque<usize, Heap>,
     looked: Duration,
+}
+
+// A connection that is watched.
+#[derive(Clone, Copy)]
+struct Watched {
+    // When it was told last.
+    told: Duration,
+    // It is to be told again.
+    is_again: bool,
 }
 
 // It stands here, and isn't derived, so that what lets go of it is one call that is proved once.
@@ -40,7 +54,8 @@ impl<C: Clock + Drop> Drop for Polling<C> {
             ready: _,
             clock: _,
             idle: _,
-            told: _,
+            watched: _,
+            again: _,
             looked: _,
         } = self;
     }
@@ -58,14 +73,15 @@ impl<C: Clock + Drop> Polling<C> {
         let poll = Poll::new(net)?;
         let events = Events::with_capacity(runtime, MOST_READY)?;
         let mut ready = Vec::new(heap.clone()?);
-        ready.reserve(MOST_READY)?;
+        ready.reserve(3 * MOST_READY)?;
         Ok(Polling {
             poll,
             events,
             ready,
             clock,
             idle,
-            told: Vec::new(heap.clone()?),
+            watched: Vec::new(heap.clone()?),
+            again: VecDeque::new(heap.clone()?),
             looked: Duration::ZERO,
         })
     }
@@ -81,46 +97,73 @@ impl<C: Clock + Drop> Polling<C> {
         self.clock.monotonic().unwrap_or(Duration::ZERO)
     }
 
-    // Puts what the system told, all but the bell.
-    fn put_events(&mut self, now: Duration) {
-        for event in self.events.iter() {
-            let key = event.token().0;
-            if let Some(told) = self.told.get_mut(key) {
-                *told = now;
-                let is_gone = event.is_write_closed();
-                let _ = self.ready.push(Ready { key, is_gone });
+    // Puts those that are to be told again. What is put last is told first, so the others come before them.
+    fn put_again(&mut self, now: Duration) {
+        for _ in 0..MOST_READY {
+            let Some(key) = self.again.pop_front() else {
+                return;
+            };
+            if let Some(watched) = self.watched.get_mut(key) {
+                watched.is_again = false;
+                put(&mut self.ready, watched, key, false, now);
             }
         }
     }
 
-    // Puts the connections on which nothing happened for as long as a peer may be idle, as far as there is room.
+    // Puts what the system told, all but the bell.
+    fn put_events(&mut self, now: Duration) {
+        for event in self.events.iter() {
+            let key = event.token().0;
+            if let Some(watched) = self.watched.get_mut(key) {
+                put(&mut self.ready, watched, key, event.is_write_closed(), now);
+            }
+        }
+    }
+
+    // Puts the connections on which nothing happened for as long as a peer may be idle, up to so many.
     fn put_idle(&mut self, now: Duration, idle: Duration) {
         if now.saturating_sub(self.looked) < Duration::from_secs(LOOK) {
             return;
         }
         self.looked = now;
-        for (key, told) in self.told.iter_mut().enumerate() {
-            if self.ready.len() < MOST_READY && now.saturating_sub(*told) >= idle {
-                *told = now;
-                let is_gone = false;
-                let _ = self.ready.push(Ready { key, is_gone });
+        let most = self.ready.len().saturating_add(MOST_READY);
+        for (key, watched) in self.watched.iter_mut().enumerate() {
+            if self.ready.len() < most && now.saturating_sub(watched.told) >= idle {
+                put(&mut self.ready, watched, key, false, now);
             }
         }
     }
 
     // Has room for what is told of this key.
     fn make_room(&mut self, key: usize) -> Result<(), WatchFault> {
-        let now = self.now();
-        for _ in self.told.len()..=key {
-            let Ok(()) = self.told.push(now) else {
+        let told = self.now();
+        let is_again = false;
+        for _ in self.watched.len()..=key {
+            let Ok(()) = self.watched.push(Watched { told, is_again }) else {
                 return Err(WatchFault);
             };
         }
-        if let Some(told) = self.told.get_mut(key) {
-            *told = now;
+        if let Some(watched) = self.watched.get_mut(key) {
+            watched.told = told;
         }
-        Ok(())
+        let more = self.watched.len().saturating_sub(self.again.len());
+        match self.again.try_reserve(more) {
+            Ok(()) => Ok(()),
+            Err(_) => Err(WatchFault),
+        }
     }
+}
+
+// Puts a connection that is told now.
+fn put(
+    ready: &mut Vec<Ready, Heap>,
+    watched: &mut Watched,
+    key: usize,
+    is_gone: bool,
+    now: Duration,
+) {
+    watched.told = now;
+    let _ = ready.push(Ready { key, is_gone });
 }
 
 impl<C: Clock + Drop> Readiness<Incoming<C>> for Polling<C> {
@@ -153,6 +196,17 @@ impl<C: Clock + Drop> Readiness<Incoming<C>> for Polling<C> {
             .reregister(&mut source, Token(key), interest);
     }
 
+    fn again(&mut self, key: usize) {
+        let Some(watched) = self.watched.get_mut(key) else {
+            return;
+        };
+        if watched.is_again {
+            return;
+        }
+        watched.is_again = true;
+        let _ = self.again.push_back(key);
+    }
+
     fn forget(&mut self, connection: &Incoming<C>) {
         let descriptor = connection.descriptor();
         let mut source = SourceFd(&descriptor);
@@ -160,13 +214,18 @@ impl<C: Clock + Drop> Readiness<Incoming<C>> for Polling<C> {
     }
 
     fn wait(&mut self) {
-        let most = self.idle.map(|_| Duration::from_secs(LOOK));
+        let most = if self.again.is_empty() {
+            self.idle.map(|_| Duration::from_secs(LOOK))
+        } else {
+            Some(Duration::ZERO)
+        };
         self.ready.clear();
         let _ = self.poll.poll(&mut self.events, most);
         let now = match self.idle {
             Some(_) => self.now(),
             None => Duration::ZERO,
         };
+        self.put_again(now);
         self.put_events(now);
         if let Some(idle) = self.idle {
             self.put_idle(now, idle);

@@ -5,6 +5,7 @@ ghost use Rattle.rx_program.specs.Programs.{Answers, Does, EndsWith, IsShown, Ov
 use crate::checking::check_at;
 use crate::config_file::config_at;
 use crate::host::Host;
+use crate::plain::Plain;
 use crate::program_fault::ProgramFault;
 use crate::serving::serve_on;
 use crate::task::Task;
@@ -74,7 +75,7 @@ fn answer<W: Write, E: Write>(error: &Error, writer: &mut W, faults: &mut E) -> 
         }
         ErrorKind::OutOfMemory => status_of(Err(ProgramFault::Memory), faults),
         _ => {
-            let _ = write!(faults, "{error}");
+            let _ = write!(Plain::new(faults), "{error}");
             WRONG_WORDS
         }
     }
@@ -103,7 +104,7 @@ fn run_task<F: Host, R: Read, W: Write, E: Write>(
     match task {
         Task::Script(path) => run_script_at(rt, path, reader, writer),
         Task::Audit(path) => run_audit_at(rt, path, reader, writer),
-        Task::Check(path) => check_at(rt, path, writer, faults),
+        Task::Check(path, socket) => check_at(rt, path, socket, writer, faults),
         Task::Serve(path, socket) => serve_at(rt, path, socket, writer, faults),
     }
 }

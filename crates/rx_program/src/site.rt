@@ -12,15 +12,18 @@ use crate::socket::Socket;
 use crate::terms::Terms;
 use rx_config::Config;
 use rx_heap::Heap;
-use rx_server::start;
+use rx_listing::Shown;
+use rx_server::start_unread;
 use rx_sink::LineSink;
+use std::fs::File;
 use std::io::Write;
 use std::os::unix::net::UnixListener;
 
-/// What a server is served by: the socket that it listens on, the terms of its peers, the memory for what waits for them, the
+/// What a server is served by: the socket that it listens on and the lock beside it, the terms of its peers, the memory for what waits for them, the
 /// clock of its moments, the memory for what its desks leave, and its own memory.
 pub struct Site<F: Host> {
     listener: UnixListener,
+    lock: File,
     host: F,
     terms: Terms,
     waiting: Heap,
@@ -34,6 +37,7 @@ impl<F: Host> Drop for Site<F> {
     fn drop(self) {
         let Site {
             listener: _,
+            lock: _,
             host: _,
             terms: _,
             waiting: _,
@@ -65,8 +69,9 @@ impl<F: Host> Site<F> {
             return Err(ProgramFault::Memory);
         };
         match listen(rt, path, config.takeover) {
-            Ok(listener) => Ok(Site {
+            Ok((listener, lock)) => Ok(Site {
                 listener,
+                lock,
                 host,
                 terms: Terms::of(config),
                 waiting,
@@ -93,6 +98,7 @@ impl<F: Host> Site<F> {
     {
         let Site {
             listener,
+            lock,
             host,
             terms,
             waiting,
@@ -100,11 +106,11 @@ impl<F: Host> Site<F> {
             heap,
             own,
         } = self;
-        let mut server = match start::<LineSink<Outgoing<F>>, F>(rt, own, config) {
+        let mut server = match start_unread::<LineSink<Outgoing<F>>, F>(rt, own, config) {
             Ok(server) => server,
             Err(fault) => return Err(ProgramFault::Start(fault)),
         };
-        let _ = writeln!(faults, "rxline: listening on {path}");
+        let _ = writeln!(faults, "rxline: listening on {}", Shown(path));
         let mut socket = Socket::new(listener, host, waiting, terms, faults);
         let served = server.serve(rt, &mut socket, Clocked::new(clock));
         drop(socket);
@@ -112,6 +118,7 @@ impl<F: Host> Site<F> {
             Ok(report) => Ok(report.into_subjects()),
             Err(fault) => Err(fault),
         };
+        drop(lock);
         Ok(Ended { served, closed })
     }
 }

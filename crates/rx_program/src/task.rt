@@ -5,8 +5,8 @@ pub enum Task<'a> {
     Script(Option<&'a str>),
     /// To audit a script over the configuration in the file of this path.
     Audit(&'a str),
-    /// To tell the configuration in the file of this path.
-    Check(&'a str),
+    /// To tell the configuration in the file of the first path, and where there is a second, what is in the way of serving there.
+    Check(&'a str, Option<&'a str>),
     /// To serve the configuration in the file of the first path on a new Unix socket at the second.
     Serve(&'a str, &'a str),
 }

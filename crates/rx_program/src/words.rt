@@ -2,7 +2,7 @@ ghost use Rattle.std.specs.Prelude.{◌≡◌, ◌⊎◌, IfOk, MatchOption, Mat
 ghost use Rattle.clap.specs.Words.{app_of, first_of, found_of, kind_of, new_app, rows_of, rule_of, subcommand_rows_of, with_rule, with_subcommand};
 ghost use Rattle.clap.specs.declared.Command.{out-Command};
 ghost use Rattle.clap.specs.declared.error.kind.ErrorKind.TheVariants.{OutOfMemory};
-ghost use Rattle.rx_program.specs.CommandLines.{Asks, IsAgainst, IsNamedBy, NamesNone, audit_app, check_app, line_app, path, script_app, serve_app, socket, top_app};
+ghost use Rattle.rx_program.specs.CommandLines.{Asks, IsAgainst, IsNamedBy, NamesNone, audit_app, check_app, line_app, path, place, script_app, serve_app, socket, top_app};
 
 use crate::task::Task;
 use clap::error::ErrorKind;
@@ -17,7 +17,7 @@ const VERSION: &str = "0.1.0";
 
 // The commands that there are, as the usage line of the program names them.
 const COMMANDS: &str =
-    "script <config> | audit <config> | check <config> | serve <config> <socket>";
+    "script <config> | audit <config> | check <config> [socket] | serve <config> <socket>";
 
 const ABOUT: &str = "Multicasts items to observers by the lines of a script.";
 
@@ -71,11 +71,21 @@ of which the second prints
 
 The server ends once as many connections have ended as 'connections' in the pool says,
 and then writes the report; a signal, as by Ctrl-C, ends it at once, with none. The
-socket's file stays: remove it before the next start.";
+socket's file stays, and where it stands no server starts, unless the pool has takeover:
+then it is removed, if nobody listens on it. So has this configuration:
+  [[subject]]
+  name = \"s\"
+  kind = \"publish\"
+  [pool]
+  takeover = true
+'rxline check server.toml hazoxe.sock' tells what is in the way of a server there. As
+long as it runs, a server holds a lock on the file hazoxe.sock.lock beside its socket.";
 
 const CHECK_EXAMPLE: &str = "\
 What a configuration leaves out is told as it will be served. Of one that is refused
-the key is told on standard error, and what would be right there.";
+each key at fault is told on standard error, and what would be right there; of a file
+that can't be read, why. With a socket, what is in the way of 'rxline serve' at its path is
+told there too, and the status is 1 where something is.";
 
 /// What these words ask for: those behind the program's name.
 ///
@@ -114,7 +124,7 @@ fn named<'a>(name: &'a str, found: &ArgMatches<'a>) -> Option<Task<'a>>
         return Some(Task::Audit(path));
     }
     if name == "check" {
-        return Some(Task::Check(path));
+        return Some(Task::Check(path, socket_in(found)));
     }
     if name == "serve" {
         let socket = socket_in(found)?;
@@ -217,8 +227,9 @@ fn check<'a>(alloc: Global) -> Result<Command<'a>, AllocError>
 {
     let about =
         "Checks a configuration: writes each subject with its rules, and the pool, to standard output";
-    let command = new_command(alloc, "check", "rxline check <config>", about);
-    with_path(alloc, with_help(command, CHECK_EXAMPLE))
+    let command = new_command(alloc, "check", "rxline check <config> [socket]", about);
+    let command = with_path(alloc, with_help(command, CHECK_EXAMPLE))?;
+    command.arg(place_arg(alloc))
 }
 
 fn serve<'a>(alloc: Global) -> Result<Command<'a>, AllocError>
@@ -265,11 +276,20 @@ fn path_arg<'a>(alloc: Global) -> Arg<'a>
         .help("The configuration, a TOML file of at most 65,536 bytes")
 }
 
+fn place_arg<'a>(alloc: Global) -> Arg<'a>
+    ensures rule { rule_of result ≡ place }
+    ensures local { result.global ≡ false }
+{
+    Arg::new(alloc, SOCKET).help(
+        "The path of a socket, to tell what is in the way of serving there",
+    )
+}
+
 fn socket_arg<'a>(alloc: Global) -> Arg<'a>
     ensures rule { rule_of result ≡ socket }
     ensures local { result.global ≡ false }
 {
-    Arg::new(alloc, SOCKET)
-        .required(true)
-        .help("The path of the socket, where no file may stand yet")
+    Arg::new(alloc, SOCKET).required(true).help(
+        "The path of the socket, where no file may stand yet, save with takeover one that was left",
+    )
 }

@@ -78,3 +78,7 @@ module _ {S : Type 0} where
   -- there are such marks
   abbrev pub PumpHasStopped : PumpView S → PumpStop S → Type 0
   PumpHasStopped pump stop = (B : Marked S) × PumpStops pump stop B
+
+  -- it stopped at this fault, and left what is not kept
+  abbrev pub PumpHasFailed : PumpView S → PumpFault → Type 0
+  PumpHasFailed pump fault = (stop : PumpStop S) × PumpHasStopped pump stop × (stop.fault ≡ fault)

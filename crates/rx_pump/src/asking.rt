@@ -9,9 +9,13 @@ use crate::call::Call;
 use crate::call_error::CallError;
 use crate::reply::Reply;
 use rx_heap::Heap;
-use rx_mailbox::{Inbox, Letter, Port, Post};
+use rx_mailbox::{Inbox, Letter, Port, Post, TryRecvFault};
 use rx_note::Event;
 use std::sync::Wait;
+use std::time::Duration;
+
+// How long a reply is waited for before its subject is looked after, in milliseconds.
+const MOST_WAIT: u64 = 250;
 
 // Sends a call to a subject. `Err` has the sink of a call that was handed back.
 pub fn send_call<S: Drop, R: Wait>(
@@ -61,19 +65,29 @@ pub fn post_call<S: Drop, R: Wait>(
     }
 }
 
-// Waits for the reply of a subject to a ticket.
+// Waits for the reply of a subject, which is called by this port, to a ticket. Where the subject is gone nobody rings for that, so
+// it looks now and then: what the subject put was put before it went.
 pub fn receive<S: Drop, R: Wait>(
     rt: &R,
     inbox: &mut Inbox<Reply<S>>,
+    port: &Port<Call<S>>,
     subject: usize,
     ticket: u64,
 ) -> Result<Reply<S>, CallError<S>>
     ensures { ReceivesReply inbox.old inbox.new subject ticket result }
 {
-    let Ok(letter) = inbox.recv(rt) else {
-        return Err(CallError::SubjectGone { sink: None });
-    };
-    read(letter, subject, ticket)
+    for _ in rt.forever() {
+        let is_gone = port.is_inbox_gone();
+        match inbox.recv_patiently(
+            rt,
+            Duration::from_millis(if is_gone { 0 } else { MOST_WAIT }),
+        ) {
+            Ok(letter) => return read(letter, subject, ticket),
+            Err(TryRecvFault::Empty) if !is_gone => {}
+            Err(_) => return Err(CallError::SubjectGone { sink: None }),
+        }
+    }
+    unreachable!()
 }
 
 // ReadsReply the reply of a subject to a ticket in a letter.

@@ -8,7 +8,7 @@ use crate::call::Call;
 use crate::call_error::CallError;
 use crate::desk_parts::DeskParts;
 use crate::ended_desk::EndedDesk;
-use crate::finishing::finish_all;
+use crate::finishing::{finish_all, let_go_all};
 use crate::reply::Reply;
 use crate::rooms::room;
 use rx_heap::Heap;
@@ -29,16 +29,19 @@ pub struct CallDesk<S: Drop> {
     is_over: bool,
 }
 
-// It stands here, and isn't derived, so that what lets go of a desk is one call that is proved once.
+// A desk that is let go without its end stops no subject: its ports end all the same, and the replies to what it posted go
+// nowhere.
 impl<S: Drop> Drop for CallDesk<S> {
     fn drop(self) {
         let CallDesk {
-            ports: _,
-            inbox: _,
+            ports,
+            inbox,
             ended: _,
             tickets: _,
             is_over: _,
         } = self;
+        let_go_all(ports);
+        inbox.let_go();
     }
 }
 
@@ -118,7 +121,7 @@ impl<S: Drop> CallDesk<S> {
             return Err(CallError::SubjectGone { sink });
         }
         self.tickets = ticket;
-        let answered = receive(rt, &mut self.inbox, subject, ticket);
+        let answered = receive(rt, &mut self.inbox, &self.ports[subject], subject, ticket);
         self.is_over = is_strange(&answered);
         answered
     }
@@ -168,7 +171,7 @@ impl<S: Drop> CallDesk<S> {
             return Err(CallError::SubjectGone { sink: None });
         }
         self.ports[subject].ring(rt);
-        let answered = receive(rt, &mut self.inbox, subject, ticket);
+        let answered = receive(rt, &mut self.inbox, &self.ports[subject], subject, ticket);
         self.is_over = is_strange(&answered);
         answered
     }

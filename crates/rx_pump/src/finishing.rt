@@ -33,3 +33,10 @@ pub fn finish_all<B: Drop, R: Wait>(
     }
     Ok(())
 }
+
+/// Lets go of the ports, and waits for nothing: each ends all the same, behind what it put.
+pub fn let_go_all<B: Drop>(ports: Vec<Port<B>, Heap>) {
+    for port in ports {
+        port.let_go();
+    }
+}

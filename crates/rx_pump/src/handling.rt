@@ -123,8 +123,8 @@ fn is_memory(answered: Result<Answer, Refusal>) -> bool
     matches!(answered, Err(Refusal::Memory))
 }
 
-// Sends what a call sends, and then its reply. It answers the fault, if there is one. The caller is woken, so that it goes on,
-// and the drainers need not be.
+// Sends what a call sends, and then its reply. It answers the fault, if there is one. All of it may be held back, and nobody
+// need be woken.
 fn send<S: Drop, R: Wait>(
     rt: &R,
     parts: &mut PumpParts<S>,
@@ -145,7 +145,8 @@ fn send<S: Drop, R: Wait>(
     send_reply(rt, &mut parts.replies, port, reply)
 }
 
-// Sends a reply to the port's calls, if there is a port for it. It answers the fault, if there is one.
+// Sends a reply to the port's calls, if there is a port for it. It answers the fault, if there is one. It waits for no room, since
+// its caller may wait for room in the box of calls.
 fn send_reply<S: Drop, R: Wait>(
     rt: &R,
     callers: &mut Vec<Port<Reply<S>>, Heap>,
@@ -160,7 +161,7 @@ fn send_reply<S: Drop, R: Wait>(
     if place >= callers.len() {
         return None;
     }
-    let Ok(()) = callers[place].send(rt, reply) else {
+    let Ok(()) = callers[place].hold(rt, reply) else {
         return Some(PumpFault::CallerGone(place));
     };
     None

@@ -5,21 +5,34 @@ ghost use Rattle.rx_pump.specs.Pumps.{AreFresh, counted};
 use crate::call::Call;
 use crate::finishing::finish_all;
 use crate::handling::handle;
+use crate::heard::{Heard, SharedHeard, Telling};
 use crate::out::Out;
 use crate::pump_end::PumpEnd;
 use crate::pump_fault::PumpFault;
 use crate::pump_parts::PumpParts;
 use crate::pump_stop::PumpStop;
 use crate::reply::Reply;
-use crate::ringing::ring_all;
+use crate::ringing::{ring_all, try_ring_all};
 use crate::rooms::room;
 use crate::sending::Drainers;
-use rx_heap::Heap;
-use rx_hub::Hub;
-use rx_mailbox::{EndedPort, Gone, Inbox, Letter, Port, Post};
+use rx_heap::{Heap, Memory};
+use rx_hub::{Hub, NoObserver};
+use rx_mailbox::{EndedPort, Gone, Inbox, Letter, Port, Post, TryRecvFault};
 use rx_note::Given;
 use std::marker::Model;
 use std::sync::Wait;
+use std::time::Duration;
+
+// After so many letters what is held back goes at the latest, however many more stand in the box: so who sends without a rest
+// keeps no observer waiting. A drainer's window is 16 at most, so what it has from so many letters keeps it busy meanwhile.
+const MOST_QUIET: u32 = 64;
+
+// So many observers at most are looked for, from the latest on.
+const MOST_SEARCHED: u32 = 4096;
+
+// How long a letter is waited for while replies are held back for which their box has no room, in milliseconds: their caller
+// may take some and wait for the others.
+const MOST_WAIT: u64 = 4;
 
 /// The owner of a subject's hub: it takes the calls one by one, and sends what comes of them. It stores no letter.
 pub struct Pump<S: Drop> {
@@ -34,13 +47,18 @@ pub struct Pump<S: Drop> {
     // What the hub had counted when the pump was made.
     misses_before: u64,
     fault: Option<PumpFault>,
+    // How many letters came since all that was held back went out, from which port the last one, and whether it was a Bye.
+    quiet: u32,
+    from: u32,
+    was_bye: bool,
+    telling: Option<Telling>,
 }
 
-// It stands here, and isn't derived, so that what lets go of a pump is one call that is proved once.
+// A pump that is let go is gone for those who call it, and its drainers hear its Byes.
 impl<S: Drop> Drop for Pump<S> {
     fn drop(self) {
         let Pump {
-            parts: _,
+            parts,
             outs: _,
             ended_drainers: _,
             ended_replies: _,
@@ -48,7 +66,12 @@ impl<S: Drop> Drop for Pump<S> {
             refused: _,
             misses_before: _,
             fault: _,
+            quiet: _,
+            from: _,
+            was_bye: _,
+            telling: _,
         } = self;
+        parts.let_go();
     }
 }
 
@@ -108,7 +131,27 @@ impl<S: Drop> Pump<S> {
             refused: 0,
             misses_before,
             fault: None,
+            quiet: 0,
+            from: 0,
+            was_bye: false,
+            telling: None,
         })
+    }
+
+    /// From now on it tells when so many desks have ended and what it gave is on its way, and when nothing waits in its hub then.
+    pub fn tell(&mut self, alloc: Heap, desks: u64) -> Result<(), Memory>
+        ensures { self.new ≡ self.old }
+    {
+        self.telling = Some(Telling::of(Heard::shared(alloc)?, desks));
+        Ok(())
+    }
+
+    /// How far it is, for another thread that waits for it; none where it tells nobody.
+    pub fn heard(&self) -> Option<SharedHeard> {
+        match &self.telling {
+            Some(telling) => telling.heard(),
+            None => None,
+        }
     }
 
     /// Takes one letter, and waits while there is none: hands a call to the hub, and sends what comes of it, which may
@@ -125,12 +168,26 @@ impl<S: Drop> Pump<S> {
         ensures over { IfSome self.old.fault (λ fault. (result ≡ Err fault) × (self.new ≡ self.old)) }
     {
         let outcome = self.take_one(rt);
-        self.wake_drainers(rt);
+        self.send_held(rt);
         outcome
     }
 
-    // A turn after which some of what was sent may be held back, until the next waits for its letter.
+    // A turn after which some of what was sent may be held back, until the next waits for its letter, or some letters later.
     fn take_one<R: Wait>(&mut self, rt: &R) -> Result<(), PumpFault>
+        ensures pumped { IsPumped self.new }
+        ensures fault { MatchResult result (λ _. self.new.fault ≡ None) (λ fault. self.new.fault ≡ Some fault) }
+        ensures took { OnOk result (TakesCall self.old.inbox self.new.inbox) }
+        ensures gone { result ≡ Err PumpFault.InboxGone → self.new.inbox ≡ self.old.inbox }
+        ensures kept { KeepsPump self.old self.new }
+        ensures over { IfSome self.old.fault (λ fault. (result ≡ Err fault) × (self.new ≡ self.old)) }
+    {
+        let outcome = self.take_letter(rt);
+        self.pass_on(rt);
+        outcome
+    }
+
+    // A turn that holds back what it sends.
+    fn take_letter<R: Wait>(&mut self, rt: &R) -> Result<(), PumpFault>
         ensures pumped { IsPumped self.new }
         ensures fault { MatchResult result (λ _. self.new.fault ≡ None) (λ fault. self.new.fault ≡ Some fault) }
         ensures took { OnOk result (TakesCall self.old.inbox self.new.inbox) }
@@ -141,11 +198,19 @@ impl<S: Drop> Pump<S> {
         if let Some(fault) = self.fault {
             return Err(fault);
         }
-        let Ok(letter) = receive(rt, &mut self.parts.inbox, &mut self.parts.drainers) else {
+        let received = receive(
+            rt,
+            &mut self.parts.inbox,
+            &mut self.parts.drainers,
+            &mut self.parts.replies,
+        );
+        let Ok(letter) = received else {
             self.fault = Some(PumpFault::InboxGone);
             return Err(PumpFault::InboxGone);
         };
         let Letter { from, post } = letter;
+        self.from = from;
+        self.was_bye = matches!(post, Post::Bye);
         let call = match post {
             Post::Body(call) => call,
             Post::Bye => return Ok(()),
@@ -166,7 +231,7 @@ impl<S: Drop> Pump<S> {
         match pump.take_all(rt) {
             Ok(()) => pump.finish(rt),
             Err(fault) => {
-                pump.wake_drainers(rt);
+                pump.send_held(rt);
                 Err(pump.stop(fault))
             }
         }
@@ -189,15 +254,69 @@ impl<S: Drop> Pump<S> {
             refused: _,
             misses_before: _,
             fault: _,
+            quiet: _,
+            from: _,
+            was_bye: _,
+            telling: _,
         } = self;
         parts
     }
 
-    // Has go out what is held back for the drainers, and wakes those that sleep.
-    fn wake_drainers<R: Wait>(&mut self, rt: &R)
+    // Has go out what is held back, and wakes those that sleep. Replies wait for no room: a caller may wait for room in the box of
+    // calls.
+    fn send_held<R: Wait>(&mut self, rt: &R)
         ensures { self.new ≡ self.old }
     {
+        self.quiet = 0;
         ring_all(rt, &mut self.parts.drainers);
+        let _is_left = try_ring_all(rt, &mut self.parts.replies);
+    }
+
+    // Has go out what is held back and due behind the letter that came last: the replies to calls that came together go together, and
+    // all goes behind a Bye and after some letters. Then it tells how far it is.
+    fn pass_on<R: Wait>(&mut self, rt: &R)
+        ensures { self.new ≡ self.old }
+    {
+        self.quiet = self.quiet.saturating_add(1);
+        if self.was_bye || self.quiet >= MOST_QUIET {
+            self.send_held(rt);
+        } else {
+            self.send_replies(rt);
+        }
+        self.tell_how_far(rt);
+        self.was_bye = false;
+    }
+
+    // Has go out the replies to the caller whose call came last, unless more of its calls came with it.
+    fn send_replies<R: Wait>(&mut self, rt: &R)
+        ensures { self.new ≡ self.old }
+    {
+        let place = self.from as usize;
+        if place < self.parts.replies.len() && !self.parts.inbox.has_more_in_hand() {
+            let _is_left = self.parts.replies[place].try_ring(rt);
+        }
+    }
+
+    // Tells of the letter that came last and, once all desks have ended, whether nothing waits any more. Then nothing ever will.
+    fn tell_how_far<R: Wait>(&mut self, rt: &R)
+        ensures { self.new ≡ self.old }
+    {
+        let Some(telling) = &mut self.telling else {
+            return;
+        };
+        let have_ended = telling.hear(self.was_bye);
+        if have_ended && !self.parts.inbox.has_more_in_hand() && is_drained(&self.parts.hub) {
+            self.send_held(rt);
+            self.end_telling();
+        }
+    }
+
+    fn end_telling(&mut self)
+        ensures { self.new ≡ self.old }
+    {
+        if let Some(telling) = &self.telling {
+            telling.end();
+        }
     }
 
     // Takes letters until the Bye of each port came.
@@ -236,6 +355,10 @@ impl<S: Drop> Pump<S> {
             refused,
             misses_before: _,
             fault: _,
+            quiet: _,
+            from: _,
+            was_bye: _,
+            telling: _,
         } = self;
         if let Err(place) = finish_all(rt, &mut parts.drainers, &mut ended_drainers) {
             return Err(PumpStop {
@@ -279,6 +402,10 @@ impl<S: Drop> Pump<S> {
             refused: _,
             misses_before: _,
             fault: _,
+            quiet: _,
+            from: _,
+            was_bye: _,
+            telling: _,
         } = self;
         PumpStop {
             fault,
@@ -303,21 +430,71 @@ impl<S: Drop> Pump<S> {
     }
 }
 
-// Takes the letter that comes next, and waits while there is none. Before it waits, what is held back for the drainers goes out.
+// Takes the letter that comes next, and waits while there is none. Before it waits, what is held back goes out.
 fn receive<S: Drop, R: Wait>(
     rt: &R,
     inbox: &mut Inbox<Call<S>>,
     drainers: &mut Drainers<S>,
+    replies: &mut Vec<Port<Reply<S>>, Heap>,
 ) -> Result<Letter<Call<S>>, Gone>
     ensures received { MatchResult result (λ letter. inbox.new ≡ with_letter inbox.old letter) (λ _. inbox.new ≡ inbox.old) }
     ensures before_bye { IfOk result (λ letter. ¬ HasBye inbox.old letter.from) }
     ensures drainers { drainers.new.items ≡ drainers.old.items }
+    ensures replies { replies.new.items ≡ replies.old.items }
 {
     if let Ok(letter) = inbox.try_recv(rt) {
         return Ok(letter);
     }
     ring_all(rt, drainers);
+    if try_ring_all(rt, replies) {
+        return receive_beside(rt, inbox, replies);
+    }
     inbox.recv(rt)
+}
+
+// The same while replies are held back for which their box has no room: it looks for room now and then.
+#[inline(never)] // a caller who takes no replies is rare
+fn receive_beside<S: Drop, R: Wait>(
+    rt: &R,
+    inbox: &mut Inbox<Call<S>>,
+    replies: &mut Vec<Port<Reply<S>>, Heap>,
+) -> Result<Letter<Call<S>>, Gone>
+    ensures received { MatchResult result (λ letter. inbox.new ≡ with_letter inbox.old letter) (λ _. inbox.new ≡ inbox.old) }
+    ensures before_bye { IfOk result (λ letter. ¬ HasBye inbox.old letter.from) }
+    ensures replies { replies.new.items ≡ replies.old.items }
+{
+    for _ in rt.forever() {
+        match inbox.recv_within(rt, Duration::from_millis(MOST_WAIT)) {
+            Ok(letter) => return Ok(letter),
+            Err(TryRecvFault::Gone) => return Err(Gone),
+            Err(TryRecvFault::Empty) => {}
+        }
+        if !try_ring_all(rt, replies) {
+            return inbox.recv(rt);
+        }
+    }
+    unreachable!()
+}
+
+// Whether nothing waits for any observer, as far as it sees without a long search: of observers that are older than many others it
+// knows nothing, and says no.
+fn is_drained(hub: &Hub) -> bool {
+    let mut left = hub.observers();
+    let joins = hub.joins();
+    for back in 1..=MOST_SEARCHED {
+        if left == 0 {
+            return true;
+        }
+        if back > joins {
+            return false;
+        }
+        match hub.waiting_of(joins - back) {
+            Ok(0) => left -= 1,
+            Ok(_) => return false,
+            Err(NoObserver) => {}
+        }
+    }
+    false
 }
 
 // The count with one more, if it counts.

@@ -1,4 +1,5 @@
 use crate::call::Call;
+use crate::finishing::let_go_all;
 use crate::out::Out;
 use crate::reply::Reply;
 use rx_heap::Heap;
@@ -16,4 +17,19 @@ pub struct PumpParts<S: Drop> {
     pub drainers: Vec<Port<Out<S>>, Heap>,
     /// The replies to the calls from port p of the inbox go by the port at place p, if there is one.
     pub replies: Vec<Port<Reply<S>>, Heap>,
+}
+
+impl<S: Drop> PumpParts<S> {
+    // Lets go of all, and waits for nothing: who calls finds the inbox gone, and the drainers hear the Byes of their ports.
+    pub(crate) fn let_go(self) {
+        let PumpParts {
+            hub: _,
+            inbox,
+            drainers,
+            replies,
+        } = self;
+        drop(inbox);
+        drop(replies);
+        let_go_all(drainers);
+    }
 }

@@ -1,3 +1,5 @@
+ghost use Rattle.std.specs.Prelude.{◌≡◌};
+
 use crate::out::Out;
 use crate::pump_fault::PumpFault;
 use crate::pump_parts::PumpParts;
@@ -15,4 +17,20 @@ pub struct PumpStop<S: Drop> {
     pub ended_drainers: Vec<EndedPort<Out<S>>, Heap>,
     /// The first reply ports, which have ended, in their order.
     pub ended_replies: Vec<EndedPort<Reply<S>>, Heap>,
+}
+
+impl<S: Drop> PumpStop<S> {
+    /// Lets go of all but the fault, and waits for nothing: who calls the pump finds it gone, and the drainers hear its Byes.
+    pub fn let_go(self) -> PumpFault
+        ensures { result ≡ self.fault }
+    {
+        let PumpStop {
+            fault,
+            parts,
+            ended_drainers: _,
+            ended_replies: _,
+        } = self;
+        parts.let_go();
+        fault
+    }
 }

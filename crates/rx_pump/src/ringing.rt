@@ -13,3 +13,16 @@ pub fn ring_all<B: Drop, R: Wait>(rt: &R, ports: &mut Vec<Port<B>, Heap>)
         ports[place].ring(rt);
     }
 }
+
+/// As `ring_all`, but waits for no room. It answers whether a port still holds something back, which can go once there is room.
+pub fn try_ring_all<B: Drop, R: Wait>(rt: &R, ports: &mut Vec<Port<B>, Heap>) -> bool
+    ensures { ports.new.items ≡ ports.old.items }
+{
+    let mut is_left = false;
+    for place in 0..ports.len() {
+        if ports[place].try_ring(rt) {
+            is_left = true;
+        }
+    }
+    is_left
+}

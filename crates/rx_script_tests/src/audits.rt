@@ -133,11 +133,19 @@ fn subjects_in_the_order_of_the_configuration(rt: HostRuntime) -> Result<(), Fai
     Ok(())
 }
 
+// How many reads may be made of a script that takes two, how its audit ends, and what is written.
+const READS: [(u64, SessionEnd, &[u8]); 2] = [
+    (1, SessionEnd::TooManyReads, b""),
+    (2, SessionEnd::EndOfInput, WAITING_END_AUDIT),
+];
+
 #[test]
 fn too_many_reads_print_nothing(rt: HostRuntime) -> Result<(), Fail> {
-    let mut reader = WAITING_END;
-    let audited = audit_of(rt.alloc(), &mut reader, 1)?;
-    expect_ran(&rt, &audited, SessionEnd::TooManyReads, b"", &"one read");
+    for (max_reads, end, wanted) in &READS {
+        let mut reader = WAITING_END;
+        let audited = audit_of(rt.alloc(), &mut reader, *max_reads)?;
+        expect_ran(&rt, &audited, *end, wanted, max_reads);
+    }
     Ok(())
 }
 

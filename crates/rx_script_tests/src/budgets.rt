@@ -171,6 +171,35 @@ fn each_text_is_of_its_own_subject(rt: HostRuntime) -> Result<(), Fail> {
     Ok(())
 }
 
+// Two subjects with budgets of their own, the first of which is the larger.
+const BOTH: &[u8] =
+    b"[[subject]]\nname = \"s\"\nkind = \"publish\"\nobservers = 2\nbudget = 64000\n[[subject]]\nname = \"t\"\nkind = \"publish\"\nobservers = 2\nbudget = 32000\n";
+
+// How many items are refused that wait at the one subject, at the other, or at both.
+fn refused_at(alloc: Global, at_first: usize, at_second: usize) -> Result<usize, Fail> {
+    let mut script = Vec::new(alloc);
+    put_times(
+        &mut script,
+        b"JOIN s BUFFER DELAY 0\nJOIN t BUFFER DELAY 0\n",
+        1,
+    )?;
+    put_items(&mut script, b"PUB s ", at_first)?;
+    put_items(&mut script, b"PUB t ", at_second)?;
+    Ok(refused_in(written_for(alloc, BOTH, script.as_slice())?.as_slice()))
+}
+
+// Each subject has its own budget: beside one that is full the other takes as many items as alone, and each as many as it says.
+#[test]
+fn each_budget_is_of_its_own_subject(rt: HostRuntime) -> Result<(), Fail> {
+    let first = refused_at(rt.alloc(), ITEMS, 0)?;
+    let second = refused_at(rt.alloc(), 0, ITEMS)?;
+    let both = refused_at(rt.alloc(), ITEMS, ITEMS)?;
+    expect_that(&rt, 0 < first && first < second, &"the larger budget");
+    expect_that(&rt, second < ITEMS, &"the smaller budget");
+    expect_that(&rt, both == first.saturating_add(second), &both);
+    Ok(())
+}
+
 // A budget that does not hold the hub itself.
 const TINY: &[u8] = b"[[subject]]\nname = \"s\"\nkind = \"publish\"\nbudget = 1\n";
 

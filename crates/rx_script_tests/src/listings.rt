@@ -1,10 +1,11 @@
 //! A configuration, told: the lines of one that is accepted, and of one that is refused the key at fault.
 
 use crate::expecting::{expect_that, expect_told};
-use rx_config::{Config, read_config};
+use rx_config::{Config, ConfigError, read_config};
 use rx_heap::Heap;
 use rx_listing::{advise, config_lines};
 use std::alloc::Global;
+use std::io::Write;
 use std::process::Abort;
 use std::test::Fail;
 
@@ -61,46 +62,57 @@ fn lines_of_configurations(rt: HostRuntime) -> Result<(), Fail> {
 }
 
 // Texts that are refused, and what is told of the key.
-const REFUSED: [(&str, &str); 21] = [
+const REFUSED: [(&str, &str); 29] = [
     (
         "",
         "config has to have a subject at least, as in: [[subject]] and below it name = \"prices\" and kind = \"publish\"\n",
     ),
     (
-        "subjects = 1\n",
+        "subject = []\n",
+        "config has to have a subject at least, as in: [[subject]] and below it name = \"prices\" and kind = \"publish\"\n",
+    ),
+    (
+        "subject = 1\n",
+        "config has to have a subject at least, as in: [[subject]] and below it name = \"prices\" and kind = \"publish\"\n",
+    ),
+    (
+        "subjects = 1\n[[subject]]\nname = \"s\"\nkind = \"publish\"\n",
         "config: subjects is no key: there are subject, as in: [[subject]], and pool, as in: [pool]\n",
     ),
-    ("pool = 1\n", "pool has to be a table, as in: [pool]\n"),
     (
-        "[pool]\nthreads = 1\n",
+        "pool = 1\n[[subject]]\nname = \"s\"\nkind = \"publish\"\n",
+        "pool has to be a table, as in: [pool]\n",
+    ),
+    (
+        "[[subject]]\nname = \"s\"\nkind = \"publish\"\n[pool]\nthreads = 1\n",
         "pool: threads is no key: a pool has drainers, workers, window, connections, stall, idle and takeover\n",
     ),
     (
-        "[pool]\ndrainers = 9\n",
+        "[[subject]]\nname = \"s\"\nkind = \"publish\"\n[pool]\ndrainers = 9\n",
         "pool: drainers is wrong: a number from 1 to 8, as in: drainers = 1\n",
     ),
     (
-        "[pool]\nworkers = 0\n",
+        "[[subject]]\nname = \"s\"\nkind = \"publish\"\n[pool]\nworkers = 0\n",
         "pool: workers is wrong: a number from 1 to 32, as in: workers = 4\n",
     ),
     (
-        "[pool]\nwindow = \"1\"\n",
+        "[[subject]]\nname = \"s\"\nkind = \"publish\"\n[pool]\nwindow = \"1\"\n",
         "pool: window is wrong: a number from 1 to 16, as in: window = 16\n",
     ),
     (
-        "[pool]\nconnections = 0\n",
+        "[[subject]]\nname = \"s\"\nkind = \"publish\"\n[pool]\nconnections = 0\n",
         "pool: connections is wrong: a number from 1 to 4294967295, as in: connections = 1000\n",
     ),
     (
-        "[pool]\nstall = 3601\n",
+        "[[subject]]\nname = \"s\"\nkind = \"publish\"\n[pool]\nstall = 3601\n",
         "pool: stall is wrong: seconds from 1 to 3600, as in: stall = 60\n",
     ),
     (
-        "[pool]\nidle = 86401\n",
+        "[[subject]]\nname = \"s\"\nkind = \"publish\"\n[pool]\nidle = 86401\n",
         "pool: idle is wrong: seconds from 1 to 86400, as in: idle = 600\n",
     ),
     (
-        "[pool]\ntakeover = 1\n",
+        "[[subject]]\nname = \"s\"\nkind = \"publish\"\n[pool]\ntakeover = 1\n",
         "pool: takeover is wrong: true or false, as in: takeover = true\n",
     ),
     (
@@ -143,11 +155,146 @@ const REFUSED: [(&str, &str); 21] = [
         "[[subject]]\nname = \"s\"\nkind = \"async\"\n[[subject]]\nname = \"s\"\nkind = \"publish\"\n",
         "subject 1: name is wrong: no other subject may have it\n",
     ),
+    // All that is wrong, in its order; of keys that are none in that of their bytes.
+    (
+        "extra = 1\n\"\\u001b[2J\\n\" = 1\n[pool]\ndrainers = 9\nthreads = 1\nwindow = 0\n[[subject]]\nname = \"s\"\nkind = \"publish\"\nage = 5\nseed = \"z\"\n[[subject]]\nname = \"s\"\nlimit = 100\n",
+        "config: \\x1b[2J\\x0a is no key: there are subject, as in: [[subject]], and pool, as in: [pool]\nconfig: extra is no key: there are subject, as in: [[subject]], and pool, as in: [pool]\npool: drainers is wrong: a number from 1 to 8, as in: drainers = 1\npool: window is wrong: a number from 1 to 16, as in: window = 16\npool: threads is no key: a pool has drainers, workers, window, connections, stall, idle and takeover\nsubject 0: seed is wrong: with kind = \"behavior\" alone, up to 1024 bytes without a line feed, as in: seed = \"none yet\"\nsubject 0: age is wrong: with kind = \"replay\" alone, milliseconds from 1 to 9223372036854775807, as in: age = 60000\nsubject 1: kind is missing: \"publish\", \"behavior\", \"async\" or \"replay\", as in: kind = \"publish\"\nsubject 1: limit is no key: a subject has name, kind, observers, joins, items and budget, a behavior also seed, a replay also count and age\nsubject 1: name is wrong: no other subject may have it\n",
+    ),
+    // Of a name that stands twice the later, wherever the first stands.
+    (
+        "subject = [{ name = \"s\", kind = \"async\" }, { name = \"t\", kind = \"async\" }, { name = \"t\", kind = \"async\" }]\n",
+        "subject 2: name is wrong: no other subject may have it\n",
+    ),
+    // The control characters of a key are those of ASCII and those above, by which a terminal is steered too.
+    (
+        "\"\\u007f\\u009b\" = 1\n[[subject]]\nname = \"s\"\nkind = \"publish\"\n",
+        "config: \\x7f\\x9b is no key: there are subject, as in: [[subject]], and pool, as in: [pool]\n",
+    ),
+    // A value of another type.
+    (
+        "[[subject]]\nname = 1\nkind = \"behavior\"\nobservers = true\nseed = 1\n",
+        "subject 0: name is wrong: 1 to 32 letters a to z, digits and hyphens, as in: name = \"prices\"\nsubject 0: observers is wrong: a number from 1 to 64, as in: observers = 64\nsubject 0: seed is wrong: with kind = \"behavior\" alone, up to 1024 bytes without a line feed, as in: seed = \"none yet\"\n",
+    ),
+    (
+        "[[subject]]\nname = \"s\"\nkind = \"behavior\"\nseed = \"a\\nb\"\n",
+        "subject 0: seed is wrong: with kind = \"behavior\" alone, up to 1024 bytes without a line feed, as in: seed = \"none yet\"\n",
+    ),
+    // Two that have no name have not the same.
+    (
+        "subject = [{ kind = \"async\" }, { kind = \"async\" }]\n",
+        "subject 0: name is missing: 1 to 32 letters a to z, digits and hyphens, as in: name = \"prices\"\nsubject 1: name is missing: 1 to 32 letters a to z, digits and hyphens, as in: name = \"prices\"\n",
+    ),
 ];
 
 #[test]
 fn keys_at_fault(rt: HostRuntime) -> Result<(), Fail> {
     expect_each(&rt, rt.alloc(), REFUSED.as_slice())
+}
+
+// Each key at its least value, and at its greatest; beside them one that is none.
+const LEAST: &str =
+    "[pool]\ndrainers = 1\nworkers = 1\nwindow = 1\nconnections = 1\nstall = 1\nidle = 1\ntakeover = false\n[[subject]]\nname = \"s\"\nkind = \"replay\"\nobservers = 1\njoins = 1\nitems = 1\nbudget = 1\ncount = 1\nage = 1\n[[subject]]\nname = \"b\"\nkind = \"behavior\"\nseed = \"\"\nlimit = 1\n";
+
+const GREATEST: &str =
+    "[pool]\ndrainers = 8\nworkers = 32\nwindow = 16\nconnections = 4294967295\nstall = 3600\nidle = 86400\ntakeover = true\n[[subject]]\nname = \"abcdefghijklmnopqrstuvwxyz012345\"\nkind = \"replay\"\nobservers = 64\njoins = 4294967295\nitems = 4294967295\nbudget = 281474976710656\ncount = 4096\nage = 9223372036854775807\n[[subject]]\nname = \"b\"\nkind = \"behavior\"\nlimit = 1\n";
+
+const NO_KEY: &str =
+    "subject 1: limit is no key: a subject has name, kind, observers, joins, items and budget, a behavior also seed, a replay also count and age\n";
+
+// Each number one below its least value, and one above its greatest; no number is above the greatest age.
+const BELOW: &str =
+    "[pool]\ndrainers = 0\nworkers = 0\nwindow = 0\nconnections = 0\nstall = 0\nidle = 0\n[[subject]]\nname = \"s\"\nkind = \"replay\"\nobservers = 0\njoins = 0\nitems = 0\nbudget = 0\ncount = 0\nage = 0\n";
+
+const ABOVE: &str =
+    "[pool]\ndrainers = 9\nworkers = 33\nwindow = 17\nconnections = 4294967296\nstall = 3601\nidle = 86401\n[[subject]]\nname = \"s\"\nkind = \"replay\"\nobservers = 65\njoins = 4294967296\nitems = 4294967296\nbudget = 281474976710657\ncount = 4097\nage = 0\n";
+
+const EACH_WRONG: &str =
+    "pool: drainers is wrong: a number from 1 to 8, as in: drainers = 1\npool: workers is wrong: a number from 1 to 32, as in: workers = 4\npool: window is wrong: a number from 1 to 16, as in: window = 16\npool: connections is wrong: a number from 1 to 4294967295, as in: connections = 1000\npool: stall is wrong: seconds from 1 to 3600, as in: stall = 60\npool: idle is wrong: seconds from 1 to 86400, as in: idle = 600\nsubject 0: observers is wrong: a number from 1 to 64, as in: observers = 64\nsubject 0: joins is wrong: a number from 1 to 4294967295, as in: joins = 1000\nsubject 0: items is wrong: a number from 1 to 4294967295, as in: items = 1000000\nsubject 0: budget is wrong: bytes from 1 to 281474976710656, as in: budget = 64000000\nsubject 0: count is wrong: with kind = \"replay\" alone, a number from 1 to 4096, as in: count = 16\nsubject 0: age is wrong: with kind = \"replay\" alone, milliseconds from 1 to 9223372036854775807, as in: age = 60000\n";
+
+#[test]
+fn advice_at_the_edges(rt: HostRuntime) -> Result<(), Fail> {
+    let rows = [
+        (LEAST, NO_KEY),
+        (GREATEST, NO_KEY),
+        (BELOW, EACH_WRONG),
+        (ABOVE, EACH_WRONG),
+    ];
+    expect_each(&rt, rt.alloc(), rows.as_slice())
+}
+
+// What is told of a Behavior with a seed of so many bytes, and a key that is none.
+fn told_of_seed(alloc: Global, len: usize) -> Result<Vec<u8>, Fail> {
+    let mut text = Vec::new(alloc);
+    text.extend_from_slice(
+        b"[[subject]]\nname = \"s\"\nkind = \"behavior\"\nlimit = 1\nseed = \"",
+    )?;
+    for _ in 0..len {
+        text.push(b'z')?;
+    }
+    text.extend_from_slice(b"\"\n")?;
+    advice_on(alloc, text.as_slice(), ConfigError::BadSubject(0))
+}
+
+// What is told of bytes that are refused by this cause.
+fn advice_on(alloc: Global, bytes: &[u8], cause: ConfigError) -> Result<Vec<u8>, Fail> {
+    let mut told = Vec::new(alloc);
+    advise(alloc, bytes, cause, &mut told)?;
+    Ok(told)
+}
+
+#[test]
+fn advice_on_seeds_at_their_edge(rt: HostRuntime) -> Result<(), Fail> {
+    for (len, is_wrong) in &[(1_024, false), (1_025, true)] {
+        let told = told_of_seed(rt.alloc(), *len)?;
+        let starts = told.starts_with(b"subject 0: seed is wrong".as_slice());
+        expect_that(&rt, starts == *is_wrong, len);
+        let ends = told.ends_with(
+            b"a behavior also seed, a replay also count and age\n".as_slice(),
+        );
+        expect_that(&rt, ends, len);
+    }
+    Ok(())
+}
+
+// Puts so many subjects of a kind that is none, each with a name of its own.
+fn put_subjects(text: &mut Vec<u8>, count: usize) -> Result<(), Fail> {
+    for index in 0..count {
+        write!(text, "[[subject]]\nname = \"s{index}\"\nkind = \"hot\"\n")?;
+    }
+    Ok(())
+}
+
+// Puts what is told of the first of them.
+fn put_wrong_kinds(told: &mut Vec<u8>, count: usize) -> Result<(), Fail> {
+    for index in 0..count {
+        write!(
+            told,
+            "subject {index}: kind is wrong: \"publish\", \"behavior\", \"async\" or \"replay\", as in: kind = \"publish\"\n"
+        )?;
+    }
+    Ok(())
+}
+
+// Of more than sixteen subjects the first sixteen are looked at.
+#[test]
+fn advice_on_sixteen_subjects(rt: HostRuntime) -> Result<(), Fail> {
+    let mut wanted = Vec::new(rt.alloc());
+    put_wrong_kinds(&mut wanted, 16)?;
+    for count in [16, 17] {
+        let mut text = Vec::new(rt.alloc());
+        put_subjects(&mut text, count)?;
+        let told = advice_on(rt.alloc(), text.as_slice(), ConfigError::TooManySubjects)?;
+        expect_told(&rt, told.as_slice(), wanted.as_slice(), &count);
+    }
+    Ok(())
+}
+
+// Where there was no memory there is nothing to say, whatever else is wrong.
+#[test]
+fn no_advice_without_memory(rt: HostRuntime) -> Result<(), Fail> {
+    let told = advice_on(rt.alloc(), b"[pool]\nthreads = 1\n", ConfigError::Memory)?;
+    expect_told(&rt, told.as_slice(), b"", &"no memory");
+    Ok(())
 }
 
 #[test]

@@ -116,6 +116,44 @@ fn worked_runs(rt: HostRuntime) -> Result<(), Fail> {
     Ok(())
 }
 
+// Puts so many letters behind what there is, between a front and a back.
+fn put_letters(
+    bytes: &mut Vec<u8>,
+    front: &[u8],
+    letters: usize,
+    back: &[u8],
+) -> Result<(), Memory> {
+    bytes.extend_from_slice(front)?;
+    for _ in 0..letters {
+        bytes.push(b'x')?;
+    }
+    bytes.extend_from_slice(back)?;
+    Ok(())
+}
+
+// A text of the most bytes, and of one more; one of none, and none; a CR before the LF, and a last line without its LF.
+#[test]
+fn text_limits_on_the_line(rt: HostRuntime) -> Result<(), Fail> {
+    let mut script = Vec::new(rt.alloc());
+    put_letters(&mut script, b"JOIN s BUFFER DELAY 9\nPUB s ", 1_024, b"\n")?;
+    put_letters(&mut script, b"PUB s ", 1_025, b"\n")?;
+    script.extend_from_slice(b"PUB s \nPUB s\nPUB s a\r\nPUB s b")?;
+    let mut answers = Vec::new(rt.alloc());
+    put_letters(&mut answers, b"OK 0\nOK\ns 0 NEXT ", 1_024, b"\nERR LONG\n")?;
+    answers.extend_from_slice(b"OK\ns 0 NEXT \nERR SYNTAX\nOK\ns 0 NEXT a\n")?;
+    let mut reader = script.as_slice();
+    let ran = run_of(rt.alloc(), &mut reader, MAX_READS)?;
+    let end = SessionEnd::EndOfInput;
+    expect_ran(
+        &rt,
+        &ran,
+        end,
+        answers.as_slice(),
+        &"text_limits_on_the_line",
+    );
+    Ok(())
+}
+
 /// Gives a script a few bytes at a time, and fails as told.
 #[derive(Drop)]
 struct Drips {

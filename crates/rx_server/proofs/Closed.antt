@@ -9,7 +9,9 @@ use Rattle.rx_pump.specs.Pumps.{PumpView}
 use Rattle.rx_pump.specs.Sends.{with_bye}
 use Rattle.rx_pump.specs.Serving as pump_serving
 use Rattle.rx_sink.specs.Acts.{Acts}
+use Rattle.rx_sink.specs.Rests.{RestsView}
 use Rattle.rx_drain.specs.declared.drain_end.DrainEnd.{DrainEnd}
+use Rattle.rx_drain.specs.Drainers.{DrainerView}
 use Rattle.rx_drain.specs.Serving as drainer_serving
 use Rattle.rx_server.specs.declared.close_fault.CloseFault.{CloseFault}
 use Rattle.rx_server.specs.declared.report.Report.{Report}
@@ -36,6 +38,14 @@ module _ {S Rest : Type 0} (acts : Acts S Rest) (server : ServerView S Rest) (wh
   all-own : All (IsEndOf server.made) finished → All (IsEndOf server.made) all_desks
   all-own own = All-append (IsEndOf server.made) ended (server.kept ++ finished) handed (All-append (IsEndOf server.made) server.kept finished whole.ended own)
 
+  -- what the sinks of a drainer left is kept if it keeps that
+  lists-keep : (drainers : List (DrainerView S Rest)) (ends : List (DrainEnd S Rest)) → AllZip (drainer_serving.HasDrained acts) drainers ends
+      → AllZip (λ (drainer : DrainerView S Rest) (list : RestsView Rest). list.keeps ≡ drainer.keeps) drainers (map (λ (end : DrainEnd S Rest). end.put_away) ends)
+  lists-keep [] [] all = tt
+  lists-keep [] (end ∷ ends) all = absurd all
+  lists-keep (drainer ∷ drainers) [] all = absurd all
+  lists-keep (drainer ∷ drainers) (end ∷ ends) all = (all.0.1.places.keeps, lists-keep drainers ends all.1)
+
   -- all boxes settled, or one did not
   pub settled-or-not : (r : Result (Report S Rest) CloseFault) (desks : ℕ) → All (IsEndOf server.made) finished → desks ≡ length whole.wiring.replies
       → IfOk r (λ report. HaveSettled report.boxes (map with_bye server.leaves) all_desks pump_ends drain_ends)
@@ -57,6 +67,7 @@ module _ {S Rest : Type 0} (acts : Acts S Rest) (server : ServerView S Rest) (wh
         each_desk = came-each acts server whole pump_ends drain_ends all_desks pumped drained (all-own own) report.boxes.subjects.items of_made;
         settled = settled;
         reports = reports;
+        keeps = subst (AllZip (λ (drainer : DrainerView S Rest) (list : RestsView Rest). list.keeps ≡ drainer.keeps) server.drainers) (sym reports.put_away) (lists-keep server.drainers drain_ends drained);
       }
   settled-or-not (Err fault) desks own k settled so reports why =
       let of_made = subst (λ n. Unsettles n (map with_bye server.leaves) all_desks pump_ends drain_ends fault) (k ∙ sym (desks-many acts server whole)) why in

@@ -1,5 +1,5 @@
 -- Where the boxes of a server settle, each desk came back once; and where one does not, a desk is wanting or a Bye.
-use Rattle.std.proofs.Common.{◌≡◌, ◌==◌, ◌∙◌, sym, refl, ap, subst, ℕ, zero, suc, ◌⊎◌, ◌+◌, ◌<◌, ◌≤◌, List, [], ◌∷◌, ◌++◌, length, map, slice_get, Some, inl, inr, ⊎_elim, arith}
+use Rattle.std.proofs.Common.{◌≡◌, ◌==◌, ◌∙◌, sym, refl, ap, subst, ℕ, Bool, zero, suc, ◌⊎◌, ◌+◌, ◌<◌, ◌≤◌, List, [], ◌∷◌, ◌++◌, length, map, slice_get, Some, inl, inr, ⊎_elim, arith}
 use Rattle.std.specs.Option.{option_map}
 use Rattle.std.proofs.lemmas.List.{length-map}
 use Rattle.std.proofs.lemmas.List.Elements.{All-cons, All-contains, All-head, All-map, All-nil, All-same, All-tail, All-weaker}
@@ -78,9 +78,9 @@ module _ {S : Type 0} (w : Wiring S) where
         desk-rows some desks (All-tail (HasItsBoxes w) desk desks have),
       )
 
-module _ {S Rest : Type 0} (acts : Acts S Rest) (w : Wiring S) where
+module _ {S Rest : Type 0} (acts : Acts S Rest) (w : Wiring S) (keeps : Bool) where
   -- and drainers, of the numbers behind those of the desks
-  drainer-rows : (k from : ℕ) (boxes : List (Box (Out S))) (ends : List (DrainEnd S Rest)) → length w.replies + k ≡ from → AllZip (drainer_serving.HasDrained acts) (map (drainer_of w) (enumerate_from k boxes)) ends
+  drainer-rows : (k from : ℕ) (boxes : List (Box (Out S))) (ends : List (DrainEnd S Rest)) → length w.replies + k ≡ from → AllZip (drainer_serving.HasDrained acts) (map (drainer_of w keeps) (enumerate_from k boxes)) ends
       → AllZip (IsRow (length w.subjects)) (range_with_len from (length boxes)) (map (λ end. end.ports.items) ends)
   drainer-rows k from [] [] is all = tt
   drainer-rows k from [] (end ∷ ends) is all = absurd all
@@ -90,7 +90,7 @@ module _ {S Rest : Type 0} (acts : Acts S Rest) (w : Wiring S) where
     drainer-rows (k + 1) (from + 1) boxes ends (omega (arith, is)) all.1,
   )
 
-  drainer-inboxes : (k : ℕ) (boxes : List (Box (Out S))) (ends : List (DrainEnd S Rest)) → AllZip (drainer_serving.HasDrained acts) (map (drainer_of w) (enumerate_from k boxes)) ends
+  drainer-inboxes : (k : ℕ) (boxes : List (Box (Out S))) (ends : List (DrainEnd S Rest)) → AllZip (drainer_serving.HasDrained acts) (map (drainer_of w keeps) (enumerate_from k boxes)) ends
       → All (λ inbox. HasEachBye inbox × (inbox.ports ≡ length w.subjects + 1)) (map (λ end. end.inbox) ends)
   drainer-inboxes k [] [] all = All-nil (λ inbox. HasEachBye inbox × (inbox.ports ≡ length w.subjects + 1))
   drainer-inboxes k [] (end ∷ ends) all = absurd all
@@ -136,7 +136,7 @@ module _ {S Rest : Type 0} (acts : Acts S Rest) (server : ServerView S Rest) (wh
   pumps-wired : AllZip pump_serving.HasPumped (map (pump_of w) (enumerate_from 0 (zip whole.hubs w.subjects))) pump_ends
   pumps-wired = subst (λ (l : List (PumpView S)). AllZip pump_serving.HasPumped l pump_ends) whole.wired.pumps_are pumped
 
-  drainers-wired : AllZip (drainer_serving.HasDrained acts) (map (drainer_of w) (enumerate_from 0 w.drainers)) drain_ends
+  drainers-wired : AllZip (drainer_serving.HasDrained acts) (map (drainer_of w whole.keeps) (enumerate_from 0 w.drainers)) drain_ends
   drainers-wired = subst (λ (l : List (DrainerView S Rest)). AllZip (drainer_serving.HasDrained acts) l drain_ends) whole.wired.drainers_are drained
 
   -- there are as many as boxes
@@ -181,7 +181,7 @@ module _ {S Rest : Type 0} (acts : Acts S Rest) (server : ServerView S Rest) (wh
         let none = numbers-same [] start.subjects.items first (with_inboxes-ports pump_inboxes start.subjects.items) (none-yet (length server.made + length drain_ends) start.subjects.items nothing.subjects_empty) in
         let zeroth : length w.replies + 0 ≡ length w.replies = omega arith in
         let by_drainers = numbers-dealt_each (length w.subjects) [] (range_with_len (length w.replies) (length w.drainers)) calls_of_drainers first with_inboxes-many
-        (drainer-rows acts w 0 (length w.replies) w.drainers drain_ends zeroth drainers-wired) none in
+        (drainer-rows acts w whole.keeps 0 (length w.replies) w.drainers drain_ends zeroth drainers-wired) none in
         let by_desks = numbers-dealt_each (length w.subjects) (range_with_len (length w.replies) (length w.drainers)) (map number desks) calls_of_desks (dealt_each calls_of_drainers first)
         (dealt_each-count calls_of_drainers first ∙ with_inboxes-many) (desk-rows w some desks has-boxes) by_drainers in
         subst (HaveNumbers call_numbers) (sym came.subjects_are) by_desks
@@ -273,7 +273,7 @@ module _ {S Rest : Type 0} (acts : Acts S Rest) (server : ServerView S Rest) (wh
     outs-settle : (settled : List (SettledView (Out S))) (place : ℕ) → ¬ FirstUnsettled outs settled place
     outs-settle =
         let zeroth : length w.subjects ≡ 0 + length w.subjects = omega arith in
-        each-settles (length w.subjects + 1) out_numbers outs drainer_inboxes outs-inboxes (drainer-inboxes acts w 0 w.drainers drain_ends drainers-wired) outs-numbers
+        each-settles (length w.subjects + 1) out_numbers outs drainer_inboxes outs-inboxes (drainer-inboxes acts w whole.keeps 0 w.drainers drain_ends drainers-wired) outs-numbers
         (each-both 0 (length w.subjects) 1 (range_with_len 0 (length w.subjects)) (length w.subjects ∷ []) (each-range 0 (length w.subjects))
         (subst (λ n. AreEach n 1 (length w.subjects ∷ [])) zeroth (each-one (length w.subjects))))
 

@@ -1,5 +1,5 @@
 -- What all parts of a server left, once its threads have ended well.
-use Rattle.std.proofs.Common.{◌≡◌, ◌∙◌, sym, refl, ap, subst, ℕ, ◌+◌, List, [], ◌∷◌, ◌++◌, length, map, Vec, vec_capacity, arith}
+use Rattle.std.proofs.Common.{◌≡◌, ◌∙◌, sym, refl, ap, subst, ℕ, Bool, ◌+◌, List, [], ◌∷◌, ◌++◌, length, map, Vec, vec_capacity, arith}
 use Rattle.std.proofs.lemmas.List.Elements.{All-append, All-cons, All-head, All-nil, All-tail, All-weaker}
 use Rattle.std.proofs.lemmas.Slice.Zip.{AllZip-long}
 use Rattle.std.specs.List.{All, AllZip, enumerate_from, zip}
@@ -80,14 +80,14 @@ module _ {S : Type 0} (w : Wiring S) where
   pumps-inboxes k (hub ∷ hubs) [] count = absurd (omega arith)
   pumps-inboxes k (hub ∷ hubs) (box ∷ boxes) count = ap (λ (l : List (Box (Call S))). box ∷ l) (pumps-inboxes (k + 1) hubs boxes (omega arith))
 
-module _ {S : Type 0} (Rest : Type 0) (w : Wiring S) where
-  drainers-rows : (k : ℕ) (boxes : List (Box (Out S))) → All (λ drainer. AreRow w.subjects drainer.ports) (map (drainer_of {Rest = Rest} w) (enumerate_from k boxes))
+module _ {S : Type 0} (Rest : Type 0) (w : Wiring S) (keeps : Bool) where
+  drainers-rows : (k : ℕ) (boxes : List (Box (Out S))) → All (λ drainer. AreRow w.subjects drainer.ports) (map (drainer_of {Rest = Rest} w keeps) (enumerate_from k boxes))
   drainers-rows k [] = All-nil (λ (drainer : DrainerView S Rest). AreRow w.subjects drainer.ports)
   drainers-rows k (box ∷ boxes) =
-      All-cons (λ (drainer : DrainerView S Rest). AreRow w.subjects drainer.ports) (drainer_of w (k, box)) (map (drainer_of w) (enumerate_from (k + 1) boxes))
+      All-cons (λ (drainer : DrainerView S Rest). AreRow w.subjects drainer.ports) (drainer_of w keeps (k, box)) (map (drainer_of w keeps) (enumerate_from (k + 1) boxes))
       (row-new (length w.replies + k) w.subjects) (drainers-rows (k + 1) boxes)
 
-  drainers-inboxes : (k : ℕ) (boxes : List (Box (Out S))) → map (λ (drainer : DrainerView S Rest). drainer.inbox.box) (map (drainer_of {Rest = Rest} w) (enumerate_from k boxes)) ≡ boxes
+  drainers-inboxes : (k : ℕ) (boxes : List (Box (Out S))) → map (λ (drainer : DrainerView S Rest). drainer.inbox.box) (map (drainer_of {Rest = Rest} w keeps) (enumerate_from k boxes)) ≡ boxes
   drainers-inboxes k [] = refl
   drainers-inboxes k (box ∷ boxes) = ap (λ (l : List (Box (Out S))). box ∷ l) (drainers-inboxes (k + 1) boxes)
 
@@ -102,7 +102,7 @@ module _ {S Rest : Type 0} (acts : Acts S Rest) (server : ServerView S Rest) (wh
       ∙ zip-count whole.hubs whole.wiring.subjects hubs
 
   pub drainers-many : length server.drainers ≡ length whole.wiring.drainers
-  drainers-many = made-count {D = DrainerView S Rest} (drainer_of whole.wiring) whole.wiring.drainers server.drainers whole.wired.drainers_are
+  drainers-many = made-count {D = DrainerView S Rest} (drainer_of whole.wiring whole.keeps) whole.wiring.drainers server.drainers whole.wired.drainers_are
 
   pub desks-many : length server.made ≡ length whole.wiring.replies
   desks-many = ap length whole.wired.desks_are ∙ made-count _ whole.wiring.replies (desks_of whole.wiring) refl
@@ -116,7 +116,7 @@ module _ {S Rest : Type 0} (acts : Acts S Rest) (server : ServerView S Rest) (wh
       let w = whole.wiring in
       let hubs = hubs-count server.config.subjects.items whole.hubs whole.wired.hubs_are ∙ sym whole.wired.boxes.subjects in
       let rows = subst (All (HasRows w)) (sym whole.wired.pumps_are) (pumps-rows w 0 (zip whole.hubs w.subjects)) in
-      let drainer_rows = subst (All (λ (drainer : DrainerView S Rest). AreRow w.subjects drainer.ports)) (sym whole.wired.drainers_are) (drainers-rows Rest w 0 w.drainers) in
+      let drainer_rows = subst (All (λ (drainer : DrainerView S Rest). AreRow w.subjects drainer.ports)) (sym whole.wired.drainers_are) (drainers-rows Rest w whole.keeps 0 w.drainers) in
       let pump_count = AllZip-long pump_serving.HasPumped server.pumps left.pumps.items pumped in
       let drainer_count = AllZip-long (drainer_serving.HasDrained acts) server.drainers left.drainers.items drained in
       let subject_room = ap (λ (list : Vec _ _). vec_capacity list) subjects in
@@ -134,7 +134,7 @@ module _ {S Rest : Type 0} (acts : Acts S Rest) (server : ServerView S Rest) (wh
             (λ pump end serves has. row-same w.replies pump.replies end.replies.items serves.1.callers has.answers) pumped rows;
         drainers =
             zip-same (drainer_serving.HasDrained acts) (λ drainer. drainer.inbox.box) (λ end. end.inbox.box) server.drainers left.drainers.items (λ drainer end serves. serves.1.places.box) drained
-            ∙ ap (map (λ (drainer : DrainerView S Rest). drainer.inbox.box)) whole.wired.drainers_are ∙ drainers-inboxes Rest w 0 w.drainers;
+            ∙ ap (map (λ (drainer : DrainerView S Rest). drainer.inbox.box)) whole.wired.drainers_are ∙ drainers-inboxes Rest w whole.keeps 0 w.drainers;
         drainers_done = zip-all (drainer_serving.HasDrained acts) (λ drainer. AreRow w.subjects drainer.ports) (λ end. HasEachBye end.inbox) server.drainers left.drainers.items
             (λ drainer end serves has. serves.1.each_bye) drained drainer_rows;
         to_subjects = zip-all (drainer_serving.HasDrained acts) (λ drainer. AreRow w.subjects drainer.ports) (λ end. AreRow w.subjects end.ports.items) server.drainers left.drainers.items

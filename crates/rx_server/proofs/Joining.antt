@@ -1,8 +1,8 @@
 -- The parts of a server are those of its wiring.
-use Rattle.std.proofs.Common.{◌≡◌, ◌∙◌, sym, refl, ap, subst, ℕ, suc, ◌+◌, ◌-◌, ◌<◌, ◌≤◌, max, List, [], ◌∷◌, ◌++◌, get_or, length, map, take, true, arith}
+use Rattle.std.proofs.Common.{◌≡◌, ◌∙◌, sym, refl, ap, subst, ℕ, Bool, suc, ◌+◌, ◌-◌, ◌<◌, ◌≤◌, max, List, [], ◌∷◌, ◌++◌, get_or, length, map, take, true, arith}
 use Rattle.std.proofs.lemmas.Bool.Decides.{nat_tests}
 use Rattle.std.proofs.lemmas.List.{length-map, map_more}
-use Rattle.std.proofs.lemmas.List.Elements.{All-map, All-same}
+use Rattle.std.proofs.lemmas.List.Elements.{All-cons, All-map, All-nil, All-same}
 use Rattle.std.proofs.lemmas.List.FromFn.{length-enumerate_from}
 use Rattle.std.specs.List.{All, enumerate_from, zip}
 use Rattle.std.specs.Ordering.{nat_cmp, ord_max}
@@ -97,18 +97,18 @@ module _ {S : Type 0} where
 
 module _ {S Rest : Type 0} where
   -- the drainers, whose ports to subjects come behind those of the desks
-  pub drainers-wired : (w : Wiring S) (senders a done : ℕ) (inboxes : List (Incoming (Out S))) (subjects left : List (RowView (Call S))) (drainers : List (DrainerView S Rest))
+  pub drainers-wired : (w : Wiring S) (senders a done : ℕ) (inboxes : List (Incoming (Out S))) (subjects left : List (RowView (Call S))) (drainers : List (DrainerView S Rest)) (keeps : Bool)
       → senders ≡ length w.subjects + 1 → done ≡ length w.replies → inboxes ≡ map (λ box. incoming box senders []) w.drainers
       → subjects ≡ map (whole_row a) w.subjects → left ≡ map (behind done) subjects
-      → drainers ≡ map (λ x. fresh_drainer x.1 (row_ports x.0 left)) (enumerate_from 0 inboxes)
-      → drainers ≡ drainers_of w
-  drainers-wired w senders a done inboxes subjects left drainers count desks inboxes_are subjects_are left_is are =
-      let F : ℕ × Incoming (Out S) → DrainerView S Rest = λ (x : ℕ × Incoming (Out S)). fresh_drainer x.1 (row_ports x.0 left) in
+      → drainers ≡ map (λ x. fresh_drainer keeps x.1 (row_ports x.0 left)) (enumerate_from 0 inboxes)
+      → drainers ≡ drainers_of w keeps
+  drainers-wired w senders a done inboxes subjects left drainers keeps count desks inboxes_are subjects_are left_is are =
+      let F : ℕ × Incoming (Out S) → DrainerView S Rest = λ (x : ℕ × Incoming (Out S)). fresh_drainer keeps x.1 (row_ports x.0 left) in
       let inbox = λ (box : Box (Out S)). incoming box senders [] in
       are ∙ ap (λ (l : List (Incoming (Out S))). map F (enumerate_from 0 l)) inboxes_are
-      ∙ numbered F (drainer_of w) inbox (λ n box.
-      ap (λ (k : ℕ). fresh_drainer {S = S} {Rest = Rest} (incoming box k []) (row_ports n left)) count
-      ∙ ap (λ (ports : List (Outgoing (Call S))). fresh_drainer {S = S} {Rest = Rest} (incoming box (length w.subjects + 1) []) ports)
+      ∙ numbered F (drainer_of w keeps) inbox (λ n box.
+      ap (λ (k : ℕ). fresh_drainer {S = S} {Rest = Rest} keeps (incoming box k []) (row_ports n left)) count
+      ∙ ap (λ (ports : List (Outgoing (Call S))). fresh_drainer {S = S} {Rest = Rest} keeps (incoming box (length w.subjects + 1) []) ports)
       (ap (row_ports n) (left_is ∙ ap (map (behind done)) subjects_are) ∙ row-behind done n a w.subjects
       ∙ ap (λ (k : ℕ). ports_at (k + n) w.subjects) desks)) 0 w.drainers
 
@@ -231,12 +231,20 @@ pub mapped-count : {X Y : Type 0} (f : X → Y) (xs : List X) (ys : List Y) → 
 mapped-count f xs ys are = sym (length-map xs f) ∙ ap length are
 
 module _ {S Rest : Type 0} where
+  -- each drainer keeps what its sinks leave as it is told
+  pub drainers-keep : (w : Wiring S) (keeps : Bool) (k : ℕ) (boxes : List (Box (Out S)))
+      → All (λ (drainer : DrainerView S Rest). drainer.keeps ≡ keeps) (map (drainer_of w keeps) (enumerate_from k boxes))
+  drainers-keep w keeps k [] = All-nil (λ (drainer : DrainerView S Rest). drainer.keeps ≡ keeps)
+  drainers-keep w keeps k (box ∷ boxes) =
+      All-cons (λ (drainer : DrainerView S Rest). drainer.keeps ≡ keeps) (drainer_of w keeps (k, box)) (map (drainer_of w keeps) (enumerate_from (k + 1) boxes)) refl
+      (drainers-keep w keeps (k + 1) boxes)
+
   -- there is a port for each drainer, by which it is told to leave
-  pub leaves-fit : (w : Wiring S) (leaves : List (Outgoing (Out S))) (drainers : List (DrainerView S Rest))
-      → leaves ≡ leave_ports w → drainers ≡ drainers_of w → length leaves ≡ length drainers
-  leaves-fit w leaves drainers leaves_are drainers_are =
+  pub leaves-fit : (w : Wiring S) (keeps : Bool) (leaves : List (Outgoing (Out S))) (drainers : List (DrainerView S Rest))
+      → leaves ≡ leave_ports w → drainers ≡ drainers_of w keeps → length leaves ≡ length drainers
+  leaves-fit w keeps leaves drainers leaves_are drainers_are =
       ap length leaves_are ∙ length-map w.drainers (λ box. outgoing box (length w.subjects) [])
-      ∙ sym (made-count {D = DrainerView S Rest} (drainer_of w) w.drainers drainers drainers_are)
+      ∙ sym (made-count {D = DrainerView S Rest} (drainer_of w keeps) w.drainers drainers drainers_are)
 
   -- room for the same numbers
   pub Rooms-as : (pumps pumps2 drainers drainers2 desks desks2 to_end to_end2 : ℕ) (rooms : Rooms S Rest)

@@ -133,16 +133,16 @@ module _ {S Rest : Type 0} (acts : Acts S Rest) (pumps : List (PumpView S)) (dra
   -- how joining the drainers ended
   abbrev JoinedDrainers : List (DrainEnd S Rest) → Result (Unit {0}) CloseFault → Type 0
   JoinedDrainers ends drained =
-      MatchResult drained (λ _. AllZip (drainer_serving.HasDrained acts) drainers ends) (NamesFirst (drainer_serving.HasDrained acts) (drainer_serving.DrainerHasStopped acts) Drainer drainers)
+      MatchResult drained (λ _. AllZip (drainer_serving.HasDrained acts) drainers ends) (NamesFirst (drainer_serving.HasDrained acts) (drainer_serving.DrainerHasFailed acts) Drainer drainers)
 
   -- either way they are over
-  drainers-over : (ends : List (DrainEnd S Rest)) (drained : Result (Unit {0}) CloseFault) → JoinedDrainers ends drained → AreOver (drainer_serving.HasDrained acts) (drainer_serving.DrainerHasStopped acts) drainers
-  drainers-over ends (Ok _) joined = all-ended (drainer_serving.HasDrained acts) (drainer_serving.DrainerHasStopped acts) Drainer drainers ends joined
+  drainers-over : (ends : List (DrainEnd S Rest)) (drained : Result (Unit {0}) CloseFault) → JoinedDrainers ends drained → AreOver (drainer_serving.HasDrained acts) (drainer_serving.DrainerHasFailed acts) drainers
+  drainers-over ends (Ok _) joined = all-ended (drainer_serving.HasDrained acts) (drainer_serving.DrainerHasFailed acts) Drainer drainers ends joined
   drainers-over ends (Err fault) joined = joined.first.all
 
   -- a pump is the first
   pub pump-first : (ends : List (DrainEnd S Rest)) (drained : Result (Unit {0}) CloseFault) (fault : CloseFault) → JoinedDrainers ends drained
-      → NamesFirst pump_serving.HasPumped pump_serving.PumpHasStopped Pump pumps fault → (fault.cause ≡ Ended) × IsFirst acts pumps drainers fault.thread fault.index
+      → NamesFirst pump_serving.HasPumped pump_serving.PumpHasFailed Pump pumps fault → (fault.cause ≡ Ended) × IsFirst acts pumps drainers fault.thread fault.index
   pump-first ends drained fault joined names =
       (names.cause, subst (λ (role : Role). IsFirst acts pumps drainers role fault.index) (sym names.thread) (names.first, drainers-over ends drained joined))
 

@@ -40,6 +40,7 @@ module _ {S Rest : Type 0} (server : ServerView S Rest) (whole : IsWhole server)
   whole-after first rest more cut ended = record {
     wiring = whole.wiring;
     hubs = whole.hubs;
+    keeps = whole.keeps;
     wired = whole.wired;
     handed = whole.handed ++ first;
     parts = whole.parts ∙ ap (λ (l : List (DeskView S)). whole.handed ++ l) cut ∙ sym (append_assoc whole.handed first rest);
@@ -52,6 +53,7 @@ module _ {S Rest : Type 0} (server : ServerView S Rest) (whole : IsWhole server)
   whole-next first rest cut = record {
     wiring = whole.wiring;
     hubs = whole.hubs;
+    keeps = whole.keeps;
     wired = whole.wired;
     handed = whole.handed ++ first;
     parts = whole.parts ∙ ap (λ (l : List (DeskView S)). whole.handed ++ l) cut ∙ sym (append_assoc whole.handed first rest);

@@ -1,5 +1,5 @@
 -- A server, and what it leaves when it is closed (this project's own rule).
-use Rattle.std.specs.Prelude.{◌≡◌, ◌<◌, ◌⊎◌, ℕ, List, [], ◌∷◌, ◌++◌, length, map, Option, None, Some, slice_get}
+use Rattle.std.specs.Prelude.{◌≡◌, ◌<◌, ◌⊎◌, ℕ, Bool, List, [], ◌∷◌, ◌++◌, length, map, Option, None, Some, slice_get}
 use Rattle.std.specs.List.{All, AllZip, filter_map, sum_by, zip}
 use Rattle.rx_hub.specs.Hubs.{HubView}
 use Rattle.rx_mailbox.specs.Boxes.{Outgoing}
@@ -96,7 +96,8 @@ module _ {S Rest : Type 0} where
   pub record IsWhole (server : ServerView S Rest) : Type 0 where
     pub wiring : Wiring S
     pub hubs : List HubView
-    pub wired : IsWired server.config wiring hubs (joined_parts server.pumps server.drainers server.leaves server.made)
+    pub keeps : Bool
+    pub wired : IsWired server.config wiring hubs keeps (joined_parts server.pumps server.drainers server.leaves server.made)
     pub handed : List (DeskView S)
     pub parts : server.made ≡ handed ++ server.desks
     pub ended : All (IsEndOf server.made) server.kept
@@ -106,12 +107,14 @@ module _ {S Rest : Type 0} where
   abbrev pub with_desk : DeskView S → ServerView S Rest → ServerView S Rest
   with_desk desk server = server_of server.config server.pumps server.drainers server.leaves server.made (desk ∷ server.desks) server.kept
 
-  -- a new server of a configuration, with these boxes and hubs: no desk was handed out
-  pub record IsServerOf (config : Config) (w : Wiring S) (hubs : List HubView) (server : ServerView S Rest) : Type 0 where
+  -- a new server of a configuration, with these boxes and hubs, whose drainers keep what their sinks leave or not: no desk was
+  -- handed out
+  pub record IsServerOf (config : Config) (w : Wiring S) (hubs : List HubView) (keeps : Bool) (server : ServerView S Rest) : Type 0 where
     pub config_is : server.config ≡ config
-    pub wired : IsWired config w hubs (joined_parts server.pumps server.drainers server.leaves server.made)
+    pub wired : IsWired config w hubs keeps (joined_parts server.pumps server.drainers server.leaves server.made)
     pub desks_are : server.desks ≡ server.made
     pub none_kept : server.kept ≡ []
+    pub each_keeps : All (λ drainer. drainer.keeps ≡ keeps) server.drainers
 
   -- the same configuration, pumps, drainers, leave ports and desks; some more desks may have been handed out, and some more that
   -- have ended may be kept
@@ -138,7 +141,7 @@ module _ {S Rest : Type 0} where
   pub record Reports (report : Report S Rest) (pump_ends : List (PumpEnd S)) (drain_ends : List (DrainEnd S Rest)) : Type 0 where
     pub subjects : report.subjects.items ≡ map report_of pump_ends
     pub taken : report.taken ≡ counted (sum_by (λ end. end.taken) drain_ends)
-    pub put_away : map (λ list. list.items) report.put_away.items ≡ map (λ end. end.put_away.items) drain_ends
+    pub put_away : report.put_away.items ≡ map (λ end. end.put_away) drain_ends
 
 -- WHAT HAS SETTLED
 
@@ -179,8 +182,8 @@ module _ {S Rest : Type 0} where
     pub to_desks : All (λ end. GotEach boxes.replies.items end.replies.items) pumps
 
 module _ {S Rest : Type 0} (acts : Acts S Rest) where
-  -- each pump and each drainer served to its end, all boxes have settled, and the report tells of it. There is one choice of
-  -- marks for the letters of each subject
+  -- each pump and each drainer served to its end, all boxes have settled, and the report tells of it: what the sinks of a drainer
+  -- left is kept there if the drainer kept it. There is one choice of marks for the letters of each subject
   pub record Closes (server : ServerView S Rest) (ended : List (EndedDesk S)) (report : Report S Rest) : Type 0 where
     pub marks : List (Marked S)
     pub pump_ends : List (PumpEnd S)
@@ -194,6 +197,7 @@ module _ {S Rest : Type 0} (acts : Acts S Rest) where
     pub each_desk : EachDeskOnce (length server.made) (ended ++ (server.kept ++ finished))
     pub settled : HaveSettled report.boxes (map with_bye server.leaves) (ended ++ (server.kept ++ finished)) pump_ends drain_ends
     pub reports : Reports report pump_ends drain_ends
+    pub keeps : AllZip (λ drainer list. list.keeps ≡ drainer.keeps) server.drainers report.put_away.items
 
 -- WHY NOTHING IS REPORTED
 
@@ -213,10 +217,10 @@ module _ {S Rest : Type 0} (acts : Acts S Rest) where
   -- the thread is the first that stopped at a fault of its own, pumps before drainers; all threads are over
   abbrev pub IsFirst : List (PumpView S) → List (DrainerView S Rest) → Role → ℕ → Type 0
   IsFirst pumps drainers Pump index =
-      FirstStopped pump_serving.HasPumped pump_serving.PumpHasStopped pumps index
-      × AreOver (drainer_serving.HasDrained acts) (drainer_serving.DrainerHasStopped acts) drainers
+      FirstStopped pump_serving.HasPumped pump_serving.PumpHasFailed pumps index
+      × AreOver (drainer_serving.HasDrained acts) (drainer_serving.DrainerHasFailed acts) drainers
   IsFirst pumps drainers Drainer index =
-      HavePumped pumps × FirstStopped (drainer_serving.HasDrained acts) (drainer_serving.DrainerHasStopped acts) drainers index
+      HavePumped pumps × FirstStopped (drainer_serving.HasDrained acts) (drainer_serving.DrainerHasFailed acts) drainers index
   IsFirst pumps drainers Worker index = ⊥
 
   -- a drainer could not be told to leave, since its inbox was gone, though it served to its end

@@ -1,5 +1,5 @@
 -- How the threads and the desks of a server are joined by boxes (this project's own rule).
-use Rattle.std.specs.Prelude.{◌≡◌, ◌+◌, ◌-◌, ◌*◌, max, ℕ, List, [], ◌∷◌, map, length}
+use Rattle.std.specs.Prelude.{◌≡◌, ◌+◌, ◌-◌, ◌*◌, max, ℕ, Bool, List, [], ◌∷◌, map, length}
 use Rattle.std.specs.List.{All, enumerate_from, range_with_len, zip}
 use Rattle.rx_history.specs.Histories.{NoEvents}
 use Rattle.rx_hub.specs.Hubs.{HubView, StandsFor}
@@ -116,17 +116,18 @@ module _ {S : Type 0} where
   desks_of w = map (desk_of w) (enumerate_from 0 w.replies)
 
 module _ {S Rest : Type 0} where
-  -- the drainer of this number, with its box: to the box send the pumps, and last who tells it to leave
-  abbrev pub drainer_at : Wiring S → ℕ → Box (Out S) → DrainerView S Rest
-  drainer_at w number box = fresh_drainer (incoming box (length w.subjects + 1) []) (ports_at (length w.replies + number) w.subjects)
+  -- the drainer of this number, which keeps what its sinks leave or not, with its box: to the box send the pumps, and last who
+  -- tells it to leave
+  abbrev pub drainer_at : Wiring S → Bool → ℕ → Box (Out S) → DrainerView S Rest
+  drainer_at w keeps number box = fresh_drainer keeps (incoming box (length w.subjects + 1) []) (ports_at (length w.replies + number) w.subjects)
 
   -- the same of numbered boxes
-  abbrev pub drainer_of : Wiring S → ℕ × Box (Out S) → DrainerView S Rest
-  drainer_of w x = drainer_at w x.0 x.1
+  abbrev pub drainer_of : Wiring S → Bool → ℕ × Box (Out S) → DrainerView S Rest
+  drainer_of w keeps x = drainer_at w keeps x.0 x.1
 
   -- the drainers
-  abbrev pub drainers_of : Wiring S → List (DrainerView S Rest)
-  drainers_of w = map (drainer_of w) (enumerate_from 0 w.drainers)
+  abbrev pub drainers_of : Wiring S → Bool → List (DrainerView S Rest)
+  drainers_of w keeps = map (drainer_of w keeps) (enumerate_from 0 w.drainers)
 
 -- THE HUBS
 
@@ -149,11 +150,12 @@ module _ {S Rest : Type 0} where
   abbrev pub joined_parts : List (PumpView S) → List (DrainerView S Rest) → List (Outgoing (Out S)) → List (DeskView S) → Parts S Rest
   joined_parts pumps drainers leaves desks = record { pumps = pumps; drainers = drainers; leaves = leaves; desks = desks }
 
-  -- the parts are those of a configuration, joined by these boxes and with these hubs; they have done nothing yet
-  pub record IsWired (config : Config) (w : Wiring S) (hubs : List HubView) (parts : Parts S Rest) : Type 0 where
+  -- the parts are those of a configuration, joined by these boxes and with these hubs, and the drainers keep what their sinks
+  -- leave or not; they have done nothing yet
+  pub record IsWired (config : Config) (w : Wiring S) (hubs : List HubView) (keeps : Bool) (parts : Parts S Rest) : Type 0 where
     pub boxes : IsSizedFor config w
     pub hubs_are : AreHubsOf config.subjects.items hubs
     pub pumps_are : parts.pumps ≡ pumps_of w hubs
-    pub drainers_are : parts.drainers ≡ drainers_of w
+    pub drainers_are : parts.drainers ≡ drainers_of w keeps
     pub leaves_are : parts.leaves ≡ leave_ports w
     pub desks_are : parts.desks ≡ desks_of w

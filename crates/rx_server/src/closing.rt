@@ -18,21 +18,17 @@ use rx_heap::Heap;
 use rx_pump::{CallDesk, EndedDesk, PumpEnd, finish_all};
 use rx_sink::Sink;
 use std::sync::Wait;
-use std::sync::atomic::AtomicU64;
 use std::thread::Threads;
-use std::time::Duration;
 use std::vec::IntoIter;
-
-// For how long a server that is closed rests before its drainers are told to leave, in milliseconds.
-const REST: u64 = 20;
 
 impl<S: Sink> Server<S> {
     ghost use Rattle.rx_server.specs.Servers.{Closes, Fails, IsEndOf};
 
-    /// Ends the desks that were not handed out and, some milliseconds later, so that the notes of what was answered are on their
-    /// way, tells the drainers to leave; then waits until all threads have ended,
-    /// receives what is still on its way to the desks, settles each box that `start` made, and reports. Handed in are the
-    /// desks that were handed out, each ended.
+    /// Ends the desks that were not handed out, and waits until each subject heard that all desks ended and what waits for observers
+    /// has gone to their sinks; but where nothing moves for a quarter of a second, a sink takes nothing, and that is given up. Then it
+    /// tells the drainers to leave, waits until all threads have ended, receives what is still
+    /// on its way to the desks, settles each box that `start` made, and reports. Handed in are the desks that were handed out, each
+    /// ended. One that was let go instead has ended too, but is missing.
     ///
     /// # Errors
     ///
@@ -50,7 +46,7 @@ impl<S: Sink> Server<S> {
     {
         let (running, mut leaves, mut desks, mut rooms) = self.into_parts();
         finish_desks(rt, &mut desks, &mut rooms.desks);
-        rest(rt);
+        running.wait(rt);
         let told = finish_all(rt, &mut leaves, &mut rooms.leaves);
         running.join(rt, &mut rooms)?;
         match told {
@@ -58,12 +54,6 @@ impl<S: Sink> Server<S> {
             Err(place) => Err(CloseFault::unsettled(Role::Drainer, place)),
         }
     }
-}
-
-// Lets some milliseconds pass: nobody wakes it. A pump answers a call at once, and has the notes go that it gave once no call waits
-// for it. So the last of them are on their way before the drainers are told to leave.
-fn rest<R: Wait>(rt: &R) {
-    AtomicU64::new(0).park_timeout(rt, 0, Duration::from_millis(REST));
 }
 
 // Ends the desks, and puts them behind what was ended: until the pumps have ended, replies may be on their way to them. One
@@ -95,7 +85,7 @@ pub(crate) fn join_pumps<S: Sink, R: Threads>(
     requires room { vec_len pumps.old ≤ vec_capacity ends.old }
     ensures { MatchResult result
         (λ _. AllZip pump_serving.HasPumped pumps.old.items ends.new.items)
-        (NamesFirst pump_serving.HasPumped pump_serving.PumpHasStopped Role.Pump pumps.old.items) }
+        (NamesFirst pump_serving.HasPumped pump_serving.PumpHasFailed Role.Pump pumps.old.items) }
 {
     let mut fault = None;
     pumps.reverse();
@@ -118,7 +108,7 @@ pub(crate) fn join_drainers<S: Sink, R: Threads>(
     requires room { vec_len drainers.old ≤ vec_capacity ends.old }
     ensures { MatchResult result
         (λ _. AllZip (drainer_serving.HasDrained S.acts) (map (λ drainer. drainer.handle.promise.0.value) drainers.old.items) ends.new.items)
-        (NamesFirst (drainer_serving.HasDrained S.acts) (drainer_serving.DrainerHasStopped S.acts) Role.Drainer (map (λ drainer. drainer.handle.promise.0.value) drainers.old.items)) }
+        (NamesFirst (drainer_serving.HasDrained S.acts) (drainer_serving.DrainerHasFailed S.acts) Role.Drainer (map (λ drainer. drainer.handle.promise.0.value) drainers.old.items)) }
 {
     let mut fault = None;
     drainers.reverse();

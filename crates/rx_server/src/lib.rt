@@ -1,6 +1,7 @@
 //! A server: the threads of its subjects and sinks, the desks that call them, and its close.
 //!
-//! [`start`] makes the hubs and boxes of a configuration and starts its pumps and drainers; [`Server::desk`] hands out desks, and
+//! [`start`] makes the hubs and boxes of a configuration and starts its pumps and drainers, and so does [`start_unread`], where
+//! nobody reads what sinks left; [`Server::desk`] hands out desks, and
 //! [`Server::serve`] serves the connections of a listener by those that are left; [`Server::close`] ends what is left, waits
 //! until all threads have ended, settles each box that the server made, and reports. Nothing is said of when a thread runs, and
 //! `close` isn't promised to return.
@@ -38,5 +39,5 @@ pub use rx_workers::{
     ServeFault, SessionDesk, SharedMoments, Watch, WatchFault, Worker, WorkerEnd, accept_all,
     serve_connections, start_worker,
 };
-pub use server::{Server, start};
+pub use server::{Server, start, start_unread};
 pub use start_fault::{Role, StartCause, StartFault};

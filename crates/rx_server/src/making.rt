@@ -1,5 +1,5 @@
 // The parts of a server, made of new boxes.
-ghost use Rattle.std.specs.Prelude.{◌≡◌, ◌+◌, ◌<◌, ◌≤◌, ◌++◌, ◌∷◌, [], length, map, vec_len, vec_capacity, IfErr, IfOk, OnErr, OnOk};
+ghost use Rattle.std.specs.Prelude.{◌≡◌, ◌+◌, ◌<◌, ◌≤◌, ◌++◌, ◌∷◌, [], length, map, vec_len, vec_capacity, IfErr, IfOk, OnErr, OnOk, true};
 ghost use Rattle.std.specs.List.{All, enumerate_from, zip};
 ghost use Rattle.std.specs.Vec.Iter.{into_iter_items};
 ghost use Rattle.rx_history.specs.Histories.{NoEvents};
@@ -154,7 +154,7 @@ fn put_pump<S: Drop>(
     }
 }
 
-// A pump of this hub and this inbox.
+// A pump of this hub and this inbox, which tells when all its callers have ended.
 fn make_pump<S: Drop>(
     alloc: &Heap,
     hub: Hub,
@@ -177,10 +177,12 @@ fn make_pump<S: Drop>(
         to_drainers,
         to_callers,
     } = pump_ports(alloc, drainers, replies)?;
-    match Pump::new(heap, hub, inbox, to_drainers, to_callers) {
-        Ok(pump) => Ok(pump),
-        Err(_) => Err(Memory),
-    }
+    let callers = to_callers.len() as u64;
+    let Ok(mut pump) = Pump::new(heap, hub, inbox, to_drainers, to_callers) else {
+        return Err(Memory);
+    };
+    pump.tell(alloc.clone()?, callers)?;
+    Ok(pump)
 }
 
 // What a pump has beside its hub and its inbox.
@@ -280,24 +282,25 @@ fn make_desk<S: Drop>(
     }
 }
 
-// One drainer for each inbox that is left, with the next port to each subject. `Err` at the first for which there was no
-// memory.
+// One drainer for each inbox that is left, with the next port to each subject, which keeps what its sinks leave or not. `Err` at
+// the first for which there was no memory.
 pub(crate) fn make_drainers<S: Sink>(
     alloc: &Heap,
     inboxes: &mut IntoIter<Inbox<Out<S>>, Heap>,
     subjects: &mut Vec<PortRow<Call<S>>, Heap>,
     drainers: &mut Vec<Drainer<S>, Heap>,
+    keeps: bool,
 ) -> Result<(), StartFault>
     requires inboxes { All (λ inbox. (inbox.received ≡ []) × (inbox.ports ≡ length subjects.old.items + 1)) (into_iter_items inboxes.old) }
     requires subjects { All (λ row. length (into_iter_items inboxes.old) ≤ row.count) subjects.old.items }
     requires none { drainers.old.items ≡ [] }
     requires room { length (into_iter_items inboxes.old) ≤ vec_capacity drainers.old }
-    ensures drainers { OnOk result (drainers.new.items ≡ map (λ x. fresh_drainer x.1 (row_ports x.0 subjects.old.items)) (enumerate_from 0 (into_iter_items inboxes.old))) }
+    ensures drainers { OnOk result (drainers.new.items ≡ map (λ x. fresh_drainer keeps x.1 (row_ports x.0 subjects.old.items)) (enumerate_from 0 (into_iter_items inboxes.old))) }
     ensures fault { IfErr result (NoMemoryFor Role.Drainer (vec_len drainers.new)) }
     ensures fewer { OnErr result (vec_len drainers.new < length (into_iter_items inboxes.old)) }
 {
     while let Some(inbox) = inboxes.next() {
-        put_drainer(alloc, inbox, subjects, drainers)?;
+        put_drainer(alloc, inbox, subjects, drainers, keeps)?;
     }
     Ok(())
 }
@@ -308,18 +311,19 @@ fn put_drainer<S: Sink>(
     inbox: Inbox<Out<S>>,
     subjects: &mut Vec<PortRow<Call<S>>, Heap>,
     drainers: &mut Vec<Drainer<S>, Heap>,
+    keeps: bool,
 ) -> Result<(), StartFault>
     requires inbox { inbox.received ≡ [] }
     requires senders { inbox.ports ≡ vec_len subjects.old + 1 }
     requires subjects { All (λ row. 0 < row.count) subjects.old.items }
     requires room { vec_len drainers.old < vec_capacity drainers.old }
-    ensures drainers { OnOk result (drainers.new.items ≡ drainers.old.items ++ fresh_drainer inbox (map next_port subjects.old.items) ∷ []) }
+    ensures drainers { OnOk result (drainers.new.items ≡ drainers.old.items ++ fresh_drainer keeps inbox (map next_port subjects.old.items) ∷ []) }
     ensures capacity { vec_capacity drainers.new ≡ vec_capacity drainers.old }
     ensures subjects { OnOk result (subjects.new.items ≡ map (behind 1) subjects.old.items) }
     ensures fault { IfErr result (NoMemoryFor Role.Drainer (vec_len drainers.old)) }
     ensures same { OnErr result (drainers.new ≡ drainers.old) }
 {
-    match make_drainer(alloc, inbox, subjects) {
+    match make_drainer(alloc, inbox, subjects, keeps) {
         Ok(drainer) => {
             drainers.push_reserved(drainer);
             Ok(())
@@ -333,17 +337,31 @@ fn make_drainer<S: Sink>(
     alloc: &Heap,
     inbox: Inbox<Out<S>>,
     subjects: &mut Vec<PortRow<Call<S>>, Heap>,
+    keeps: bool,
 ) -> Result<Drainer<S>, Memory>
     requires inbox { inbox.received ≡ [] }
     requires senders { inbox.ports ≡ vec_len subjects.old + 1 }
     requires subjects { All (λ row. 0 < row.count) subjects.old.items }
-    ensures drainer { IfOk result (λ drainer. drainer ≡ fresh_drainer inbox (map next_port subjects.old.items)) }
+    ensures drainer { IfOk result (λ drainer. drainer ≡ fresh_drainer keeps inbox (map next_port subjects.old.items)) }
     ensures subjects { OnOk result (subjects.new.items ≡ map (behind 1) subjects.old.items) }
 {
     let heap = alloc.clone()?;
     let subjects = next_ports(alloc, subjects)?;
     match Drainer::new(heap, inbox, subjects) {
-        Ok(drainer) => Ok(drainer),
+        Ok(drainer) => Ok(keeping(drainer, keeps)),
         Err(_) => Err(Memory),
     }
+}
+
+// A drainer that keeps what its sinks leave, but where it is told not to.
+fn keeping<S: Sink>(drainer: Drainer<S>, keeps: bool) -> Drainer<S>
+    requires { drainer.keeps ≡ true }
+    ensures { result ≡ record drainer { keeps = keeps } }
+{
+    if keeps {
+        return drainer;
+    }
+    let mut drainer = drainer;
+    drainer.forget();
+    drainer
 }

@@ -2,7 +2,7 @@ ghost use Rattle.std.specs.Prelude.{◌≡◌};
 
 use crate::settled_boxes::SettledBoxes;
 use rx_heap::Heap;
-use rx_sink::{PutAway, Sink};
+use rx_sink::{Rests, Sink};
 
 /// What became of one subject.
 #[derive(Clone, Copy, Debug, PartialEq, Eq)]
@@ -22,8 +22,8 @@ pub struct Report<S: Sink> {
     pub subjects: Vec<SubjectReport, Heap>,
     /// How many notes the sinks took, up to the greatest `u64`.
     pub taken: u64,
-    /// Of each drainer what its sinks left, in the order in which they were put away.
-    pub put_away: Vec<Vec<PutAway<S::Rest>, Heap>, Heap>,
+    /// Of each drainer what its sinks left, in the order in which they were put away: whole where the server was made by `start`.
+    pub put_away: Vec<Rests<S::Rest>, Heap>,
     pub(crate) boxes: SettledBoxes<S>,
 }
 

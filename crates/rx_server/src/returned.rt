@@ -15,7 +15,7 @@ use rx_heap::{Heap, Memory};
 use rx_mailbox::EndedPort;
 use rx_pump::{Call, EndedDesk, Out, PumpEnd, Reply};
 use rx_settling::{BoxParts, deal, parts_of, put_inbox, settle_each};
-use rx_sink::{PutAway, Sink};
+use rx_sink::{Rests, Sink};
 use std::sync::Wait;
 
 // The parts of the boxes of the subjects, of the drainers, and of the replies to the desks.
@@ -190,10 +190,10 @@ fn report_of<S: Sink>(end: &PumpEnd<S>) -> SubjectReport
 // sinks took, and what those left.
 pub(crate) fn return_drainers<S: Sink>(
     ends: Vec<DrainEnd<S>, Heap>,
-    lists: Vec<Vec<PutAway<S::Rest>, Heap>, Heap>,
+    lists: Vec<Rests<S::Rest>, Heap>,
     subjects: &mut Vec<BoxParts<Call<S>>, Heap>,
     drainers: &mut Vec<BoxParts<Out<S>>, Heap>,
-) -> (u64, Vec<Vec<PutAway<S::Rest>, Heap>, Heap>)
+) -> (u64, Vec<Rests<S::Rest>, Heap>)
     requires empty { lists.items ≡ [] }
     requires room { vec_len ends ≤ vec_capacity lists }
     requires count { length ends.items ≤ length drainers.old.items }
@@ -201,7 +201,7 @@ pub(crate) fn return_drainers<S: Sink>(
     requires ports { All (λ end. length end.ports.items ≡ length subjects.old.items) ends.items }
     requires ports_fit { All (HasRoom (length ends.items)) subjects.old.items }
     ensures taken { result.0 ≡ counted (sum_by (λ end. end.taken) ends.items) }
-    ensures put_away { map (λ list. list.items) result.1.items ≡ map (λ end. end.put_away.items) ends.items }
+    ensures put_away { result.1.items ≡ map (λ end. end.put_away) ends.items }
     ensures drainers { drainers.new.items ≡ with_inboxes (map (λ end. end.inbox) ends.items) drainers.old.items }
     ensures subjects { subjects.new.items ≡ dealt_each (map (λ end. end.ports.items) ends.items) subjects.old.items }
 {
@@ -213,9 +213,10 @@ pub(crate) fn return_drainers<S: Sink>(
             inbox,
             ports,
             put_away,
+            places,
             taken: more,
-            ..
         } = end;
+        drop(places);
         taken = taken.saturating_add(more);
         lists.push_reserved(put_away);
         let Ok(()) = put_inbox(inbox, place, drainers) else {

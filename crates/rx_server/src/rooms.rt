@@ -16,7 +16,7 @@ use rx_heap::{Heap, Memory};
 use rx_mailbox::EndedPort;
 use rx_pump::{EndedDesk, Out, PumpEnd, room};
 use rx_settling::deal;
-use rx_sink::{PutAway, Sink};
+use rx_sink::{Rests, Sink};
 use std::sync::Wait;
 
 // It is taken when the server starts, so that its close finds it.
@@ -27,7 +27,7 @@ pub(crate) struct Rooms<S: Sink> {
     pub(crate) pumps: Vec<PumpEnd<S>, Heap>,
     pub(crate) drainers: Vec<DrainEnd<S>, Heap>,
     pub(crate) subjects: Vec<SubjectReport, Heap>,
-    pub(crate) put_away: Vec<Vec<PutAway<S::Rest>, Heap>, Heap>,
+    pub(crate) put_away: Vec<Rests<S::Rest>, Heap>,
     pub(crate) returned: Returned<S>,
     pub(crate) settled: SettledBoxes<S>,
 }
@@ -53,7 +53,7 @@ impl<S: Sink> Drop for Rooms<S> {
 struct Collected<S: Sink> {
     subjects: Vec<SubjectReport, Heap>,
     taken: u64,
-    put_away: Vec<Vec<PutAway<S::Rest>, Heap>, Heap>,
+    put_away: Vec<Rests<S::Rest>, Heap>,
     returned: Returned<S>,
     settled: SettledBoxes<S>,
 }
@@ -115,7 +115,7 @@ impl<S: Sink> Rooms<S> {
         ensures settled { IfOk result (λ all. all.settled ≡ self.settled) }
         ensures subjects { IfOk result (λ all. all.subjects.items ≡ map report_of self.pumps.items) }
         ensures taken { IfOk result (λ all. all.taken ≡ counted (sum_by (λ end. end.taken) self.drainers.items)) }
-        ensures put_away { IfOk result (λ all. map (λ list. list.items) all.put_away.items ≡ map (λ end. end.put_away.items) self.drainers.items) }
+        ensures put_away { IfOk result (λ all. all.put_away.items ≡ map (λ end. end.put_away) self.drainers.items) }
         ensures twice { IfErr result (λ fault. (fault ≡ record { thread = Role.Pump; index = 0; cause = CloseCause.Unsettled }) × CameTwice (ended.items ++ self.desks.items)) }
     {
         let Rooms {

@@ -52,6 +52,14 @@ impl<S: Sink> Running<S> {
         Ok(Running { pumps, drainers })
     }
 
+    // Waits until each pump heard that all desks ended, which end their ports or are let go, and until what waits has gone to who
+    // takes it.
+    pub(crate) fn wait<R: Wait>(&self, rt: &R) {
+        for pump in &self.pumps {
+            pump.wait(rt);
+        }
+    }
+
     // Waits until each thread has ended, and puts what they left into the rooms. `Err`: the first pump that ended by a fault
     // of its own, else the first such drainer.
     pub(crate) fn join<R: Threads>(self, rt: &R, rooms: &mut Rooms<S>) -> Result<(), CloseFault>

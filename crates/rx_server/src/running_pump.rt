@@ -1,8 +1,8 @@
 // Pumps in threads of their own.
 ghost use Rattle.std.specs.Prelude.{◌≡◌, MatchResult, IfOk};
-ghost use Rattle.rx_pump.specs.Serving.{HasPumped, PumpHasStopped};
+ghost use Rattle.rx_pump.specs.Serving.{HasPumped, PumpHasFailed};
 
-use rx_pump::{Pump, PumpEnd, PumpStop};
+use rx_pump::{Pump, PumpEnd, PumpFault, SharedHeard};
 use std::marker::Model;
 use std::snapshot::Snapshot;
 use std::sync::Wait;
@@ -13,29 +13,34 @@ use std::thread::{Promise, PromisedHandle, Threads};
 #[derive(Drop)]
 pub(crate) struct NoThread;
 
-// What the thread of a pump answers is what `serve` promises of that pump.
+// What the thread of a pump answers is what `serve` promises of that pump, but that of what it left at a fault there is the fault
+// alone.
 #[derive(Drop)]
 pub(crate) struct Served<S: Drop>(Snapshot<Pump<S>>);
 
-impl<S: Drop> Promise<Result<PumpEnd<S>, PumpStop<S>>> for Served<S> {
+impl<S: Drop> Promise<Result<PumpEnd<S>, PumpFault>> for Served<S> {
     ghost use Rattle.std.specs.Prelude.{MatchResult};
-    ghost use Rattle.rx_pump.specs.Serving.{HasPumped, PumpHasStopped};
+    ghost use Rattle.rx_pump.specs.Serving.{HasPumped, PumpHasFailed};
 
     ghost kept_by = { λ p result. MatchResult result
         (λ end. HasPumped p.0.value end)
-        (λ stop. PumpHasStopped p.0.value stop) };
+        (λ fault. PumpHasFailed p.0.value fault) };
 }
 
 // A pump that serves in a thread of its own. Contracts see the pump that was handed in. One that is let go without a `join`
 // is not waited for.
 pub(crate) struct RunningPump<S: Drop> {
-    handle: PromisedHandle<Result<PumpEnd<S>, PumpStop<S>>, Served<S>>,
+    handle: PromisedHandle<Result<PumpEnd<S>, PumpFault>, Served<S>>,
+    heard: SharedHeard,
 }
 
 // It stands here, and isn't derived, so that what lets go of a running pump is one call that is proved once.
 impl<S: Drop> Drop for RunningPump<S> {
     fn drop(self) {
-        let RunningPump { handle: _ } = self;
+        let RunningPump {
+            handle: _,
+            heard: _,
+        } = self;
     }
 }
 
@@ -47,7 +52,7 @@ impl<S: Drop> Model for RunningPump<S> {
     ghost view = { λ r. r.handle.promise.0.value };
 }
 
-// Starts a thread in which the pump serves.
+// Starts a thread in which the pump serves, which tells how far it is.
 pub(crate) fn start_pump<
     S: Drop + Send + 'static,
     R: Threads + Wait + Clone + Drop + Send + 'static,
@@ -57,19 +62,37 @@ pub(crate) fn start_pump<
     let Ok(own) = rt.clone() else {
         return Err(NoThread);
     };
+    let Some(heard) = pump.heard() else {
+        return Err(NoThread);
+    };
     let promise = Served(Snapshot::of(&pump));
-    match thread::spawn_with(rt, promise, move || pump.serve(&own)) {
-        Ok(handle) => Ok(RunningPump { handle }),
+    match thread::spawn_with(rt, promise, move || serve(&own, pump)) {
+        Ok(handle) => Ok(RunningPump { handle, heard }),
         Err(_) => Err(NoThread),
     }
 }
 
+// Serves to the end. At a fault nothing is kept but that, so that nobody waits for the pump.
+fn serve<S: Drop, R: Wait>(rt: &R, pump: Pump<S>) -> Result<PumpEnd<S>, PumpFault>
+    ensures { MatchResult result (λ end. HasPumped pump end) (λ fault. PumpHasFailed pump fault) }
+{
+    match pump.serve(rt) {
+        Ok(end) => Ok(end),
+        Err(stop) => Err(stop.let_go()),
+    }
+}
+
 impl<S: Drop> RunningPump<S> {
-    // Waits until the thread has ended. It answers what `serve` did.
-    pub(crate) fn join<R: Threads>(self, rt: &R) -> Result<PumpEnd<S>, PumpStop<S>>
-        ensures { MatchResult result (λ end. HasPumped self end) (λ stop. PumpHasStopped self stop) }
+    // Waits until all desks ended and nothing waits in its hub, but no longer than something moves, or until it is over.
+    pub(crate) fn wait<R: Wait>(&self, rt: &R) {
+        self.heard.wait(rt);
+    }
+
+    // Waits until the thread has ended. It answers what `serve` did, and at a fault that alone.
+    pub(crate) fn join<R: Threads>(self, rt: &R) -> Result<PumpEnd<S>, PumpFault>
+        ensures { MatchResult result (λ end. HasPumped self end) (λ fault. PumpHasFailed self fault) }
     {
-        let RunningPump { handle } = self;
+        let RunningPump { handle, heard: _ } = self;
         handle.join(rt)
     }
 }

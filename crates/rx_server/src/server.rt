@@ -1,4 +1,4 @@
-ghost use Rattle.std.specs.Prelude.{◌≡◌, ◌+◌, ◌<◌, [], List, IfErr, IfOk, IfSome, MatchOption, length, map, vec_len};
+ghost use Rattle.std.specs.Prelude.{◌≡◌, ◌+◌, ◌<◌, true, false, [], List, IfErr, IfOk, IfSome, MatchOption, length, map, vec_len};
 ghost use Rattle.std.specs.Arc.{arc_value};
 ghost use Rattle.std.specs.Vec.Iter.{into_iter_items};
 ghost use Rattle.rx_hub.specs.Hubs.{HubView};
@@ -13,7 +13,7 @@ use crate::wiring::wire;
 use rx_config::Config;
 use rx_heap::{Heap, Memory};
 use rx_mailbox::Port;
-use rx_pump::{CallDesk, Out};
+use rx_pump::{CallDesk, Out, let_go_all};
 use rx_sink::Sink;
 use std::marker::Model;
 use std::snapshot::Snapshot;
@@ -22,7 +22,8 @@ use std::thread::Threads;
 use std::vec::IntoIter;
 
 /// Subjects and drainers that run, each in a thread of its own, and the desks that were not handed out. One that is let go
-/// without `close` leaves its threads without the ports of the desks, and does not wait for them.
+/// without `close` waits for nobody: its threads end by themselves, once the desks that were handed out have ended or are let go
+/// too.
 pub struct Server<S: Sink> {
     running: Running<S>,
     // The ports by which the drainers are told to leave.
@@ -36,18 +37,19 @@ pub struct Server<S: Sink> {
     pub(crate) config: Arc<Config, Heap>,
 }
 
-// It stands here, and isn't derived, so that what lets go of a server is one call that is proved once.
+// The desks end as they are let go, and the drainers are told to leave.
 impl<S: Sink> Drop for Server<S> {
     fn drop(self) {
         let Server {
             running: _,
-            leaves: _,
+            leaves,
             desks: _,
             made: _,
             rooms: _,
             heap: _,
             config: _,
         } = self;
+        let_go_all(leaves);
     }
 }
 
@@ -117,13 +119,14 @@ impl<S: Sink> Server<S> {
     }
 }
 
-/// Makes the hubs and boxes of a configuration, and starts its pumps and drainers, each in a thread of its own.
+/// Makes the hubs and boxes of a configuration, and starts its pumps and drainers, each in a thread of its own. What the sinks
+/// left is kept until its close, for the report.
 ///
 /// # Errors
 ///
 /// The first thread of the server that could not be had, by its role and its number from 0: `Memory`, there was none for its
 /// box or for what it owns, of a worker for its desk too; `NoThread`, the pump or the drainer has no thread. Threads that run
-/// already lose their ports, and aren't waited for.
+/// already end by themselves, and aren't waited for.
 pub fn start<S: Sink + Send + 'static, R: Threads + Wait + Clone + Drop + Send + 'static>(
     rt: &R,
     alloc: Heap,
@@ -131,10 +134,44 @@ pub fn start<S: Sink + Send + 'static, R: Threads + Wait + Clone + Drop + Send +
 ) -> Result<Server<S>, StartFault>
 where
     S::Rest: Send + 'static,
-    ensures started { IfOk result (λ server. (w : Wiring S) × (hubs : List HubView) × IsServerOf config w hubs server) }
+    ensures started { IfOk result (λ server. (w : Wiring S) × (hubs : List HubView) × IsServerOf config w hubs true server) }
     ensures fault { IfErr result (IsStartFaultOf config) }
 {
-    let mut wired = wire(&alloc, &config)?;
+    launch(rt, alloc, config, true)
+}
+
+/// The same, but that nothing of what the sinks left is kept, and none of it reported: a server that runs for ever grows by none
+/// of its joins.
+///
+/// # Errors
+///
+/// Those of [`start`].
+pub fn start_unread<S: Sink + Send + 'static, R: Threads + Wait + Clone + Drop + Send + 'static>(
+    rt: &R,
+    alloc: Heap,
+    config: Config,
+) -> Result<Server<S>, StartFault>
+where
+    S::Rest: Send + 'static,
+    ensures started { IfOk result (λ server. (w : Wiring S) × (hubs : List HubView) × IsServerOf config w hubs false server) }
+    ensures fault { IfErr result (IsStartFaultOf config) }
+{
+    launch(rt, alloc, config, false)
+}
+
+// Starts a server, whose drainers keep what their sinks leave or not.
+fn launch<S: Sink + Send + 'static, R: Threads + Wait + Clone + Drop + Send + 'static>(
+    rt: &R,
+    alloc: Heap,
+    config: Config,
+    keeps: bool,
+) -> Result<Server<S>, StartFault>
+where
+    S::Rest: Send + 'static,
+    ensures started { IfOk result (λ server. (w : Wiring S) × (hubs : List HubView) × IsServerOf config w hubs keeps server) }
+    ensures fault { IfErr result (IsStartFaultOf config) }
+{
+    let mut wired = wire(&alloc, &config, keeps)?;
     let rooms = wired.rooms(&alloc)?;
     let (heap, config) = shared(&alloc, config)?;
     let running = wired.run(rt, &alloc)?;

@@ -16,7 +16,7 @@ use rx_config::{Config, SubjectConfig};
 use rx_drain::Drainer;
 use rx_heap::{Heap, Memory};
 use rx_mailbox::Port;
-use rx_pump::{Call, CallDesk, Out, Pump, Reply, room};
+use rx_pump::{Call, CallDesk, Out, Pump, Reply, let_go_all, room};
 use rx_sink::Sink;
 use std::sync::Wait;
 use std::thread::Threads;
@@ -33,15 +33,16 @@ pub(crate) struct Wired<S: Sink> {
     pub(crate) desks: Vec<CallDesk<S>, Heap>,
 }
 
-// It stands here, and isn't derived, so that what lets go of the parts of a server is one call that is proved once.
+// Where not all threads could be started, those that run hear that all others end.
 impl<S: Sink> Drop for Wired<S> {
     fn drop(self) {
         let Wired {
             pumps: _,
             drainers: _,
-            leaves: _,
+            leaves,
             desks: _,
         } = self;
+        let_go_all(leaves);
     }
 }
 
@@ -137,16 +138,20 @@ where
     }
 }
 
-// The parts of the server that a configuration asks for.
-pub(crate) fn wire<S: Sink>(alloc: &Heap, config: &Config) -> Result<Wired<S>, StartFault>
-    ensures wired { IfOk result (λ wired. (w : Wiring S) × (hubs : List HubView) × IsWired config.now w hubs (joined_parts wired.pumps.items wired.drainers.items wired.leaves.items wired.desks.items)) }
+// The parts of the server that a configuration asks for. Its drainers keep what their sinks leave or not.
+pub(crate) fn wire<S: Sink>(
+    alloc: &Heap,
+    config: &Config,
+    keeps: bool,
+) -> Result<Wired<S>, StartFault>
+    ensures wired { IfOk result (λ wired. (w : Wiring S) × (hubs : List HubView) × IsWired config.now w hubs keeps (joined_parts wired.pumps.items wired.drainers.items wired.leaves.items wired.desks.items)) }
     ensures fault { IfErr result (NoMemoryIn config.now) }
 {
     let mut boxes = open_boxes(alloc, config)?;
     let Ok(mut wired) = Wired::room(alloc, config) else {
         return Err(StartFault::memory(Role::Pump, 0));
     };
-    join(alloc, config, &mut boxes, &mut wired)?;
+    join(alloc, config, &mut boxes, &mut wired, keeps)?;
     Ok(wired)
 }
 
@@ -173,10 +178,11 @@ fn join<S: Sink>(
     config: &Config,
     boxes: &mut Boxes<S>,
     wired: &mut Wired<S>,
+    keeps: bool,
 ) -> Result<(), StartFault>
     requires boxes { (w : Wiring S) × AreOpenFor config.now w boxes.old }
     requires rooms { IsEmptyFor config.now wired.old }
-    ensures wired { OnOk result ((w : Wiring S) × (hubs : List HubView) × IsWired config.now w hubs (joined_parts wired.new.pumps.items wired.new.drainers.items wired.new.leaves.items wired.new.desks.items)) }
+    ensures wired { OnOk result ((w : Wiring S) × (hubs : List HubView) × IsWired config.now w hubs keeps (joined_parts wired.new.pumps.items wired.new.drainers.items wired.new.leaves.items wired.new.desks.items)) }
     ensures fault { IfErr result (NoMemoryIn config.now) }
 {
     let hubs = make_hubs(alloc, &config.subjects)?;
@@ -201,6 +207,7 @@ fn join<S: Sink>(
         &mut boxes.drainers.inboxes,
         &mut boxes.subjects.rows,
         &mut wired.drainers,
+        keeps,
     )?;
     Ok(())
 }

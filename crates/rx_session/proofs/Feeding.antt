@@ -139,3 +139,14 @@ is_whole step before after knows =
 -- nothing was to be read
 pub comes_none : (old : Option (List ℕ)) (skips : Bool) (window rest : List ℕ) → IsRest skips window rest → Comes Bytes old old rest skips window
 comes_none old skips window rest is = ([], Consumes-nil old, subst (λ (r : List ℕ). IsRest skips window r) (sym (append-nil rest)) is)
+
+-- a line in hand was taken without a read: fewer bytes are unread
+pub fewer_unread : (step : Step) (before after : LineState) → Knows (Some step) before after → after.reads ≡ before.reads → length (unread after) < length (unread before)
+fewer_unread step before after knows same =
+    elim step as (λ s. Goes s (Some []) (Some []) before after → length (unread after) < length (unread before)) [
+      | steps.Line len ↦ λ g. omega (arith, g.1.fewer, same)
+      | steps.Long ↦ λ g. omega (arith, g.1.fewer, same)
+      | steps.EndOfInput ↦ λ g. absurd (knows.1 (HasNoLf-front (unread before) g.0.read g.0.none))
+      | steps.ReadFault ↦ λ g. absurd (knows.1 (HasNoLf-front (unread before) g.0.read g.0.none))
+      | steps.TooManyReads ↦ λ g. absurd (knows.1 (HasNoLf-front (unread before) g.0.read g.0.none))
+    ] (knows.2 (Some []))

@@ -124,4 +124,4 @@ HasRead-end old mid new window after now left left_mid left_after is_long end h 
 pub HasRead-blocked : (old mid new : Option (List ℕ)) (window after now : List ℕ) (left left_mid left_after : ℕ) (is_long : Bool) → HasRead old mid window after left left_mid is_long
     → HasNoLf after → ReadsOn came.Nothing mid new after now left_mid left_after → FindsNext (End inputs.ReadFault) old new window now left left_after
 HasRead-blocked old mid new window after now left left_mid left_after is_long h none r =
-    HasRead-end old mid new window after now left left_mid left_after is_long inputs.ReadFault h none (r.0, r.1, r.2, tt)
+    HasRead-end old mid new window after now left left_mid left_after is_long inputs.ReadFault h none (r.0, r.1, omega (arith, r.2), tt)

@@ -1,13 +1,16 @@
 -- What a feed of lines tells, whose reads wait for nobody. What of its bytes was read and not told is what it has unread, behind
 -- the front of a long line that it may have let go.
-use Rattle.std.specs.Prelude.{◌≡◌, ◌<◌, ◌≤◌, ℕ, Bool, true, false, List, [], ◌++◌, length, take, Option, None, Some}
+use Rattle.std.specs.Prelude.{◌≡◌, ◌<◌, ◌≤◌, ◌⊎◌, ℕ, Bool, true, false, List, [], ◌++◌, length, take, Option, None, Some}
 use Rattle.std.specs.Io.KnownBytes.{Consumes, Keeps}
-use Rattle.rx_proto.specs.LineFeeds.{HasNoLf}
+use Rattle.rx_proto.specs.LineFeeds.{HasLf, HasNoLf}
 use Rattle.rx_session.specs.Lines.{BeginsWithLine, without_cr}
 use Rattle.rx_session.specs.Sessions.{IsLeft}
-use Rattle.rx_session.specs.Steps.{IsTold}
+use Rattle.rx_session.specs.Steps.{IsTold, unread}
 use Rattle.rx_session.specs.declared.came.Came.{Came}
 use Rattle.rx_session.specs.declared.came.Came.TheVariants.{Bytes, Nothing, End}
+use Rattle.rx_session.specs.declared.input_end.InputEnd.{InputEnd}
+use Rattle.rx_session.specs.declared.input_end.InputEnd.TheVariants as inputs
+use Rattle.rx_session.specs.declared.line_state.LineState.{LineState}
 use Rattle.rx_session.specs.declared.step.Step.{Step}
 use Rattle.rx_session.specs.declared.step.Step.TheVariants.{Line, Long, EndOfInput, ReadFault, TooManyReads}
 
@@ -28,6 +31,18 @@ abbrev pub Comes : Came → Option (List ℕ) → Option (List ℕ) → List ℕ
 Comes Bytes old new rest skips unread = (read : List ℕ) × Consumes old new read × IsRest skips unread (rest ++ read)
 Comes Nothing old new rest skips unread = Keeps old new × IsRest skips unread rest
 Comes (End end) old new rest skips unread = Keeps old new × HasNoLf rest × IsLeft end new
+
+-- reads are refused only where none is left
+abbrev pub HasNoReads : InputEnd → ℕ → Type 0
+HasNoReads inputs.EndOfInput reads = Unit {0}
+HasNoReads inputs.ReadFault reads = Unit {0}
+HasNoReads inputs.TooManyReads reads = reads ≡ 0
+
+-- a read was made; or none was, since a line is in hand; where no byte came no line is in hand either
+abbrev pub FillsOn : Came → LineState → LineState → Type 0
+FillsOn Bytes before after = (after.reads < before.reads) ⊎ ((after.reads ≡ before.reads) × (unread after ≡ unread before) × HasLf (unread after))
+FillsOn Nothing before after = (after.reads < before.reads) × HasNoLf (unread after)
+FillsOn (End end) before after = (after.reads ≤ before.reads) × HasNoReads end after.reads
 
 -- these bytes begin with a line of which something is said, and the others are what is left
 pub record TellsLine (rest : List ℕ) (skips : Bool) (unread : List ℕ) (says : List ℕ → Type 0) : Type 0 where

@@ -1,7 +1,8 @@
 -- What a session has come to that is served turn by turn. A turn may begin wherever the one before it ended, and all of them
 -- together do what a session does with the bytes that they read.
-use Rattle.std.specs.Prelude.{◌≡◌, ◌⊎◌, ℕ, Bool, true, false, List, [], ◌∷◌, ◌++◌, Option, Some, Result, Ok}
+use Rattle.std.specs.Prelude.{◌≡◌, ◌<◌, ◌⊎◌, ℕ, Bool, true, false, List, [], ◌∷◌, ◌++◌, length, Option, Some, Result, Ok}
 use Rattle.std.specs.Io.KnownBytes.{Consumes}
+use Rattle.rx_proto.specs.LineFeeds.{HasNoLf}
 use Rattle.rx_proto.specs.Reading.{session_read}
 use Rattle.rx_proto.specs.declared.command.Command.{Command}
 use Rattle.rx_proto.specs.declared.command.Command.TheVariants.{Quit}
@@ -30,6 +31,26 @@ pub record IsNew (session : OpenSession) : Type 0 where
   pub held_is : session.outbox ≡ []
   pub version_is : session.version ≡ One
   pub quits_is : session.quits ≡ false
+
+-- a session made a read, or carried out a line in hand
+abbrev pub GetsOn : OpenSession → OpenSession → Type 0
+GetsOn before after =
+    (after.feed.lines.reads < before.feed.lines.reads)
+    ⊎ ((after.feed.lines.reads ≡ before.feed.lines.reads) × (length (unread after.feed.lines) < length (unread before.feed.lines)))
+
+-- what a turn has done at least: where another may be made at once, the session got on, so that there are only so many of them, and
+-- no answer waits; and where it is to wait for bytes it made a read, and neither a line is in hand nor an answer waits
+abbrev pub HasGotOn : {W : Type 0} → Turn W → OpenSession → OpenSession → Type 0
+HasGotOn (turns.Again writer) before after = GetsOn before after × (after.outbox ≡ [])
+HasGotOn (turns.Waits writer) before after =
+    (after.feed.lines.reads < before.feed.lines.reads) × HasNoLf (unread after.feed.lines) × (after.outbox ≡ [])
+HasGotOn (turns.Stuck writer) before after = Unit {0}
+HasGotOn (turns.Over end back) before after = Unit {0}
+
+-- a session that goes on has carried out a line in hand
+abbrev pub HasTakenOne : {W : Type 0} → Turned W → OpenSession → OpenSession → Type 0
+HasTakenOne (On writer) before after = length (unread after.feed.lines) < length (unread before.feed.lines)
+HasTakenOne (Over end back) before after = Unit {0}
 
 -- the place of the first version where nothing was told
 abbrev pub first_place : {D W : Type 0} → D → W → Place D W

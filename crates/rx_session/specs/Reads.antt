@@ -24,7 +24,7 @@ ahead left window = left * 8192 + length window
 abbrev pub ReadsOn : Came → Option (List ℕ) → Option (List ℕ) → List ℕ → List ℕ → ℕ → ℕ → Type 0
 ReadsOn came.Bytes old new window after left left_after =
     (read : List ℕ) × Consumes old new read × (after ≡ window ++ read) × (left_after < left) × (length read ≤ 8192)
-ReadsOn came.Nothing old new window after left left_after = Keeps old new × (after ≡ window) × (left_after ≤ left)
+ReadsOn came.Nothing old new window after left left_after = Keeps old new × (after ≡ window) × (left_after < left)
 ReadsOn (came.End end) old new window after left left_after = Keeps old new × (after ≡ window) × (left_after ≤ left) × IsEnd end new left_after
 
 -- reads gave some bytes behind the window, and then a front without an LF was let go

@@ -33,6 +33,12 @@ pub trait Desk<W> {
     fn emit(&mut self, name: &Name, note: Note) -> Response
         ensures { emits self.old name.now note result self.new };
 
+    /// Whether a note for the subject of this name may be begun behind others. It is asked before the text is made, so that what
+    /// can't be begun is made just once, to be emitted. Either answer is right.
+    fn may_begin(&self, _name: &Name) -> bool {
+        true
+    }
+
     /// Begins to emit a note at the subject of this name, behind so many that were begun and have no response yet, so that several go
     /// there together. Its response is to be had by `answer`. `Err` gives the note back, and nothing changed: it can't be begun now.
     fn begin(&mut self, name: &Name, note: Note, behind: u32) -> Result<(), Note>

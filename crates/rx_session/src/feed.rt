@@ -1,6 +1,6 @@
-ghost use Rattle.std.specs.Prelude.{◌≡◌, ◌≤◌, ℕ, List, [], None, false, length, take};
+ghost use Rattle.std.specs.Prelude.{◌≡◌, ◌<◌, ◌≤◌, ℕ, List, [], None, IfNone, IfSome, false, length, take};
 ghost use Rattle.rx_proto.specs.LineFeeds.{HasNoLf};
-ghost use Rattle.rx_session.specs.Feeds.{Comes, IsRest, IsWhole, Tells};
+ghost use Rattle.rx_session.specs.Feeds.{Comes, FillsOn, IsRest, IsWhole, Tells};
 ghost use Rattle.rx_session.specs.Steps.{unread};
 
 use crate::came::Came;
@@ -21,6 +21,7 @@ impl Feed {
     pub fn new(max_reads: u64) -> Feed
         ensures unread { unread result.lines ≡ [] }
         ensures skips { result.skips ≡ false }
+        ensures reads { result.lines.reads ≡ max_reads }
     {
         Feed {
             lines: LineState::new(max_reads),
@@ -30,8 +31,9 @@ impl Feed {
 
     /// One read, where no line is in hand, and none where one is.
     pub fn fill<R: Read>(&mut self, reader: &mut R) -> Came
-        ensures { (rest : List ℕ) → IsRest self.old.skips (unread self.old.lines) rest
+        ensures comes { (rest : List ℕ) → IsRest self.old.skips (unread self.old.lines) rest
             → Comes result (R.remaining reader.old) (R.remaining reader.new) rest self.new.skips (unread self.new.lines) }
+        ensures on { FillsOn result self.old.lines self.new.lines }
     {
         if self.lines.has_line() {
             return Came::Bytes;
@@ -45,6 +47,9 @@ impl Feed {
         ensures tells { (rest : List ℕ) → IsRest self.old.skips (unread self.old.lines) rest
             → Tells result rest self.new.lines.window self.new.skips (unread self.new.lines) }
         ensures whole { IsWhole result self.new.lines.window }
+        ensures reads { self.new.lines.reads ≡ self.old.lines.reads }
+        ensures took { IfSome result (λ _. length (unread self.new.lines) < length (unread self.old.lines)) }
+        ensures none { IfNone result ((unread self.new.lines ≡ unread self.old.lines) × HasNoLf (unread self.old.lines)) }
     {
         match self.lines.known() {
             None => None,
@@ -77,6 +82,7 @@ impl Feed {
         ensures rest { (rest : List ℕ) → IsRest self.old.skips (unread self.old.lines) rest → IsRest self.new.skips (unread self.new.lines) rest }
         ensures no_lf { HasNoLf (unread self.new.lines) }
         ensures short { length (unread self.new.lines) ≤ 1101 }
+        ensures reads { self.new.lines.reads ≡ self.old.lines.reads }
     {
         if !self.lines.shed() {
             return;

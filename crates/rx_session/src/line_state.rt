@@ -102,6 +102,7 @@ impl LineState {
         ensures unread { unread self.new ≡ cond result [] (unread self.old) }
         ensures long { IsTrue result → 1101 < length (unread self.old) }
         ensures short { length (unread self.new) ≤ 1101 }
+        ensures reads { self.new.reads ≡ self.old.reads }
         ensures end { self.new.end ≡ self.old.end }
     {
         self.let_go();

@@ -19,8 +19,9 @@ use rx_note::{Item, Note};
 use rx_proto::{BadLine, Line, Name, Response, Version, Word, read_line_without_lf};
 use std::io::{Read, Write};
 
-// The lines that a turn carries out at most, so that other sessions have their turns too.
-const MOST_LINES: u32 = 256;
+// The lines that a turn carries out at most, so that other sessions have their turns too: each of them may be a call for whose
+// response the turn waits, while a line that is read costs next to nothing. The others are in hand for the next turn.
+const MOST_LINES: u32 = 64;
 
 // The items that are begun at most before their responses are waited for: as many as can go to a subject together.
 const MOST_BEGUN: u32 = 32;
@@ -41,11 +42,13 @@ pub struct OpenSession {
 
 impl OpenSession {
     ghost use Rattle.rx_session.specs.Gathering.{CarriesBehind, Gathered};
-    ghost use Rattle.rx_session.specs.OpenSessions.{Carried, IsNew, Sits, Sitting};
+    ghost use Rattle.rx_proto.specs.LineFeeds.{HasLf};
+    ghost use Rattle.rx_session.specs.OpenSessions.{Carried, HasGotOn, HasTakenOne, IsNew, Sits, Sitting};
 
     /// Nothing was read or answered yet, and at most `max_reads` reads may be made. One that would block counts too.
     pub fn new(max_reads: u64) -> OpenSession
-        ensures { IsNew result }
+        ensures new { IsNew result }
+        ensures reads { result.feed.lines.reads ≡ max_reads }
     {
         OpenSession {
             feed: Feed::new(max_reads),
@@ -56,14 +59,15 @@ impl OpenSession {
     }
 
     /// One turn. It writes what waits for the writer. Once all of that is written it reads, one read at most and none where a
-    /// line is in hand, carries out the lines in hand, up to 256 and while there is room for their answers, and writes these. The
+    /// line is in hand, carries out the lines in hand, up to 64 and while there is room for their answers, and writes these. The
     /// items of PUBs that follow one another are begun, up to 32, before their responses are waited for, so that they go to their
     /// subject together.
     ///
     /// A read or a write that would block does nothing, and what the writer does not take waits for a later turn. While an
     /// answer waits nothing is read, so a peer that never reads is answered for what was read before. A SUB hands the desk the
     /// writer, and QUIT ends the session, once all that was answered is written. All turns together do what
-    /// [`serve_lines`](crate::serve_lines) does with the bytes that they read. There is no turn after one that is over.
+    /// [`serve_lines`](crate::serve_lines) does with the bytes that they read. There is no turn after one that is over. One that goes
+    /// on at once carried out a line or made a read, so there are not so many in a row; one that waits for bytes left no line.
     pub fn turn<R: Read, W: Write + Drop, D: Desk<W>>(
         &mut self,
         reader: &mut R,
@@ -74,6 +78,7 @@ impl OpenSession {
             → Sitting (parties D.knows D.emits D.follows W.contents) start first read_old (R.remaining reader.old) desk.old writer self.old
             → Sits (parties D.knows D.emits D.follows W.contents) result start first read_old (R.remaining reader.new) desk.new self.new }
         ensures quits { self.old.quits ≡ true → desk.new ≡ desk.old }
+        ensures got_on { HasGotOn result self.old self.new }
     {
         match send(&mut self.outbox, self.quits, writer) {
             Turn::Again(writer) => self.go_on(reader, writer, desk),
@@ -92,7 +97,8 @@ impl OpenSession {
     ) -> Turn<W>
         requires held { self.old.outbox ≡ [] }
         requires quits { self.old.quits ≡ false }
-        ensures { (start : Place D W) (first : List ℕ) (read_old : Option (List ℕ))
+        ensures got_on { HasGotOn result self.old self.new }
+        ensures sits { (start : Place D W) (first : List ℕ) (read_old : Option (List ℕ))
             → Sitting (parties D.knows D.emits D.follows W.contents) start first read_old (R.remaining reader.old) desk.old writer self.old
             → Sits (parties D.knows D.emits D.follows W.contents) result start first read_old (R.remaining reader.new) desk.new self.new }
     {
@@ -109,7 +115,9 @@ impl OpenSession {
 
     // Carries out the lines in hand, until it has to write.
     fn carry_known<W: Write + Drop, D: Desk<W>>(&mut self, writer: W, desk: &mut D) -> Turned<W>
-        ensures { (start : Place D W) (first : List ℕ) (read_old read_now : Option (List ℕ))
+        ensures reads { self.new.feed.lines.reads ≡ self.old.feed.lines.reads }
+        ensures took { self.old.quits ≡ false → self.old.outbox ≡ [] → HasLf (unread self.old.feed.lines) → HasTakenOne result self.old self.new }
+        ensures carried { (start : Place D W) (first : List ℕ) (read_old read_now : Option (List ℕ))
             → Sitting (parties D.knows D.emits D.follows W.contents) start first read_old read_now desk.old writer self.old
             → Carried (parties D.knows D.emits D.follows W.contents) result start first read_old read_now desk.new self.new }
     {
@@ -135,9 +143,11 @@ impl OpenSession {
             → Sitting (parties D.knows D.emits D.follows W.contents) start first read_old read_now desk.old writer self.old
             → Gathered (parties D.knows D.emits D.follows W.contents) D.waits result start first read_old read_now desk.new self.new begun.new }
         ensures room { 0 < begun.new → length self.new.outbox + 64 * begun.new ≤ 6144 }
+        ensures reads { self.new.feed.lines.reads ≡ self.old.feed.lines.reads }
+        ensures took { self.old.quits ≡ false → self.old.outbox ≡ [] → HasLf (unread self.old.feed.lines) → HasTakenOne result self.old self.new }
     {
         let mut held = writer;
-        for _ in 0..MOST_LINES {
+        for _line in 0..MOST_LINES {
             if self.must_write(*begun) {
                 return Turned::On(held);
             }
@@ -195,6 +205,7 @@ impl OpenSession {
     fn must_write(&self, begun: u32) -> bool
         ensures quits { result ≡ false → self.now.quits ≡ false }
         ensures room { result ≡ false → length self.now.outbox + 64 * (begun + 1) ≤ 6144 }
+        ensures free { self.now.quits ≡ false → self.now.outbox ≡ [] → begun ≡ 0 → result ≡ false }
     {
         if self.quits || !self.outbox.has_room_for(begun) {
             return true;
@@ -267,6 +278,9 @@ fn begins<W: Write, D: Desk<W>>(desk: &mut D, read: &Result<Line<'_>, BadLine>, 
         return false;
     };
     let name = Name::of(name);
+    if behind > 0 && !desk.may_begin(&name) {
+        return false;
+    }
     let Ok(text) = text_for(desk, &name, text) else {
         return false;
     };

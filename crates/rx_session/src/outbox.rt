@@ -1,4 +1,4 @@
-ghost use Rattle.std.specs.Prelude.{◌≡◌, ◌≤◌, ◌+◌, ◌*◌, ◌++◌, [], IfOk, IsTrue, OnOk, drop, length, take};
+ghost use Rattle.std.specs.Prelude.{◌≡◌, ◌↔◌, ◌≤◌, ◌+◌, ◌*◌, ◌++◌, [], IfOk, IsTrue, OnOk, drop, length, take, true};
 ghost use Rattle.std.specs.Io.KnownBytes.{Appends, Keeps};
 ghost use Rattle.rx_proto.specs.Bytes.{Writes};
 ghost use Rattle.rx_proto.specs.Printing.{note_line, reply_line};
@@ -252,14 +252,15 @@ impl Outbox {
 
     /// Whether it has room for any line that is written behind so many responses and one more.
     pub(crate) fn has_room_for(&self, responses: u32) -> bool
-        ensures { IsTrue result → length self.now + 64 * (responses + 1) + 2048 ≤ 8192 }
+        ensures room { IsTrue result → length self.now + 64 * (responses + 1) + 2048 ≤ 8192 }
+        ensures empty { self.now ≡ [] → responses ≡ 0 → result ≡ true }
     {
         BLOCK - self.len >= LINE_ROOM + RESPONSE_ROOM * (responses as usize + 1)
     }
 
     /// Whether it holds nothing.
     pub fn is_empty(&self) -> bool
-        ensures { IsTrue result → self.now ≡ [] }
+        ensures { IsTrue result ↔ (self.now ≡ []) }
     {
         self.len == 0
     }

@@ -1,3 +1,4 @@
+pub mod Walks
 pub mod Apartness
 pub mod Looking
 pub mod Finding

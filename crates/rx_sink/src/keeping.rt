@@ -1,11 +1,12 @@
 // What a letter or a flush does to the sinks that are kept and to those that were put away.
-ghost use Rattle.std.specs.Prelude.{◌≡◌, if◌then◌else◌, ◌+◌, ◌<◌, ◌≤◌, ℕ, [], ◌++◌, List, None, IfSome, length, vec_len, vec_capacity};
+ghost use Rattle.std.specs.Prelude.{◌≡◌, if◌then◌else◌, ◌+◌, ◌<◌, ◌≤◌, ℕ, [], ◌++◌, List, None, IfSome, length, vec_len};
 ghost use Rattle.std.specs.List.{position};
 ghost use Rattle.rx_sink.specs.Acts.{raised};
 ghost use Rattle.rx_sink.specs.Attachments.{Attachment, Why, attaching, closed, detaching, flushing, giving, is_for};
 ghost use Rattle.rx_sink.specs.KeptSinks.{EndsAct, IsKeptAt, Parts, Pushes, Stand, Tends, events_of, sinks};
+ghost use Rattle.rx_sink.specs.Rests.{HasRoomFor};
 
-use crate::{Asks, Kept, Places, PutAway, Sink, SinkFault};
+use crate::{Asks, Kept, Places, PutAway, Rests, Sink, SinkFault};
 use rx_heap::Heap;
 use rx_note::Note;
 
@@ -15,18 +16,19 @@ use rx_note::Note;
 /// it came: that is still to be finished.
 pub fn attach<S: Sink>(
     kept: &mut Vec<Kept<S>, Heap>,
-    away: &mut Vec<PutAway<S::Rest>, Heap>,
+    away: &mut Rests<S::Rest>,
     places: &mut Places,
     subject: u32,
     who: u32,
     sink: S,
 ) -> (Asks, Option<S>)
-    requires room { vec_len away.old + vec_len kept.old ≤ vec_capacity away.old }
-    ensures room { vec_len away.new + vec_len kept.new ≤ vec_capacity away.new }
+    requires room { HasRoomFor (vec_len kept.old) away.old }
+    ensures room { HasRoomFor (vec_len kept.new) away.new }
+    ensures keeps { away.new.keeps ≡ away.old.keeps }
     ensures attaches { (place taken : ℕ) → Tends S.acts (attaching place subject who sink) subject
         (sinks kept.old.items away.old.items places.old.misses taken) (sinks kept.new.items away.new.items places.new.misses taken) (events_of result.0) result.1 }
 {
-    if let Some(_place) = find(kept.as_slice(), who as usize, subject, who) {
+    if let Some(_place) = look(kept.as_slice(), places, subject, who) {
         return (Asks::nothing(who), Some(sink));
     }
     let Ok(()) = places.grow(kept, away) else {
@@ -43,6 +45,7 @@ pub fn attach<S: Sink>(
                 over: false,
                 may_wait: true,
             });
+            places.add(kept);
             (Asks::nothing(who), None)
         }
         Err(_) => {
@@ -59,18 +62,21 @@ pub fn attach<S: Sink>(
 /// stays at the greatest `u64`.
 pub fn give<S: Sink>(
     kept: &mut Vec<Kept<S>, Heap>,
-    away: &mut Vec<PutAway<S::Rest>, Heap>,
+    away: &mut Rests<S::Rest>,
+    places: &mut Places,
     taken: &mut u64,
     subject: u32,
     who: u32,
     note: Note,
 ) -> Asks
-    requires room { vec_len away.old + vec_len kept.old ≤ vec_capacity away.old }
-    ensures room { vec_len away.new + vec_len kept.new ≤ vec_capacity away.new }
+    requires room { HasRoomFor (vec_len kept.old) away.old }
+    ensures room { HasRoomFor (vec_len kept.new) away.new }
+    ensures keeps { away.new.keeps ≡ away.old.keeps }
+    ensures misses { places.new.misses ≡ places.old.misses }
     ensures gives { (misses : ℕ) → Tends S.acts (giving subject who note) subject
         (sinks kept.old.items away.old.items misses taken.old) (sinks kept.new.items away.new.items misses taken.new) (events_of result) None }
 {
-    let Some(place) = find(kept.as_slice(), who as usize, subject, who) else {
+    let Some(place) = look(kept.as_slice(), places, subject, who) else {
         return Asks::nothing(who);
     };
     if kept[place].over {
@@ -86,13 +92,14 @@ pub fn give<S: Sink>(
 /// that took a terminal, and after a fault. Where the sink stands at the place `near` one look finds it.
 pub fn flush_one<S: Sink>(
     kept: &mut Vec<Kept<S>, Heap>,
-    away: &mut Vec<PutAway<S::Rest>, Heap>,
+    away: &mut Rests<S::Rest>,
     near: usize,
     subject: u32,
     who: u32,
 ) -> Asks
-    requires room { vec_len away.old + vec_len kept.old ≤ vec_capacity away.old }
-    ensures room { vec_len away.new + vec_len kept.new ≤ vec_capacity away.new }
+    requires room { HasRoomFor (vec_len kept.old) away.old }
+    ensures room { HasRoomFor (vec_len kept.new) away.new }
+    ensures keeps { away.new.keeps ≡ away.old.keeps }
     ensures len { vec_len kept.old ≤ vec_len kept.new + 1 }
     ensures flushes { (misses taken : ℕ) → Tends S.acts (flushing subject who) subject
         (sinks kept.old.items away.old.items misses taken) (sinks kept.new.items away.new.items misses taken) (events_of result) None }
@@ -108,16 +115,19 @@ pub fn flush_one<S: Sink>(
 /// that is due, and where the sink took a terminal that the observer be disposed of.
 pub fn detach<S: Sink>(
     kept: &mut Vec<Kept<S>, Heap>,
-    away: &mut Vec<PutAway<S::Rest>, Heap>,
+    away: &mut Rests<S::Rest>,
+    places: &mut Places,
     subject: u32,
     who: u32,
 ) -> Asks
-    requires room { vec_len away.old + vec_len kept.old ≤ vec_capacity away.old }
-    ensures room { vec_len away.new + vec_len kept.new ≤ vec_capacity away.new }
+    requires room { HasRoomFor (vec_len kept.old) away.old }
+    ensures room { HasRoomFor (vec_len kept.new) away.new }
+    ensures keeps { away.new.keeps ≡ away.old.keeps }
+    ensures misses { places.new.misses ≡ places.old.misses }
     ensures detaches { (misses taken : ℕ) → Tends S.acts (detaching subject who) subject
         (sinks kept.old.items away.old.items misses taken) (sinks kept.new.items away.new.items misses taken) (events_of result) None }
 {
-    let Some(place) = find(kept.as_slice(), who as usize, subject, who) else {
+    let Some(place) = look(kept.as_slice(), places, subject, who) else {
         return Asks::nothing(who);
     };
     let leaves = kept[place].over;
@@ -125,9 +135,10 @@ pub fn detach<S: Sink>(
 }
 
 /// All sinks that are kept are put away, in their order.
-pub fn put_all_away<S: Sink>(kept: &mut Vec<Kept<S>, Heap>, away: &mut Vec<PutAway<S::Rest>, Heap>)
-    requires room { vec_len away.old + vec_len kept.old ≤ vec_capacity away.old }
-    ensures room { vec_len away.new ≤ vec_capacity away.new }
+pub fn put_all_away<S: Sink>(kept: &mut Vec<Kept<S>, Heap>, away: &mut Rests<S::Rest>)
+    requires room { HasRoomFor (vec_len kept.old) away.old }
+    ensures room { HasRoomFor 0 away.new }
+    ensures keeps { away.new.keeps ≡ away.old.keeps }
     ensures kept { kept.new.items ≡ [] }
     ensures closes { (held : List (Attachment S)) (gone : List (Attachment S × Why))
         → Stand S.acts held gone kept.old.items away.old.items → Stand S.acts [] (gone ++ closed held) kept.new.items away.new.items }
@@ -142,13 +153,14 @@ pub fn put_all_away<S: Sink>(kept: &mut Vec<Kept<S>, Heap>, away: &mut Vec<PutAw
 // Puts the sink at this place away where it is done, or had a fault at what was done last. It answers what is to be asked.
 fn end_act<S: Sink>(
     kept: &mut Vec<Kept<S>, Heap>,
-    away: &mut Vec<PutAway<S::Rest>, Heap>,
+    away: &mut Rests<S::Rest>,
     place: usize,
     act: Result<Asks, SinkFault>,
 ) -> Asks
     requires within { place < vec_len kept.old }
-    requires room { vec_len away.old + vec_len kept.old ≤ vec_capacity away.old }
-    ensures room { vec_len away.new + vec_len kept.new ≤ vec_capacity away.new }
+    requires room { HasRoomFor (vec_len kept.old) away.old }
+    ensures room { HasRoomFor (vec_len kept.new) away.new }
+    ensures keeps { away.new.keeps ≡ away.old.keeps }
     ensures len { vec_len kept.old ≤ vec_len kept.new + 1 }
     ensures ends { EndsAct S.acts place act kept.old.items kept.new.items away.old.items away.new.items result }
 {
@@ -165,13 +177,14 @@ fn end_act<S: Sink>(
 // the observer is to be let go.
 fn part<S: Sink>(
     kept: &mut Vec<Kept<S>, Heap>,
-    away: &mut Vec<PutAway<S::Rest>, Heap>,
+    away: &mut Rests<S::Rest>,
     place: usize,
     leaves: bool,
 ) -> Asks
     requires within { place < vec_len kept.old }
-    requires room { vec_len away.old + vec_len kept.old ≤ vec_capacity away.old }
-    ensures room { vec_len away.new + vec_len kept.new ≤ vec_capacity away.new }
+    requires room { HasRoomFor (vec_len kept.old) away.old }
+    ensures room { HasRoomFor (vec_len kept.new) away.new }
+    ensures keeps { away.new.keeps ≡ away.old.keeps }
     ensures len { vec_len kept.old ≤ vec_len kept.new + 1 }
     ensures parts { Parts S.acts place leaves kept.old.items kept.new.items away.old.items away.new.items result }
 {
@@ -186,10 +199,10 @@ fn part<S: Sink>(
 }
 
 // Finishes a sink, and puts it behind those that were put away.
-fn push_away<S: Sink>(away: &mut Vec<PutAway<S::Rest>, Heap>, one: Kept<S>)
-    requires { vec_len away.old < vec_capacity away.old }
-    ensures capacity { vec_capacity away.new ≡ vec_capacity away.old }
-    ensures len { vec_len away.new ≡ vec_len away.old + 1 }
+fn push_away<S: Sink>(away: &mut Rests<S::Rest>, one: Kept<S>)
+    requires { HasRoomFor 1 away.old }
+    ensures room { (n : ℕ) → HasRoomFor (n + 1) away.old → HasRoomFor n away.new }
+    ensures keeps { away.new.keeps ≡ away.old.keeps }
     ensures pushes { Pushes S.acts one away.old.items away.new.items }
 {
     let Kept {
@@ -204,8 +217,25 @@ fn push_away<S: Sink>(away: &mut Vec<PutAway<S::Rest>, Heap>, one: Kept<S>)
     away.push_reserved(PutAway { subject, who, rest });
 }
 
-// The place of the sink that is kept for an observer. It is looked for from this place down, and then from there up: the sinks
-// of a subject come by the rising numbers of their observers, and a sink that goes has those behind it move down.
+// The place of the sink that is kept for an observer. It is looked for where it stood before.
+fn look<S: Sink>(kept: &[Kept<S>], places: &mut Places, subject: u32, who: u32) -> Option<usize>
+    ensures within { IfSome result (λ place. place < length kept.now) }
+    ensures found { IfSome result (λ place. IsKeptAt subject who place kept.now) }
+    ensures none { result ≡ None → position (is_for subject who) kept.now ≡ None }
+    ensures misses { places.new.misses ≡ places.old.misses }
+{
+    let near = places.near(subject, who);
+    let found = find(kept, near, subject, who);
+    if let Some(place) = found
+        && place != near
+    {
+        places.correct(subject, who, place);
+    }
+    found
+}
+
+// The place of the sink that is kept for an observer. It is looked for from this place down, and then from behind there up:
+// a sink that goes has those behind it move down.
 fn find<S: Sink>(kept: &[Kept<S>], near: usize, subject: u32, who: u32) -> Option<usize>
     ensures within { IfSome result (λ place. place < length kept.now) }
     ensures found { IfSome result (λ place. IsKeptAt subject who place kept.now) }

@@ -4,7 +4,7 @@
 //! and is then finished. It waits for nobody: a take or a flush answers whether something waits in it ([`Flow`]).
 //! [`MemorySink`] keeps what it takes; [`LineSink`] writes it as lines. Nothing here receives a letter or sends one: what a
 //! letter or a flush does to the sinks that are kept and to those that were put away is done by functions on two lists, which
-//! answer what the subject is to be asked ([`Asks`]).
+//! answer what the subject is to be asked ([`Asks`]). What those left that were put away is kept, or let go at once ([`Rests`]).
 //!
 //! The crate above rests on those functions ([`attach`], [`give`], [`flush_one`], [`detach`], [`put_all_away`]): each does to
 //! the lists what the rules of one attachment say (`specs/Attachments.antt`), whatever kind of sink it is. `specs/Acts.antt`
@@ -20,9 +20,12 @@ pub mod laws;
 mod line_rest;
 mod line_sink;
 mod memory_sink;
+mod past;
 mod places;
 mod put_away;
+mod rests;
 mod sink;
+mod spots;
 
 pub use asks::Asks;
 pub use flow::Flow;
@@ -33,4 +36,5 @@ pub use line_sink::LineSink;
 pub use memory_sink::MemorySink;
 pub use places::Places;
 pub use put_away::PutAway;
+pub use rests::Rests;
 pub use sink::{Sink, SinkFault};

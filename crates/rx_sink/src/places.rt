@@ -1,12 +1,16 @@
 ghost use Rattle.std.specs.Prelude.{◌≡◌, ◌+◌, ◌≤◌, vec_len, vec_capacity, OnOk, OnErr};
 ghost use Rattle.rx_sink.specs.Acts.{raised};
+ghost use Rattle.rx_sink.specs.Rests.{HasRoomFor};
 
+use crate::spots::Spots;
+use crate::{Kept, Rests};
 use rx_heap::{Heap, Memory};
 
-/// Makes the places of the sinks that come, and counts how often there was no memory for one.
+/// Makes the places of the sinks that come, counts how often there was no memory for one, and remembers where the sinks stand.
 #[derive(Drop)]
 pub struct Places {
     misses: u64,
+    spots: Spots,
 }
 
 impl Places {
@@ -14,29 +18,57 @@ impl Places {
     pub fn new() -> Places
         ensures { result.misses ≡ 0 }
     {
-        Places { misses: 0 }
+        Places {
+            misses: 0,
+            spots: Spots::new(),
+        }
     }
 
     /// Makes room for one more in `kept`, and in `away` for all of `kept` and that one. `Err` where there is no memory for
     /// it. The items of both stay either way.
-    pub fn grow<K: Drop, P: Drop>(
+    pub fn grow<K: Drop, R: Drop>(
         &mut self,
         kept: &mut Vec<K, Heap>,
-        away: &mut Vec<P, Heap>,
+        away: &mut Rests<R>,
     ) -> Result<(), Memory>
         ensures kept { kept.new.items ≡ kept.old.items }
         ensures away { away.new.items ≡ away.old.items }
         ensures kept_room { OnOk result (vec_len kept.old + 1 ≤ vec_capacity kept.new) }
-        ensures away_room { OnOk result (vec_len away.old + (vec_len kept.old + 1) ≤ vec_capacity away.new) }
-        ensures no_less { vec_capacity away.old ≤ vec_capacity away.new }
+        ensures away_room { OnOk result (HasRoomFor (vec_len kept.old + 1) away.new) }
+        ensures keeps { away.new.keeps ≡ away.old.keeps }
+        ensures no_less { away.old.room ≤ away.new.room }
         ensures same { OnOk result (self.new.misses ≡ self.old.misses) }
         ensures missed { OnErr result (self.new.misses ≡ raised self.old.misses) }
     {
-        let grown = make_room(kept, away);
+        let grown = match self.spots.reserve(kept) {
+            Ok(()) => make_room(kept, away),
+            Err(fault) => Err(fault),
+        };
         if grown.is_err() {
             self.misses = self.misses.saturating_add(1);
         }
         grown
+    }
+
+    // Where the sink of an observer is looked for first.
+    pub(crate) fn near(&mut self, subject: u32, who: u32) -> usize
+        ensures { self.new.misses ≡ self.old.misses }
+    {
+        self.spots.near(subject, who)
+    }
+
+    // The sink that was looked for last stands at this place.
+    pub(crate) fn correct(&mut self, subject: u32, who: u32, place: usize)
+        ensures { self.new.misses ≡ self.old.misses }
+    {
+        self.spots.correct(subject, who, place);
+    }
+
+    // A sink came, and stands behind the others.
+    pub(crate) fn add<S>(&mut self, kept: &Vec<Kept<S>, Heap>)
+        ensures { self.new.misses ≡ self.old.misses }
+    {
+        self.spots.add(kept);
     }
 
     /// How often `grow` found no memory. The count stays at the greatest `u64`.
@@ -48,17 +80,15 @@ impl Places {
 }
 
 // Makes room for one more in `kept`, and in `away` for all of `kept` and that one.
-fn make_room<K: Drop, P: Drop>(
-    kept: &mut Vec<K, Heap>,
-    away: &mut Vec<P, Heap>,
-) -> Result<(), Memory>
+fn make_room<K: Drop, R: Drop>(kept: &mut Vec<K, Heap>, away: &mut Rests<R>) -> Result<(), Memory>
     ensures kept { kept.new.items ≡ kept.old.items }
     ensures away { away.new.items ≡ away.old.items }
     ensures kept_room { OnOk result (vec_len kept.old + 1 ≤ vec_capacity kept.new) }
-    ensures away_room { OnOk result (vec_len away.old + (vec_len kept.old + 1) ≤ vec_capacity away.new) }
-    ensures no_less { vec_capacity away.old ≤ vec_capacity away.new }
+    ensures away_room { OnOk result (HasRoomFor (vec_len kept.old + 1) away.new) }
+    ensures keeps { away.new.keeps ≡ away.old.keeps }
+    ensures no_less { away.old.room ≤ away.new.room }
 {
     kept.try_reserve(1)?;
-    away.try_reserve(kept.len() + 1)?;
+    away.reserve(kept.len() + 1)?;
     Ok(())
 }

@@ -1,9 +1,11 @@
 //! Lanes, call by call. In a script a letter offers its item, `.` ends the lane, `!` by the failure `x`, where it has not ended;
-//! a digit requests so many items, and `*` requests 4,294,967,293; `?` asks for the state, and a space is told as it is.
+//! a digit requests so many items, and `*` requests 4,294,967,293; `+` makes room for four items; `?` asks for the state, `=`
+//! whether memory was asked for since that room was made, and a space is told as it is.
 //!
 //! Told is what comes back of an item or the end, and behind each request all that requests have given so far; before
 //! that, where the request was refused, `Z` for no items, `T` for too much, `M` for want of memory. The state is how many
-//! items wait, how many notes wait, how many items are owed, and `!` where the lane is over, else `-`.
+//! items wait, how many notes wait, how many items are owed, and `!` where the lane is over, else `-`. Where memory was asked
+//! for `>` is told, else `=`.
 
 use crate::in_turn::{Script, expect_in_turn};
 use crate::tape_lanes::put_outs;
@@ -12,6 +14,9 @@ use rx_lane::{AskError, Lane};
 use rx_note::{Errors, Given, Item, Note, Policy, Strategy};
 use rx_signs::{Tale, Told, item, note_of, policy_by, sign_of};
 use std::test::Fail;
+
+// How many items are made room for at a time.
+const SEVERAL: usize = 4;
 
 // A new lane, or one that was joined with a first request.
 fn lane_of(heap: &Heap, policy: Policy, first: Option<u32>) -> Result<Lane, Memory> {
@@ -36,10 +41,13 @@ fn put_back(told: &mut Told, back: &Option<Note>) {
     }
 }
 
-/// A lane that is tried, the number of its observer where that is told to its requests, what they gave so far without it and
+/// A lane that is tried, the memory that it grows by and how many growths of it were asked for by the time at which room for
+/// several items was made, the number of its observer where that is told to its requests, what they gave so far without it and
 /// with it, what is told, and how many calls were refused for want of memory and then made again.
 struct Tried {
     lane: Lane,
+    heap: Heap,
+    asked: u64,
     who: Option<u32>,
     given: Vec<Note, Heap>,
     outs: Vec<Given, Heap>,
@@ -52,6 +60,8 @@ impl Drop for Tried {
     fn drop(self) {
         let Tried {
             lane: _,
+            heap: _,
+            asked: _,
             who: _,
             given: _,
             outs: _,
@@ -116,6 +126,27 @@ impl Tried {
         Ok(())
     }
 
+    fn reserved(&mut self) -> Result<(), Memory> {
+        match self.lane.reserve(SEVERAL) {
+            Ok(()) => Ok(()),
+            Err(Memory) => {
+                self.misses = self.misses.saturating_add(1);
+                self.lane.reserve(SEVERAL)
+            }
+        }
+    }
+
+    fn reserve(&mut self) -> Result<(), Memory> {
+        self.reserved()?;
+        self.asked = self.heap.asked();
+        Ok(())
+    }
+
+    fn put_growth(&mut self) {
+        let is_none = self.heap.asked() == self.asked;
+        self.told.put(if is_none { b'=' } else { b'>' });
+    }
+
     fn end(&mut self, note: Note) {
         if self.lane.is_ended() {
             return;
@@ -128,6 +159,8 @@ impl Tried {
         match sign {
             b' ' => self.told.put(b' '),
             b'?' => self.put_state(),
+            b'+' => self.reserve()?,
+            b'=' => self.put_growth(),
             b'*' => self.ask(4_294_967_293),
             b'0'..=b'9' => self.ask(u32::from(sign - b'0')),
             b'.' | b'!' => self.end(note_of(heap, sign)?),
@@ -160,9 +193,12 @@ fn start(
 ) -> Result<Tried, Memory> {
     let given = Vec::new(tight.clone()?);
     let outs = Vec::new(tight.clone()?);
+    let heap = tight.clone()?;
     let (lane, misses) = made(tight, policy, first)?;
     Ok(Tried {
         lane,
+        heap,
+        asked: 0,
         who,
         given,
         outs,
@@ -196,7 +232,7 @@ impl Script for Row {
 }
 
 // The strategy and the error mode of a lane, the first request if it was joined, the script, and what is told.
-const ROWS: [(Strategy, Errors, Option<u32>, &str, &str); 22] = [
+const ROWS: [(Strategy, Errors, Option<u32>, &str, &str); 23] = [
     (
         Strategy::Latest(2),
         Errors::Delay,
@@ -212,6 +248,14 @@ const ROWS: [(Strategy, Errors, Option<u32>, &str, &str); 22] = [
         "120- a.000!",
     ),
     (Strategy::Buffer, Errors::Delay, Some(0), "abc.9", "abc."),
+    // No block that holds two items holds four more, and all the memory for these is taken before the first of them.
+    (
+        Strategy::Buffer,
+        Errors::Delay,
+        Some(0),
+        "ab+cdef=.? 9",
+        "=670- abcdef.",
+    ),
     (Strategy::Drop(0), Errors::Delay, Some(0), "abc.9", "."),
     (Strategy::Drop(1), Errors::Delay, Some(0), "abc.9", "a."),
     (Strategy::Drop(2), Errors::Delay, Some(0), "abc.9", "ab."),

@@ -1,8 +1,8 @@
 //! Open sessions over memory: a reader and a writer that would block as often as their row says, and a desk that answers all
 //! alike. However reads and writes are cut, a session by turns tells what `serve_lines` tells.
 //!
-//! Told is how a session ended (Q for QUIT, E for the end of the input, H for handed over, W for a fault of the writer), then
-//! what was written, and behind `|` what the desk was asked: `n`, `c` and `f` for an item, completion and an error, and `s` for
+//! Told is how a session ended (Q for QUIT, E for the end of the input, H for handed over, W for a fault of the writer, R for one
+//! of the reader, M for too many reads), then what was written, and behind `|` what the desk was asked: `n`, `c` and `f` for an item, completion and an error, and `s` for
 //! a Join in the first version, `t` for one in the second, with the count of the bytes that the writer had then.
 
 use crate::expecting::{expect_count, expect_told};
@@ -63,6 +63,8 @@ struct Halts {
     step: usize,
     pauses: Pauses,
     reads: u64,
+    // The read behind the last byte fails.
+    fails: bool,
 }
 
 impl Halts {
@@ -88,6 +90,9 @@ impl Read for Halts {
         let most = self.step.min(buf.len());
         for len in 0..most {
             let Some(byte) = self.next() else {
+                if len == 0 && self.fails {
+                    return Err(io::Error::from(ErrorKind::Other));
+                }
                 return Ok(len);
             };
             buf[len] = byte;
@@ -103,6 +108,7 @@ fn halting(input: Input, step: usize, pauses: u64) -> Halts {
         step,
         pauses: Pauses::new(pauses),
         reads: 0,
+        fails: false,
     }
 }
 
@@ -154,7 +160,8 @@ fn sign_of_end(end: SessionEnd) -> u8 {
         SessionEnd::EndOfInput => b'E',
         SessionEnd::HandedOver => b'H',
         SessionEnd::WriteFault => b'W',
-        SessionEnd::ReadFault | SessionEnd::TooManyReads => b'!',
+        SessionEnd::ReadFault => b'R',
+        SessionEnd::TooManyReads => b'M',
     }
 }
 
@@ -302,8 +309,19 @@ fn writer_faults_at_each_byte(rt: HostRuntime) {
 // What so many turns came to: `A` for one that goes on at once, `w` for one that waits for bytes, `s` for one whose answer
 // waits, or the end.
 fn told_turns(reader: &mut Halts, writer: Sips, scribe: &mut Scribe<'_>, turns: u32) -> Told {
+    told_within(reader, writer, scribe, turns, u64::MAX)
+}
+
+// The same of a session that may make so many reads.
+fn told_within(
+    reader: &mut Halts,
+    writer: Sips,
+    scribe: &mut Scribe<'_>,
+    turns: u32,
+    max_reads: u64,
+) -> Told {
     let mut told = Told::new();
-    let mut session = OpenSession::new(u64::MAX);
+    let mut session = OpenSession::new(max_reads);
     let mut held = writer;
     for _ in 0..turns {
         match session.turn(reader, held, scribe) {
@@ -329,14 +347,16 @@ fn told_turns(reader: &mut Halts, writer: Sips, scribe: &mut Scribe<'_>, turns: 
 }
 
 // What a peer sends (a unit, how many times, and the rest), how many bytes a read gives, how many reads, writes and flushes
-// would block before each, how many turns are taken; what they came to, the reads that were made and the notes of the desk.
-const TURNS: [(&str, usize, &str, usize, u64, u64, u64, u32, &str, u64, u64); 9] = [
+// would block before each, how many turns are taken, each of 64 lines at most; what they came to, the reads that were made and the
+// notes of the desk.
+const TURNS: [(&str, usize, &str, usize, u64, u64, u64, u32, &str, u64, u64); 10] = [
     ("", 0, "", 1, 9, 0, 0, 3, "www", 3, 0),
     ("", 0, "END s\n", 3, 1, 0, 0, 6, "wAwAwE", 6, 1),
     ("END s\n", 100, "", 16, 0, 5, 0, 5, "sssss", 1, 2),
     ("END s\n", 100, "", 16, 0, 5, 0, 6, "ssssss", 2, 5),
-    ("END s\n", 600, "", 65_536, 0, 0, 0, 3, "AAA", 1, 600),
-    ("END s\n", 600, "", 65_536, 0, 0, 0, 4, "AAAE", 2, 600),
+    ("END s\n", 130, "", 65_536, 0, 0, 0, 2, "AA", 1, 128),
+    ("END s\n", 130, "", 65_536, 0, 0, 0, 3, "AAA", 1, 130),
+    ("END s\n", 130, "", 65_536, 0, 0, 0, 4, "AAAE", 2, 130),
     ("", 0, "QUIT\nEND s\n", 16, 0, 3, 0, 9, "sssQ", 1, 0),
     ("", 0, "QUIT\nEND s\n", 16, 0, 0, 2, 9, "ssQ", 1, 0),
     (
@@ -367,6 +387,37 @@ fn turns_come_to_this(rt: HostRuntime) {
         let writer = sipping(65_536, *writes, *flushes);
         let mut scribe = writing(&heap, true, 3);
         let told_now = told_turns(&mut reader, writer, &mut scribe, *turns);
+        expect_told(&rt, told_now.as_bytes(), told, told);
+        expect_count(&rt, reader.reads, *reads, told);
+        expect_count(&rt, scribe.asked.len() as u64, *asked, told);
+    }
+}
+
+// How many reads a session may make, how many bytes a read gives, how many would block before each, whether the last one fails; what
+// its turns came to, the reads that were made and the notes of the desk. A peer sends two lines.
+const READS: [(u64, usize, u64, bool, &str, u64, u64); 6] = [
+    (0, 6, 0, false, "M", 0, 0),
+    (2, 6, 2, false, "wwM", 2, 0),
+    (3, 6, 2, false, "wwAM", 3, 1),
+    (1, 65_536, 0, false, "AM", 1, 2),
+    (2, 65_536, 0, false, "AE", 2, 2),
+    (9, 65_536, 0, true, "AR", 2, 2),
+];
+
+#[test]
+fn reads_of_a_session_are_bounded(rt: HostRuntime) {
+    let heap = unlimited(&rt);
+    for (max_reads, step, pauses, fails, told, reads, asked) in &READS {
+        let input = Input {
+            unit: "END s\n",
+            times: 2,
+            rest: "",
+        };
+        let mut reader = halting(input, *step, *pauses);
+        reader.fails = *fails;
+        let writer = sipping(65_536, 0, 0);
+        let mut scribe = writing(&heap, true, 3);
+        let told_now = told_within(&mut reader, writer, &mut scribe, 9, *max_reads);
         expect_told(&rt, told_now.as_bytes(), told, told);
         expect_count(&rt, reader.reads, *reads, told);
         expect_count(&rt, scribe.asked.len() as u64, *asked, told);

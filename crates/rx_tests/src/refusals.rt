@@ -1,7 +1,8 @@
 //! Worked runs of a hub with each of its growths refused in turn: either there is no hub or no list of its steps, or the
 //! hub answers and gives what the history of the other events says.
 //!
-//! A run is told by the moments of its parts, in milliseconds, each with the signs of its events.
+//! A run is told by the moments of its parts, in milliseconds, each with the signs of its events, and `A` to `I` where observer 1
+//! requests 1 to 9 items.
 
 ghost use Rattle.std.specs.Prelude.{◌≤◌, IfOk};
 
@@ -10,116 +11,132 @@ use crate::hubs::{Ran, Reading};
 use rx_heap::Heap;
 use rx_history::History;
 use rx_hub::{Hub, HubError, Run, Step};
-use rx_note::{Event, Refusal, Rules, Strategy};
-use rx_signs::{Named, Refusable, Seen, event_at, kind_of, policy_of, refuse_in_turn, rules_of};
+use rx_note::{Errors, Event, Refusal, Rules, Strategy};
+use rx_signs::{Named, Refusable, Seen, event_at, kind_of, policy_by, refuse_in_turn, rules_of};
+use std::slice;
 use std::test::Fail;
 
-/// A worked run: the kind of its subject, the strategy and the first request of each observer, and its events.
+/// A worked run: the kind of its subject, the strategy, error mode and first request of each observer in turn, and its events.
 struct Row {
     name: &'static str,
     kind: Named,
-    strategy: Strategy,
-    first: u32,
+    joins: &'static [(Strategy, Errors, u32)],
     parts: &'static [(u64, &'static str)],
 }
 
-const ROWS: [Row; 14] = [
+const ROWS: [Row; 18] = [
     Row {
         name: "first_run",
         kind: Named::Publish,
-        strategy: Strategy::Buffer,
-        first: 0,
+        joins: &[(Strategy::Buffer, Errors::Delay, 0)],
         parts: &[(0, "+ab1.5")],
     },
     Row {
         name: "latest_two",
         kind: Named::Publish,
-        strategy: Strategy::Latest(2),
-        first: 1,
+        joins: &[(Strategy::Latest(2), Errors::Delay, 1)],
         parts: &[(0, "+abcd5e")],
+    },
+    Row {
+        name: "error_ahead",
+        kind: Named::Publish,
+        joins: &[(Strategy::Buffer, Errors::Ahead, 1)],
+        parts: &[(0, "+abc!3")],
+    },
+    Row {
+        name: "overflow_ahead",
+        kind: Named::Publish,
+        joins: &[(Strategy::Bounded(1), Errors::Ahead, 1)],
+        parts: &[(0, "+abc1")],
+    },
+    Row {
+        name: "tape_replay_and_latest",
+        kind: Named::Replay(Some(2), None),
+        joins: &[
+            (Strategy::Latest(1), Errors::Delay, 0),
+            (Strategy::Buffer, Errors::Delay, 1),
+        ],
+        parts: &[(0, "abc++d-I")],
+    },
+    Row {
+        name: "tape_behind_a_seed",
+        kind: Named::Behavior(Some(b'z')),
+        joins: &[(Strategy::Latest(2), Errors::Delay, 0)],
+        parts: &[(0, "+ab9")],
     },
     Row {
         name: "overflow_delayed",
         kind: Named::Publish,
-        strategy: Strategy::Bounded(1),
-        first: 1,
+        joins: &[(Strategy::Bounded(1), Errors::Delay, 1)],
         parts: &[(0, "+abcd1.")],
     },
     Row {
         name: "overflow_room_zero",
         kind: Named::Publish,
-        strategy: Strategy::Bounded(0),
-        first: 0,
+        joins: &[(Strategy::Bounded(0), Errors::Delay, 0)],
         parts: &[(0, "+ab+c.")],
     },
     Row {
         name: "overflow_in_the_opening",
         kind: Named::Replay(None, None),
-        strategy: Strategy::Bounded(1),
-        first: 0,
+        joins: &[(Strategy::Bounded(1), Errors::Delay, 0)],
         parts: &[(0, "ab+2c")],
     },
     Row {
         name: "behavior_before_and_after_end",
         kind: Named::Behavior(Some(b'z')),
-        strategy: Strategy::Buffer,
-        first: 9,
+        joins: &[(Strategy::Buffer, Errors::Delay, 9)],
         parts: &[(0, "+a+.+")],
     },
     Row {
         name: "async_last_item",
         kind: Named::Async,
-        strategy: Strategy::Buffer,
-        first: 1,
+        joins: &[(Strategy::Buffer, Errors::Delay, 1)],
         parts: &[(0, "+ab.+")],
     },
     Row {
         name: "async_empty",
         kind: Named::Async,
-        strategy: Strategy::Buffer,
-        first: 1,
+        joins: &[(Strategy::Buffer, Errors::Delay, 1)],
         parts: &[(0, "+.")],
     },
     Row {
         name: "async_failed",
         kind: Named::Async,
-        strategy: Strategy::Buffer,
-        first: 1,
+        joins: &[(Strategy::Buffer, Errors::Delay, 1)],
         parts: &[(0, "+a!")],
     },
     Row {
         name: "replay_count_into_drop",
         kind: Named::Replay(Some(2), None),
-        strategy: Strategy::Drop(1),
-        first: 0,
+        joins: &[(Strategy::Drop(1), Errors::Delay, 0)],
         parts: &[(0, "abc+2")],
     },
     Row {
         name: "replay_age_stops_at_the_end",
         kind: Named::Replay(None, Some(10)),
-        strategy: Strategy::Buffer,
-        first: 9,
+        joins: &[(Strategy::Buffer, Errors::Delay, 9)],
         parts: &[(0, "a"), (5, "b"), (10, "c+"), (15, "+."), (1000, "+")],
     },
     Row {
         name: "replay_of_a_failed_subject",
         kind: Named::Replay(None, None),
-        strategy: Strategy::Buffer,
-        first: 0,
-        parts: &[(0, "a!++1")],
+        joins: &[
+            (Strategy::Buffer, Errors::Ahead, 0),
+            (Strategy::Buffer, Errors::Delay, 0),
+        ],
+        parts: &[(0, "a!++A")],
     },
     Row {
         name: "left_and_joined_again",
         kind: Named::Replay(None, None),
-        strategy: Strategy::Buffer,
-        first: 1,
+        joins: &[(Strategy::Buffer, Errors::Delay, 1)],
         parts: &[(0, "+ab-c+1.")],
     },
     Row {
         name: "stamps_never_fall",
         kind: Named::Replay(None, Some(10)),
-        strategy: Strategy::Buffer,
-        first: 9,
+        joins: &[(Strategy::Buffer, Errors::Delay, 9)],
         parts: &[(20, "a"), (5, "b"), (29, "+"), (30, "+")],
     },
 ];
@@ -132,14 +149,34 @@ impl Row {
     }
 
     fn events(&self, heap: &Heap) -> Result<Vec<(u32, Event), Heap>, Fail> {
-        let policy = policy_of(self.strategy)?;
+        let mut joins = self.joins.iter();
         let mut events = Vec::new(heap.clone()?);
         for (at, signs) in self.parts {
             for sign in signs.as_bytes() {
-                events.push((0, event_at(heap, policy, self.first, *at, *sign)?))?;
+                events.push((0, self.event(heap, &mut joins, *at, *sign)?))?;
             }
         }
         Ok(events)
+    }
+
+    // The event of a sign. A Join is as the next of the joins says, or as the last.
+    fn event(
+        &self,
+        heap: &Heap,
+        joins: &mut slice::Iter<'static, (Strategy, Errors, u32)>,
+        at: u64,
+        sign: u8,
+    ) -> Result<Event, Fail> {
+        if let b'A'..=b'I' = sign {
+            let n = u32::from(sign - b'A').saturating_add(1);
+            return Ok(Event::Request { who: 1, n });
+        }
+        let next = if sign == b'+' { joins.next() } else { None };
+        let Some((strategy, errors, first)) = next.or(self.joins.last()) else {
+            return Err(Fail::from("a run without observers"));
+        };
+        let policy = policy_by(*strategy, *errors)?;
+        Ok(event_at(heap, policy, *first, at, sign)?)
     }
 
     // The history of the events that were not refused for want of memory.

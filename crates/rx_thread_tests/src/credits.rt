@@ -101,7 +101,7 @@ fn told_turn(rt: &(impl Wait + Abort), heap: &Heap, bench: &mut Bench, letters: 
 // What the sinks let out, behind each other, in the order in which they were put away.
 fn told_rests(end: &DrainEnd<Valve>) -> Told {
     let mut told = Told::new();
-    for away in &end.put_away {
+    for away in end.put_away.as_slice() {
         told.put_all(away.rest.as_bytes());
         told.put(b'|');
     }

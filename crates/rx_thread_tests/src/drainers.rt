@@ -139,7 +139,7 @@ fn served<S: Sink>(rt: &(impl Wait + Abort), drainer: Drainer<S>) -> DrainEnd<S>
 // What the sinks of a drainer took that has ended.
 fn tale_of_end(end: &DrainEnd<MemorySink>) -> Tale {
     let mut told = Told::new();
-    for away in &end.put_away {
+    for away in end.put_away.as_slice() {
         told.put_notes(away.rest.as_slice());
     }
     told.put(b'|');
@@ -229,9 +229,9 @@ impl<R: Wait + Abort> Refusable for Drain<R> {
 fn drainer_with_each_growth_refused(rt: HostRuntime) -> Result<(), Fail> {
     let refusals = refuse_in_turn(&Drain(rt), rt.alloc())?;
     expect_words(&rt, refusals.fault, "", "a drainer");
-    // The list of ended ports; the place of the sink in the two lists, and the sink's own list.
+    // The list of ended ports; the spot of the sink, its place in the two lists, and the sink's own list.
     expect_count(&rt, refusals.unmade, 1, "unmade");
-    expect_count(&rt, refusals.missed, 3, "missed");
+    expect_count(&rt, refusals.missed, 4, "missed");
     Ok(())
 }
 

@@ -16,6 +16,8 @@ mod drainers;
 #[cfg(test)]
 mod expecting;
 #[cfg(test)]
+mod forgetting;
+#[cfg(test)]
 mod holding;
 #[cfg(test)]
 mod letters;
@@ -25,6 +27,8 @@ mod line_sinks;
 mod pumps;
 #[cfg(test)]
 mod shared_budget;
+#[cfg(test)]
+mod stopped;
 #[cfg(test)]
 mod texts;
 #[cfg(test)]

@@ -3,7 +3,7 @@ use Rattle.std.proofs.Common.{◌≡◌, ◌⊎◌, ℕ, ◌+◌, ◌-◌, ◌^�
 use Rattle.std.specs.List.{All, Contains}
 use Rattle.std.proofs.lemmas.Bool.{cases_eq}
 use Rattle.std.proofs.lemmas.List.{length-append}
-use Rattle.std.proofs.lemmas.List.Elements.{All-nil, All-push, All-weaker, Contains-append_right}
+use Rattle.std.proofs.lemmas.List.Elements.{All-append, All-cons, All-nil, All-push, All-weaker, Contains-append_right}
 use Rattle.rx_mailbox.specs.Boxes.{Incoming}
 use Rattle.rx_pump.specs.Desks.{DeskView}
 use Rattle.rx_pump.specs.Pumps.{counted}
@@ -25,7 +25,7 @@ use Rattle.rx_workers.specs.declared.client.Talk.{Talk}
 use Rattle.rx_workers.specs.declared.joined.Joined.{Joined}
 use Rattle.rx_workers.specs.declared.worker_end.WorkerEnd.{WorkerEnd}
 use Rattle.rx_workers.specs.Workers.{worker_at_end}
-use Rattle.rx_workers.specs.Working.{WorkerView, worker, State, state, Deed, Admitted, GivenUp, Dismissed, Abandoned, Turned, Parted, admitted, Begins, IsTalkOf, Leaves, HasTurn, Does, Works, Goes, IsServed, HasWorked, calls}
+use Rattle.rx_workers.specs.Working.{WorkerView, worker, State, state, Deed, Admitted, GivenUp, Dismissed, Abandoned, Turned, Parted, admitted, Begins, IsTalkOf, Leaves, HasTurn, HasTurns, PartsAt, ServesAt, Does, Works, Goes, IsServed, HasWorked, calls}
 use Rattle.rx_workers.proofs.Sessions.{keeps-equal, keeps-then, turn_keeps}
 
 module _ {C W : Type 0} where
@@ -60,6 +60,31 @@ module _ {M C W : Type 0} (tells : M → ℕ → M → Type 0) (remaining : C �
 
   pub Goes-then : (a b c : State M C W) → Goes tells remaining contents a b → Goes tells remaining contents b c → Goes tells remaining contents a c
   Goes-then a b c p q = (q.0 ++ p.0, works-then p.0 q.0 a b c p.1 q.1)
+
+  -- TURNS OF ONE SESSION
+  pub HasTurns-none : (place : ℕ) (s : State M C W) → HasTurns tells remaining contents place s s
+  HasTurns-none place s = ([], All-nil (λ (deed : Deed (C × W)). deed ≡ Turned place), refl)
+
+  pub HasTurns-one : (place : ℕ) (before after : State M C W) → HasTurn tells remaining contents place before after → HasTurns tells remaining contents place before after
+  HasTurns-one place before after had = (
+    Turned place ∷ [],
+    All-cons (λ (deed : Deed (C × W)). deed ≡ Turned place) (Turned place) [] refl (All-nil (λ (deed : Deed (C × W)). deed ≡ Turned place)),
+    (before, refl, had),
+  )
+
+  pub HasTurns-then : (place : ℕ) (a b c : State M C W) → HasTurns tells remaining contents place a b → HasTurns tells remaining contents place b c
+      → HasTurns tells remaining contents place a c
+  HasTurns-then place a b c p q = (q.0 ++ p.0, All-append (λ (deed : Deed (C × W)). deed ≡ Turned place) q.0 p.0 q.1 p.1, works-then p.0 q.0 a b c p.2 q.2)
+
+  parts-goes : (place : ℕ) (before after : State M C W) → PartsAt tells remaining contents place before after → Goes tells remaining contents before after
+  parts-goes place before after (inl did) = Goes-one (Parted place) before after did
+  parts-goes place before after (inr (none, same)) = ([], same)
+
+  pub Serves-goes : (place : ℕ) (is_gone : Bool) (before after : State M C W) → ServesAt tells remaining contents place is_gone before after
+      → Goes tells remaining contents before after
+  Serves-goes place false before after served = (served.0, served.2)
+  Serves-goes place true before after served =
+      Goes-then before served.0 after (served.1.0, served.1.2) (parts-goes place served.0 after served.2)
 
   -- WHAT A DEED KEEPS OF THE DESK
   does_keeps : (deed : Deed (C × W)) (before after : State M C W) → Does tells remaining contents deed before after → KeepsSession before.session after.session

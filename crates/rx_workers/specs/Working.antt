@@ -17,7 +17,7 @@ use Rattle.rx_session.specs.declared.session_end.SessionEnd.TheVariants as ends
 use Rattle.rx_session.specs.declared.turn.Turn.{Turn}
 use Rattle.rx_session.specs.declared.turn.Turn.TheVariants.{Again, Waits, Stuck, Over}
 use Rattle.rx_sink.specs.declared.line_sink.LineSink.{LineSink}
-use Rattle.rx_workers.specs.Clients.{AreSameClients, IsQuiet, Sets}
+use Rattle.rx_workers.specs.Clients.{AreSameClients, IsFollower, IsQuiet, Sets, client_at}
 use Rattle.rx_workers.specs.SessionDesks.{SessionView, KeepsSession, Disposes, emits, follows, knows}
 use Rattle.rx_workers.specs.declared.client.Client.{Client}
 use Rattle.rx_workers.specs.declared.client.Client.TheVariants.{Talks, Follows}
@@ -197,6 +197,20 @@ module _ {M C W : Type 0} (tells : M → ℕ → M → Type 0) (remaining : C �
   -- some deeds
   abbrev pub Goes : State M C W → State M C W → Type 0
   Goes before after = (deeds : List (Deed (C × W))) × Works deeds before after
+
+  -- the session at this place had some turns, and nothing else was done
+  abbrev pub HasTurns : ℕ → State M C W → State M C W → Type 0
+  HasTurns place before after = (deeds : List (Deed (C × W))) × All (λ deed. deed ≡ Turned place) deeds × Works deeds before after
+
+  -- the follower at this place was parted with; where there is none nothing was done
+  abbrev pub PartsAt : ℕ → State M C W → State M C W → Type 0
+  PartsAt place before after = Does (Parted place) before after ⊎ ((¬ IsFollower (client_at place before.clients)) × (after ≡ before))
+
+  -- the client at this place was served: its session had some turns, and then, only where its peer hung up, who follows there was
+  -- parted with
+  abbrev pub ServesAt : ℕ → Bool → State M C W → State M C W → Type 0
+  ServesAt place false before after = HasTurns place before after
+  ServesAt place true before after = (mid : State M C W) × HasTurns place before mid × PartsAt place mid after
 
   -- a connection was served to its end by a session among others: each of its lines was asked of the desk as it then was
   pub record IsServed (connection : C × W) : Type 0 where

@@ -1,5 +1,5 @@
 // What a turn of a session leaves at its place.
-ghost use Rattle.std.specs.Prelude.{◌≡◌, if◌then◌else◌};
+ghost use Rattle.std.specs.Prelude.{◌≡◌};
 ghost use Rattle.rx_workers.specs.Working.{GoesOn, Leaves, goes_on, left_by};
 
 use crate::client::{Client, Follower, Talk};
@@ -9,7 +9,7 @@ use rx_heap::Heap;
 use rx_session::{OpenSession, SessionEnd, Turn};
 
 /// Where a session pauses, and for what its connection was watched: after the last turn for now one that would go on at once
-/// is told as ready again.
+/// is told again by the next wait.
 #[derive(Clone, Copy)]
 pub struct Pause {
     /// The place of the session.
@@ -34,8 +34,8 @@ pub fn leave<C: Drop, W: Drop, P: Readiness<C>>(
 {
     match turned {
         Turn::Again(writer) => {
-            let aim = again(&reader, pause, readiness);
-            (true, talks(reader, writer, session, aim))
+            again::<C, P>(pause, readiness);
+            (true, talks(reader, writer, session, pause.aim))
         }
         Turn::Waits(writer) => {
             let aim = watch(&reader, pause, Aim::Bytes, readiness);
@@ -66,15 +66,11 @@ fn talks<C: Drop, W: Drop>(
     }))
 }
 
-// Has a connection told as ready again where its session has no further turn now.
-fn again<C, P: Readiness<C>>(reader: &C, pause: Pause, readiness: &mut P) -> Aim
-    ensures { result ≡ (if pause.is_last then Aim.Both else pause.aim) }
-{
-    if !pause.is_last {
-        return pause.aim;
+// Has a connection told again where its session has no further turn now.
+fn again<C, P: Readiness<C>>(pause: Pause, readiness: &mut P) {
+    if pause.is_last {
+        readiness.again(pause.place);
     }
-    readiness.change(reader, pause.place, Aim::Both);
-    Aim::Both
 }
 
 // Has a connection watched for this.

@@ -32,6 +32,7 @@ mod serving;
 mod session_desk;
 mod shared_moments;
 mod shift;
+mod task;
 mod worker;
 mod worker_end;
 

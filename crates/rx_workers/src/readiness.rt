@@ -43,10 +43,15 @@ pub trait Readiness<C> {
     /// Watches it for something else, or anew for the same. What it is ready for by then is told.
     fn change(&mut self, connection: &C, key: usize, aim: Aim);
 
+    /// Has the connection of this key told by the next wait, though nothing happens on it: its session goes on at once. Others
+    /// that are ready are told in between.
+    fn again(&mut self, key: usize);
+
     /// Watches it no more.
     fn forget(&mut self, connection: &C);
 
-    /// Waits until a connection is ready, or until the bell rings. It may come back without either.
+    /// Waits until a connection is ready, or until the bell rings; not where one is to be told again. It may come back without
+    /// either.
     fn wait(&mut self);
 
     /// The next connection that was ready when `wait` came back, each once.

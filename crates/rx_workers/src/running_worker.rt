@@ -1,18 +1,17 @@
 //! Workers in threads of their own.
-ghost use Rattle.std.specs.Prelude.{◌≡◌, IfSome, MatchResult};
-ghost use Rattle.rx_pump.specs.Sends.{with_bye};
+ghost use Rattle.std.specs.Prelude.{◌≡◌, MatchResult};
 ghost use Rattle.rx_workers.specs.Workers.{HasEnded};
 
 use crate::moments::Moments;
 use crate::readiness::Readiness;
+use crate::task::{dismiss, start_task};
 use crate::worker::Worker;
 use crate::worker_end::WorkerEnd;
-use rx_mailbox::{EndedPort, Port};
+use rx_mailbox::Port;
 use std::io::{Read, Write};
 use std::marker::Model;
 use std::snapshot::Snapshot;
 use std::sync::Wait;
-use std::thread;
 use std::thread::{Promise, PromisedHandle, Threads};
 
 /// What the thread of a worker answers is what `serve` promises of that worker.
@@ -62,12 +61,9 @@ pub fn start_worker<
         return Err(worker.serve(rt));
     };
     let promise = Worked(Snapshot::of(&worker));
-    match thread::spawn_with(rt, promise, move || worker.serve(&own)) {
-        Ok(handle) => Ok((RunningWorker { handle }, port)),
-        Err(refused) => {
-            drop(dismiss(rt, port));
-            Err((refused.value)())
-        }
+    match start_task(rt, own, promise, worker, port) {
+        Ok((handle, port)) => Ok((RunningWorker { handle }, port)),
+        Err(end) => Err(end),
     }
 }
 
@@ -78,17 +74,6 @@ impl<M: Moments + Drop, C: Read + Drop, W: Write + Drop, P: Drop> Model
     ghost Value = { WorkerView (Unit {0}) C W };
 
     ghost view = { λ r. r.handle.promise.0.value };
-}
-
-/// Tells a worker, by the port to its inbox, that no connection comes any more. Answers the port, ended, but where the worker
-/// is gone.
-pub(crate) fn dismiss<B: Drop, R: Wait>(rt: &R, port: Port<B>) -> Option<EndedPort<B>>
-    ensures { IfSome result (λ ended. ended ≡ with_bye port) }
-{
-    match port.finish(rt) {
-        Ok(ended) => Some(ended),
-        Err(_) => None,
-    }
 }
 
 impl<M: Moments + Drop, C: Read + Drop, W: Write + Drop, P: Drop> RunningWorker<M, C, W, P> {

@@ -210,6 +210,13 @@ impl<'a, R: Wait, M: Moments + Drop, W: Write + Drop> Desk<W> for SessionDesk<'a
         response_of(&answered)
     }
 
+    fn may_begin(&self, name: &Name) -> bool {
+        match self.config.subjects.get(self.subject) {
+            Some(subject) => is_named(subject, name),
+            None => false,
+        }
+    }
+
     fn begin(&mut self, name: &Name, note: Note, behind: u32) -> Result<(), Note> {
         let Some(place) = self.place_of(name) else {
             return Err(note);

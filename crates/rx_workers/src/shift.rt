@@ -1,7 +1,7 @@
 ghost use Rattle.std.specs.Prelude.{◌≡◌, ◌↔◌, ◌⊎◌, [], false, true, IsFalse, IsTrue};
 ghost use Rattle.rx_mailbox.specs.declared.letter.Post.TheVariants.{Body};
 ghost use Rattle.rx_workers.specs.Clients.{IsTalk, client_at};
-ghost use Rattle.rx_workers.specs.Working.{Goes, HasTurnTo, IsFinished, Receives, state};
+ghost use Rattle.rx_workers.specs.Working.{Goes, HasTurnTo, HasTurns, IsFinished, PartsAt, Receives, ServesAt, state};
 
 use crate::admitting::admit;
 use crate::client::Talk;
@@ -16,8 +16,9 @@ use std::io::{Read, Write};
 use std::marker::Model;
 use std::sync::Wait;
 
-// The turns of a session at most, before others have theirs.
-const MOST_TURNS: u32 = 8;
+// The turns of a session at most, before others have theirs: one that carries out what came, and one that mostly finds that
+// nothing more did.
+const MOST_TURNS: u32 = 2;
 
 /// A worker at work: the desk of its sessions, the inbox of its connections, its clients, and how many sessions it began.
 pub struct Shift<'a, R, M: Drop, C: Drop, W: Write + Drop> {
@@ -145,7 +146,7 @@ impl<'a, R: Wait, M: Moments + Drop, C: Read + Drop, W: Write + Drop> Shift<'a, 
 
     /// Serves the client that is ready: a session has some turns, and a follower who hung up is parted with.
     pub fn serve<P: Readiness<C>>(&mut self, ready: Ready, readiness: &mut P)
-        ensures { Goes M.tells C.remaining W.contents self.old self.new }
+        ensures { ServesAt M.tells C.remaining W.contents ready.key ready.is_gone self.old self.new }
     {
         self.turn_some(ready.key, readiness);
         if ready.is_gone {
@@ -155,7 +156,7 @@ impl<'a, R: Wait, M: Moments + Drop, C: Read + Drop, W: Write + Drop> Shift<'a, 
 
     // The session at this place has turns while it goes on at once, and no more than some.
     fn turn_some<P: Readiness<C>>(&mut self, place: usize, readiness: &mut P)
-        ensures { Goes M.tells C.remaining W.contents self.old self.new }
+        ensures { HasTurns M.tells C.remaining W.contents place self.old self.new }
     {
         for turn in 1..=MOST_TURNS {
             if !self.turn(place, turn == MOST_TURNS, readiness) {
@@ -165,9 +166,9 @@ impl<'a, R: Wait, M: Moments + Drop, C: Read + Drop, W: Write + Drop> Shift<'a, 
     }
 
     // The session at this place has a turn, if there is one. Whether it goes on at once: where this is the last turn for now,
-    // its connection is told as ready again.
+    // its connection is told again by the next wait.
     fn turn<P: Readiness<C>>(&mut self, place: usize, is_last: bool, readiness: &mut P) -> bool
-        ensures goes { Goes M.tells C.remaining W.contents self.old self.new }
+        ensures turns { HasTurns M.tells C.remaining W.contents place self.old self.new }
         ensures turned { IsTalk (client_at place self.old.clients) → HasTurnTo M.tells C.remaining W.contents place result self.old self.new }
         ensures idle { ¬ IsTalk (client_at place self.old.clients) → result ≡ false }
         ensures kept { ¬ IsTalk (client_at place self.old.clients) → self.new ≡ self.old }
@@ -195,7 +196,7 @@ impl<'a, R: Wait, M: Moments + Drop, C: Read + Drop, W: Write + Drop> Shift<'a, 
 
     // The observer of the follower at this place is disposed of, and the place is vacant.
     fn part<P: Readiness<C>>(&mut self, place: usize, readiness: &mut P)
-        ensures { Goes M.tells C.remaining W.contents self.old self.new }
+        ensures { PartsAt M.tells C.remaining W.contents place self.old self.new }
     {
         let Some(follower) = self.clients.take_follower(place) else {
             return;

@@ -8,6 +8,7 @@ use crate::serving::serve_all;
 use crate::session_desk::SessionDesk;
 use crate::shared_moments::SharedMoments;
 use crate::shift::Shift;
+use crate::task::Task;
 use crate::worker_end::WorkerEnd;
 use rx_config::Config;
 use rx_heap::Heap;
@@ -116,5 +117,18 @@ impl<M: Moments + Drop, C: Read + Drop, W: Write + Drop, P: Readiness<C> + Drop>
             inbox,
             sessions,
         }
+    }
+}
+
+impl<M: Moments + Drop, C: Read + Drop, W: Write + Drop, P: Readiness<C> + Drop> Task
+    for Worker<M, C, W, P> {
+    type End = WorkerEnd<C, W>;
+
+    ghost use Rattle.rx_workers.specs.Workers.{HasEnded};
+
+    ghost ends = { λ w end. HasEnded M.tells C.remaining W.contents w end };
+
+    fn run<R: Wait>(self, rt: &R) -> WorkerEnd<C, W> {
+        self.serve(rt)
     }
 }

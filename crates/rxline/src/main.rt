@@ -7,7 +7,7 @@ ghost use Rattle.std.specs.Prelude.{map};
 ghost use Rattle.std.specs.Process.{exit_status};
 ghost use Rattle.rx_program.specs.Programs.{Program};
 
-use rx_program::{Host, ProgramFault, run_words, tell};
+use rx_program::{Host, Plain, ProgramFault, run_words, tell};
 use std::alloc::AllocError;
 use std::env;
 use std::io::{self, IsTerminal, Read, Write};
@@ -35,6 +35,10 @@ fn main(rt: HostRuntime) -> ExitCode {
         let _ = writeln!(faults, "{READS_A_SCRIPT}");
     }
     let mut writer = rt.stdout();
+    if writer.is_terminal() {
+        let mut shown = Plain::new(&mut writer);
+        return run(&rt, words.as_slice(), &mut reader, &mut shown, &mut faults);
+    }
     run(&rt, words.as_slice(), &mut reader, &mut writer, &mut faults)
 }
 

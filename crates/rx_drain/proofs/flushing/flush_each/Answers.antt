@@ -15,6 +15,7 @@ loop-place-init g c = record {
   fits = c.requires;
   inbox = refl;
   same = refl;
+  keeps = refl;
   within = omega (arith, c.len-place.ensures);
   flushing = Flushing-none g.S.Sink.acts c.len-place.result (view_of c.args.hands.now false None) (omega (arith, c.len-place.ensures, c.args.hands.now.kept.ok.0));
 }
@@ -30,6 +31,7 @@ loop-place-preserved g c =
       fits = inv.fits;
       inbox = inv.inbox;
       same = inv.same;
+      keeps = inv.keeps;
       within = omega (arith, inv.within);
       flushing = Flushing-past g.S.Sink.acts c.loop-place.place next (view_of c.args.hands.now false None) (view_of hands false None) one place_is
           (slice_get-get_or hands.kept.items next one (omega (arith, inv.within, c.loop-place-test.true, hands.kept.ok.0)) ∙ ap Some (sym c.index.ensures)) c.if-index.false inv.flushing;
@@ -48,6 +50,7 @@ loop-place-preserved-in-loop-place g c =
       fits = subst (λ (f : Option DrainFault). Fits c.args.leave false f after) (none_of fault whole) c.flush_at-fault.ensures.fits;
       inbox = c.flush_at-fault.ensures.inbox ∙ inv.inbox;
       same = c.flush_at-fault.ensures.ports ∙ inv.same;
+      keeps = c.flush_at-fault.ensures.keeps ∙ inv.keeps;
       within = omega (arith, inv.within, c.flush_at-fault.ensures.len);
       flushing = Flushing-whole g.S.Sink.acts next (view_of c.args.hands.now false None) (λ f. view_of after false f) fault whole
           (Flushing-more g.S.Sink.acts c.loop-place.place next (view_of c.args.hands.now false None) (view_of hands false None) (view_of after false fault) place_is inv.same c.flush_at-fault.ensures.flushes inv.flushing);

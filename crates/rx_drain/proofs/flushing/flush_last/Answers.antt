@@ -14,6 +14,7 @@ loop-init g c = record {
   fits = c.requires;
   inbox = refl;
   same = refl;
+  keeps = refl;
   comes = comes_nowhere g.S.Sink.acts (view_of c.args.hands.now false None);
 }
 
@@ -27,6 +28,7 @@ loop-preserved g c =
       fits = subst (λ (f : Option DrainFault). Fits c.args.leave false f after) (none_of fault whole) c.flush_all-fault.ensures.fits;
       inbox = c.flush_all-fault.ensures.inbox ∙ inv.inbox;
       same = c.flush_all-fault.ensures.ports ∙ inv.same;
+      keeps = c.flush_all-fault.ensures.keeps ∙ inv.keeps;
       comes = comes_by g.S.Sink.acts (view_of c.args.hands.now false None) (view_of after false None)
           (comes_again g.S.Sink.acts (view_of c.args.hands.now false None) (view_of c.loop.hands false None) (λ f. view_of after false f) fault whole inv.same inv.comes c.flush_all-fault.ensures.flushes);
     }

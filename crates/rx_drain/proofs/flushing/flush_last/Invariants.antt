@@ -10,5 +10,6 @@ invariant-loop g l = record {
   fits : Fits l.leave false None l.hands;
   inbox : l.hands.parts.inbox ≡ l.initial.hands.parts.inbox;
   same : AreSame (view_of l.initial.hands false None).ports (view_of l.hands false None).ports;
+  keeps : l.hands.put_away.keeps ≡ l.initial.hands.put_away.keeps;
   comes : ComesTo g.S.Sink.acts (view_of l.initial.hands false None) (view_of l.hands false None);
 }

@@ -16,6 +16,7 @@ loop-init g c = record {
   of_subject = c.requires.of_subject;
   inbox = takes_none g.S.Sink.acts c.args.hands.now.parts.inbox;
   same = refl;
+  keeps = refl;
   goes = goes_nowhere g.S.Sink.acts (view_of c.args.hands.now c.args.handled.left c.args.handled.fault);
 }
 
@@ -55,6 +56,7 @@ loop-preserved g c =
       inbox = takes_then g.S.Sink.acts c.args.hands.now.parts.inbox c.loop.hands.parts.inbox c.try_recv.new.self c.handle-now.new.hands.parts.inbox c.in-Ok.letter
           inv.inbox c.in-Ok.ensures.received c.handle-now.ensures.inbox;
       same = c.handle-now.ensures.ports ∙ inv.same;
+      keeps = c.handle-now.ensures.keeps ∙ inv.keeps;
       goes = goes_further g.S.Sink.acts first second third inv.goes
           (goes_letter g.S.Sink.acts second _ third c.in-Ok.letter whole refl c.in-Ok.ensures.received c.handle-now.ensures.inbox c.handle-now.ensures.ports c.handle-now.ensures.handles);
     }

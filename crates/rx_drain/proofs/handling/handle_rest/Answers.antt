@@ -12,7 +12,7 @@ returns-then-handled-clause-pays g c =
       | then-handled-via-then-handled w ↦ pays_left g.S.Sink.acts view w.if-handled.true
       | then-handled-via-else-handled+then-is_some w ↦ pays_fault g.S.Sink.acts view (sym w.is_some.ensures ∙ w.if-is_some.true)
     ] in
-    subst (λ subjects. Pays g.S.Sink.acts view (record view { ports = hands.ended.items ++ subjects })) (sym c.ring_all.ensures) pays
+    subst (λ subjects. Pays g.S.Sink.acts view (record view { ports = hands.ended.items ++ subjects })) (sym c.try_ring_all-is_left.ensures) pays
 
 pub returns-clause-pays : goal.returns-clause-pays
 returns-clause-pays g c =

@@ -1,22 +1,23 @@
-use Rattle.std.proofs.Common.{◌≡◌, ◌≤◌, ◌+◌, ◌∙◌, sym, refl, ap, subst, ℕ, List, [], ◌++◌, length, length-append, map, true, is_some, vec_len, vec_capacity, arith}
+use Rattle.std.proofs.Common.{◌≡◌, ◌≤◌, ◌+◌, ◌∙◌, sym, refl, ap, subst, ℕ, List, [], ◌++◌, length, length-append, map, true, is_some, vec_len, arith}
 use Rattle.std.proofs.lemmas.List.{length-map}
 use Rattle.rx_mailbox.specs.Boxes.{Outgoing}
 use Rattle.rx_pump.specs.Sends.{with_bye, EndsSome}
 use Rattle.rx_pump.proofs.Pumping.{AreSame-length}
 use Rattle.rx_sink.specs.declared.kept.Kept.{Kept}
 use Rattle.rx_sink.specs.KeptSinks.{addressed}
+use Rattle.rx_sink.specs.Rests.{HasRoomFor, RestsView}
 use Rattle.rx_drain.specs.Calls.{SendsEvents, partings_of}
 use Rattle.rx_drain.specs.Logs.{sent_in}
 use Rattle.rx_drain.proofs.Events.{sent_none}
-use Rattle.rx_drain.proofs.Standing.{same_sent, of_sent, same_ended, same_half, sent_in_part, sent_ended, sent_half, stands_left, handles_next}
+use Rattle.rx_drain.proofs.Standing.{same_sent, of_sent, same_ended, same_half, sent_in_part, sent_ended, sent_half, stands_left}
 use Rattle.rx_drain.proofs.handling.leave_all.Goals as goal
 
 -- as many ports, in other lists
 room_for : {before now room room_now : ℕ} → now ≡ before → room_now ≡ room → before ≤ room → now ≤ room_now
 room_for same same_room fits = omega arith
 
-no_more : (away room : ℕ) {kept : ℕ} → kept ≡ 0 → away ≤ room → away + kept ≤ room
-no_more away room none fits = omega arith
+no_more : {Rest : Type 0} (rests : RestsView Rest) (kept : ℕ) → kept ≡ 0 → HasRoomFor 0 rests → HasRoomFor kept rests
+no_more rests kept none fits = λ is. omega (arith, none, fits is)
 
 counted_none : {before after left : ℕ} → after ≡ before → left ≡ 0 → after + left ≡ before
 counted_none many none = omega arith
@@ -44,7 +45,7 @@ returns-then-is_some-clause-fits g c =
     let some : is_some c.part_all-fault.result ≡ true = sym c.is_some.ensures ∙ c.if-is_some.true in
     record {
       leave_is = c.requires.leave_is ∙ sym long;
-      away_room = no_more (vec_len c.put_all_away.new.away) (vec_capacity c.put_all_away.new.away) (kept.ok.0 ∙ ap length c.put_all_away.ensures.kept) c.put_all_away.ensures.room;
+      away_room = no_more c.put_all_away.new.away (vec_len kept) (kept.ok.0 ∙ ap length c.put_all_away.ensures.kept) c.put_all_away.ensures.room;
       ended_room = room_for long refl c.requires.ended_room;
       open_ports = λ e. cc;
       ended_ports = λ left fine. let none = ap is_some fine in cc;
@@ -65,7 +66,7 @@ returns-in-Ok-clause-fits g c =
     let long = ended_counts ended.ok.0 olds.ok.0 after.ok.0 left.ok.0 same (counted_none many none) in
     record {
       leave_is = c.requires.leave_is ∙ sym long;
-      away_room = no_more (vec_len c.put_all_away.new.away) (vec_capacity c.put_all_away.new.away) (kept.ok.0 ∙ ap length c.put_all_away.ensures.kept) c.put_all_away.ensures.room;
+      away_room = no_more c.put_all_away.new.away (vec_len kept) (kept.ok.0 ∙ ap length c.put_all_away.ensures.kept) c.put_all_away.ensures.room;
       ended_room = room_for long c.finish_all.ensures.capacity c.requires.ended_room;
       open_ports = λ e. cc;
       ended_ports = λ all fine. c.in-Ok.ensures.ended.1;
@@ -85,7 +86,7 @@ returns-in-Err-clause-fits g c =
     let long = ended_counts ended.ok.0 olds.ok.0 after.ok.0 left.ok.0 same many in
     record {
       leave_is = c.requires.leave_is ∙ sym long;
-      away_room = no_more (vec_len c.put_all_away.new.away) (vec_capacity c.put_all_away.new.away) (kept.ok.0 ∙ ap length c.put_all_away.ensures.kept) c.put_all_away.ensures.room;
+      away_room = no_more c.put_all_away.new.away (vec_len kept) (kept.ok.0 ∙ ap length c.put_all_away.ensures.kept) c.put_all_away.ensures.room;
       ended_room = room_for long c.finish_all.ensures.capacity c.requires.ended_room;
       open_ports = λ e. cc;
       ended_ports = λ all fine. cc;
@@ -100,8 +101,7 @@ returns-then-is_some-clause-handles g c =
     let ended = c.args.hands.now.ended.items in
     let a = c.args.hands.now.parts.subjects.items in
     let leave_is : c.args.leave ≡ length (ended ++ a) = omega (arith, c.requires.leave_is, length-append ended a) in
-    let sends = subst (λ (kept : List (Kept _)). SendsEvents c.part_all-fault.result (partings_of kept) a c.part_all-fault.new.subjects.items) c.as_slice.ensures.value c.part_all-fault.ensures in
-    handles_next g.S.Sink.acts _ _ _ (
+    let sends = subst (λ (kept : List (Kept _)). SendsEvents c.part_all-fault.result (partings_of kept) a c.part_all-fault.new.subjects.items) c.as_slice.ensures.value c.part_all-fault.ensures in (
       of_sent c.part_all-fault.result (partings_of c.args.hands.now.kept.items) a c.part_all-fault.new.subjects.items sends,
       λ log s. stands_left g.S.Sink.acts (length (ended ++ a)) log c.args.leave _ _ leave_is refl refl c.put_all_away.ensures.kept refl refl c.put_all_away.ensures.closes
           (λ have. sent_in_part c.part_all-fault.result (addressed (sent_in (length (ended ++ a)) log)) (partings_of c.args.hands.now.kept.items) ended a c.part_all-fault.new.subjects.items
@@ -120,8 +120,7 @@ returns-in-Ok-clause-handles g c =
     let a = c.args.hands.now.parts.subjects.items in
     let leave_is : c.args.leave ≡ length (ended ++ a) = omega (arith, c.requires.leave_is, length-append ended a) in
     let sends = subst (λ (kept : List (Kept _)). SendsEvents c.part_all-fault.result (partings_of kept) a c.part_all-fault.new.subjects.items) c.as_slice.ensures.value c.part_all-fault.ensures in
-    let fine = sent_none c.part_all-fault.result (partings_of c.args.hands.now.kept.items) a c.part_all-fault.new.subjects.items (sym c.is_some.ensures ∙ c.if-is_some.false) sends in
-    handles_next g.S.Sink.acts _ _ _ (
+    let fine = sent_none c.part_all-fault.result (partings_of c.args.hands.now.kept.items) a c.part_all-fault.new.subjects.items (sym c.is_some.ensures ∙ c.if-is_some.false) sends in (
       tt,
       λ log s. stands_left g.S.Sink.acts (length (ended ++ a)) log c.args.leave _ _ leave_is refl refl c.put_all_away.ensures.kept refl refl c.put_all_away.ensures.closes
           (λ have. sent_ended (addressed (sent_in (length (ended ++ a)) log)) (partings_of c.args.hands.now.kept.items) ended a c.part_all-fault.new.subjects.items c.finish_all.new.ended.items c.finish_all.new.ports.items
@@ -141,8 +140,7 @@ returns-in-Err-clause-handles g c =
     let leave_is : c.args.leave ≡ length (ended ++ a) = omega (arith, c.requires.leave_is, length-append ended a) in
     let sends = subst (λ (kept : List (Kept _)). SendsEvents c.part_all-fault.result (partings_of kept) a c.part_all-fault.new.subjects.items) c.as_slice.ensures.value c.part_all-fault.ensures in
     let fine = sent_none c.part_all-fault.result (partings_of c.args.hands.now.kept.items) a c.part_all-fault.new.subjects.items (sym c.is_some.ensures ∙ c.if-is_some.false) sends in
-    let place_is : c.in-Err.place ≡ length c.finish_all.new.ended.items = omega (arith, c.in-Err.ensures.ended.1) in
-    handles_next g.S.Sink.acts _ _ _ (
+    let place_is : c.in-Err.place ≡ length c.finish_all.new.ended.items = omega (arith, c.in-Err.ensures.ended.1) in (
       tt,
       λ log s. stands_left g.S.Sink.acts (length (ended ++ a)) log c.args.leave _ _ leave_is refl refl c.put_all_away.ensures.kept refl refl c.put_all_away.ensures.closes
           (λ have. sent_half c.in-Err.place (addressed (sent_in (length (ended ++ a)) log)) (partings_of c.args.hands.now.kept.items) ended a c.part_all-fault.new.subjects.items c.finish_all.new.ended.items c.finish_all.new.ports.items

@@ -7,10 +7,10 @@ returns-then-place-len g c = SendsEvents-no_port c.args.subjects.now.items c.arg
 
 pub returns-in_default : goal.returns-in_default
 returns-in_default g c =
-    SendsEvents-back c.args.subjects.now.items c.args.subject c.args.event c.index_mut.result.now c.send_quietly.new.self
+    SendsEvents-back c.args.subjects.now.items c.args.subject c.args.event c.index_mut.result.now c.hold.new.self
     (omega (arith, c.len.ensures, c.if-place-len.false)) c.index_mut.ensures.value c.in_default.ensures.1
 
 pub returns : goal.returns
 returns g c =
-    SendsEvents-one c.args.subjects.now.items c.args.subject c.args.event c.index_mut.result.now c.send_quietly.new.self
+    SendsEvents-one c.args.subjects.now.items c.args.subject c.args.event c.index_mut.result.now c.hold.new.self
     (omega (arith, c.len.ensures, c.if-place-len.false)) c.index_mut.ensures.value c.in-Ok.ensures

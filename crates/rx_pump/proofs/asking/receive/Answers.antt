@@ -2,5 +2,5 @@
 use Rattle.std.proofs.Common.{rules}
 use Rattle.rx_pump.proofs.asking.receive.Goals as goal
 
-pub returns : goal.returns
-returns g c = search rules
+pub returns-in-Ok : goal.returns-in-Ok
+returns-in-Ok g c = search rules

@@ -8,5 +8,5 @@ returns-then-place-len g c =
 
 pub returns : goal.returns
 returns g c =
-    Puts-at c.args.callers.now.items c.args.port c.index_mut.result.now c.send.new.self c.args.reply
+    Puts-at c.args.callers.now.items c.args.port c.index_mut.result.now c.hold.new.self c.args.reply
     (omega (arith, c.len.ensures, c.if-place-len.false)) c.index_mut.ensures.value c.in-Ok.ensures

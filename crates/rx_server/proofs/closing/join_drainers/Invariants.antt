@@ -1,5 +1,5 @@
 use Rattle.std.proofs.Common.{◌+◌, ◌≤◌, map, vec_len, vec_capacity}
-use Rattle.rx_drain.specs.Serving.{HasDrained, DrainerHasStopped}
+use Rattle.rx_drain.specs.Serving.{HasDrained, DrainerHasFailed}
 use Rattle.rx_server.specs.declared.start_fault.Role.TheVariants.{Drainer}
 use Rattle.rx_server.proofs.Leaving.{JoinedSome}
 use Rattle.rx_server.proofs.closing.join_drainers.Given as goal
@@ -7,7 +7,7 @@ use Rattle.rx_server.proofs.closing.join_drainers.Given as goal
 -- the first have joined, and there is room for the others
 abbrev pub invariant-loop-running : goal.invariant-loop-running
 invariant-loop-running g l = record {
-  joined : JoinedSome (HasDrained g.S.Sink.acts) (DrainerHasStopped g.S.Sink.acts) Drainer (map (λ drainer. drainer.handle.promise.0.value) l.initial.drainers.items) (map (λ drainer. drainer.handle.promise.0.value) l.drainers.items) l.ends.items l.fault;
+  joined : JoinedSome (HasDrained g.S.Sink.acts) (DrainerHasFailed g.S.Sink.acts) Drainer (map (λ drainer. drainer.handle.promise.0.value) l.initial.drainers.items) (map (λ drainer. drainer.handle.promise.0.value) l.drainers.items) l.ends.items l.fault;
   room : vec_len l.ends + vec_len l.drainers ≤ vec_capacity l.ends;
 }
 

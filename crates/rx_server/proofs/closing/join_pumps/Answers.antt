@@ -1,5 +1,5 @@
 use Rattle.std.proofs.Common.{ap, subst, length, Option, arith}
-use Rattle.rx_pump.specs.Serving.{HasPumped, PumpHasStopped}
+use Rattle.rx_pump.specs.Serving.{HasPumped, PumpHasFailed}
 use Rattle.rx_server.specs.declared.start_fault.Role.TheVariants.{Pump}
 use Rattle.rx_server.specs.declared.close_fault.CloseFault.{CloseFault}
 use Rattle.rx_server.proofs.Leaving.{HaveJoined, joined-all, joined-none, joined-next}
@@ -8,7 +8,7 @@ use Rattle.rx_server.proofs.closing.join_pumps.Goals as goal
 
 pub loop-running-init : goal.loop-running-init
 loop-running-init g c = record {
-  joined = joined-none HasPumped PumpHasStopped Pump c.reverse.new.self.items c.args.ends.now.items c.requires.empty;
+  joined = joined-none HasPumped PumpHasFailed Pump c.reverse.new.self.items c.args.ends.now.items c.requires.empty;
   room = omega (arith, c.requires.room, c.reverse.ensures.len, ap length c.requires.empty, c.args.ends.now.ok);
 }
 
@@ -18,7 +18,7 @@ loop-running-preserved g c =
     let before = c.loop-running.invariant in
     record {
       joined =
-          joined-next HasPumped PumpHasStopped Pump c.reverse.new.self.items c.loop-running.pumps.items c.pop.new.self.items c.loop-running.ends.items c.keep.new.ends.items c.in-Some.running c.join.result
+          joined-next HasPumped PumpHasFailed Pump c.reverse.new.self.items c.loop-running.pumps.items c.pop.new.self.items c.loop-running.ends.items c.keep.new.ends.items c.in-Some.running c.join.result
           c.loop-running.fault c.keep.new.fault c.in-Some.ensures.items c.join.ensures c.keep.ensures.kept before.joined;
       room = omega (arith, before.room, c.keep.ensures.room, c.keep.ensures.capacity, c.in-Some.ensures.cases);
     }
@@ -27,6 +27,6 @@ loop-running-preserved g c =
 pub returns-in-Some-fault : goal.returns-in-Some-fault
 returns-in-Some-fault g c =
     let none = empty c.loop-running.pumps.items (omega (arith, c.in_default.ensures.cases, c.loop-running.pumps.ok)) in
-    let joined = joined-all HasPumped PumpHasStopped Pump c.args.pumps.now.items c.reverse.new.self.items c.loop-running.pumps.items
+    let joined = joined-all HasPumped PumpHasFailed Pump c.args.pumps.now.items c.reverse.new.self.items c.loop-running.pumps.items
     c.loop-running.ends.items c.loop-running.fault c.reverse.ensures.items none c.loop-running.invariant.joined in
-    subst (λ (fault : Option CloseFault). HaveJoined HasPumped PumpHasStopped Pump c.args.pumps.now.items c.loop-running.ends.items fault) c.in-Some-fault.is joined
+    subst (λ (fault : Option CloseFault). HaveJoined HasPumped PumpHasFailed Pump c.args.pumps.now.items c.loop-running.ends.items fault) c.in-Some-fault.is joined

@@ -1,5 +1,5 @@
 use Rattle.std.proofs.Common.{◌+◌, ◌≤◌, vec_len, vec_capacity}
-use Rattle.rx_pump.specs.Serving.{HasPumped, PumpHasStopped}
+use Rattle.rx_pump.specs.Serving.{HasPumped, PumpHasFailed}
 use Rattle.rx_server.specs.declared.start_fault.Role.TheVariants.{Pump}
 use Rattle.rx_server.proofs.Leaving.{JoinedSome}
 use Rattle.rx_server.proofs.closing.join_pumps.Given as goal
@@ -7,7 +7,7 @@ use Rattle.rx_server.proofs.closing.join_pumps.Given as goal
 -- the first have joined, and there is room for the others
 abbrev pub invariant-loop-running : goal.invariant-loop-running
 invariant-loop-running g l = record {
-  joined : JoinedSome HasPumped PumpHasStopped Pump l.initial.pumps.items l.pumps.items l.ends.items l.fault;
+  joined : JoinedSome HasPumped PumpHasFailed Pump l.initial.pumps.items l.pumps.items l.ends.items l.fault;
   room : vec_len l.ends + vec_len l.pumps ≤ vec_capacity l.ends;
 }
 

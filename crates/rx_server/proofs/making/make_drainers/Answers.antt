@@ -11,7 +11,7 @@ use Rattle.rx_server.proofs.making.make_drainers.Goals as goal
 
 pub loop-inbox-init : goal.loop-inbox-init
 loop-inbox-init g c = record {
-  made = Made-begun (λ x. fresh_drainer x.1 (row_ports x.0 c.args.subjects.now.items)) _ _ _ c.requires.none refl;
+  made = Made-begun (λ x. fresh_drainer c.args.keeps x.1 (row_ports x.0 c.args.subjects.now.items)) _ _ _ c.requires.none refl;
   handed = Handed-begun _ _ _ _ c.requires.none refl c.requires.subjects;
   fresh = c.requires.inboxes;
   room = omega (arith, c.requires.room, ap length c.requires.none, c.args.drainers.now.ok);
@@ -40,8 +40,8 @@ loop-inbox-preserved g c =
     let before = c.loop-inbox.invariant in
     let cut = c.in-Some.ensures.items in
     record {
-      made = Made-more (λ x. fresh_drainer x.1 (row_ports x.0 c.args.subjects.now.items)) _ _ _ _ _ _ _ cut c.in_ok-put_drainer.ensures.drainers
-          (ap (λ (ports : List (Outgoing _)). fresh_drainer c.in-Some.inbox ports) (Handed-ports _ _ _ _ before.handed)) before.made;
+      made = Made-more (λ x. fresh_drainer c.args.keeps x.1 (row_ports x.0 c.args.subjects.now.items)) _ _ _ _ _ _ _ cut c.in_ok-put_drainer.ensures.drainers
+          (ap (λ (ports : List (Outgoing _)). fresh_drainer c.args.keeps c.in-Some.inbox ports) (Handed-ports _ _ _ _ before.handed)) before.made;
       handed = Handed-more _ _ _ _ _ _ _ _ _ cut c.in_ok-put_drainer.ensures.drainers c.in_ok-put_drainer.ensures.subjects before.handed;
       fresh = All-rest (λ (inbox : Incoming _). (inbox.received ≡ []) × (inbox.ports ≡ length c.args.subjects.now.items + 1)) _ _ _ cut before.fresh;
       room = omega (arith, before.room, ap length cut, put-count _ _ _ c.in_ok-put_drainer.ensures.drainers, c.put_drainer.ensures.capacity);

@@ -14,12 +14,11 @@ use Rattle.rx_server.proofs.returned.return_drainers.Goals as goal
 pub put_inbox-requires : goal.put_inbox-requires
 put_inbox-requires g c =
     let before = c.loop-end.invariant in
-    let lists = length-map c.loop-end.lists.items (λ list. list.items) in
-    let listed = ap length before.listed ∙ length-map c.loop-end.yielded (λ end. end.put_away.items) in
+    let listed = ap length before.listed ∙ length-map c.loop-end.yielded (λ end. end.put_away) in
     let all = ap length before.ends in
     let parts = length-append c.loop-end.yielded (into_iter_items c.loop-end.end-iterator) in
     let drainers = ap length before.inboxes ∙ with_inboxes-count (map (λ end. end.inbox) c.loop-end.yielded) c.args.drainers.now.items in
-    omega (arith, lists, listed, all, parts, drainers, c.requires.count, c.len-place.ensures, c.loop-end.lists.ok, ap length c.in-Some.ensures.steps.0)
+    omega (arith, listed, all, parts, drainers, c.requires.count, c.len-place.ensures, c.loop-end.lists.ok, ap length c.in-Some.ensures.steps.0)
 
 pub deal-requires : goal.deal-requires
 deal-requires g c =
@@ -34,10 +33,9 @@ pub unreachable-requires : goal.unreachable-requires
 unreachable-requires g c =
     let before = c.loop-end.invariant in
     let inbox_of = λ (end : DrainEnd _ _). end.inbox in
-    let lists = length-map c.loop-end.lists.items (λ list. list.items) in
-    let listed = ap length before.listed ∙ length-map c.loop-end.yielded (λ end. end.put_away.items) in
+    let listed = ap length before.listed ∙ length-map c.loop-end.yielded (λ end. end.put_away) in
     let place : c.len-place.result ≡ length (map inbox_of c.loop-end.yielded) =
-    omega (arith, lists, listed, c.len-place.ensures, c.loop-end.lists.ok, length-map c.loop-end.yielded inbox_of) in
+    omega (arith, listed, c.len-place.ensures, c.loop-end.lists.ok, length-map c.loop-end.yielded inbox_of) in
     c.in_default.ensures.twice
     (subst (λ n. LacksInbox n c.loop-end.drainers.items) (sym place)
     (subst (LacksInbox (length (map inbox_of c.loop-end.yielded))) (sym before.inboxes)
@@ -52,20 +50,17 @@ unreachable-requires-in_default-deal g c =
 pub loop-end-preserved : goal.loop-end-preserved
 loop-end-preserved g c =
     let before = c.loop-end.invariant in
-    let lists = length-map c.loop-end.lists.items (λ list. list.items) in
-    let listed = ap length before.listed ∙ length-map c.loop-end.yielded (λ end. end.put_away.items) in
+    let listed = ap length before.listed ∙ length-map c.loop-end.yielded (λ end. end.put_away) in
     let place : c.len-place.result ≡ length (map (λ (end : DrainEnd _ _). end.inbox) c.loop-end.yielded) =
-    omega (arith, lists, listed, c.len-place.ensures, c.loop-end.lists.ok, length-map c.loop-end.yielded (λ (end : DrainEnd _ _). end.inbox)) in
+    omega (arith, listed, c.len-place.ensures, c.loop-end.lists.ok, length-map c.loop-end.yielded (λ (end : DrainEnd _ _). end.inbox)) in
     record {
       ends =
           append_assoc c.loop-end.yielded (c.in-Some.end ∷ []) (into_iter_items c.next.new.self)
           ∙ ap (λ (l : List _). c.loop-end.yielded ++ l) (sym c.in-Some.ensures.steps.0) ∙ before.ends;
       taken = omega (arith, before.taken, c.saturating_add-taken.ensures, sum_by_push (λ (end : DrainEnd _ _). end.taken) c.loop-end.yielded c.in-Some.end);
       listed =
-          ap (map (λ list. list.items)) c.push_reserved.ensures.items
-          ∙ map_push (λ list. list.items) c.loop-end.lists.items c.in-Some.end.put_away
-          ∙ ap (λ (l : List (List _)). l ++ c.in-Some.end.put_away.items ∷ []) before.listed
-          ∙ sym (map_push (λ (end : DrainEnd _ _). end.put_away.items) c.loop-end.yielded c.in-Some.end);
+          c.push_reserved.ensures.items ∙ ap (λ (l : List _). l ++ c.in-Some.end.put_away ∷ []) before.listed
+          ∙ sym (map_push (λ (end : DrainEnd _ _). end.put_away) c.loop-end.yielded c.in-Some.end);
       room = omega (arith, before.room, c.push_reserved.ensures.capacity, c.push_reserved.ensures.len, ap length c.in-Some.ensures.steps.0);
       inboxes =
           c.in-Ok.ensures.put ∙ ap (λ n. placed n c.in-Some.end.inbox c.loop-end.drainers.items) place

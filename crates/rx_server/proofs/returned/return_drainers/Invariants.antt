@@ -10,7 +10,7 @@ abbrev pub invariant-loop-end : goal.invariant-loop-end
 invariant-loop-end g l = record {
   ends : l.yielded ++ into_iter_items l.end-iterator ≡ l.fn.ends.items;
   taken : l.taken ≡ counted (sum_by (λ end. end.taken) l.yielded);
-  listed : map (λ list. list.items) l.lists.items ≡ map (λ end. end.put_away.items) l.yielded;
+  listed : l.lists.items ≡ map (λ end. end.put_away) l.yielded;
   room : vec_len l.lists + length (into_iter_items l.end-iterator) ≤ vec_capacity l.lists;
   inboxes : l.drainers.items ≡ with_inboxes (map (λ end. end.inbox) l.yielded) l.initial.drainers.items;
   ports_fit : All (HasRoom (length (into_iter_items l.end-iterator))) l.subjects.items;

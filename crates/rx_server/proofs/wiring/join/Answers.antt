@@ -132,7 +132,7 @@ returns-clause-wired g c =
         hubs_are = hubs;
         pumps_are = pumps-wired w _ _ _ _ _ _ _ _ callers opened.subjects.inboxes_are opened.drainers.rows_are opened.replies.rows_are c.in_ok-make_pumps.ensures.pumps;
         drainers_are =
-            drainers-wired w _ _ _ _ _ _ _ (ap (λ (n : ℕ). n + 1) (sym opened.subjects.count_is)) desks_done opened.drainers.inboxes_are opened.subjects.rows_are
+            drainers-wired w _ _ _ _ _ _ _ c.args.keeps (ap (λ (n : ℕ). n + 1) (sym opened.subjects.count_is)) desks_done opened.drainers.inboxes_are opened.subjects.rows_are
             c.in_ok-make_desks.ensures.subjects c.in_ok-make_drainers.ensures.drainers;
         leaves_are = leaves-wired w _ _ _ _ _ pumps_done opened.drainers.rows_are c.in_ok-make_pumps.ensures.drainers c.put_ports.ensures.ports;
         desks_are = desks-wired w _ _ _ _ _ (sym opened.subjects.count_is) opened.replies.inboxes_are opened.subjects.rows_are c.in_ok-make_desks.ensures.desks;

@@ -11,7 +11,7 @@ use Rattle.rx_sink.proofs.keeping.give.Goals as goal
 
 pub returns-in_default-clause-gives : goal.returns-in_default-clause-gives
 returns-in_default-clause-gives g c = λ misses held gone stand.
-    let none = ap (position (is_for c.args.subject c.args.who)) (sym c.as_slice.ensures.value) ∙ c.find.ensures.none c.in_default.is in
+    let none = ap (position (is_for c.args.subject c.args.who)) (sym c.as_slice.ensures.value) ∙ c.look.ensures.none c.in_default.is in
     let did = notified_nobody g.S.Sink.acts c.args.taken.now c.args.subject c.args.who held gone c.args.kept.now.items c.args.away.now.items c.args.note c.nothing.result
     stand (missing g.S.Sink.acts c.args.subject c.args.who held c.args.kept.now.items stand.kept_are none) c.nothing.ensures in (
       Fault,

@@ -1,4 +1,4 @@
-use Rattle.std.proofs.Common.{◌≡◌, ◌∙◌, subst, List, [], reverse, append-nil, arith, rules}
+use Rattle.std.proofs.Common.{◌≡◌, ◌∙◌, subst, List, [], reverse, append-nil, vec_len, arith, rules}
 use Rattle.rx_sink.specs.declared.kept.Kept.{Kept}
 use Rattle.rx_sink.proofs.Tending.{Emptied, Emptied-more, left_stands}
 use Rattle.rx_sink.proofs.keeping.put_all_away.Goals as goal
@@ -7,7 +7,8 @@ pub loop-one-preserved : goal.loop-one-preserved
 loop-one-preserved g c =
     let before = c.loop-one.invariant in
     record {
-      room = omega (arith, before.room, c.in-Some.ensures.cases, c.push_away.ensures.len, c.push_away.ensures.capacity);
+      room = c.push_away.ensures.room (vec_len c.pop.new.self) (λ is. omega (arith, before.room is, c.in-Some.ensures.cases));
+      keeps = c.push_away.ensures.keeps ∙ before.keeps;
       emptied = Emptied-more g.S.Sink.acts _ c.loop-one.kept.items c.pop.new.self.items c.in-Some.one c.args.away.now.items c.loop-one.away.items c.push_away.new.away.items
           c.in-Some.ensures.items c.push_away.ensures.pushes before.emptied;
     }

@@ -17,4 +17,4 @@ returns g c =
     omega (arith, c.self.invariant.2, c.self.invariant.1.leave_is, length-append hands.ended.items hands.parts.subjects.items) in
     let told : c.self.inside.left ≡ true = told_to_leave g.S.Sink.acts view senders each c.self.invariant.0 in
     subst (λ (v : DrainerView _ _). HasDrained g.S.Sink.acts v end) c.self.view_is
-    (served_end g.S.Sink.acts view hands.parts.subjects.items end refl refl (c.self.invariant.1.ended_ports told whole) refl refl refl told whole each c.self.invariant.0)
+    (served_end g.S.Sink.acts view hands.parts.subjects.items end refl refl (c.self.invariant.1.ended_ports told whole) refl refl refl refl told whole each c.self.invariant.0)

@@ -33,7 +33,7 @@ pub returns-in-Some-clause-drained : goal.returns-in-Some-clause-drained
 returns-in-Some-clause-drained g c = subst (λ (v : DrainerView _ _). IsDrained g.S.Sink.acts v) c.self.view_is c.self.invariant.0
 
 pub returns-in-Some-clause-kept : goal.returns-in-Some-clause-kept
-returns-in-Some-clause-kept g c = record { box = refl; count = refl; ports = refl }
+returns-in-Some-clause-kept g c = record { box = refl; count = refl; ports = refl; keeps = refl }
 
 pub invariant_of-self : goal.invariant_of-self
 invariant_of-self g c =
@@ -65,7 +65,7 @@ returns-in_default-handle_first-clause-kept g c =
     let before = view_of inside.hands inside.left inside.fault in
     let same = c.in_default-handle_first.ensures.gone in
     subst (λ (v : DrainerView _ _). KeepsDrainer v (view_of c.handle_first.new.hands inside.left (Some InboxGone))) c.self.view_is
-    (subst (λ (hands : DrainerLeft _ _). KeepsDrainer before (view_of hands inside.left (Some InboxGone))) (sym same) (record { box = refl; count = refl; ports = refl }))
+    (subst (λ (hands : DrainerLeft _ _). KeepsDrainer before (view_of hands inside.left (Some InboxGone))) (sym same) (record { box = refl; count = refl; ports = refl; keeps = refl }))
 
 pub handle_first-requires : goal.handle_first-requires
 handle_first-requires g c =
@@ -113,11 +113,12 @@ returns-clause-takes_one g c =
     on_ok_known c.outcome.result (λ patient. subst (λ (v : DrainerView _ _). any_may_wait v.kept ≡ false → TakesSome v.inbox after) c.self.view_is (took_one g c patient))
 
 -- more letters in the inbox keep the places
-keeps : {S Rest : Type 0} (before after : DrainerView S Rest) → TakesMore before.inbox after.inbox → AreSame before.ports after.ports → KeepsDrainer before after
-keeps before after more same = record {
+keeps : {S Rest : Type 0} (before after : DrainerView S Rest) → TakesMore before.inbox after.inbox → AreSame before.ports after.ports → after.keeps ≡ before.keeps → KeepsDrainer before after
+keeps before after more same kept = record {
   box = ap (λ (i : Incoming _). i.box) more.1;
   count = ap (λ (i : Incoming _). i.ports) more.1;
   ports = same;
+  keeps = kept;
 }
 
 pub returns-clause-kept : goal.returns-clause-kept
@@ -126,7 +127,7 @@ returns-clause-kept g c =
     let before = view_of inside.hands inside.left inside.fault in
     let after = view_of c.handle_rest-rest.new.hands c.handle_rest-rest.result.left c.handle_rest-rest.result.fault in
     subst (λ (v : DrainerView _ _). KeepsDrainer v after) c.self.view_is
-    (keeps before after (took g c) (c.handle_rest-rest.ensures.ports ∙ c.handle_more-more.ensures.ports ∙ c.in-Ok.ensures.ports))
+    (keeps before after (took g c) (c.handle_rest-rest.ensures.ports ∙ c.handle_more-more.ensures.ports ∙ c.in-Ok.ensures.ports) (c.handle_rest-rest.ensures.keeps ∙ c.handle_more-more.ensures.keeps ∙ c.in-Ok.ensures.keeps))
 
 -- a fault of a subject is not that of the inbox
 not_gone : (result : Result (Unit {0}) DrainFault) (fault : Option DrainFault) → MatchResult result (λ _. fault ≡ None) (λ met. fault ≡ Some met) → IsOfSubject fault

@@ -15,16 +15,21 @@ number_at items [] k who lt at d = absurd (omega (arith, lt))
 number_at items (s ∷ subs) zero who lt at d = at s
 number_at items (s ∷ subs) (suc k) who lt at d = number_at items subs k who (omega (arith, lt)) at d
 
-pub returns-then-is_at-clause-found : goal.returns-then-is_at-clause-found
-returns-then-is_at-clause-found c =
+-- where the order tells it
+at_known : (a_items : List Item) (subs : List Subscription) (who : ℕ) (known : Option ℕ)
+    → IfSome known (λ place. (place < length subs) × ((d : Subscription) → (get_or subs place d).who ≡ who))
+    → IfSome known (λ place. IsAt (observers_on a_items (places_of subs)) place who)
+at_known items subs who None is = tt
+at_known items subs who (Some place) is = record {
+  within = omega (arith, is.0, observers-length items subs);
+  number = number_at items subs place who is.0 is.1;
+}
+
+pub returns-then-is_some-clause-found : goal.returns-then-is_some-clause-found
+returns-then-is_some-clause-found c =
     let a = c.self.inside in
-    let subs = a.subscriptions.items in
-    let here = c.is_at.ensures c.if-is_at.true in
-    let made : IsAt (observers_on a.tape.items (places_of subs)) c.min-guess.result c.args.who = record {
-      within = omega (arith, here.0, observers-length a.tape.items subs);
-      number = number_at a.tape.items subs c.min-guess.result c.args.who here.0 here.1;
-    } in
-    subst (λ (v : AudienceState). IsAt v.observers c.min-guess.result c.args.who) c.self.view_is made
+    subst (λ (v : AudienceState). IfSome c.place_by_order-known.result (λ place. IsAt v.observers place c.args.who)) c.self.view_is
+    (at_known a.tape.items a.subscriptions.items c.args.who c.place_by_order-known.result c.place_by_order-known.ensures)
 
 -- where it is found by a walk
 walked : (c : After-place_in) → c.place_in.result ≡ position (λ (o : Observer). o.who == c.args.who) c.args.self.now.observers

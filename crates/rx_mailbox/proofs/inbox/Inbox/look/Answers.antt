@@ -10,22 +10,22 @@ use Rattle.rx_mailbox.proofs.inbox.Inbox.look.Goals as goal
 
 -- what came was opened
 opened : (g : given.Over) (c : goal.After-open_batch g)
-    → (IsHand c.take.new.self c.in-Ok.came.from c.open_batch.new.hand.items × (c.open_batch.new.letters ≡ letter_count (without c.take.new.self (length c.open_batch.new.hand.items)).received))
+    → (IsHand c.take_by.new.inlet c.in-Ok.came.from c.open_batch.new.hand.items × (c.open_batch.new.letters ≡ letter_count (without c.take_by.new.inlet (length c.open_batch.new.hand.items)).received))
     × MatchResult c.open_batch.result
-    (λ x. without c.take.new.self (length c.open_batch.new.hand.items) ≡ with_letter (without c.self.inside.inlet (length c.self.inside.hand.items)) x)
-    (λ _. without c.take.new.self (length c.open_batch.new.hand.items) ≡ without c.self.inside.inlet (length c.self.inside.hand.items))
+    (λ x. without c.take_by.new.inlet (length c.open_batch.new.hand.items) ≡ with_letter (without c.self.inside.inlet (length c.self.inside.hand.items)) x)
+    (λ _. without c.take_by.new.inlet (length c.open_batch.new.hand.items) ≡ without c.self.inside.inlet (length c.self.inside.hand.items))
 opened g c =
     let hand = c.self.inside.hand.items in
     let zero : length hand ≡ 0 = search rules in
-    opens c.self.inside.inlet c.take.new.self c.in-Ok.came.from c.self.inside.letters c.open_batch.new.letters hand c.open_batch.new.hand.items (carried c.in-Ok.came) c.open_batch.result
+    opens c.self.inside.inlet c.take_by.new.inlet c.in-Ok.came.from c.self.inside.letters c.open_batch.new.letters hand c.open_batch.new.hand.items (carried c.in-Ok.came) c.open_batch.result
     (nil_from_length hand zero) c.in-Ok.ensures.taken c.open_batch.ensures.opened c.open_batch.ensures.bodies c.in-Ok.ensures.port c.in-Ok.ensures.before_bye c.self.invariant.1 c.open_batch.ensures.letters
 
 pub invariant_of-self : goal.invariant_of-self
 invariant_of-self g c =
     let is = opened g c in
-    (subst (λ from. IsHand c.take.new.self from c.open_batch.new.hand.items) (sym c.open_batch.ensures.from.0) is.0.0, is.0.1)
+    (subst (λ from. IsHand c.take_by.new.inlet from c.open_batch.new.hand.items) (sym c.open_batch.ensures.from.0) is.0.0, is.0.1)
 
 pub returns-in-Ok-clause-received : goal.returns-in-Ok-clause-received
 returns-in-Ok-clause-received g c = subst (λ (i : Incoming _). MatchResult c.open_batch.result
-    (λ x. without c.take.new.self (length c.open_batch.new.hand.items) ≡ with_letter i x)
-    (λ _. without c.take.new.self (length c.open_batch.new.hand.items) ≡ i)) c.self.view_is (opened g c).1
+    (λ x. without c.take_by.new.inlet (length c.open_batch.new.hand.items) ≡ with_letter i x)
+    (λ _. without c.take_by.new.inlet (length c.open_batch.new.hand.items) ≡ i)) c.self.view_is (opened g c).1

@@ -14,7 +14,7 @@ returns-in-Ok g c =
 
 pub returns-in-Err : goal.returns-in-Err
 returns-in-Err g c =
-    let same = c.wake_drainers.ensures in
+    let same = c.send_held.ensures in
     let stopped = subst (λ (p : PumpView _). PumpHasStopped p c.stop.result) same c.stop.ensures.stopped in
     let inbox = c.stop.ensures.inbox ∙ ap (λ (p : PumpView _). p.inbox) same in
     PumpHasStopped-kept c.args.self c.take_all.new.self c.stop.result c.in-Err.ensures.kept c.in-Err.ensures.none

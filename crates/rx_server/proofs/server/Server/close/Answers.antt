@@ -21,7 +21,7 @@ pub finish_all-told-requires : goal.finish_all-told-requires
 finish_all-told-requires g c =
     let parts = c.into_parts-running in
     let whole = parts.ensures.whole in
-    let leaves = ap length parts.ensures.leaves ∙ leaves-fit whole.wiring c.args.self.leaves c.args.self.drainers whole.wired.leaves_are whole.wired.drainers_are in
+    let leaves = ap length parts.ensures.leaves ∙ leaves-fit whole.wiring whole.keeps c.args.self.leaves c.args.self.drainers whole.wired.leaves_are whole.wired.drainers_are in
     omega (arith, leaves, parts.ensures.rooms.leaves_fit, ap length parts.ensures.rooms.no_leaves, parts.result.1.ok, parts.result.3.leaves.ok)
 
 pub settle-requires : goal.settle-requires
@@ -76,7 +76,7 @@ returns-in-Err g c =
     let whole = parts.ensures.whole in
     let left = c.join.new.rooms in
     let some = c.in-Err.ensures.ended.0 in
-    let leaves = ap length parts.ensures.leaves ∙ leaves-fit whole.wiring self.leaves self.drainers whole.wired.leaves_are whole.wired.drainers_are in
+    let leaves = ap length parts.ensures.leaves ∙ leaves-fit whole.wiring whole.keeps self.leaves self.drainers whole.wired.leaves_are whole.wired.drainers_are in
     let cut = ap length some.parts in
     let count = ap length some.ended in
     let below : c.in-Err.place < length self.leaves = omega (arith, leaves, ap length parts.ensures.leaves, cut, length-append some.done c.finish_all-told.new.ports.items, some.some, count, ap length parts.ensures.rooms.no_leaves, length-append parts.result.3.leaves.items (map with_bye some.done), length-map some.done with_bye, c.in-Err.ensures.ended.1, c.finish_all-told.new.ended.ok) in

@@ -1,5 +1,5 @@
 -- A line behind a front that was let go is too long, whatever it is.
-use Rattle.rx_session.proofs.Feeding.{is_whole, tells_line, tells_long, tells_none}
+use Rattle.rx_session.proofs.Feeding.{fewer_unread, is_whole, tells_line, tells_long, tells_none}
 use Rattle.rx_session.proofs.feed.Feed.known.Goals as goal
 
 pub returns-then-self-clause-tells : goal.returns-then-self-clause-tells
@@ -15,3 +15,9 @@ returns-else-self-clause-tells c rest is =
 
 pub returns-else-self-clause-whole : goal.returns-else-self-clause-whole
 returns-else-self-clause-whole c = is_whole c.in-Some.step c.args.self.now.lines c.known.new.self c.in-Some.ensures.knows
+
+pub returns-then-self-clause-took : goal.returns-then-self-clause-took
+returns-then-self-clause-took c = fewer_unread c.in-Some.step c.args.self.now.lines c.known.new.self c.in-Some.ensures.knows c.known.ensures.reads
+
+pub returns-else-self-clause-took : goal.returns-else-self-clause-took
+returns-else-self-clause-took c = fewer_unread c.in-Some.step c.args.self.now.lines c.known.new.self c.in-Some.ensures.knows c.known.ensures.reads

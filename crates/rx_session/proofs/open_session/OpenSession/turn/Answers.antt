@@ -9,7 +9,7 @@ use Rattle.rx_session.proofs.open_session.OpenSession.turn.Goals as goal
 pub returns-in-Again-clause-sits : goal.returns-in-Again-clause-sits
 returns-in-Again-clause-sits g c start first read_old s =
     let p = parties g.D.Desk.knows g.D.Desk.emits g.D.Desk.follows g.W.Write.contents in
-    c.go_on.ensures start first read_old (held_sent p start first read_old _ c.args.desk.now c.args.writer c.args.self.now c.send.new.outbox (Again c.in-Again.writer) s c.in-Again.ensures)
+    c.go_on.ensures.sits start first read_old (held_sent p start first read_old _ c.args.desk.now c.args.writer c.args.self.now c.send.new.outbox (Again c.in-Again.writer) s c.in-Again.ensures)
 
 pub returns-in-Again-clause-quits : goal.returns-in-Again-clause-quits
 returns-in-Again-clause-quits g c quits = absurd (false≢true (sym c.in-Again.ensures.0 ∙ quits))

@@ -1,9 +1,9 @@
 -- A turn is one deed.
 use Rattle.std.proofs.Common.{Some, None, refl}
-use Rattle.rx_workers.specs.Working.{State, HasTurn, Turned, state}
+use Rattle.rx_workers.specs.Working.{State, HasTurn, state}
 use Rattle.rx_workers.specs.declared.client.Client.TheVariants.{Talks}
 use Rattle.rx_workers.proofs.Places.{Sets-then, is_talk}
-use Rattle.rx_workers.proofs.Working.{Goes-one}
+use Rattle.rx_workers.proofs.Working.{HasTurns-none, HasTurns-one}
 use Rattle.rx_workers.proofs.shift.Shift.turn.Goals as goal
 
 pub returns : goal.returns
@@ -25,8 +25,13 @@ returns g c =
       is_open = refl;
     } in
     rw (← c.self.view_is) (record {
-      goes = Goes-one g.M.Moments.tells g.C.Read.remaining g.W.Write.contents (Turned c.args.place) before after had;
+      turns = HasTurns-one g.M.Moments.tells g.C.Read.remaining g.W.Write.contents c.args.place before after had;
       turned = λ _. (had, c.leave-goes_on.ensures.goes_on);
       idle = λ none. absurd (none talks);
       kept = λ none. absurd (none talks);
     })
+
+pub returns-in_default-clause-turns : goal.returns-in_default-clause-turns
+returns-in_default-clause-turns g c =
+    let before : State _ _ _ = state c.self.inside.desk c.self.inside.inbox c.self.inside.clients c.self.inside.sessions c.self.inside.is_open in
+    rw (← c.self.view_is) (rw c.in_default.ensures.taken (HasTurns-none g.M.Moments.tells g.C.Read.remaining g.W.Write.contents c.args.place before))

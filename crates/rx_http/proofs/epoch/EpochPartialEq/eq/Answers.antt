@@ -1,0 +1,6 @@
+-- Two epochs are equal where their bytes are.
+use Rattle.std.proofs.Common.{rules}
+use Rattle.rx_http.proofs.epoch.EpochPartialEq.eq.Goals as goal
+
+pub returns : goal.returns
+returns c = search rules

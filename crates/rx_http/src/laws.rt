@@ -1,0 +1,61 @@
+//! What a browser's reader is told by what is written. The functions do nothing, or only look: their clauses are the laws.
+ghost use Rattle.rx_http.specs.Epochs.{IsEpoch};
+ghost use Rattle.rx_http.specs.Examples.{AreReadAsTold};
+ghost use Rattle.rx_http.specs.Laws.{CutStreamIsAFront, IsEvent, IsPlace, StreamIsReadBack, StreamIsUtf8};
+
+use crate::{Epoch, StreamEvent};
+
+/// The standard's own examples are read as it says.
+pub fn examples_are_read_as_told()
+    ensures { AreReadAsTold }
+{}
+
+/// The reader of a stream is told just its events, in their order, each with its id, its kind and its text, in which a CR is
+/// an LF.
+pub fn stream_is_read_back()
+    ensures { StreamIsReadBack }
+{}
+
+/// The reader of a stream that is cut behind any byte is told a front of its events, and comes again with the id of the last
+/// that it was told, or with its own where it was told none.
+pub fn cut_stream_is_a_front()
+    ensures { CutStreamIsAFront }
+{}
+
+/// All that is written of a stream is UTF-8.
+pub fn stream_is_utf8()
+    ensures { StreamIsUtf8 }
+{}
+
+/// The laws speak of each event and each epoch that there is.
+pub fn event_can_be_told(epoch: &Epoch, event: StreamEvent<'_>)
+    ensures epoch { IsEpoch epoch.now }
+    ensures event { IsEvent event.entry }
+{
+    let _ = epoch.as_bytes();
+    match event {
+        StreamEvent::Joined { who: _, known } | StreamEvent::Completed { known } => look(known),
+        StreamEvent::Next(item) => {
+            let _ = item.text.as_bytes();
+            look(Some(item.place));
+        }
+        StreamEvent::Missed { count: _, last: _ } | StreamEvent::Overflowed => {}
+        StreamEvent::Restarted { sent } => {
+            let _ = sent.epoch.as_bytes();
+            look(sent.place);
+        }
+        StreamEvent::Failed { text, known } => {
+            let _ = text.as_bytes();
+            look(known);
+        }
+    }
+}
+
+// A place has 32 bits.
+fn look(place: Option<u32>)
+    ensures { IsPlace place }
+{
+    match place {
+        Some(_) | None => {}
+    }
+}

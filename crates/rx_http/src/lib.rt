@@ -1,0 +1,18 @@
+//! The events of a subject as a browser's EventSource reads them: Server-Sent Events, written and proved to be read back.
+//!
+//! Nothing here serves or reads a request: an event goes to a writer. What is to stand above rests on one contract:
+//! [`write_event`] writes exactly the bytes of an event, of which [`laws`] says that a reader is told just that event by them,
+//! and by a stream that is cut anywhere a front of its events, with the id of the last.
+#![tactic(auto)]
+
+mod epoch;
+mod id;
+mod kinds;
+pub mod laws;
+mod stream_event;
+mod writing;
+
+pub use epoch::Epoch;
+pub use id::Id;
+pub use stream_event::StreamEvent;
+pub use writing::{write_event, write_heartbeat, write_retry};

@@ -1,0 +1,14 @@
+pub mod Anywhere
+pub mod Claims
+pub mod Emitting
+pub mod Following
+pub mod Hearing
+pub mod Marks
+pub mod Once
+pub mod Options
+pub mod OwnAnywhere
+pub mod Serving
+pub mod Tenures
+pub mod Totals
+pub mod Waiting
+pub mod Within

@@ -1,0 +1,6 @@
+pub mod Logs
+pub mod Machines
+pub mod Rules
+pub mod Senders
+pub mod Terms
+pub mod Totals
