@@ -15,7 +15,6 @@ mod crowds;
 #[cfg(test)]
 mod expecting;
 #[cfg(test)]
-#[cfg(test)]
 mod order;
 #[cfg(test)]
 mod peers;
