@@ -15,6 +15,8 @@ mod crowds;
 #[cfg(test)]
 mod expecting;
 #[cfg(test)]
+mod going_on;
+#[cfg(test)]
 mod order;
 #[cfg(test)]
 mod peers;

@@ -6,7 +6,7 @@ ghost use Rattle.rx_pump.specs.Desks.{DeskView};
 ghost use Rattle.rx_server.specs.Servers.{IsDeskOf, IsEndOf};
 
 use crate::callers::caller_of;
-use crate::expecting::{expect_count, expect_told};
+use crate::expecting::{expect_count, expect_that, expect_told};
 use crate::servers::{Host, TWO_OF_EACH, closed, config_of, copy, started};
 use rx_drain::MemorySink;
 use rx_heap::Heap;
@@ -16,6 +16,8 @@ use rx_signs::Told;
 use std::alloc::{AllocError, Global};
 use std::sync::Arc;
 use std::sync::atomic::{AtomicU64, Ordering};
+use std::thread;
+use std::time::Duration;
 
 // Puts the thread of a fault, and `!` where there was no memory for it, `?` where it had no thread.
 fn put_fault(told: &mut Told, fault: StartFault) {
@@ -71,11 +73,18 @@ fn start_tells_for_what_memory_is_wanting(rt: HostRuntime) {
     expect_told(&rt, told.as_bytes(), NO_MEMORY, "no memory");
 }
 
-/// A right to so many copies, which the copies share. A runtime beside it starts so many threads of a server, each of which
-/// takes a copy of both.
-#[derive(Drop)]
-struct Ration {
+/// A right to so many copies, which the copies share, and how many there are. A runtime beside it starts so many threads of a
+/// server, each of which takes a copy of both, and lets go of them as it ends.
+pub(crate) struct Ration {
     left: Arc<AtomicU64, Global>,
+    there: Arc<AtomicU64, Global>,
+}
+
+impl Drop for Ration {
+    fn drop(self) {
+        let Ration { left: _, there } = self;
+        there.fetch_sub(1, Ordering::SeqCst);
+    }
 }
 
 impl Clone for Ration {
@@ -88,20 +97,46 @@ impl Clone for Ration {
         }
         self.left.store(left - 1, Ordering::SeqCst);
         let left = Arc::try_clone(&self.left)?;
-        Ok(Ration { left })
+        let there = Arc::try_clone(&self.there)?;
+        there.fetch_add(1, Ordering::SeqCst);
+        Ok(Ration { left, there })
     }
 }
 
-// How a server ends that may start so many threads: by its fault, or not at all.
+// How often one looks whether all threads ended, a millisecond apart.
+const LOOKS: u64 = 10_000;
+
+impl Ration {
+    /// A right to so many copies.
+    pub(crate) fn of(rt: &impl Host, copies: u64) -> Ration {
+        Ration {
+            left: Arc::new(rt.alloc(), AtomicU64::new(copies)).expect(rt, "memory"),
+            there: Arc::new(rt.alloc(), AtomicU64::new(1)).expect(rt, "memory"),
+        }
+    }
+
+    /// Whether no thread has a copy, or within some seconds none has.
+    pub(crate) fn all_ended(&self, rt: &impl Host) -> bool {
+        for _ in 0..LOOKS {
+            if self.there.load(Ordering::SeqCst) == 1 {
+                return true;
+            }
+            thread::sleep(rt, Duration::from_millis(1));
+        }
+        false
+    }
+}
+
+// How a server ends that may start so many threads: by its fault, or not at all. No thread of it is left then.
 fn told_with_threads<R: Host>(rt: &R, free: &Heap, threads: u64) -> Told {
-    let left = Arc::new(rt.alloc(), AtomicU64::new(threads)).expect(rt, "memory");
-    let host = (rt.clone().expect(rt, "a handle"), Ration { left });
+    let host = (rt.clone().expect(rt, "a handle"), Ration::of(rt, threads));
     let mut told = Told::new();
     let config = config_of(rt, free, TWO_OF_EACH);
     match start::<MemorySink, _>(&host, copy(rt, free), config) {
         Ok(server) => drop(closed(rt, server, Vec::new(copy(rt, free)))),
         Err(fault) => put_fault(&mut told, fault),
     }
+    expect_that(rt, host.1.all_ended(rt), "each thread ended");
     told
 }
 

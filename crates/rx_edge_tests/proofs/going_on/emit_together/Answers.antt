@@ -1,0 +1,12 @@
+use Rattle.rx_server.proofs.Desks.{keeps-none, keeps-then}
+use Rattle.rx_edge_tests.proofs.going_on.emit_together.Goals as goal
+
+pub loop-subject-init : goal.loop-subject-init
+loop-subject-init g c = keeps-none c.args.caller.now.desk
+
+pub loop-subject-preserved : goal.loop-subject-preserved
+loop-subject-preserved g c =
+    let before = c.loop-subject.caller.desk in
+    let posted = c.post_some.new.caller.desk in
+    let heard = c.hear_some.new.caller.desk in
+    keeps-then c.args.caller.now.desk before heard c.loop-subject.invariant (keeps-then before posted heard c.post_some.ensures c.hear_some.ensures)
