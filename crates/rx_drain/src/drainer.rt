@@ -2,6 +2,7 @@ ghost use Rattle.std.specs.Prelude.{◌≡◌, ◌+◌, false, true, [], Some, N
 ghost use Rattle.std.specs.List.{All};
 ghost use Rattle.rx_pump.specs.Pumps.{IsFresh};
 
+use crate::bursts::Bursts;
 use crate::drain_end::DrainEnd;
 use crate::drain_fault::DrainFault;
 use crate::drain_stop::DrainStop;
@@ -25,6 +26,7 @@ pub struct Drainer<S: Sink> {
     // The Bye of the leave port came.
     left: bool,
     fault: Option<DrainFault>,
+    bursts: Bursts,
 }
 
 // A drainer that is let go is gone for its subjects, which hear its Byes.
@@ -35,6 +37,7 @@ impl<S: Sink> Drop for Drainer<S> {
             leave: _,
             left: _,
             fault: _,
+            bursts: _,
         } = self;
         hands.let_go();
     }
@@ -92,6 +95,7 @@ impl<S: Sink> Drainer<S> {
             leave,
             left: false,
             fault: None,
+            bursts: Bursts::new(),
         })
     }
 
@@ -102,9 +106,9 @@ impl<S: Sink> Drainer<S> {
         self.hands.put_away.forget();
     }
 
-    /// Takes the letters that are there, some thousands at most, and waits while there is none. Then it flushes each sink in
-    /// which something may wait. While something waits in a sink it waits for a letter some milliseconds at most, and then
-    /// flushes again, so a turn may have taken none. Where nothing waits it took one at least.
+    /// Takes the letters that are there, some thousands at most, and waits while there is none, and within a burst for a tenth of
+    /// a millisecond. Then it flushes each sink in which something may wait. While something waits in a sink it waits for a letter
+    /// some milliseconds at most, and then flushes again, so a turn may have taken none. Where nothing waits it took one at least.
     ///
     /// A sink that a subject attaches is started and kept. A note goes to the sink that is kept for its observer, which took
     /// no terminal yet. The subject is asked for one item more for each that the sink took: at once, but while the sink is
@@ -149,7 +153,7 @@ impl<S: Sink> Drainer<S> {
             self.fault = Some(DrainFault::InboxGone);
             return Err(DrainFault::InboxGone);
         };
-        let more = handle_more(rt, &mut self.hands, self.leave, first);
+        let more = handle_more(rt, &mut self.hands, &mut self.bursts, self.leave, first);
         let rest = handle_rest(rt, &mut self.hands, self.leave, more);
         self.left = rest.left;
         self.fault = rest.fault;
@@ -179,6 +183,7 @@ impl<S: Sink> Drainer<S> {
             leave: _,
             left: _,
             fault: _,
+            bursts: _,
         } = self;
         hands
     }
@@ -217,6 +222,7 @@ impl<S: Sink> Drainer<S> {
             leave: _,
             left: _,
             fault: _,
+            bursts: _,
         } = self;
         let DrainerLeft {
             parts,
@@ -247,6 +253,7 @@ impl<S: Sink> Drainer<S> {
             leave: _,
             left: _,
             fault: _,
+            bursts: _,
         } = self;
         DrainStop { fault, left }
     }

@@ -1,14 +1,16 @@
 // One letter: the sinks take it, and the ports send what it owes.
-ghost use Rattle.std.specs.Prelude.{◌≡◌, true, false, None, IfOk, OnOk, OnErr};
+ghost use Rattle.std.specs.Prelude.{◌≡◌, true, false, None, IfOk, MatchResult, OnOk, OnErr};
 ghost use Rattle.rx_mailbox.specs.declared.letter.Post.TheVariants.{Bye};
+ghost use Rattle.rx_mailbox.specs.Boxes.{with_letter};
 ghost use Rattle.rx_mailbox.specs.Letters as letters;
 ghost use Rattle.rx_pump.specs.Pumps.{AreSame};
 ghost use Rattle.rx_drain.specs.Drainers.{Fits, Goes, HandlesLetter, HandlesNext, HearsBye, IsOfSubject, Pays, TakesMore, TakesSome, any_may_wait, view_of};
 
+use crate::bursts::Bursts;
 use crate::flushing::{flush_all, flush_last, look_after, may_wait};
-use crate::sending::{holds_back, part_all, send_asks};
+use crate::sending::{holds_back, part_all, send_asks, would_wake};
 use crate::serving_out::{finish_unserved, into_sink, serve_out};
-use crate::{DrainFault, DrainerLeft};
+use crate::{DrainFault, DrainerLeft, DrainerParts};
 use rx_mailbox::{Gone, Letter, Post, TryRecvFault};
 use rx_pump::{Out, finish_all, try_ring_all};
 use rx_sink::{Sink, put_all_away};
@@ -21,6 +23,9 @@ const MOST_LETTERS: u32 = 4096;
 
 // How long a letter is waited for while something waits in a sink, or in a port for room, in milliseconds.
 const MOST_WAIT: u64 = 4;
+
+// How long the next part of a burst is waited for, in microseconds.
+const MOST_PAUSE: u64 = 100;
 
 // How long a letter is waited for where nothing waits in a sink, before all sinks are looked after, in milliseconds.
 const MOST_IDLE: u64 = 250;
@@ -146,10 +151,11 @@ fn handle_none<S: Sink, R: Wait>(
     Handled { left: false, fault }
 }
 
-// Does what the letters ask that are there, as long as there is no fault, and waits for none.
+// Does what the letters ask that are there, as long as there is no fault, and waits for none but within a burst.
 pub fn handle_more<S: Sink, R: Wait>(
     rt: &R,
     hands: &mut DrainerLeft<S>,
+    bursts: &mut Bursts,
     leave: usize,
     handled: Handled,
 ) -> Handled
@@ -163,16 +169,45 @@ pub fn handle_more<S: Sink, R: Wait>(
     ensures goes { Goes S.acts (view_of hands.old handled.left handled.fault) (view_of hands.new result.left result.fault) }
 {
     let mut now = handled;
-    for _ in 0..MOST_LETTERS {
+    for count in 0..MOST_LETTERS {
         if now.fault.is_some() {
             return now;
         }
-        let Ok(letter) = hands.parts.inbox.try_recv(rt) else {
+        let Ok(letter) = receive_more(rt, &mut hands.parts, bursts, count) else {
             return now;
         };
         now = handle(rt, hands, leave, now.left, letter);
     }
     now
+}
+
+// Takes the letter that comes next, and waits for none but within a burst: where a subject sleeps that is to be asked for more, what
+// is held back for it goes, and it waits shortly for what that brings. Nobody has to write for the wait to end.
+fn receive_more<S: Drop, R: Wait>(
+    rt: &R,
+    parts: &mut DrainerParts<S>,
+    bursts: &mut Bursts,
+    letters: u32,
+) -> Result<Letter<Out<S>>, TryRecvFault>
+    ensures received { MatchResult result (λ letter. parts.new.inbox ≡ with_letter parts.old.inbox letter) (λ _. parts.new.inbox ≡ parts.old.inbox) }
+    ensures subjects { parts.new.subjects.items ≡ parts.old.subjects.items }
+{
+    let fault = match parts.inbox.try_recv(rt) {
+        Ok(letter) => return Ok(letter),
+        Err(fault) => fault,
+    };
+    if !bursts.may_go_on(letters) || !would_wake(&parts.subjects) {
+        bursts.ended(letters);
+        return Err(fault);
+    }
+    let _is_left = try_ring_all(rt, &mut parts.subjects);
+    let received = parts
+        .inbox
+        .recv_within(rt, Duration::from_micros(MOST_PAUSE));
+    if received.is_err() {
+        bursts.waited(letters);
+    }
+    received
 }
 
 // Has go out what waits in the sinks, unless there is a fault, and what is held back for the subjects. Once the drainer has left

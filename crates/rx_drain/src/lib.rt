@@ -16,6 +16,7 @@
 //! The sinks stand in a crate of their own below this one, and are exported again.
 #![tactic(auto)]
 
+mod bursts;
 mod drain_end;
 mod drain_fault;
 mod drain_stop;

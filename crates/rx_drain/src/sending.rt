@@ -85,3 +85,8 @@ fn send<S: Drop, R: Wait>(
 pub fn holds_back<S: Drop>(subjects: &Vec<Port<Call<S>>, Heap>) -> bool {
     subjects.iter().any(|port| port.holds_back())
 }
+
+// Whether a subject sleeps that is to be asked for more.
+pub fn would_wake<S: Drop>(subjects: &Vec<Port<Call<S>>, Heap>) -> bool {
+    subjects.iter().any(|port| port.would_wake())
+}

@@ -41,6 +41,11 @@ impl Bell {
         }
     }
 
+    /// Whether nobody sleeps, or is about to.
+    pub(crate) fn is_awake(&self) -> bool {
+        self.state.load(Ordering::SeqCst) == AWAKE
+    }
+
     /// Waits after so many looks in vain, of so many before it sleeps. It answers how many they are from then on, which is `most`
     /// after a sleep.
     pub(crate) fn wait<R: Wait>(&self, rt: &R, looks: u32, most: u32) -> u32 {

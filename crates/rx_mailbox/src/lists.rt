@@ -4,10 +4,10 @@ use rx_heap::{Heap, Memory};
 use std::collections::VecDeque;
 use std::sync::{Arc, Mutex, Wait};
 
-// How many bodies a list has room for at first.
-const LENGTH: usize = 32;
+/// How many bodies a list has room for at first. So many go together while their inbox looks for them.
+pub(crate) const LENGTH: usize = 32;
 
-/// How many bodies go together where their port may let its list grow: it puts them at the latest then, if there is room.
+/// How many bodies go together where their port may let its list grow and the inbox sleeps: it puts them then, if there is room.
 pub(crate) const MOST_TOGETHER: usize = 128;
 
 // How many lists a box has at most.

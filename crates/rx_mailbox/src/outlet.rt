@@ -159,6 +159,11 @@ impl<B: Drop> Outlet<B> {
         self.bells.is_inbox_gone()
     }
 
+    /// Whether the inbox does not sleep.
+    pub(crate) fn is_inbox_awake(&self) -> bool {
+        self.bells.letter.is_awake()
+    }
+
     /// Wakes the inbox, if it sleeps.
     pub(crate) fn ring(&self) {
         self.bells.letter.ring();

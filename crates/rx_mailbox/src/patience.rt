@@ -1,11 +1,11 @@
 // How often who waits looks before it sleeps, where what it waits for comes seldom.
-const SOON: u32 = 40;
+const SOON: u32 = 16;
 
 // After so many waits that ended in a sleep it comes seldom.
 const SELDOM: u32 = 2;
 
 // Of so many such waits, one has as many looks as any other.
-const SHORT_WAITS: u32 = 32;
+const SHORT_WAITS: u32 = 64;
 
 /// How long who waits goes on looking before it sleeps. Where its last waits ended in a sleep, what it waits for comes seldom, and it
 /// soon leaves its core: those whom it just woke may wait for that very core. Now and then it looks longer all the same, so that it

@@ -5,7 +5,7 @@ ghost use Rattle.rx_mailbox.specs.Boxes.{with_bodies, with_post};
 use crate::batch::Batch;
 use crate::ended_port::EndedPort;
 use crate::leavings::{Leavings, SharedLeavings};
-use crate::lists::{MOST_TOGETHER, SharedLists};
+use crate::lists::{LENGTH, MOST_TOGETHER, SharedLists};
 use crate::outlet::Outlet;
 use rx_heap::Heap;
 use std::collections::VecDeque;
@@ -136,9 +136,10 @@ impl<B: Drop> Port<B> {
         self.outlet.put_one(rt, &self.leavings, body)
     }
 
-    /// As `send_quietly`, but waits for no room: where the box is full it holds back more than else, as long as there is memory for
-    /// it, and only then waits. So who sends by this alone never keeps the inbox's owner waiting while that one waits for it.
-    /// What is held back so goes by `try_ring`.
+    /// As `send_quietly`, but wakes nobody and waits for no room: where the box is full it holds back more than else, as long as
+    /// there is memory for it, and only then waits. So who sends by this alone never keeps the inbox's owner waiting while that one
+    /// waits for it. What is held back goes in small lists while the inbox looks for them, and in large ones while it sleeps; the
+    /// last of it goes by `try_ring`.
     pub fn hold<R: Wait>(&mut self, rt: &R, body: B) -> Result<(), B>
         ensures { MatchResult result
             (λ _. self.new ≡ with_post self.old (Body body))
@@ -147,22 +148,25 @@ impl<B: Drop> Port<B> {
         if self.is_inbox_gone() {
             return Err(body);
         }
-        if self.held.len() < self.held.capacity() {
+        if self.held.len() < self.held.capacity() && self.held.len() % LENGTH != 0 {
             self.held.push_back_reserved(body);
             return Ok(());
         }
         self.hold_on(rt, body)
     }
 
-    // The same where no more can be held back as it is.
-    #[inline(never)] // once for each batch
+    // The same where a list is full, or can be one: it goes where its inbox looks for it, and else waits for more.
+    #[inline(never)] // once for each list
     fn hold_on<R: Wait>(&mut self, rt: &R, body: B) -> Result<(), B>
         ensures { MatchResult result
             (λ _. self.new ≡ with_post self.old (Body body))
             (λ back. (back ≡ body) × (self.new ≡ self.old)) }
     {
-        if self.held.len() >= MOST_TOGETHER {
-            let _is_left = self.try_ring(rt);
+        if self.held.len() >= MOST_TOGETHER
+            || self.held.len() >= LENGTH && self.outlet.is_inbox_awake()
+        {
+            self.owes_ring = true;
+            let _is_put = self.try_put_held(rt);
         }
         if self.held.is_empty()
             && self.held.capacity() == 0
@@ -244,6 +248,11 @@ impl<B: Drop> Port<B> {
             &mut self.spare,
             &mut self.held,
         )
+    }
+
+    /// Whether the inbox sleeps, and is to be woken for what was sent quietly.
+    pub fn would_wake(&self) -> bool {
+        (self.owes_ring || !self.held.is_empty()) && !self.outlet.is_inbox_awake()
     }
 
     /// Whether it holds something back.

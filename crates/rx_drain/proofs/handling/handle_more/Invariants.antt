@@ -4,8 +4,8 @@ use Rattle.rx_drain.specs.Drainers.{Fits, Goes, IsOfSubject, TakesMore, view_of}
 use Rattle.rx_drain.proofs.handling.handle_more.Given as goal
 
 -- so far it went on by the letters that came
-abbrev pub invariant-loop : goal.invariant-loop
-invariant-loop g l = record {
+abbrev pub invariant-loop-count : goal.invariant-loop-count
+invariant-loop-count g l = record {
   fits : Fits l.leave l.now.left l.now.fault l.hands;
   of_subject : IsOfSubject l.now.fault;
   inbox : TakesMore l.initial.hands.parts.inbox l.hands.parts.inbox;

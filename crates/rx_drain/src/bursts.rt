@@ -1,0 +1,49 @@
+// How many letters come in one turn of a drainer.
+
+// Fewer letters than these are no burst: what they gave goes out at once.
+const FEWEST: u32 = 64;
+
+// After so many bursts behind which it waited for nothing it waits again, however many letters came.
+const SHORT_BURSTS: u32 = 16;
+
+/// What a drainer learns of bursts. The requests that it owes for one part of a burst bring the next, so it waits for that before
+/// it flushes, and a write has the notes of both; but not where a burst mostly ends.
+#[derive(Drop)]
+pub(crate) struct Bursts {
+    // Behind so many letters it waited in vain.
+    most: u32,
+    // Behind how many bursts it waited for nothing since.
+    short: u32,
+}
+
+impl Bursts {
+    pub(crate) fn new() -> Bursts {
+        Bursts {
+            most: u32::MAX,
+            short: 0,
+        }
+    }
+
+    /// Whether more may come behind so many letters.
+    pub(crate) fn may_go_on(&self, letters: u32) -> bool {
+        letters >= FEWEST && letters < self.most
+    }
+
+    /// Learns that it waited in vain behind so many letters.
+    pub(crate) fn waited(&mut self, letters: u32) {
+        self.most = letters;
+        self.short = 0;
+    }
+
+    /// Learns that a turn ended behind so many letters, and did not wait.
+    pub(crate) fn ended(&mut self, letters: u32) {
+        if letters < FEWEST {
+            return;
+        }
+        self.short = self.short.saturating_add(1);
+        if self.short >= SHORT_BURSTS {
+            self.most = u32::MAX;
+            self.short = 0;
+        }
+    }
+}
