@@ -1,7 +1,9 @@
 // How many letters come in one turn of a drainer.
 
-// Fewer letters than these are no burst: what they gave goes out at once.
+// Fewer letters than these, or than so many for each sink, are no burst: what they gave goes out at once.
 const FEWEST: u32 = 64;
+
+const FEWEST_EACH: usize = 4;
 
 // After so many bursts behind which it waited for nothing it waits again, however many letters came.
 const SHORT_BURSTS: u32 = 16;
@@ -24,9 +26,9 @@ impl Bursts {
         }
     }
 
-    /// Whether more may come behind so many letters.
-    pub(crate) fn may_go_on(&self, letters: u32) -> bool {
-        letters >= FEWEST && letters < self.most
+    /// Whether more may come behind so many letters to so many sinks.
+    pub(crate) fn may_go_on(&self, letters: u32, sinks: usize) -> bool {
+        is_burst(letters, sinks) && letters < self.most
     }
 
     /// Learns that it waited in vain behind so many letters.
@@ -35,9 +37,9 @@ impl Bursts {
         self.short = 0;
     }
 
-    /// Learns that a turn ended behind so many letters, and did not wait.
-    pub(crate) fn ended(&mut self, letters: u32) {
-        if letters < FEWEST {
+    /// Learns that a turn ended behind so many letters to so many sinks, and did not wait.
+    pub(crate) fn ended(&mut self, letters: u32, sinks: usize) {
+        if !is_burst(letters, sinks) {
             return;
         }
         self.short = self.short.saturating_add(1);
@@ -46,4 +48,8 @@ impl Bursts {
             self.short = 0;
         }
     }
+}
+
+fn is_burst(letters: u32, sinks: usize) -> bool {
+    letters >= FEWEST && letters as usize / FEWEST_EACH >= sinks
 }

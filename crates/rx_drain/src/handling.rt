@@ -168,12 +168,13 @@ pub fn handle_more<S: Sink, R: Wait>(
     ensures keeps { hands.new.put_away.keeps ≡ hands.old.put_away.keeps }
     ensures goes { Goes S.acts (view_of hands.old handled.left handled.fault) (view_of hands.new result.left result.fault) }
 {
+    let sinks = hands.kept.len();
     let mut now = handled;
     for count in 0..MOST_LETTERS {
         if now.fault.is_some() {
             return now;
         }
-        let Ok(letter) = receive_more(rt, &mut hands.parts, bursts, count) else {
+        let Ok(letter) = receive_more(rt, &mut hands.parts, bursts, sinks, count) else {
             return now;
         };
         now = handle(rt, hands, leave, now.left, letter);
@@ -187,6 +188,7 @@ fn receive_more<S: Drop, R: Wait>(
     rt: &R,
     parts: &mut DrainerParts<S>,
     bursts: &mut Bursts,
+    sinks: usize,
     letters: u32,
 ) -> Result<Letter<Out<S>>, TryRecvFault>
     ensures received { MatchResult result (λ letter. parts.new.inbox ≡ with_letter parts.old.inbox letter) (λ _. parts.new.inbox ≡ parts.old.inbox) }
@@ -196,8 +198,8 @@ fn receive_more<S: Drop, R: Wait>(
         Ok(letter) => return Ok(letter),
         Err(fault) => fault,
     };
-    if !bursts.may_go_on(letters) || !would_wake(&parts.subjects) {
-        bursts.ended(letters);
+    if !bursts.may_go_on(letters, sinks) || !would_wake(&parts.subjects) {
+        bursts.ended(letters, sinks);
         return Err(fault);
     }
     let _is_left = try_ring_all(rt, &mut parts.subjects);
