@@ -1,20 +1,24 @@
 -- What arrived of a server's letters once it is closed.
-use Rattle.std.proofs.Common.{◌≡◌, ◌∙◌, sym, ap, subst, ℕ, zero, suc, List, [], ◌∷◌, Some, slice_get}
+use Rattle.std.proofs.Common.{◌≡◌, ◌∙◌, sym, ap, subst, ℕ, zero, suc, List, [], ◌∷◌, ◌++◌, length, Some, slice_get}
 use Rattle.std.proofs.lemmas.List.Elements.{All-head, All-tail}
 use Rattle.std.specs.List.{All, AllZip, zip}
+use Rattle.rx_mailbox.specs.declared.letter.Post.TheVariants.{Bye}
 use Rattle.rx_mailbox.specs.Boxes.{Outgoing}
+use Rattle.rx_mailbox.specs.Letters.{letter, posts, share}
 use Rattle.rx_mailbox.specs.Passes.{SettledView, inbox_in}
 use Rattle.rx_mailbox.specs.Settling.{GotAll}
 use Rattle.rx_pump.specs.declared.call.Call.{Call}
+use Rattle.rx_pump.specs.declared.ended_desk.EndedDesk.{EndedDesk}
 use Rattle.rx_pump.specs.declared.out.Out.{Out}
 use Rattle.rx_pump.specs.declared.pump_end.PumpEnd.{PumpEnd}
 use Rattle.rx_pump.specs.declared.reply.Reply.{Reply}
-use Rattle.rx_pump.specs.Marks.{Marked}
+use Rattle.rx_pump.specs.Marks.{Marked, route}
 use Rattle.rx_pump.specs.Pumps.{PumpView}
 use Rattle.rx_pump.specs.Serving.{PumpServes}
 use Rattle.rx_sink.specs.Acts.{Acts}
 use Rattle.rx_server.specs.Arriving.{EachLetterArrives}
-use Rattle.rx_server.specs.Servers.{GotEach}
+use Rattle.rx_server.specs.declared.report.Report.{Report}
+use Rattle.rx_server.specs.Servers.{Closes, GotEach, ServerView}
 
 -- what holds of each pair holds of the one at a place
 pub zip-at : {A B : Type 0} (R : A → B → Type 0) (xs : List A) (ys : List B) (i : ℕ) (x : A) (y : B) → AllZip R xs ys → slice_get xs i ≡ Some x → slice_get ys i ≡ Some y → R x y
@@ -37,19 +41,28 @@ pair-at (a ∷ xs) [] i x y at_x at_y = cc
 pair-at (a ∷ xs) (b ∷ ys) zero x y at_x at_y = let first : a ≡ x = cc in let second : b ≡ y = cc in cc
 pair-at (a ∷ xs) (b ∷ ys) (suc i) x y at_x at_y = pair-at xs ys i x y at_x at_y
 
+-- what the box of each drainer received of a pump is the drainer's route and a Bye
+pub route_came : {S Rest : Type 0} (acts : Acts S Rest) (server : ServerView S Rest) (ended : List (EndedDesk S)) (report : Report S Rest) (closes : Closes acts server ended report)
+    → (i : ℕ) (pump : PumpView S) (end : PumpEnd S) (B : Marked S) → slice_get server.pumps i ≡ Some pump → slice_get closes.pump_ends i ≡ Some end → slice_get closes.marks i ≡ Some B
+    → (d : ℕ) (port : Outgoing (Out S)) (outs : SettledView (Out S)) → slice_get end.drainers.items d ≡ Some port → slice_get report.boxes.drainers.items d ≡ Some outs
+    → share port.number outs.received ≡ posts port.number (route pump.hub.state.rules (length pump.drainers) d B) ++ letter port.number Bye ∷ []
+route_came {S = S} acts server ended report closes i pump end B at_pump at_end at_marks d port outs at_port at_outs =
+    let serves = zip-at (λ (pump : PumpView S) (x : PumpEnd S × Marked S). PumpServes pump x.0 x.1) server.pumps (zip closes.pump_ends closes.marks) i pump (end, B) closes.pumped at_pump
+    (pair-at closes.pump_ends closes.marks i end B at_end at_marks) in
+    let got = all-at (λ (end : PumpEnd S). GotEach report.boxes.drainers.items end.drainers.items) closes.pump_ends i end closes.settled.to_drainers at_end in
+    zip-at (λ (box : SettledView (Out S)) (port : Outgoing (Out S)). GotAll (inbox_in box) port) report.boxes.drainers.items end.drainers.items d outs port got at_outs at_port
+    ∙ serves.routed d port at_port
+
 pub arrives : {S Rest : Type 0} (acts : Acts S Rest) → EachLetterArrives acts
 arrives {S = S} acts server ended report closes i pump end B box at_pump at_end at_marks at_box =
     let serves = zip-at (λ (pump : PumpView S) (x : PumpEnd S × Marked S). PumpServes pump x.0 x.1) server.pumps (zip closes.pump_ends closes.marks) i pump (end, B) closes.pumped at_pump
     (pair-at closes.pump_ends closes.marks i end B at_end at_marks) in
     let settled = closes.settled in
     let same = zip-at (λ (end : PumpEnd S) (box : SettledView (Call S)). inbox_in box ≡ end.inbox) closes.pump_ends report.boxes.subjects.items i end box settled.of_pumps at_end at_box in
-    let outs_got = all-at (λ (end : PumpEnd S). GotEach report.boxes.drainers.items end.drainers.items) closes.pump_ends i end settled.to_drainers at_end in
     let answers_got = all-at (λ (end : PumpEnd S). GotEach report.boxes.replies.items end.replies.items) closes.pump_ends i end settled.to_desks at_end in
     record {
       letters = serves.accounts.letters ∙ sym (ap (λ inbox. inbox.received) same);
-      routes = λ d port outs at_port at_outs.
-          zip-at (λ (box : SettledView (Out S)) (port : Outgoing (Out S)). GotAll (inbox_in box) port) report.boxes.drainers.items end.drainers.items d outs port outs_got at_outs at_port
-          ∙ serves.routed d port at_port;
+      routes = λ d port outs at_port at_outs. route_came acts server ended report closes i pump end B at_pump at_end at_marks d port outs at_port at_outs;
       replied = λ w port answers at_port at_answers.
           zip-at (λ (box : SettledView (Reply S)) (port : Outgoing (Reply S)). GotAll (inbox_in box) port) report.boxes.replies.items end.replies.items w answers port answers_got at_answers at_port
           ∙ serves.replied w port at_port;

@@ -1,5 +1,6 @@
 pub mod Arriving
 pub mod Ends
+pub mod Hearing
 pub mod Leaving
 pub mod OpenBoxes
 pub mod Returning

@@ -1,6 +1,7 @@
-//! A law of a server that was closed: the function does nothing, and its contract is the law.
+//! Laws of a server that was closed: the functions do nothing, and their contracts are the laws.
 
 ghost use Rattle.rx_server.specs.Arriving.{EachLetterArrives};
+ghost use Rattle.rx_server.specs.Hearing.{EachSinkHears};
 
 use rx_sink::Sink;
 
@@ -8,4 +9,10 @@ use rx_sink::Sink;
 /// is the drainer's route, and what each desk's box received of it are the replies to that desk, each followed by a Bye.
 pub fn each_letter_arrived<S: Sink>()
     ensures { EachLetterArrives S.acts }
+{}
+
+/// The server's sentence: of a server that was closed, what each sink took is a front of what the definitions give its observer
+/// for the history of the letters that its subject's box received.
+pub fn each_sink_hears<S: Sink>()
+    ensures { EachSinkHears S.acts }
 {}

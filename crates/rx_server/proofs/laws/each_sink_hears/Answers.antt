@@ -1,0 +1,5 @@
+use Rattle.rx_server.proofs.Hearing.{each_hears}
+use Rattle.rx_server.proofs.laws.each_sink_hears.Goals as goal
+
+pub returns : goal.returns
+returns g c = each_hears g.S.Sink.acts

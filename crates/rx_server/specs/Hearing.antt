@@ -1,0 +1,43 @@
+-- The server's sentence: what each sink of a closed server took, by the definitions (this project's own rule).
+use Rattle.std.specs.Prelude.{◌≡◌, ℕ, List, ◌++◌, length, Some, slice_get}
+use Rattle.std.specs.List.{AllByRecursion}
+use Rattle.rx_note.specs.declared.note.Note.{Note}
+use Rattle.rx_note.specs.declared.rules.Rules.{Rules}
+use Rattle.rx_history.specs.Histories.{given_to}
+use Rattle.rx_mailbox.specs.Boxes.{Outgoing}
+use Rattle.rx_mailbox.specs.Passes.{SettledView}
+use Rattle.rx_pump.specs.declared.ended_desk.EndedDesk.{EndedDesk}
+use Rattle.rx_pump.specs.declared.out.Out.{Out}
+use Rattle.rx_pump.specs.declared.pump_end.PumpEnd.{PumpEnd}
+use Rattle.rx_pump.specs.Marks.{Marked, history_of}
+use Rattle.rx_pump.specs.Pumps.{PumpView}
+use Rattle.rx_sink.specs.Acts.{Acts}
+use Rattle.rx_drain.specs.declared.drain_end.DrainEnd.{DrainEnd}
+use Rattle.rx_drain.specs.Drainers.{DrainerView}
+use Rattle.rx_drain.specs.Logs.{Log, gone_in}
+use Rattle.rx_drain.specs.Serving.{DrainerServes}
+use Rattle.rx_server.specs.declared.report.Report.{Report}
+use Rattle.rx_server.specs.Servers.{Closes, ServerView}
+
+-- these are the first of those
+abbrev pub IsFrontOf : List Note → List Note → Type 0
+IsFrontOf notes all = (rest : List Note) × (notes ++ rest ≡ all)
+
+module _ {S : Type 0} where
+  -- each sink that a drainer had for an observer of the subject of this port took a front of what the history of that subject's
+  -- letters gives that observer
+  abbrev pub HearEach : Rules → Marked S → ℕ → ℕ → Log S → Type 0
+  HearEach rules B port leave log =
+      AllByRecursion (λ end. end.0.subject ≡ port → IsFrontOf end.0.taken (given_to rules (history_of B) end.0.who)) (gone_in leave log)
+
+module _ {S Rest : Type 0} (acts : Acts S Rest) where
+  -- of a server that was closed, for each subject and each drainer: by the choice of marks of the subject's letters, and by any
+  -- choice of marks of the drainer's
+  abbrev pub EachSinkHears : Type 0
+  EachSinkHears =
+      (server : ServerView S Rest) (ended : List (EndedDesk S)) (report : Report S Rest) (closes : Closes acts server ended report)
+      → (i : ℕ) (pump : PumpView S) (end : PumpEnd S) (B : Marked S)
+      → slice_get server.pumps i ≡ Some pump → slice_get closes.pump_ends i ≡ Some end → slice_get closes.marks i ≡ Some B
+      → (d : ℕ) (port : Outgoing (Out S)) (drainer : DrainerView S Rest) (last : DrainEnd S Rest) (box : SettledView (Out S)) (log : Log S)
+      → slice_get end.drainers.items d ≡ Some port → slice_get closes.drain_ends d ≡ Some last → slice_get report.boxes.drainers.items d ≡ Some box
+      → DrainerServes acts drainer last log → HearEach pump.hub.state.rules B port.number (length last.ports.items) log
