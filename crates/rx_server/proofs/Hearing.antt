@@ -39,15 +39,15 @@ use Rattle.rx_server.proofs.Arriving.{route_came, zip-at}
 
 -- FRONTS
 
-front_then : (first second all : List Note) → IsFrontOf first second → IsFrontOf second all → IsFrontOf first all
+pub front_then : (first second all : List Note) → IsFrontOf first second → IsFrontOf second all → IsFrontOf first all
 front_then first second all (more, one) (rest, two) =
     (more ++ rest, sym (append_assoc first more rest) ∙ ap (λ (l : List Note). l ++ rest) one ∙ two)
 
-front_of : (notes all same : List Note) → all ≡ same → IsFrontOf notes all → IsFrontOf notes same
+pub front_of : (notes all same : List Note) → all ≡ same → IsFrontOf notes all → IsFrontOf notes same
 front_of notes all same is (rest, parts) = (rest, parts ∙ is)
 
 -- what a sink took is a front of what it was to be served
-took_front : (why : Why) (taken all : List Note) → TookOf why taken all → IsFrontOf taken all
+pub took_front : (why : Why) (taken all : List Note) → TookOf why taken all → IsFrontOf taken all
 took_front TookLast taken all took = ([], append-nil taken ∙ took)
 took_front Detached taken all took = ([], append-nil taken ∙ took)
 took_front Closed taken all took = ([], append-nil taken ∙ took)
@@ -58,12 +58,12 @@ took_front FailedAtFlush taken all (rest, parts) = (rest, parts)
 -- WHAT LETTERS BEAR
 
 -- the note that is borne, if there is one
-abbrev borne : Bearing → List Note
+abbrev pub borne : Bearing → List Note
 borne (Bears note) = note ∷ []
 borne Stops = []
 borne Passes = []
 
-abbrev all_borne : List Bearing → List Note
+abbrev pub all_borne : List Bearing → List Note
 all_borne [] = []
 all_borne (b ∷ bs) = borne b ++ all_borne bs
 
@@ -79,10 +79,10 @@ notes_front (Passes ∷ bs) = notes_front bs
 
 -- NUMBERS AND ANSWERS
 
-same_way : (n m : ℕ) → (n == m) ≡ (m == n)
+pub same_way : (n m : ℕ) → (n == m) ≡ (m == n)
 same_way n m = grind (arith, nat_tests)
 
-not_by : (n d who other : ℕ) (b : Bool) → (who == other) ≡ b → (who % n == d) ≡ true → (other % n == d) ≡ false → b ≡ false
+pub not_by : (n d who other : ℕ) (b : Bool) → (who == other) ≡ b → (who % n == d) ≡ true → (other % n == d) ≡ false → b ≡ false
 not_by n d who other false is own apart = refl
 not_by n d who other true is own apart =
     let same : who ≡ other = grind (arith, nat_tests) in
@@ -92,7 +92,7 @@ not_by n d who other true is own apart =
 not_its : (n d who other : ℕ) → (who % n == d) ≡ true → (other % n == d) ≡ false → (who == other) ≡ false
 not_its n d who other own apart = not_by n d who other (who == other) refl own apart
 
-stops_bear : (b : Bool) → borne (if b then Stops else Passes) ≡ []
+pub stops_bear : (b : Bool) → borne (if b then Stops else Passes) ≡ []
 stops_bear true = refl
 stops_bear false = refl
 
@@ -127,7 +127,7 @@ joined_number rules H (Request other n) who is =
 joined_number rules H (Dispose other) who is = absurd (no_join_leaves (is_held rules H other) who is)
 
 -- a list that ends has nothing behind its end
-none_in : {A : Type 0} (first : List A) (x : A) (rest : List A) → [] ≡ first ++ x ∷ rest → ⊥
+pub none_in : {A : Type 0} (first : List A) (x : A) (rest : List A) → [] ≡ first ++ x ∷ rest → ⊥
 none_in [] x rest is = cc
 none_in (f ∷ first) x rest is = cc
 
@@ -136,27 +136,27 @@ unmade rules H =
     let none : signals rules H (joins rules H) ≡ None = signals_unmade rules H (joins rules H) (omega arith) in
     ap (λ s. option_map_or given s []) none
 
-no_item : {A : Type 0} (n : ℕ) (x : A) → slice_get [] n ≡ Some x → ⊥
+pub no_item : {A : Type 0} (n : ℕ) (x : A) → slice_get [] n ≡ Some x → ⊥
 no_item n x at = cc
 
 module _ {S : Type 0} where
   -- the notes for an observer among what a subject sends
-  abbrev notes_to : ℕ → List (Out S) → List Note
+  abbrev pub notes_to : ℕ → List (Out S) → List Note
   notes_to who [] = []
   notes_to who (out ∷ outs) = borne (out_bearing who out) ++ notes_to who outs
 
-  notes_to-append : (who : ℕ) (first more : List (Out S)) → notes_to who (first ++ more) ≡ notes_to who first ++ notes_to who more
+  pub notes_to-append : (who : ℕ) (first more : List (Out S)) → notes_to who (first ++ more) ≡ notes_to who first ++ notes_to who more
   notes_to-append who [] more = refl
   notes_to-append who (out ∷ first) more =
       ap (λ (l : List Note). borne (out_bearing who out) ++ l) (notes_to-append who first more)
       ∙ sym (append_assoc (borne (out_bearing who out)) (notes_to who first) (notes_to who more))
 
   -- and among letters of its port
-  abbrev notes_among : ℕ → List (Letter (Out S)) → List Note
+  abbrev pub notes_among : ℕ → List (Letter (Out S)) → List Note
   notes_among who [] = []
   notes_among who (x ∷ xs) = borne (from_subject who x.post) ++ notes_among who xs
 
-  among_posts : (who p : ℕ) (outs : List (Out S)) → notes_among who (posts p outs ++ letter p Bye ∷ []) ≡ notes_to who outs
+  pub among_posts : (who p : ℕ) (outs : List (Out S)) → notes_among who (posts p outs ++ letter p Bye ∷ []) ≡ notes_to who outs
   among_posts who p [] = refl
   among_posts who p (out ∷ outs) = ap (λ (l : List Note). borne (out_bearing who out) ++ l) (among_posts who p outs)
 
@@ -194,7 +194,7 @@ module _ {S : Type 0} where
       ap (λ b. borne (if b then from_leave post else (if subject == from then from_subject who post else Passes))) by_leave
       ∙ ap (λ b. borne (if b then from_subject who post else Passes)) by_subject
 
-  letters_bear : (leave : ℕ) (a : Attachment S) (xs : List (Letter (Out S))) → (a.subject == leave) ≡ false
+  pub letters_bear : (leave : ℕ) (a : Attachment S) (xs : List (Letter (Out S))) → (a.subject == leave) ≡ false
       → all_borne (map (bearing leave a) xs) ≡ notes_among a.who (share a.subject xs)
   letters_bear leave a [] apart = refl
   letters_bear leave a (x ∷ xs) apart =
@@ -206,7 +206,7 @@ module _ {S : Type 0} where
       ap (λ (l : List Note). l ++ all_borne (map (bearing leave a) xs)) (one_apart leave a.who a.subject x.from x.post (x.from == leave) (a.subject == x.from) refl refl same)
       ∙ letters_bear_none leave a xs same
 
-  served_by : (leave : ℕ) (a : Attachment S) (xs : List (Letter (Out S))) (same : Bool) → (a.subject == leave) ≡ same
+  pub served_by : (leave : ℕ) (a : Attachment S) (xs : List (Letter (Out S))) (same : Bool) → (a.subject == leave) ≡ same
       → IsFrontOf (notes_in (map (bearing leave a) xs)) (notes_among a.who (share a.subject xs))
   served_by leave a xs true same =
       let bs = map (bearing leave a) xs in
@@ -219,7 +219,7 @@ module _ {S : Type 0} where
   -- BEHIND THE ATTACH
 
   -- what a port's own letters are behind one of them
-  share_own : (p : ℕ) (x : Letter (Out S)) (rest : List (Letter (Out S))) → (x.from == p) ≡ true → share p (x ∷ rest) ≡ x ∷ share p rest
+  pub share_own : (p : ℕ) (x : Letter (Out S)) (rest : List (Letter (Out S))) → (x.from == p) ≡ true → share p (x ∷ rest) ≡ x ∷ share p rest
   share_own p x rest own = ap (λ b. cond b (x ∷ share p rest) (share p rest)) own
 
   abbrev onto : Bool → Letter (Out S) → List (Letter (Out S)) → List (Letter (Out S))
@@ -229,7 +229,7 @@ module _ {S : Type 0} where
   onto_share true y before later = refl
   onto_share false y before later = refl
 
-  share_behind : (p n : ℕ) (x : Letter (Out S)) (xs : List (Letter (Out S))) → slice_get xs n ≡ Some x → (x.from == p) ≡ true
+  pub share_behind : (p n : ℕ) (x : Letter (Out S)) (xs : List (Letter (Out S))) → slice_get xs n ≡ Some x → (x.from == p) ≡ true
       → (before : List (Letter (Out S))) × (share p xs ≡ before ++ x ∷ share p (drop (suc n) xs))
   share_behind p n x [] at own = absurd (no_item n x at)
   share_behind p zero x (y ∷ ys) at own =
@@ -255,7 +255,7 @@ module _ {S : Type 0} where
       cc
 
   -- the outs of a port behind one of them
-  posts_behind : (p : ℕ) (outs : List (Out S)) (before : List (Letter (Out S))) (out : Out S) (rest : List (Letter (Out S)))
+  pub posts_behind : (p : ℕ) (outs : List (Out S)) (before : List (Letter (Out S))) (out : Out S) (rest : List (Letter (Out S)))
       → posts p outs ++ letter p Bye ∷ [] ≡ before ++ letter p (Body out) ∷ rest
       → (first : List (Out S)) × (more : List (Out S)) × (outs ≡ first ++ out ∷ more) × (rest ≡ posts p more ++ letter p Bye ∷ [])
   posts_behind p [] [] out rest is = absurd (bye_alone p out rest is)
@@ -273,7 +273,7 @@ module _ {S : Type 0} where
       (o ∷ later.0, later.1, ap (λ l. o ∷ l) later.2, later.3)
 
   -- and of all outs those behind it, of which the drainer's are these
-  abbrev Behind : (Out S → Bool) → List (Out S) → Out S → List (Out S) → Type 0
+  abbrev pub Behind : (Out S → Bool) → List (Out S) → Out S → List (Out S) → Type 0
   Behind test outs out more =
       (before : List (Out S)) × (behind : List (Out S)) × (outs ≡ before ++ out ∷ behind) × (filter test behind ≡ more) × (test out ≡ true)
 
@@ -292,7 +292,7 @@ module _ {S : Type 0} where
       let rest = later first tails in
       (o ∷ rest.0, rest.1, ap (λ l. o ∷ l) rest.2, rest.3, rest.4)
 
-  outs_behind : (test : Out S → Bool) (outs : List (Out S)) (out : Out S) (more first : List (Out S)) → filter test outs ≡ first ++ out ∷ more → Behind test outs out more
+  pub outs_behind : (test : Out S → Bool) (outs : List (Out S)) (out : Out S) (more first : List (Out S)) → filter test outs ≡ first ++ out ∷ more → Behind test outs out more
   outs_behind test [] out more first is = absurd (none_in first out more is)
   outs_behind test (o ∷ outs) out more first is = one_behind test o outs out more first (test o) refl (λ f i. outs_behind test outs out more f i) is
 
@@ -307,7 +307,7 @@ module _ {S : Type 0} where
   one_to n d who out outs true is own same = ap (λ (l : List Note). borne (out_bearing who out) ++ l) same
   one_to n d who out outs false is own same = same ∙ ap (λ (l : List Note). l ++ notes_to who outs) (sym (other_bears n d who out own is))
 
-  to_its_drainer : (n d who : ℕ) (outs : List (Out S)) → (who % n == d) ≡ true → notes_to who (for_drainer n d outs) ≡ notes_to who outs
+  pub to_its_drainer : (n d who : ℕ) (outs : List (Out S)) → (who % n == d) ≡ true → notes_to who (for_drainer n d outs) ≡ notes_to who outs
   to_its_drainer n d who [] own = refl
   to_its_drainer n d who (out ∷ outs) own = one_to n d who out outs (who_of out % n == d) refl own (to_its_drainer n d who outs own)
 
@@ -323,17 +323,17 @@ module _ (S : Type 0) where
       ap (λ b. borne (if b then Bears g.note else Passes) ++ notes_to {S = S} who (map give gs)) (same_way who g.who ∙ other)
       ∙ same ∙ sym (ap (λ b. cond b (g.note ∷ notes_for who gs) (notes_for who gs)) other)
 
-  given_notes : (who : ℕ) (gs : List Given) → notes_to {S = S} who (map give gs) ≡ notes_for who gs
+  pub given_notes : (who : ℕ) (gs : List Given) → notes_to {S = S} who (map give gs) ≡ notes_for who gs
   given_notes who [] = refl
   given_notes who (g ∷ gs) = one_given who g gs (g.who == who) refl (given_notes who gs)
 
-  detach_bears : (who : ℕ) (leaver : Option ℕ) (answered : Result Answer Refusal) → notes_to {S = S} who (detach_of leaver answered) ≡ []
+  pub detach_bears : (who : ℕ) (leaver : Option ℕ) (answered : Result Answer Refusal) → notes_to {S = S} who (detach_of leaver answered) ≡ []
   detach_bears who (Some other) (Ok answered) = ap (λ (l : List Note). l ++ []) (stops_bear (who == other))
   detach_bears who (Some other) (Err refusal) = refl
   detach_bears who None answered = refl
 
 module _ {S : Type 0} where
-  attach_bears : (who : ℕ) (answered : Result Answer Refusal) (sink : Option S) → notes_to who (attach_of answered sink) ≡ []
+  pub attach_bears : (who : ℕ) (answered : Result Answer Refusal) (sink : Option S) → notes_to who (attach_of answered sink) ≡ []
   attach_bears who (Ok (Joined other)) (Some sink) = refl
   attach_bears who (Ok (Joined other)) None = refl
   attach_bears who (Ok Admitted) sink = refl
@@ -341,7 +341,7 @@ module _ {S : Type 0} where
   attach_bears who (Ok Left) sink = refl
   attach_bears who (Err refusal) sink = refl
 
-  call_gives : (rules : Rules) (H : History) (port : ℕ) (call : Call S) (who : ℕ) → notes_to who (sent_by rules H port call) ≡ notes_for who (outs rules H (port, call.event))
+  pub call_gives : (rules : Rules) (H : History) (port : ℕ) (call : Call S) (who : ℕ) → notes_to who (sent_by rules H port call) ≡ notes_for who (outs rules H (port, call.event))
   call_gives rules H port call who =
       let answered = answer rules H call.event in
       let gs = outs rules H (port, call.event) in
@@ -354,7 +354,7 @@ module _ {S : Type 0} where
       ∙ append-nil (notes_to who (gives)) ∙ given_notes S who gs
 
   -- all that the letters send an observer is what their history gives it
-  outs_give : (rules : Rules) (B : Marked S) (who : ℕ) → notes_to who (outs_in rules B) ≡ given_to rules (history_of B) who
+  pub outs_give : (rules : Rules) (B : Marked S) (who : ℕ) → notes_to who (outs_in rules B) ≡ given_to rules (history_of B) who
   outs_give rules NoLetters who = refl
   outs_give rules (Made B port call) who =
       notes_to-append who (outs_in rules B) (sent_by rules (history_of B) port call)
@@ -399,18 +399,19 @@ module _ {S : Type 0} where
   attach_first (Err refusal) came gs leaver first who sink rest is = absurd (no_attach gs leaver (Err refusal) first who sink rest is)
 
   -- where a list of two parts is cut
-  abbrev Cut : List (Out S) → List (Out S) → List (Out S) → Out S → List (Out S) → Type 0
-  Cut xs ys first x rest = ((more : List (Out S)) × (xs ≡ first ++ x ∷ more)) ⊎ ((more : List (Out S)) × (first ≡ xs ++ more) × (ys ≡ more ++ x ∷ rest))
+  abbrev pub Cut : List (Out S) → List (Out S) → List (Out S) → Out S → List (Out S) → Type 0
+  Cut xs ys first x rest = ((more : List (Out S)) × (xs ≡ first ++ x ∷ more) × (rest ≡ more ++ ys)) ⊎ ((more : List (Out S)) × (first ≡ xs ++ more) × (ys ≡ more ++ x ∷ rest))
 
   cut_later : (y o : Out S) (xs ys first : List (Out S)) (x : Out S) (rest : List (Out S)) → y ≡ o → Cut xs ys first x rest → Cut (y ∷ xs) ys (o ∷ first) x rest
-  cut_later y o xs ys first x rest same (inl (more, is)) = inl (more, ap (λ l. y ∷ l) is ∙ ap (λ z. z ∷ (first ++ x ∷ more)) same)
+  cut_later y o xs ys first x rest same (inl (more, is, later)) = inl (more, ap (λ l. y ∷ l) is ∙ ap (λ z. z ∷ (first ++ x ∷ more)) same, later)
   cut_later y o xs ys first x rest same (inr (more, is, later)) = inr (more, ap (λ l. o ∷ l) is ∙ ap (λ z. z ∷ (xs ++ more)) (sym same), later)
 
-  cut : (xs ys first : List (Out S)) (x : Out S) (rest : List (Out S)) → xs ++ ys ≡ first ++ x ∷ rest → Cut xs ys first x rest
+  pub cut : (xs ys first : List (Out S)) (x : Out S) (rest : List (Out S)) → xs ++ ys ≡ first ++ x ∷ rest → Cut xs ys first x rest
   cut [] ys first x rest is = inr (first, refl, is)
   cut (y ∷ xs) ys [] x rest is =
       let it : y ≡ x = cc in
-      inl (xs, ap (λ z. z ∷ xs) it)
+      let tails : xs ++ ys ≡ rest = cc in
+      inl (xs, ap (λ z. z ∷ xs) it, sym tails)
   cut (y ∷ xs) ys (o ∷ first) x rest is =
       let it : y ≡ o = cc in
       let tails : xs ++ ys ≡ first ++ x ∷ rest = cc in
@@ -419,7 +420,7 @@ module _ {S : Type 0} where
   cut_attach : (rules : Rules) (B : Marked S) (port : ℕ) (call : Call S) (who : ℕ) (sink : S) (first rest : List (Out S))
       → ((more : List (Out S)) → outs_in rules B ≡ first ++ Attach who sink ∷ more → notes_to who first ≡ [])
       → Cut (outs_in rules B) (sent_by rules (history_of B) port call) first (Attach who sink) rest → notes_to who first ≡ []
-  cut_attach rules B port call who sink first rest earlier (inl (more, is)) = earlier more is
+  cut_attach rules B port call who sink first rest earlier (inl (more, is, later)) = earlier more is
   cut_attach rules B port call who sink first rest earlier (inr (more, is, sent)) =
       let H = history_of B in
       let it = attach_first (answer rules H call.event) call.sink (outs rules H (port, call.event)) (leaver call.event) more who sink rest sent in
@@ -435,7 +436,7 @@ module _ {S : Type 0} where
   before_attach rules (Ended B port) who sink first rest is = before_attach rules B who sink first rest is
 
   -- behind its Attach come all notes of an observer
-  behind_attach : (rules : Rules) (B : Marked S) (who : ℕ) (sink : S) (first rest : List (Out S)) → outs_in rules B ≡ first ++ Attach who sink ∷ rest
+  pub behind_attach : (rules : Rules) (B : Marked S) (who : ℕ) (sink : S) (first rest : List (Out S)) → outs_in rules B ≡ first ++ Attach who sink ∷ rest
       → notes_to who rest ≡ given_to rules (history_of B) who
   behind_attach rules B who sink first rest is =
       sym (ap (λ (l : List Note). l ++ notes_to who rest) (before_attach rules B who sink first rest is))
