@@ -34,8 +34,7 @@ use Rattle.rx_drain.specs.declared.drain_end.DrainEnd.{DrainEnd}
 use Rattle.rx_drain.specs.Logs.{Log, letters, gone_in}
 use Rattle.rx_drain.specs.Served.{Bearing, Bears, Stops, Passes, out_bearing, from_leave, from_subject, bearing, serving, notes_in, TookOf, bearings, served, AttachCame}
 use Rattle.rx_drain.proofs.Taking.{each_sink_took}
-use Rattle.rx_server.specs.Hearing.{IsFrontOf, EachSinkHears}
-use Rattle.rx_server.proofs.Arriving.{route_came, zip-at}
+use Rattle.rx_server.specs.Hearing.{IsFrontOf}
 
 -- FRONTS
 
@@ -444,9 +443,11 @@ module _ {S : Type 0} where
 
   -- ONE SINK
 
-  hears_one : (rules : Rules) (n d : ℕ) (B : Marked S) (leave : ℕ) (xs : List (Letter (Out S))) (a : Attachment S)
-      → share a.subject xs ≡ posts a.subject (route rules n d B) ++ letter a.subject Bye ∷ [] → AttachCame xs a → IsFrontOf (served leave a xs) (given_to rules (history_of B) a.who)
-  hears_one rules n d B leave xs a came at =
+  -- behind its Attach the drainer was sent all notes of the observer, for whom it is the right one
+  pub notes_behind : (rules : Rules) (n d : ℕ) (B : Marked S) (xs : List (Letter (Out S))) (a : Attachment S)
+      → share a.subject xs ≡ posts a.subject (route rules n d B) ++ letter a.subject Bye ∷ [] → AttachCame xs a
+      → (notes_among a.who (share a.subject (drop (a.place + 1) xs)) ≡ given_to rules (history_of B) a.who) × ((a.who % n == d) ≡ true)
+  notes_behind rules n d B xs a came at =
       let own : (a.subject == a.subject) ≡ true = grind (arith, nat_tests) in
       let attach = Attach a.who a.sink in
       let behind = share_behind a.subject a.place (letter a.subject (Body attach)) xs at own in
@@ -457,10 +458,15 @@ module _ {S : Type 0} where
       let notes : notes_among a.who later ≡ given_to rules (history_of B) a.who =
       ap (notes_among a.who) sent.3 ∙ among_posts a.who a.subject sent.1 ∙ ap (notes_to a.who) (sym all.3) ∙ to_its_drainer n d a.who all.1 all.4
       ∙ behind_attach rules B a.who a.sink all.0 all.1 all.2 in
-      front_of (served leave a xs) (notes_among a.who (share a.subject (drop (a.place + 1) xs))) (given_to rules (history_of B) a.who)
-      (ap (λ (k : ℕ). notes_among a.who (share a.subject (drop k xs))) (sym one) ∙ notes) (served_by leave a (drop (a.place + 1) xs) (a.subject == leave) refl)
+      (ap (λ (k : ℕ). notes_among a.who (share a.subject (drop k xs))) (sym one) ∙ notes, all.4)
 
-  hears_each : (rules : Rules) (n d : ℕ) (B : Marked S) (p leave : ℕ) (xs : List (Letter (Out S))) (gone : List (Attachment S × Why))
+  hears_one : (rules : Rules) (n d : ℕ) (B : Marked S) (leave : ℕ) (xs : List (Letter (Out S))) (a : Attachment S)
+      → share a.subject xs ≡ posts a.subject (route rules n d B) ++ letter a.subject Bye ∷ [] → AttachCame xs a → IsFrontOf (served leave a xs) (given_to rules (history_of B) a.who)
+  hears_one rules n d B leave xs a came at =
+      front_of (served leave a xs) (notes_among a.who (share a.subject (drop (a.place + 1) xs))) (given_to rules (history_of B) a.who)
+      (notes_behind rules n d B xs a came at).0 (served_by leave a (drop (a.place + 1) xs) (a.subject == leave) refl)
+
+  pub hears_each : (rules : Rules) (n d : ℕ) (B : Marked S) (p leave : ℕ) (xs : List (Letter (Out S))) (gone : List (Attachment S × Why))
       → share p xs ≡ posts p (route rules n d B) ++ letter p Bye ∷ []
       → AllByRecursion (λ end. AttachCame xs end.0) gone → AllByRecursion (λ end. TookOf end.1 end.0.taken (served leave end.0 xs)) gone
       → AllByRecursion (λ end. end.0.subject ≡ p → IsFrontOf end.0.taken (given_to rules (history_of B) end.0.who)) gone
@@ -472,13 +478,3 @@ module _ {S : Type 0} where
         (hears_one rules n d B leave xs end.0 own at),
     hears_each rules n d B p leave xs gone came later_at later_took,
   )
-
-pub each_hears : {S Rest : Type 0} (acts : Acts S Rest) → EachSinkHears acts
-each_hears {S = S} {Rest = Rest} acts server ended report closes i pump end B at_pump at_end at_marks d port drainer last box log at_port at_last at_box serves =
-    let settled = closes.settled in
-    let same = zip-at (λ (end : DrainEnd S Rest) (box : SettledView (Out S)). inbox_in box ≡ end.inbox) closes.drain_ends report.boxes.drainers.items d last box settled.of_drainers at_last at_box in
-    let got = route_came acts server ended report closes i pump end B at_pump at_end at_marks d port box at_port at_box in
-    let heard : letters log ≡ box.received = sym serves.drains.received ∙ ap (λ inbox. inbox.received) (sym same) in
-    let took = each_sink_took (length last.ports.items) log in
-    hears_each pump.hub.state.rules (length pump.drainers) d B port.number (length last.ports.items) (letters log) (gone_in (length last.ports.items) log)
-    (ap (share port.number) heard ∙ got) took.gone_at took.gone_took

@@ -1,5 +1,4 @@
-use Rattle.rx_server.proofs.Hearing.{each_hears}
-use Rattle.rx_server.proofs.Heard.{shut_ends}
+use Rattle.rx_server.proofs.HeardAll.{each_hears}
 use Rattle.rx_server.proofs.laws.each_sink_hears.Goals as goal
 
 pub returns : goal.returns
