@@ -1,8 +1,11 @@
 mod Back
+mod Cuts
 mod Cutting
 mod Lines
 mod Plain
+mod Spelled
 mod Streams
 mod Telling
+mod Told
 mod Utf8
 mod Writes

@@ -1,7 +1,10 @@
+pub mod Asking
 pub mod Epochs
 pub mod Events
 pub mod Examples
 pub mod Ids
 pub mod Laws
 pub mod Pieces
+pub mod Queries
 pub mod Reading
+pub mod Words

@@ -5,14 +5,23 @@
 //! and by a stream that is cut anywhere a front of its events, with the id of the last.
 #![tactic(auto)]
 
+mod asked;
+mod asking;
 mod epoch;
 mod id;
 mod kinds;
 pub mod laws;
+mod number;
+mod query;
+mod refusal;
 mod stream_event;
+mod words;
 mod writing;
 
+pub use asked::Asked;
+pub use asking::{MAX_HEAD, read_request};
 pub use epoch::Epoch;
 pub use id::Id;
+pub use refusal::Refusal;
 pub use stream_event::StreamEvent;
 pub use writing::{write_event, write_heartbeat, write_retry};
