@@ -9,6 +9,8 @@ mod examples;
 #[cfg(test)]
 mod plain;
 #[cfg(test)]
+mod requests;
+#[cfg(test)]
 mod streams;
 #[cfg(test)]
 mod texts;
