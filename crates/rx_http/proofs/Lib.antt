@@ -1,6 +1,7 @@
 mod Back
 mod Cuts
 mod Cutting
+mod Digits
 mod Lines
 mod Plain
 mod Spelled

@@ -5,6 +5,8 @@
 //! and by a stream that is cut anywhere a front of its events, with the id of the last.
 #![tactic(auto)]
 
+mod answer;
+mod answering;
 mod asked;
 mod asking;
 mod epoch;
@@ -18,6 +20,8 @@ mod stream_event;
 mod words;
 mod writing;
 
+pub use answer::Answer;
+pub use answering::write_answer;
 pub use asked::Asked;
 pub use asking::{MAX_HEAD, read_request};
 pub use epoch::Epoch;

@@ -1,15 +1,11 @@
 -- A number has one spelling: what it is written as again is what was read.
 use Rattle.std.proofs.Common.{◌≡◌, ◌-◌, ℕ, List, decimal, length, drop, take, sym, ap, ◌∙◌, arith}
 use Rattle.std.proofs.lemmas.Fmt.{parse-decimal, IsAscii-decimal}
-use Rattle.std.proofs.lemmas.List.{take_rest}
 use Rattle.std.proofs.lemmas.Str.{IsUtf8-from_ascii}
 use Rattle.std.specs.Str.{IsUtf8}
+use Rattle.rx_http.proofs.Digits.{written_is}
 use Rattle.rx_http.proofs.number.number_of.Goals as goal
 use lib.Pointwise.{bytes_decides}
-
--- what stands from some place on in an array of ten
-written_is : (digits written : List ℕ) (start : ℕ) → length digits ≡ 10 → drop start digits ≡ written → take (10 - start) (drop start digits) ≡ written
-written_is digits written start long is = ap (λ n. take (n - start) (drop start digits)) (sym long) ∙ take_rest digits start ∙ is
 
 pub returns-in_default : goal.returns-in_default
 returns-in_default c = λ n fits same.
