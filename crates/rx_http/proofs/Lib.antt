@@ -4,6 +4,7 @@ mod Cutting
 mod Digits
 mod Lines
 mod Plain
+mod Responses
 mod Spelled
 mod Streams
 mod Telling

@@ -8,4 +8,5 @@ pub mod Laws
 pub mod Pieces
 pub mod Queries
 pub mod Reading
+pub mod Responses
 pub mod Words

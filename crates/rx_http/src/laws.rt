@@ -2,6 +2,7 @@
 ghost use Rattle.rx_http.specs.Epochs.{IsEpoch};
 ghost use Rattle.rx_http.specs.Examples.{AreReadAsTold};
 ghost use Rattle.rx_http.specs.Laws.{CutStreamIsAFront, IsEvent, IsPlace, StreamIsReadBack, StreamIsUtf8};
+ghost use Rattle.rx_http.specs.Responses.{AnswersAreRead};
 
 use crate::{Epoch, StreamEvent};
 
@@ -25,6 +26,12 @@ pub fn cut_stream_is_a_front()
 /// All that is written of a stream is UTF-8.
 pub fn stream_is_utf8()
     ensures { StreamIsUtf8 }
+{}
+
+/// By the grammar of heads each answer is a head with just its fields, and behind it stands its body, which is as long as the head
+/// says.
+pub fn answers_are_read()
+    ensures { AnswersAreRead }
 {}
 
 /// The laws speak of each event and each epoch that there is.
