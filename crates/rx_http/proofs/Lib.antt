@@ -2,6 +2,7 @@ mod Back
 mod Cuts
 mod Cutting
 mod Digits
+mod Going
 mod Lines
 mod Plain
 mod Responses

@@ -1,5 +1,5 @@
 -- Each answer is one of the grammar: its parts are tested, and its bytes are those that the grammar prints.
-use Rattle.std.proofs.Common.{◌≡◌, ◌≤◌, ℕ, Bool, true, false, ◌&&◌, List, [], ◌∷◌, length, nat_eq, refl, arith}
+use Rattle.std.proofs.Common.{◌≡◌, Bool, true, false, ◌&&◌, List, [], ◌∷◌, length, nat_eq, refl}
 use Rattle.std.proofs.lemmas.Bool.{eqb-true, ltb-true, leb-true}
 use Rattle.std.proofs.lemmas.List.Elements.{All-cons, All-nil}
 use Rattle.std.proofs.lemmas.List.Sums.{AllPass-from_list_all}
@@ -11,7 +11,6 @@ use Rattle.httparse.proofs.OnLiterals.{httparse_on_literals}
 use Rattle.httparse.specs.Grammar.{Field, IsField, IsResponseHead, ReadsResponse, ResponseHead, is_token, is_value_byte, reason_phrase}
 use Rattle.rx_http.specs.Answers.{answer_bytes}
 use Rattle.rx_http.specs.Responses.{AnswersAreRead, body_of, head_of}
-use Rattle.rx_http.specs.declared.answer.Answer.{Answer}
 use Rattle.rx_http.specs.declared.answer.Answer.TheVariants.{Events, Over, Well, Unwell, Refused}
 use Rattle.rx_http.specs.declared.refusal.Refusal.{Refusal}
 use Rattle.rx_http.specs.declared.refusal.Refusal.TheVariants.{Head, Word, LastEventId, Subject, Path, Method, Spent, LongHead, Gone, Full, Stopping, Memory}
@@ -27,9 +26,9 @@ is_field field = is_token field.name && list_all is_value_byte field.raw
 
 field-is : (field : Field) → is_field field ≡ true → IsField field
 field-is field is = both (is_token field.name) (list_all is_value_byte field.raw) is (λ name raw. record {
-    name = both _ _ name (λ some each. (ltb-true 0 (length field.name) some, AllPass-from_list_all _ field.name each));
-    raw = AllPass-from_list_all is_value_byte field.raw raw;
-  })
+  name = both _ _ name (λ some each. (ltb-true 0 (length field.name) some, AllPass-from_list_all _ field.name each));
+  raw = AllPass-from_list_all is_value_byte field.raw raw;
+})
 
 fields-are : (fields : List Field) → list_all is_field fields ≡ true → All IsField fields
 fields-are [] is = All-nil IsField

@@ -9,4 +9,5 @@ pub mod Pieces
 pub mod Queries
 pub mod Reading
 pub mod Responses
+pub mod Resuming
 pub mod Words

@@ -1,5 +1,5 @@
 -- What answers are by the grammar of heads (RFC 9112, as httparse has it): a status, fields and a body.
-use Rattle.std.specs.Prelude.{ℕ, List, [], ◌∷◌, ◌++◌, length, Option, Some, codes, decimal}
+use Rattle.std.specs.Prelude.{ℕ, List, [], ◌∷◌, length, Some, codes, decimal}
 use Rattle.httparse.specs.Grammar.{Field, ResponseHead, ReadsResponse, crlf}
 use Rattle.rx_http.specs.Answers.{answer_bytes, plain_kind, refusal_body}
 use Rattle.rx_http.specs.declared.answer.Answer.{Answer}

@@ -2,6 +2,7 @@
 ghost use Rattle.rx_http.specs.Epochs.{IsEpoch};
 ghost use Rattle.rx_http.specs.Examples.{AreReadAsTold};
 ghost use Rattle.rx_http.specs.Laws.{CutStreamIsAFront, IsEvent, IsPlace, StreamIsReadBack, StreamIsUtf8};
+ghost use Rattle.rx_http.specs.Resuming.{HeardAreItems, ReaderGoesOn};
 ghost use Rattle.rx_http.specs.Responses.{AnswersAreRead};
 
 use crate::{Epoch, StreamEvent};
@@ -32,6 +33,17 @@ pub fn stream_is_utf8()
 /// says.
 pub fn answers_are_read()
     ensures { AnswersAreRead }
+{}
+
+/// In all its connections a reader that says at each begin what it knows hears each item at most once and in order, and what it heard
+/// and what it was told as missed are together, without a gap, its subject's items from the first that it asked for on.
+pub fn reader_goes_on()
+    ensures { ReaderGoesOn }
+{}
+
+/// What is heard in a connection are items of its subject, in their order, each at most once.
+pub fn heard_are_items()
+    ensures { HeardAreItems }
 {}
 
 /// The laws speak of each event and each epoch that there is.

@@ -1,4 +1,4 @@
-use Rattle.std.proofs.Common.{◌≡◌, ◌+◌, ◌++◌, ℕ, List, codes, length, length-append, ap, ◌∙◌, arith}
+use Rattle.std.proofs.Common.{◌≡◌, ◌+◌, ◌++◌, codes, length, length-append, ap, arith}
 use Rattle.rx_http.specs.Answers.{advice_of, error_of, refusal_body}
 use Rattle.rx_http.specs.declared.refusal.Refusal.{Refusal}
 use Rattle.rx_http.proofs.answering.body_len.Goals as goal

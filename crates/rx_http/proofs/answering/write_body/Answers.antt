@@ -1,4 +1,4 @@
-use Rattle.std.proofs.Common.{◌++◌, codes}
+use Rattle.std.proofs.Common.{codes}
 use Rattle.rx_http.proofs.Writes.{Fault-three, Writes-three}
 use Rattle.rx_http.proofs.answering.write_body.Goals as goal
 

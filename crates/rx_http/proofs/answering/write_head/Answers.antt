@@ -1,5 +1,5 @@
 -- The head goes in three times three pieces.
-use Rattle.std.proofs.Common.{◌++◌, codes, decimal}
+use Rattle.std.proofs.Common.{codes, decimal}
 use Rattle.rx_http.proofs.Digits.{written_is}
 use Rattle.rx_http.proofs.Writes.{Fault-three, Writes-three}
 use Rattle.rx_http.proofs.answering.write_head.Goals as goal

@@ -1,4 +1,4 @@
-use Rattle.std.proofs.Common.{◌≡◌, ◌++◌, ℕ, List, codes, length, ap, ◌∙◌}
+use Rattle.std.proofs.Common.{◌≡◌, ◌++◌, ℕ, List, codes, ap, ◌∙◌}
 use Rattle.rx_http.specs.Answers.{refusal_body, sized_head}
 use Rattle.rx_http.proofs.Writes.{Writes-as, Writes-fault, Writes-then}
 use Rattle.rx_http.proofs.answering.write_refusal.Goals as goal

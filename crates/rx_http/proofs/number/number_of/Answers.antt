@@ -1,5 +1,5 @@
 -- A number has one spelling: what it is written as again is what was read.
-use Rattle.std.proofs.Common.{◌≡◌, ◌-◌, ℕ, List, decimal, length, drop, take, sym, ap, ◌∙◌, arith}
+use Rattle.std.proofs.Common.{◌≡◌, decimal, sym, ap, ◌∙◌, arith}
 use Rattle.std.proofs.lemmas.Fmt.{parse-decimal, IsAscii-decimal}
 use Rattle.std.proofs.lemmas.Str.{IsUtf8-from_ascii}
 use Rattle.std.specs.Str.{IsUtf8}
