@@ -6,6 +6,7 @@ mod Going
 mod Lines
 mod Plain
 mod Responses
+mod Single
 mod Spelled
 mod Streams
 mod Telling

@@ -17,7 +17,7 @@ stripped word front rest begins behind =
     sym (take-append-drop (length front) word) ∙ ap (λ l. l ++ drop (length front) word) ((bytes_decides _ _).0 begins) ∙ ap (λ l. front ++ l) (sym behind)
 
 -- words whose second letters differ are not equal
-apart : {P : Type 0} (v w : List ℕ) → v ≡ w → (get_or v 1 0 == get_or w 1 0) ≡ false → P
+pub apart : {P : Type 0} (v w : List ℕ) → v ≡ w → (get_or v 1 0 == get_or w 1 0) ≡ false → P
 apart v w same other = cc (ap (λ (l : List ℕ). get_or l 1 0 == get_or w 1 0) same, eq-eqb (get_or w 1 0) (get_or w 1 0) refl)
 
 -- two strategies written alike are equal

@@ -88,3 +88,7 @@ IsReadOfHead bytes result =
     ((head : RequestHead) × IsHead bytes head × HeadAsksFor head result)
     ⊎ (IsLongHead bytes × (result ≡ Err causes.LongHead))
     ⊎ (((head : RequestHead) → ReadsRequest bytes head [] → ⊥) × (result ≡ Err causes.Head))
+
+-- A HEAD ASKS FOR ONE THING, or is refused for one cause
+abbrev pub HeadAsksForOne : Type 0
+HeadAsksForOne = (head : RequestHead) (one other : Result Asked Refusal) → HeadAsksFor head one → HeadAsksFor head other → one ≡ other

@@ -31,7 +31,7 @@ HasRoom (Drop room) = IsRoom room
 HasRoom (Latest room) = IsRoom room
 HasRoom (Bounded room) = IsRoom room
 
--- a strategy, its name directly followed by its room, as a line of SUB has it
+-- a strategy: its name, directly followed by its room
 abbrev pub strategy_word : Strategy → List ℕ
 strategy_word Buffer = codes "BUFFER"
 strategy_word (Drop room) = codes "DROP:" ++ decimal room

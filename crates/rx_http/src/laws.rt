@@ -1,4 +1,6 @@
-//! What a browser's reader is told by what is written. The functions do nothing, or only look: their clauses are the laws.
+//! What a browser asks for, and what its reader is told by what is written. The functions do nothing, or only look: their
+//! clauses are the laws.
+ghost use Rattle.rx_http.specs.Asking.{HeadAsksForOne};
 ghost use Rattle.rx_http.specs.Epochs.{IsEpoch};
 ghost use Rattle.rx_http.specs.Examples.{AreReadAsTold};
 ghost use Rattle.rx_http.specs.Laws.{CutStreamIsAFront, IsEvent, IsPlace, StreamIsReadBack, StreamIsUtf8};
@@ -27,6 +29,11 @@ pub fn cut_stream_is_a_front()
 /// All that is written of a stream is UTF-8.
 pub fn stream_is_utf8()
     ensures { StreamIsUtf8 }
+{}
+
+/// A head asks for one thing, or is refused for one cause.
+pub fn head_asks_for_one()
+    ensures { HeadAsksForOne }
 {}
 
 /// By the grammar of heads each answer is a head with just its fields, and behind it stands its body, which is as long as the head
