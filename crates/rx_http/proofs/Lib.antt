@@ -1,3 +1,4 @@
+mod Accounting
 mod Back
 mod Cuts
 mod Cutting

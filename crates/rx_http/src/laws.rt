@@ -1,5 +1,6 @@
 //! What a browser asks for, and what its reader is told by what is written. The functions do nothing, or only look: their
 //! clauses are the laws.
+ghost use Rattle.rx_http.specs.Accounts.{HeardIsKnown, IdIsAccount};
 ghost use Rattle.rx_http.specs.Asking.{HeadAsksForOne};
 ghost use Rattle.rx_http.specs.Epochs.{IsEpoch};
 ghost use Rattle.rx_http.specs.Examples.{AreReadAsTold};
@@ -46,6 +47,13 @@ pub fn answers_are_read()
 /// and what it was told as missed are together, without a gap, its subject's items from the first that it asked for on.
 pub fn reader_goes_on()
     ensures { ReaderGoesOn }
+{}
+
+/// Wherever a stream is cut whose events are counted from what is known at its begin, its reader comes again with the id of what
+/// it knows by the events that it was told; and that is what they come to.
+pub fn id_is_account()
+    ensures account { IdIsAccount }
+    ensures heard { HeardIsKnown }
 {}
 
 /// What is heard in a connection are items of its subject, in their order, each at most once.
