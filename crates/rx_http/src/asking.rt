@@ -5,7 +5,8 @@ ghost use Rattle.httparse.specs.Spans.{IsHeaderWithin, header_bytes};
 ghost use Rattle.rx_http.specs.Asking.{AsksFor, AsksForEvents, HeadAsksFor, IsHead, IsReadOfHead, field_in, known_word};
 ghost use Rattle.rx_http.specs.Words.{IsFound, SaysKnown};
 
-use crate::query::{cut, word_of};
+use crate::parts::cut;
+use crate::query::word_of;
 use crate::words::{policy_of, window_of};
 use crate::{Asked, Id, Refusal};
 use httparse::spans::{EMPTY_HEADER_SPAN, HeaderSpan, parse_request};

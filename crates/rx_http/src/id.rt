@@ -5,7 +5,7 @@ ghost use Rattle.rx_http.specs.Words.{IsId, IsReadOf};
 
 use crate::Epoch;
 use crate::number::number_of;
-use crate::query::part;
+use crate::parts::part;
 
 /// What a reader knows, by which it goes on where it was.
 #[derive(Drop, Debug, PartialEq, Eq)]

@@ -16,9 +16,11 @@ mod id;
 mod kinds;
 pub mod laws;
 mod number;
+mod parts;
 mod query;
 mod refusal;
 mod stream_event;
+mod word;
 mod words;
 mod writing;
 

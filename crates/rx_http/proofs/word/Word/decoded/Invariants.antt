@@ -1,7 +1,7 @@
 use Rattle.std.proofs.Common.{◌≡◌, ◌≤◌, ◌++◌, length, take}
 use Rattle.percent_encoding.specs.Iter.{decoded_bytes}
 use Rattle.percent_encoding.specs.Percent.{percent_decode}
-use Rattle.rx_http.proofs.query.Word.decoded.Given as goal
+use Rattle.rx_http.proofs.word.Word.decoded.Given as goal
 
 abbrev pub invariant-loop-byte : goal.invariant-loop-byte
 invariant-loop-byte l = record {

@@ -3,7 +3,7 @@ use Rattle.std.proofs.Common.{◌+◌, ◌∷◌, ◌++◌, [], take, length, le
 use Rattle.std.proofs.lemmas.Grind.{take-set_at}
 use Rattle.std.proofs.lemmas.List.{length-set}
 use Rattle.percent_encoding.specs.Iter.{decoded_bytes}
-use Rattle.rx_http.proofs.query.Word.decoded.Goals as goal
+use Rattle.rx_http.proofs.word.Word.decoded.Goals as goal
 
 pub returns-then-len-eq-MAX_WORD : goal.returns-then-len-eq-MAX_WORD
 returns-then-len-eq-MAX_WORD c = λ few.

@@ -4,7 +4,7 @@ use Rattle.std.proofs.lemmas.Bool.{eqb-true}
 use Rattle.std.proofs.lemmas.List.{take_rest, take_all}
 use Rattle.rx_http.specs.Queries.{HasNo}
 use Rattle.rx_http.proofs.Cuts.{none_before, parted-here}
-use Rattle.rx_http.proofs.query.part.Goals as goal
+use Rattle.rx_http.proofs.parts.part.Goals as goal
 
 pub returns-in-Some : goal.returns-in-Some
 returns-in-Some c =

@@ -2,7 +2,7 @@
 use Rattle.std.proofs.Common.{◌∙◌, sym, ap}
 use Rattle.rx_http.specs.Queries.{cut_at}
 use Rattle.rx_http.proofs.Cuts.{cut_at-parted, cut_at-whole}
-use Rattle.rx_http.proofs.query.cut.Goals as goal
+use Rattle.rx_http.proofs.parts.cut.Goals as goal
 
 pub returns-in-Some : goal.returns-in-Some
 returns-in-Some c =
