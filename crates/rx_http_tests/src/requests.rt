@@ -56,7 +56,7 @@ fn events(
 }
 
 /// Requests by GET, by their targets.
-const TARGETS: [(&[u8], Wanted); 36] = [
+const TARGETS: [(&[u8], Wanted); 15] = [
     (b"/healthz", Wanted::Health),
     (b"/healthz?strategy=NONE", Wanted::Health),
     (b"/subjects/trades", PLAIN),
@@ -80,47 +80,6 @@ const TARGETS: [(&[u8], Wanted); 36] = [
     ),
     (b"/subjects/trades?mystrategy=NONE", PLAIN),
     (
-        b"/subjects/trades?strategy=",
-        Wanted::Refused(Refusal::Word),
-    ),
-    (
-        b"/subjects/trades?strategy=buffer",
-        Wanted::Refused(Refusal::Word),
-    ),
-    (
-        b"/subjects/trades?strategy=LATEST:0",
-        Wanted::Refused(Refusal::Word),
-    ),
-    (
-        b"/subjects/trades?strategy=LATEST:01",
-        Wanted::Refused(Refusal::Word),
-    ),
-    (
-        b"/subjects/trades?strategy=DROP:1025",
-        Wanted::Refused(Refusal::Word),
-    ),
-    (
-        b"/subjects/trades?strategy=DROP:70000",
-        Wanted::Refused(Refusal::Word),
-    ),
-    (
-        b"/subjects/trades?strategy=DROP:+1",
-        Wanted::Refused(Refusal::Word),
-    ),
-    (
-        b"/subjects/trades?strategy=DROP:000000000000000000000000000000000000000000000000000000000001",
-        Wanted::Refused(Refusal::Word),
-    ),
-    (
-        b"/subjects/trades?errors=NEVER",
-        Wanted::Refused(Refusal::Word),
-    ),
-    (b"/subjects/trades?window=0", Wanted::Refused(Refusal::Word)),
-    (
-        b"/subjects/trades?window=17",
-        Wanted::Refused(Refusal::Word),
-    ),
-    (
         b"/subjects/trades?last-event-id=19c0-7",
         Wanted::Knowing(b"19c0", Some(7), false),
     ),
@@ -137,50 +96,78 @@ const TARGETS: [(&[u8], Wanted); 36] = [
         Wanted::Knowing(b"19c0", None, true),
     ),
     (b"/subjects/trades?last-event-id=", PLAIN),
+];
+
+/// Such requests that are refused.
+const REFUSED: [(&[u8], Refusal); 21] = [
+    (b"/subjects/trades?strategy=", Refusal::Word),
+    (b"/subjects/trades?strategy=buffer", Refusal::Word),
+    (b"/subjects/trades?strategy=LATEST:0", Refusal::Word),
+    (b"/subjects/trades?strategy=LATEST:01", Refusal::Word),
+    (b"/subjects/trades?strategy=DROP:1025", Refusal::Word),
+    (b"/subjects/trades?strategy=DROP:70000", Refusal::Word),
+    (b"/subjects/trades?strategy=DROP:+1", Refusal::Word),
     (
-        b"/subjects/trades?last-event-id=19c0",
-        Wanted::Refused(Refusal::LastEventId),
+        b"/subjects/trades?strategy=DROP:000000000000000000000000000000000000000000000000000000000001",
+        Refusal::Word,
     ),
+    (b"/subjects/trades?errors=NEVER", Refusal::Word),
+    (b"/subjects/trades?window=0", Refusal::Word),
+    (b"/subjects/trades?window=17", Refusal::Word),
+    (b"/subjects/trades?last-event-id=19c0", Refusal::LastEventId),
     (
         b"/subjects/trades?last-event-id=19C0-7",
-        Wanted::Refused(Refusal::LastEventId),
+        Refusal::LastEventId,
     ),
     (
         b"/subjects/trades?last-event-id=19c0-07",
-        Wanted::Refused(Refusal::LastEventId),
+        Refusal::LastEventId,
     ),
     (
         b"/subjects/trades?last-event-id=19c0-4294967296",
-        Wanted::Refused(Refusal::LastEventId),
+        Refusal::LastEventId,
     ),
     (
         b"/subjects/trades?last-event-id=19c0-7-done",
-        Wanted::Refused(Refusal::LastEventId),
+        Refusal::LastEventId,
     ),
-    (b"/subjects/Trades", Wanted::Refused(Refusal::Subject)),
-    (b"/subjects/", Wanted::Refused(Refusal::Subject)),
+    (b"/subjects/Trades", Refusal::Subject),
+    (b"/subjects/", Refusal::Subject),
     (
         b"/subjects/Trades?errors=NEVER&last-event-id=7",
-        Wanted::Refused(Refusal::Word),
+        Refusal::Word,
     ),
-    (
-        b"/subjects/Trades?last-event-id=7",
-        Wanted::Refused(Refusal::LastEventId),
-    ),
-    (b"/nowhere?errors=NEVER", Wanted::Refused(Refusal::Path)),
+    (b"/subjects/Trades?last-event-id=7", Refusal::LastEventId),
+    (b"/nowhere?errors=NEVER", Refusal::Path),
 ];
+
+// The head of a request by GET.
+fn head_to(heap: &Heap, target: &[u8]) -> Result<Vec<u8, Heap>, Memory> {
+    let mut head = Vec::from_slice(heap.clone()?, b"GET ")?;
+    head.extend_from_slice(target)?;
+    head.extend_from_slice(b" HTTP/1.1\r\nHost: localhost\r\n\r\n")?;
+    Ok(head)
+}
 
 #[test]
 fn targets(rt: HostRuntime) -> Result<(), Fail> {
     let heap = Heap::unlimited(rt.alloc());
     for (i, (target, wanted)) in TARGETS.iter().enumerate() {
-        let mut head = Vec::from_slice(heap.clone()?, b"GET ")?;
-        head.extend_from_slice(target)?;
-        head.extend_from_slice(b" HTTP/1.1\r\nHost: localhost\r\n\r\n")?;
+        let head = head_to(&heap, target)?;
         assert!(rt;
             read_request(head.as_slice()) == wanted.asked()?,
             "target {i}"
         );
+    }
+    Ok(())
+}
+
+#[test]
+fn targets_refused(rt: HostRuntime) -> Result<(), Fail> {
+    let heap = Heap::unlimited(rt.alloc());
+    for (i, (target, cause)) in REFUSED.iter().enumerate() {
+        let head = head_to(&heap, target)?;
+        assert!(rt; read_request(head.as_slice()) == Err(*cause), "target {i}");
     }
     Ok(())
 }
