@@ -1,4 +1,5 @@
 ghost use Rattle.std.specs.Prelude.{◌≡◌, ◌++◌};
+ghost use Rattle.rx_http.specs.Accounts.{last_of};
 ghost use Rattle.rx_http.specs.Ids.{id_of, over_word, place_digits};
 ghost use Rattle.rx_http.specs.Laws.{IsPlace};
 ghost use Rattle.rx_http.specs.Words.{IsId, IsReadOf};
@@ -32,6 +33,16 @@ impl Id {
         match known_of(known) {
             Some((place, over)) => Some(Id { epoch, place, over }),
             None => None,
+        }
+    }
+
+    /// Of how many items of its subject, from the first on, a reader that says this knows what became.
+    pub fn known(&self) -> u64
+        ensures { last_of result ≡ self.now.place }
+    {
+        match self.place {
+            Some(place) => u64::from(place) + 1,
+            None => 0,
         }
     }
 }

@@ -172,6 +172,23 @@ fn targets_refused(rt: HostRuntime) -> Result<(), Fail> {
     Ok(())
 }
 
+/// Ids, and of how many items a reader that says them knows.
+const IDS: [(&[u8], u64); 4] = [
+    (b"19c0-", 0),
+    (b"19c0-0", 1),
+    (b"z-7-over", 8),
+    (b"0123456789abcdef-4294967295", 4_294_967_296),
+];
+
+#[test]
+fn ids(rt: HostRuntime) -> Result<(), Fail> {
+    for (bytes, known) in &IDS {
+        let id = Id::read(bytes).ok_or("no id")?;
+        assert_eq!(rt; id.known(), *known);
+    }
+    Ok(())
+}
+
 /// Whole heads.
 const HEADS: [(&[u8], Wanted); 14] = [
     (b"GET /healthz HTTP/1.0\n\n", Wanted::Health),
