@@ -1,8 +1,16 @@
+mod Accounting
 mod Back
+mod Cuts
 mod Cutting
+mod Digits
+mod Going
 mod Lines
 mod Plain
+mod Responses
+mod Single
+mod Spelled
 mod Streams
 mod Telling
+mod Told
 mod Utf8
 mod Writes

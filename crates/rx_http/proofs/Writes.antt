@@ -33,3 +33,19 @@ Writes-fault result old new xs ys fault front =
 -- the same bytes by another name
 pub Writes-as : {T E : Type 0} (result : Result T E) (old new : Option (List ℕ)) (xs ys : List ℕ) → xs ≡ ys → Writes result old new xs → Writes result old new ys
 Writes-as result old new xs ys same writes = subst (λ (bytes : List ℕ). Writes result old new bytes) same writes
+
+-- three pieces and what stands behind them
+three-behind : (a b c ys : List ℕ) → (a ++ (b ++ c)) ++ ys ≡ a ++ (b ++ (c ++ ys))
+three-behind a b c ys = append_assoc a (b ++ c) ys ∙ ap (λ l. a ++ l) (append_assoc b c ys)
+
+-- a call that writes behind three pieces
+pub Writes-three : {T E : Type 0} (result : Result T E) (old mid new : Option (List ℕ)) (a b c ys : List ℕ) → Appends old mid (a ++ (b ++ c)) → Writes result mid new ys
+    → Writes result old new (a ++ (b ++ (c ++ ys)))
+Writes-three result old mid new a b c ys first then =
+    Writes-as result old new ((a ++ (b ++ c)) ++ ys) _ (three-behind a b c ys) (Writes-then result old mid new (a ++ (b ++ c)) ys first then)
+
+-- a call that ended by a fault in three pieces
+pub Fault-three : {T E : Type 0} (result : Result T E) (old new : Option (List ℕ)) (a b c ys : List ℕ) → IsErr result → AppendsPrefix old new (a ++ (b ++ c))
+    → Writes result old new (a ++ (b ++ (c ++ ys)))
+Fault-three result old new a b c ys fault front =
+    Writes-as result old new ((a ++ (b ++ c)) ++ ys) _ (three-behind a b c ys) (Writes-fault result old new (a ++ (b ++ c)) ys fault front)

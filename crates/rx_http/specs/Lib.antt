@@ -1,7 +1,14 @@
+pub mod Accounts
+pub mod Answers
+pub mod Asking
 pub mod Epochs
 pub mod Events
 pub mod Examples
 pub mod Ids
 pub mod Laws
 pub mod Pieces
+pub mod Queries
 pub mod Reading
+pub mod Responses
+pub mod Resuming
+pub mod Words

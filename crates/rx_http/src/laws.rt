@@ -1,7 +1,12 @@
-//! What a browser's reader is told by what is written. The functions do nothing, or only look: their clauses are the laws.
+//! What a browser asks for, and what its reader is told by what is written. The functions do nothing, or only look: their
+//! clauses are the laws.
+ghost use Rattle.rx_http.specs.Accounts.{HeardIsKnown, IdIsAccount};
+ghost use Rattle.rx_http.specs.Asking.{HeadAsksForOne};
 ghost use Rattle.rx_http.specs.Epochs.{IsEpoch};
 ghost use Rattle.rx_http.specs.Examples.{AreReadAsTold};
 ghost use Rattle.rx_http.specs.Laws.{CutStreamIsAFront, IsEvent, IsPlace, StreamIsReadBack, StreamIsUtf8};
+ghost use Rattle.rx_http.specs.Resuming.{HeardAreItems, ReaderGoesOn};
+ghost use Rattle.rx_http.specs.Responses.{AnswersAreRead};
 
 use crate::{Epoch, StreamEvent};
 
@@ -25,6 +30,35 @@ pub fn cut_stream_is_a_front()
 /// All that is written of a stream is UTF-8.
 pub fn stream_is_utf8()
     ensures { StreamIsUtf8 }
+{}
+
+/// A head asks for one thing, or is refused for one cause.
+pub fn head_asks_for_one()
+    ensures { HeadAsksForOne }
+{}
+
+/// By the grammar of heads each answer is a head with just its fields, and behind it stands its body, which is as long as the head
+/// says.
+pub fn answers_are_read()
+    ensures { AnswersAreRead }
+{}
+
+/// In all its connections a reader that says at each begin what it knows hears each item at most once and in order, and what it heard
+/// and what it was told as missed are together, without a gap, its subject's items from the first that it asked for on.
+pub fn reader_goes_on()
+    ensures { ReaderGoesOn }
+{}
+
+/// Wherever a stream is cut whose events are counted from what is known at its begin, its reader comes again with the id of what
+/// it knows by the events that it was told; and that is what they come to.
+pub fn id_is_account()
+    ensures account { IdIsAccount }
+    ensures heard { HeardIsKnown }
+{}
+
+/// What is heard in a connection are items of its subject, in their order, each at most once.
+pub fn heard_are_items()
+    ensures { HeardAreItems }
 {}
 
 /// The laws speak of each event and each epoch that there is.

@@ -12,7 +12,8 @@ pub fn each_letter_arrived<S: Sink>()
 {}
 
 /// The server's sentence: of a server that was closed, what each sink took is a front of what the definitions give its observer
-/// for the history of the letters that its subject's box received.
+/// for the history of the letters that its subject's box received; and it took all of that where it had no fault, and where its
+/// drainer was told to leave behind all that the subject sent it.
 pub fn each_sink_hears<S: Sink>()
     ensures { EachSinkHears S.acts }
 {}

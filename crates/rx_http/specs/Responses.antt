@@ -1,0 +1,71 @@
+-- What answers are by the grammar of heads (RFC 9112, as httparse has it): a status, fields and a body.
+use Rattle.std.specs.Prelude.{ℕ, List, [], ◌∷◌, length, Some, codes, decimal}
+use Rattle.httparse.specs.Grammar.{Field, ResponseHead, ReadsResponse, crlf}
+use Rattle.rx_http.specs.Answers.{answer_bytes, plain_kind, refusal_body}
+use Rattle.rx_http.specs.declared.answer.Answer.{Answer}
+use Rattle.rx_http.specs.declared.answer.Answer.TheVariants.{Events, Over, Well, Unwell, Refused}
+use Rattle.rx_http.specs.declared.refusal.Refusal.{Refusal}
+use Rattle.rx_http.specs.declared.refusal.Refusal.TheVariants.{Head, Word, LastEventId, Subject, Path, Method, Spent, LongHead, Gone, Full, Stopping, Memory}
+
+-- a field of an answer
+abbrev pub field : List ℕ → List ℕ → Field
+field name value = record { name = name; raw = 32 ∷ value; end = crlf }
+
+-- the head of an answer
+abbrev pub head : List ℕ → List ℕ → List Field → ResponseHead
+head code reason fields = record { blank = []; minor = 1; digits = code; reason = Some reason; line_end = crlf; fields = fields; last = crlf }
+
+-- the fields of an answer that isn't kept by who stands between
+abbrev pub kept_nowhere : List Field → List Field
+kept_nowhere more = field (codes "Cache-Control") (codes "no-store") ∷ field (codes "X-Content-Type-Options") (codes "nosniff") ∷ more
+
+-- the head of an answer with a body, which has its length
+abbrev pub head_with : List ℕ → List ℕ → List ℕ → List Field → List ℕ → ResponseHead
+head_with code reason kind more body =
+    head code reason (field (codes "Content-Type") kind ∷ field (codes "Content-Length") (decimal (length body)) ∷ kept_nowhere more)
+
+-- the head of a refusal, with these fields besides
+abbrev pub refused : List ℕ → List ℕ → List Field → Refusal → ResponseHead
+refused code reason more refusal = head_with code reason (codes "application/json") more (refusal_body refusal)
+
+-- the head of a refusal
+abbrev pub refusal_head : Refusal → ResponseHead
+refusal_head Head = refused (codes "400") (codes "Bad Request") (field (codes "Connection") (codes "close") ∷ []) Head
+refusal_head Word = refused (codes "400") (codes "Bad Request") [] Word
+refusal_head LastEventId = refused (codes "400") (codes "Bad Request") [] LastEventId
+refusal_head Subject = refused (codes "404") (codes "Not Found") [] Subject
+refusal_head Path = refused (codes "404") (codes "Not Found") [] Path
+refusal_head Method = refused (codes "405") (codes "Method Not Allowed") (field (codes "Allow") (codes "GET") ∷ []) Method
+refusal_head LongHead = refused (codes "431") (codes "Request Header Fields Too Large") (field (codes "Connection") (codes "close") ∷ []) LongHead
+refusal_head Spent = refused (codes "409") (codes "Conflict") [] Spent
+refusal_head Gone = refused (codes "500") (codes "Internal Server Error") [] Gone
+refusal_head Full = refused (codes "503") (codes "Service Unavailable") (field (codes "Retry-After") (codes "5") ∷ []) Full
+refusal_head Stopping = refused (codes "503") (codes "Service Unavailable") (field (codes "Retry-After") (codes "2") ∷ []) Stopping
+refusal_head Memory = refused (codes "507") (codes "Insufficient Storage") [] Memory
+
+-- the fields before a stream of events
+abbrev pub events_fields : List Field
+events_fields =
+    field (codes "Content-Type") (codes "text/event-stream") ∷ field (codes "Cache-Control") (codes "no-store, no-transform")
+    ∷ field (codes "X-Accel-Buffering") (codes "no") ∷ field (codes "Content-Encoding") (codes "identity") ∷ field (codes "Vary") (codes "Accept, Origin")
+    ∷ field (codes "Connection") (codes "close") ∷ []
+
+-- the head of an answer
+abbrev pub head_of : Answer → ResponseHead
+head_of Events = head (codes "200") (codes "OK") events_fields
+head_of Over = head (codes "204") (codes "No Content") (kept_nowhere [])
+head_of Well = head_with (codes "200") (codes "OK") plain_kind [] (codes "ok\n")
+head_of Unwell = head_with (codes "503") (codes "Service Unavailable") plain_kind [] (codes "unwell\n")
+head_of (Refused refusal) = refusal_head refusal
+
+-- its body, where that does not go on to the end of the connection
+abbrev pub body_of : Answer → List ℕ
+body_of Events = []
+body_of Over = []
+body_of Well = codes "ok\n"
+body_of Unwell = codes "unwell\n"
+body_of (Refused refusal) = refusal_body refusal
+
+-- THE LAW: by the grammar each answer is read as this head, and behind it stands this body
+abbrev pub AnswersAreRead : Type 0
+AnswersAreRead = (answer : Answer) → ReadsResponse (answer_bytes answer) (head_of answer) (body_of answer)

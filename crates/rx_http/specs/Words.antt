@@ -1,0 +1,77 @@
+-- The words of a query, each as it is written. The rules are this project's own.
+use Rattle.std.specs.Prelude.{◌≡◌, ◌<◌, ◌≤◌, ◌^◌, ℕ, List, [], ◌++◌, true, Option, None, Some, codes, decimal}
+use Rattle.rx_note.specs.Choices.{Choice, is_in_limits}
+use Rattle.rx_note.specs.declared.strategy.Strategy.{Strategy}
+use Rattle.rx_note.specs.declared.strategy.Strategy.TheVariants.{Buffer, Drop, Latest, Bounded}
+use Rattle.rx_note.specs.declared.errors.Errors.{Errors}
+use Rattle.rx_note.specs.declared.errors.Errors.TheVariants.{Ahead, Delay}
+use Rattle.rx_http.specs.Epochs.{IsEpoch}
+use Rattle.rx_http.specs.Ids.{id_of}
+use Rattle.rx_http.specs.Laws.{IsPlace}
+use Rattle.rx_http.specs.Queries.{word_in}
+use Rattle.rx_http.specs.declared.id.Id.{Id}
+
+-- what was read of some bytes: the one that is written so, or that none is
+abbrev pub IsReadOf : {T : Type 0} → (T → Type 0) → (T → List ℕ) → List ℕ → Option T → Type 0
+IsReadOf IsOne written bytes None = (x : _) → IsOne x → bytes ≡ written x → ⊥
+IsReadOf IsOne written bytes (Some x) = IsOne x × (bytes ≡ written x)
+
+-- a number of 32 bits; it is written in decimal digits, without leading zeros
+abbrev pub IsNumber : ℕ → Type 0
+IsNumber n = n < 2 ^ 32
+
+-- a room of 16 bits
+abbrev pub IsRoom : ℕ → Type 0
+IsRoom n = n < 2 ^ 16
+
+-- a strategy with such a room
+abbrev pub HasRoom : Strategy → Type 0
+HasRoom Buffer = Unit {0}
+HasRoom (Drop room) = IsRoom room
+HasRoom (Latest room) = IsRoom room
+HasRoom (Bounded room) = IsRoom room
+
+-- a strategy: its name, directly followed by its room
+abbrev pub strategy_word : Strategy → List ℕ
+strategy_word Buffer = codes "BUFFER"
+strategy_word (Drop room) = codes "DROP:" ++ decimal room
+strategy_word (Latest room) = codes "LATEST:" ++ decimal room
+strategy_word (Bounded room) = codes "BOUNDED:" ++ decimal room
+
+-- an error mode
+abbrev pub errors_word : Errors → List ℕ
+errors_word Ahead = codes "AHEAD"
+errors_word Delay = codes "DELAY"
+
+-- any error mode
+abbrev pub IsAnyErrors : Errors → Type 0
+IsAnyErrors errors = Unit {0}
+
+-- how many items may be on their way at a time: 1 to 16
+abbrev pub IsWindow : ℕ → Type 0
+IsWindow n = (1 ≤ n) × (n ≤ 16)
+
+-- a policy that the words of a query say: BUFFER and DELAY where it has none
+pub record HasPolicy (query : List ℕ) (policy : Choice) : Type 0 where
+  pub strategy : word_in (codes "strategy=") (codes "BUFFER") query ≡ strategy_word policy.strategy
+  pub room : is_in_limits policy.strategy ≡ true
+  pub errors : word_in (codes "errors=") (codes "DELAY") query ≡ errors_word policy.errors
+
+-- a window that the words of a query say: 16 where it has none
+pub record HasWindow (query : List ℕ) (window : ℕ) : Type 0 where
+  pub limits : IsWindow window
+  pub word : word_in (codes "window=") (codes "16") query ≡ decimal window
+
+-- what was found: one of these, or that there is none
+abbrev pub IsFound : {T : Type 0} → (T → Type 0) → Option T → Type 0
+IsFound Is None = (x : _) → Is x → ⊥
+IsFound Is (Some x) = Is x
+
+-- an id that a server tells: its epoch is one, and its place has 32 bits
+abbrev pub IsId : Id → Type 0
+IsId id = IsEpoch id.epoch × IsPlace id.place
+
+-- what a reader says that it knows: nothing, where its word is empty, or by an id
+abbrev pub SaysKnown : List ℕ → Option Id → Type 0
+SaysKnown word None = word ≡ []
+SaysKnown word (Some id) = IsId id × (word ≡ id_of id)

@@ -1,0 +1,104 @@
+ghost use Rattle.std.specs.Prelude.{◌≡◌, ◌≤◌, length};
+ghost use Rattle.rx_http.specs.Answers.{advice_of, error_of, fields_of, status_of};
+
+/// Why a request is refused. Those behind `LongHead` are not of its head: a server refuses for them what it read.
+#[derive(Clone, Copy, Debug, PartialEq, Eq)]
+pub enum Refusal {
+    /// 400: it is no head of HTTP/1.0 or HTTP/1.1, or more than one.
+    Head,
+    /// 400: a word of its query is none of those that are read.
+    Word,
+    /// 400: what it says to know is no id that a server tells.
+    LastEventId,
+    /// 404: there is no subject of that name.
+    Subject,
+    /// 404: there is no such path.
+    Path,
+    /// 405: nothing is served by that method there.
+    Method,
+    /// 431: its head has more than 8,192 bytes or more than 32 fields.
+    LongHead,
+    /// 409: as many joins were accepted as may be.
+    Spent,
+    /// 500: the thread that owns the subject is gone.
+    Gone,
+    /// 503: as many observers are held as may be.
+    Full,
+    /// 503: the server stops.
+    Stopping,
+    /// 507: there was no memory for it.
+    Memory,
+}
+
+impl Refusal {
+    /// Its status, a code and its reason.
+    pub(crate) fn status(self) -> &'static [u8]
+        ensures { result.now ≡ status_of self }
+    {
+        match self {
+            Refusal::Head | Refusal::Word | Refusal::LastEventId => b"400 Bad Request",
+            Refusal::Subject | Refusal::Path => b"404 Not Found",
+            Refusal::Method => b"405 Method Not Allowed",
+            Refusal::Spent => b"409 Conflict",
+            Refusal::LongHead => b"431 Request Header Fields Too Large",
+            Refusal::Gone => b"500 Internal Server Error",
+            Refusal::Full | Refusal::Stopping => b"503 Service Unavailable",
+            Refusal::Memory => b"507 Insufficient Storage",
+        }
+    }
+
+    /// Its name.
+    pub(crate) fn error(self) -> &'static [u8]
+        ensures bytes { result.now ≡ error_of self }
+        ensures few { length result.now ≤ 100 }
+    {
+        match self {
+            Refusal::Head | Refusal::LongHead => b"head",
+            Refusal::Word => b"strategy",
+            Refusal::LastEventId => b"last-event-id",
+            Refusal::Subject => b"subject",
+            Refusal::Path => b"path",
+            Refusal::Method => b"method",
+            Refusal::Spent => b"spent",
+            Refusal::Gone => b"gone",
+            Refusal::Full => b"full",
+            Refusal::Stopping => b"stopping",
+            Refusal::Memory => b"memory",
+        }
+    }
+
+    /// What to do about it.
+    pub(crate) fn advice(self) -> &'static [u8]
+        ensures bytes { result.now ≡ advice_of self }
+        ensures few { length result.now ≤ 100 }
+    {
+        match self {
+            Refusal::Head => b"the head is not one of HTTP/1.1",
+            Refusal::Word =>
+                b"strategy is BUFFER, DROP:n, LATEST:n or BOUNDED:n, errors AHEAD or DELAY, window 1 to 16",
+            Refusal::LastEventId => b"it is none that a server tells",
+            Refusal::Subject => b"the configuration has no such subject",
+            Refusal::Path => b"try /healthz or /subjects/NAME",
+            Refusal::Method => b"try GET",
+            Refusal::Spent => b"the subject accepted as many joins as it may",
+            Refusal::LongHead => b"a head has at most 8,192 bytes and 32 fields",
+            Refusal::Gone => b"the thread of the subject ended by a fault",
+            Refusal::Full => b"as many observers are held as may be",
+            Refusal::Stopping => b"the server stops",
+            Refusal::Memory => b"the budget of the subject is used up",
+        }
+    }
+
+    /// The fields that it has besides.
+    pub(crate) fn fields(self) -> &'static [u8]
+        ensures { result.now ≡ fields_of self }
+    {
+        match self {
+            Refusal::Head | Refusal::LongHead => b"Connection: close\r\n",
+            Refusal::Method => b"Allow: GET\r\n",
+            Refusal::Full => b"Retry-After: 5\r\n",
+            Refusal::Stopping => b"Retry-After: 2\r\n",
+            _ => b"",
+        }
+    }
+}

@@ -1,0 +1,285 @@
+//! Heads of requests: what each asks for, or why it is refused.
+
+use rx_heap::{Heap, Memory};
+use rx_http::{Asked, Epoch, Id, MAX_HEAD, Refusal, read_request};
+use rx_note::{Errors, Policy, Strategy};
+use rx_proto::Name;
+use std::test::Fail;
+
+/// What is asked for.
+enum Wanted {
+    /// The events of `trades`, served so.
+    Served(Strategy, Errors, u32),
+    /// The same by a reader that knows this, served as where a query has no words.
+    Knowing(&'static [u8], Option<u32>, bool),
+    Health,
+    Refused(Refusal),
+}
+
+/// What is asked for where a query has no words.
+const PLAIN: Wanted = Wanted::Served(Strategy::Buffer, Errors::Delay, 16);
+
+impl Wanted {
+    fn asked(&self) -> Result<Result<Asked, Refusal>, Fail> {
+        match self {
+            Wanted::Served(strategy, errors, window) => {
+                events(*strategy, *errors, *window, None)
+            }
+            Wanted::Knowing(epoch, place, over) => {
+                let known = Id {
+                    epoch: Epoch::new(epoch).ok_or("no epoch")?,
+                    place: *place,
+                    over: *over,
+                };
+                events(Strategy::Buffer, Errors::Delay, 16, Some(known))
+            }
+            Wanted::Health => Ok(Ok(Asked::Health)),
+            Wanted::Refused(cause) => Ok(Err(*cause)),
+        }
+    }
+}
+
+fn events(
+    strategy: Strategy,
+    errors: Errors,
+    window: u32,
+    known: Option<Id>,
+) -> Result<Result<Asked, Refusal>, Fail> {
+    let subject = Name::new(b"trades").ok_or("no name")?;
+    let policy = Policy::new(strategy, errors)?;
+    Ok(Ok(Asked::Events {
+        subject,
+        policy,
+        window,
+        known,
+    }))
+}
+
+/// Requests by GET, by their targets.
+const TARGETS: [(&[u8], Wanted); 15] = [
+    (b"/healthz", Wanted::Health),
+    (b"/healthz?strategy=NONE", Wanted::Health),
+    (b"/subjects/trades", PLAIN),
+    (b"/subjects/trades?", PLAIN),
+    (b"/subjects/trades?_=1764300000&other", PLAIN),
+    (
+        b"/subjects/trades?strategy=LATEST:1&errors=AHEAD&window=1",
+        Wanted::Served(Strategy::Latest(1), Errors::Ahead, 1),
+    ),
+    (
+        b"/subjects/trades?window=2&errors=DELAY&strategy=DROP%3a0",
+        Wanted::Served(Strategy::Drop(0), Errors::Delay, 2),
+    ),
+    (
+        b"/subjects/trades?strategy=%42OUNDED%3A1024",
+        Wanted::Served(Strategy::Bounded(1024), Errors::Delay, 16),
+    ),
+    (
+        b"/subjects/trades?strategy=DROP:7&strategy=BUFFER",
+        Wanted::Served(Strategy::Drop(7), Errors::Delay, 16),
+    ),
+    (b"/subjects/trades?mystrategy=NONE", PLAIN),
+    (
+        b"/subjects/trades?last-event-id=19c0-7",
+        Wanted::Knowing(b"19c0", Some(7), false),
+    ),
+    (
+        b"/subjects/trades?last-event-id=19c0-4294967295-over",
+        Wanted::Knowing(b"19c0", Some(4_294_967_295), true),
+    ),
+    (
+        b"/subjects/trades?last-event-id=19c0-",
+        Wanted::Knowing(b"19c0", None, false),
+    ),
+    (
+        b"/subjects/trades?last-event-id=19c0--over",
+        Wanted::Knowing(b"19c0", None, true),
+    ),
+    (b"/subjects/trades?last-event-id=", PLAIN),
+];
+
+/// Such requests that are refused.
+const REFUSED: [(&[u8], Refusal); 21] = [
+    (b"/subjects/trades?strategy=", Refusal::Word),
+    (b"/subjects/trades?strategy=buffer", Refusal::Word),
+    (b"/subjects/trades?strategy=LATEST:0", Refusal::Word),
+    (b"/subjects/trades?strategy=LATEST:01", Refusal::Word),
+    (b"/subjects/trades?strategy=DROP:1025", Refusal::Word),
+    (b"/subjects/trades?strategy=DROP:70000", Refusal::Word),
+    (b"/subjects/trades?strategy=DROP:+1", Refusal::Word),
+    (
+        b"/subjects/trades?strategy=DROP:000000000000000000000000000000000000000000000000000000000001",
+        Refusal::Word,
+    ),
+    (b"/subjects/trades?errors=NEVER", Refusal::Word),
+    (b"/subjects/trades?window=0", Refusal::Word),
+    (b"/subjects/trades?window=17", Refusal::Word),
+    (b"/subjects/trades?last-event-id=19c0", Refusal::LastEventId),
+    (
+        b"/subjects/trades?last-event-id=19C0-7",
+        Refusal::LastEventId,
+    ),
+    (
+        b"/subjects/trades?last-event-id=19c0-07",
+        Refusal::LastEventId,
+    ),
+    (
+        b"/subjects/trades?last-event-id=19c0-4294967296",
+        Refusal::LastEventId,
+    ),
+    (
+        b"/subjects/trades?last-event-id=19c0-7-done",
+        Refusal::LastEventId,
+    ),
+    (b"/subjects/Trades", Refusal::Subject),
+    (b"/subjects/", Refusal::Subject),
+    (
+        b"/subjects/Trades?errors=NEVER&last-event-id=7",
+        Refusal::Word,
+    ),
+    (b"/subjects/Trades?last-event-id=7", Refusal::LastEventId),
+    (b"/nowhere?errors=NEVER", Refusal::Path),
+];
+
+// The head of a request by GET.
+fn head_to(heap: &Heap, target: &[u8]) -> Result<Vec<u8, Heap>, Memory> {
+    let mut head = Vec::from_slice(heap.clone()?, b"GET ")?;
+    head.extend_from_slice(target)?;
+    head.extend_from_slice(b" HTTP/1.1\r\nHost: localhost\r\n\r\n")?;
+    Ok(head)
+}
+
+#[test]
+fn targets(rt: HostRuntime) -> Result<(), Fail> {
+    let heap = Heap::unlimited(rt.alloc());
+    for (i, (target, wanted)) in TARGETS.iter().enumerate() {
+        let head = head_to(&heap, target)?;
+        assert!(rt;
+            read_request(head.as_slice()) == wanted.asked()?,
+            "target {i}"
+        );
+    }
+    Ok(())
+}
+
+#[test]
+fn targets_refused(rt: HostRuntime) -> Result<(), Fail> {
+    let heap = Heap::unlimited(rt.alloc());
+    for (i, (target, cause)) in REFUSED.iter().enumerate() {
+        let head = head_to(&heap, target)?;
+        assert!(rt; read_request(head.as_slice()) == Err(*cause), "target {i}");
+    }
+    Ok(())
+}
+
+/// Ids, and of how many items a reader that says them knows.
+const IDS: [(&[u8], u64); 4] = [
+    (b"19c0-", 0),
+    (b"19c0-0", 1),
+    (b"z-7-over", 8),
+    (b"0123456789abcdef-4294967295", 4_294_967_296),
+];
+
+#[test]
+fn ids(rt: HostRuntime) -> Result<(), Fail> {
+    for (bytes, known) in &IDS {
+        let id = Id::read(bytes).ok_or("no id")?;
+        assert_eq!(rt; id.known(), *known);
+    }
+    Ok(())
+}
+
+/// Whole heads.
+const HEADS: [(&[u8], Wanted); 14] = [
+    (b"GET /healthz HTTP/1.0\n\n", Wanted::Health),
+    (b"\r\nGET /healthz HTTP/1.1\r\n\r\n", Wanted::Health),
+    (
+        b"GET /subjects/trades HTTP/1.1\r\nHost: x\r\nLast-Event-ID:  19c0-7 \r\n\r\n",
+        Wanted::Knowing(b"19c0", Some(7), false),
+    ),
+    (
+        b"GET /subjects/trades?last-event-id=5-5 HTTP/1.1\r\nlast-event-id: 19c0-7\r\nLAST-EVENT-ID: 6-6\r\n\r\n",
+        Wanted::Knowing(b"19c0", Some(7), false),
+    ),
+    (
+        b"GET /subjects/trades?last-event-id=19c0-7 HTTP/1.1\r\nLast-Event-ID:\r\n\r\n",
+        PLAIN,
+    ),
+    (
+        b"GET /subjects/trades HTTP/1.1\r\nLast-Event-ID: 19c0%2D7\r\n\r\n",
+        Wanted::Refused(Refusal::LastEventId),
+    ),
+    (
+        b"POST /subjects/trades?errors=NEVER HTTP/1.1\r\n\r\n",
+        Wanted::Refused(Refusal::Method),
+    ),
+    (
+        b"HEAD /healthz HTTP/1.1\r\n\r\n",
+        Wanted::Refused(Refusal::Method),
+    ),
+    (b"POST / HTTP/1.1\r\n\r\n", Wanted::Refused(Refusal::Path)),
+    (
+        b"GET /healthz HTTP/2.0\r\n\r\n",
+        Wanted::Refused(Refusal::Head),
+    ),
+    (b"GET /healthz\r\n\r\n", Wanted::Refused(Refusal::Head)),
+    (
+        b"GET /healthz HTTP/1.1\r\nno field\r\n\r\n",
+        Wanted::Refused(Refusal::Head),
+    ),
+    (b"GET /healthz HTTP/1.1\r\n", Wanted::Refused(Refusal::Head)),
+    (
+        b"GET /healthz HTTP/1.1\r\n\r\nbody",
+        Wanted::Refused(Refusal::Head),
+    ),
+];
+
+#[test]
+fn heads(rt: HostRuntime) -> Result<(), Fail> {
+    for (i, (head, wanted)) in HEADS.iter().enumerate() {
+        assert!(rt; read_request(head) == wanted.asked()?, "head {i}");
+    }
+    Ok(())
+}
+
+// A head with so many fields, each with so many bytes, and so many bytes more in the last.
+fn head_of(heap: &Heap, fields: usize, more: usize) -> Result<Vec<u8, Heap>, Memory> {
+    let mut head = Vec::from_slice(heap.clone()?, b"GET /healthz HTTP/1.1\r\n")?;
+    for _ in 1..fields {
+        head.extend_from_slice(b"a: b\r\n")?;
+    }
+    head.extend_from_slice(b"a: ")?;
+    for _ in 0..more {
+        head.push(b'b')?;
+    }
+    head.extend_from_slice(b"\r\n\r\n")?;
+    Ok(head)
+}
+
+#[test]
+fn heads_at_their_limits(rt: HostRuntime) -> Result<(), Fail> {
+    let heap = Heap::unlimited(rt.alloc());
+    let full = head_of(&heap, 32, 1)?;
+    assert!(rt;
+        read_request(full.as_slice()) == Ok(Asked::Health),
+        "32 fields"
+    );
+    let many = head_of(&heap, 33, 1)?;
+    assert!(rt;
+        read_request(many.as_slice()) == Err(Refusal::LongHead),
+        "33 fields"
+    );
+    let rest = MAX_HEAD.saturating_sub(head_of(&heap, 1, 0)?.len());
+    let whole = head_of(&heap, 1, rest)?;
+    assert_eq!(rt; whole.len(), 8192);
+    assert!(rt;
+        read_request(whole.as_slice()) == Ok(Asked::Health),
+        "8192 bytes"
+    );
+    let long = head_of(&heap, 1, rest.saturating_add(1))?;
+    assert!(rt;
+        read_request(long.as_slice()) == Err(Refusal::LongHead),
+        "8193 bytes"
+    );
+    Ok(())
+}
