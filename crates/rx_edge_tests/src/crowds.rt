@@ -290,33 +290,44 @@ fn put_file(rt: &impl Host, paths: &Paths) -> io::Result<()> {
     Ok(())
 }
 
-// A server that this pool says listens, alone, at the path.
-fn expect_listening(rt: &(impl Host + Abort + Sync), pool: &[u8], what: &str) -> Result<(), Fail> {
+// A pool that says so serves at the path: nothing is in the way there.
+fn expect_free(rt: &(impl Host + Abort), pool: &[u8], what: &str) -> Result<(), Fail> {
     write_config(rt, &AGAIN, pool)?;
     expect_that(rt, is_checked(rt, NOTHING_IN_THE_WAY), what);
-    let (told, right) = join(
-        rt,
-        || -> Vec<u8> { serve(rt, &AGAIN) },
-        || -> bool { is_answered_alone(rt) },
-    );
-    expect_that(rt, right, what);
-    expect_told(rt, told.as_slice(), LISTENED, what);
     Ok(())
+}
+
+// A server listened at the path, alone.
+fn expect_listened(rt: &impl Abort, told: &[u8], right: bool, what: &str) {
+    expect_that(rt, right, what);
+    expect_told(rt, told, LISTENED, what);
 }
 
 // A path where a socket was left is taken over where the pool says so, and else refused; so is one where a server listens, and
 // one where a file stands, which stays. A check tells which it is.
 #[test]
 fn a_path_is_taken_over(rt: HostRuntime) -> Result<(), Fail> {
-    expect_listening(&rt, b"connections = 1\n", "a new path")?;
+    expect_free(&rt, b"connections = 1\n", "a new path")?;
+    let (told, right) = join(
+        &rt,
+        || -> Vec<u8> { serve(&rt, &AGAIN) },
+        || -> bool { is_answered_alone(&rt) },
+    );
+    expect_listened(&rt, told.as_slice(), right, "a new path");
     let told = serve(&rt, &AGAIN);
     expect_told(&rt, told.as_slice(), REFUSED, "a path that is left");
     expect_that(&rt, is_checked(&rt, ABANDONED), "a path that is left");
-    expect_listening(
+    expect_free(
         &rt,
         b"connections = 1\ntakeover = true\n",
         "a path taken over",
     )?;
+    let (told, right) = join(
+        &rt,
+        || -> Vec<u8> { serve(&rt, &AGAIN) },
+        || -> bool { is_answered_alone(&rt) },
+    );
+    expect_listened(&rt, told.as_slice(), right, "a path taken over");
     put_file(&rt, &AGAIN)?;
     expect_that(&rt, is_checked(&rt, NO_SOCKET), "a path of a file");
     let told = serve(&rt, &AGAIN);
