@@ -172,7 +172,7 @@ impl<R: Host> Listener for Peers<R> {
         }
     }
 
-    fn watch(&self) -> Result<Watch<Everyone, Silent>, WatchFault> {
+    fn watch(&self) -> Result<Watch<Lines, Everyone, Silent>, WatchFault> {
         if self.watched.fetch_add(1, Ordering::SeqCst) >= self.faults.watch {
             return Err(WatchFault);
         }

@@ -5,8 +5,9 @@ use crate::expecting::{expect_count, expect_that, expect_told};
 use crate::servers::{Host, closed, config_of, copy};
 use rx_drain::LineSink;
 use rx_heap::Heap;
+use rx_program::WatchLog;
 use rx_server::{
-    AcceptFault, Aim, Bell, Listener, Moments, Readiness, Ready, ServeFault, Server, Watch,
+    AcceptFault, Aim, Bell, Idle, Listener, Moments, Readiness, Ready, ServeFault, Server, Watch,
     WatchFault, start,
 };
 use rx_signs::Told;
@@ -118,37 +119,52 @@ impl<R: Wait + Drop> Write for Sipping<R> {
 pub(crate) struct Everyone {
     keys: Vec<usize>,
     at: usize,
+    log: WatchLog,
 }
 
 impl Everyone {
     /// It watches nobody yet.
-    pub(crate) fn new(alloc: Global) -> Everyone {
-        Everyone {
+    pub(crate) fn new<C>(alloc: Global) -> Idle<C, Everyone> {
+        Idle::new(Everyone {
             keys: Vec::new(alloc),
             at: 0,
-        }
+            log: WatchLog::new(),
+        })
     }
 }
 
 impl Drop for Everyone {
     fn drop(self) {
-        let Everyone { keys: _, at: _ } = self;
+        let Everyone {
+            keys: _,
+            at: _,
+            log: _,
+        } = self;
     }
 }
 
 impl<C> Readiness<C> for Everyone {
+    ghost use Rattle.rx_program.specs.WatchLogs.{watched_by};
+
+    ghost watched = { λ e. watched_by e.log };
+
     fn begin(&mut self, _connection: &C, key: usize) -> Result<(), WatchFault> {
-        match self.keys.push(key) {
-            Ok(()) => Ok(()),
-            Err(_) => Err(WatchFault),
-        }
+        let Ok(()) = self.keys.push(key) else {
+            return Err(WatchFault);
+        };
+        self.log = self.log.and(key, Some(Aim::Bytes));
+        Ok(())
     }
 
-    fn change(&mut self, _connection: &C, _key: usize, _aim: Aim) {}
+    fn change(&mut self, _connection: &C, key: usize, aim: Aim) {
+        self.log = self.log.and(key, Some(aim));
+    }
 
     fn again(&mut self, _key: usize) {}
 
-    fn forget(&mut self, _connection: &C) {}
+    fn forget(&mut self, _connection: &C, key: usize) {
+        self.log = self.log.and(key, None);
+    }
 
     fn wait(&mut self) {
         self.at = 0;
@@ -243,7 +259,7 @@ impl<R: Host> Listener for Peers<R> {
         }
     }
 
-    fn watch(&self) -> Result<Watch<Everyone, Silent>, WatchFault> {
+    fn watch(&self) -> Result<Watch<Halting, Everyone, Silent>, WatchFault> {
         let readiness = Everyone::new(self.rt.alloc());
         let bell = Silent;
         Ok(Watch { readiness, bell })

@@ -1,2 +1,3 @@
 pub mod CommandLines
 pub mod Programs
+pub mod WatchLogs

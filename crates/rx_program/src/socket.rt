@@ -2,10 +2,11 @@ ghost use Rattle.std.specs.Prelude.{◌≡◌, ◌↔◌, ◌⊎◌, IsTrue};
 
 use crate::incoming::Incoming;
 use crate::outgoing::Outgoing;
-use crate::polling::{Polling, Ring};
+use crate::polling::Polling;
+use crate::ring::Ring;
 use crate::terms::Terms;
 use rx_heap::Heap;
-use rx_server::{AcceptFault, Listener, Watch, WatchFault};
+use rx_server::{AcceptFault, Idle, Listener, Watch, WatchFault};
 use std::io::{ErrorKind, Write};
 use std::net::Net;
 use std::os::unix::net::{UnixListener, UnixStream};
@@ -105,7 +106,7 @@ impl<'a, F: AllocGlobal + Net + Clock + Wait + Clone + Drop + Send + 'static, E:
         Err(AcceptFault)
     }
 
-    fn watch(&self) -> Result<Watch<Polling<F>, Ring>, WatchFault> {
+    fn watch(&self) -> Result<Watch<Incoming<F>, Polling<F>, Ring>, WatchFault> {
         match polled(&self.host, &self.heap, self.terms) {
             Ok(watch) => Ok(watch),
             Err(_) => Err(WatchFault),
@@ -118,10 +119,13 @@ fn polled<F: AllocGlobal + Net + Clock + Clone + Drop>(
     host: &F,
     heap: &Heap,
     terms: Terms,
-) -> io::Result<Watch<Polling<F>, Ring>> {
+) -> io::Result<Watch<Incoming<F>, Polling<F>, Ring>> {
     let readiness = Polling::new(host, host.alloc(), host.clone()?, heap, terms.idle)?;
     let bell = readiness.bell()?;
-    Ok(Watch { readiness, bell })
+    Ok(Watch {
+        readiness: Idle::new(readiness),
+        bell,
+    })
 }
 
 // The half of a connection that is read, and the half that is written. Neither waits.

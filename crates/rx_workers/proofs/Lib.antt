@@ -6,4 +6,5 @@ pub mod Queues
 pub mod Received
 pub mod Service
 pub mod Sessions
+pub mod Watching
 pub mod Working

@@ -6,5 +6,6 @@ pub mod Responses
 pub mod Service
 pub mod SessionDesks
 pub mod Telling
+pub mod Watching
 pub mod Workers
 pub mod Working

@@ -24,6 +24,8 @@ use Rattle.rx_workers.specs.declared.client.Client.TheVariants.{Talks, Follows}
 use Rattle.rx_workers.specs.declared.client.Follower.{Follower}
 use Rattle.rx_workers.specs.declared.client.Talk.{Talk}
 use Rattle.rx_workers.specs.declared.joined.Joined.{Joined}
+use Rattle.rx_workers.specs.declared.readiness.Aim.TheVariants.{Bytes}
+use Rattle.rx_workers.specs.Watching.{IsAimed}
 
 -- a worker: the session's desk over which it serves, and the inbox of its connections, each a reader and a writer
 pub record WorkerView (M C W : Type 0) : Type 0 where
@@ -91,11 +93,12 @@ goes_on (Stuck writer) = false
 goes_on (Over end back) = false
 
 module _ {C W : Type 0} where
-  -- a session that began with its connection
+  -- a session that began with its connection, which is watched for bytes
   pub record Begins (connection : C × W) (talk : Talk C W) : Type 0 where
     pub reader_is : talk.reader ≡ connection.0
     pub writer_is : talk.writer ≡ connection.1
     pub is_new : IsNew talk.session.value
+    pub aim_is : talk.aim ≡ Bytes
 
   -- a connection was given this place, which was vacant, or none
   abbrev pub Admits : Option ℕ → C × W → List (Option (Client C W)) → List (Option (Client C W)) → Type 0
@@ -155,6 +158,7 @@ module _ {M C W : Type 0} (tells : M → ℕ → M → Type 0) (remaining : C �
     pub left : Option (Client C W)
     pub turn : TakesTurn result talk reader session before.session after.session
     pub leaves : Leaves result reader session after.session.joined left
+    pub aimed : IsAimed result talk.aim left
     pub sets : Sets place before.clients after.clients (Some (Talks talk)) left
     pub inbox : after.inbox ≡ before.inbox
     pub sessions : after.sessions ≡ before.sessions

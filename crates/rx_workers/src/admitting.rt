@@ -1,6 +1,7 @@
 // How a connection that came is given a place.
 ghost use Rattle.std.specs.Prelude.{IfOk};
 ghost use Rattle.rx_session.specs.OpenSessions.{IsNew};
+ghost use Rattle.rx_workers.specs.Watching.{AreWatched};
 ghost use Rattle.rx_workers.specs.Working.{Admits};
 
 use crate::client::{Client, Talk};
@@ -20,7 +21,9 @@ pub fn admit<C: Drop, W: Drop, P: Readiness<C>>(
     connection: (C, W),
     readiness: &mut P,
 ) -> Option<usize>
-    ensures { Admits result connection clients.old clients.new }
+    requires { AreWatched (P.watched readiness.old) clients.old }
+    ensures admits { Admits result connection clients.old clients.new }
+    ensures watched { AreWatched (P.watched readiness.new) clients.new }
 {
     let (reader, writer) = connection;
     let Ok(place) = clients.vacancy() else {

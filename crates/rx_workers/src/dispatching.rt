@@ -11,6 +11,7 @@ use crate::accepting::{AcceptStop, accept_all};
 use crate::ending::end_all;
 use crate::hired::Hired;
 use crate::hiring::hire_all;
+use crate::idle::Idle;
 use crate::listener::Listener;
 use crate::moments::Moments;
 use crate::serve_fault::ServeFault;
@@ -82,7 +83,7 @@ pub fn serve_connections<
 #[derive(Drop)]
 struct Bench<M: Moments + Drop + Send + 'static, L: Listener> {
     moments: Arc<Mutex<M>, Heap>,
-    readiness: Vec<L::Readiness, Heap>,
+    readiness: Vec<Idle<L::Reader, L::Readiness>, Heap>,
     bells: Vec<L::Bell, Heap>,
     workers: Vec<Hired<M, L::Reader, L::Writer, L::Readiness>, Heap>,
     ports: Vec<Port<(L::Reader, L::Writer)>, Heap>,
@@ -114,7 +115,7 @@ fn make_bench<M: Moments + Drop + Send + 'static, L: Listener>(
 fn watch_all<L: Listener>(
     listener: &L,
     count: usize,
-    readiness: &mut Vec<L::Readiness, Heap>,
+    readiness: &mut Vec<Idle<L::Reader, L::Readiness>, Heap>,
     bells: &mut Vec<L::Bell, Heap>,
 ) -> Result<(), ServeFault>
     requires none { readiness.old.items ≡ [] }
@@ -147,7 +148,7 @@ fn deal_all<
     config: &Arc<Config, Heap>,
     moments: &Arc<Mutex<M>, Heap>,
     listener: &mut L,
-    readiness: &mut Vec<L::Readiness, Heap>,
+    readiness: &mut Vec<Idle<L::Reader, L::Readiness>, Heap>,
     bells: &Vec<L::Bell, Heap>,
     desks: &mut Vec<CallDesk<LineSink<L::Writer>>, Heap>,
     workers: &mut Vec<Hired<M, L::Reader, L::Writer, L::Readiness>, Heap>,

@@ -25,19 +25,21 @@ use std::thread::Threads;
 
 /// A worker that serves in a thread of its own, and room for the port to its inbox once that has ended. Contracts see the worker
 /// that was handed in.
-pub struct Hired<M: Moments + Drop, C: Read + Drop, W: Write + Drop, P: Drop> {
+pub struct Hired<M: Moments + Drop, C: Read + Drop, W: Write + Drop, P: Readiness<C> + Drop> {
     worker: RunningWorker<M, C, W, P>,
     room: Vec<EndedPort<(C, W)>, Heap>,
 }
 
 // It stands here, and isn't derived, so that what lets go of a hired worker is one call that is proved once.
-impl<M: Moments + Drop, C: Read + Drop, W: Write + Drop, P: Drop> Drop for Hired<M, C, W, P> {
+impl<M: Moments + Drop, C: Read + Drop, W: Write + Drop, P: Readiness<C> + Drop> Drop
+    for Hired<M, C, W, P> {
     fn drop(self) {
         let Hired { worker: _, room: _ } = self;
     }
 }
 
-impl<M: Moments + Drop, C: Read + Drop, W: Write + Drop, P: Drop> Model for Hired<M, C, W, P> {
+impl<M: Moments + Drop, C: Read + Drop, W: Write + Drop, P: Readiness<C> + Drop> Model
+    for Hired<M, C, W, P> {
     ghost use Rattle.std.specs.Prelude.{◌≡◌, ◌≤◌, [], vec_capacity};
     ghost use Rattle.rx_workers.specs.Working.{WorkerView};
 
@@ -57,7 +59,7 @@ pub struct Returned<W: Write + Drop> {
     pub has_all: bool,
 }
 
-impl<M: Moments + Drop, C: Read + Drop, W: Write + Drop, P: Drop> Hired<M, C, W, P> {
+impl<M: Moments + Drop, C: Read + Drop, W: Write + Drop, P: Readiness<C> + Drop> Hired<M, C, W, P> {
     /// A worker that serves, and room for one port.
     pub fn new(
         worker: RunningWorker<M, C, W, P>,

@@ -8,6 +8,7 @@ ghost use Rattle.rx_workers.specs.Crews.{AreOut, IsFor, NamesLast, worker_desk};
 ghost use Rattle.rx_workers.specs.Service.{IsNewOver, port_to};
 
 use crate::hired::Hired;
+use crate::idle::Idle;
 use crate::moments::Moments;
 use crate::readiness::Readiness;
 use crate::running_worker::start_worker;
@@ -96,7 +97,7 @@ fn hire<
     heap: &Heap,
     config: &Arc<Config, Heap>,
     moments: &Arc<Mutex<M>, Heap>,
-    readiness: P,
+    readiness: Idle<C, P>,
     desk: CallDesk<LineSink<W>>,
 ) -> Result<(Hired<M, C, W, P>, Port<(C, W)>), Unhired<W>>
     requires { IsFor (arc_value config.now) desk }
@@ -141,7 +142,7 @@ pub fn hire_all<
     heap: &Heap,
     config: &Arc<Config, Heap>,
     moments: &Arc<Mutex<M>, Heap>,
-    readiness: &mut Vec<P, Heap>,
+    readiness: &mut Vec<Idle<C, P>, Heap>,
     desks: &mut Vec<CallDesk<LineSink<W>>, Heap>,
     workers: &mut Vec<Hired<M, C, W, P>, Heap>,
     ports: &mut Vec<Port<(C, W)>, Heap>,

@@ -1,5 +1,6 @@
 // What a turn of a session leaves at its place.
-ghost use Rattle.std.specs.Prelude.{◌≡◌};
+ghost use Rattle.std.specs.Prelude.{◌≡◌, Some};
+ghost use Rattle.rx_workers.specs.Watching.{IsAimed, Watches, WatchesSame, aim_of};
 ghost use Rattle.rx_workers.specs.Working.{GoesOn, Leaves, goes_on, left_by};
 
 use crate::client::{Client, Follower, Talk};
@@ -29,8 +30,11 @@ pub fn leave<C: Drop, W: Drop, P: Readiness<C>>(
     pause: Pause,
     readiness: &mut P,
 ) -> (bool, Option<Client<C, W>>)
+    requires { P.watched readiness.old pause.place ≡ Some pause.aim }
     ensures goes_on { result.0 ≡ goes_on turned }
     ensures leaves { Leaves turned reader session.value joined result.1 }
+    ensures aimed { IsAimed turned pause.aim result.1 }
+    ensures watched { Watches pause.place (aim_of result.1) (P.watched readiness.old) (P.watched readiness.new) }
 {
     match turned {
         Turn::Again(writer) => {
@@ -56,7 +60,8 @@ fn talks<C: Drop, W: Drop>(
     session: Box<OpenSession, Heap>,
     aim: Aim,
 ) -> Option<Client<C, W>>
-    ensures { GoesOn reader writer session.value result }
+    ensures goes_on { GoesOn reader writer session.value result }
+    ensures aimed { aim_of result ≡ Some aim }
 {
     Some(Client::Talks(Talk {
         reader,
@@ -67,7 +72,9 @@ fn talks<C: Drop, W: Drop>(
 }
 
 // Has a connection told again where its session has no further turn now.
-fn again<C, P: Readiness<C>>(pause: Pause, readiness: &mut P) {
+fn again<C, P: Readiness<C>>(pause: Pause, readiness: &mut P)
+    ensures { WatchesSame (P.watched readiness.old) (P.watched readiness.new) }
+{
     if pause.is_last {
         readiness.again(pause.place);
     }
@@ -75,7 +82,9 @@ fn again<C, P: Readiness<C>>(pause: Pause, readiness: &mut P) {
 
 // Has a connection watched for this.
 fn watch<C, P: Readiness<C>>(reader: &C, pause: Pause, aim: Aim, readiness: &mut P) -> Aim
-    ensures { result ≡ aim }
+    requires { P.watched readiness.old pause.place ≡ Some pause.aim }
+    ensures aim { result ≡ aim }
+    ensures watched { Watches pause.place (Some aim) (P.watched readiness.old) (P.watched readiness.new) }
 {
     if pause.aim != aim {
         readiness.change(reader, pause.place, aim);
@@ -91,7 +100,8 @@ fn end_at<C: Drop, W: Drop, P: Readiness<C>>(
     place: usize,
     readiness: &mut P,
 ) -> Option<Client<C, W>>
-    ensures { result ≡ left_by end reader joined }
+    ensures left { result ≡ left_by end reader joined }
+    ensures watched { Watches place (aim_of result) (P.watched readiness.old) (P.watched readiness.new) }
 {
     match (end, joined) {
         (SessionEnd::HandedOver, Some(observer)) => {
@@ -99,7 +109,7 @@ fn end_at<C: Drop, W: Drop, P: Readiness<C>>(
             Some(Client::Follows(Follower { reader, observer }))
         }
         _ => {
-            readiness.forget(&reader);
+            readiness.forget(&reader, place);
             None
         }
     }

@@ -20,6 +20,7 @@ mod dispatching;
 mod ending;
 mod hired;
 mod hiring;
+mod idle;
 mod joined;
 mod leaving;
 mod listener;
@@ -38,6 +39,7 @@ mod worker_end;
 
 pub use accepting::{AcceptStop, accept_all};
 pub use dispatching::serve_connections;
+pub use idle::Idle;
 pub use joined::Joined;
 pub use listener::{AcceptFault, Listener, Watch};
 pub use moments::Moments;

@@ -1,5 +1,6 @@
 ghost use Rattle.std.specs.Prelude.{IfOk, OnErr};
 
+use crate::idle::Idle;
 use crate::readiness::{Bell, Readiness, WatchFault};
 use std::error::Error;
 use std::fmt;
@@ -19,9 +20,9 @@ impl Error for AcceptFault {}
 
 /// What a worker waits by, and the bell that ends its wait.
 #[derive(Drop)]
-pub struct Watch<P: Drop, B: Drop> {
-    /// What the worker waits by.
-    pub readiness: P,
+pub struct Watch<C, P: Readiness<C> + Drop, B: Drop> {
+    /// What the worker waits by, which watches nothing yet.
+    pub readiness: Idle<C, P>,
     /// What ends its wait.
     pub bell: B,
 }
@@ -47,5 +48,5 @@ pub trait Listener {
         ensures failed { OnErr result (fails self.old self.new) };
 
     /// What one more worker waits by.
-    fn watch(&self) -> Result<Watch<Self::Readiness, Self::Bell>, WatchFault>;
+    fn watch(&self) -> Result<Watch<Self::Reader, Self::Readiness, Self::Bell>, WatchFault>;
 }

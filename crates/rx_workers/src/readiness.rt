@@ -34,28 +34,43 @@ pub struct Ready {
 }
 
 /// Waits for many connections at once. No clause says what it tells: a turn of a session is right whenever it is made, and one
-/// that is never made leaves the session as it is. So it may tell too much, and what it tells too little only waits longer.
+/// that is never made leaves the session as it is. So it may tell too much, and what it tells too little only waits longer. Its
+/// clauses say what is watched, by which key and for what: what it was asked to watch, whatever the system makes of that.
 pub trait Readiness<C> {
+    ghost use Rattle.std.specs.Prelude.{ℕ, Option, None, Some, OnErr, OnOk};
+    ghost use Rattle.rx_workers.specs.Watching.{Watches, WatchesSame};
+    ghost use Rattle.rx_workers.specs.declared.readiness.Aim.{Aim};
+
+    // For what each key is watched, if it is.
+    ghost watched: { Self → ℕ → Option Aim };
+
     /// Watches a connection for bytes, by this key. From then on each change of what it is watched for is told once; so is
     /// what it is ready for already.
-    fn begin(&mut self, connection: &C, key: usize) -> Result<(), WatchFault>;
+    fn begin(&mut self, connection: &C, key: usize) -> Result<(), WatchFault>
+        ensures begun { OnOk result (Watches key (Some Aim.Bytes) (watched self.old) (watched self.new)) }
+        ensures failed { OnErr result (WatchesSame (watched self.old) (watched self.new)) };
 
     /// Watches it for something else, or anew for the same. What it is ready for by then is told.
-    fn change(&mut self, connection: &C, key: usize, aim: Aim);
+    fn change(&mut self, connection: &C, key: usize, aim: Aim)
+        ensures { Watches key (Some aim) (watched self.old) (watched self.new) };
 
     /// Has the connection of this key told by the next wait, though nothing happens on it: its session goes on at once. Others
     /// that are ready are told in between.
-    fn again(&mut self, key: usize);
+    fn again(&mut self, key: usize)
+        ensures { WatchesSame (watched self.old) (watched self.new) };
 
     /// Watches it no more.
-    fn forget(&mut self, connection: &C);
+    fn forget(&mut self, connection: &C, key: usize)
+        ensures { Watches key None (watched self.old) (watched self.new) };
 
     /// Waits until a connection is ready, or until the bell rings; not where one is to be told again. It may come back without
     /// either.
-    fn wait(&mut self);
+    fn wait(&mut self)
+        ensures { WatchesSame (watched self.old) (watched self.new) };
 
     /// The next connection that was ready when `wait` came back, each once.
-    fn next(&mut self) -> Option<Ready>;
+    fn next(&mut self) -> Option<Ready>
+        ensures { WatchesSame (watched self.old) (watched self.new) };
 }
 
 /// Ends the wait of a worker. It is let go once the worker has ended.

@@ -16,10 +16,13 @@ use std::thread::{Promise, PromisedHandle, Threads};
 
 /// What the thread of a worker answers is what `serve` promises of that worker.
 #[derive(Drop)]
-pub struct Worked<M: Drop, C: Drop, W: Write + Drop, P: Drop>(Snapshot<Worker<M, C, W, P>>);
+pub struct Worked<M: Drop, C: Drop, W: Write + Drop, P: Readiness<C> + Drop>(
+    Snapshot<Worker<M, C, W, P>>,
+);
 
-impl<M: Moments + Drop, C: Read + Drop, W: Write + Drop, P: Drop> Promise<WorkerEnd<C, W>>
-    for Worked<M, C, W, P> {
+impl<M: Moments + Drop, C: Read + Drop, W: Write + Drop, P: Readiness<C> + Drop> Promise<
+    WorkerEnd<C, W>,
+> for Worked<M, C, W, P> {
     ghost use Rattle.rx_workers.specs.Workers.{HasEnded};
 
     ghost kept_by = { λ p end. HasEnded M.tells C.remaining W.contents p.0.value end };
@@ -27,12 +30,17 @@ impl<M: Moments + Drop, C: Read + Drop, W: Write + Drop, P: Drop> Promise<Worker
 
 /// A worker that serves in a thread of its own. One that is let go without a `join` is not waited for. Contracts see the worker
 /// that was handed in.
-pub struct RunningWorker<M: Moments + Drop, C: Read + Drop, W: Write + Drop, P: Drop> {
+pub struct RunningWorker<
+    M: Moments + Drop,
+    C: Read + Drop,
+    W: Write + Drop,
+    P: Readiness<C> + Drop,
+> {
     handle: PromisedHandle<WorkerEnd<C, W>, Worked<M, C, W, P>>,
 }
 
 // It stands here, and isn't derived, so that what lets go of a running worker is one call that is proved once.
-impl<M: Moments + Drop, C: Read + Drop, W: Write + Drop, P: Drop> Drop
+impl<M: Moments + Drop, C: Read + Drop, W: Write + Drop, P: Readiness<C> + Drop> Drop
     for RunningWorker<M, C, W, P> {
     fn drop(self) {
         let RunningWorker { handle: _ } = self;
@@ -67,7 +75,7 @@ pub fn start_worker<
     }
 }
 
-impl<M: Moments + Drop, C: Read + Drop, W: Write + Drop, P: Drop> Model
+impl<M: Moments + Drop, C: Read + Drop, W: Write + Drop, P: Readiness<C> + Drop> Model
     for RunningWorker<M, C, W, P> {
     ghost use Rattle.rx_workers.specs.Working.{WorkerView};
 
@@ -76,7 +84,12 @@ impl<M: Moments + Drop, C: Read + Drop, W: Write + Drop, P: Drop> Model
     ghost view = { λ r. r.handle.promise.0.value };
 }
 
-impl<M: Moments + Drop, C: Read + Drop, W: Write + Drop, P: Drop> RunningWorker<M, C, W, P> {
+impl<M: Moments + Drop, C: Read + Drop, W: Write + Drop, P: Readiness<C> + Drop> RunningWorker<
+    M,
+    C,
+    W,
+    P,
+> {
     ghost use Rattle.rx_workers.specs.Workers.{HasEnded};
 
     /// Waits until the thread has ended. It answers what the worker left.

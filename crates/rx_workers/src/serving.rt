@@ -1,6 +1,7 @@
 // The connections of a worker, each served by a session among the others.
 ghost use Rattle.std.specs.Prelude.{◌≡◌, false};
 ghost use Rattle.rx_workers.specs.Clients.{IsQuiet};
+ghost use Rattle.rx_workers.specs.Watching.{AreWatched};
 ghost use Rattle.rx_workers.specs.Working.{Goes};
 
 use crate::moments::Moments;
@@ -18,9 +19,11 @@ pub fn serve_all<'a, R: Wait, M: Moments + Drop, C: Read + Drop, W: Write + Drop
     shift: &mut Shift<'a, R, M, C, W>,
     readiness: &mut P,
 )
+    requires { AreWatched (P.watched readiness.old) shift.old.clients }
     ensures goes { Goes M.tells C.remaining W.contents shift.old shift.new }
     ensures closed { shift.new.is_open ≡ false }
     ensures quiet { IsQuiet shift.new.clients }
+    ensures watched { AreWatched (P.watched readiness.new) shift.new.clients }
 {
     for _ in rt.forever() {
         shift.admit_all(rt, readiness);
@@ -38,7 +41,9 @@ fn serve_ready<'a, R: Wait, M: Moments + Drop, C: Read + Drop, W: Write + Drop, 
     shift: &mut Shift<'a, R, M, C, W>,
     readiness: &mut P,
 )
-    ensures { Goes M.tells C.remaining W.contents shift.old shift.new }
+    requires { AreWatched (P.watched readiness.old) shift.old.clients }
+    ensures goes { Goes M.tells C.remaining W.contents shift.old shift.new }
+    ensures watched { AreWatched (P.watched readiness.new) shift.new.clients }
 {
     for _ in 0..MOST_READY {
         let Some(ready) = readiness.next() else {

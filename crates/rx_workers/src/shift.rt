@@ -1,6 +1,7 @@
 ghost use Rattle.std.specs.Prelude.{◌≡◌, ◌↔◌, ◌⊎◌, [], false, true, IsFalse, IsTrue};
 ghost use Rattle.rx_mailbox.specs.declared.letter.Post.TheVariants.{Body};
 ghost use Rattle.rx_workers.specs.Clients.{IsTalk, client_at};
+ghost use Rattle.rx_workers.specs.Watching.{AreWatched};
 ghost use Rattle.rx_workers.specs.Working.{Goes, HasTurnTo, HasTurns, IsFinished, PartsAt, Receives, ServesAt, state};
 
 use crate::admitting::admit;
@@ -101,7 +102,9 @@ impl<'a, R, M: Drop, C: Drop, W: Write + Drop> Shift<'a, R, M, C, W> {
 impl<'a, R: Wait, M: Moments + Drop, C: Read + Drop, W: Write + Drop> Shift<'a, R, M, C, W> {
     /// Gives each connection that came by now a place, and waits for none.
     pub fn admit_all<P: Readiness<C>>(&mut self, rt: &R, readiness: &mut P)
-        ensures { Goes M.tells C.remaining W.contents self.old self.new }
+        requires { AreWatched (P.watched readiness.old) self.old.clients }
+        ensures goes { Goes M.tells C.remaining W.contents self.old self.new }
+        ensures watched { AreWatched (P.watched readiness.new) self.new.clients }
     {
         if !self.is_open {
             return;
@@ -115,9 +118,11 @@ impl<'a, R: Wait, M: Moments + Drop, C: Read + Drop, W: Write + Drop> Shift<'a, 
 
     // Gives the next connection a place, if one came. Whether another one may be there.
     fn admit_next<P: Readiness<C>>(&mut self, rt: &R, readiness: &mut P) -> bool
+        requires { AreWatched (P.watched readiness.old) self.old.clients }
         ensures goes { Goes M.tells C.remaining W.contents self.old self.new }
         ensures came { IsTrue result → (connection : C × W) × Receives M.tells C.remaining W.contents (Body connection) self.old self.new }
         ensures none { IsFalse result → (self.new ≡ self.old) ⊎ (self.new.is_open ≡ false) }
+        ensures watched { AreWatched (P.watched readiness.new) self.new.clients }
     {
         let letter = match self.inbox.try_recv(rt) {
             Ok(letter) => letter,
@@ -146,7 +151,9 @@ impl<'a, R: Wait, M: Moments + Drop, C: Read + Drop, W: Write + Drop> Shift<'a, 
 
     /// Serves the client that is ready: a session has some turns, and a follower who hung up is parted with.
     pub fn serve<P: Readiness<C>>(&mut self, ready: Ready, readiness: &mut P)
-        ensures { ServesAt M.tells C.remaining W.contents ready.key ready.is_gone self.old self.new }
+        requires { AreWatched (P.watched readiness.old) self.old.clients }
+        ensures serves { ServesAt M.tells C.remaining W.contents ready.key ready.is_gone self.old self.new }
+        ensures watched { AreWatched (P.watched readiness.new) self.new.clients }
     {
         self.turn_some(ready.key, readiness);
         if ready.is_gone {
@@ -156,7 +163,9 @@ impl<'a, R: Wait, M: Moments + Drop, C: Read + Drop, W: Write + Drop> Shift<'a, 
 
     // The session at this place has turns while it goes on at once, and no more than some.
     fn turn_some<P: Readiness<C>>(&mut self, place: usize, readiness: &mut P)
-        ensures { HasTurns M.tells C.remaining W.contents place self.old self.new }
+        requires { AreWatched (P.watched readiness.old) self.old.clients }
+        ensures turns { HasTurns M.tells C.remaining W.contents place self.old self.new }
+        ensures watched { AreWatched (P.watched readiness.new) self.new.clients }
     {
         for turn in 1..=MOST_TURNS {
             if !self.turn(place, turn == MOST_TURNS, readiness) {
@@ -168,10 +177,12 @@ impl<'a, R: Wait, M: Moments + Drop, C: Read + Drop, W: Write + Drop> Shift<'a, 
     // The session at this place has a turn, if there is one. Whether it goes on at once: where this is the last turn for now,
     // its connection is told again by the next wait.
     fn turn<P: Readiness<C>>(&mut self, place: usize, is_last: bool, readiness: &mut P) -> bool
+        requires { AreWatched (P.watched readiness.old) self.old.clients }
         ensures turns { HasTurns M.tells C.remaining W.contents place self.old self.new }
         ensures turned { IsTalk (client_at place self.old.clients) → HasTurnTo M.tells C.remaining W.contents place result self.old self.new }
         ensures idle { ¬ IsTalk (client_at place self.old.clients) → result ≡ false }
         ensures kept { ¬ IsTalk (client_at place self.old.clients) → self.new ≡ self.old }
+        ensures watched { AreWatched (P.watched readiness.new) self.new.clients }
     {
         let Some(talk) = self.clients.take_talk(place) else {
             return false;
@@ -196,12 +207,14 @@ impl<'a, R: Wait, M: Moments + Drop, C: Read + Drop, W: Write + Drop> Shift<'a, 
 
     // The observer of the follower at this place is disposed of, and the place is vacant.
     fn part<P: Readiness<C>>(&mut self, place: usize, readiness: &mut P)
-        ensures { PartsAt M.tells C.remaining W.contents place self.old self.new }
+        requires { AreWatched (P.watched readiness.old) self.old.clients }
+        ensures parts { PartsAt M.tells C.remaining W.contents place self.old self.new }
+        ensures watched { AreWatched (P.watched readiness.new) self.new.clients }
     {
         let Some(follower) = self.clients.take_follower(place) else {
             return;
         };
-        readiness.forget(&follower.reader);
+        readiness.forget(&follower.reader, place);
         self.desk.dispose(follower.observer);
     }
 }

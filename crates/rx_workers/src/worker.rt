@@ -2,6 +2,7 @@ ghost use Rattle.std.specs.Prelude.{◌≡◌, ◌+◌, None, length, vec_len};
 ghost use Rattle.std.specs.Arc.{arc_value};
 ghost use Rattle.rx_workers.specs.SessionDesks.{no_queue};
 
+use crate::idle::Idle;
 use crate::moments::Moments;
 use crate::readiness::Readiness;
 use crate::serving::serve_all;
@@ -21,7 +22,7 @@ use std::sync::{Arc, Mutex, Wait};
 
 /// Serves the connections that come to its inbox, each by a session that has its turns among those of the others, by a desk of
 /// its own. The configuration and the moments are shared with other workers.
-pub struct Worker<M: Drop, C: Drop, W: Write + Drop, P: Drop> {
+pub struct Worker<M: Drop, C: Drop, W: Write + Drop, P: Readiness<C> + Drop> {
     heap: Heap,
     // The memory for the list of its clients.
     own: Heap,
@@ -29,11 +30,11 @@ pub struct Worker<M: Drop, C: Drop, W: Write + Drop, P: Drop> {
     moments: Arc<Mutex<M>, Heap>,
     desk: CallDesk<LineSink<W>>,
     inbox: Inbox<(C, W)>,
-    readiness: P,
+    readiness: Idle<C, P>,
 }
 
 // It stands here, and isn't derived, so that what lets go of a worker is one call that is proved once.
-impl<M: Drop, C: Drop, W: Write + Drop, P: Drop> Drop for Worker<M, C, W, P> {
+impl<M: Drop, C: Drop, W: Write + Drop, P: Readiness<C> + Drop> Drop for Worker<M, C, W, P> {
     fn drop(self) {
         let Worker {
             heap: _,
@@ -47,7 +48,7 @@ impl<M: Drop, C: Drop, W: Write + Drop, P: Drop> Drop for Worker<M, C, W, P> {
     }
 }
 
-impl<M: Drop, C: Drop, W: Write + Drop, P: Drop> Model for Worker<M, C, W, P> {
+impl<M: Drop, C: Drop, W: Write + Drop, P: Readiness<C> + Drop> Model for Worker<M, C, W, P> {
     ghost use Rattle.std.specs.Prelude.{◌≡◌, ◌+◌, None, length, vec_len};
     ghost use Rattle.std.specs.Arc.{arc_value};
     ghost use Rattle.rx_workers.specs.SessionDesks.{no_queue};
@@ -78,7 +79,7 @@ impl<M: Moments + Drop, C: Read + Drop, W: Write + Drop, P: Readiness<C> + Drop>
         moments: Arc<Mutex<M>, Heap>,
         desk: CallDesk<LineSink<W>>,
         inbox: Inbox<(C, W)>,
-        readiness: P,
+        readiness: Idle<C, P>,
     ) -> Worker<M, C, W, P>
         requires { length desk.ports + length desk.ended ≡ vec_len (arc_value config).subjects }
         ensures { result ≡ worker (record { subjects = (arc_value config).subjects.items; window = (arc_value config).window; moments = tt; calls = desk; joined = None; queue = no_queue }) inbox }
@@ -105,8 +106,9 @@ impl<M: Moments + Drop, C: Read + Drop, W: Write + Drop, P: Readiness<C> + Drop>
             moments,
             desk,
             inbox,
-            mut readiness,
+            readiness,
         } = self;
+        let mut readiness = readiness.into_readiness();
         let shared = SharedMoments::new(rt, &moments);
         let session = SessionDesk::new(rt, &heap, desk, &config, shared);
         let mut shift = Shift::new(&heap, own, session, inbox);

@@ -7,6 +7,8 @@ loop-subject-init g c = keeps-none c.args.caller.now.desk
 pub loop-subject-preserved : goal.loop-subject-preserved
 loop-subject-preserved g c =
     let before = c.loop-subject.caller.desk in
-    let posted = c.post_some.new.caller.desk in
+    let posted = c.post_some-posted.new.caller.desk in
     let heard = c.hear_some.new.caller.desk in
-    keeps-then c.args.caller.now.desk before heard c.loop-subject.invariant (keeps-then before posted heard c.post_some.ensures c.hear_some.ensures)
+    let rest = c.emit_rest.new.caller.desk in
+    keeps-then c.args.caller.now.desk before rest c.loop-subject.invariant
+    (keeps-then before posted rest c.post_some-posted.ensures (keeps-then posted heard rest c.hear_some.ensures c.emit_rest.ensures))

@@ -16,9 +16,10 @@ returns-in_default g c =
     let received : Receives g.M.Moments.tells g.C.Read.remaining g.W.Write.contents (Body c.in-Body.connection) before after =
     record { from = c.in-Ok.letter.from; of_box = c.in-Ok.ensures.port; inbox = inbox; session = refl } in
     rw (← c.self.view_is) (record {
-      goes = Goes-one g.M.Moments.tells g.C.Read.remaining g.W.Write.contents (GivenUp c.in-Body.connection) before after (received, c.in_default.ensures, refl, refl);
+      goes = Goes-one g.M.Moments.tells g.C.Read.remaining g.W.Write.contents (GivenUp c.in-Body.connection) before after (received, c.in_default.ensures.admits, refl, refl);
       came = λ _. (c.in-Body.connection, received);
       none = λ no. cc;
+      watched = c.in_default.ensures.watched;
     })
 
 -- it has a place
@@ -32,9 +33,10 @@ returns-in-Some g c =
     rw (← c.self.view_is) (record {
       goes =
           Goes-one g.M.Moments.tells g.C.Read.remaining g.W.Write.contents (Admitted c.in-Body.connection c.in-Some.field-0) before after
-          (received, c.in-Some.ensures, c.saturating_add-self-inside.ensures, refl);
+          (received, c.in-Some.ensures.admits, c.saturating_add-self-inside.ensures, refl);
       came = λ _. (c.in-Body.connection, received);
       none = λ no. cc;
+      watched = c.in-Some.ensures.watched;
     })
 
 -- the Bye came

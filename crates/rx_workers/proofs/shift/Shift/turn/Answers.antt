@@ -1,10 +1,17 @@
 -- A turn is one deed.
-use Rattle.std.proofs.Common.{Some, None, refl}
+use Rattle.std.proofs.Common.{Some, None, ap, refl}
 use Rattle.rx_workers.specs.Working.{State, HasTurn, state}
 use Rattle.rx_workers.specs.declared.client.Client.TheVariants.{Talks}
 use Rattle.rx_workers.proofs.Places.{Sets-then, is_talk}
+use Rattle.rx_workers.proofs.Watching.{watched-set, watched-there}
 use Rattle.rx_workers.proofs.Working.{HasTurns-none, HasTurns-one}
 use Rattle.rx_workers.proofs.shift.Shift.turn.Goals as goal
+
+-- its connection is watched for what it waits for
+pub leave-goes_on-requires : goal.leave-goes_on-requires
+leave-goes_on-requires g c =
+    let clients_are = ap (λ (s : State _ _ _). s.clients) c.self.view_is in
+    watched-there c.args.place (g.P.Readiness.watched c.args.readiness.now) c.self.inside.clients c.take_talk.new.self (Some (Talks c.in-Some.talk)) None (rw clients_are c.requires) c.in-Some.ensures.taken
 
 pub returns : goal.returns
 returns g c =
@@ -19,6 +26,7 @@ returns g c =
       left = c.leave-goes_on.result.1;
       turn = rw (← c.deref_mut.ensures.value) (record { sits = c.turn-turned.ensures.sits; quits = c.turn-turned.ensures.quits });
       leaves = rw (← c.joined-joined.ensures) c.leave-goes_on.ensures.leaves;
+      aimed = c.leave-goes_on.ensures.aimed;
       sets = Sets-then c.args.place c.self.inside.clients c.take_talk.new.self c.put.new.self (Some (Talks c.in-Some.talk)) None c.leave-goes_on.result.1 c.in-Some.ensures.taken c.put.ensures;
       inbox = refl;
       sessions = refl;
@@ -29,6 +37,10 @@ returns g c =
       turned = λ _. (had, c.leave-goes_on.ensures.goes_on);
       idle = λ none. absurd (none talks);
       kept = λ none. absurd (none talks);
+      watched =
+          let clients_are = ap (λ (s : State _ _ _). s.clients) c.self.view_is in
+          watched-set c.args.place (g.P.Readiness.watched c.args.readiness.now) (g.P.Readiness.watched c.leave-goes_on.new.readiness) c.self.inside.clients c.put.new.self
+          (Some (Talks c.in-Some.talk)) c.leave-goes_on.result.1 (rw clients_are c.requires) c.leave-goes_on.ensures.watched had.sets;
     })
 
 pub returns-in_default-clause-turns : goal.returns-in_default-clause-turns

@@ -1,7 +1,14 @@
 use Rattle.std.proofs.Common.{◌∙◌, ap, rules}
 use Rattle.rx_workers.specs.Telling.{IsTold}
+use Rattle.rx_workers.specs.Working.{State}
+use Rattle.rx_workers.proofs.Watching.{watched-none}
 use Rattle.rx_workers.proofs.Working.{worker-ended}
 use Rattle.rx_workers.proofs.worker.Worker.serve.Goals as goal
+
+-- nothing is watched, and nobody is served
+pub serve_all-requires : goal.serve_all-requires
+serve_all-requires g c =
+    watched-none (g.P.Readiness.watched c.into_readiness-readiness.result) c.new-shift.result.clients c.into_readiness-readiness.ensures.idle (ap (λ (s : State _ _ _). s.clients) c.new-shift.ensures)
 
 -- what it left is the desk of its sessions and its inbox
 pub returns : goal.returns
