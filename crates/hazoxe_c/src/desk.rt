@@ -1,4 +1,4 @@
-ghost use Rattle.std.specs.Prelude.{◌≡◌, OnErr};
+ghost use Rattle.std.specs.Prelude.{◌≡◌, ◌==◌, ◌^◌, if◌then◌else◌, min, MatchResult, None, OnErr, Some};
 ghost use Rattle.hazoxe_c.specs.Desks.{IsTextOf};
 ghost use Rattle.rx_note.specs.declared.note.Note.TheVariants.{Completed, Failed};
 ghost use Rattle.rx_note.specs.declared.event.Event.TheVariants.{Emit, Request, Dispose};
@@ -212,7 +212,7 @@ impl Desk {
 
 // All memory of `alloc`, or no more than so many bytes of it.
 fn heap_of(alloc: Global, budget: u64) -> Result<Heap, Fault>
-    ensures { OnErr result (result ≡ Err (Fault.Refused Refusal.Memory)) }
+    ensures { MatchResult result (λ heap. heap.limit ≡ (if budget == 0 then None else Some (min budget (2 ^ 48)))) (λ fault. fault ≡ Fault.Refused Refusal.Memory) }
 {
     if budget == 0 {
         return Ok(Heap::unlimited(alloc));

@@ -1,3 +1,5 @@
+ghost use Rattle.std.specs.Prelude.{◌≡◌, ◌^◌, min, Some};
+
 use rx_heap::{Heap, Memory};
 use std::alloc::Global;
 use std::fmt;
@@ -9,6 +11,7 @@ use std::marker::Model;
 pub struct Budget {
     bytes: u64,
     heap: Heap,
+    ghost bounded: { heap.limit ≡ Some (min bytes (2 ^ 48)) },
 }
 
 impl Model for Budget {
@@ -20,7 +23,7 @@ impl Model for Budget {
 }
 
 impl Budget {
-    ghost use Rattle.std.specs.Prelude.{◌≡◌, IfOk};
+    ghost use Rattle.std.specs.Prelude.{IfOk};
 
     /// A budget of so many bytes of the runtime's memory, of which nothing is taken yet. No more than 2^48 are ever taken.
     ///
@@ -42,7 +45,9 @@ impl Budget {
     }
 
     /// The heap that gives no more than these.
-    pub fn heap(&self) -> &Heap {
+    pub fn heap(&self) -> &Heap
+        ensures { result.now.limit ≡ Some (min self.now (2 ^ 48)) }
+    {
         &self.heap
     }
 }

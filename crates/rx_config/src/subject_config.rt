@@ -1,4 +1,4 @@
-ghost use Rattle.std.specs.Prelude.{◌≡◌, Ok, true};
+ghost use Rattle.std.specs.Prelude.{◌≡◌, ◌^◌, min, MatchOption, Ok, Some, true};
 ghost use Rattle.rx_hub.specs.Hubs.{are_in_range};
 ghost use Rattle.rx_note.specs.Kinds.{kind_checked};
 
@@ -21,7 +21,9 @@ pub struct SubjectConfig {
 
 impl SubjectConfig {
     /// What its hub and its texts are made over: the heap of its budget, or the one that is shared by those without.
-    pub fn memory<'a>(&'a self, shared: &'a Heap) -> &'a Heap {
+    pub fn memory<'a>(&'a self, shared: &'a Heap) -> &'a Heap
+        ensures { MatchOption self.now.budget (result.now ≡ shared.now) (λ bytes. result.now.limit ≡ Some (min bytes (2 ^ 48))) }
+    {
         match &self.budget {
             Some(budget) => budget.heap(),
             None => shared,

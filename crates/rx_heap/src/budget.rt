@@ -1,3 +1,5 @@
+ghost use Rattle.std.specs.Prelude.{◌≡◌, ◌^◌, min};
+
 use std::sync::atomic::{AtomicU64, Ordering};
 
 /// What the clones of one handle have taken together, and what they may take.
@@ -14,7 +16,9 @@ const MAX_BYTES: u64 = 1 << 48;
 
 impl Budget {
     /// A budget of `bytes` bytes.
-    pub(crate) fn of_bytes(bytes: u64) -> Budget {
+    pub(crate) fn of_bytes(bytes: u64) -> Budget
+        ensures { result.most ≡ min bytes (2 ^ 48) }
+    {
         Budget::new(bytes.min(MAX_BYTES), None)
     }
 
@@ -23,7 +27,9 @@ impl Budget {
         Budget::new(MAX_BYTES, Some(growth))
     }
 
-    fn new(most: u64, refused: Option<u64>) -> Budget {
+    fn new(most: u64, refused: Option<u64>) -> Budget
+        ensures { result.most ≡ most }
+    {
         Budget {
             most,
             refused,

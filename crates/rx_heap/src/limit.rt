@@ -1,3 +1,5 @@
+ghost use Rattle.std.specs.Prelude.{◌≡◌, IfOk, None, Some};
+
 use crate::budget::Budget;
 use crate::refused::Memory;
 use std::alloc::Global;
@@ -11,11 +13,16 @@ pub(crate) struct Limit {
     budget: Option<Arc<Budget, Global>>,
 }
 
-// No clause can tell what a budget allows, so a proof sees one and the same value in every limit.
+// Contracts see the most bytes that it gives at a time, where there is a bound: not what is taken, which other threads change.
 impl Model for Limit {
-    ghost Value = { Unit {0} };
+    ghost use Rattle.std.specs.Prelude.{ℕ, Option};
+    ghost use Rattle.std.specs.Arc.{arc_value};
+    ghost use Rattle.std.specs.Option.{option_map};
+    ghost use Rattle.rx_heap.specs.declared.budget.Budget.{Budget};
 
-    ghost view = { λ _. tt };
+    ghost Value = { Option ℕ };
+
+    ghost view = { λ limit. option_map (λ shared. (arc_value {X = Budget} shared).most) limit.budget };
 }
 
 // A budget stays until the program ends: a handle is let go with each text and each collection, where it is to cost nothing
@@ -30,7 +37,9 @@ impl Drop for Limit {
 
 impl Limit {
     /// No limit. It allocates nothing.
-    pub(crate) fn none() -> Limit {
+    pub(crate) fn none() -> Limit
+        ensures { result ≡ None }
+    {
         Limit { budget: None }
     }
 
@@ -39,7 +48,9 @@ impl Limit {
     /// # Errors
     ///
     /// `Memory`: there was none for the budget itself.
-    pub(crate) fn of(alloc: Global, budget: Budget) -> Result<Limit, Memory> {
+    pub(crate) fn of(alloc: Global, budget: Budget) -> Result<Limit, Memory>
+        ensures { IfOk result (λ limit. limit ≡ Some budget.most) }
+    {
         let shared = Arc::new(alloc, budget)?;
         Ok(Limit {
             budget: Some(shared),

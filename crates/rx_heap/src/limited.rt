@@ -1,3 +1,5 @@
+ghost use Rattle.std.specs.Prelude.{◌≡◌, ◌^◌, min, IfOk, None, Some};
+
 use crate::budget::Budget;
 use crate::limit::Limit;
 use crate::refused::Memory;
@@ -25,7 +27,9 @@ impl<B: Allocator + Drop> Drop for Limited<B> {
 
 impl Limited<Global> {
     /// All memory of `alloc`: it refuses only what `alloc` does, and counts nothing. Making it takes no memory.
-    pub fn unlimited(alloc: Global) -> Limited<Global> {
+    pub fn unlimited(alloc: Global) -> Limited<Global>
+        ensures { result.limit ≡ None }
+    {
         Limited {
             inner: alloc,
             limit: Limit::none(),
@@ -41,7 +45,9 @@ impl Limited<Global> {
     /// # Errors
     ///
     /// `Memory`: there was none for the count itself, which is not charged to the budget.
-    pub fn with_budget(alloc: Global, bytes: u64) -> Result<Limited<Global>, Memory> {
+    pub fn with_budget(alloc: Global, bytes: u64) -> Result<Limited<Global>, Memory>
+        ensures { IfOk result (λ heap. heap.limit ≡ Some (min bytes (2 ^ 48))) }
+    {
         Limited::under(alloc, Budget::of_bytes(bytes))
     }
 
@@ -55,7 +61,9 @@ impl Limited<Global> {
         Limited::under(alloc, Budget::refusing(growth))
     }
 
-    fn under(alloc: Global, budget: Budget) -> Result<Limited<Global>, Memory> {
+    fn under(alloc: Global, budget: Budget) -> Result<Limited<Global>, Memory>
+        ensures { IfOk result (λ heap. heap.limit ≡ Some budget.most) }
+    {
         let limit = Limit::of(alloc, budget)?;
         Ok(Limited {
             inner: alloc,
