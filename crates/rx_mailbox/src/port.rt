@@ -1,6 +1,6 @@
-ghost use Rattle.std.specs.Prelude.{◌≡◌, [], true, IfSome, MatchResult};
+ghost use Rattle.std.specs.Prelude.{◌≡◌, ◌<◌, ◌↔◌, [], true, length, IfErr, IfSome, IsTrue, MatchResult};
 ghost use Rattle.rx_mailbox.specs.declared.letter.Post.TheVariants.{Body, Bye};
-ghost use Rattle.rx_mailbox.specs.Boxes.{with_bodies, with_post};
+ghost use Rattle.rx_mailbox.specs.Boxes.{told, with_bodies, with_held, with_post};
 
 use crate::batch::Batch;
 use crate::ended_port::EndedPort;
@@ -13,8 +13,8 @@ use std::marker::Model;
 use std::mem;
 use std::sync::Wait;
 
-/// One sender of a box. Contracts see its number and its own list, the letters that it put, in their order, with those that it
-/// holds back so that several go into the box at once.
+/// One sender of a box. Contracts see its number and its own list, the letters that it put, in their order, and how many of the
+/// last of them it holds back, so that several go into the box at once.
 pub struct Port<B: Drop> {
     pub(crate) outlet: Outlet<B>,
     pub(crate) lists: SharedLists<B>,
@@ -42,12 +42,12 @@ impl<B: Drop> Drop for Port<B> {
 }
 
 impl<B: Drop> Model for Port<B> {
-    ghost use Rattle.std.specs.Prelude.{⊤};
+    ghost use Rattle.std.specs.Prelude.{⊤, length};
     ghost use Rattle.rx_mailbox.specs.Boxes.{Outgoing, with_bodies};
 
     ghost Value = { Outgoing B };
 
-    ghost view = { λ p. with_bodies p.held.items p.outlet };
+    ghost view = { λ p. record (with_bodies p.held.items p.outlet) { held = length p.held.items } };
 
     ghost invariant = { λ p. ⊤ };
 }
@@ -60,12 +60,13 @@ impl<B: Drop> Port<B> {
         self.outlet.number()
     }
 
-    /// Puts a letter with this body at the back of the box, and waits while the box is full. `Err` hands the body back
-    /// where the inbox is gone, and nothing changed.
+    /// Puts a letter with this body at the back of the box, behind all that it held back, and waits while the box is full. `Err`
+    /// hands the body back where the inbox is gone, and nothing changed, but that less may be held back.
     pub fn send<R: Wait>(&mut self, rt: &R, body: B) -> Result<(), B>
-        ensures { MatchResult result
+        ensures sent { MatchResult result
             (λ _. self.new ≡ with_post self.old (Body body))
-            (λ back. (back ≡ body) × (self.new ≡ self.old)) }
+            (λ back. (back ≡ body) × (told self.new ≡ told self.old)) }
+        ensures still { IfErr result (λ _. self.old.held ≡ 0 → self.new ≡ self.old) }
     {
         if !self.held.is_empty()
             && !put_held(
@@ -90,8 +91,8 @@ impl<B: Drop> Port<B> {
     /// and before the end of this port. A port that is let go without an end keeps it for itself.
     pub fn send_quietly<R: Wait>(&mut self, rt: &R, body: B) -> Result<(), B>
         ensures { MatchResult result
-            (λ _. self.new ≡ with_post self.old (Body body))
-            (λ back. (back ≡ body) × (self.new ≡ self.old)) }
+            (λ _. told self.new ≡ with_post self.old (Body body))
+            (λ back. (back ≡ body) × (told self.new ≡ told self.old)) }
     {
         if self.is_inbox_gone() {
             return Err(body);
@@ -107,8 +108,8 @@ impl<B: Drop> Port<B> {
     #[inline(never)] // once for each batch
     fn send_on<R: Wait>(&mut self, rt: &R, body: B) -> Result<(), B>
         ensures { MatchResult result
-            (λ _. self.new ≡ with_post self.old (Body body))
-            (λ back. (back ≡ body) × (self.new ≡ self.old)) }
+            (λ _. told self.new ≡ with_post self.old (Body body))
+            (λ back. (back ≡ body) × (told self.new ≡ told self.old)) }
     {
         if !put_held(
             rt,
@@ -123,11 +124,7 @@ impl<B: Drop> Port<B> {
         // Who never rests rings seldom.
         self.owes_ring = false;
         self.outlet.ring();
-        if self.held.capacity() == 0
-            && let Some(list) = self.lists.take(rt)
-        {
-            self.held = list;
-        }
+        self.take_list(rt);
         if self.held.len() < self.held.capacity() {
             self.held.push_back_reserved(body);
             return Ok(());
@@ -142,8 +139,8 @@ impl<B: Drop> Port<B> {
     /// last of it goes by `try_ring`.
     pub fn hold<R: Wait>(&mut self, rt: &R, body: B) -> Result<(), B>
         ensures { MatchResult result
-            (λ _. self.new ≡ with_post self.old (Body body))
-            (λ back. (back ≡ body) × (self.new ≡ self.old)) }
+            (λ _. told self.new ≡ with_post self.old (Body body))
+            (λ back. (back ≡ body) × (told self.new ≡ told self.old)) }
     {
         if self.is_inbox_gone() {
             return Err(body);
@@ -159,8 +156,8 @@ impl<B: Drop> Port<B> {
     #[inline(never)] // once for each list
     fn hold_on<R: Wait>(&mut self, rt: &R, body: B) -> Result<(), B>
         ensures { MatchResult result
-            (λ _. self.new ≡ with_post self.old (Body body))
-            (λ back. (back ≡ body) × (self.new ≡ self.old)) }
+            (λ _. told self.new ≡ with_post self.old (Body body))
+            (λ back. (back ≡ body) × (told self.new ≡ told self.old)) }
     {
         if self.held.len() >= MOST_TOGETHER
             || self.held.len() >= LENGTH && self.outlet.is_inbox_awake()
@@ -168,45 +165,63 @@ impl<B: Drop> Port<B> {
             self.owes_ring = true;
             let _is_put = self.try_put_held(rt);
         }
-        if self.held.is_empty()
-            && self.held.capacity() == 0
-            && let Some(list) = self.lists.take(rt)
-        {
-            self.held = list;
-        }
+        self.take_list(rt);
         match self.held.push_back(body) {
             Ok(()) => Ok(()),
             Err(failed) => self.send_on(rt, failed.value),
         }
     }
 
-    /// Whether the next body that is sent quietly is held back, and goes with all that is held back already in one batch. Nothing
-    /// is put or waited for; a port that can't hold bodies yet is made able to, where its box has lists left.
-    pub fn may_hold<R: Wait>(&mut self, rt: &R) -> bool
+    /// Holds the body back, so that it goes with all that is held back already in one batch. Nothing is put or waited for. `Err`
+    /// hands it back, and nothing changed: where the inbox is gone, or where it would have to go alone. A port that can't hold
+    /// bodies yet is made able to, where its box has lists left.
+    pub fn hold_back<R: Wait>(&mut self, rt: &R, body: B) -> Result<(), B>
+        ensures { MatchResult result
+            (λ _. self.new ≡ with_held self.old body)
+            (λ back. (back ≡ body) × (self.new ≡ self.old)) }
+    {
+        if self.is_inbox_gone() || !self.has_spare(rt) {
+            return Err(body);
+        }
+        self.take_list(rt);
+        if self.held.len() >= self.held.capacity() {
+            return Err(body);
+        }
+        self.held.push_back_reserved(body);
+        Ok(())
+    }
+
+    // Whether there is a list that takes the place of what is held back when it goes.
+    fn has_spare<R: Wait>(&mut self, rt: &R) -> bool
         ensures { self.new ≡ self.old }
     {
         if self.spare.is_none() {
             self.spare = self.lists.take(rt);
         }
-        if self.spare.is_none() {
-            return false;
-        }
+        self.spare.is_some()
+    }
+
+    // Takes a list of the box's for what is to be held back, where it has none yet and there is one.
+    fn take_list<R: Wait>(&mut self, rt: &R)
+        ensures { self.new ≡ self.old }
+    {
         if self.held.is_empty()
             && self.held.capacity() == 0
             && let Some(list) = self.lists.take(rt)
         {
             self.held = list;
         }
-        self.held.len() < self.held.capacity()
     }
 
     /// Puts what is held back into the box, and waits while the box is full. Then it wakes the inbox, if it sleeps. Nothing is
-    /// done where nothing was sent quietly since it was last done. Where the inbox is gone what is held back stays so.
-    pub fn ring<R: Wait>(&mut self, rt: &R)
-        ensures { self.new ≡ self.old }
+    /// done where nothing was sent quietly since it was last done. It answers whether nothing is held back any more: where the inbox
+    /// is gone something stays so.
+    pub fn ring<R: Wait>(&mut self, rt: &R) -> bool
+        ensures same { told self.new ≡ told self.old }
+        ensures went { IsTrue result ↔ self.new.held ≡ 0 }
     {
         if self.held.is_empty() && !self.owes_ring {
-            return;
+            return true;
         }
         let _is_there = put_held(
             rt,
@@ -218,28 +233,30 @@ impl<B: Drop> Port<B> {
         );
         self.owes_ring = false;
         self.outlet.ring();
+        self.held.is_empty()
     }
 
-    /// As `ring`, but waits for no room. It answers whether something is still held back, which can go once there is room.
+    /// As `ring`, but waits for no room. It answers whether something is still held back.
     pub fn try_ring<R: Wait>(&mut self, rt: &R) -> bool
-        ensures { self.new ≡ self.old }
+        ensures same { told self.new ≡ told self.old }
+        ensures held { IsTrue result ↔ 0 < self.new.held }
     {
         if self.held.is_empty() && !self.owes_ring {
             return false;
         }
-        let mut is_put = self.try_put_held(rt);
+        let is_put = self.try_put_held(rt);
         // Nobody else makes room where the inbox was let go.
         if !is_put && self.leavings.discard(rt) {
-            is_put = self.try_put_held(rt);
+            let _is_put = self.try_put_held(rt);
         }
         self.owes_ring = false;
         self.outlet.ring();
-        !is_put && !self.is_inbox_gone()
+        self.holds_back()
     }
 
     // Puts what is held back where there is room for it, and answers whether nothing is any more.
     fn try_put_held<R: Wait>(&mut self, rt: &R) -> bool
-        ensures { self.new ≡ self.old }
+        ensures { told self.new ≡ told self.old }
     {
         try_put_held(
             rt,
@@ -256,7 +273,9 @@ impl<B: Drop> Port<B> {
     }
 
     /// Whether it holds something back.
-    pub fn holds_back(&self) -> bool {
+    pub fn holds_back(&self) -> bool
+        ensures { IsTrue result ↔ 0 < self.now.held }
+    {
         !self.held.is_empty()
     }
 
@@ -279,10 +298,10 @@ impl<B: Drop> Port<B> {
         leavings.leave_outlet(outlet);
     }
 
-    /// Puts Bye at the back of the box, after which this port sends nothing, and waits while the box is full. `Err`
-    /// hands the port back where the inbox is gone, and nothing changed.
+    /// Puts Bye at the back of the box, behind all that it held back, after which this port sends nothing, and waits while the box
+    /// is full. `Err` hands the port back where the inbox is gone, and nothing changed, but that less may be held back.
     pub fn finish<R: Wait>(self, rt: &R) -> Result<EndedPort<B>, Port<B>>
-        ensures { MatchResult result (λ ended. ended ≡ with_post self Bye) (λ back. back ≡ self) }
+        ensures { MatchResult result (λ ended. ended ≡ with_post self Bye) (λ back. told back ≡ told self) }
     {
         let Port {
             mut outlet,

@@ -15,7 +15,7 @@ use Rattle.rx_mailbox.specs.declared.letter.Letter.{Letter}
 use Rattle.rx_mailbox.specs.declared.letter.Post.{Post}
 use Rattle.rx_mailbox.specs.declared.letter.Post.TheVariants.{Body, Bye}
 use Rattle.rx_mailbox.specs.Letters.{letter, share, posts}
-use Rattle.rx_mailbox.specs.Boxes.{Outgoing, Incoming, with_letter, with_bodies}
+use Rattle.rx_mailbox.specs.Boxes.{Outgoing, Incoming, with_letter, with_more}
 use Rattle.rx_pump.specs.declared.call.Call.{Call}
 use Rattle.rx_pump.specs.declared.reply.Reply.{Reply}
 use Rattle.rx_pump.specs.Marks.{Marked, NoLetters, Made, Refused, Ended, letters_of, history_of, replies, reply_to, to_port}
@@ -213,10 +213,10 @@ module _ {S : Type 0} where
 
   -- the call stands among what its port put
   call_put : (before after : DeskView S) (subject : ℕ) (call : Call S) (port : Outgoing (Call S))
-      → slice_get after.ports subject ≡ option_map (with_bodies (to_port subject subject call)) (slice_get before.ports subject) → slice_get after.ports subject ≡ Some port
+      → slice_get after.ports subject ≡ option_map (with_more (to_port subject subject call)) (slice_get before.ports subject) → slice_get after.ports subject ≡ Some port
       → Contains port.own (letter port.number (Body call))
   call_put before after subject call port put at =
-      let old = option_map_some (with_bodies (to_port subject subject call)) (slice_get before.ports subject) port (sym put ∙ at) in
+      let old = option_map_some (with_more (to_port subject subject call)) (slice_get before.ports subject) port (sym put ∙ at) in
       let number : old.0.number ≡ port.number = ap (λ (p : Outgoing (Call S)). p.number) old.2 in
       let own : old.0.own ++ letter port.number (Body call) ∷ [] ≡ port.own =
       ap (λ n. old.0.own ++ letter n (Body call) ∷ []) (sym number)

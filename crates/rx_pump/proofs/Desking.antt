@@ -9,7 +9,7 @@ use Rattle.rx_mailbox.specs.declared.letter.Letter.{Letter}
 use Rattle.rx_mailbox.specs.declared.letter.Post.{Post}
 use Rattle.rx_mailbox.specs.declared.letter.Post.TheVariants.{Body, Bye}
 use Rattle.rx_mailbox.specs.Letters.{letter, posts}
-use Rattle.rx_mailbox.specs.Boxes.{Outgoing, Incoming, with_bodies}
+use Rattle.rx_mailbox.specs.Boxes.{Outgoing, Incoming, with_more}
 use Rattle.rx_pump.specs.declared.call.Call.{Call}
 use Rattle.rx_pump.specs.declared.call_error.CallError.{CallError}
 use Rattle.rx_pump.specs.declared.call_error.CallError.TheVariants.{SubjectGone, Strange}
@@ -63,8 +63,8 @@ module _ {S : Type 0} where
       let count : length after ≡ length before = put.count in
       let inside : k < length before = omega (arith, count, within) in
       let old = get_or before k d in
-      let at : slice_get after k ≡ Some (with_bodies (to_port subject k call) old) = put.at k ∙ ap (option_map (with_bodies (to_port subject k call))) (slice_get-get_or before k d inside) in
-      let now : get_or after k d ≡ with_bodies (to_port subject k call) old = get_or_from_slice_get after k _ d at in
+      let at : slice_get after k ≡ Some (with_more (to_port subject k call) old) = put.at k ∙ ap (option_map (with_more (to_port subject k call))) (slice_get-get_or before k d inside) in
+      let now : get_or after k d ≡ with_more (to_port subject k call) old = get_or_from_slice_get after k _ d at in
       let own : (get_or after k d).own ≡ old.own ++ posts old.number (to_port subject k call) = ap (λ (p : Outgoing (Call S)). p.own) now in
       let fits : call.ticket ≤ ticket + 1 = omega (arith, next) in
       All-same P _ _ own
@@ -102,18 +102,18 @@ module _ {S : Type 0} where
       let count : length after ≡ length before = put.count in
       let inside : k < length before = omega (arith, count, within) in
       let old = get_or before k d in
-      let at : slice_get after k ≡ Some (with_bodies (to_port subject k call) old) = put.at k ∙ ap (option_map (with_bodies (to_port subject k call))) (slice_get-get_or before k d inside) in
-      let now : get_or after k d ≡ with_bodies (to_port subject k call) old = get_or_from_slice_get after k _ d at in
+      let at : slice_get after k ≡ Some (with_more (to_port subject k call) old) = put.at k ∙ ap (option_map (with_more (to_port subject k call))) (slice_get-get_or before k d inside) in
+      let now : get_or after k d ≡ with_more (to_port subject k call) old = get_or_from_slice_get after k _ d at in
       subst (λ (p : Outgoing (Call S)). Rise (tickets_in p.own)) (sym now) (Rise-post ticket old.number subject k call old.own next (up k d inside) (rise k d inside))
 
   -- new ports put nothing, so none has a ticket
   pub AreUpTo-fresh : (ports : List (Outgoing (Call S))) → All IsFresh ports → AreUpTo 0 ports
   AreUpTo-fresh ports fresh = All-weaker IsFresh (λ (port : Outgoing (Call S)). All (λ x. IsUpTo 0 x.post) port.own)
-      (λ port none. subst (λ l. All (λ (x : Letter (Call S)). IsUpTo 0 x.post) l) (sym none) (All-nil (λ (x : Letter (Call S)). IsUpTo 0 x.post))) ports fresh
+      (λ port none. subst (λ l. All (λ (x : Letter (Call S)). IsUpTo 0 x.post) l) (sym none.0) (All-nil (λ (x : Letter (Call S)). IsUpTo 0 x.post))) ports fresh
 
   pub TicketsRise-fresh : (ports : List (Outgoing (Call S))) → All IsFresh ports → TicketsRise ports
   TicketsRise-fresh ports fresh = All-weaker IsFresh (λ (port : Outgoing (Call S)). Rise (tickets_in port.own))
-      (λ port none. subst (λ (l : List (Letter (Call S))). Rise (tickets_in l)) (sym none) (λ i j d before within. absurd (omega arith))) ports fresh
+      (λ port none. subst (λ (l : List (Letter (Call S))). Rise (tickets_in l)) (sym none.0) (λ i j d before within. absurd (omega arith))) ports fresh
 
   -- a Bye has no ticket
   pub TicketsRise-byes : (ports : List (Outgoing (Call S))) → TicketsRise ports → TicketsRise (map with_bye ports)

@@ -1,8 +1,9 @@
 -- Ports are ended one after another, from a list that has them from the last to the first.
 use Rattle.std.proofs.Common.{◌≡◌, ◌∙◌, sym, refl, ap, List, [], ◌∷◌, ◌++◌, append_assoc, append-nil, length, map, reverse, arith}
 use Rattle.std.proofs.lemmas.List.{map-append, reverse-append, reverse-reverse}
-use Rattle.rx_mailbox.specs.Boxes.{Outgoing}
+use Rattle.rx_mailbox.specs.Boxes.{Outgoing, told, all_told}
 use Rattle.rx_pump.specs.Sends.{with_bye, EndsSome}
+use Rattle.rx_pump.proofs.Told.{told-byes}
 
 module _ {X : Type 0} where
   -- of all ports those before the ones that are left have ended, behind others
@@ -30,22 +31,22 @@ module _ {X : Type 0} where
   }
 
   -- all have ended
-  pub Ended-all : (all start left before now : List (Outgoing X)) → start ≡ reverse all → left ≡ [] → Ended (reverse start) left before now → now ≡ before ++ map with_bye all
+  pub Ended-all : (all start left before now : List (Outgoing X)) → start ≡ reverse all → left ≡ [] → Ended (reverse start) left before now → now ≡ before ++ map with_bye (all_told all)
   Ended-all all start left before now turned none e =
       let done : e.done ≡ all = sym (append-nil e.done) ∙ ap (λ l. e.done ++ reverse l) (sym none) ∙ e.parts ∙ ap reverse turned ∙ reverse-reverse all in
-      e.ended ∙ ap (λ l. before ++ map with_bye l) done
+      e.ended ∙ ap (λ l. before ++ map with_bye l) done ∙ ap (λ l. before ++ l) (sym (told-byes all))
 
-  -- the next one came back
+  -- the next one came back, and may hold less back
   pub Ended-stop : (all start old left back turned_back before now : List (Outgoing X)) (port same : Outgoing X)
-      → start ≡ reverse all → old ≡ left ++ port ∷ [] → same ≡ port → back ≡ left ++ same ∷ [] → turned_back ≡ reverse back
-      → Ended (reverse start) old before now → EndsSome all turned_back before now
+      → start ≡ reverse all → old ≡ left ++ port ∷ [] → told same ≡ told port → back ≡ left ++ same ∷ [] → turned_back ≡ reverse back
+      → Ended (reverse start) old before now → EndsSome (all_told all) (all_told turned_back) before now
   Ended-stop all start old left back turned_back before now port same turned popped same_is pushed again e =
-      let old_is : turned_back ≡ reverse old = again ∙ ap reverse (pushed ∙ ap (λ (p : Outgoing X). left ++ p ∷ []) same_is ∙ sym popped) in
+      let back_is : turned_back ≡ same ∷ reverse left = again ∙ ap reverse pushed ∙ reverse-append left (same ∷ []) in
+      let old_is : reverse old ≡ port ∷ reverse left = ap reverse popped ∙ reverse-append left (port ∷ []) in
+      let alike : all_told turned_back ≡ all_told (reverse old) = ap all_told back_is ∙ ap (λ (p : Outgoing X). p ∷ all_told (reverse left)) same_is ∙ sym (ap all_told old_is) in
       record {
-        done = e.done;
-        parts = ap (λ l. e.done ++ l) old_is ∙ e.parts ∙ ap reverse turned ∙ reverse-reverse all;
-        ended = e.ended;
-        some =
-            let shown : turned_back ≡ port ∷ reverse left = old_is ∙ ap reverse popped ∙ reverse-append left (port ∷ []) in
-            omega (arith, ap length shown);
+        done = all_told e.done;
+        parts = ap (λ l. all_told e.done ++ l) alike ∙ sym (map-append told e.done (reverse old)) ∙ ap all_told (e.parts ∙ ap reverse turned ∙ reverse-reverse all);
+        ended = e.ended ∙ ap (λ l. before ++ l) (sym (told-byes e.done));
+        some = omega (arith, ap (λ l. length (all_told l)) back_is);
       }

@@ -1,10 +1,10 @@
 -- What a pump leaves: ports that have ended, and ports that are left.
-use Rattle.std.proofs.Common.{◌≡◌, ◌∙◌, sym, refl, ap, subst, ℕ, ◌+◌, zero-add, ◌⊎◌, List, [], ◌∷◌, ◌++◌, append-nil, length, map, Option, Some, None, slice_get, inl, inr}
+use Rattle.std.proofs.Common.{◌≡◌, ◌∙◌, sym, refl, ap, subst, ℕ, ◌+◌, zero-add, ◌⊎◌, List, [], ◌∷◌, ◌++◌, append-nil, length, map, Option, Some, None, slice_get, inl, inr, arith}
 use Rattle.std.proofs.lemmas.List.{map-append, length-map}
 use Rattle.std.proofs.lemmas.Option.{slice_get-map}
 use Rattle.rx_mailbox.specs.declared.letter.Post.TheVariants.{Bye}
 use Rattle.rx_mailbox.specs.Letters.{letter, posts}
-use Rattle.rx_mailbox.specs.Boxes.{Outgoing, Incoming, HasEachBye}
+use Rattle.rx_mailbox.specs.Boxes.{Outgoing, Incoming, all_told, HasEachBye}
 use Rattle.rx_note.specs.declared.rules.Rules.{Rules}
 use Rattle.rx_hub.specs.Hubs.{HubView}
 use Rattle.rx_pump.specs.declared.call.Call.{Call}
@@ -20,6 +20,7 @@ use Rattle.rx_pump.specs.Pumps.{PumpView, HavePut, HavePutUpTo, AreSame, port_pl
 use Rattle.rx_pump.specs.Serving.{HaveEnded, HaveEndedSome, HasPumped, StopsInTurn, IsNextToEnd, StopsAtEnd, PumpHasStopped}
 use Rattle.rx_pump.proofs.Placing.{slice_get-append_left, slice_get-append_right}
 use Rattle.rx_pump.proofs.Pumping.{HavePut-same, AreSame-length, option_map_some}
+use Rattle.rx_pump.proofs.Told.{told-length}
 use Rattle.rx_pump.proofs.Turning.{PutAll-whole}
 
 module _ {X : Type 0} where
@@ -98,7 +99,7 @@ module _ {S : Type 0} where
 
   -- a turn stopped, and no port has ended
   pub PumpHasStopped-turn : (pump : PumpView S) (stop : PumpStop S)
-      → stop.parts.hub ≡ pump.hub → stop.parts.inbox ≡ pump.inbox → stop.parts.drainers.items ≡ pump.drainers → stop.parts.replies.items ≡ pump.replies
+      → stop.parts.hub ≡ pump.hub → stop.parts.inbox ≡ pump.inbox → (all_told stop.parts.drainers.items) ≡ pump.drainers → (all_told stop.parts.replies.items) ≡ pump.replies
       → stop.ended_drainers.items ≡ [] → stop.ended_replies.items ≡ [] → pump.fault ≡ Some stop.fault → IsPumped pump → PumpHasStopped pump stop
   PumpHasStopped-turn pump stop hub inbox drainers callers no_drainers no_callers fault (B, p) = (
     B,
@@ -107,7 +108,7 @@ module _ {S : Type 0} where
       came = inl (record {
         no_drainers = no_drainers;
         no_callers = no_callers;
-        put = subst (λ (ports : List (Outgoing (Out S))). HavePutUpTo (Some stop.fault) pump.hub.state.rules B ports stop.parts.replies.items) (sym drainers)
+        put = subst (λ (ports : List (Outgoing (Out S))). HavePutUpTo (Some stop.fault) pump.hub.state.rules B ports (all_told stop.parts.replies.items)) (sym drainers)
             (subst (λ (ports : List (Outgoing (Reply S))). HavePutUpTo (Some stop.fault) pump.hub.state.rules B pump.drainers ports) (sym callers)
             (subst (λ (f : Option PumpFault). HavePutUpTo f pump.hub.state.rules B pump.drainers pump.replies) fault p.put));
         waited = λ gone whole. absurd (some_is_not_none pump.fault stop.fault fault whole);
@@ -115,15 +116,15 @@ module _ {S : Type 0} where
       rules = ap (λ (h : HubView). h.state.rules) hub;
       box = ap (λ (i : Incoming (Call S)). i.box) inbox;
       ports = ap (λ (i : Incoming (Call S)). i.ports) inbox;
-      drainers = AreSame-none pump.drainers stop.parts.drainers.items stop.ended_drainers.items drainers no_drainers;
-      callers = AreSame-none pump.replies stop.parts.replies.items stop.ended_replies.items callers no_callers;
+      drainers = AreSame-none pump.drainers (all_told stop.parts.drainers.items) stop.ended_drainers.items drainers no_drainers;
+      callers = AreSame-none pump.replies (all_told stop.parts.replies.items) stop.ended_replies.items callers no_callers;
     },
   )
 
   -- a drainer was gone when its port was to end
   pub PumpHasStopped-drainers : (pump : PumpView S) (stop : PumpStop S) (place : ℕ)
-      → stop.parts.hub ≡ pump.hub → stop.parts.inbox ≡ pump.inbox → EndsSome pump.drainers stop.parts.drainers.items [] stop.ended_drainers.items
-      → stop.parts.replies.items ≡ pump.replies → stop.ended_replies.items ≡ [] → stop.fault ≡ DrainerGone place → place ≡ length stop.ended_drainers.items
+      → stop.parts.hub ≡ pump.hub → stop.parts.inbox ≡ pump.inbox → EndsSome pump.drainers (all_told stop.parts.drainers.items) [] stop.ended_drainers.items
+      → (all_told stop.parts.replies.items) ≡ pump.replies → stop.ended_replies.items ≡ [] → stop.fault ≡ DrainerGone place → place ≡ length stop.ended_drainers.items
       → HasEachBye pump.inbox → pump.fault ≡ None → IsPumped pump → PumpHasStopped pump stop
   PumpHasStopped-drainers pump stop place hub inbox ends callers no_callers fault place_is each_bye whole (B, p) =
       let put = PutAll-whole pump B whole p in (
@@ -133,22 +134,22 @@ module _ {S : Type 0} where
           came = inr (record {
             each_bye = subst (λ (i : Incoming (Call S)). HasEachBye i) (sym inbox) each_bye;
             over = λ _. inbox;
-            routed = HaveEndedSome-some _ pump.drainers stop.parts.drainers.items stop.ended_drainers.items put.routed ends;
-            replied = HaveEndedSome-none _ pump.replies stop.parts.replies.items stop.ended_replies.items callers no_callers put.replied;
-            next = subst (λ (f : PumpFault). IsNextToEnd f stop) (sym fault) (place_is, ends.some, no_callers);
+            routed = HaveEndedSome-some _ pump.drainers (all_told stop.parts.drainers.items) stop.ended_drainers.items put.routed ends;
+            replied = HaveEndedSome-none _ pump.replies (all_told stop.parts.replies.items) stop.ended_replies.items callers no_callers put.replied;
+            next = subst (λ (f : PumpFault). IsNextToEnd f stop) (sym fault) (place_is, omega (arith, ends.some, told-length stop.parts.drainers.items), no_callers);
           });
           rules = ap (λ (h : HubView). h.state.rules) hub;
           box = ap (λ (i : Incoming (Call S)). i.box) inbox;
           ports = ap (λ (i : Incoming (Call S)). i.ports) inbox;
-          drainers = AreSame-some pump.drainers stop.parts.drainers.items stop.ended_drainers.items ends;
-          callers = AreSame-none pump.replies stop.parts.replies.items stop.ended_replies.items callers no_callers;
+          drainers = AreSame-some pump.drainers (all_told stop.parts.drainers.items) stop.ended_drainers.items ends;
+          callers = AreSame-none pump.replies (all_told stop.parts.replies.items) stop.ended_replies.items callers no_callers;
         },
       )
 
   -- a caller was gone when its port was to end
   pub PumpHasStopped-replies : (pump : PumpView S) (stop : PumpStop S) (place : ℕ)
       → stop.parts.hub ≡ pump.hub → stop.parts.inbox ≡ pump.inbox → stop.parts.drainers.items ≡ [] → stop.ended_drainers.items ≡ map with_bye pump.drainers
-      → EndsSome pump.replies stop.parts.replies.items [] stop.ended_replies.items → stop.fault ≡ CallerGone place → place ≡ length stop.ended_replies.items
+      → EndsSome pump.replies (all_told stop.parts.replies.items) [] stop.ended_replies.items → stop.fault ≡ CallerGone place → place ≡ length stop.ended_replies.items
       → HasEachBye pump.inbox → pump.fault ≡ None → IsPumped pump → PumpHasStopped pump stop
   PumpHasStopped-replies pump stop place hub inbox no_drainers drainers ends fault place_is each_bye whole (B, p) =
       let put = PutAll-whole pump B whole p in (
@@ -158,15 +159,15 @@ module _ {S : Type 0} where
           came = inr (record {
             each_bye = subst (λ (i : Incoming (Call S)). HasEachBye i) (sym inbox) each_bye;
             over = λ _. inbox;
-            routed = HaveEndedSome-all _ pump.drainers stop.parts.drainers.items stop.ended_drainers.items no_drainers drainers put.routed;
-            replied = HaveEndedSome-some _ pump.replies stop.parts.replies.items stop.ended_replies.items put.replied ends;
-            next = subst (λ (f : PumpFault). IsNextToEnd f stop) (sym fault) (place_is, ends.some, no_drainers);
+            routed = HaveEndedSome-all _ pump.drainers (all_told stop.parts.drainers.items) stop.ended_drainers.items (ap all_told no_drainers) drainers put.routed;
+            replied = HaveEndedSome-some _ pump.replies (all_told stop.parts.replies.items) stop.ended_replies.items put.replied ends;
+            next = subst (λ (f : PumpFault). IsNextToEnd f stop) (sym fault) (place_is, omega (arith, ends.some, told-length stop.parts.replies.items), no_drainers);
           });
           rules = ap (λ (h : HubView). h.state.rules) hub;
           box = ap (λ (i : Incoming (Call S)). i.box) inbox;
           ports = ap (λ (i : Incoming (Call S)). i.ports) inbox;
-          drainers = AreSame-all pump.drainers stop.parts.drainers.items stop.ended_drainers.items no_drainers drainers;
-          callers = AreSame-some pump.replies stop.parts.replies.items stop.ended_replies.items ends;
+          drainers = AreSame-all pump.drainers (all_told stop.parts.drainers.items) stop.ended_drainers.items (ap all_told no_drainers) drainers;
+          callers = AreSame-some pump.replies (all_told stop.parts.replies.items) stop.ended_replies.items ends;
         },
       )
 
@@ -229,9 +230,9 @@ module _ {S : Type 0} where
   at_end before after stop B kept none s = record {
     each_bye = s.each_bye;
     over = λ each. over_before before after stop.parts.inbox none s.over each;
-    routed = HaveEndedSome-same _ _ stop.ended_drainers.items stop.parts.drainers.items
+    routed = HaveEndedSome-same _ _ stop.ended_drainers.items (all_told stop.parts.drainers.items)
         (same_routes B kept.rules (AreSame-length before.drainers after.drainers kept.drainers)) s.routed;
-    replied = HaveEndedSome-same _ _ stop.ended_replies.items stop.parts.replies.items (λ q. ap (λ rules. replies rules q B) kept.rules) s.replied;
+    replied = HaveEndedSome-same _ _ stop.ended_replies.items (all_told stop.parts.replies.items) (λ q. ap (λ rules. replies rules q B) kept.rules) s.replied;
     next = s.next;
   }
 
@@ -241,7 +242,7 @@ module _ {S : Type 0} where
   in_turn before after stop B kept waited s = record {
     no_drainers = s.no_drainers;
     no_callers = s.no_callers;
-    put = subst (λ (r : Rules). HavePutUpTo (Some stop.fault) r B stop.parts.drainers.items stop.parts.replies.items) kept.rules s.put;
+    put = subst (λ (r : Rules). HavePutUpTo (Some stop.fault) r B (all_told stop.parts.drainers.items) (all_told stop.parts.replies.items)) kept.rules s.put;
     waited = λ gone whole. elim (waited gone whole) as (λ _. ¬ HasEachBye stop.parts.inbox) [ inl none ↦ s.waited gone none | inr not_each ↦ not_each ];
   }
 

@@ -1,4 +1,5 @@
 pub mod Placing
+pub mod Told
 pub mod Putting
 pub mod Giving
 pub mod Calls

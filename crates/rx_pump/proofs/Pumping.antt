@@ -9,7 +9,7 @@ use Rattle.std.specs.Option.{option_map}
 use Rattle.rx_note.specs.declared.rules.Rules.{Rules}
 use Rattle.rx_mailbox.specs.declared.letter.Post.TheVariants.{Body}
 use Rattle.rx_mailbox.specs.Letters.{letter, posts}
-use Rattle.rx_mailbox.specs.Boxes.{Outgoing, with_bodies}
+use Rattle.rx_mailbox.specs.Boxes.{Outgoing, with_more}
 use Rattle.rx_pump.specs.declared.out.Out.{Out}
 use Rattle.rx_pump.specs.declared.pump_fault.PumpFault.{PumpFault}
 use Rattle.rx_pump.specs.declared.pump_fault.PumpFault.TheVariants.{InboxGone, DrainerGone, CallerGone}
@@ -33,12 +33,12 @@ module _ {X : Type 0} where
   -- a port that put nothing has nothing in its list
   pub HavePut-fresh : (ports : List (Outgoing X)) → All IsFresh ports → HavePut (λ _. []) ports
   HavePut-fresh ports fresh d port is =
-      ap (λ (p : Outgoing X). p.own) (sym (get_or_from_slice_get ports d port port is)) ∙ fresh d port (slice_get_within ports d port is)
+      ap (λ (p : Outgoing X). p.own) (sym (get_or_from_slice_get ports d port port is)) ∙ (fresh d port (slice_get_within ports d port is)).0
 
   -- the ports put more
   pub HavePut-puts : (all more : ℕ → List X) (before after : List (Outgoing X)) → HavePut all before → Puts more before after → HavePut (λ d. all d ++ more d) after
   HavePut-puts all more before after have put d port is =
-      let old = option_map_some (with_bodies (more d)) (slice_get before d) port (sym (put.at d) ∙ is) in
+      let old = option_map_some (with_more (more d)) (slice_get before d) port (sym (put.at d) ∙ is) in
       let number : old.0.number ≡ port.number = ap (λ (p : Outgoing X). p.number) old.2 in
       sym (ap (λ (p : Outgoing X). p.own) old.2)
       ∙ ap (λ own. own ++ posts old.0.number (more d)) (have d old.0 old.1)

@@ -2,68 +2,79 @@
 use Rattle.std.proofs.Common.{◌≡◌, ◌∙◌, sym, refl, ap, subst, ℕ, ◌<◌, ◌≤◌, ◌%◌, ◌==◌, List, [], ◌∷◌, ◌++◌, append_assoc, append-nil, length, get_or, Some, None, slice_get, Result, Ok, Err, inl, inr, arith}
 use Rattle.std.proofs.Math.ListN.{set, length-set}
 use Rattle.std.proofs.lemmas.Bool.Decides.{eqb_tells}
-use Rattle.std.proofs.lemmas.List.{map-append, set-get_or}
+use Rattle.std.proofs.lemmas.List.{map-append}
 use Rattle.std.proofs.lemmas.List.Elements.{filter-append}
 use Rattle.std.proofs.lemmas.Option.{slice_get_read, slice_get_past}
 use Rattle.std.specs.Option.{option_map}
-use Rattle.rx_mailbox.specs.Boxes.{Outgoing, outgoing, with_bodies}
+use Rattle.rx_mailbox.specs.declared.letter.Post.TheVariants.{Body}
+use Rattle.rx_mailbox.specs.declared.letter.Letter.{Letter}
+use Rattle.rx_mailbox.specs.Boxes.{Outgoing, told, all_told, with_post, with_more}
 use Rattle.rx_mailbox.specs.Letters.{posts}
 use Rattle.rx_pump.specs.declared.out.Out.{Out}
 use Rattle.rx_pump.specs.Marks.{to_port, for_drainer, who_of}
 use Rattle.rx_pump.specs.Sends.{Puts, PutsFor, StopsAt, SendsOuts}
+use Rattle.rx_pump.proofs.Told.{told-at, told-length, told-set, told-set_same}
 use Rattle.rx_pump.proofs.Placing.{slice_get-set_same, slice_get-set_other, option_map-same, option_map-then}
 
 module _ {X : Type 0} where
   -- no bodies leave the port
-  with_bodies-none : (port : Outgoing X) → with_bodies [] port ≡ port
-  with_bodies-none port = ap (λ own. outgoing port.box port.number own) (append-nil port.own)
+  with_more-none : (port : Outgoing X) → with_more [] port ≡ port
+  with_more-none port = ap (λ (own : List (Letter X)). record port { own = own }) (append-nil port.own)
 
   -- bodies after bodies
-  with_bodies-then : (xs ys : List X) (port : Outgoing X) → with_bodies ys (with_bodies xs port) ≡ with_bodies (xs ++ ys) port
-  with_bodies-then xs ys port =
-      ap (λ own. outgoing port.box port.number own)
+  with_more-then : (xs ys : List X) (port : Outgoing X) → with_more ys (with_more xs port) ≡ with_more (xs ++ ys) port
+  with_more-then xs ys port =
+      ap (λ (own : List (Letter X)). record port { own = own })
       (append_assoc port.own (posts port.number xs) (posts port.number ys) ∙ ap (λ ps. port.own ++ ps) (sym (map-append _ xs ys)))
 
   -- nobody puts anything
   pub Puts-none : (ports : List (Outgoing X)) → Puts (λ _. []) ports ports
-  Puts-none ports = record { count = refl; at = λ d. option_map-same _ (slice_get ports d) with_bodies-none }
+  Puts-none ports = record { count = refl; at = λ d. option_map-same _ (slice_get ports d) with_more-none }
 
   -- first these, then those
   pub Puts-then : (first second : ℕ → List X) (a b c : List (Outgoing X)) → Puts first a b → Puts second b c → Puts (λ d. first d ++ second d) a c
   Puts-then first second a b c p q = record {
     count = q.count ∙ p.count;
-    at = λ d. q.at d ∙ ap (option_map (with_bodies (second d))) (p.at d)
-        ∙ option_map-then (with_bodies (first d)) (with_bodies (second d)) (with_bodies (first d ++ second d)) (slice_get a d) (with_bodies-then (first d) (second d));
+    at = λ d. q.at d ∙ ap (option_map (with_more (second d))) (p.at d)
+        ∙ option_map-then (with_more (first d)) (with_more (second d)) (with_more (first d ++ second d)) (slice_get a d) (with_more-then (first d) (second d));
   }
 
   -- the same bodies
   pub Puts-same : (first second : ℕ → List X) (a b : List (Outgoing X)) → ((d : ℕ) → first d ≡ second d) → Puts first a b → Puts second a b
   Puts-same first second a b same p = record {
     count = p.count;
-    at = λ d. p.at d ∙ ap (λ bodies. option_map (with_bodies bodies) (slice_get a d)) (same d);
+    at = λ d. p.at d ∙ ap (λ bodies. option_map (with_more bodies) (slice_get a d)) (same d);
   }
 
   -- one port puts one body
   pub Puts-one : (ports : List (Outgoing X)) (place : ℕ) (port : Outgoing X) (x : X)
-      → slice_get ports place ≡ Some port → Puts (λ d. to_port place d x) ports (set ports place (with_bodies (x ∷ []) port))
+      → slice_get ports place ≡ Some port → Puts (λ d. to_port place d x) ports (set ports place (with_more (x ∷ []) port))
   Puts-one ports place port x is = record {
     count = length-set ports place _;
     at = λ d. elim (eqb_tells place d) [
       | inl (test, same) ↦
           rw test (
-          subst (λ k. slice_get (set ports place (with_bodies (x ∷ []) port)) k ≡ option_map (with_bodies (x ∷ [])) (slice_get ports k)) same
-          (slice_get-set_same ports place port _ is ∙ sym (ap (option_map (with_bodies (x ∷ []))) is)))
+          subst (λ k. slice_get (set ports place (with_more (x ∷ []) port)) k ≡ option_map (with_more (x ∷ [])) (slice_get ports k)) same
+          (slice_get-set_same ports place port _ is ∙ sym (ap (option_map (with_more (x ∷ []))) is)))
       | inr (test, other) ↦
-          rw test (slice_get-set_other ports place d _ other ∙ option_map-same (with_bodies []) (slice_get ports d) with_bodies-none)
+          rw test (slice_get-set_other ports place d _ other ∙ option_map-same (with_more []) (slice_get ports d) with_more-none)
     ];
   }
 
   -- the port at a place puts one body
   pub Puts-at : (ports : List (Outgoing X)) (place : ℕ) (port after : Outgoing X) (x : X)
-      → place < length ports → port ≡ get_or ports place port → after ≡ with_bodies (x ∷ []) port → Puts (λ d. to_port place d x) ports (set ports place after)
+      → place < length ports → port ≡ get_or ports place port → after ≡ with_more (x ∷ []) port → Puts (λ d. to_port place d x) ports (set ports place after)
   Puts-at ports place port after x within port_is after_is =
       subst (λ (p : Outgoing X). Puts (λ d. to_port place d x) ports (set ports place p)) (sym after_is)
       (Puts-one ports place port x (slice_get_read ports (length ports) place port refl within port_is))
+
+  -- the same of ports that may hold something back
+  pub Puts-told : (ports : List (Outgoing X)) (place : ℕ) (port after : Outgoing X) (x : X)
+      → place < length ports → port ≡ get_or ports place port → told after ≡ with_post port (Body x)
+      → Puts (λ d. to_port place d x) (all_told ports) (all_told (set ports place after))
+  Puts-told ports place port after x within port_is after_is =
+      subst (λ (now : List (Outgoing X)). Puts (λ d. to_port place d x) (all_told ports) now) (sym (told-set ports place after))
+      (Puts-at (all_told ports) place (told port) (told after) x (omega (arith, within, told-length ports)) (told-at ports place port within port_is) after_is)
 
   -- there is no port at this place
   pub Puts-no_place : (ports : List (Outgoing X)) (place : ℕ) (x : X) → length ports ≤ place → Puts (λ d. to_port place d x) ports ports
@@ -72,8 +83,8 @@ module _ {X : Type 0} where
       record {
         count = refl;
         at = λ d. elim (eqb_tells place d) [
-          | inl (test, same) ↦ rw test (subst (λ k. slice_get ports k ≡ option_map (with_bodies (x ∷ [])) (slice_get ports k)) same (is ∙ sym (ap (option_map (with_bodies (x ∷ []))) is)))
-          | inr (test, other) ↦ rw test (option_map-same (with_bodies []) (slice_get ports d) with_bodies-none)
+          | inl (test, same) ↦ rw test (subst (λ k. slice_get ports k ≡ option_map (with_more (x ∷ [])) (slice_get ports k)) same (is ∙ sym (ap (option_map (with_more (x ∷ []))) is)))
+          | inr (test, other) ↦ rw test (option_map-same (with_more []) (slice_get ports d) with_more-none)
         ];
       }
 
@@ -84,7 +95,7 @@ module _ {S : Type 0} where
 
   -- one out is sent, by the port at the place of its drainer
   pub PutsFor-one : (ports : List (Outgoing (Out S))) (who count : ℕ) (port after : Outgoing (Out S)) (out : Out S)
-      → who ≡ who_of out → count ≡ length ports → 0 < length ports → port ≡ get_or ports (who % count) port → after ≡ with_bodies (out ∷ []) port
+      → who ≡ who_of out → count ≡ length ports → 0 < length ports → port ≡ get_or ports (who % count) port → after ≡ with_more (out ∷ []) port
       → PutsFor (out ∷ []) ports (set ports (who % count) after)
   PutsFor-one ports who count port after out who_is count_is some port_is after_is =
       let place = who_of out % length ports in
@@ -93,6 +104,16 @@ module _ {S : Type 0} where
       let at : slice_get ports place ≡ Some port = ap (slice_get ports) (sym place_is) ∙ slice_get_read ports (length ports) (who % count) port refl within port_is in
       subst (λ (k : ℕ). PutsFor (out ∷ []) ports (set ports k after)) (sym place_is)
       (subst (λ (p : Outgoing (Out S)). PutsFor (out ∷ []) ports (set ports place p)) (sym after_is) (Puts-one ports place port out at))
+
+  -- the same of ports that may hold something back
+  pub PutsFor-told : (ports : List (Outgoing (Out S))) (who count : ℕ) (port after : Outgoing (Out S)) (out : Out S)
+      → who ≡ who_of out → count ≡ length ports → 0 < length ports → port ≡ get_or ports (who % count) port → told after ≡ with_post port (Body out)
+      → PutsFor (out ∷ []) (all_told ports) (all_told (set ports (who % count) after))
+  PutsFor-told ports who count port after out who_is count_is some port_is after_is =
+      let within : who % count < length ports = omega (arith, count_is) in
+      subst (λ (now : List (Outgoing (Out S))). PutsFor (out ∷ []) (all_told ports) now) (sym (told-set ports (who % count) after))
+      (PutsFor-one (all_told ports) who count (told port) (told after) out who_is (count_is ∙ sym (told-length ports)) (omega (arith, some, told-length ports))
+      (told-at ports (who % count) port within port_is) after_is)
 
   -- first these, then those
   pub PutsFor-then : (first second : List (Out S)) (a b c : List (Outgoing (Out S))) → PutsFor first a b → PutsFor second b c → PutsFor (first ++ second) a c
@@ -108,12 +129,13 @@ module _ {S : Type 0} where
 
   -- it stops at an out that the port at the place of its drainer hands back
   pub StopsAt-here : (ports : List (Outgoing (Out S))) (who count : ℕ) (port after : Outgoing (Out S)) (out : Out S)
-      → who ≡ who_of out → count ≡ length ports → port ≡ get_or ports (who % count) port → after ≡ port
-      → StopsAt (out ∷ []) (who % count) ports (set ports (who % count) after)
+      → who ≡ who_of out → count ≡ length ports → port ≡ get_or ports (who % count) port → told after ≡ told port
+      → StopsAt (out ∷ []) (who % count) (all_told ports) (all_told (set ports (who % count) after))
   StopsAt-here ports who count port after out who_is count_is port_is after_is =
-      let gone : who_of out % length ports ≡ who % count = cc in
-      let same : set ports (who % count) after ≡ ports = ap (set ports (who % count)) (after_is ∙ port_is) ∙ set-get_or ports (who % count) port in
-      subst (λ (now : List (Outgoing (Out S))). StopsAt (out ∷ []) (who % count) ports now) (sym same) (StopsAt-first out [] ports (who % count) gone)
+      let as_many : length (all_told ports) ≡ length ports = told-length ports in
+      let gone : who_of out % length (all_told ports) ≡ who % count = cc in
+      let same : all_told (set ports (who % count) after) ≡ all_told ports = told-set_same ports (who % count) port after port_is after_is in
+      subst (λ (now : List (Outgoing (Out S))). StopsAt (out ∷ []) (who % count) (all_told ports) now) (sym same) (StopsAt-first out [] (all_told ports) (who % count) gone)
 
   -- all of these are sent, and it stops in those
   pub StopsAt-then : (first second : List (Out S)) (place : ℕ) (a b c : List (Outgoing (Out S))) → PutsFor first a b → StopsAt second place b c → StopsAt (first ++ second) place a c

@@ -9,7 +9,7 @@ use Rattle.rx_hub.specs.Hubs.{HubView}
 use Rattle.rx_mailbox.specs.declared.letter.Letter.{Letter}
 use Rattle.rx_mailbox.specs.declared.letter.Post.TheVariants.{Body, Bye}
 use Rattle.rx_mailbox.specs.Letters.{letter}
-use Rattle.rx_mailbox.specs.Boxes.{Outgoing, Incoming, with_letter}
+use Rattle.rx_mailbox.specs.Boxes.{Outgoing, Incoming, with_letter, all_told}
 use Rattle.rx_pump.specs.declared.call.Call.{Call}
 use Rattle.rx_pump.specs.declared.out.Out.{Out}
 use Rattle.rx_pump.specs.declared.pump_fault.PumpFault.{PumpFault}
@@ -18,6 +18,7 @@ use Rattle.rx_pump.specs.declared.reply.Reply.{Reply}
 use Rattle.rx_pump.specs.Marks.{Marked, NoLetters, Made, Refused, Ended, bodies_in, refused_in, AreAcceptable, history_of, outs_in, sent_by, reply_to}
 use Rattle.rx_pump.specs.Turns.{Ports, Sends, IsMade, IsRefused, HandlesCall}
 use Rattle.rx_pump.specs.Pumps.{counted, PumpView, PutAll, HavePutUpTo, Pumps, IsPumped, AreFresh, fresh_pump, KeepsPump}
+use Rattle.rx_pump.proofs.Told.{told-fresh}
 use Rattle.rx_pump.proofs.Pumping.{HavePut-fresh, IsMore, HaveSent, HaveSent-of, counted-more, counted-plus}
 
 module _ {S : Type 0} where
@@ -38,6 +39,15 @@ module _ {S : Type 0} where
       put = record { routed = HavePut-fresh drainers fresh.drainers_are; replied = HavePut-fresh callers fresh.callers_are };
     },
   )
+
+  -- the same of the ports as they are told
+  pub IsPumped-told : (hub : HubView) (inbox : Incoming (Call S)) (drainers : List (Outgoing (Out S))) (callers : List (Outgoing (Reply S))) (misses : ℕ)
+      → AreFresh hub inbox drainers callers → misses ≡ hub.misses → misses < 2 ^ 64
+      → IsPumped (record (fresh_pump hub inbox (all_told drainers) (all_told callers)) { misses_before = misses })
+  IsPumped-told hub inbox drainers callers misses fresh misses_are fits =
+      subst (λ (ports : List (Outgoing (Out S))). IsPumped (record (fresh_pump hub inbox ports (all_told callers)) { misses_before = misses })) (sym (told-fresh drainers fresh.drainers_are))
+      (subst (λ (ports : List (Outgoing (Reply S))). IsPumped (record (fresh_pump hub inbox drainers ports) { misses_before = misses })) (sym (told-fresh callers fresh.callers_are))
+      (IsPumped-fresh hub inbox drainers callers misses fresh misses_are fits))
 
   -- a pump without a fault has put all
   pub PutAll-whole : (pump : PumpView S) (B : Marked S) → pump.fault ≡ None → Pumps pump B → PutAll pump.hub.state.rules B pump.drainers pump.replies

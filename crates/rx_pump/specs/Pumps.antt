@@ -4,7 +4,7 @@ use Rattle.std.specs.List.{All}
 use Rattle.rx_history.specs.Histories.{NoEvents}
 use Rattle.rx_hub.specs.Hubs.{HubView, StandsFor}
 use Rattle.rx_mailbox.specs.declared.letter.Letter.{Letter}
-use Rattle.rx_mailbox.specs.Boxes.{Box, Outgoing, Incoming, with_letter}
+use Rattle.rx_mailbox.specs.Boxes.{Box, Outgoing, Incoming, all_told, with_letter}
 use Rattle.rx_mailbox.specs.Letters.{posts}
 use Rattle.rx_pump.specs.declared.call.Call.{Call}
 use Rattle.rx_pump.specs.declared.out.Out.{Out}
@@ -40,7 +40,7 @@ module _ {X : Type 0} where
 
   -- a port has put nothing
   abbrev pub IsFresh : Outgoing X → Type 0
-  IsFresh port = port.own ≡ []
+  IsFresh port = (port.own ≡ []) × (port.held ≡ 0)
 
   -- which port of which box it is
   abbrev pub port_place : Outgoing X → Box X × ℕ
@@ -141,8 +141,8 @@ module _ {S : Type 0} where
   pump_with parts calls refused misses_before fault = record {
     hub = parts.hub;
     inbox = parts.inbox;
-    drainers = parts.drainers.items;
-    replies = parts.replies.items;
+    drainers = all_told parts.drainers.items;
+    replies = all_told parts.replies.items;
     calls = calls;
     refused = refused;
     misses_before = misses_before;

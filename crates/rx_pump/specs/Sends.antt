@@ -2,7 +2,7 @@
 use Rattle.std.specs.Prelude.{◌≡◌, ◌<◌, ℕ, List, ◌∷◌, ◌++◌, length, map, slice_get, Result, Ok, Err, ◌%◌}
 use Rattle.std.specs.Option.{option_map}
 use Rattle.rx_mailbox.specs.declared.letter.Post.TheVariants.{Bye}
-use Rattle.rx_mailbox.specs.Boxes.{Outgoing, with_post, with_bodies}
+use Rattle.rx_mailbox.specs.Boxes.{Outgoing, with_post, with_more}
 use Rattle.rx_pump.specs.declared.out.Out.{Out}
 use Rattle.rx_pump.specs.Marks.{for_drainer, who_of}
 
@@ -10,7 +10,7 @@ module _ {X : Type 0} where
   -- the port at each place put its bodies, and nothing else
   pub record Puts (bodies : ℕ → List X) (before after : List (Outgoing X)) : Type 0 where
     pub count : length after ≡ length before
-    pub at : (d : ℕ) → slice_get after d ≡ option_map (with_bodies (bodies d)) (slice_get before d)
+    pub at : (d : ℕ) → slice_get after d ≡ option_map (with_more (bodies d)) (slice_get before d)
 
   -- the port after its Bye
   abbrev pub with_bye : Outgoing X → Outgoing X

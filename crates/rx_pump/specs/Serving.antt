@@ -2,7 +2,7 @@
 use Rattle.std.specs.Prelude.{◌≡◌, ◌+◌, ◌<◌, ◌⊎◌, ℕ, List, [], ◌∷◌, ◌++◌, length, Some, None, slice_get}
 use Rattle.rx_mailbox.specs.declared.letter.Post.TheVariants.{Bye}
 use Rattle.rx_mailbox.specs.Letters.{letter, posts}
-use Rattle.rx_mailbox.specs.Boxes.{Outgoing, HasEachBye}
+use Rattle.rx_mailbox.specs.Boxes.{Outgoing, all_told, HasEachBye}
 use Rattle.rx_pump.specs.declared.pump_end.PumpEnd.{PumpEnd}
 use Rattle.rx_pump.specs.declared.pump_fault.PumpFault.{PumpFault}
 use Rattle.rx_pump.specs.declared.pump_fault.PumpFault.TheVariants.{InboxGone, DrainerGone, CallerGone}
@@ -46,7 +46,7 @@ module _ {S : Type 0} where
   pub record StopsInTurn (pump : PumpView S) (stop : PumpStop S) (B : Marked S) : Type 0 where
     pub no_drainers : stop.ended_drainers.items ≡ []
     pub no_callers : stop.ended_replies.items ≡ []
-    pub put : HavePutUpTo (Some stop.fault) pump.hub.state.rules B stop.parts.drainers.items stop.parts.replies.items
+    pub put : HavePutUpTo (Some stop.fault) pump.hub.state.rules B (all_told stop.parts.drainers.items) (all_told stop.parts.replies.items)
     -- that no letter comes is a fault only while a Bye has not come
     pub waited : stop.fault ≡ InboxGone → pump.fault ≡ None → ¬ HasEachBye stop.parts.inbox
 
@@ -60,8 +60,8 @@ module _ {S : Type 0} where
   pub record StopsAtEnd (pump : PumpView S) (stop : PumpStop S) (B : Marked S) : Type 0 where
     pub each_bye : HasEachBye stop.parts.inbox
     pub over : HasEachBye pump.inbox → stop.parts.inbox ≡ pump.inbox
-    pub routed : HaveEndedSome (λ d. route pump.hub.state.rules (length pump.drainers) d B) stop.ended_drainers.items stop.parts.drainers.items
-    pub replied : HaveEndedSome (λ p. replies pump.hub.state.rules p B) stop.ended_replies.items stop.parts.replies.items
+    pub routed : HaveEndedSome (λ d. route pump.hub.state.rules (length pump.drainers) d B) stop.ended_drainers.items (all_told stop.parts.drainers.items)
+    pub replied : HaveEndedSome (λ p. replies pump.hub.state.rules p B) stop.ended_replies.items (all_told stop.parts.replies.items)
     pub next : IsNextToEnd stop.fault stop
 
   -- the pump handed in stopped at its fault, in a turn or at its end: what it left is what the marked letters mean, or what
@@ -72,8 +72,8 @@ module _ {S : Type 0} where
     pub rules : stop.parts.hub.state.rules ≡ pump.hub.state.rules
     pub box : stop.parts.inbox.box ≡ pump.inbox.box
     pub ports : stop.parts.inbox.ports ≡ pump.inbox.ports
-    pub drainers : AreSame pump.drainers (stop.ended_drainers.items ++ stop.parts.drainers.items)
-    pub callers : AreSame pump.replies (stop.ended_replies.items ++ stop.parts.replies.items)
+    pub drainers : AreSame pump.drainers (stop.ended_drainers.items ++ all_told stop.parts.drainers.items)
+    pub callers : AreSame pump.replies (stop.ended_replies.items ++ all_told stop.parts.replies.items)
 
   -- there are such marks
   abbrev pub PumpHasStopped : PumpView S → PumpStop S → Type 0

@@ -3,7 +3,7 @@ use Rattle.std.specs.Prelude.{◌≡◌, ◌+◌, ◌<◌, ℕ, Bool, List, [], 
 use Rattle.rx_note.specs.declared.refusal.Refusal.TheVariants.{Memory}
 use Rattle.rx_history.specs.Histories.{History, ◌▹◌, answer}
 use Rattle.rx_hub.specs.Hubs.{HubView, StandsFor, MayMiss}
-use Rattle.rx_mailbox.specs.Boxes.{Outgoing}
+use Rattle.rx_mailbox.specs.Boxes.{Outgoing, all_told}
 use Rattle.rx_pump.specs.declared.call.Call.{Call}
 use Rattle.rx_pump.specs.declared.out.Out.{Out}
 use Rattle.rx_pump.specs.declared.pump_fault.PumpFault.{PumpFault}
@@ -14,15 +14,15 @@ use Rattle.rx_pump.specs.Marks.{sent_by, reply_to, to_port}
 use Rattle.rx_pump.specs.Sends.{Puts, PutsFor, StopsAt}
 use Rattle.rx_pump.specs.Pumps.{counted}
 
--- the ports of a pump, in the order of their places
+-- the ports of a pump, in the order of their places, whatever they hold back
 pub record Ports (S : Type 0) : Type 0 where
   pub drainers : List (Outgoing (Out S))
   pub replies : List (Outgoing (Reply S))
 
 module _ {S : Type 0} where
-  -- the ports among the parts of a pump
+  -- the ports among the parts of a pump, whatever they hold back
   abbrev pub ports_of : PumpParts S → Ports S
-  ports_of parts = record { drainers = parts.drainers.items; replies = parts.replies.items }
+  ports_of parts = record { drainers = all_told parts.drainers.items; replies = all_told parts.replies.items }
 
   -- the ports put the outs, and then the reply to the calls from a port; at a fault they stop there
   abbrev pub Sends : Option PumpFault → List (Out S) → ℕ → Reply S → Ports S → Ports S → Type 0

@@ -1,5 +1,6 @@
 // One call of a desk: what it sends, and what it receives.
 ghost use Rattle.std.specs.Prelude.{◌≡◌, ◌<◌, vec_len, MatchResult};
+ghost use Rattle.rx_mailbox.specs.Boxes.{all_told};
 ghost use Rattle.rx_pump.specs.Desks.{ReadsReply, ReceivesReply};
 ghost use Rattle.rx_pump.specs.Desks as desks;
 ghost use Rattle.rx_pump.specs.Marks.{to_port};
@@ -26,8 +27,8 @@ pub fn send_call<S: Drop, R: Wait>(
 ) -> Result<(), Option<S>>
     requires { subject < vec_len ports.old }
     ensures { MatchResult result
-        (λ _. Puts (λ place. to_port subject place call) ports.old.items ports.new.items)
-        (λ back. (back ≡ call.sink) × (ports.new.items ≡ ports.old.items)) }
+        (λ _. Puts (λ place. to_port subject place call) (all_told ports.old.items) (all_told ports.new.items))
+        (λ back. (back ≡ call.sink) × (all_told ports.new.items ≡ all_told ports.old.items)) }
 {
     match ports[subject].send(rt, call) {
         Ok(()) => Ok(()),
@@ -35,19 +36,7 @@ pub fn send_call<S: Drop, R: Wait>(
     }
 }
 
-// Whether a call to a subject would be held back, so that it goes with others.
-pub fn may_post<S: Drop, R: Wait>(
-    rt: &R,
-    ports: &mut Vec<Port<Call<S>>, Heap>,
-    subject: usize,
-) -> bool
-    requires { subject < vec_len ports.old }
-    ensures { ports.new.items ≡ ports.old.items }
-{
-    ports[subject].may_hold(rt)
-}
-
-// Sends a call to a subject, behind those that wait to go with it. `Err` has the event of a call that was handed back.
+// Sends a call to a subject with others, behind which it waits to go. `Err` has the event of a call that was handed back.
 pub fn post_call<S: Drop, R: Wait>(
     rt: &R,
     ports: &mut Vec<Port<Call<S>>, Heap>,
@@ -56,10 +45,10 @@ pub fn post_call<S: Drop, R: Wait>(
 ) -> Result<(), Event>
     requires { subject < vec_len ports.old }
     ensures { MatchResult result
-        (λ _. Puts (λ place. to_port subject place call) ports.old.items ports.new.items)
-        (λ back. (back ≡ call.event) × (ports.new.items ≡ ports.old.items)) }
+        (λ _. Puts (λ place. to_port subject place call) (all_told ports.old.items) (all_told ports.new.items))
+        (λ back. (back ≡ call.event) × (all_told ports.new.items ≡ all_told ports.old.items)) }
 {
-    match ports[subject].send_quietly(rt, call) {
+    match ports[subject].hold_back(rt, call) {
         Ok(()) => Ok(()),
         Err(back) => Err(back.event),
     }

@@ -3,13 +3,14 @@ ghost use Rattle.std.specs.List.{All};
 ghost use Rattle.rx_pump.specs.Pumps.{IsFresh};
 ghost use Rattle.rx_pump.specs.Sends.{with_bye, EndsSome};
 
-use crate::asking::{is_strange, may_post, post_call, receive, send_call};
+use crate::asking::{is_strange, post_call, receive, send_call};
 use crate::call::Call;
 use crate::call_error::CallError;
 use crate::desk_parts::DeskParts;
 use crate::ended_desk::EndedDesk;
 use crate::finishing::{finish_all, let_go_all};
 use crate::reply::Reply;
+use crate::ringing::ring_at;
 use crate::rooms::room;
 use rx_heap::Heap;
 use rx_mailbox::{EndedPort, Inbox, Port};
@@ -47,13 +48,14 @@ impl<S: Drop> Drop for CallDesk<S> {
 
 impl<S: Drop> Model for CallDesk<S> {
     ghost use Rattle.std.specs.Prelude.{◌+◌, ◌≤◌, ◌≡◌, [], false, vec_len, vec_capacity};
+    ghost use Rattle.rx_mailbox.specs.Boxes.{all_told};
     ghost use Rattle.rx_pump.specs.Desks.{DeskView, AreUpTo, TicketsRise};
 
     ghost Value = { DeskView S };
 
-    ghost view = { λ d. record { ports = d.ports.items; inbox = d.inbox; ended = d.ended.items; tickets = d.tickets; is_over = d.is_over } };
+    ghost view = { λ d. record { ports = all_told d.ports.items; inbox = d.inbox; ended = d.ended.items; tickets = d.tickets; is_over = d.is_over } };
 
-    ghost invariant = { λ d. AreUpTo d.tickets d.ports.items × TicketsRise d.ports.items × TicketsRise d.ended.items
+    ghost invariant = { λ d. AreUpTo d.tickets (all_told d.ports.items) × TicketsRise (all_told d.ports.items) × TicketsRise d.ended.items
         × (d.is_over ≡ false → d.ended.items ≡ [])
         × (vec_len d.ended + vec_len d.ports ≤ vec_capacity d.ended) };
 }
@@ -137,7 +139,7 @@ impl<S: Drop> CallDesk<S> {
             (λ back. (back ≡ event) × (self.new ≡ self.old)) }
         ensures kept { KeepsDesk self.old self.new }
     {
-        if self.is_over || self.tickets == u64::MAX || !may_post(rt, &mut self.ports, subject) {
+        if self.is_over || self.tickets == u64::MAX {
             return Err(event);
         }
         let ticket = self.tickets + 1;
@@ -170,7 +172,7 @@ impl<S: Drop> CallDesk<S> {
         if self.is_over {
             return Err(CallError::SubjectGone { sink: None });
         }
-        self.ports[subject].ring(rt);
+        ring_at(rt, &mut self.ports, subject);
         let answered = receive(rt, &mut self.inbox, &self.ports[subject], subject, ticket);
         self.is_over = is_strange(&answered);
         answered

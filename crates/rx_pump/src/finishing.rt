@@ -1,5 +1,6 @@
 // Ending several ports.
 ghost use Rattle.std.specs.Prelude.{◌≡◌, ◌+◌, ◌≤◌, ◌++◌, [], map, vec_len, vec_capacity, MatchResult};
+ghost use Rattle.rx_mailbox.specs.Boxes.{all_told};
 ghost use Rattle.rx_pump.specs.Sends.{with_bye, EndsSome};
 
 use rx_heap::Heap;
@@ -15,8 +16,8 @@ pub fn finish_all<B: Drop, R: Wait>(
 ) -> Result<(), usize>
     requires { vec_len ended.old + vec_len ports.old ≤ vec_capacity ended.old }
     ensures ended { MatchResult result
-        (λ _. (ended.new.items ≡ ended.old.items ++ map with_bye ports.old.items) × (ports.new.items ≡ []))
-        (λ place. EndsSome ports.old.items ports.new.items ended.old.items ended.new.items × (place ≡ vec_len ended.new)) }
+        (λ _. (ended.new.items ≡ ended.old.items ++ map with_bye (all_told ports.old.items)) × (ports.new.items ≡ []))
+        (λ place. EndsSome (all_told ports.old.items) (all_told ports.new.items) ended.old.items ended.new.items × (place ≡ vec_len ended.new)) }
     ensures capacity { vec_capacity ended.new ≡ vec_capacity ended.old }
 {
     // From the back, so that each port is moved out, and one that comes back has its place.

@@ -1,7 +1,8 @@
 // One call: the hub takes its event, and the ports put what it gave and answered.
-ghost use Rattle.std.specs.Prelude.{◌≡◌, ◌<◌, ◌≤◌, ◌++◌, ℕ, Some, None, map, vec_len, option_to_list, MatchOption, MatchResult};
+ghost use Rattle.std.specs.Prelude.{◌≡◌, ◌<◌, ◌≤◌, ◌++◌, ℕ, Some, None, length, map, vec_len, option_to_list, MatchOption, MatchResult};
 ghost use Rattle.rx_note.specs.declared.event.Event.TheVariants.{Request};
 ghost use Rattle.rx_hub.specs.Hubs.{is_miss};
+ghost use Rattle.rx_mailbox.specs.Boxes.{all_told};
 ghost use Rattle.rx_pump.specs.Marks.{give, to_port};
 ghost use Rattle.rx_pump.specs.Sends.{Puts};
 ghost use Rattle.rx_pump.specs.Turns.{HandlesCall, Sends, ports_of};
@@ -154,8 +155,8 @@ fn send_reply<S: Drop, R: Wait>(
     reply: Reply<S>,
 ) -> Option<PumpFault>
     ensures { MatchOption result
-        (Puts (λ p. to_port port p reply) callers.old.items callers.new.items)
-        (λ fault. (fault ≡ PumpFault.CallerGone port) × (callers.new.items ≡ callers.old.items) × (port < vec_len callers.old)) }
+        (Puts (λ p. to_port port p reply) (all_told callers.old.items) (all_told callers.new.items))
+        (λ fault. (fault ≡ PumpFault.CallerGone port) × (all_told callers.new.items ≡ all_told callers.old.items) × (port < length (all_told callers.old.items))) }
 {
     let place = port as usize;
     if place >= callers.len() {

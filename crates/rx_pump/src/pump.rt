@@ -1,5 +1,5 @@
 ghost use Rattle.std.specs.Prelude.{◌≡◌, ◌+◌, ◌<◌, ◌≤◌, [], vec_len, vec_capacity, if◌then◌else◌, Some, None, Err, MatchResult, OnOk, IfOk, IfSome};
-ghost use Rattle.rx_mailbox.specs.Boxes.{with_letter, HasBye};
+ghost use Rattle.rx_mailbox.specs.Boxes.{all_told, with_letter, HasBye};
 ghost use Rattle.rx_pump.specs.Pumps.{AreFresh, counted};
 
 use crate::call::Call;
@@ -12,7 +12,7 @@ use crate::pump_fault::PumpFault;
 use crate::pump_parts::PumpParts;
 use crate::pump_stop::PumpStop;
 use crate::reply::Reply;
-use crate::ringing::{ring_all, try_ring_all};
+use crate::ringing::{ring_all, try_ring_all, try_ring_at};
 use crate::rooms::room;
 use crate::sending::Drainers;
 use rx_heap::{Heap, Memory};
@@ -241,8 +241,8 @@ impl<S: Drop> Pump<S> {
     pub fn into_parts(self) -> PumpParts<S>
         ensures hub { result.hub ≡ self.hub }
         ensures inbox { result.inbox ≡ self.inbox }
-        ensures drainers { result.drainers.items ≡ self.drainers }
-        ensures replies { result.replies.items ≡ self.replies }
+        ensures drainers { all_told result.drainers.items ≡ self.drainers }
+        ensures replies { all_told result.replies.items ≡ self.replies }
         ensures pumped { IsPumped self }
     {
         let Pump {
@@ -293,7 +293,7 @@ impl<S: Drop> Pump<S> {
     {
         let place = self.from as usize;
         if place < self.parts.replies.len() && !self.parts.inbox.has_more_in_hand() {
-            let _is_left = self.parts.replies[place].try_ring(rt);
+            let _is_left = try_ring_at(rt, &mut self.parts.replies, place);
         }
     }
 
@@ -439,8 +439,8 @@ fn receive<S: Drop, R: Wait>(
 ) -> Result<Letter<Call<S>>, Gone>
     ensures received { MatchResult result (λ letter. inbox.new ≡ with_letter inbox.old letter) (λ _. inbox.new ≡ inbox.old) }
     ensures before_bye { IfOk result (λ letter. ¬ HasBye inbox.old letter.from) }
-    ensures drainers { drainers.new.items ≡ drainers.old.items }
-    ensures replies { replies.new.items ≡ replies.old.items }
+    ensures drainers { all_told drainers.new.items ≡ all_told drainers.old.items }
+    ensures replies { all_told replies.new.items ≡ all_told replies.old.items }
 {
     if let Ok(letter) = inbox.try_recv(rt) {
         return Ok(letter);
@@ -461,7 +461,7 @@ fn receive_beside<S: Drop, R: Wait>(
 ) -> Result<Letter<Call<S>>, Gone>
     ensures received { MatchResult result (λ letter. inbox.new ≡ with_letter inbox.old letter) (λ _. inbox.new ≡ inbox.old) }
     ensures before_bye { IfOk result (λ letter. ¬ HasBye inbox.old letter.from) }
-    ensures replies { replies.new.items ≡ replies.old.items }
+    ensures replies { all_told replies.new.items ≡ all_told replies.old.items }
 {
     for _ in rt.forever() {
         match inbox.recv_within(rt, Duration::from_millis(MOST_WAIT)) {

@@ -1,5 +1,6 @@
-// Ringing several ports.
-ghost use Rattle.std.specs.Prelude.{◌≡◌};
+// Ringing ports.
+ghost use Rattle.std.specs.Prelude.{◌≡◌, ◌<◌, vec_len};
+ghost use Rattle.rx_mailbox.specs.Boxes.{all_told};
 
 use rx_heap::Heap;
 use rx_mailbox::Port;
@@ -7,22 +8,41 @@ use std::sync::Wait;
 
 /// Has go out what the ports hold back, and wakes those who sleep at their boxes.
 pub fn ring_all<B: Drop, R: Wait>(rt: &R, ports: &mut Vec<Port<B>, Heap>)
-    ensures { ports.new.items ≡ ports.old.items }
+    ensures { all_told ports.new.items ≡ all_told ports.old.items }
 {
     for place in 0..ports.len() {
-        ports[place].ring(rt);
+        ring_at(rt, ports, place);
     }
 }
 
 /// As `ring_all`, but waits for no room. It answers whether a port still holds something back, which can go once there is room.
 pub fn try_ring_all<B: Drop, R: Wait>(rt: &R, ports: &mut Vec<Port<B>, Heap>) -> bool
-    ensures { ports.new.items ≡ ports.old.items }
+    ensures { all_told ports.new.items ≡ all_told ports.old.items }
 {
     let mut is_left = false;
     for place in 0..ports.len() {
-        if ports[place].try_ring(rt) {
+        if try_ring_at(rt, ports, place) {
             is_left = true;
         }
     }
     is_left
+}
+
+/// As `ring_all`, of the port at a place alone.
+pub fn ring_at<B: Drop, R: Wait>(rt: &R, ports: &mut Vec<Port<B>, Heap>, place: usize)
+    requires { place < vec_len ports.old }
+    ensures told { all_told ports.new.items ≡ all_told ports.old.items }
+    ensures count { vec_len ports.new ≡ vec_len ports.old }
+{
+    let _went = ports[place].ring(rt);
+}
+
+/// As `try_ring_all`, of the port at a place alone.
+pub fn try_ring_at<B: Drop, R: Wait>(rt: &R, ports: &mut Vec<Port<B>, Heap>, place: usize) -> bool
+    requires { place < vec_len ports.old }
+    ensures told { all_told ports.new.items ≡ all_told ports.old.items }
+    ensures count { vec_len ports.new ≡ vec_len ports.old }
+{
+    let is_left = ports[place].try_ring(rt);
+    is_left && !ports[place].is_inbox_gone()
 }

@@ -1,5 +1,6 @@
 // What a pump sends its drainers for one call.
 ghost use Rattle.std.specs.Prelude.{◌≡◌, ◌<◌, [], ◌∷◌, ◌++◌, map, vec_len, option_to_list};
+ghost use Rattle.rx_mailbox.specs.Boxes.{all_told};
 ghost use Rattle.rx_pump.specs.Marks.{attach_of, detach_of, give, sent_back};
 ghost use Rattle.rx_pump.specs.Marks as marks;
 ghost use Rattle.rx_pump.specs.Sends.{SendsOuts};
@@ -57,7 +58,7 @@ pub fn send_all<S: Drop, R: Wait>(
     last: Option<Out<S>>,
 ) -> Result<(), usize>
     requires { 0 < vec_len drainers.old }
-    ensures { SendsOuts (option_to_list first ++ map give outs.old.items ++ option_to_list last) result drainers.old.items drainers.new.items }
+    ensures { SendsOuts (option_to_list first ++ map give outs.old.items ++ option_to_list last) result (all_told drainers.old.items) (all_told drainers.new.items) }
 {
     send_any(rt, drainers, first)?;
     give_all(rt, drainers, outs)?;
@@ -71,7 +72,7 @@ fn send_any<S: Drop, R: Wait>(
     out: Option<Out<S>>,
 ) -> Result<(), usize>
     requires { 0 < vec_len drainers.old }
-    ensures { SendsOuts (option_to_list out) result drainers.old.items drainers.new.items }
+    ensures { SendsOuts (option_to_list out) result (all_told drainers.old.items) (all_told drainers.new.items) }
 {
     match out {
         Some(out) => send(rt, drainers, out),
@@ -86,7 +87,7 @@ pub fn give_all<S: Drop, R: Wait>(
     outs: &mut Vec<Given, Heap>,
 ) -> Result<(), usize>
     requires { 0 < vec_len drainers.old }
-    ensures { SendsOuts (map give outs.old.items) result drainers.old.items drainers.new.items }
+    ensures { SendsOuts (map give outs.old.items) result (all_told drainers.old.items) (all_told drainers.new.items) }
 {
     // From the back, so that each note is moved out, and the list keeps its room.
     outs.reverse();
@@ -100,7 +101,7 @@ pub fn give_all<S: Drop, R: Wait>(
 // Sends an out to the drainer of its observer.
 fn send<S: Drop, R: Wait>(rt: &R, drainers: &mut Drainers<S>, out: Out<S>) -> Result<(), usize>
     requires { 0 < vec_len drainers.old }
-    ensures { SendsOuts (out ∷ []) result drainers.old.items drainers.new.items }
+    ensures { SendsOuts (out ∷ []) result (all_told drainers.old.items) (all_told drainers.new.items) }
 {
     let place = out.who() as usize % drainers.len();
     let Ok(()) = drainers[place].send_quietly(rt, out) else {

@@ -1,5 +1,5 @@
-use Rattle.std.proofs.Common.{refl, arith}
-use Rattle.rx_pump.proofs.Ending.{Ended-none, Ended-more, Ended-stop}
+use Rattle.std.proofs.Common.{◌≡◌, ◌∙◌, [], ◌∷◌, ℕ, List, append-nil, length, refl, sym, arith}
+use Rattle.rx_pump.proofs.Ending.{Ended-none, Ended-more, Ended-all, Ended-stop}
 use Rattle.rx_pump.proofs.finishing.finish_all.Goals as goal
 
 pub loop-port-preserved : goal.loop-port-preserved
@@ -38,3 +38,14 @@ returns-in-Err-clause-capacity g c = c.loop-port.invariant.capacity
 
 pub returns-clause-capacity : goal.returns-clause-capacity
 returns-clause-capacity g c = c.loop-port.invariant.capacity
+
+none_left : {X : Type 0} {n : ℕ} (left : List X) → n ≡ length left → n ≡ 0 → left ≡ []
+none_left [] long none = refl
+none_left (x ∷ left) long none = absurd (omega arith)
+
+pub returns-clause-ended : goal.returns-clause-ended
+returns-clause-ended g c =
+    let none : c.loop-port.ports.items ≡ [] = none_left c.loop-port.ports.items c.loop-port.ports.ok.0 c.in_default.ensures.cases.0 in (
+      Ended-all c.args.ports.now.items c.reverse.new.self.items c.loop-port.ports.items c.args.ended.now.items c.loop-port.ended.items c.reverse.ensures.items none c.loop-port.invariant.ended,
+      sym (append-nil c.pop.new.self.items) ∙ sym c.in_default.ensures.items ∙ none,
+    )

@@ -4,6 +4,7 @@ use Rattle.rx_note.specs.declared.given.Given.{Given}
 use Rattle.rx_hub.specs.Hubs.{Steps}
 use Rattle.rx_pump.specs.Marks.{give}
 use Rattle.rx_pump.specs.Turns.{ports_of}
+use Rattle.rx_pump.proofs.Told.{told-length}
 use Rattle.rx_pump.proofs.Calls.{handled_request, sends_notes}
 use Rattle.rx_pump.proofs.handling.handle_request.Goals as goal
 
@@ -24,4 +25,4 @@ returns-clause-handles g c = λ ticket.
       rules = step.ensures.rules;
     })
     (sends_notes (map give step.new.outs.items) c.give_all-outcome.result c.drainer_gone.result c.args.port (record { ticket = ticket; result = step.result; sink = None }) before then
-    c.give_all-outcome.ensures refl (omega (arith, c.requires.silent, c.args.parts.now.replies.ok.0)) c.drainer_gone.ensures)
+    c.give_all-outcome.ensures refl (omega (arith, c.requires.silent, c.args.parts.now.replies.ok.0, told-length c.args.parts.now.replies.items)) c.drainer_gone.ensures)

@@ -1,10 +1,10 @@
 use Rattle.std.proofs.Common.{arith}
-use Rattle.rx_pump.proofs.Putting.{PutsFor-one, StopsAt-here}
+use Rattle.rx_pump.proofs.Putting.{PutsFor-told, StopsAt-here}
 use Rattle.rx_pump.proofs.sending.send.Goals as goal
 
 pub returns : goal.returns
 returns g c =
-    PutsFor-one c.args.drainers.now.items c.who.result c.len.result c.index_mut.result.now c.send_quietly.new.self c.args.out
+    PutsFor-told c.args.drainers.now.items c.who.result c.len.result c.index_mut.result.now c.send_quietly.new.self c.args.out
     c.who.ensures (omega (arith, c.len.ensures)) (omega (arith, c.requires)) c.index_mut.ensures.value c.in-Ok.ensures
 
 pub returns-in_default : goal.returns-in_default

@@ -1,23 +1,25 @@
 use Rattle.std.proofs.Common.{◌+◌, refl, subst, arith}
+use Rattle.rx_mailbox.specs.Boxes.{all_told}
 use Rattle.rx_pump.specs.Desks.{DeskView, KeepsDesk}
+use Rattle.rx_pump.proofs.Told.{told-length}
 use Rattle.rx_pump.proofs.Desking.{AreUpTo-sent, TicketsRise-sent, KeepsDesk-call}
 use Rattle.rx_pump.proofs.call_desk.CallDesk.call.Goals as goal
 
 pub invariant_of-self-2 : goal.invariant_of-self-2
 invariant_of-self-2 g c = (
-  AreUpTo-sent c.self.inside.tickets c.args.subject _ c.self.inside.ports.items c.send_call.new.ports.items refl c.in_default.ensures c.self.invariant.0,
-  TicketsRise-sent c.self.inside.tickets c.args.subject _ c.self.inside.ports.items c.send_call.new.ports.items refl c.in_default.ensures c.self.invariant.0 c.self.invariant.1,
+  AreUpTo-sent c.self.inside.tickets c.args.subject _ (all_told c.self.inside.ports.items) (all_told c.send_call.new.ports.items) refl c.in_default.ensures c.self.invariant.0,
+  TicketsRise-sent c.self.inside.tickets c.args.subject _ (all_told c.self.inside.ports.items) (all_told c.send_call.new.ports.items) refl c.in_default.ensures c.self.invariant.0 c.self.invariant.1,
   c.self.invariant.2,
   λ _. c.self.invariant.3 c.if-self.false,
-  omega (arith, c.self.invariant.4, c.in_default.ensures.count),
+  omega (arith, c.self.invariant.4, c.in_default.ensures.count, told-length c.self.inside.ports.items, told-length c.send_call.new.ports.items),
 )
 
 pub returns-clause-kept : goal.returns-clause-kept
 returns-clause-kept g c =
     let inside = c.self.inside in
-    let before : DeskView _ = record { ports = inside.ports.items; inbox = inside.inbox; ended = inside.ended.items; tickets = inside.tickets; is_over = inside.is_over } in
+    let before : DeskView _ = record { ports = all_told inside.ports.items; inbox = inside.inbox; ended = inside.ended.items; tickets = inside.tickets; is_over = inside.is_over } in
     let after : DeskView _ = record {
-      ports = c.send_call.new.ports.items;
+      ports = all_told c.send_call.new.ports.items;
       inbox = c.receive-answered.new.inbox;
       ended = inside.ended.items;
       tickets = inside.tickets + 1;

@@ -1,5 +1,5 @@
 use Rattle.std.proofs.Common.{◌∙◌, refl, sym, ap, subst, ◌++◌, map, arith}
-use Rattle.rx_mailbox.specs.Boxes.{HasEachBye}
+use Rattle.rx_mailbox.specs.Boxes.{all_told, HasEachBye}
 use Rattle.rx_pump.specs.declared.pump_end.PumpEnd.{PumpEnd}
 use Rattle.rx_pump.specs.declared.pump_fault.PumpFault.TheVariants.{DrainerGone, CallerGone}
 use Rattle.rx_pump.specs.declared.pump_stop.PumpStop.{PumpStop}
@@ -21,7 +21,7 @@ returns-in-Err g c =
     } in
     subst (λ (p : PumpView _). PumpHasStopped p stop) c.self.view_is
     (PumpHasStopped-drainers pump stop c.in-Err.place refl refl
-    (EndsSome-first inside.parts.drainers.items c.finish_all.new.ports.items inside.ended_drainers.items c.finish_all.new.ended.items c.self.invariant.2 c.in-Err.ensures.ended.0)
+    (EndsSome-first (all_told inside.parts.drainers.items) (all_told c.finish_all.new.ports.items) inside.ended_drainers.items c.finish_all.new.ended.items c.self.invariant.2 c.in-Err.ensures.ended.0)
     refl c.self.invariant.4 refl (omega (arith, c.in-Err.ensures.ended.1, c.finish_all.new.ended.ok.0))
     (subst (λ (p : PumpView _). HasEachBye p.inbox) (sym c.self.view_is) c.requires.each_bye)
     (ap (λ (p : PumpView _). p.fault) c.self.view_is ∙ c.requires.whole) c.self.invariant.0)
@@ -38,8 +38,8 @@ returns-in-Err-finish_all g c =
       ended_replies = c.finish_all-2.new.ended;
     } in
     subst (λ (p : PumpView _). PumpHasStopped p stop) c.self.view_is
-    (PumpHasStopped-replies pump stop c.in-Err-finish_all.place refl refl ended.1 (ended.0 ∙ ap (λ first. first ++ map with_bye inside.parts.drainers.items) c.self.invariant.2)
-    (EndsSome-first inside.parts.replies.items c.finish_all-2.new.ports.items inside.ended_replies.items c.finish_all-2.new.ended.items c.self.invariant.4 c.in-Err-finish_all.ensures.ended.0)
+    (PumpHasStopped-replies pump stop c.in-Err-finish_all.place refl refl ended.1 (ended.0 ∙ ap (λ first. first ++ map with_bye (all_told inside.parts.drainers.items)) c.self.invariant.2)
+    (EndsSome-first (all_told inside.parts.replies.items) (all_told c.finish_all-2.new.ports.items) inside.ended_replies.items c.finish_all-2.new.ended.items c.self.invariant.4 c.in-Err-finish_all.ensures.ended.0)
     refl (omega (arith, c.in-Err-finish_all.ensures.ended.1, c.finish_all-2.new.ended.ok.0))
     (subst (λ (p : PumpView _). HasEachBye p.inbox) (sym c.self.view_is) c.requires.each_bye)
     (ap (λ (p : PumpView _). p.fault) c.self.view_is ∙ c.requires.whole) c.self.invariant.0)
@@ -58,8 +58,8 @@ returns g c =
     } in
     subst (λ (p : PumpView _). HasPumped p left) c.self.view_is
     (HasPumped-all pump left refl refl
-    (c.in_default.ensures.ended.0 ∙ ap (λ first. first ++ map with_bye inside.parts.drainers.items) c.self.invariant.2)
-    (c.in_default-finish_all.ensures.ended.0 ∙ ap (λ first. first ++ map with_bye inside.parts.replies.items) c.self.invariant.4)
+    (c.in_default.ensures.ended.0 ∙ ap (λ first. first ++ map with_bye (all_told inside.parts.drainers.items)) c.self.invariant.2)
+    (c.in_default-finish_all.ensures.ended.0 ∙ ap (λ first. first ++ map with_bye (all_told inside.parts.replies.items)) c.self.invariant.4)
     refl refl
     (subst (λ (p : PumpView _). HasEachBye p.inbox) (sym c.self.view_is) c.requires.each_bye)
     (ap (λ (p : PumpView _). p.fault) c.self.view_is ∙ c.requires.whole) c.self.invariant.0)
