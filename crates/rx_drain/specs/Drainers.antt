@@ -3,7 +3,7 @@ use Rattle.std.specs.Prelude.{◌≡◌, ◌+◌, ◌<◌, ◌≤◌, ◌⊎◌,
 use Rattle.std.specs.List.{list_any}
 use Rattle.rx_mailbox.specs.declared.letter.Letter.{Letter}
 use Rattle.rx_mailbox.specs.declared.letter.Post.TheVariants.{Bye}
-use Rattle.rx_mailbox.specs.Boxes.{Outgoing, Incoming, incoming}
+use Rattle.rx_mailbox.specs.Boxes.{Outgoing, Incoming, all_told, incoming}
 use Rattle.rx_mailbox.specs.Letters.{letter}
 use Rattle.rx_note.specs.declared.event.Event.{Event}
 use Rattle.rx_pump.specs.declared.call.Call.{Call}
@@ -47,7 +47,7 @@ module _ {S Rest : Type 0} where
   abbrev pub view_of : DrainerLeft S Rest → Bool → Option DrainFault → DrainerView S Rest
   view_of hands left fault = record {
     inbox = hands.parts.inbox;
-    ports = hands.ended.items ++ hands.parts.subjects.items;
+    ports = hands.ended.items ++ all_told hands.parts.subjects.items;
     kept = hands.kept.items;
     away = hands.put_away.items;
     keeps = hands.put_away.keeps;

@@ -1,7 +1,7 @@
 // One letter: the sinks take it, and the ports send what it owes.
 ghost use Rattle.std.specs.Prelude.{◌≡◌, true, false, None, IfOk, MatchResult, OnOk, OnErr};
 ghost use Rattle.rx_mailbox.specs.declared.letter.Post.TheVariants.{Bye};
-ghost use Rattle.rx_mailbox.specs.Boxes.{with_letter};
+ghost use Rattle.rx_mailbox.specs.Boxes.{all_told, with_letter};
 ghost use Rattle.rx_mailbox.specs.Letters as letters;
 ghost use Rattle.rx_pump.specs.Pumps.{AreSame};
 ghost use Rattle.rx_drain.specs.Drainers.{Fits, Goes, HandlesLetter, HandlesNext, HearsBye, IsOfSubject, Pays, TakesMore, TakesSome, any_may_wait, view_of};
@@ -192,7 +192,7 @@ fn receive_more<S: Drop, R: Wait>(
     letters: u32,
 ) -> Result<Letter<Out<S>>, TryRecvFault>
     ensures received { MatchResult result (λ letter. parts.new.inbox ≡ with_letter parts.old.inbox letter) (λ _. parts.new.inbox ≡ parts.old.inbox) }
-    ensures subjects { parts.new.subjects.items ≡ parts.old.subjects.items }
+    ensures subjects { all_told parts.new.subjects.items ≡ all_told parts.old.subjects.items }
 {
     let fault = match parts.inbox.try_recv(rt) {
         Ok(letter) => return Ok(letter),

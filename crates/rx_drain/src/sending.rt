@@ -1,5 +1,6 @@
 // What a drainer sends its subjects.
 ghost use Rattle.std.specs.Prelude.{[], ◌∷◌, map};
+ghost use Rattle.rx_mailbox.specs.Boxes.{all_told};
 ghost use Rattle.rx_sink.specs.KeptSinks.{events_of};
 ghost use Rattle.rx_drain.specs.Calls.{SendsEvents, partings_of};
 
@@ -19,7 +20,7 @@ pub fn send_asks<S: Drop, R: Wait>(
     subject: u32,
     asks: Asks,
 ) -> Option<DrainFault>
-    ensures { SendsEvents result (map (λ event. (subject, event)) (events_of asks)) subjects.old.items subjects.new.items }
+    ensures { SendsEvents result (map (λ event. (subject, event)) (events_of asks)) (all_told subjects.old.items) (all_told subjects.new.items) }
 {
     let who = asks.who;
     for _ in 0..asks.items {
@@ -41,7 +42,7 @@ pub fn part_all<S: Sink, R: Wait>(
     subjects: &mut Vec<Port<Call<S>>, Heap>,
     kept: &[Kept<S>],
 ) -> Option<DrainFault>
-    ensures { SendsEvents result (partings_of kept.now) subjects.old.items subjects.new.items }
+    ensures { SendsEvents result (partings_of kept.now) (all_told subjects.old.items) (all_told subjects.new.items) }
 {
     for one in kept {
         let asks = Asks {
@@ -64,7 +65,7 @@ fn send<S: Drop, R: Wait>(
     subject: u32,
     event: Event,
 ) -> Option<DrainFault>
-    ensures { SendsEvents result ((subject, event) ∷ []) subjects.old.items subjects.new.items }
+    ensures { SendsEvents result ((subject, event) ∷ []) (all_told subjects.old.items) (all_told subjects.new.items) }
 {
     let place = subject as usize;
     if place >= subjects.len() {

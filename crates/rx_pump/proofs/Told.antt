@@ -17,6 +17,11 @@ module _ {X : Type 0} where
   pub told-count : (before after : List (Outgoing X)) → all_told after ≡ all_told before → length after ≡ length before
   told-count before after same = sym (told-length after) ∙ ap length same ∙ told-length before
 
+  -- there is none
+  pub told-nil : (ports : List (Outgoing X)) → all_told ports ≡ [] → ports ≡ []
+  told-nil [] none = refl
+  told-nil (port ∷ ports) none = cc
+
   -- one was written
   pub told-set : (ports : List (Outgoing X)) (place : ℕ) (after : Outgoing X) → all_told (set ports place after) ≡ set (all_told ports) place (told after)
   told-set ports place after = map-set told ports place after

@@ -1,10 +1,11 @@
-use Rattle.std.proofs.Common.{◌≡◌, ◌∙◌, ◌++◌, ap, length, sym, refl, subst, false, Bool, ℕ, Option, Some, None, is_some, arith}
-use Rattle.rx_mailbox.specs.Boxes.{Incoming}
+use Rattle.std.proofs.Common.{◌≡◌, ◌∙◌, ◌++◌, ap, sym, refl, subst, false, Bool, ℕ, Option, Some, None, is_some, arith}
+use Rattle.rx_mailbox.specs.Boxes.{Incoming, all_told}
 use Rattle.rx_pump.specs.Pumps.{AreSame}
 use Rattle.rx_drain.specs.declared.drain_fault.DrainFault.{DrainFault}
 use Rattle.rx_drain.specs.declared.drainer_left.DrainerLeft.{DrainerLeft}
 use Rattle.rx_drain.specs.declared.drainer_parts.DrainerParts.{DrainerParts}
 use Rattle.rx_drain.specs.Drainers.{Fits, Goes, TakesMore, view_of}
+use Rattle.rx_pump.proofs.Told.{told-count, told-nil}
 use Rattle.rx_drain.proofs.Ending.{goes_further, goes_letter, goes_nowhere, takes_none, takes_then}
 use Rattle.rx_drain.proofs.handling.handle_more.Goals as goal
 
@@ -15,14 +16,14 @@ none_of (Some fault) none = cc
 
 module _ {S Rest : Type 0} where
   -- what a port holds back, and whether its inbox was woken, is nothing that it is asked for
-  fits_with : (leave : ℕ) (left : Bool) (fault : Option DrainFault) (hands : DrainerLeft S Rest) (parts : DrainerParts S) → parts.subjects.items ≡ hands.parts.subjects.items
+  fits_with : (leave : ℕ) (left : Bool) (fault : Option DrainFault) (hands : DrainerLeft S Rest) (parts : DrainerParts S) → all_told parts.subjects.items ≡ all_told hands.parts.subjects.items
       → Fits leave left fault hands → Fits leave left fault (record hands { parts = parts })
   fits_with leave left fault hands parts same fits = record {
-    leave_is = omega (arith, fits.leave_is, ap length same);
+    leave_is = omega (arith, fits.leave_is, told-count hands.parts.subjects.items parts.subjects.items same);
     away_room = fits.away_room;
-    ended_room = omega (arith, fits.ended_room, ap length same);
+    ended_room = omega (arith, fits.ended_room, told-count hands.parts.subjects.items parts.subjects.items same);
     open_ports = fits.open_ports;
-    ended_ports = λ is fine. same ∙ fits.ended_ports is fine;
+    ended_ports = λ is fine. told-nil parts.subjects.items (same ∙ ap all_told (fits.ended_ports is fine));
   }
 
 pub loop-count-init : goal.loop-count-init
@@ -54,7 +55,7 @@ returns-in_default-clause-goes g c =
     let view = view_of hands c.loop-count.now.left c.loop-count.now.fault in
     let first = view_of c.args.hands.now c.args.handled.left c.args.handled.fault in
     let there = subst (λ l. Goes g.S.Sink.acts first (record view { ports = hands.ended.items ++ l })) (sym c.receive_more.ensures.subjects) c.loop-count.invariant.goes in
-    subst (λ (i : Incoming _). Goes g.S.Sink.acts first (record view { inbox = i; ports = hands.ended.items ++ c.receive_more.new.parts.subjects.items }))
+    subst (λ (i : Incoming _). Goes g.S.Sink.acts first (record view { inbox = i; ports = hands.ended.items ++ all_told c.receive_more.new.parts.subjects.items }))
     (sym c.in_default.ensures.received) there
 
 pub handle-now-requires : goal.handle-now-requires
@@ -70,7 +71,7 @@ loop-count-preserved g c =
     let hands = c.loop-count.hands in
     let parts = c.receive_more.new.parts in
     let first = view_of c.args.hands.now c.args.handled.left c.args.handled.fault in
-    let second = record (view_of hands c.loop-count.now.left c.loop-count.now.fault) { ports = hands.ended.items ++ parts.subjects.items } in
+    let second = record (view_of hands c.loop-count.now.left c.loop-count.now.fault) { ports = hands.ended.items ++ all_told parts.subjects.items } in
     let third = view_of c.handle-now.new.hands c.handle-now.result.left c.handle-now.result.fault in
     let whole = none_of c.loop-count.now.fault (sym c.is_some.ensures ∙ c.if-is_some.false) in
     let there = subst (λ l. Goes g.S.Sink.acts first (record (view_of hands c.loop-count.now.left c.loop-count.now.fault) { ports = hands.ended.items ++ l }))

@@ -1,9 +1,11 @@
 use Rattle.std.proofs.Common.{arith}
+use Rattle.rx_mailbox.specs.Boxes.{all_told}
+use Rattle.rx_pump.proofs.Told.{told-length}
 use Rattle.rx_drain.proofs.Events.{SendsEvents-one, SendsEvents-no_port, SendsEvents-back}
 use Rattle.rx_drain.proofs.sending.send.Goals as goal
 
 pub returns-then-place-len : goal.returns-then-place-len
-returns-then-place-len g c = SendsEvents-no_port c.args.subjects.now.items c.args.subject c.args.event (omega (arith, c.len.ensures, c.if-place-len.true))
+returns-then-place-len g c = SendsEvents-no_port (all_told c.args.subjects.now.items) c.args.subject c.args.event (omega (arith, c.len.ensures, c.if-place-len.true, told-length c.args.subjects.now.items))
 
 pub returns-in_default : goal.returns-in_default
 returns-in_default g c =
