@@ -1,12 +1,12 @@
 //! Workers that were hired for desks, and how they end.
-ghost use Rattle.std.specs.Prelude.{◌≡◌, ◌≤◌, ◌↔◌, [], List, IfSome, IsSomeAnd, IsTrue, vec_capacity};
+ghost use Rattle.std.specs.Prelude.{◌≡◌, ◌≤◌, ◌↔◌, [], List, IfSome, IsFalse, IsSomeAnd, IsTrue, vec_capacity};
 ghost use Rattle.rx_config.specs.declared.config.Config.{Config};
 ghost use Rattle.rx_mailbox.specs.Boxes.{outgoing};
 ghost use Rattle.rx_mailbox.specs.Settling.{GotAll};
 ghost use Rattle.rx_mailbox.specs.Letters.{posts};
 ghost use Rattle.rx_pump.specs.Desks.{KeepsDesk};
 ghost use Rattle.rx_workers.specs.Crews.{SettlesWith, worker_desk};
-ghost use Rattle.rx_workers.specs.Service.{HasServedJust, IsNewOver};
+ghost use Rattle.rx_workers.specs.Service.{EndsEarly, HasServedJust, IsNewOver};
 
 use crate::accepting::ring_at;
 use crate::moments::Moments;
@@ -84,6 +84,7 @@ impl<M: Moments + Drop, C: Read + Drop, W: Write + Drop, P: Readiness<C> + Drop>
         requires { port.box ≡ self.inbox.box }
         ensures desk { KeepsDesk (worker_desk self) result.desk }
         ensures served { IsTrue result.has_all → (config : Config) → (xs : List (C × W)) → IsNewOver config (worker_desk self) self → port ≡ outgoing self.inbox.box 0 (posts 0 xs) → HasServedJust M.tells C.remaining W.contents config xs (worker_desk self) result.desk }
+        ensures early { IsFalse result.has_all → (config : Config) → (xs : List (C × W)) → IsNewOver config (worker_desk self) self → port ≡ outgoing self.inbox.box 0 (posts 0 xs) → EndsEarly M.tells C.remaining W.contents config xs (worker_desk self) result.desk }
     {
         let Hired { worker, room } = self;
         let dismissed = dismiss(rt, port);
