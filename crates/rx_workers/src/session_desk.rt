@@ -182,6 +182,7 @@ impl<'a, R: Wait, M: Moments + Drop, W: Write + Drop> SessionDesk<'a, R, M, W> {
 }
 
 impl<'a, R: Wait, M: Moments + Drop, W: Write + Drop> Desk<W> for SessionDesk<'a, R, M, W> {
+    ghost use Rattle.rx_pump.specs.Desks.{IsOver};
     ghost use Rattle.rx_workers.specs.Queues.{Waits};
     ghost use Rattle.rx_workers.specs.SessionDesks.{emits, follows, knows};
 
@@ -200,7 +201,12 @@ impl<'a, R: Wait, M: Moments + Drop, W: Write + Drop> Desk<W> for SessionDesk<'a
         Some(self.config.subjects[place].memory(self.heap))
     }
 
-    fn emit(&mut self, name: &Name, note: Note) -> Response {
+    fn emit(&mut self, name: &Name, note: Note) -> Response
+        ensures emits { emits M.tells self.old name.now note result self.new }
+
+        // What was begun may have been put before; an emission at a desk that makes no call any more puts nothing.
+        ensures over { IsOver self.old.calls → self.new.calls ≡ self.old.calls }
+    {
         let Some(place) = self.place_of(name) else {
             return Response::Refused(Word::Subject);
         };
