@@ -25,7 +25,7 @@ use Rattle.rx_workers.specs.declared.client.Talk.{Talk}
 use Rattle.rx_workers.specs.declared.joined.Joined.{Joined}
 use Rattle.rx_workers.specs.declared.worker_end.WorkerEnd.{WorkerEnd}
 use Rattle.rx_workers.specs.Workers.{worker_at_end}
-use Rattle.rx_workers.specs.Working.{WorkerView, worker, State, state, Deed, Admitted, GivenUp, Dismissed, Abandoned, Turned, Parted, admitted, Begins, IsTalkOf, Leaves, HasArrivals, HasConnection, HasNoConnection, HasTurn, HasTurnBehind, HasTurnTo, HasTurns, IsConnection, PartsAt, ServesAt, Does, Works, Goes, IsServed, HasWorked, calls, goes_on}
+use Rattle.rx_workers.specs.Working.{WorkerView, worker, State, state, Deed, Admitted, GivenUp, Dismissed, Abandoned, Turned, Parted, admitted, Begins, IsTalkOf, Leaves, HasArrivals, HasConnection, HasNoConnection, HasTurn, HasTurnBehind, HasTurnTo, HasTurns, IsConnection, PartsAt, ServesAt, Does, Works, DoesSome, IsServed, HasWorked, calls, goes_on}
 use Rattle.rx_workers.proofs.Sessions.{keeps-equal, keeps-then, turn_keeps}
 
 module _ {C W : Type 0} where
@@ -59,12 +59,12 @@ module _ {C W : Type 0} where
 
 module _ {M C W : Type 0} (tells : M → ℕ → M → Type 0) (remaining : C → Option (List ℕ)) (contents : W → Option (List ℕ)) where
   -- nothing was done
-  pub Goes-same : (s : State M C W) → Goes tells remaining contents s s
-  Goes-same s = ([], refl)
+  pub DoesSome-same : (s : State M C W) → DoesSome tells remaining contents s s
+  DoesSome-same s = ([], refl)
 
   -- one deed
-  pub Goes-one : (deed : Deed (C × W)) (before after : State M C W) → Does tells remaining contents deed before after → Goes tells remaining contents before after
-  Goes-one deed before after does = (deed ∷ [], (before, refl, does))
+  pub DoesSome-one : (deed : Deed (C × W)) (before after : State M C W) → Does tells remaining contents deed before after → DoesSome tells remaining contents before after
+  DoesSome-one deed before after does = (deed ∷ [], (before, refl, does))
 
   -- deeds after deeds
   works-then : (first more : List (Deed (C × W))) (a b c : State M C W) → Works tells remaining contents first a b → Works tells remaining contents more b c
@@ -72,8 +72,8 @@ module _ {M C W : Type 0} (tells : M → ℕ → M → Type 0) (remaining : C �
   works-then first [] a b c p q = subst (λ (s : State M C W). Works tells remaining contents first a s) (sym q) p
   works-then first (deed ∷ more) a b c p q = (q.0, works-then first more a b q.0 p q.1, q.2)
 
-  pub Goes-then : (a b c : State M C W) → Goes tells remaining contents a b → Goes tells remaining contents b c → Goes tells remaining contents a c
-  Goes-then a b c p q = (q.0 ++ p.0, works-then p.0 q.0 a b c p.1 q.1)
+  pub DoesSome-then : (a b c : State M C W) → DoesSome tells remaining contents a b → DoesSome tells remaining contents b c → DoesSome tells remaining contents a c
+  DoesSome-then a b c p q = (q.0 ++ p.0, works-then p.0 q.0 a b c p.1 q.1)
 
   -- CONNECTIONS
 
@@ -96,13 +96,13 @@ module _ {M C W : Type 0} (tells : M → ℕ → M → Type 0) (remaining : C �
   pub arrived-none : (s : State M C W) → HasArrivals tells remaining contents s s
   arrived-none s = record { deeds = []; each = All-nil IsConnection; last = s; came = refl; none = inl refl; closed = λ closed. refl }
 
-  none-goes : (before after : State M C W) → HasNoConnection tells remaining contents before after → Goes tells remaining contents before after
+  none-goes : (before after : State M C W) → HasNoConnection tells remaining contents before after → DoesSome tells remaining contents before after
   none-goes before after (inl same) = ([], same)
-  none-goes before after (inr (inl bye)) = Goes-one Dismissed before after bye
-  none-goes before after (inr (inr gone)) = Goes-one Abandoned before after gone
+  none-goes before after (inr (inl bye)) = DoesSome-one Dismissed before after bye
+  none-goes before after (inr (inr gone)) = DoesSome-one Abandoned before after gone
 
-  pub Arrivals-goes : (before after : State M C W) → HasArrivals tells remaining contents before after → Goes tells remaining contents before after
-  Arrivals-goes before after arrivals = Goes-then before arrivals.last after (arrivals.deeds, arrivals.came) (none-goes arrivals.last after arrivals.none)
+  pub Arrivals-goes : (before after : State M C W) → HasArrivals tells remaining contents before after → DoesSome tells remaining contents before after
+  Arrivals-goes before after arrivals = DoesSome-then before arrivals.last after (arrivals.deeds, arrivals.came) (none-goes arrivals.last after arrivals.none)
 
   -- TURNS OF ONE SESSION
 
@@ -121,24 +121,24 @@ module _ {M C W : Type 0} (tells : M → ℕ → M → Type 0) (remaining : C �
       → HasTurns tells remaining contents place before after
   turns-two place before mid after to more = inl (mid, to.0, subst (λ (b : Bool). HasTurnBehind tells remaining contents b place mid after) to.1 more)
 
-  behind-goes : (at_once : Bool) (place : ℕ) (before after : State M C W) → HasTurnBehind tells remaining contents at_once place before after → Goes tells remaining contents before after
-  behind-goes true place before after had = Goes-one (Turned place) before after had
+  behind-goes : (at_once : Bool) (place : ℕ) (before after : State M C W) → HasTurnBehind tells remaining contents at_once place before after → DoesSome tells remaining contents before after
+  behind-goes true place before after had = DoesSome-one (Turned place) before after had
   behind-goes false place before after same = ([], same)
 
-  turns-goes : (place : ℕ) (before after : State M C W) → HasTurns tells remaining contents place before after → Goes tells remaining contents before after
+  turns-goes : (place : ℕ) (before after : State M C W) → HasTurns tells remaining contents place before after → DoesSome tells remaining contents before after
   turns-goes place before after (inl had) =
-      Goes-then before had.0 after (Goes-one (Turned place) before had.0 had.1) (behind-goes (goes_on had.1.result) place had.0 after had.2)
+      DoesSome-then before had.0 after (DoesSome-one (Turned place) before had.0 had.1) (behind-goes (goes_on had.1.result) place had.0 after had.2)
   turns-goes place before after (inr (none, same)) = ([], same)
 
-  parts-goes : (place : ℕ) (before after : State M C W) → PartsAt tells remaining contents place before after → Goes tells remaining contents before after
-  parts-goes place before after (inl did) = Goes-one (Parted place) before after did
+  parts-goes : (place : ℕ) (before after : State M C W) → PartsAt tells remaining contents place before after → DoesSome tells remaining contents before after
+  parts-goes place before after (inl did) = DoesSome-one (Parted place) before after did
   parts-goes place before after (inr (none, same)) = ([], same)
 
   pub Serves-goes : (place : ℕ) (is_gone : Bool) (before after : State M C W) → ServesAt tells remaining contents place is_gone before after
-      → Goes tells remaining contents before after
+      → DoesSome tells remaining contents before after
   Serves-goes place false before after served = turns-goes place before after served
   Serves-goes place true before after served =
-      Goes-then before served.0 after (turns-goes place before served.0 served.1) (parts-goes place served.0 after served.2)
+      DoesSome-then before served.0 after (turns-goes place before served.0 served.1) (parts-goes place served.0 after served.2)
 
   -- WHAT A DEED KEEPS OF THE DESK
   does_keeps : (deed : Deed (C × W)) (before after : State M C W) → Does tells remaining contents deed before after → KeepsSession before.session after.session
@@ -333,7 +333,7 @@ module _ {M C W : Type 0} (tells : M → ℕ → M → Type 0) (remaining : C �
   state_closed : (s : State M C W) → s.is_open ≡ false → s ≡ state s.session s.inbox s.clients s.sessions false
   state_closed s closed = ap (λ (b : Bool). state s.session s.inbox s.clients s.sessions b) closed
 
-  pub has_worked : (session : SessionView M (LineSink W)) (inbox : Incoming (C × W)) (after : State M C W) → Goes tells remaining contents (state session inbox [] 0 true) after
+  pub has_worked : (session : SessionView M (LineSink W)) (inbox : Incoming (C × W)) (after : State M C W) → DoesSome tells remaining contents (state session inbox [] 0 true) after
       → after.is_open ≡ false → IsQuiet after.clients
       → HasWorked tells remaining contents (worker session inbox) (worker after.session after.inbox) after.sessions
   has_worked session inbox after goes closed quiet =
@@ -370,11 +370,11 @@ module _ {C W : Type 0} (tells : Unit {0} → ℕ → Unit {0} → Type 0) (rema
 
   -- so a worker has that was at work
   pub worker-ended : (before : WorkerView (Unit {0}) C W) (session : SessionView (Unit {0}) (LineSink W)) (inbox : Incoming (C × W)) (begun shift : State (Unit {0}) C W) (end : WorkerEnd C W)
-      → before ≡ worker session inbox → begun ≡ state session inbox [] 0 true → Goes tells remaining contents begun shift → shift.is_open ≡ false → IsQuiet shift.clients
+      → before ≡ worker session inbox → begun ≡ state session inbox [] 0 true → DoesSome tells remaining contents begun shift → shift.is_open ≡ false → IsQuiet shift.clients
       → end.desk ≡ shift.session.calls → end.inbox ≡ shift.inbox → end.sessions ≡ shift.sessions
       → (joined : Option Joined) × (queue : Queue) × HasWorked tells remaining contents before (worker_at_end before joined queue end) end.sessions
   worker-ended before session inbox begun shift end begins begun_is goes closed quiet desk inbox_is sessions_are =
-      let from : Goes tells remaining contents (state session inbox [] 0 true) shift = subst (λ (s : State (Unit {0}) C W). Goes tells remaining contents s shift) begun_is goes in
+      let from : DoesSome tells remaining contents (state session inbox [] 0 true) shift = subst (λ (s : State (Unit {0}) C W). DoesSome tells remaining contents s shift) begun_is goes in
       let all = has_worked tells remaining contents session inbox shift from closed quiet in
       let counted_so : HasWorked tells remaining contents (worker session inbox) (worker shift.session shift.inbox) end.sessions =
       subst (λ (n : ℕ). HasWorked tells remaining contents (worker session inbox) (worker shift.session shift.inbox) n) (sym sessions_are) all in

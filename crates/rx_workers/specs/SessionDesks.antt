@@ -24,8 +24,8 @@ use Rattle.rx_workers.specs.Responses.{response_of, has_joined, sink_back}
 use Rattle.rx_workers.specs.declared.joined.Joined.{Joined}
 use Rattle.rx_config.specs.declared.subject_config.SubjectConfig.{SubjectConfig}
 
--- the notes that a session's desk began to emit: the place of their subject, the events whose calls are still to be sent, and how
--- many calls were sent and have no answer yet
+-- the notes that a session's desk began to emit: the place of their subject, the events whose calls wait, and how many calls were
+-- posted and have no answer yet
 pub record Queue : Type 0 where
   pub subject : ℕ
   pub events : List Event

@@ -1,6 +1,6 @@
 -- What a worker does: it serves the connections that it receives, each by a session that has its turns among those of the
 -- others (this project's own rule).
-use Rattle.std.specs.Prelude.{◌≡◌, ◌⊎◌, ◌+◌, ◌-◌, ◌^◌, ◌<◌, min, ℕ, Bool, true, false, List, [], ◌∷◌, ◌++◌, length, Option, None, Some, option_map}
+use Rattle.std.specs.Prelude.{◌≡◌, ◌⊎◌, ◌<◌, ℕ, Bool, true, false, List, [], ◌∷◌, ◌++◌, length, Option, None, Some, option_map}
 use Rattle.std.specs.List.{All, Contains}
 use Rattle.rx_mailbox.specs.Boxes.{Incoming, with_letter}
 use Rattle.rx_mailbox.specs.Letters.{letter}
@@ -16,6 +16,7 @@ use Rattle.rx_session.specs.declared.session_end.SessionEnd.{SessionEnd}
 use Rattle.rx_session.specs.declared.session_end.SessionEnd.TheVariants as ends
 use Rattle.rx_session.specs.declared.turn.Turn.{Turn}
 use Rattle.rx_session.specs.declared.turn.Turn.TheVariants.{Again, Waits, Stuck, Over}
+use Rattle.rx_sink.specs.Acts.{raised}
 use Rattle.rx_sink.specs.declared.line_sink.LineSink.{LineSink}
 use Rattle.rx_workers.specs.Clients.{AreSameClients, IsFollower, IsQuiet, IsTalk, Sets, client_at}
 use Rattle.rx_workers.specs.SessionDesks.{SessionView, KeepsSession, Disposes, emits, follows, knows}
@@ -188,7 +189,7 @@ module _ {M C W : Type 0} (tells : M → ℕ → M → Type 0) (remaining : C �
   abbrev pub Does : Deed (C × W) → State M C W → State M C W → Type 0
   Does (Admitted connection place) before after =
       Receives (Body connection) before after × Admits (Some place) connection before.clients after.clients
-      × (after.sessions ≡ min (before.sessions + 1) (2 ^ 64 - 1)) × (after.is_open ≡ before.is_open)
+      × (after.sessions ≡ raised before.sessions) × (after.is_open ≡ before.is_open)
   Does (GivenUp connection) before after =
       Receives (Body connection) before after × Admits None connection before.clients after.clients
       × (after.sessions ≡ before.sessions) × (after.is_open ≡ before.is_open)
@@ -208,8 +209,8 @@ module _ {M C W : Type 0} (tells : M → ℕ → M → Type 0) (remaining : C �
   Works (deed ∷ deeds) before after = (mid : State M C W) × Works deeds before mid × Does deed mid after
 
   -- some deeds
-  abbrev pub Goes : State M C W → State M C W → Type 0
-  Goes before after = (deeds : List (Deed (C × W))) × Works deeds before after
+  abbrev pub DoesSome : State M C W → State M C W → Type 0
+  DoesSome before after = (deeds : List (Deed (C × W))) × Works deeds before after
 
   -- a connection came, and was given a place, or was given up
   abbrev pub HasConnection : State M C W → State M C W → Type 0

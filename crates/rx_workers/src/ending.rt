@@ -8,7 +8,7 @@ ghost use Rattle.rx_workers.specs.Accepting.{Deals};
 ghost use Rattle.rx_workers.specs.Crews.{AreOut, IsPortOf, worker_desk, first_lost};
 ghost use Rattle.rx_workers.specs.Service.{FirstEndsEarly, HaveServedAll, IsNewOver, port_to};
 
-use crate::hired::{Hired, Returned};
+use crate::hired::{Hired, ReturnedDesk};
 use crate::moments::Moments;
 use crate::readiness::{Bell, Readiness};
 use rx_heap::Heap;
@@ -51,7 +51,7 @@ pub fn end_all<
             unreachable!()
         };
         let place = desks.len();
-        let Returned { desk, has_all } = worker.end(rt, port, bells, place);
+        let ReturnedDesk { desk, has_all } = worker.end(rt, port, bells, place);
         desks.push_reserved(desk);
         lost = first_lost(lost, place, has_all);
     }

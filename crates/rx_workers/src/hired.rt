@@ -52,7 +52,7 @@ impl<M: Moments + Drop, C: Read + Drop, W: Write + Drop, P: Readiness<C> + Drop>
 
 /// What comes back of a worker that has ended.
 #[derive(Drop)]
-pub struct Returned<W: Write + Drop> {
+pub struct ReturnedDesk<W: Write + Drop> {
     /// Its desk, as its calls left it.
     pub desk: CallDesk<LineSink<W>>,
     /// Whether all that was sent to it came, and then its Bye.
@@ -80,7 +80,7 @@ impl<M: Moments + Drop, C: Read + Drop, W: Write + Drop, P: Readiness<C> + Drop>
         port: Port<(C, W)>,
         bells: &Vec<B, Heap>,
         place: usize,
-    ) -> Returned<W>
+    ) -> ReturnedDesk<W>
         requires { port.box ≡ self.inbox.box }
         ensures desk { KeepsDesk (worker_desk self) result.desk }
         ensures served { IsTrue result.has_all → (config : Config) → (xs : List (C × W)) → IsNewOver config (worker_desk self) self → port ≡ outgoing self.inbox.box 0 (posts 0 xs) → HasServedJust M.tells C.remaining W.contents config xs (worker_desk self) result.desk }
@@ -95,7 +95,7 @@ impl<M: Moments + Drop, C: Read + Drop, W: Write + Drop, P: Readiness<C> + Drop>
             sessions: _,
         } = worker.join(rt);
         let has_all = ended_and_settled(inbox, dismissed, room);
-        Returned { desk, has_all }
+        ReturnedDesk { desk, has_all }
     }
 }
 
