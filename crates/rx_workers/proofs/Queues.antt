@@ -18,7 +18,7 @@ use Rattle.rx_pump.specs.declared.call_error.CallError.TheVariants.{SubjectGone,
 use Rattle.rx_pump.specs.declared.reply.Reply.{Reply}
 use Rattle.rx_session.specs.Begun.{Asked, IsBehind, asked}
 use Rattle.rx_sink.specs.declared.line_sink.LineSink.{LineSink}
-use Rattle.rx_workers.specs.Queues.{Posts, PostsEach, TellsEach, Waits}
+use Rattle.rx_workers.specs.Queues.{GoesBehind, Posts, PostsEach, TellsEach, Waits, with_waiting}
 use Rattle.rx_workers.specs.Responses.{response_of}
 use Rattle.rx_workers.specs.SessionDesks.{CallsOnce, EmitsAt, SessionView, emits, place_of}
 
@@ -201,11 +201,11 @@ module _ {M W : Type 0} (tells : M → ℕ → M → Type 0) where
 
   -- ONE MORE IS BEGUN
   pub Waits-begun : (base old now : SessionView M (LineSink W)) (begun : List Asked) (name : List ℕ) (note : Note) (behind place : ℕ)
-      → (length old.queue.events + old.queue.sent ≡ behind) × ((behind ≡ 0) ⊎ (place ≡ old.queue.subject)) → BeginsOne old now tells name note place
+      → GoesBehind old place behind → BeginsOne old now tells name note place
       → length begun ≡ behind → IsBehind (Waits tells) base begun old → Waits tells base (begun ++ asked name note ∷ []) now
   Waits-begun base old now [] name note behind place goes one count is =
-      let none_waits : old.queue.events ≡ [] = nil_from_length old.queue.events (omega (arith, goes.0, count)) in
-      let none_sent : old.queue.sent ≡ 0 = omega (arith, goes.0, count) in
+      let none_waits : old.queue.events ≡ [] = goes.none_waits in
+      let none_sent : old.queue.sent ≡ 0 = omega (arith, goes.count, count) in
       let events : now.queue.events ≡ Emit note one.at ∷ [] = one.events ∙ ap (λ (es : List Event). es ++ Emit note one.at ∷ []) none_waits in
       let named : place_of name now.subjects ≡ Some now.queue.subject = ap (place_of name) one.subjects ∙ one.named ∙ ap (λ (n : ℕ). Some n) (sym one.subject) in
       subst (λ (b : SessionView M (LineSink W)). Waits tells b (asked name note ∷ []) now) is
@@ -222,7 +222,7 @@ module _ {M W : Type 0} (tells : M → ℕ → M → Type 0) where
         joined = one.joined;
       })
   Waits-begun base old now (first ∷ rest) name note behind place goes one count w =
-      let same : place ≡ old.queue.subject = elim goes.1 [ inl none ↦ absurd (let no : ⊥ = omega (arith, none, count) in no) | inr same ↦ same ] in
+      let same : place ≡ old.queue.subject = elim goes.same [ inl none ↦ absurd (let no : ⊥ = omega (arith, none, count) in no) | inr same ↦ same ] in
       let subject : now.queue.subject ≡ old.queue.subject = one.subject ∙ same in
       let named : place_of name now.subjects ≡ Some now.queue.subject = ap (place_of name) one.subjects ∙ one.named ∙ ap (λ (n : ℕ). Some n) (sym one.subject) in
       let events : (w.posted ++ old.queue.events) ++ Emit note one.at ∷ [] ≡ w.posted ++ now.queue.events =
@@ -272,11 +272,26 @@ module _ {M W : Type 0} (tells : M → ℕ → M → Type 0) where
         joined = kept.joined ∙ w.joined;
       }
 
-  -- whatever waited waits still, at the same subject
-  pub record KeepsWaits (before after : SessionView M (LineSink W)) : Type 0 where
-    pub waits : (base : SessionView M (LineSink W)) (begun : List Asked) → Waits tells base begun before → Waits tells base begun after
-    pub subject : after.queue.subject ≡ before.queue.subject
-    pub subjects : after.subjects ≡ before.subjects
+  -- ITS CALL WAITS, and nothing else changed
+  pub Waits-waiting : (base old now : SessionView M (LineSink W)) (begun : List Asked) (event : Event)
+      → KeepsBegun old now → now.calls ≡ old.calls → now.queue.events ≡ old.queue.events ++ event ∷ [] → now.queue.sent ≡ old.queue.sent
+      → Waits tells base begun (with_waiting event old) → Waits tells base begun now
+  Waits-waiting base old now begun event kept calls events sent w = record {
+    none_waits = w.none_waits;
+    none_sent = w.none_sent;
+    posted = w.posted;
+    told =
+        subst (λ (m : M). TellsEach tells base.moments begun (w.posted ++ now.queue.events) m) (sym kept.moments)
+        (subst (λ (es : List Event). TellsEach tells base.moments begun (w.posted ++ es) old.moments) (sym events) w.told);
+    calls =
+        subst (λ (n : ℕ). PostsEach n base.calls w.posted now.calls) (sym kept.subject)
+        (subst (λ (d : DeskView (LineSink W)). PostsEach old.queue.subject base.calls w.posted d) (sym calls) w.calls);
+    sent = sent ∙ w.sent;
+    named = named_kept old now begun kept.subjects kept.subject w.named;
+    subjects = kept.subjects ∙ w.subjects;
+    window = kept.window ∙ w.window;
+    joined = kept.joined ∙ w.joined;
+  }
 
   -- THE FIRST IS ANSWERED
 

@@ -1,5 +1,5 @@
 -- What the workers of a crew served, as they end one after another.
-use Rattle.std.proofs.Common.{◌≡◌, ◌∙◌, sym, refl, ap, subst, ℕ, suc, ◌+◌, ◌<◌, ◌≤◌, ◌%◌, Bool, true, false, List, [], ◌∷◌, ◌++◌, append_assoc, append-nil, length, map, reverse, slice_get, get_or, drop, Option, None, Some, IfSome, Result, Ok, Err, inl, inr, arith}
+use Rattle.std.proofs.Common.{◌≡◌, ◌⊎◌, ◌∙◌, sym, refl, ap, subst, ℕ, suc, ◌+◌, ◌<◌, ◌≤◌, ◌%◌, Bool, true, false, List, [], ◌∷◌, ◌++◌, append_assoc, append-nil, length, map, reverse, slice_get, get_or, drop, Option, None, Some, IfSome, Result, Ok, Err, inl, inr, arith}
 use Rattle.std.specs.Option.{option_map}
 use Rattle.std.specs.List.{All, AllZip}
 use Rattle.std.proofs.lemmas.List.{length-append, length-map, length-reverse, reverse-append, map-append}
@@ -17,7 +17,7 @@ use Rattle.rx_pump.specs.Sends.{with_bye}
 use Rattle.rx_sink.specs.declared.line_sink.LineSink.{LineSink}
 use Rattle.rx_workers.specs.Accepting.{dealt, Deals, AcceptsAll}
 use Rattle.rx_workers.specs.Crews.{AreOut, IsPortOf, NamesLast, worker_desk, first_lost}
-use Rattle.rx_workers.specs.Service.{DealsUntil, HasServedJust, HaveServedFrom, HaveServedAll, IsNewOver, ServesUntil, fault_in, port_to, session_over, with_lost}
+use Rattle.rx_workers.specs.Service.{DealsUntil, EndsEarly, FirstEndsEarly, HasServedJust, HaveServedFrom, HaveServedAll, IsNewOver, ServesUntil, fault_in, port_to, session_over, with_lost}
 use Rattle.rx_workers.specs.SessionDesks.{SessionView, no_queue}
 use Rattle.rx_workers.specs.Telling.{IsTold}
 use Rattle.rx_workers.specs.Workers.{HasEnded, worker_at_end}
@@ -213,6 +213,58 @@ module _ {M C W : Type 0} (tells : M → ℕ → M → Type 0) (remaining : C �
       subst (λ (m : ℕ). HaveServedFrom tells remaining contents config m 0 xs all here) count
       (subst (λ (l : List (DeskView (LineSink W))). HaveServedFrom tells remaining contents config n 0 xs l here) whole so.served)
 
+  -- as many desks came back as served
+  served_from-long : (n d : ℕ) (xs : List (C × W)) (desks backs : List (DeskView (LineSink W))) → HaveServedFrom tells remaining contents config n d xs desks backs → length backs ≡ length desks
+  served_from-long n d xs [] [] so = refl
+  served_from-long n d xs [] (back ∷ backs) so = absurd so
+  served_from-long n d xs (desk ∷ desks) [] so = absurd so
+  served_from-long n d xs (desk ∷ desks) (back ∷ backs) so = (let rest = served_from-long n (d + 1) xs desks backs so.1 in omega (arith, rest))
+
+  -- one more has ended, and is the first that did so early
+  pub first-early : (n : ℕ) (xs : List (C × W)) (all here after : List (DeskView (LineSink W))) (workers left : List (WorkerView (Unit {0}) C W)) (ports rest : List (Outgoing (C × W)))
+      → (one : WorkerView (Unit {0}) C W) (port : Outgoing (C × W)) (back : DeskView (LineSink W)) (place : ℕ) → n ≡ length all → place ≡ length here
+      → workers ≡ left ++ one ∷ [] → ports ≡ rest ++ port ∷ [] → after ≡ here ++ back ∷ []
+      → ((ys : List (C × W)) → IsNewOver config (worker_desk one) one → port ≡ outgoing one.inbox.box 0 (posts 0 ys) → EndsEarly tells remaining contents config ys (worker_desk one) back)
+      → HaveServedSome n xs all here workers ports → FirstEndsEarly tells remaining contents config xs place all after
+  first-early n xs all here after workers left ports rest one port back place count place_is took took_port put early so =
+      let P : WorkerView (Unit {0}) C W → Type 0 = λ one. IsNewOver config (worker_desk one) one in
+      let new = (All-pop P workers left (Some one) took so.new).1 in
+      let p = some-port n xs all here workers left ports rest one port took took_port so in
+      let k = length so.kept in
+      record {
+        before = so.kept;
+        desk = worker_desk one;
+        behind = map worker_desk (reverse left);
+        parts = ap (λ (ws : List (WorkerView (Unit {0}) C W)). so.kept ++ map worker_desk ws) (sym (last_first workers left one took)) ∙ so.parts;
+        place_is = place_is ∙ served_from-long n 0 xs so.kept here so.served;
+        backs = here;
+        back = back;
+        later = [];
+        parts_after = sym put;
+        served = subst (λ (m : ℕ). HaveServedFrom tells remaining contents config m 0 xs so.kept here) count so.served;
+        early = subst (λ (m : ℕ). EndsEarly tells remaining contents config (dealt m k 0 xs) (worker_desk one) back) count (early (dealt n k 0 xs) new p.0);
+      }
+
+  -- and others end behind it
+  pub first-push : (xs : List (C × W)) (place : ℕ) (all here after : List (DeskView (LineSink W))) (back : DeskView (LineSink W)) → after ≡ here ++ back ∷ []
+      → FirstEndsEarly tells remaining contents config xs place all here → FirstEndsEarly tells remaining contents config xs place all after
+  first-push xs place all here after back put first = record {
+    before = first.before;
+    desk = first.desk;
+    behind = first.behind;
+    parts = first.parts;
+    place_is = first.place_is;
+    backs = first.backs;
+    back = first.back;
+    later = first.later ++ back ∷ [];
+    parts_after =
+        sym (append_assoc first.backs (first.back ∷ first.later) (back ∷ []))
+        ∙ ap (λ (ds : List (DeskView (LineSink W))). ds ++ back ∷ []) first.parts_after
+        ∙ sym put;
+    served = first.served;
+    early = first.early;
+  }
+
 -- THE PORTS OF A CREW
 
 module _ {C W : Type 0} where
@@ -274,6 +326,16 @@ first_lost-none None place true is = (refl, refl)
 first_lost-none None place false is = absurd (subst IsNone (sym is) tt)
 first_lost-none (Some first) place has_all is = absurd (subst IsNone (sym is) tt)
 
+pub none_lost : (place : ℕ) → ¬ (None ≡ Some place)
+none_lost place is = subst IsNone is tt
+
+-- the first is one of before, or this one
+pub first_lost-some : (lost : Option ℕ) (place : ℕ) (has_all : Bool) (first : ℕ) → first_lost lost place has_all ≡ Some first
+    → (lost ≡ Some first) ⊎ ((lost ≡ None) × (has_all ≡ false) × (first ≡ place))
+first_lost-some None place true first is = absurd (none_lost first is)
+first_lost-some None place false first is = inr (refl, refl, sym (same_Some place first is))
+first_lost-some (Some one) place has_all first is = inl is
+
 pub first_lost-within : (lost : Option ℕ) (place : ℕ) (has_all : Bool) (n m : ℕ) → IfSome lost (λ k. k < n) → n ≤ m → place < m → IfSome (first_lost lost place has_all) (λ k. k < m)
 first_lost-within None place true n m within more here = tt
 first_lost-within None place false n m within more here = here
@@ -310,6 +372,11 @@ module _ {L M C W : Type 0} (accepts : L → C × W → L → Type 0) (fails : L
   ServedUnlessLost lost desks here after workers ports =
       lost ≡ None → here ≡ [] → (xs : List (C × W)) → Deals xs (reverse (map port_to workers)) (reverse ports) → HaveServedAll tells remaining contents config xs desks after
 
+  -- and where one was
+  abbrev pub FirstIfLost : Option ℕ → List (DeskView (LineSink W)) → List (DeskView (LineSink W)) → List (DeskView (LineSink W)) → List (WorkerView (Unit {0}) C W) → List (Outgoing (C × W)) → Type 0
+  FirstIfLost lost desks here after workers ports =
+      (place : ℕ) → lost ≡ Some place → here ≡ [] → (xs : List (C × W)) → Deals xs (reverse (map port_to workers)) (reverse ports) → FirstEndsEarly tells remaining contents config xs place desks after
+
   -- the next connection was for a worker that is gone
   gone_so : (place : ℕ) (listener listener_after : L) (desks after : List (DeskView (LineSink W))) (workers : List (WorkerView (Unit {0}) C W)) (ports : List (Outgoing (C × W)))
       → 0 < length desks → length (reverse (map port_to workers)) ≡ length desks
@@ -335,31 +402,33 @@ module _ {L M C W : Type 0} (accepts : L → C × W → L → Type 0) (fails : L
   stopped_so : (stop : Result (Unit {0}) AcceptStop) (lost : Option ℕ) (listener listener_after : L) (desks here after : List (DeskView (LineSink W))) (workers : List (WorkerView (Unit {0}) C W)) (ports : List (Outgoing (C × W)))
       → 0 < length desks → here ≡ [] → length (reverse (map port_to workers)) ≡ length desks → IfSome lost (λ place. place < length desks)
       → AcceptsAll accepts fails config.connections stop listener listener_after (reverse (map port_to workers)) (reverse ports) → ServedUnlessLost lost desks here after workers ports
+      → FirstIfLost lost desks here after workers ports
       → ServesUntil accepts fails tells remaining contents config (with_lost (fault_in stop) lost) listener listener_after desks after
-  stopped_so (Ok _) None listener listener_after desks here after workers ports some none count within all so = (all.0, (all.1, all.2), so refl none all.0 all.3)
-  stopped_so (Ok _) (Some place) listener listener_after desks here after workers ports some none count within all so = (within, inr (inr (inl (all.0, (all.1, all.2)))))
-  stopped_so (Err NoConnection) None listener listener_after desks here after workers ports some none count within all so =
+  stopped_so (Ok _) None listener listener_after desks here after workers ports some none count within all so first = (all.0, (all.1, all.2), so refl none all.0 all.3)
+  stopped_so (Ok _) (Some place) listener listener_after desks here after workers ports some none count within all so first = (within, inr (inr (inl (all.0, (all.1, all.2), first place refl none all.0 all.3))))
+  stopped_so (Err NoConnection) None listener listener_after desks here after workers ports some none count within all so first =
       (all.0, (all.1, all.2, all.3, all.4), so refl none all.0 all.5)
-  stopped_so (Err NoConnection) (Some place) listener listener_after desks here after workers ports some none count within all so =
-      (within, inr (inr (inr (all.0, (all.1, all.2, all.3, all.4)))))
-  stopped_so (Err (WorkerGone place)) None listener listener_after desks here after workers ports some none count within all so = gone_so place listener listener_after desks after workers ports some count all
-  stopped_so (Err (WorkerGone place)) (Some first) listener listener_after desks here after workers ports some none count within all so = gone_so place listener listener_after desks after workers ports some count all
+  stopped_so (Err NoConnection) (Some place) listener listener_after desks here after workers ports some none count within all so first =
+      (within, inr (inr (inr (all.0, (all.1, all.2, all.3, all.4), first place refl none all.0 all.5))))
+  stopped_so (Err (WorkerGone place)) None listener listener_after desks here after workers ports some none count within all so first = gone_so place listener listener_after desks after workers ports some count all
+  stopped_so (Err (WorkerGone place)) (Some lost) listener listener_after desks here after workers ports some none count within all so first = gone_so place listener listener_after desks after workers ports some count all
 
   -- by how dealing ended
   pub ended_so : (dealt result : Result (Unit {0}) ServeFault) (lost : Option ℕ) (listener listener_after : L) (desks here after : List (DeskView (LineSink W))) (workers : List (WorkerView (Unit {0}) C W)) (ports : List (Outgoing (C × W)))
       → 0 < length desks → length after ≡ length desks → AreOut desks here workers → IfSome lost (λ place. place < length after)
       → DealsUntil accepts fails config.connections dealt listener listener_after desks here workers ports
-      → ServedUnlessLost lost (map worker_desk (reverse workers)) here after workers ports
+      → ServedUnlessLost lost (map worker_desk (reverse workers)) here after workers ports → FirstIfLost lost (map worker_desk (reverse workers)) here after workers ports
       → result ≡ with_lost dealt lost → ServesUntil accepts fails tells remaining contents config result listener listener_after desks after
-  ended_so dealt result lost listener listener_after desks here after workers ports some count out within (inl hired) so result_is =
+  ended_so dealt result lost listener listener_after desks here after workers ports some count out within (inl hired) so first result_is =
       let is : with_lost (Err hired.0) lost ≡ result = ap (λ (d : Result (Unit {0}) ServeFault). with_lost d lost) (sym hired.1) ∙ sym result_is in
       subst (λ (r : Result (Unit {0}) ServeFault). ServesUntil accepts fails tells remaining contents config r listener listener_after desks after) is
       (hired_so hired.0 lost listener listener_after desks here after some (here_some desks here workers out) hired.2 hired.3)
-  ended_so dealt result lost listener listener_after desks here after workers ports some count out within (inr stopped) so result_is =
+  ended_so dealt result lost listener listener_after desks here after workers ports some count out within (inr stopped) so first result_is =
       let is : with_lost (fault_in stopped.0) lost ≡ result = ap (λ (d : Result (Unit {0}) ServeFault). with_lost d lost) (sym stopped.1) ∙ sym result_is in
       let all : map worker_desk (reverse workers) ≡ desks = handed_all desks here workers stopped.2 out in
       let crew : length (reverse (map port_to workers)) ≡ length desks = length-reverse (map port_to workers) ∙ length-map workers port_to ∙ workers_count desks workers all in
       let places : IfSome lost (λ place. place < length desks) = subst (λ (n : ℕ). IfSome lost (λ place. place < n)) count within in
       let served : ServedUnlessLost lost desks here after workers ports = subst (λ (ds : List (DeskView (LineSink W))). ServedUnlessLost lost ds here after workers ports) all so in
+      let firsts : FirstIfLost lost desks here after workers ports = subst (λ (ds : List (DeskView (LineSink W))). FirstIfLost lost ds here after workers ports) all first in
       subst (λ (r : Result (Unit {0}) ServeFault). ServesUntil accepts fails tells remaining contents config r listener listener_after desks after) is
-      (stopped_so stopped.0 lost listener listener_after desks here after workers ports some stopped.2 crew places stopped.3 served)
+      (stopped_so stopped.0 lost listener listener_after desks here after workers ports some stopped.2 crew places stopped.3 served firsts)

@@ -25,7 +25,7 @@ use Rattle.rx_workers.specs.declared.client.Talk.{Talk}
 use Rattle.rx_workers.specs.declared.joined.Joined.{Joined}
 use Rattle.rx_workers.specs.declared.worker_end.WorkerEnd.{WorkerEnd}
 use Rattle.rx_workers.specs.Workers.{worker_at_end}
-use Rattle.rx_workers.specs.Working.{WorkerView, worker, State, state, Deed, Admitted, GivenUp, Dismissed, Abandoned, Turned, Parted, admitted, Begins, IsTalkOf, Leaves, HasTurn, HasTurns, PartsAt, ServesAt, Does, Works, Goes, IsServed, HasWorked, calls}
+use Rattle.rx_workers.specs.Working.{WorkerView, worker, State, state, Deed, Admitted, GivenUp, Dismissed, Abandoned, Turned, Parted, admitted, Begins, IsTalkOf, Leaves, HasArrivals, HasConnection, HasNoConnection, HasTurn, HasTurnBehind, HasTurnTo, HasTurns, IsConnection, PartsAt, ServesAt, Does, Works, DoesSome, IsServed, HasWorked, calls, goes_on}
 use Rattle.rx_workers.proofs.Sessions.{keeps-equal, keeps-then, turn_keeps}
 
 module _ {C W : Type 0} where
@@ -39,18 +39,32 @@ module _ {C W : Type 0} where
   one_talk : (Q : Talk C W → Type 0) (client : Option (Client C W)) (talk other : Talk C W) → client ≡ Some (Talks talk) → client ≡ Some (Talks other) → Q talk → Q other
   one_talk Q client talk other is is_other had = subst (λ (c : Option (Client C W)). OnTalk Q c) (sym is ∙ is_other) had
 
+  -- a session is under way, or none is
+  talks_or_not : (client : Option (Client C W)) → IsTalk client ⊎ ¬ IsTalk client
+  talks_or_not None = inr (λ no. no)
+  talks_or_not (Some (Talks talk)) = inl tt
+  talks_or_not (Some (Follows follower)) = inr (λ no. no)
+
+  -- where it goes on at once it still is
+  pub talk_left : (result : Turn W) (reader : C) (session : OpenSession) (joined : Option Joined) (left : Option (Client C W)) → goes_on result ≡ true
+      → Leaves result reader session joined left → IsTalk left
+  talk_left (Again writer) reader session joined left at_once leaves = subst (λ (c : Option (Client C W)). IsTalk c) (sym leaves.1) tt
+  talk_left (Waits writer) reader session joined left at_once leaves = absurd (true≢false (sym at_once))
+  talk_left (Stuck writer) reader session joined left at_once leaves = absurd (true≢false (sym at_once))
+  talk_left (Over end back) reader session joined left at_once leaves = absurd (true≢false (sym at_once))
+
   -- where a session is under way nobody else is
   no_talk : (client was : Option (Client C W)) (talk : Talk C W) → client ≡ was → ¬ IsTalk was → client ≡ Some (Talks talk) → ⊥
   no_talk client was talk is none is_talk = none (subst (λ (c : Option (Client C W)). IsTalk c) (sym is_talk ∙ is) tt)
 
 module _ {M C W : Type 0} (tells : M → ℕ → M → Type 0) (remaining : C → Option (List ℕ)) (contents : W → Option (List ℕ)) where
   -- nothing was done
-  pub Goes-same : (s : State M C W) → Goes tells remaining contents s s
-  Goes-same s = ([], refl)
+  pub DoesSome-same : (s : State M C W) → DoesSome tells remaining contents s s
+  DoesSome-same s = ([], refl)
 
   -- one deed
-  pub Goes-one : (deed : Deed (C × W)) (before after : State M C W) → Does tells remaining contents deed before after → Goes tells remaining contents before after
-  Goes-one deed before after does = (deed ∷ [], (before, refl, does))
+  pub DoesSome-one : (deed : Deed (C × W)) (before after : State M C W) → Does tells remaining contents deed before after → DoesSome tells remaining contents before after
+  DoesSome-one deed before after does = (deed ∷ [], (before, refl, does))
 
   -- deeds after deeds
   works-then : (first more : List (Deed (C × W))) (a b c : State M C W) → Works tells remaining contents first a b → Works tells remaining contents more b c
@@ -58,33 +72,73 @@ module _ {M C W : Type 0} (tells : M → ℕ → M → Type 0) (remaining : C �
   works-then first [] a b c p q = subst (λ (s : State M C W). Works tells remaining contents first a s) (sym q) p
   works-then first (deed ∷ more) a b c p q = (q.0, works-then first more a b q.0 p q.1, q.2)
 
-  pub Goes-then : (a b c : State M C W) → Goes tells remaining contents a b → Goes tells remaining contents b c → Goes tells remaining contents a c
-  Goes-then a b c p q = (q.0 ++ p.0, works-then p.0 q.0 a b c p.1 q.1)
+  pub DoesSome-then : (a b c : State M C W) → DoesSome tells remaining contents a b → DoesSome tells remaining contents b c → DoesSome tells remaining contents a c
+  DoesSome-then a b c p q = (q.0 ++ p.0, works-then p.0 q.0 a b c p.1 q.1)
+
+  -- CONNECTIONS
+
+  -- some came, and nothing else
+  abbrev pub HaveCome : State M C W → State M C W → Type 0
+  HaveCome before after = (deeds : List (Deed (C × W))) × All IsConnection deeds × Works tells remaining contents deeds before after
+
+  pub come-none : (s : State M C W) → HaveCome s s
+  come-none s = ([], All-nil IsConnection, refl)
+
+  pub come-one : (a b c : State M C W) → HaveCome a b → HasConnection tells remaining contents b c → HaveCome a c
+  come-one a b c so one = (one.0 ∷ so.0, All-cons IsConnection one.0 so.0 one.1 so.1, (b, so.2, one.2))
+
+  -- some came, and then none did
+  pub arrived : (before last after : State M C W) → before.is_open ≡ true → HaveCome before last → HasNoConnection tells remaining contents last after
+      → HasArrivals tells remaining contents before after
+  arrived before last after was_open came none = record { deeds = came.0; each = came.1; last = last; came = came.2; none = none; closed = λ closed. absurd (true≢false (sym was_open ∙ closed)) }
+
+  -- none could come
+  pub arrived-none : (s : State M C W) → HasArrivals tells remaining contents s s
+  arrived-none s = record { deeds = []; each = All-nil IsConnection; last = s; came = refl; none = inl refl; closed = λ closed. refl }
+
+  none-goes : (before after : State M C W) → HasNoConnection tells remaining contents before after → DoesSome tells remaining contents before after
+  none-goes before after (inl same) = ([], same)
+  none-goes before after (inr (inl bye)) = DoesSome-one Dismissed before after bye
+  none-goes before after (inr (inr gone)) = DoesSome-one Abandoned before after gone
+
+  pub Arrivals-goes : (before after : State M C W) → HasArrivals tells remaining contents before after → DoesSome tells remaining contents before after
+  Arrivals-goes before after arrivals = DoesSome-then before arrivals.last after (arrivals.deeds, arrivals.came) (none-goes arrivals.last after arrivals.none)
 
   -- TURNS OF ONE SESSION
-  pub HasTurns-none : (place : ℕ) (s : State M C W) → HasTurns tells remaining contents place s s
-  HasTurns-none place s = ([], All-nil (λ (deed : Deed (C × W)). deed ≡ Turned place), refl)
 
-  pub HasTurns-one : (place : ℕ) (before after : State M C W) → HasTurn tells remaining contents place before after → HasTurns tells remaining contents place before after
-  HasTurns-one place before after had = (
-    Turned place ∷ [],
-    All-cons (λ (deed : Deed (C × W)). deed ≡ Turned place) (Turned place) [] refl (All-nil (λ (deed : Deed (C × W)). deed ≡ Turned place)),
-    (before, refl, had),
-  )
+  -- one turn, after which the session doesn't go on at once; or there is none
+  pub turns-one : (place : ℕ) (before after : State M C W) → (IsTalk (client_at place before.clients) → HasTurnTo tells remaining contents place false before after)
+      → (¬ IsTalk (client_at place before.clients) → after ≡ before) → HasTurns tells remaining contents place before after
+  turns-one place before after turned kept = elim (talks_or_not (client_at place before.clients)) [
+    | inl talks ↦
+        let to = turned talks in
+        inl (after, to.0, subst (λ (b : Bool). HasTurnBehind tells remaining contents b place after after) to.1 refl)
+    | inr none ↦ inr (none, kept none)
+  ]
 
-  pub HasTurns-then : (place : ℕ) (a b c : State M C W) → HasTurns tells remaining contents place a b → HasTurns tells remaining contents place b c
-      → HasTurns tells remaining contents place a c
-  HasTurns-then place a b c p q = (q.0 ++ p.0, All-append (λ (deed : Deed (C × W)). deed ≡ Turned place) q.0 p.0 q.1 p.1, works-then p.0 q.0 a b c p.2 q.2)
+  -- one, and one more behind it
+  pub turns-two : (place : ℕ) (before mid after : State M C W) → HasTurnTo tells remaining contents place true before mid → HasTurn tells remaining contents place mid after
+      → HasTurns tells remaining contents place before after
+  turns-two place before mid after to more = inl (mid, to.0, subst (λ (b : Bool). HasTurnBehind tells remaining contents b place mid after) to.1 more)
 
-  parts-goes : (place : ℕ) (before after : State M C W) → PartsAt tells remaining contents place before after → Goes tells remaining contents before after
-  parts-goes place before after (inl did) = Goes-one (Parted place) before after did
+  behind-goes : (at_once : Bool) (place : ℕ) (before after : State M C W) → HasTurnBehind tells remaining contents at_once place before after → DoesSome tells remaining contents before after
+  behind-goes true place before after had = DoesSome-one (Turned place) before after had
+  behind-goes false place before after same = ([], same)
+
+  turns-goes : (place : ℕ) (before after : State M C W) → HasTurns tells remaining contents place before after → DoesSome tells remaining contents before after
+  turns-goes place before after (inl had) =
+      DoesSome-then before had.0 after (DoesSome-one (Turned place) before had.0 had.1) (behind-goes (goes_on had.1.result) place had.0 after had.2)
+  turns-goes place before after (inr (none, same)) = ([], same)
+
+  parts-goes : (place : ℕ) (before after : State M C W) → PartsAt tells remaining contents place before after → DoesSome tells remaining contents before after
+  parts-goes place before after (inl did) = DoesSome-one (Parted place) before after did
   parts-goes place before after (inr (none, same)) = ([], same)
 
   pub Serves-goes : (place : ℕ) (is_gone : Bool) (before after : State M C W) → ServesAt tells remaining contents place is_gone before after
-      → Goes tells remaining contents before after
-  Serves-goes place false before after served = (served.0, served.2)
+      → DoesSome tells remaining contents before after
+  Serves-goes place false before after served = turns-goes place before after served
   Serves-goes place true before after served =
-      Goes-then before served.0 after (served.1.0, served.1.2) (parts-goes place served.0 after served.2)
+      DoesSome-then before served.0 after (turns-goes place before served.0 served.1) (parts-goes place served.0 after served.2)
 
   -- WHAT A DEED KEEPS OF THE DESK
   does_keeps : (deed : Deed (C × W)) (before after : State M C W) → Does tells remaining contents deed before after → KeepsSession before.session after.session
@@ -170,10 +224,10 @@ module _ {M C W : Type 0} (tells : M → ℕ → M → Type 0) (remaining : C �
   ]
 
   -- a session that goes on
-  goes_on : (place : ℕ) (after : List (Option (Client C W))) (connection : C × W) (begun now : SessionView M (LineSink W)) (reader : C) (writer : W) (session : OpenSession) (left : Option (Client C W))
+  known_further : (place : ℕ) (after : List (Option (Client C W))) (connection : C × W) (begun now : SessionView M (LineSink W)) (reader : C) (writer : W) (session : OpenSession) (left : Option (Client C W))
       → (talk : Talk C W) × (left ≡ Some (Talks talk)) × IsTalkOf reader writer session talk → client_at place after ≡ left
       → Sitting (among (calls tells remaining contents)) (first_place begun connection.1) [] (remaining connection.0) (remaining reader) now writer session → IsKnown after connection
-  goes_on place after connection begun now reader writer session left leaves there sitting =
+  known_further place after connection begun now reader writer session left leaves there sitting =
       let p = among (calls tells remaining contents) in
       let start = first_place begun connection.1 in
       let talk = leaves.0 in
@@ -196,9 +250,9 @@ module _ {M C W : Type 0} (tells : M → ℕ → M → Type 0) (remaining : C �
   known_turned : (result : Turn W) (place : ℕ) (after : List (Option (Client C W))) (connection : C × W) (begun now : SessionView M (LineSink W)) (reader : C) (session : OpenSession) (joined : Option Joined)
       (left : Option (Client C W)) → Leaves result reader session joined left → client_at place after ≡ left
       → Sits (among (calls tells remaining contents)) result (first_place begun connection.1) [] (remaining connection.0) (remaining reader) now session → IsKnown after connection
-  known_turned (Again writer) place after connection begun now reader session joined left leaves there sits = goes_on place after connection begun now reader writer session left leaves there sits
-  known_turned (Waits writer) place after connection begun now reader session joined left leaves there sits = goes_on place after connection begun now reader writer session left leaves there sits
-  known_turned (Stuck writer) place after connection begun now reader session joined left leaves there sits = goes_on place after connection begun now reader writer session left leaves there sits
+  known_turned (Again writer) place after connection begun now reader session joined left leaves there sits = known_further place after connection begun now reader writer session left leaves there sits
+  known_turned (Waits writer) place after connection begun now reader session joined left leaves there sits = known_further place after connection begun now reader writer session left leaves there sits
+  known_turned (Stuck writer) place after connection begun now reader session joined left leaves there sits = known_further place after connection begun now reader writer session left leaves there sits
   known_turned (Over end back) place after connection begun now reader session joined left leaves there sits =
       let over = IsOver-session (among (calls tells remaining contents)) begun connection.1 (remaining connection.0) (remaining reader) (record { end = end; desk = now; back = back }) sits in
       inr (record { reader = reader; input = over.0; before = begun; after = now; end = end; back = back; session = over.1 })
@@ -279,7 +333,7 @@ module _ {M C W : Type 0} (tells : M → ℕ → M → Type 0) (remaining : C �
   state_closed : (s : State M C W) → s.is_open ≡ false → s ≡ state s.session s.inbox s.clients s.sessions false
   state_closed s closed = ap (λ (b : Bool). state s.session s.inbox s.clients s.sessions b) closed
 
-  pub has_worked : (session : SessionView M (LineSink W)) (inbox : Incoming (C × W)) (after : State M C W) → Goes tells remaining contents (state session inbox [] 0 true) after
+  pub has_worked : (session : SessionView M (LineSink W)) (inbox : Incoming (C × W)) (after : State M C W) → DoesSome tells remaining contents (state session inbox [] 0 true) after
       → after.is_open ≡ false → IsQuiet after.clients
       → HasWorked tells remaining contents (worker session inbox) (worker after.session after.inbox) after.sessions
   has_worked session inbox after goes closed quiet =
@@ -316,11 +370,11 @@ module _ {C W : Type 0} (tells : Unit {0} → ℕ → Unit {0} → Type 0) (rema
 
   -- so a worker has that was at work
   pub worker-ended : (before : WorkerView (Unit {0}) C W) (session : SessionView (Unit {0}) (LineSink W)) (inbox : Incoming (C × W)) (begun shift : State (Unit {0}) C W) (end : WorkerEnd C W)
-      → before ≡ worker session inbox → begun ≡ state session inbox [] 0 true → Goes tells remaining contents begun shift → shift.is_open ≡ false → IsQuiet shift.clients
+      → before ≡ worker session inbox → begun ≡ state session inbox [] 0 true → DoesSome tells remaining contents begun shift → shift.is_open ≡ false → IsQuiet shift.clients
       → end.desk ≡ shift.session.calls → end.inbox ≡ shift.inbox → end.sessions ≡ shift.sessions
       → (joined : Option Joined) × (queue : Queue) × HasWorked tells remaining contents before (worker_at_end before joined queue end) end.sessions
   worker-ended before session inbox begun shift end begins begun_is goes closed quiet desk inbox_is sessions_are =
-      let from : Goes tells remaining contents (state session inbox [] 0 true) shift = subst (λ (s : State (Unit {0}) C W). Goes tells remaining contents s shift) begun_is goes in
+      let from : DoesSome tells remaining contents (state session inbox [] 0 true) shift = subst (λ (s : State (Unit {0}) C W). DoesSome tells remaining contents s shift) begun_is goes in
       let all = has_worked tells remaining contents session inbox shift from closed quiet in
       let counted_so : HasWorked tells remaining contents (worker session inbox) (worker shift.session shift.inbox) end.sessions =
       subst (λ (n : ℕ). HasWorked tells remaining contents (worker session inbox) (worker shift.session shift.inbox) n) (sym sessions_are) all in

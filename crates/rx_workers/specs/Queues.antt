@@ -1,23 +1,32 @@
 -- Notes that a session's desk began to emit, and whose responses are still to come: a moment was told for each as it was begun, and
--- its call was sent, with others, or is still to be (this project's own rule).
-use Rattle.std.specs.Prelude.{◌≡◌, ◌≢◌, ◌-◌, ◌^◌, ◌<◌, ℕ, List, [], ◌∷◌, ◌++◌, length, None, Some, MatchOption, option_map, unwrap_or}
+-- its call was posted, or waits (this project's own rule).
+use Rattle.std.specs.Prelude.{◌≡◌, ◌≢◌, ◌⊎◌, ◌-◌, ◌^◌, ◌<◌, ℕ, List, [], ◌∷◌, ◌++◌, length, None, Some}
 use Rattle.std.specs.List.{All}
-use Rattle.std.specs.VecDeque.{deque_items, deque_len, deque_capacity}
 use Rattle.rx_note.specs.declared.event.Event.{Event}
 use Rattle.rx_note.specs.declared.event.Event.TheVariants.{Emit}
 use Rattle.rx_pump.specs.Desks.{DeskView, IsSent, KeepsDesk}
 use Rattle.rx_session.specs.Begun.{Asked}
 use Rattle.rx_sink.specs.declared.line_sink.LineSink.{LineSink}
 use Rattle.rx_workers.specs.SessionDesks.{SessionView, place_of}
-use Rattle.rx_workers.specs.declared.begun.Begun.{Begun}
 
--- the events that wait, in their order
-abbrev pub events_of : Begun → List Event
-events_of begun = unwrap_or (option_map deque_items begun.list) []
+-- a note for the subject at this place may be begun behind so many: these are just what is begun, no call of theirs waits, and they are
+-- for the same subject
+pub record GoesBehind {M S : Type 0} (now : SessionView M S) (place behind : ℕ) : Type 0 where
+  pub none_waits : now.queue.events ≡ []
+  pub count : now.queue.sent ≡ behind
+  pub room : behind < 2 ^ 32 - 1
+  pub same : (behind ≡ 0) ⊎ (place ≡ now.queue.subject)
 
--- there is room for one more
-abbrev pub HasRoom : Begun → Type 0
-HasRoom begun = MatchOption begun.list ⊥ (λ list. deque_len list < deque_capacity list)
+-- the call of one event more waits
+abbrev pub with_waiting : {M S : Type 0} → Event → SessionView M S → SessionView M S
+with_waiting event now = record {
+  subjects = now.subjects;
+  window = now.window;
+  moments = now.moments;
+  calls = now.calls;
+  joined = now.joined;
+  queue = record { subject = now.queue.subject; events = now.queue.events ++ event ∷ []; sent = now.queue.sent };
+}
 
 -- a moment was told for each of these notes, and these are their events
 abbrev pub TellsEach : {M : Type 0} → (M → ℕ → M → Type 0) → M → List Asked → List Event → M → Type 0
@@ -41,7 +50,7 @@ PostsEach subject before [] after = after ≡ before
 PostsEach {S = S} subject before (event ∷ events) after = (then : DeskView S) × Posts before then subject event × PostsEach subject then events after
 
 -- a desk in whose queue nothing was came to have begun these notes: their moments were told, the calls of the first were posted, and
--- the events of the others stand in its queue
+-- those of the others wait
 pub record Waits {M W : Type 0} (tells : M → ℕ → M → Type 0) (base : SessionView M (LineSink W)) (begun : List Asked) (now : SessionView M (LineSink W)) : Type 0 where
   pub none_waits : base.queue.events ≡ []
   pub none_sent : base.queue.sent ≡ 0

@@ -1,22 +1,25 @@
 -- What a crew of workers does with the connections of a listener: each is served by the worker to which it was dealt (this
 -- project's own rule).
-use Rattle.std.specs.Prelude.{◌≡◌, ◌⊎◌, ◌+◌, ◌<◌, ◌%◌, ℕ, List, [], ◌∷◌, ◌++◌, length, map, reverse, Option, None, Some, Result, Ok, Err}
+use Rattle.std.specs.Prelude.{◌≡◌, ◌⊎◌, ◌+◌, ◌<◌, ◌%◌, ℕ, List, [], ◌∷◌, ◌++◌, length, map, reverse, Option, None, Some, IfSome, IsSomeAnd, Result, Ok, Err}
 use Rattle.rx_config.specs.declared.config.Config.{Config}
 use Rattle.rx_mailbox.specs.declared.letter.Post.TheVariants.{Bye}
 use Rattle.rx_mailbox.specs.Boxes.{Outgoing, capacity_of, incoming, outgoing}
 use Rattle.rx_mailbox.specs.Letters.{letter, posts}
 use Rattle.rx_pump.specs.Desks.{DeskView}
+use Rattle.rx_pump.specs.Sends.{with_bye}
 use Rattle.rx_sink.specs.declared.line_sink.LineSink.{LineSink}
 use Rattle.rx_workers.specs.Accepting.{Accepts, AcceptsAll, dealt}
-use Rattle.rx_workers.specs.Crews.{NamesLast}
+use Rattle.rx_workers.specs.Crews.{NamesLast, SettlesWith}
 use Rattle.rx_workers.specs.SessionDesks.{Queue, SessionView, no_queue}
 use Rattle.rx_workers.specs.Telling.{IsTold}
+use Rattle.rx_workers.specs.Workers.{HasEnded}
 use Rattle.rx_workers.specs.Working.{WorkerView, worker, HasWorked, came}
 use Rattle.rx_workers.specs.declared.accepting.AcceptStop.{AcceptStop}
 use Rattle.rx_workers.specs.declared.accepting.AcceptStop.TheVariants.{NoConnection, WorkerGone}
 use Rattle.rx_workers.specs.declared.joined.Joined.{Joined}
 use Rattle.rx_workers.specs.declared.serve_fault.ServeFault.{ServeFault}
 use Rattle.rx_workers.specs.declared.serve_fault.ServeFault.TheVariants.{NoDesk, Accept, Thread, Memory}
+use Rattle.rx_workers.specs.declared.worker_end.WorkerEnd.{WorkerEnd}
 
 -- the desk of a worker's sessions over a desk that makes its calls, by a configuration
 abbrev pub session_over : {W : Type 0} → Config → DeskView (LineSink W) → Option Joined → Queue → SessionView (Unit {0}) (LineSink W)
@@ -58,6 +61,32 @@ module _ {M C W : Type 0} (tells : M → ℕ → M → Type 0) (remaining : C �
   abbrev pub HaveServedAll : List (C × W) → List (DeskView (LineSink W)) → List (DeskView (LineSink W)) → Type 0
   HaveServedAll xs desks after = HaveServedFrom (length desks) 0 xs desks after
 
+  -- THE WORKER OF A DESK ended early: these connections were sent to it, and then its port put its Bye, or it was gone by then; and its
+  -- box did not settle with that port
+  pub record EndsEarly (connections : List (C × W)) (desk after : DeskView (LineSink W)) : Type 0 where
+    pub one : WorkerView (Unit {0}) C W
+    pub is_new : IsNewOver config desk one
+    pub end : WorkerEnd C W
+    pub ended : HasEnded tells remaining contents one end
+    pub desk_is : after ≡ end.desk
+    pub told : Option (Outgoing (C × W))
+    pub by_port : IfSome told (λ port. port ≡ with_bye (outgoing one.inbox.box 0 (posts 0 connections)))
+    pub unsettled : ¬ IsSomeAnd told (SettlesWith end.inbox)
+
+  -- the worker of the desk at this place is the first that ended early: those before it each served what was dealt to them
+  pub record FirstEndsEarly (connections : List (C × W)) (place : ℕ) (desks after : List (DeskView (LineSink W))) : Type 0 where
+    pub before : List (DeskView (LineSink W))
+    pub desk : DeskView (LineSink W)
+    pub behind : List (DeskView (LineSink W))
+    pub parts : before ++ desk ∷ behind ≡ desks
+    pub place_is : place ≡ length before
+    pub backs : List (DeskView (LineSink W))
+    pub back : DeskView (LineSink W)
+    pub later : List (DeskView (LineSink W))
+    pub parts_after : backs ++ back ∷ later ≡ after
+    pub served : HaveServedFrom (length desks) 0 connections before backs
+    pub early : EndsEarly (dealt (length desks) (length before) 0 connections) desk back
+
 module _ {L X : Type 0} (accepts : L → X → L → Type 0) (fails : L → L → Type 0) where
   -- so many connections were accepted, and these are all
   abbrev pub AcceptsJust : ℕ → List X → L → L → Type 0
@@ -87,13 +116,13 @@ module _ {L M C W : Type 0} (accepts : L → C × W → L → Type 0) (fails : L
   -- there was no memory for the workers, and none was accepted
   ServesUntil (Err Memory) listener listener_after desks after = (0 < length desks) × (listener_after ≡ listener)
   -- the worker of the desk at this place did not begin, and none was accepted; or the one for which the next connection was is gone;
-  -- or all were accepted, or the listener failed, and this one ended before its Bye
+  -- or all were accepted, or the listener failed, and this one is the first that ended early
   ServesUntil (Err (Thread place)) listener listener_after desks after =
       (place < length desks)
       × ((listener_after ≡ listener)
       ⊎ LosesNext accepts fails config.connections (length desks) place listener listener_after
-      ⊎ ((xs : List (C × W)) × AcceptsJust accepts fails config.connections xs listener listener_after)
-      ⊎ ((xs : List (C × W)) × FailsBehind accepts fails config.connections xs listener listener_after))
+      ⊎ ((xs : List (C × W)) × AcceptsJust accepts fails config.connections xs listener listener_after × FirstEndsEarly tells remaining contents config xs place desks after)
+      ⊎ ((xs : List (C × W)) × FailsBehind accepts fails config.connections xs listener listener_after × FirstEndsEarly tells remaining contents config xs place desks after))
 
 -- HOW IT COMES TO THAT
 

@@ -24,8 +24,8 @@ use Rattle.rx_workers.specs.Responses.{response_of, has_joined, sink_back}
 use Rattle.rx_workers.specs.declared.joined.Joined.{Joined}
 use Rattle.rx_config.specs.declared.subject_config.SubjectConfig.{SubjectConfig}
 
--- the notes that a session's desk began to emit: the place of their subject, the events whose calls are still to be sent, and how
--- many calls were sent and have no answer yet
+-- the notes that a session's desk began to emit: the place of their subject, the events whose calls wait, and how many calls were
+-- posted and have no answer yet
 pub record Queue : Type 0 where
   pub subject : ℕ
   pub events : List Event
@@ -124,10 +124,12 @@ module _ {M W : Type 0} (tells : M → ℕ → M → Type 0) where
       (FollowsAt before policy version writer result after)
 
 module _ {M W : Type 0} where
-  -- the observer was disposed of, by a call to its subject; without such a subject no call is made
+  -- the observer was disposed of, by a call to its subject; without such a subject no call is made, nor by a desk that makes none any
+  -- more
   pub record Disposes (before : SessionView M (LineSink W)) (observer : Joined) (after : SessionView M (LineSink W)) : Type 0 where
     pub called : observer.subject < length before.subjects → (answered : Result (Reply (LineSink W)) (CallError (LineSink W))) × Called before.calls after.calls observer.subject (Dispose observer.who) None answered
     pub none : length before.subjects ≤ observer.subject → after ≡ before
+    pub over : IsOver before.calls → after.calls ≡ before.calls
     pub kept : KeepsSession before after
     pub joined : after.joined ≡ before.joined
     pub queue : after.queue ≡ before.queue

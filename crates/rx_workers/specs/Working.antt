@@ -1,6 +1,6 @@
 -- What a worker does: it serves the connections that it receives, each by a session that has its turns among those of the
 -- others (this project's own rule).
-use Rattle.std.specs.Prelude.{◌≡◌, ◌⊎◌, ◌+◌, ◌-◌, ◌^◌, ◌<◌, min, ℕ, Bool, true, false, List, [], ◌∷◌, ◌++◌, length, Option, None, Some, option_map}
+use Rattle.std.specs.Prelude.{◌≡◌, ◌⊎◌, ◌<◌, ℕ, Bool, true, false, List, [], ◌∷◌, ◌++◌, length, Option, None, Some, option_map}
 use Rattle.std.specs.List.{All, Contains}
 use Rattle.rx_mailbox.specs.Boxes.{Incoming, with_letter}
 use Rattle.rx_mailbox.specs.Letters.{letter}
@@ -16,8 +16,9 @@ use Rattle.rx_session.specs.declared.session_end.SessionEnd.{SessionEnd}
 use Rattle.rx_session.specs.declared.session_end.SessionEnd.TheVariants as ends
 use Rattle.rx_session.specs.declared.turn.Turn.{Turn}
 use Rattle.rx_session.specs.declared.turn.Turn.TheVariants.{Again, Waits, Stuck, Over}
+use Rattle.rx_sink.specs.Acts.{raised}
 use Rattle.rx_sink.specs.declared.line_sink.LineSink.{LineSink}
-use Rattle.rx_workers.specs.Clients.{AreSameClients, IsFollower, IsQuiet, Sets, client_at}
+use Rattle.rx_workers.specs.Clients.{AreSameClients, IsFollower, IsQuiet, IsTalk, Sets, client_at}
 use Rattle.rx_workers.specs.SessionDesks.{SessionView, KeepsSession, Disposes, emits, follows, knows}
 use Rattle.rx_workers.specs.declared.client.Client.{Client}
 use Rattle.rx_workers.specs.declared.client.Client.TheVariants.{Talks, Follows}
@@ -84,6 +85,15 @@ module _ {X : Type 0} where
   admitted (Abandoned ∷ deeds) = admitted deeds
   admitted (Turned place ∷ deeds) = admitted deeds
   admitted (Parted place ∷ deeds) = admitted deeds
+
+  -- a connection came, and nothing else
+  abbrev pub IsConnection : Deed X → Type 0
+  IsConnection (Admitted x place) = Unit {0}
+  IsConnection (GivenUp x) = Unit {0}
+  IsConnection Dismissed = ⊥
+  IsConnection Abandoned = ⊥
+  IsConnection (Turned place) = ⊥
+  IsConnection (Parted place) = ⊥
 
 -- whether a session goes on at once, by what its turn came to
 abbrev pub goes_on : {W : Type 0} → Turn W → Bool
@@ -179,7 +189,7 @@ module _ {M C W : Type 0} (tells : M → ℕ → M → Type 0) (remaining : C �
   abbrev pub Does : Deed (C × W) → State M C W → State M C W → Type 0
   Does (Admitted connection place) before after =
       Receives (Body connection) before after × Admits (Some place) connection before.clients after.clients
-      × (after.sessions ≡ min (before.sessions + 1) (2 ^ 64 - 1)) × (after.is_open ≡ before.is_open)
+      × (after.sessions ≡ raised before.sessions) × (after.is_open ≡ before.is_open)
   Does (GivenUp connection) before after =
       Receives (Body connection) before after × Admits None connection before.clients after.clients
       × (after.sessions ≡ before.sessions) × (after.is_open ≡ before.is_open)
@@ -199,18 +209,42 @@ module _ {M C W : Type 0} (tells : M → ℕ → M → Type 0) (remaining : C �
   Works (deed ∷ deeds) before after = (mid : State M C W) × Works deeds before mid × Does deed mid after
 
   -- some deeds
-  abbrev pub Goes : State M C W → State M C W → Type 0
-  Goes before after = (deeds : List (Deed (C × W))) × Works deeds before after
+  abbrev pub DoesSome : State M C W → State M C W → Type 0
+  DoesSome before after = (deeds : List (Deed (C × W))) × Works deeds before after
 
-  -- the session at this place had some turns, and nothing else was done
+  -- a connection came, and was given a place, or was given up
+  abbrev pub HasConnection : State M C W → State M C W → Type 0
+  HasConnection before after = (deed : Deed (C × W)) × IsConnection deed × Does deed before after
+
+  -- nothing came; or the Bye did, or it was told that no letter comes any more
+  abbrev pub HasNoConnection : State M C W → State M C W → Type 0
+  HasNoConnection before after = (after ≡ before) ⊎ Does Dismissed before after ⊎ Does Abandoned before after
+
+  -- some connections came, and then none did; where none could come any more nothing was done
+  pub record HasArrivals (before after : State M C W) : Type 0 where
+    pub deeds : List (Deed (C × W))
+    pub each : All IsConnection deeds
+    pub last : State M C W
+    pub came : Works deeds before last
+    pub none : HasNoConnection last after
+    pub closed : before.is_open ≡ false → after ≡ before
+
+  -- behind a turn the session at this place had a turn more, where it went on at once, and else none
+  abbrev pub HasTurnBehind : Bool → ℕ → State M C W → State M C W → Type 0
+  HasTurnBehind true place before after = HasTurn place before after
+  HasTurnBehind false place before after = after ≡ before
+
+  -- the session at this place had a turn, and a second one where it went on at once; where none is under way nothing was done
   abbrev pub HasTurns : ℕ → State M C W → State M C W → Type 0
-  HasTurns place before after = (deeds : List (Deed (C × W))) × All (λ deed. deed ≡ Turned place) deeds × Works deeds before after
+  HasTurns place before after =
+      ((mid : State M C W) × (first : HasTurn place before mid) × HasTurnBehind (goes_on first.result) place mid after)
+      ⊎ ((¬ IsTalk (client_at place before.clients)) × (after ≡ before))
 
   -- the follower at this place was parted with; where there is none nothing was done
   abbrev pub PartsAt : ℕ → State M C W → State M C W → Type 0
   PartsAt place before after = Does (Parted place) before after ⊎ ((¬ IsFollower (client_at place before.clients)) × (after ≡ before))
 
-  -- the client at this place was served: its session had some turns, and then, only where its peer hung up, who follows there was
+  -- the client at this place was served: its session had its turns, and then, only where its peer hung up, who follows there was
   -- parted with
   abbrev pub ServesAt : ℕ → Bool → State M C W → State M C W → Type 0
   ServesAt place false before after = HasTurns place before after

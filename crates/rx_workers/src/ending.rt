@@ -1,14 +1,14 @@
 // How the workers of a crew end, and their desks come back.
-ghost use Rattle.std.specs.Prelude.{◌≡◌, ◌+◌, ◌<◌, ◌≤◌, List, [], None, IfSome, map, reverse, vec_len, vec_capacity};
+ghost use Rattle.std.specs.Prelude.{◌≡◌, ◌+◌, ◌<◌, ◌≤◌, ℕ, List, [], None, Some, IfSome, map, reverse, vec_len, vec_capacity};
 ghost use Rattle.std.specs.List.{All, AllZip};
 ghost use Rattle.rx_config.specs.declared.config.Config.{Config};
 ghost use Rattle.rx_pump.specs.Desks.{DeskView, KeepsDesk};
 ghost use Rattle.rx_sink.specs.declared.line_sink.LineSink.{LineSink};
 ghost use Rattle.rx_workers.specs.Accepting.{Deals};
 ghost use Rattle.rx_workers.specs.Crews.{AreOut, IsPortOf, worker_desk, first_lost};
-ghost use Rattle.rx_workers.specs.Service.{HaveServedAll, IsNewOver, port_to};
+ghost use Rattle.rx_workers.specs.Service.{FirstEndsEarly, HaveServedAll, IsNewOver, port_to};
 
-use crate::hired::{Hired, Returned};
+use crate::hired::{Hired, ReturnedDesk};
 use crate::moments::Moments;
 use crate::readiness::{Bell, Readiness};
 use rx_heap::Heap;
@@ -41,6 +41,7 @@ pub fn end_all<
     ensures desks { (all : List (DeskView (LineSink W))) → AreOut all desks.old.items workers.items → AllZip KeepsDesk all desks.new.items }
     ensures served { result ≡ None → desks.old.items ≡ [] → (config : Config) → (xs : List (C × W)) → All (λ one. IsNewOver config (worker_desk one) one) workers.items → Deals xs (reverse (map port_to workers.items)) (reverse ports.items) → HaveServedAll M.tells C.remaining W.contents config xs (map worker_desk (reverse workers.items)) desks.new.items }
     ensures lost { IfSome result (λ place. place < vec_len desks.new) }
+    ensures first { (place : ℕ) → result ≡ Some place → desks.old.items ≡ [] → (config : Config) → (xs : List (C × W)) → All (λ one. IsNewOver config (worker_desk one) one) workers.items → Deals xs (reverse (map port_to workers.items)) (reverse ports.items) → FirstEndsEarly M.tells C.remaining W.contents config xs place (map worker_desk (reverse workers.items)) desks.new.items }
 {
     let mut workers = workers;
     let mut ports = ports;
@@ -50,7 +51,7 @@ pub fn end_all<
             unreachable!()
         };
         let place = desks.len();
-        let Returned { desk, has_all } = worker.end(rt, port, bells, place);
+        let ReturnedDesk { desk, has_all } = worker.end(rt, port, bells, place);
         desks.push_reserved(desk);
         lost = first_lost(lost, place, has_all);
     }

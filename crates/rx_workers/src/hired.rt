@@ -1,12 +1,12 @@
 //! Workers that were hired for desks, and how they end.
-ghost use Rattle.std.specs.Prelude.{◌≡◌, ◌≤◌, ◌↔◌, [], List, IfSome, IsSomeAnd, IsTrue, vec_capacity};
+ghost use Rattle.std.specs.Prelude.{◌≡◌, ◌≤◌, ◌↔◌, [], List, IfSome, IsFalse, IsSomeAnd, IsTrue, vec_capacity};
 ghost use Rattle.rx_config.specs.declared.config.Config.{Config};
 ghost use Rattle.rx_mailbox.specs.Boxes.{outgoing};
 ghost use Rattle.rx_mailbox.specs.Settling.{GotAll};
 ghost use Rattle.rx_mailbox.specs.Letters.{posts};
 ghost use Rattle.rx_pump.specs.Desks.{KeepsDesk};
 ghost use Rattle.rx_workers.specs.Crews.{SettlesWith, worker_desk};
-ghost use Rattle.rx_workers.specs.Service.{HasServedJust, IsNewOver};
+ghost use Rattle.rx_workers.specs.Service.{EndsEarly, HasServedJust, IsNewOver};
 
 use crate::accepting::ring_at;
 use crate::moments::Moments;
@@ -52,7 +52,7 @@ impl<M: Moments + Drop, C: Read + Drop, W: Write + Drop, P: Readiness<C> + Drop>
 
 /// What comes back of a worker that has ended.
 #[derive(Drop)]
-pub struct Returned<W: Write + Drop> {
+pub struct ReturnedDesk<W: Write + Drop> {
     /// Its desk, as its calls left it.
     pub desk: CallDesk<LineSink<W>>,
     /// Whether all that was sent to it came, and then its Bye.
@@ -80,10 +80,11 @@ impl<M: Moments + Drop, C: Read + Drop, W: Write + Drop, P: Readiness<C> + Drop>
         port: Port<(C, W)>,
         bells: &Vec<B, Heap>,
         place: usize,
-    ) -> Returned<W>
+    ) -> ReturnedDesk<W>
         requires { port.box ≡ self.inbox.box }
         ensures desk { KeepsDesk (worker_desk self) result.desk }
         ensures served { IsTrue result.has_all → (config : Config) → (xs : List (C × W)) → IsNewOver config (worker_desk self) self → port ≡ outgoing self.inbox.box 0 (posts 0 xs) → HasServedJust M.tells C.remaining W.contents config xs (worker_desk self) result.desk }
+        ensures early { IsFalse result.has_all → (config : Config) → (xs : List (C × W)) → IsNewOver config (worker_desk self) self → port ≡ outgoing self.inbox.box 0 (posts 0 xs) → EndsEarly M.tells C.remaining W.contents config xs (worker_desk self) result.desk }
     {
         let Hired { worker, room } = self;
         let dismissed = dismiss(rt, port);
@@ -94,7 +95,7 @@ impl<M: Moments + Drop, C: Read + Drop, W: Write + Drop, P: Readiness<C> + Drop>
             sessions: _,
         } = worker.join(rt);
         let has_all = ended_and_settled(inbox, dismissed, room);
-        Returned { desk, has_all }
+        ReturnedDesk { desk, has_all }
     }
 }
 

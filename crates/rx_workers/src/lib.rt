@@ -13,7 +13,6 @@
 
 mod accepting;
 mod admitting;
-mod begun;
 mod client;
 mod clients;
 mod dispatching;

@@ -2,7 +2,7 @@
 ghost use Rattle.std.specs.Prelude.{◌≡◌, false};
 ghost use Rattle.rx_workers.specs.Clients.{IsQuiet};
 ghost use Rattle.rx_workers.specs.Watching.{AreWatched};
-ghost use Rattle.rx_workers.specs.Working.{Goes};
+ghost use Rattle.rx_workers.specs.Working.{DoesSome};
 
 use crate::moments::Moments;
 use crate::readiness::Readiness;
@@ -20,7 +20,7 @@ pub fn serve_all<'a, R: Wait, M: Moments + Drop, C: Read + Drop, W: Write + Drop
     readiness: &mut P,
 )
     requires { AreWatched (P.watched readiness.old) shift.old.clients }
-    ensures goes { Goes M.tells C.remaining W.contents shift.old shift.new }
+    ensures goes { DoesSome M.tells C.remaining W.contents shift.old shift.new }
     ensures closed { shift.new.is_open ≡ false }
     ensures quiet { IsQuiet shift.new.clients }
     ensures watched { AreWatched (P.watched readiness.new) shift.new.clients }
@@ -42,7 +42,7 @@ fn serve_ready<'a, R: Wait, M: Moments + Drop, C: Read + Drop, W: Write + Drop, 
     readiness: &mut P,
 )
     requires { AreWatched (P.watched readiness.old) shift.old.clients }
-    ensures goes { Goes M.tells C.remaining W.contents shift.old shift.new }
+    ensures goes { DoesSome M.tells C.remaining W.contents shift.old shift.new }
     ensures watched { AreWatched (P.watched readiness.new) shift.new.clients }
 {
     for _ in 0..MOST_READY {

@@ -1,8 +1,7 @@
-ghost use Rattle.std.specs.Prelude.{◌≡◌, ◌+◌, ◌<◌, ◌⊎◌, ◌∷◌, List, None, length, vec_len, IsTrue};
+ghost use Rattle.std.specs.Prelude.{◌≡◌, ◌+◌, ◌-◌, ◌^◌, ◌<◌, ◌∷◌, List, [], None, length, vec_len, IsTrue};
 ghost use Rattle.rx_proto.specs.Reading.{same_word};
 ghost use Rattle.rx_workers.specs.SessionDesks.{followed, joined_by, no_queue, place_of};
 
-use crate::begun::Begun;
 use crate::joined::Joined;
 use crate::moments::Moments;
 use crate::responding::{has_joined, response_of, sink_back};
@@ -18,7 +17,7 @@ use std::marker::Model;
 use std::sync::Wait;
 
 /// The desk of a session: it finds the subject of a name in the configuration, and makes one call to it for each command,
-/// with the moment at which the command was given. What is begun waits for its call, so that several go to their subject together.
+/// with the moment at which the command was given. The call of what is begun is posted, so that several go to their subject together.
 #[derive(Drop)]
 pub struct SessionDesk<'a, R, M: Drop, W: Write + Drop> {
     rt: &'a R,
@@ -31,21 +30,20 @@ pub struct SessionDesk<'a, R, M: Drop, W: Write + Drop> {
     joined: Option<Joined>,
     // The place of the subject of what was begun.
     subject: usize,
-    // The events of what was begun whose calls are still to be sent.
-    begun: Begun,
-    // How many calls were sent that have no answer yet.
+    // How many calls were posted that have no answer yet.
     sent: u32,
+    // The event of what was begun last, where its call could not be posted: it goes alone, once the others have their answers.
+    waiting: Option<Event>,
 }
 
 impl<'a, R, M: Drop, W: Write + Drop> Model for SessionDesk<'a, R, M, W> {
-    ghost use Rattle.std.specs.Prelude.{◌+◌, ◌≡◌, length, vec_len};
+    ghost use Rattle.std.specs.Prelude.{◌+◌, ◌≡◌, length, option_to_list, vec_len};
     ghost use Rattle.rx_sink.specs.declared.line_sink.LineSink.{LineSink};
-    ghost use Rattle.rx_workers.specs.Queues.{events_of};
     ghost use Rattle.rx_workers.specs.SessionDesks.{SessionView};
 
     ghost Value = { SessionView M (LineSink W) };
 
-    ghost view = { λ d. record { subjects = d.config.now.subjects.items; window = d.config.now.window; moments = d.moments; calls = d.calls; joined = d.joined; queue = record { subject = d.subject; events = events_of d.begun; sent = d.sent } } };
+    ghost view = { λ d. record { subjects = d.config.now.subjects.items; window = d.config.now.window; moments = d.moments; calls = d.calls; joined = d.joined; queue = record { subject = d.subject; events = option_to_list d.waiting; sent = d.sent } } };
 
     ghost invariant = { λ d. length d.calls.ports + length d.calls.ended ≡ vec_len d.config.now.subjects };
 }
@@ -73,8 +71,8 @@ impl<'a, R, M: Drop, W: Write + Drop> SessionDesk<'a, R, M, W> {
             calls,
             joined: None,
             subject: 0,
-            begun: Begun::new(),
             sent: 0,
+            waiting: None,
         }
     }
 
@@ -120,35 +118,30 @@ impl<'a, R: Wait, M: Moments + Drop, W: Write + Drop> SessionDesk<'a, R, M, W> {
 impl<'a, R: Wait, M: Moments + Drop, W: Write + Drop> SessionDesk<'a, R, M, W> {
     ghost use Rattle.rx_note.specs.declared.note.Note.{Note};
     ghost use Rattle.rx_session.specs.Begun.{Asked, IsBehind};
-    ghost use Rattle.rx_workers.specs.Queues.{Waits};
+    ghost use Rattle.rx_workers.specs.Queues.{GoesBehind, Waits, with_waiting};
     ghost use Rattle.rx_workers.specs.SessionDesks.{SessionView, emits};
 
-    // Whether a note for the subject at this place may be begun behind so many: these are just what is begun, and for the same one.
+    // Whether a note for the subject at this place may be begun behind so many: these are just what is begun, for the same one, and
+    // each call of theirs was posted.
     fn goes_behind(&self, place: usize, behind: u32) -> bool
-        ensures { IsTrue result → (length self.now.queue.events + self.now.queue.sent ≡ behind) × ((behind ≡ 0) ⊎ (place ≡ self.now.queue.subject)) }
+        ensures { IsTrue result → GoesBehind self.now place behind }
     {
-        let begun = (self.begun.len() as u64).saturating_add(u64::from(self.sent));
-        begun == u64::from(behind) && (behind == 0 || place == self.subject)
+        self.waiting.is_none()
+            && self.sent == behind
+            && behind < u32::MAX
+            && (behind == 0 || place == self.subject)
     }
 
-    // Posts what was begun, as much of it as can go together, where that is more than one.
-    fn post_begun(&mut self)
-        requires { self.old.queue.subject < length self.old.subjects }
-        ensures waits { (base : SessionView M (LineSink W)) (begun : List Asked) → Waits M.tells base begun self.old → Waits M.tells base begun self.new }
-        ensures subject { self.new.queue.subject ≡ self.old.queue.subject }
-        ensures subjects { self.new.subjects ≡ self.old.subjects }
+    // Posts the call of what is begun by this event; where that can't be it waits.
+    fn post(&mut self, event: Event)
+        requires subject { self.old.queue.subject < length self.old.subjects }
+        requires none { self.old.queue.events ≡ [] }
+        requires room { self.old.queue.sent < 2 ^ 32 - 1 }
+        ensures { (base : SessionView M (LineSink W)) (begun : List Asked) → Waits M.tells base begun (with_waiting event self.old) → Waits M.tells base begun self.new }
     {
-        if self.begun.len() < 2 {
-            return;
-        }
-        while self.sent < u32::MAX
-            && let Some(event) = self.begun.take_first()
-        {
-            if let Err(back) = self.calls.post(self.rt, self.subject, event) {
-                self.begun.put_back(back);
-                return;
-            }
-            self.sent += 1;
+        match self.calls.post(self.rt, self.subject, event) {
+            Ok(()) => self.sent += 1,
+            Err(back) => drop(self.waiting.replace(back)),
         }
     }
 
@@ -166,14 +159,14 @@ impl<'a, R: Wait, M: Moments + Drop, W: Write + Drop> SessionDesk<'a, R, M, W> {
         response_of(&answered)
     }
 
-    // Makes the call of the first event that was begun, alone.
-    fn call_begun(&mut self) -> Response
+    // Makes the call that waits, alone.
+    fn call_waiting(&mut self) -> Response
         requires subject { self.old.queue.subject < length self.old.subjects }
         requires none { self.old.queue.sent ≡ 0 }
         ensures { (base : SessionView M (LineSink W)) (first : Asked) (rest : List Asked) → Waits M.tells base (first ∷ rest) self.old
             → (after : SessionView M (LineSink W)) × emits M.tells base first.name first.note result after × IsBehind (Waits M.tells) after rest self.new }
     {
-        let Some(event) = self.begun.take_first() else {
+        let Some(event) = self.waiting.take() else {
             return Response::Done;
         };
         let answered = self.calls.call(self.rt, self.subject, event, None);
@@ -182,6 +175,7 @@ impl<'a, R: Wait, M: Moments + Drop, W: Write + Drop> SessionDesk<'a, R, M, W> {
 }
 
 impl<'a, R: Wait, M: Moments + Drop, W: Write + Drop> Desk<W> for SessionDesk<'a, R, M, W> {
+    ghost use Rattle.rx_pump.specs.Desks.{IsOver};
     ghost use Rattle.rx_workers.specs.Queues.{Waits};
     ghost use Rattle.rx_workers.specs.SessionDesks.{emits, follows, knows};
 
@@ -200,7 +194,12 @@ impl<'a, R: Wait, M: Moments + Drop, W: Write + Drop> Desk<W> for SessionDesk<'a
         Some(self.config.subjects[place].memory(self.heap))
     }
 
-    fn emit(&mut self, name: &Name, note: Note) -> Response {
+    fn emit(&mut self, name: &Name, note: Note) -> Response
+        ensures emits { emits M.tells self.old name.now note result self.new }
+
+        // What was begun may have been put before; an emission at a desk that makes no call any more puts nothing.
+        ensures over { IsOver self.old.calls → self.new.calls ≡ self.old.calls }
+    {
         let Some(place) = self.place_of(name) else {
             return Response::Refused(Word::Subject);
         };
@@ -221,12 +220,12 @@ impl<'a, R: Wait, M: Moments + Drop, W: Write + Drop> Desk<W> for SessionDesk<'a
         let Some(place) = self.place_of(name) else {
             return Err(note);
         };
-        if !self.goes_behind(place, behind) || !self.begun.has_room(self.heap) {
+        if !self.goes_behind(place, behind) {
             return Err(note);
         }
         let at = self.moments.now();
         self.subject = place;
-        self.begun.push(Event::Emit { note, at });
+        self.post(Event::Emit { note, at });
         Ok(())
     }
 
@@ -235,10 +234,7 @@ impl<'a, R: Wait, M: Moments + Drop, W: Write + Drop> Desk<W> for SessionDesk<'a
             return Response::Done;
         }
         if self.sent == 0 {
-            self.post_begun();
-        }
-        if self.sent == 0 {
-            return self.call_begun();
+            return self.call_waiting();
         }
         self.next_answer()
     }

@@ -1,8 +1,7 @@
-ghost use Rattle.std.specs.Prelude.{◌≡◌, ◌↔◌, ◌⊎◌, [], false, true, IsFalse, IsTrue};
-ghost use Rattle.rx_mailbox.specs.declared.letter.Post.TheVariants.{Body};
+ghost use Rattle.std.specs.Prelude.{◌≡◌, ◌↔◌, [], false, true, IsFalse, IsTrue};
 ghost use Rattle.rx_workers.specs.Clients.{IsTalk, client_at};
 ghost use Rattle.rx_workers.specs.Watching.{AreWatched};
-ghost use Rattle.rx_workers.specs.Working.{Goes, HasTurnTo, HasTurns, IsFinished, PartsAt, Receives, ServesAt, state};
+ghost use Rattle.rx_workers.specs.Working.{HasArrivals, HasConnection, HasNoConnection, HasTurnTo, HasTurns, IsFinished, PartsAt, ServesAt, state};
 
 use crate::admitting::admit;
 use crate::client::Talk;
@@ -16,10 +15,6 @@ use rx_mailbox::{Inbox, Letter, Post, TryRecvFault};
 use std::io::{Read, Write};
 use std::marker::Model;
 use std::sync::Wait;
-
-// The turns of a session at most, before others have theirs: one that carries out what came, and one that mostly finds that
-// nothing more did.
-const MOST_TURNS: u32 = 2;
 
 /// A worker at work: the desk of its sessions, the inbox of its connections, its clients, and how many sessions it began.
 pub struct Shift<'a, R, M: Drop, C: Drop, W: Write + Drop> {
@@ -103,7 +98,7 @@ impl<'a, R: Wait, M: Moments + Drop, C: Read + Drop, W: Write + Drop> Shift<'a, 
     /// Gives each connection that came by now a place, and waits for none.
     pub fn admit_all<P: Readiness<C>>(&mut self, rt: &R, readiness: &mut P)
         requires { AreWatched (P.watched readiness.old) self.old.clients }
-        ensures goes { Goes M.tells C.remaining W.contents self.old self.new }
+        ensures arrivals { HasArrivals M.tells C.remaining W.contents self.old self.new }
         ensures watched { AreWatched (P.watched readiness.new) self.new.clients }
     {
         if !self.is_open {
@@ -119,9 +114,8 @@ impl<'a, R: Wait, M: Moments + Drop, C: Read + Drop, W: Write + Drop> Shift<'a, 
     // Gives the next connection a place, if one came. Whether another one may be there.
     fn admit_next<P: Readiness<C>>(&mut self, rt: &R, readiness: &mut P) -> bool
         requires { AreWatched (P.watched readiness.old) self.old.clients }
-        ensures goes { Goes M.tells C.remaining W.contents self.old self.new }
-        ensures came { IsTrue result → (connection : C × W) × Receives M.tells C.remaining W.contents (Body connection) self.old self.new }
-        ensures none { IsFalse result → (self.new ≡ self.old) ⊎ (self.new.is_open ≡ false) }
+        ensures came { IsTrue result → HasConnection M.tells C.remaining W.contents self.old self.new }
+        ensures none { IsFalse result → HasNoConnection M.tells C.remaining W.contents self.old self.new }
         ensures watched { AreWatched (P.watched readiness.new) self.new.clients }
     {
         let letter = match self.inbox.try_recv(rt) {
@@ -149,7 +143,7 @@ impl<'a, R: Wait, M: Moments + Drop, C: Read + Drop, W: Write + Drop> Shift<'a, 
         }
     }
 
-    /// Serves the client that is ready: a session has some turns, and a follower who hung up is parted with.
+    /// Serves the client that is ready: a session has a turn or two, and a follower who hung up is parted with.
     pub fn serve<P: Readiness<C>>(&mut self, ready: Ready, readiness: &mut P)
         requires { AreWatched (P.watched readiness.old) self.old.clients }
         ensures serves { ServesAt M.tells C.remaining W.contents ready.key ready.is_gone self.old self.new }
@@ -161,16 +155,15 @@ impl<'a, R: Wait, M: Moments + Drop, C: Read + Drop, W: Write + Drop> Shift<'a, 
         }
     }
 
-    // The session at this place has turns while it goes on at once, and no more than some.
+    // The session at this place has a turn, which carries out what came, and one more where it goes on at once, which mostly finds
+    // that nothing more did. Then others have theirs.
     fn turn_some<P: Readiness<C>>(&mut self, place: usize, readiness: &mut P)
         requires { AreWatched (P.watched readiness.old) self.old.clients }
         ensures turns { HasTurns M.tells C.remaining W.contents place self.old self.new }
         ensures watched { AreWatched (P.watched readiness.new) self.new.clients }
     {
-        for turn in 1..=MOST_TURNS {
-            if !self.turn(place, turn == MOST_TURNS, readiness) {
-                return;
-            }
+        if self.turn(place, false, readiness) {
+            self.turn(place, true, readiness);
         }
     }
 
@@ -178,10 +171,10 @@ impl<'a, R: Wait, M: Moments + Drop, C: Read + Drop, W: Write + Drop> Shift<'a, 
     // its connection is told again by the next wait.
     fn turn<P: Readiness<C>>(&mut self, place: usize, is_last: bool, readiness: &mut P) -> bool
         requires { AreWatched (P.watched readiness.old) self.old.clients }
-        ensures turns { HasTurns M.tells C.remaining W.contents place self.old self.new }
         ensures turned { IsTalk (client_at place self.old.clients) → HasTurnTo M.tells C.remaining W.contents place result self.old self.new }
         ensures idle { ¬ IsTalk (client_at place self.old.clients) → result ≡ false }
         ensures kept { ¬ IsTalk (client_at place self.old.clients) → self.new ≡ self.old }
+        ensures talks { result ≡ true → IsTalk (client_at place self.old.clients) × IsTalk (client_at place self.new.clients) }
         ensures watched { AreWatched (P.watched readiness.new) self.new.clients }
     {
         let Some(talk) = self.clients.take_talk(place) else {

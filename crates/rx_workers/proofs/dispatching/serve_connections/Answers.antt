@@ -26,4 +26,5 @@ returns-clause-served g c =
     ended_so g.L.Listener.accepts g.L.Listener.fails g.M.Moments.tells _ _ config dealt.result c.with_lost.result ended.result c.args.listener.now dealt.new.listener
     c.args.desks.now.items dealt.new.desks.items ended.new.desks.items dealt.new.workers.items dealt.new.ports.items
     (omega (arith, some, c.args.desks.now.ok.0)) count dealt.ensures.out (subst (λ (n : ℕ). IfSome ended.result (λ place. place < n)) same ended.ensures.lost) dealt.ensures.dealt
-    (λ unlost none xs deals. ended.ensures.served unlost none config xs dealt.ensures.new deals) c.with_lost.ensures
+    (λ unlost none xs deals. ended.ensures.served unlost none config xs dealt.ensures.new deals)
+    (λ place lost none xs deals. ended.ensures.first place lost none config xs dealt.ensures.new deals) c.with_lost.ensures

@@ -1,5 +1,5 @@
 -- A worker that has ended kept its desk, and served all that came where its box settled.
-use Rattle.std.proofs.Common.{◌≡◌, ◌∙◌, Option, None, Some, IfSome, IsSomeAnd, sym, ap, subst}
+use Rattle.std.proofs.Common.{◌≡◌, ◌∙◌, Option, None, Some, IfSome, IsSomeAnd, refl, sym, ap, subst, true≢false}
 use Rattle.rx_mailbox.specs.Boxes.{Incoming, Outgoing}
 use Rattle.rx_mailbox.specs.Settling.{GotAll}
 use Rattle.rx_pump.specs.Sends.{with_bye}
@@ -35,3 +35,16 @@ returns-clause-served g c = λ yes config xs new port_is.
     let got = got_all c.dismiss-dismissed.result c.args.port c.join-desk.result.inbox c.dismiss-dismissed.ensures (c.ended_and_settled-has_all.ensures.came yes) in
     let ended = subst (λ (v : WorkerView _ _ _). HasEnded g.M.Moments.tells g.C.Read.remaining g.W.Write.contents v c.join-desk.result) c.self.view_is c.join-desk.ensures in
     served_just g.M.Moments.tells g.C.Read.remaining g.W.Write.contents config (worker_desk c.args.self) c.args.self c.join-desk.result xs c.args.port ended new port_is got
+
+-- where it did not
+pub returns-clause-early : goal.returns-clause-early
+returns-clause-early g c = λ no config xs new port_is. record {
+  one = c.args.self;
+  is_new = new;
+  end = c.join-desk.result;
+  ended = subst (λ (v : WorkerView _ _ _). HasEnded g.M.Moments.tells g.C.Read.remaining g.W.Write.contents v c.join-desk.result) c.self.view_is c.join-desk.ensures;
+  desk_is = refl;
+  told = c.dismiss-dismissed.result;
+  by_port = subst (λ (p : Outgoing _). IfSome c.dismiss-dismissed.result (λ ended. ended ≡ with_bye p)) port_is c.dismiss-dismissed.ensures;
+  unsettled = λ settles. true≢false (sym (c.ended_and_settled-has_all.ensures.settles.1 settles) ∙ no);
+}

@@ -1,6 +1,5 @@
 -- A note that is begun waits behind those that are begun already.
-use Rattle.std.proofs.Common.{◌∷◌, ◌++◌, [], ◌∙◌, ap, refl, sym}
-use Rattle.rx_note.specs.declared.event.Event.TheVariants.{Emit}
+use Rattle.std.proofs.Common.{refl, sym}
 use Rattle.rx_workers.proofs.Queues.{Waits-begun}
 use Rattle.rx_workers.proofs.session_desk.SessionDeskDesk.begin.Goals as goal
 
@@ -10,17 +9,7 @@ returns g c =
     let named = rw (← c.self.view_is) at c.in-Some.ensures in
     rw (← c.self.view_is)
     (λ base begun count is.
-    Waits-begun g.M.Moments.tells base _ _ begun c.args.name.now c.args.note c.args.behind c.in-Some.place goes
-    (record {
-      at = c.now-at.result;
-      told = c.now-at.ensures;
-      named = sym named;
-      subjects = refl;
-      window = refl;
-      calls = refl;
-      joined = refl;
-      subject = refl;
-      events = c.push.ensures ∙ ap (λ events. events ++ Emit c.args.note c.now-at.result ∷ []) c.has_room.ensures.same;
-      sent = refl;
-    })
-    count is)
+    c.post.ensures base _
+    (Waits-begun g.M.Moments.tells base _ _ begun c.args.name.now c.args.note c.args.behind c.in-Some.place goes
+    (record { at = c.now-at.result; told = c.now-at.ensures; named = sym named; subjects = refl; window = refl; calls = refl; joined = refl; subject = refl; events = refl; sent = refl })
+    count is))

@@ -1,10 +1,9 @@
 -- What came is one deed, and so is that nothing comes any more.
-use Rattle.std.proofs.Common.{◌∙◌, ap, false, refl}
+use Rattle.std.proofs.Common.{◌∙◌, ap, false, refl, inl, inr, true≢false}
 use Rattle.rx_mailbox.specs.Boxes.{Incoming, with_letter}
 use Rattle.rx_mailbox.specs.Letters.{letter}
 use Rattle.rx_mailbox.specs.declared.letter.Post.TheVariants.{Body}
-use Rattle.rx_workers.specs.Working.{State, Abandoned, Admitted, Dismissed, GivenUp, Receives, state}
-use Rattle.rx_workers.proofs.Working.{Goes-one}
+use Rattle.rx_workers.specs.Working.{State, Admitted, GivenUp, Receives, state}
 use Rattle.rx_workers.proofs.shift.Shift.admit_next.Goals as goal
 
 -- there was no memory for the connection
@@ -16,9 +15,8 @@ returns-in_default g c =
     let received : Receives g.M.Moments.tells g.C.Read.remaining g.W.Write.contents (Body c.in-Body.connection) before after =
     record { from = c.in-Ok.letter.from; of_box = c.in-Ok.ensures.port; inbox = inbox; session = refl } in
     rw (← c.self.view_is) (record {
-      goes = Goes-one g.M.Moments.tells g.C.Read.remaining g.W.Write.contents (GivenUp c.in-Body.connection) before after (received, c.in_default.ensures.admits, refl, refl);
-      came = λ _. (c.in-Body.connection, received);
-      none = λ no. cc;
+      came = λ _. (GivenUp c.in-Body.connection, tt, (received, c.in_default.ensures.admits, refl, refl));
+      none = λ no. absurd (true≢false no);
       watched = c.in_default.ensures.watched;
     })
 
@@ -31,29 +29,20 @@ returns-in-Some g c =
     let received : Receives g.M.Moments.tells g.C.Read.remaining g.W.Write.contents (Body c.in-Body.connection) before after =
     record { from = c.in-Ok.letter.from; of_box = c.in-Ok.ensures.port; inbox = inbox; session = refl } in
     rw (← c.self.view_is) (record {
-      goes =
-          Goes-one g.M.Moments.tells g.C.Read.remaining g.W.Write.contents (Admitted c.in-Body.connection c.in-Some.field-0) before after
-          (received, c.in-Some.ensures.admits, c.saturating_add-self-inside.ensures, refl);
-      came = λ _. (c.in-Body.connection, received);
-      none = λ no. cc;
+      came = λ _. (Admitted c.in-Body.connection c.in-Some.field-0, tt, (received, c.in-Some.ensures.admits, c.saturating_add-self-inside.ensures, refl));
+      none = λ no. absurd (true≢false no);
       watched = c.in-Some.ensures.watched;
     })
 
 -- the Bye came
-pub returns-in-Bye-clause-goes : goal.returns-in-Bye-clause-goes
-returns-in-Bye-clause-goes g c =
+pub returns-in-Bye-clause-none : goal.returns-in-Bye-clause-none
+returns-in-Bye-clause-none g c =
     let received = c.in-Ok.ensures.received ∙ ap (λ post. with_letter c.self.inside.inbox (letter c.in-Ok.letter.from post)) c.in-Bye.is in
     rw (← c.self.view_is)
-    (Goes-one g.M.Moments.tells g.C.Read.remaining g.W.Write.contents Dismissed
-    (state c.self.inside.desk c.self.inside.inbox c.self.inside.clients c.self.inside.sessions c.self.inside.is_open)
-    (state c.self.inside.desk c.try_recv.new.self c.self.inside.clients c.self.inside.sessions false)
-    (record { from = c.in-Ok.letter.from; of_box = c.in-Ok.ensures.port; inbox = received; session = refl }, λ place. refl, refl, refl))
+    (λ _. inr (inl (record { from = c.in-Ok.letter.from; of_box = c.in-Ok.ensures.port; inbox = received; session = refl }, λ place. refl, refl, refl)))
 
 -- nothing comes any more
-pub returns-in-Err-Gone-clause-goes : goal.returns-in-Err-Gone-clause-goes
-returns-in-Err-Gone-clause-goes g c =
+pub returns-in-Err-Gone-clause-none : goal.returns-in-Err-Gone-clause-none
+returns-in-Err-Gone-clause-none g c =
     rw (← c.self.view_is)
-    (Goes-one g.M.Moments.tells g.C.Read.remaining g.W.Write.contents Abandoned
-    (state c.self.inside.desk c.self.inside.inbox c.self.inside.clients c.self.inside.sessions c.self.inside.is_open)
-    (state c.self.inside.desk c.try_recv.new.self c.self.inside.clients c.self.inside.sessions false)
-    (ap (λ (i : Incoming _). state c.self.inside.desk i c.self.inside.clients c.self.inside.sessions false) c.in-Err-Gone.ensures.received))
+    (λ _. inr (inr (ap (λ (i : Incoming _). state c.self.inside.desk i c.self.inside.clients c.self.inside.sessions false) c.in-Err-Gone.ensures.received)))

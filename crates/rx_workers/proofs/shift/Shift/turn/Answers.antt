@@ -1,10 +1,12 @@
 -- A turn is one deed.
-use Rattle.std.proofs.Common.{Some, None, ap, refl}
+use Rattle.std.proofs.Common.{◌∙◌, Option, Some, None, ap, refl, subst, sym}
+use Rattle.rx_workers.specs.Clients.{IsTalk}
 use Rattle.rx_workers.specs.Working.{State, HasTurn, state}
+use Rattle.rx_workers.specs.declared.client.Client.{Client}
 use Rattle.rx_workers.specs.declared.client.Client.TheVariants.{Talks}
 use Rattle.rx_workers.proofs.Places.{Sets-then, is_talk}
 use Rattle.rx_workers.proofs.Watching.{watched-set, watched-there}
-use Rattle.rx_workers.proofs.Working.{HasTurns-none, HasTurns-one}
+use Rattle.rx_workers.proofs.Working.{talk_left}
 use Rattle.rx_workers.proofs.shift.Shift.turn.Goals as goal
 
 -- its connection is watched for what it waits for
@@ -33,17 +35,16 @@ returns g c =
       is_open = refl;
     } in
     rw (← c.self.view_is) (record {
-      turns = HasTurns-one g.M.Moments.tells g.C.Read.remaining g.W.Write.contents c.args.place before after had;
       turned = λ _. (had, c.leave-goes_on.ensures.goes_on);
       idle = λ none. absurd (none talks);
       kept = λ none. absurd (none talks);
+      talks = λ at_once. (
+        talks,
+        subst (λ (client : Option (Client _ _)). IsTalk client) (sym had.sets.is_there)
+            (talk_left c.turn-turned.result c.turn-turned.new.reader c.turn-turned.new.self c.turn-turned.new.desk.joined c.leave-goes_on.result.1 (sym c.leave-goes_on.ensures.goes_on ∙ at_once) had.leaves),
+      );
       watched =
           let clients_are = ap (λ (s : State _ _ _). s.clients) c.self.view_is in
           watched-set c.args.place (g.P.Readiness.watched c.args.readiness.now) (g.P.Readiness.watched c.leave-goes_on.new.readiness) c.self.inside.clients c.put.new.self
           (Some (Talks c.in-Some.talk)) c.leave-goes_on.result.1 (rw clients_are c.requires) c.leave-goes_on.ensures.watched had.sets;
     })
-
-pub returns-in_default-clause-turns : goal.returns-in_default-clause-turns
-returns-in_default-clause-turns g c =
-    let before : State _ _ _ = state c.self.inside.desk c.self.inside.inbox c.self.inside.clients c.self.inside.sessions c.self.inside.is_open in
-    rw (← c.self.view_is) (rw c.in_default.ensures.taken (HasTurns-none g.M.Moments.tells g.C.Read.remaining g.W.Write.contents c.args.place before))

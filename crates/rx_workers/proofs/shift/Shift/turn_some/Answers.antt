@@ -1,17 +1,16 @@
-use Rattle.rx_workers.proofs.Working.{HasTurns-none, HasTurns-then}
+-- The session that is under way has one turn, or two; where none is it has none.
+use Rattle.std.proofs.Common.{◌∙◌, sym}
+use Rattle.rx_workers.proofs.Working.{turns-one, turns-two}
 use Rattle.rx_workers.proofs.shift.Shift.turn_some.Goals as goal
 
-pub loop-turn-init : goal.loop-turn-init
-loop-turn-init g c = record { turns = HasTurns-none g.M.Moments.tells g.C.Read.remaining g.W.Write.contents c.args.place c.args.self.now; watched = c.requires }
+pub returns-then-turn-clause-turns : goal.returns-then-turn-clause-turns
+returns-then-turn-clause-turns g c =
+    let talks = c.turn.ensures.talks c.if-turn.true in
+    let first = c.turn.ensures.turned talks.0 in
+    turns-two g.M.Moments.tells g.C.Read.remaining g.W.Write.contents c.args.place c.args.self.now c.turn.new.self c.turn-then-turn.new.self
+    (first.0, sym c.if-turn.true ∙ first.1) (c.turn-then-turn.ensures.turned talks.1).0
 
-pub returns-then-not-turn : goal.returns-then-not-turn
-returns-then-not-turn g c = record {
-  turns = HasTurns-then g.M.Moments.tells g.C.Read.remaining g.W.Write.contents c.args.place c.args.self.now c.loop-turn.self c.turn.new.self c.loop-turn.invariant.turns c.turn.ensures.turns;
-  watched = c.turn.ensures.watched;
-}
-
-pub loop-turn-preserved : goal.loop-turn-preserved
-loop-turn-preserved g c = record {
-  turns = HasTurns-then g.M.Moments.tells g.C.Read.remaining g.W.Write.contents c.args.place c.args.self.now c.loop-turn.self c.turn.new.self c.loop-turn.invariant.turns c.turn.ensures.turns;
-  watched = c.turn.ensures.watched;
-}
+pub returns-else-turn-clause-turns : goal.returns-else-turn-clause-turns
+returns-else-turn-clause-turns g c =
+    turns-one g.M.Moments.tells g.C.Read.remaining g.W.Write.contents c.args.place c.args.self.now c.turn.new.self
+    (λ talks. (let first = c.turn.ensures.turned talks in (first.0, sym c.if-turn.false ∙ first.1))) c.turn.ensures.kept
