@@ -37,7 +37,7 @@ module _ {B : Type 0} where
 
   -- they have put nothing
   pub ports-fresh : (rows : List (RowView B)) → All IsFresh (map next_port rows)
-  ports-fresh rows = All-map IsFresh next_port rows (λ k d within. refl)
+  ports-fresh rows = All-map IsFresh next_port rows (λ k d within. (refl, refl))
 
 -- of each box the first ports were handed out, as many as the parts that are done, and one is left for each of the rest
 pub record Handed {B D X : Type 0} (initial rows : List (RowView B)) (done : List D) (rest : List X) : Type 0 where

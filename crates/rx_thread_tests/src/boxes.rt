@@ -1,8 +1,9 @@
 //! Boxes between threads: what no clause says, and that calls succeed.
 
+ghost use Rattle.rx_pump.specs.Pumps.{IsFresh};
 ghost use Rattle.std.specs.Prelude.{◌≡◌, [], Ok, IfSome};
 ghost use Rattle.rx_mailbox.specs.declared.letter.Post.TheVariants.{Body, Bye};
-ghost use Rattle.rx_mailbox.specs.Boxes.{with_post, AreOf};
+ghost use Rattle.rx_mailbox.specs.Boxes.{told, with_post, AreOf};
 ghost use Rattle.rx_thread_tests.specs.Wiring.{IsTwo};
 
 use crate::expecting::{expect_count, expect_text, expect_that, expect_words};
@@ -97,7 +98,7 @@ pub(crate) fn first_of_two<B: Drop>(
     alloc: Heap,
     capacity: usize,
 ) -> (Inbox<B>, Port<B>)
-    ensures { result.1.own ≡ [] }
+    ensures { IsFresh result.1 }
 {
     first_of_two_if(rt, alloc, capacity).expect(rt, "a box")
 }
@@ -108,7 +109,7 @@ pub(crate) fn first_of_two_if<B: Drop>(
     alloc: Heap,
     capacity: usize,
 ) -> Option<(Inbox<B>, Port<B>)>
-    ensures { IfSome result (λ made. made.1.own ≡ []) }
+    ensures { IfSome result (λ made. IsFresh made.1) }
 {
     let (inbox, first, _) = two_if(rt, alloc, capacity)?;
     Some((inbox, first))
@@ -122,7 +123,7 @@ pub(crate) fn send<B: Drop>(rt: &(impl Wait + Abort), port: &mut Port<B>, body: 
 
 // The port may hold the body back.
 pub(crate) fn hold<B: Drop>(rt: &(impl Wait + Abort), port: &mut Port<B>, body: B)
-    ensures { port.new ≡ with_post port.old (Post.Body body) }
+    ensures { told port.new ≡ with_post port.old (Post.Body body) }
 {
     assert!(rt; port.send_quietly(rt, body).is_ok());
 }

@@ -29,7 +29,7 @@ fn pump_of(
     callers: Vec<Port<Reply<u8>>, Heap>,
 ) -> Pump<u8>
     requires inbox { inbox.received ≡ [] }
-    requires drainer { drainer.own ≡ [] }
+    requires drainer { IsFresh drainer }
     requires callers { All IsFresh callers.items }
     requires ports { vec_len callers ≤ inbox.ports }
     ensures inbox { result.inbox ≡ inbox }
@@ -58,7 +58,7 @@ fn desk_of(
     port: Port<Call<u8>>,
     inbox: Inbox<Reply<u8>>,
 ) -> CallDesk<u8>
-    requires port { port.own ≡ [] }
+    requires port { IsFresh port }
     requires inbox { inbox.received ≡ [] }
     ensures { result ≡ fresh_desk (port ∷ []) inbox }
 {
@@ -132,7 +132,7 @@ fn emit_all(
     port: Port<Call<u8>>,
     inbox: Inbox<Reply<u8>>,
 ) -> EndedDesk<u8>
-    requires port { port.own ≡ [] }
+    requires port { IsFresh port }
     requires inbox { inbox.received ≡ [] }
     ensures ports { boxes_of result.ports.items ≡ port.box ∷ [] }
     ensures inbox { result.inbox.box ≡ inbox.box }
@@ -210,7 +210,7 @@ fn emit_both<R: Threads + Wait + Abort + Sync>(
     first_inbox: Inbox<Reply<u8>>,
     second_inbox: Inbox<Reply<u8>>,
 ) -> (EndedDesk<u8>, EndedDesk<u8>)
-    requires ports { (first.own ≡ []) × (second.own ≡ []) }
+    requires ports { (IsFresh first) × (IsFresh second) }
     requires inboxes { (first_inbox.received ≡ []) × (second_inbox.received ≡ []) }
     ensures first { (boxes_of result.0.ports.items ≡ first.box ∷ []) × (result.0.inbox.box ≡ first_inbox.box) }
     ensures second { (boxes_of result.1.ports.items ≡ second.box ∷ []) × (result.1.inbox.box ≡ second_inbox.box) }
@@ -220,11 +220,11 @@ fn emit_both<R: Threads + Wait + Abort + Sync>(
     join(
         rt,
         || -> EndedDesk<u8>
-            requires { (first.own ≡ []) × (first_inbox.received ≡ []) }
+            requires { (IsFresh first) × (first_inbox.received ≡ []) }
             ensures { (boxes_of result.ports.items ≡ first.box ∷ []) × (result.inbox.box ≡ first_inbox.box) }
         { emit_all(rt, first_alloc, first, first_inbox) },
         || -> EndedDesk<u8>
-            requires { (second.own ≡ []) × (second_inbox.received ≡ []) }
+            requires { (IsFresh second) × (second_inbox.received ≡ []) }
             ensures { (boxes_of result.ports.items ≡ second.box ∷ []) × (result.inbox.box ≡ second_inbox.box) }
         { emit_all(rt, second_alloc, second, second_inbox) },
     )
@@ -262,7 +262,7 @@ fn exchange<R: Threads + Wait + Abort + Sync>(rt: &R, alloc: &Heap) -> (u64, u64
     let ((first, second), left) = join(
         rt,
         || -> (EndedDesk<u8>, EndedDesk<u8>)
-            requires { (first.own ≡ []) × (second.own ≡ []) × (first_inbox.received ≡ []) × (second_inbox.received ≡ []) }
+            requires { (IsFresh first) × (IsFresh second) × (first_inbox.received ≡ []) × (second_inbox.received ≡ []) }
             ensures { (boxes_of result.0.ports.items ≡ first.box ∷ []) × (boxes_of result.1.ports.items ≡ second.box ∷ [])
                 × (result.0.inbox.box ≡ first_inbox.box) × (result.1.inbox.box ≡ second_inbox.box) }
         { emit_both(rt, alloc, first, second, first_inbox, second_inbox) },

@@ -4,6 +4,7 @@
 //! What a drainer did is told by the notes that its sink took, `|`, and what it sent its subject: `r` and `d` with the observer
 //! for a request of one item and for a disposal, `.` for the Bye. `!` alone is told where there was no memory for the drainer.
 
+ghost use Rattle.rx_pump.specs.Pumps.{IsFresh};
 ghost use Rattle.std.specs.Prelude.{◌≡◌, []};
 
 use crate::boxes::{copy, finish, first_of_two, send, two, unlimited};
@@ -37,7 +38,7 @@ pub(crate) fn drainer_of<S: Sink>(
 ) -> Option<Drainer<S>>
     requires ports { inbox.ports ≡ 2 }
     requires received { inbox.received ≡ [] }
-    requires subject { subject.own ≡ [] }
+    requires subject { IsFresh subject }
 {
     let subjects = vec![in copy(rt, free); subject].expect(rt, "memory");
     Drainer::new(alloc, inbox, subjects).ok()

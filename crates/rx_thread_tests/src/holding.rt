@@ -24,7 +24,8 @@ fn held_letters_come_in_order(rt: HostRuntime) {
     let alloc = unlimited(&rt);
     let (mut inbox, mut first) = first_of_two::<u32>(&rt, copy(&rt, &alloc), 64);
     hold_many(&rt, &mut first, 200);
-    first.ring(&rt);
+    assert!(&rt; first.ring(&rt));
+    assert!(&rt; !first.holds_back());
     receive_many(&rt, &mut inbox, 200);
     // A letter that is not held back comes behind those that are, and so does the end.
     hold_many(&rt, &mut first, 3);
@@ -43,7 +44,8 @@ fn held_letters_without_an_inbox(rt: HostRuntime) {
     let (inbox, mut first) = first_of_two::<u32>(&rt, copy(&rt, &alloc), 8);
     hold_many(&rt, &mut first, 2);
     drop(inbox);
-    first.ring(&rt);
+    assert!(&rt; !first.ring(&rt));
+    assert!(&rt; first.holds_back());
     assert!(&rt; first.send(&rt, 2) == Err(2));
     assert!(&rt; first.finish(&rt).is_err());
 }

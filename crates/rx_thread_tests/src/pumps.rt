@@ -75,7 +75,7 @@ pub(crate) fn pump_if(
     callers: Vec<Port<Reply<u8>>, Heap>,
 ) -> Option<Pump<u8>>
     requires inbox { inbox.received ≡ [] }
-    requires drainer { drainer.own ≡ [] }
+    requires drainer { IsFresh drainer }
     requires callers { All IsFresh callers.items }
     requires ports { vec_len callers ≤ inbox.ports }
     ensures inbox { IfSome result (λ pump. pump.inbox ≡ inbox) }

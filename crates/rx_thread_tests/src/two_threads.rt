@@ -1,5 +1,6 @@
 //! A box between two threads: each sends, and this one receives.
 
+ghost use Rattle.rx_pump.specs.Pumps.{IsFresh};
 ghost use Rattle.std.specs.Prelude.{◌≡◌, []};
 ghost use Rattle.rx_mailbox.specs.Letters.{share};
 ghost use Rattle.rx_mailbox.specs.Passes.{inbox_in};
@@ -19,7 +20,7 @@ const BODIES: u32 = 1_000;
 
 // Sends the bodies 0, 1, 2 and so on, and then the Bye.
 fn send_all(rt: &(impl Wait + Abort), mut port: Port<u32>) -> EndedPort<u32>
-    requires { port.own ≡ [] }
+    requires { IsFresh port }
     ensures { result ≡ after_all port BODIES }
 {
     for body in 0..BODIES {
@@ -33,19 +34,19 @@ fn send_both<R: Threads + Wait + Abort + Sync>(
     first: Port<u32>,
     second: Port<u32>,
 ) -> (EndedPort<u32>, EndedPort<u32>)
-    requires first { first.own ≡ [] }
-    requires second { second.own ≡ [] }
+    requires first { IsFresh first }
+    requires second { IsFresh second }
     ensures first { result.0 ≡ after_all first BODIES }
     ensures second { result.1 ≡ after_all second BODIES }
 {
     join(
         rt,
         || -> EndedPort<u32>
-            requires { first.own ≡ [] }
+            requires { IsFresh first }
             ensures { result ≡ after_all first BODIES }
         { send_all(rt, first) },
         || -> EndedPort<u32>
-            requires { second.own ≡ [] }
+            requires { IsFresh second }
             ensures { result ≡ after_all second BODIES }
         { send_all(rt, second) },
     )
@@ -84,7 +85,7 @@ fn exchange<R: Threads + Wait + Abort + Sync>(rt: &R, alloc: &Heap) -> Settled<u
     let ((first, second), inbox) = join(
         rt,
         || -> (EndedPort<u32>, EndedPort<u32>)
-            requires { (first.own ≡ []) × (second.own ≡ []) }
+            requires { (IsFresh first) × (IsFresh second) }
             ensures { (result.0 ≡ after_all first BODIES) × (result.1 ≡ after_all second BODIES) }
         { send_both(rt, first, second) },
         || -> Inbox<u32>

@@ -1,29 +1,47 @@
 -- How far an acceptor has come.
-use Rattle.std.proofs.Common.{◌≡◌, ◌∙◌, sym, refl, ap, subst, ℕ, ◌+◌, ◌<◌, ◌%◌, List, [], ◌∷◌, ◌++◌, append_assoc, append-nil, length, get_or, Ok, Err, arith}
+use Rattle.std.proofs.Common.{◌≡◌, ◌∙◌, sym, refl, ap, subst, ℕ, ◌+◌, ◌<◌, ◌%◌, List, [], ◌∷◌, ◌++◌, append_assoc, append-nil, length, get_or, reverse, Ok, Err, arith}
 use Rattle.std.proofs.Math.ListN.{set}
-use Rattle.std.proofs.lemmas.List.{set-get_or, length-append}
-use Rattle.rx_mailbox.specs.Boxes.{Outgoing, with_bodies}
+use Rattle.std.proofs.lemmas.List.{set-get_or, length-append, reverse-append}
+use Rattle.std.proofs.lemmas.List.Elements.{All-append, All-cons, All-nil, All-same, All-tail}
+use Rattle.std.specs.List.{All}
+use Rattle.rx_mailbox.specs.declared.letter.Post.TheVariants.{Body}
+use Rattle.rx_mailbox.specs.Letters.{letter}
+use Rattle.rx_mailbox.specs.Boxes.{Outgoing, with_post, with_more}
 use Rattle.rx_pump.specs.Marks.{to_port}
 use Rattle.rx_pump.specs.Sends.{Puts}
 use Rattle.rx_pump.proofs.Putting.{Puts-at, Puts-none, Puts-same, Puts-then}
-use Rattle.rx_workers.specs.Accepting.{dealt, Deals, Accepts, AcceptsAll, AcceptsNext}
+use Rattle.rx_workers.specs.Accepting.{dealt, Deals, Accepts, AcceptsAll, AcceptsNext, HoldsNothing}
 use Rattle.rx_workers.specs.declared.accepting.AcceptStop.{AcceptStop}
 use Rattle.rx_workers.specs.declared.accepting.AcceptStop.TheVariants.{NoConnection, WorkerGone}
 
 module _ {X : Type 0} where
   -- one connection is sent to its worker
   pub sends_one : (ports : List (Outgoing X)) (number count : ℕ) (port after : Outgoing X) (x : X)
-      → count ≡ length ports → 0 < length ports → port ≡ get_or ports (number % count) port → after ≡ with_bodies (x ∷ []) port
+      → count ≡ length ports → 0 < length ports → port ≡ get_or ports (number % count) port → HoldsNothing port → after ≡ with_post port (Body x)
       → Puts (λ d. to_port (number % length ports) d x) ports (set ports (number % count) after)
-  sends_one ports number count port after x count_is some port_is after_is =
+  sends_one ports number count port after x count_is some port_is nothing after_is =
       let place_is : number % count ≡ number % length ports = ap (λ n. number % n) count_is in
       let within : number % count < length ports = omega (arith, count_is) in
+      let more : after ≡ with_more (x ∷ []) port =
+      after_is ∙ ap (λ (held : ℕ). record { box = port.box; number = port.number; own = port.own ++ letter port.number (Body x) ∷ []; held = held }) (sym nothing) in
       subst (λ (k : ℕ). Puts (λ d. to_port k d x) ports (set ports (number % count) after)) place_is
-      (Puts-at ports (number % count) port after x within port_is after_is)
+      (Puts-at ports (number % count) port after x within port_is more)
 
   -- a port that is as it was
   pub set_same : (ports : List (Outgoing X)) (place : ℕ) (port after : Outgoing X) → port ≡ get_or ports place port → after ≡ port → set ports place after ≡ ports
   set_same ports place port after port_is after_is = ap (set ports place) (after_is ∙ port_is) ∙ set-get_or ports place port
+
+  -- nor does one of them the other way round
+  pub held_reverse : (ports : List (Outgoing X)) → All HoldsNothing ports → All HoldsNothing (reverse ports)
+  held_reverse [] nothing = All-nil HoldsNothing
+  held_reverse (port ∷ ports) nothing =
+      All-same HoldsNothing (reverse (port ∷ ports)) (reverse ports ++ port ∷ []) (reverse-append (port ∷ []) ports)
+      (All-append HoldsNothing (reverse ports) (port ∷ []) (held_reverse ports (All-tail HoldsNothing port ports nothing))
+      (All-cons HoldsNothing port [] (nothing 0 port (omega arith)) (All-nil HoldsNothing)))
+
+  -- a port of some that hold nothing back
+  pub held_at : (ports : List (Outgoing X)) (place : ℕ) (port : Outgoing X) → place < length ports → port ≡ get_or ports place port → All HoldsNothing ports → HoldsNothing port
+  held_at ports place port within port_is nothing = ap (λ (p : Outgoing X). p.held) port_is ∙ nothing place port within
 
   -- one connection more is dealt
   dealt-more : (n d first : ℕ) (xs : List X) (x : X) → dealt n d first (xs ++ x ∷ []) ≡ dealt n d first xs ++ to_port ((first + length xs) % n) d x

@@ -7,7 +7,7 @@ use Rattle.std.proofs.lemmas.List.Elements.{All-nil, All-pop}
 use Rattle.std.proofs.lemmas.Option.{same_Some}
 use Rattle.std.proofs.lemmas.Slice.Zip.{AllZip-long}
 use Rattle.rx_config.specs.declared.config.Config.{Config}
-use Rattle.rx_mailbox.specs.Boxes.{Box, Incoming, Outgoing, incoming, outgoing, with_bodies}
+use Rattle.rx_mailbox.specs.Boxes.{Box, Incoming, Outgoing, incoming, outgoing, with_more}
 use Rattle.rx_mailbox.specs.Letters.{letter, posts}
 use Rattle.rx_mailbox.specs.Settling.{GotAll}
 use Rattle.rx_mailbox.specs.declared.letter.Letter.{Letter}
@@ -123,25 +123,25 @@ module _ {C W : Type 0} where
   -- ports, of which the first is that at place d of n, by which what was dealt was sent
   abbrev pub dealt_by : ℕ → ℕ → List (C × W) → List (Outgoing (C × W)) → List (Outgoing (C × W))
   dealt_by n d xs [] = []
-  dealt_by n d xs (port ∷ ports) = with_bodies (dealt n d 0 xs) port ∷ dealt_by n (d + 1) xs ports
+  dealt_by n d xs (port ∷ ports) = with_more (dealt n d 0 xs) port ∷ dealt_by n (d + 1) xs ports
 
   -- what each put, told place by place, is what was dealt
   puts_dealt : (n d : ℕ) (xs : List (C × W)) (before after : List (Outgoing (C × W))) → length after ≡ length before
-      → ((i : ℕ) → slice_get after i ≡ option_map (with_bodies (dealt n (d + i) 0 xs)) (slice_get before i)) → after ≡ dealt_by n d xs before
+      → ((i : ℕ) → slice_get after i ≡ option_map (with_more (dealt n (d + i) 0 xs)) (slice_get before i)) → after ≡ dealt_by n d xs before
   puts_dealt n d xs [] [] count at = refl
   puts_dealt n d xs [] (a ∷ after) count at = absurd (omega (arith, count))
   puts_dealt n d xs (p ∷ before) [] count at = absurd (omega (arith, count))
   puts_dealt n d xs (p ∷ before) (a ∷ after) count at =
       let place : d + 0 ≡ d = omega arith in
-      let first : a ≡ with_bodies (dealt n d 0 xs) p = same_Some a (with_bodies (dealt n (d + 0) 0 xs) p) (at 0) ∙ ap (λ (k : ℕ). with_bodies (dealt n k 0 xs) p) place in
+      let first : a ≡ with_more (dealt n d 0 xs) p = same_Some a (with_more (dealt n (d + 0) 0 xs) p) (at 0) ∙ ap (λ (k : ℕ). with_more (dealt n k 0 xs) p) place in
       ap (λ (q : Outgoing (C × W)). q ∷ after) first
-      ∙ ap (λ (l : List (Outgoing (C × W))). with_bodies (dealt n d 0 xs) p ∷ l)
-      (puts_dealt n (d + 1) xs before after (omega (arith, count)) (λ i. at (suc i) ∙ ap (λ (k : ℕ). option_map (with_bodies (dealt n k 0 xs)) (slice_get before i)) (omega arith)))
+      ∙ ap (λ (l : List (Outgoing (C × W))). with_more (dealt n d 0 xs) p ∷ l)
+      (puts_dealt n (d + 1) xs before after (omega (arith, count)) (λ i. at (suc i) ∙ ap (λ (k : ℕ). option_map (with_more (dealt n k 0 xs)) (slice_get before i)) (omega arith)))
 
   -- so what an acceptor dealt
   pub deals_dealt : (xs : List (C × W)) (before after : List (Outgoing (C × W))) → Deals xs before after → after ≡ dealt_by (length before) 0 xs before
   deals_dealt xs before after deals =
-      puts_dealt (length before) 0 xs before after deals.count (λ i. deals.at i ∙ ap (λ (k : ℕ). option_map (with_bodies (dealt (length before) k 0 xs)) (slice_get before i)) (omega arith))
+      puts_dealt (length before) 0 xs before after deals.count (λ i. deals.at i ∙ ap (λ (k : ℕ). option_map (with_more (dealt (length before) k 0 xs)) (slice_get before i)) (omega arith))
 
 module _ {M C W : Type 0} (tells : M → ℕ → M → Type 0) (remaining : C → Option (List ℕ)) (contents : W → Option (List ℕ)) (config : Config) where
   -- the workers of the first desks have ended, and served what was dealt to them; those that are left hold what was dealt to them
@@ -174,10 +174,10 @@ module _ {M C W : Type 0} (tells : M → ℕ → M → Type 0) (remaining : C �
       → (so : HaveServedSome n xs all here workers ports) → (port ≡ outgoing one.inbox.box 0 (posts 0 (dealt n (length so.kept) 0 xs))) × (reverse rest ≡ dealt_by n (length so.kept + 1) xs (map port_to (reverse left)))
   some-port n xs all here workers left ports rest one port took took_port so =
       let k = length so.kept in
-      let whole : port ∷ reverse rest ≡ with_bodies (dealt n k 0 xs) (port_to one) ∷ dealt_by n (k + 1) xs (map port_to (reverse left)) =
+      let whole : port ∷ reverse rest ≡ with_more (dealt n k 0 xs) (port_to one) ∷ dealt_by n (k + 1) xs (map port_to (reverse left)) =
       sym (last_first ports rest port took_port) ∙ so.waits ∙ ap (λ (ws : List (WorkerView (Unit {0}) C W)). dealt_by n k xs (map port_to ws)) (last_first workers left one took) in (
-        same_head port (with_bodies (dealt n k 0 xs) (port_to one)) (reverse rest) (dealt_by n (k + 1) xs (map port_to (reverse left))) whole,
-        same_tail port (with_bodies (dealt n k 0 xs) (port_to one)) (reverse rest) (dealt_by n (k + 1) xs (map port_to (reverse left))) whole,
+        same_head port (with_more (dealt n k 0 xs) (port_to one)) (reverse rest) (dealt_by n (k + 1) xs (map port_to (reverse left))) whole,
+        same_tail port (with_more (dealt n k 0 xs) (port_to one)) (reverse rest) (dealt_by n (k + 1) xs (map port_to (reverse left))) whole,
       )
 
   -- one more has ended, and its box settled

@@ -7,6 +7,10 @@ use Rattle.rx_workers.specs.declared.accepting.AcceptStop.{AcceptStop}
 use Rattle.rx_workers.specs.declared.accepting.AcceptStop.TheVariants.{NoConnection, WorkerGone}
 
 module _ {X : Type 0} where
+  -- a port holds nothing back
+  abbrev pub HoldsNothing : Outgoing X → Type 0
+  HoldsNothing port = port.held ≡ 0
+
   -- of connections that are counted from `first`, those that go to worker d of n
   abbrev pub dealt : ℕ → ℕ → ℕ → List X → List X
   dealt n d first [] = []

@@ -1,6 +1,7 @@
 // The acceptor: it deals the connections that it accepts to the workers.
 ghost use Rattle.std.specs.Prelude.{◌<◌, ◌≡◌, vec_len};
-ghost use Rattle.rx_workers.specs.Accepting.{AcceptsAll, AcceptsNext};
+ghost use Rattle.std.specs.List.{All};
+ghost use Rattle.rx_workers.specs.Accepting.{AcceptsAll, AcceptsNext, HoldsNothing};
 
 use crate::listener::{AcceptFault, Listener};
 use crate::readiness::Bell;
@@ -39,7 +40,8 @@ pub fn accept_all<L: Listener, R: Wait>(
     bells: &Vec<L::Bell, Heap>,
     connections: u32,
 ) -> Result<(), AcceptStop>
-    requires { 0 < vec_len ports.old }
+    requires some { 0 < vec_len ports.old }
+    requires nothing { All HoldsNothing ports.old.items }
     ensures { AcceptsAll L.accepts L.fails connections result listener.old listener.new ports.old.items ports.new.items }
 {
     for number in 0..connections {
@@ -56,7 +58,9 @@ fn accept_next<L: Listener, R: Wait>(
     bells: &Vec<L::Bell, Heap>,
     number: u32,
 ) -> Result<(), AcceptStop>
-    requires { 0 < vec_len ports.old }
+    requires some { 0 < vec_len ports.old }
+    requires nothing { All HoldsNothing ports.old.items }
+    ensures nothing { All HoldsNothing ports.new.items }
     ensures accepts { AcceptsNext L.accepts L.fails number result listener.old listener.new ports.old.items ports.new.items }
     ensures count { vec_len ports.new ≡ vec_len ports.old }
 {

@@ -3,7 +3,7 @@ ghost use Rattle.std.specs.Prelude.{◌≡◌, ◌↔◌, ◌+◌, ◌≤◌, �
 ghost use Rattle.std.specs.Arc.{arc_value};
 ghost use Rattle.std.specs.List.{All, AllZip};
 ghost use Rattle.rx_pump.specs.Desks.{KeepsDesk};
-ghost use Rattle.rx_workers.specs.Accepting.{AcceptsAll};
+ghost use Rattle.rx_workers.specs.Accepting.{AcceptsAll, HoldsNothing};
 ghost use Rattle.rx_workers.specs.Crews.{AreOut, IsFor, IsPortOf, worker_desk};
 ghost use Rattle.rx_workers.specs.Service.{DealsUntil, IsNewOver, ServesUntil, fault_in, port_to, with_lost};
 
@@ -179,7 +179,8 @@ fn accept<L: Listener, R: Wait>(
     bells: &Vec<L::Bell, Heap>,
     connections: u32,
 ) -> Result<(), AcceptStop>
-    requires { 0 < vec_len ports.old }
+    requires some { 0 < vec_len ports.old }
+    requires nothing { All HoldsNothing ports.old.items }
     ensures { AcceptsAll L.accepts L.fails connections result listener.old listener.new (reverse ports.old.items) (reverse ports.new.items) }
 {
     ports.reverse();

@@ -15,6 +15,7 @@ returns-in_err-accept_next g c =
 pub loop-number-preserved : goal.loop-number-preserved
 loop-number-preserved g c = record {
   some = omega (arith, c.loop-number.invariant.some, c.accept_next.ensures.count);
+  nothing = c.accept_next.ensures.nothing;
   so_far =
       SoFar-one g.L.Listener.accepts g.L.Listener.fails c.loop-number.number c.args.listener.now c.loop-number.listener c.accept_next.new.listener
       c.args.ports.now.items c.loop-number.ports.items c.accept_next.new.ports.items c.loop-number.invariant.so_far c.in_ok-accept_next.ensures.accepts;

@@ -1,4 +1,6 @@
 use Rattle.std.proofs.Common.{◌<◌, vec_len}
+use Rattle.std.specs.List.{All}
+use Rattle.rx_workers.specs.Accepting.{HoldsNothing}
 use Rattle.rx_workers.proofs.Dealing.{SoFar}
 use Rattle.rx_workers.proofs.accepting.accept_all.Given as goal
 
@@ -6,5 +8,6 @@ use Rattle.rx_workers.proofs.accepting.accept_all.Given as goal
 abbrev pub invariant-loop-number : goal.invariant-loop-number
 invariant-loop-number g l = record {
   some : 0 < vec_len l.ports;
+  nothing : All HoldsNothing l.ports.items;
   so_far : SoFar g.L.Listener.accepts l.number l.initial.listener l.listener l.initial.ports.items l.ports.items;
 }

@@ -1,5 +1,5 @@
 -- The call that waited answers the first note.
-use Rattle.std.proofs.Common.{◌≡◌, ◌∙◌, ◌∷◌, List, [], Option, ap, refl, sym}
+use Rattle.std.proofs.Common.{◌≡◌, ◌∙◌, ◌∷◌, [], Option, ap, refl, sym}
 use Rattle.std.specs.Prelude.{option_to_list}
 use Rattle.rx_note.specs.declared.event.Event.{Event}
 use Rattle.rx_workers.proofs.Queues.{Waits-called, Waits-none}
