@@ -2,9 +2,11 @@ use Rattle.std.proofs.Common.{◌∙◌, ◌++◌, ◌<◌, sym, ap, subst, List
 use Rattle.std.proofs.lemmas.List.{length-map}
 use Rattle.std.proofs.lemmas.Result.{err_from_is_err_and}
 use Rattle.std.specs.List.{All, AllZip}
+use Rattle.rx_mailbox.specs.Boxes.{all_told}
 use Rattle.rx_pump.specs.Pumps.{PumpView}
 use Rattle.rx_pump.specs.Sends.{with_bye}
 use Rattle.rx_pump.specs.Serving as pump_serving
+use Rattle.rx_pump.proofs.Told.{told-byes, told-length}
 use Rattle.rx_drain.specs.Drainers.{DrainerView}
 use Rattle.rx_drain.specs.Serving as drainer_serving
 use Rattle.rx_server.specs.declared.returned.Returned.{Returned}
@@ -36,6 +38,7 @@ settle-requires g c =
       whole.wiring,
       has-left g.S.Sink.acts self whole start left c.args.ended.items more.0 parts.ensures.rooms others.returned others.settled others.subjects others.put_away
           (ap (λ (list : Vec _ _). list.items) others.leaves ∙ c.in-Ok.ensures.ended.0
+          ∙ ap (λ (l : List _). start.leaves.items ++ l) (told-byes parts.result.1.items)
           ∙ ap (λ (l : List _). l ++ map with_bye parts.result.1.items) parts.ensures.rooms.no_leaves ∙ ap (map with_bye) parts.ensures.leaves)
           (ap (λ (list : Vec _ _). list.items) others.desks ∙ more.1 ∙ ap (λ (l : List _). l ++ more.0) parts.ensures.kept)
           more.2 c.requires
@@ -54,6 +57,7 @@ returns-in-Ok g c =
     let more = c.finish_desks.ensures.own self.made (subst (All (IsDeskOf self.made)) (sym parts.ensures.desks) (desks-own self whole)) in
     let leaves =
     ap (λ (list : Vec _ _). list.items) others.leaves ∙ c.in-Ok.ensures.ended.0
+    ∙ ap (λ (l : List _). parts.result.3.leaves.items ++ l) (told-byes parts.result.1.items)
     ∙ ap (λ (l : List _). l ++ map with_bye parts.result.1.items) parts.ensures.rooms.no_leaves ∙ ap (map with_bye) parts.ensures.leaves in
     let desks = ap (λ (list : Vec _ _). list.items) others.desks ∙ more.1 ∙ ap (λ (l : List _). l ++ more.0) parts.ensures.kept in
     settled-or-not g.S.Sink.acts self whole left.pumps.items left.drainers.items c.args.ended.items more.0 c.requires
@@ -79,7 +83,7 @@ returns-in-Err g c =
     let leaves = ap length parts.ensures.leaves ∙ leaves-fit whole.wiring whole.keeps self.leaves self.drainers whole.wired.leaves_are whole.wired.drainers_are in
     let cut = ap length some.parts in
     let count = ap length some.ended in
-    let below : c.in-Err.place < length self.leaves = omega (arith, leaves, ap length parts.ensures.leaves, cut, length-append some.done c.finish_all-told.new.ports.items, some.some, count, ap length parts.ensures.rooms.no_leaves, length-append parts.result.3.leaves.items (map with_bye some.done), length-map some.done with_bye, c.in-Err.ensures.ended.1, c.finish_all-told.new.ended.ok) in
+    let below : c.in-Err.place < length self.leaves = omega (arith, leaves, ap length parts.ensures.leaves, cut, length-append some.done (all_told c.finish_all-told.new.ports.items), told-length parts.result.1.items, some.some, count, ap length parts.ensures.rooms.no_leaves, length-append parts.result.3.leaves.items (map with_bye some.done), length-map some.done with_bye, c.in-Err.ensures.ended.1, c.finish_all-told.new.ended.ok) in
     let more = c.finish_desks.ensures.own self.made (subst (All (IsDeskOf self.made)) (sym parts.ensures.desks) (desks-own self whole)) in
     not-told g.S.Sink.acts self whole left.pumps.items left.drainers.items c.args.ended.items more.0 c.requires
     (subst (λ (pumps : List (PumpView _)). AllZip pump_serving.HasPumped pumps left.pumps.items) parts.ensures.pumps c.in_ok-join.ensures.pumped)
