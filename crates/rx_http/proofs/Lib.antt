@@ -14,3 +14,5 @@ mod Telling
 mod Told
 mod Utf8
 mod Writes
+pub mod HeadBlocks
+mod HeadLaws

@@ -4,6 +4,8 @@ pub mod Asking
 pub mod Epochs
 pub mod Events
 pub mod Examples
+pub mod HeadBlocks
+pub mod Heads
 pub mod Ids
 pub mod Laws
 pub mod Pieces

@@ -3,6 +3,7 @@
 ghost use Rattle.rx_http.specs.Accounts.{HeardIsKnown, IdIsAccount};
 ghost use Rattle.rx_http.specs.Asking.{HeadAsksForOne};
 ghost use Rattle.rx_http.specs.Epochs.{IsEpoch};
+ghost use Rattle.rx_http.specs.Heads.{HeadIsTheSame};
 ghost use Rattle.rx_http.specs.Examples.{AreReadAsTold};
 ghost use Rattle.rx_http.specs.Laws.{CutStreamIsAFront, IsEvent, IsPlace, StreamIsReadBack, StreamIsUtf8};
 ghost use Rattle.rx_http.specs.Resuming.{HeardAreItems, ReaderGoesOn};
@@ -30,6 +31,11 @@ pub fn cut_stream_is_a_front()
 /// All that is written of a stream is UTF-8.
 pub fn stream_is_utf8()
     ensures { StreamIsUtf8 }
+{}
+
+/// However the bytes of a connection come, the same of them are its head.
+pub fn head_is_the_same()
+    ensures { HeadIsTheSame }
 {}
 
 /// A head asks for one thing, or is refused for one cause.
