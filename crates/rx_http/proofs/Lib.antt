@@ -9,10 +9,10 @@ mod Plain
 mod Responses
 mod Single
 mod Spelled
-mod Streams
+pub mod Streams
 mod Telling
 mod Told
 mod Utf8
-mod Writes
+pub mod Writes
 pub mod HeadBlocks
 mod HeadLaws

@@ -1,6 +1,7 @@
 pub mod Accounts
 pub mod Answers
 pub mod Asking
+pub mod Begins
 pub mod Epochs
 pub mod Events
 pub mod Examples
