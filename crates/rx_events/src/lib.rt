@@ -10,6 +10,7 @@
 #![tactic(auto)]
 
 mod event_sink;
+pub mod laws;
 mod standing;
 mod telling;
 
