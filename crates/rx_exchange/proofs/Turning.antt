@@ -1,5 +1,5 @@
 -- An exchange turn by turn.
-use Rattle.std.proofs.Common.{◌≡◌, ◌<◌, ℕ, Bool, true, false, inl, inr, List, [], ◌++◌, Option, None, Some, Result, refl, sym, ap, subst, ◌∙◌, append-nil, append_assoc}
+use Rattle.std.proofs.Common.{◌≡◌, ◌<◌, ℕ, zero, suc, Bool, true, false, inl, inr, List, [], ◌++◌, Option, None, Some, Result, refl, sym, ap, subst, ◌∙◌, append-nil, append_assoc}
 use Rattle.std.proofs.KnownBytes.{Appends-nil, Appends-trans, Consumes-nil, Consumes-trans}
 use Rattle.std.specs.Io.KnownBytes.{Appends, Consumes, Keeps}
 use Rattle.rx_proto.specs.Bytes.{AppendsPrefix}
@@ -14,7 +14,7 @@ use Rattle.rx_session.specs.declared.session_end.SessionEnd.TheVariants as ends
 use Rattle.rx_session.specs.declared.turn.Turn.{Turn}
 use Rattle.rx_session.specs.declared.turn.Turn.TheVariants.{Again, Waits, Stuck, Over}
 use Rattle.rx_exchange.specs.Coming.{AsksFor, Brings, IsEnd}
-use Rattle.rx_exchange.specs.Exchanges.{Answered, HasMet, IsOpen, IsOver, Listens, Sits}
+use Rattle.rx_exchange.specs.Exchanges.{Answered, Begins, HasMet, IsOpen, IsOver, Listens, Sits}
 use Rattle.rx_exchange.specs.Meetings.{Meets, Parties, Tells}
 use Rattle.rx_exchange.specs.declared.exchange.Exchange.{Exchange}
 
@@ -82,3 +82,19 @@ module _ {D W : Type 0} (p : Parties D W) (start : D) (first : W) (read_old : Op
       subst (λ (e : SessionEnd). IsOver p e held start first read_old read_new desk) (sym out.0) (after, same, record { answer = answer; back = back; met = met; told = out.1 })
   sits-told (Over end held) read_new desk back answer exchange is met (after, same, inr fault) =
       subst (λ (e : SessionEnd). IsOver p e held start first read_old read_new desk) (sym fault.0) (after, same, record { answer = answer; back = back; met = met; told = fault.1 })
+
+-- no head is among no bytes
+none-empty : HasNoHead []
+none-empty zero below = refl
+none-empty (suc n) below = refl
+
+module _ {D W : Type 0} (p : Parties D W) where
+  -- it begins anywhere
+  pub begins : Begins p
+  begins desk writer known exchange new =
+      subst (λ (b : Bool). IsOpen p desk writer known known desk writer b exchange.head) (sym new.answered_is) (record {
+        consumed = subst (λ (l : List ℕ). Consumes known known l) (sym new.head_is) (Consumes-nil known);
+        none = subst HasNoHead (sym new.head_is) none-empty;
+        desk_is = refl;
+        writer_is = refl;
+      })

@@ -85,3 +85,7 @@ module _ {D W : Type 0} (p : Parties D W) where
   Sits (Waits writer) start first read_old read_new desk exchange = Sitting start first read_old read_new desk writer exchange
   Sits (Stuck writer) start first read_old read_new desk exchange = Sitting start first read_old read_new desk writer exchange
   Sits (Over end back) start first read_old read_new desk exchange = IsOver end back start first read_old read_new desk
+
+  -- an exchange that had no turn yet is under way from where it is
+  abbrev pub Begins : Type 0
+  Begins = (desk : D) (writer : W) (known : Option (List ℕ)) (exchange : Exchange) → IsNew exchange → Sitting desk writer known known desk writer exchange

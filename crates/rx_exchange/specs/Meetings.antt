@@ -10,6 +10,7 @@ use Rattle.rx_http.specs.declared.answer.Answer.TheVariants as answers
 use Rattle.rx_http.specs.declared.asked.Asked.{Asked}
 use Rattle.rx_http.specs.declared.asked.Asked.TheVariants.{Events, Health}
 use Rattle.rx_http.specs.declared.begin.Begin.{Begin}
+use Rattle.rx_http.specs.declared.id.Id.{Id}
 use Rattle.rx_http.specs.declared.refusal.Refusal.{Refusal}
 use Rattle.rx_session.specs.declared.session_end.SessionEnd.TheVariants as ends
 use Rattle.rx_session.specs.declared.turn.Turn.{Turn}
@@ -19,13 +20,13 @@ use Rattle.rx_exchange.specs.declared.joining.Joining.TheVariants.{Taken, Back}
 
 -- the epoch of a server, what its calls do, and what a writer has
 pub record Parties (D W : Type 0) : Type 1 where
-  pub since : D → List ℕ
+  pub since : D → List ℕ → Type 0
   pub looks : D → Bool → Type 0
   pub joins : D → List ℕ → Choice → ℕ → Begin → W → Joining W → D → Type 0
   pub contents : W → Option (List ℕ)
 
 -- these four
-abbrev pub parties : {D W : Type 0} → (D → List ℕ) → (D → Bool → Type 0) → (D → List ℕ → Choice → ℕ → Begin → W → Joining W → D → Type 0) → (W → Option (List ℕ)) → Parties D W
+abbrev pub parties : {D W : Type 0} → (D → List ℕ → Type 0) → (D → Bool → Type 0) → (D → List ℕ → Choice → ℕ → Begin → W → Joining W → D → Type 0) → (W → Option (List ℕ)) → Parties D W
 parties since looks joins contents = record { since = since; looks = looks; joins = joins; contents = contents }
 
 -- the answer to a Join, and the writer to which it is told; none where the server has the writer
@@ -35,14 +36,19 @@ joined (Back cause writer) = Some (answers.Refused cause, writer)
 
 module _ {D W : Type 0} (p : Parties D W) where
   -- a Join at the subject of a name: from where its reader begins; where that knows that the subject is over, there is nothing more to come
-  abbrev pub Joins : D → List ℕ → Choice → ℕ → Option Begin → W → Option (Answer × W) → D → Type 0
-  Joins desk subject policy window None writer met after = (after ≡ desk) × (met ≡ Some (answers.Over, writer))
-  Joins desk subject policy window (Some begin) writer met after =
+  abbrev pub JoinsAt : D → List ℕ → Choice → ℕ → Option Begin → W → Option (Answer × W) → D → Type 0
+  JoinsAt desk subject policy window None writer met after = (after ≡ desk) × (met ≡ Some (answers.Over, writer))
+  JoinsAt desk subject policy window (Some begin) writer met after =
       (joining : Joining W) × p.joins desk subject policy window begin writer joining after × (met ≡ joined joining)
+
+  -- the same by what a reader says that it knows, in the epoch of the server
+  abbrev pub Joins : D → List ℕ → Choice → ℕ → Option Id → W → Option (Answer × W) → D → Type 0
+  Joins desk subject policy window known writer met after =
+      (epoch : List ℕ) × p.since desk epoch × JoinsAt desk subject policy window (begin_by epoch known) writer met after
 
   -- what was asked for is met: by an answer, and the writer to which it is to be told, or by none
   abbrev pub Meets : D → W → Result Asked Refusal → Option (Answer × W) → D → Type 0
-  Meets desk writer (Ok (Events subject policy window known)) met after = Joins desk subject policy window (begin_by (p.since desk) known) writer met after
+  Meets desk writer (Ok (Events subject policy window known)) met after = Joins desk subject policy window known writer met after
   Meets desk writer (Ok Health) met after =
       (after ≡ desk) × (well : Bool) × p.looks desk well × (met ≡ Some ((if well then answers.Well else answers.Unwell), writer))
   Meets desk writer (Err cause) met after = (after ≡ desk) × (met ≡ Some (answers.Refused cause, writer))

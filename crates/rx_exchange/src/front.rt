@@ -5,13 +5,12 @@ use rx_proto::Name;
 
 /// To whom an exchange passes what is asked for. Its relations say what its calls answer and what they leave of it.
 pub trait Front<W> {
-    ghost use Rattle.std.specs.Prelude.{◌≡◌, List, ℕ, Bool};
+    ghost use Rattle.std.specs.Prelude.{List, ℕ, Bool};
     ghost use Rattle.rx_note.specs.Choices.{Choice};
     ghost use Rattle.rx_http.specs.declared.begin.Begin.{Begin};
     ghost use Rattle.rx_exchange.specs.declared.joining.Joining.{Joining};
 
-    // The epoch of this start of the server.
-    ghost since: { Self → List ℕ };
+    ghost since: { Self → List ℕ → Type 0 };
 
     ghost looks: { Self → Bool → Type 0 };
 
@@ -19,7 +18,7 @@ pub trait Front<W> {
 
     /// The epoch of this start of the server.
     fn epoch(&self) -> &Epoch
-        ensures { result.now ≡ since self.now };
+        ensures { since self.now result.now };
 
     /// Whether all is well.
     fn is_well(&self) -> bool

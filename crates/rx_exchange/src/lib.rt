@@ -13,6 +13,7 @@ mod coming;
 mod exchange;
 mod front;
 mod joining;
+pub mod laws;
 mod meeting;
 
 pub use exchange::Exchange;
