@@ -5,7 +5,7 @@ use rx_http::{Answer, Refusal, write_answer};
 use std::test::Fail;
 
 /// Each answer and its bytes.
-const ANSWERS: [(Answer, &[u8]); 16] = [
+pub(crate) const ANSWERS: [(Answer, &[u8]); 16] = [
     (
         Answer::Events,
         b"HTTP/1.1 200 OK\r\nContent-Type: text/event-stream\r\nCache-Control: no-store, no-transform\r\nX-Accel-Buffering: no\r\nContent-Encoding: identity\r\nVary: Accept, Origin\r\nConnection: close\r\n\r\n",
@@ -71,6 +71,16 @@ const ANSWERS: [(Answer, &[u8]); 16] = [
         b"HTTP/1.1 507 Insufficient Storage\r\nContent-Type: application/json\r\nContent-Length: 65\r\nCache-Control: no-store\r\nX-Content-Type-Options: nosniff\r\nConnection: close\r\n\r\n{\"error\":\"memory\",\"text\":\"the budget of the subject is used up\"}\n",
     ),
 ];
+
+/// The bytes of an answer.
+pub(crate) fn bytes_of(answer: Answer) -> &'static [u8] {
+    for (other, bytes) in ANSWERS {
+        if other == answer {
+            return bytes;
+        }
+    }
+    b"no such answer"
+}
 
 #[test]
 fn answers_as_their_bytes(rt: HostRuntime) -> Result<(), Fail> {
