@@ -44,15 +44,15 @@ item_events (Some left) item =
     else Missed left (item.place - 1) ∷ Next (record { ref_ptr = (0, 0); now = item }) ∷ []
 
 -- an error says that its observer overflowed, where it may
-abbrev pub is_overflow : Standing → List ℕ → Bool
-is_overflow standing text = standing.bounded && same_word text (codes "OVERFLOW")
+abbrev pub is_overflow : Bool → List ℕ → Bool
+is_overflow bounded text = bounded && same_word text (codes "OVERFLOW")
 
 -- the events by which a note is told to a reader that stands so
 abbrev pub note_events : Standing → Note → List StreamEvent
 note_events standing (notes.Next item) = item_events (left_out standing item) item
 note_events standing notes.Completed = Completed standing.known ∷ []
 note_events standing (notes.Failed text) =
-    if is_overflow standing text then Overflowed ∷ [] else Failed (record { ref_ptr = (0, 0); now = text }) standing.known ∷ []
+    if is_overflow standing.bounded text then Overflowed ∷ [] else Failed (record { ref_ptr = (0, 0); now = text }) standing.known ∷ []
 
 -- whether a note is told, or passed over
 abbrev pub is_told : Standing → Note → Bool

@@ -2,6 +2,7 @@
 //! clauses are the laws.
 ghost use Rattle.rx_sink.specs.Taken.{CountsNotes};
 ghost use Rattle.rx_sink.specs.Waiting.{WaitsOnlyWhere};
+ghost use Rattle.rx_events.specs.Hearing.{NotesAreHeard, StreamIsAccount};
 ghost use Rattle.rx_events.specs.Written.{WritesEvents};
 
 use crate::EventSink;
@@ -22,4 +23,15 @@ pub fn event_sinks_count<W: Write + Drop>()
 /// Something waits in an event sink only where its writer gathers what it is given.
 pub fn event_sinks_wait_by_their_writer<W: Write + Drop>()
     ensures { WaitsOnlyWhere ⟦<EventSink<W> as Sink>⟧.acts (λ s. s.gathers) }
+{}
+
+/// What the reader of an event sink hears is just what is told of its subject's notes to a reader that knows what this one does.
+pub fn notes_are_heard()
+    ensures { NotesAreHeard }
+{}
+
+/// Wherever the stream of an event sink is cut, its reader was told a front of its events, and comes again with the id of what it knows by
+/// them.
+pub fn stream_is_account()
+    ensures { StreamIsAccount }
 {}

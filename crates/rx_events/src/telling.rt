@@ -61,7 +61,7 @@ pub(crate) fn write_note<W: Write>(
     match note {
         Note::Next(item) => write_item(writer, epoch, standing.left_out(item), item),
         Note::Completed => write_event(writer, epoch, StreamEvent::Completed { known }),
-        Note::Failed(text) if is_overflow(standing, text) => {
+        Note::Failed(text) if is_overflow(standing.bounded, text) => {
             write_event(writer, epoch, StreamEvent::Overflowed)
         }
         Note::Failed(text) => write_event(writer, epoch, StreamEvent::Failed { text, known }),
@@ -100,9 +100,9 @@ fn write_behind<W: Write>(
     write_event(writer, epoch, StreamEvent::Next(item))
 }
 
-// Whether an error says that its observer overflowed.
-fn is_overflow(standing: Standing, text: &Text) -> bool
-    ensures { result ≡ is_overflow standing text.now }
+// Whether an error says that its observer overflowed, where it may.
+fn is_overflow(bounded: bool, text: &Text) -> bool
+    ensures { result ≡ is_overflow bounded text.now }
 {
-    standing.bounded && text.as_bytes() == b"OVERFLOW".as_slice()
+    bounded && text.as_bytes() == b"OVERFLOW".as_slice()
 }

@@ -1,4 +1,4 @@
-mod Accounting
+pub mod Accounting
 mod Back
 mod Cuts
 mod Cutting

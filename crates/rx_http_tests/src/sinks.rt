@@ -180,9 +180,8 @@ fn streams_as_their_bytes(rt: HostRuntime) -> Result<(), Fail> {
             assert_eq!(rt; sink.take(note.note(&heap)?)?, Flow::Clear, "{}", row.name);
         }
         let stream = sink.into_writer();
-        let (head, told) = stream.as_slice().split_at(bytes_of(Answer::Events).len());
-        assert_eq!(rt; head, bytes_of(Answer::Events), "{}", row.name);
-        assert_eq!(rt; told, row.told, "{}", row.name);
+        let told = stream.as_slice().strip_prefix(bytes_of(Answer::Events));
+        assert!(rt; told == Some(row.told), "{}", row.name);
     }
     Ok(())
 }
