@@ -15,4 +15,5 @@ mod Told
 mod Utf8
 pub mod Writes
 pub mod HeadBlocks
+mod HeadGrammar
 mod HeadLaws

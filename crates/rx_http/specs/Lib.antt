@@ -6,6 +6,7 @@ pub mod Epochs
 pub mod Events
 pub mod Examples
 pub mod HeadBlocks
+pub mod HeadGrammar
 pub mod Heads
 pub mod Ids
 pub mod Laws

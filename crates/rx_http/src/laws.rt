@@ -3,6 +3,7 @@
 ghost use Rattle.rx_http.specs.Accounts.{HeardIsKnown, IdIsAccount};
 ghost use Rattle.rx_http.specs.Asking.{HeadAsksForOne};
 ghost use Rattle.rx_http.specs.Epochs.{IsEpoch};
+ghost use Rattle.rx_http.specs.HeadGrammar.{GrammarEndsThere};
 ghost use Rattle.rx_http.specs.Heads.{HeadIsTheSame};
 ghost use Rattle.rx_http.specs.Examples.{AreReadAsTold};
 ghost use Rattle.rx_http.specs.Laws.{CutStreamIsAFront, IsEvent, IsPlace, StreamIsReadBack, StreamIsUtf8};
@@ -36,6 +37,11 @@ pub fn stream_is_utf8()
 /// However the bytes of a connection come, the same of them are its head.
 pub fn head_is_the_same()
     ensures { HeadIsTheSame }
+{}
+
+/// A head of the grammar is the head of its connection.
+pub fn grammar_ends_there()
+    ensures { GrammarEndsThere }
 {}
 
 /// A head asks for one thing, or is refused for one cause.
