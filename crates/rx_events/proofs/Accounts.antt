@@ -7,7 +7,7 @@ use Rattle.rx_note.specs.declared.note.Note.TheVariants.{Next, Completed, Failed
 use Rattle.rx_proto.specs.LineFeeds.{HasNoLf}
 use Rattle.rx_http.specs.Accounts.{AreCounted, BeginsWithId, ComesBehind, events_of, last_of}
 use Rattle.rx_http.specs.Answers.{answer_bytes}
-use Rattle.rx_http.specs.Laws.{ArePieces, IsEvent, IsPlace}
+use Rattle.rx_http.specs.Laws.{ArePieces, IsPlace}
 use Rattle.rx_http.specs.Pieces.{retry_line}
 use Rattle.rx_http.specs.Reading.{read, reader_with}
 use Rattle.rx_http.specs.declared.answer.Answer.TheVariants.{Events}

@@ -1,13 +1,13 @@
 -- What the reader of an event sink hears.
-use Rattle.std.proofs.Common.{◌≡◌, ℕ, zero, suc, ◌+◌, ◌-◌, ◌<◌, ◌≤◌, ◌^◌, ◌==◌, ◌⊎◌, inl, inr, Bool, true, false, cond, nat_lt, List, [], ◌∷◌, ◌++◌, Option, None, Some, refl, sym, ap, ◌∙◌, subst, arith}
+use Rattle.std.proofs.Common.{◌≡◌, ℕ, ◌-◌, ◌==◌, Bool, true, false, nat_lt, List, [], ◌∷◌, ◌++◌, Some, refl, ap, arith}
 use Rattle.std.proofs.lemmas.Bool.Decides.{nat_tests}
 use Rattle.rx_note.specs.declared.item.Item.{Item}
 use Rattle.rx_note.specs.declared.note.Note.{Note}
 use Rattle.rx_note.specs.declared.note.Note.TheVariants.{Next, Completed, Failed}
 use Rattle.rx_http.specs.Accounts.{heard_by}
-use Rattle.rx_http.specs.Resuming.{Heard, Missed, Over, Seeded, Told, told, told_item}
-use Rattle.rx_events.specs.Hearing.{NotesAreHeard, first_place, known_before, of_subject}
-use Rattle.rx_events.specs.Telling.{count_to, is_overflow, is_seed, item_events, left_out, notes_events, standing_behind, standing_with}
+use Rattle.rx_http.specs.Resuming.{Missed, Over, Seeded, Told, told, told_item}
+use Rattle.rx_events.specs.Hearing.{NotesAreHeard, known_before, of_subject}
+use Rattle.rx_events.specs.Telling.{count_to, is_overflow, is_seed, item_events, left_out, notes_events, standing_behind}
 use Rattle.rx_events.specs.declared.standing.Standing.{Standing}
 
 not_below-self : (n : ℕ) → nat_lt n n ≡ false

@@ -7,11 +7,9 @@ use Rattle.rx_note.specs.declared.note.Note.{Note}
 use Rattle.rx_http.specs.Events.{event_bytes}
 use Rattle.rx_http.specs.declared.stream_event.StreamEvent.{StreamEvent}
 use Rattle.rx_sink.specs.Acts.{Step, Takes, Flushes, notes_by, Makes, Took}
-use Rattle.rx_sink.specs.Attachments.{Attachment, Why, TookLast, Detached, Closed, FailedAtStart, FailedAt, FailedAtFlush}
-use Rattle.rx_sink.specs.KeptSinks.{Last}
-use Rattle.rx_sink.specs.declared.flow.Flow.{Flow}
+use Rattle.rx_sink.specs.Attachments.{TookLast, Detached, Closed, FailedAtStart, FailedAt, FailedAtFlush}
 use Rattle.rx_events.specs.Sinks.{event_acts}
-use Rattle.rx_events.specs.Telling.{note_events, notes_events, pieces_of, standing_after, standing_last, told_bytes}
+use Rattle.rx_events.specs.Telling.{note_events, notes_events, standing_after, standing_last, told_bytes}
 use Rattle.rx_events.specs.Written.{WritesEvents, first_bytes, next_bytes, stream_bytes}
 use Rattle.rx_events.specs.declared.event_sink.EventSink.{EventSink}
 use Rattle.rx_events.specs.declared.standing.Standing.{Standing}

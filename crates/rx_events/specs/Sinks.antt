@@ -1,7 +1,6 @@
 -- What the calls of an event sink do (this project's own rule).
 use Rattle.std.specs.Prelude.{◌≡◌, ◌<◌, ◌↔◌, IsTrue, ℕ, Bool, true, false, if◌then◌else◌, List, [], Option}
 use Rattle.std.specs.Io.KnownBytes.{Appends}
-use Rattle.rx_note.specs.declared.note.Note.{Note}
 use Rattle.rx_proto.specs.Bytes.{AppendsPrefix}
 use Rattle.rx_sink.specs.declared.flow.Flow.{Flow}
 use Rattle.rx_sink.specs.declared.flow.Flow.TheVariants.{Clear, Ready, Stuck}

@@ -1,8 +1,7 @@
 -- What the event sinks have written once they are put away (this project's own rule).
-use Rattle.std.specs.Prelude.{◌≡◌, ℕ, List, [], ◌∷◌, ◌++◌, Option}
+use Rattle.std.specs.Prelude.{ℕ, List, [], ◌++◌, Option}
 use Rattle.std.specs.Io.KnownBytes.{Appends}
 use Rattle.rx_note.specs.declared.note.Note.{Note}
-use Rattle.rx_http.specs.declared.begin.Begin.{Begin}
 use Rattle.rx_sink.specs.Acts.{Acts}
 use Rattle.rx_sink.specs.Attachments.{Attachment, Why, TookLast, Detached, Closed, FailedAtStart, FailedAt, FailedAtFlush}
 use Rattle.rx_sink.specs.KeptSinks.{Last}

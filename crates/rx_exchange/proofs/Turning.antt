@@ -1,8 +1,7 @@
 -- An exchange turn by turn.
-use Rattle.std.proofs.Common.{◌≡◌, ◌<◌, ℕ, zero, suc, Bool, true, false, inl, inr, List, [], ◌++◌, Option, None, Some, Result, refl, sym, ap, subst, ◌∙◌, append-nil, append_assoc}
-use Rattle.std.proofs.KnownBytes.{Appends-nil, Appends-trans, Consumes-nil, Consumes-trans}
-use Rattle.std.specs.Io.KnownBytes.{Appends, Consumes, Keeps}
-use Rattle.rx_proto.specs.Bytes.{AppendsPrefix}
+use Rattle.std.proofs.Common.{◌≡◌, ℕ, zero, suc, Bool, true, inl, inr, List, [], ◌++◌, Option, Some, Result, refl, sym, subst, append-nil}
+use Rattle.std.proofs.KnownBytes.{Appends-trans, Consumes-nil, Consumes-trans}
+use Rattle.std.specs.Io.KnownBytes.{Appends, Consumes}
 use Rattle.rx_http.specs.Answers.{answer_bytes}
 use Rattle.rx_http.specs.Heads.{HasNoHead}
 use Rattle.rx_http.specs.declared.answer.Answer.{Answer}
@@ -14,7 +13,7 @@ use Rattle.rx_session.specs.declared.session_end.SessionEnd.TheVariants as ends
 use Rattle.rx_session.specs.declared.turn.Turn.{Turn}
 use Rattle.rx_session.specs.declared.turn.Turn.TheVariants.{Again, Waits, Stuck, Over}
 use Rattle.rx_exchange.specs.Coming.{AsksFor, Brings, IsEnd}
-use Rattle.rx_exchange.specs.Exchanges.{Answered, Begins, HasMet, IsOpen, IsOver, Listens, Sits}
+use Rattle.rx_exchange.specs.Exchanges.{Begins, HasMet, IsOpen, IsOver, Listens, Sits}
 use Rattle.rx_exchange.specs.Meetings.{Meets, Parties, Tells}
 use Rattle.rx_exchange.specs.declared.exchange.Exchange.{Exchange}
 

@@ -1,6 +1,6 @@
 -- What an exchange has come to that is served turn by turn. A turn may begin wherever the one before it ended, and all of them together
 -- answer the head of the bytes that they read.
-use Rattle.std.specs.Prelude.{◌≡◌, ◌<◌, ◌⊎◌, ℕ, Bool, true, false, List, [], Option, None, Some, Result}
+use Rattle.std.specs.Prelude.{◌≡◌, ◌<◌, ℕ, Bool, true, false, List, [], Option, None, Some, Result}
 use Rattle.std.specs.Io.KnownBytes.{Appends, Consumes, IsAtEnd}
 use Rattle.rx_proto.specs.Bytes.{AppendsPrefix}
 use Rattle.rx_http.specs.Answers.{answer_bytes}

@@ -1,5 +1,5 @@
 -- What a reader of heads holds: a block whose first bytes came.
-use Rattle.std.specs.Prelude.{◌≡◌, ◌<◌, ◌≤◌, ◌+◌, ℕ, false, List, take}
+use Rattle.std.specs.Prelude.{◌≤◌, ◌+◌, ℕ, List, take}
 use Rattle.rx_http.specs.Heads.{NoneBelow}
 
 -- so many of the block's 8,192 bytes came, and none of their fronts that were searched ends with an empty line

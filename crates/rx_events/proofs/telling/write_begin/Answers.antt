@@ -1,6 +1,5 @@
-use Rattle.std.proofs.Common.{◌∷◌}
 use Rattle.rx_http.specs.Answers.{answer_bytes}
-use Rattle.rx_http.specs.Laws.{Retry, stream_of}
+use Rattle.rx_http.specs.Laws.{stream_of}
 use Rattle.rx_http.specs.Pieces.{retry_line}
 use Rattle.rx_http.specs.declared.answer.Answer.TheVariants.{Events}
 use Rattle.rx_http.proofs.Writes.{Writes-fault, Writes-then}

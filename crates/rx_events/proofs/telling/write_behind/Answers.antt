@@ -1,4 +1,4 @@
-use Rattle.std.proofs.Common.{ℕ, List, Option, subst}
+use Rattle.std.proofs.Common.{List, subst}
 use Rattle.rx_proto.specs.Bytes.{Writes}
 use Rattle.rx_http.specs.declared.stream_event.StreamEvent.{StreamEvent}
 use Rattle.rx_http.specs.declared.stream_event.StreamEvent.TheVariants.{Missed, Next}

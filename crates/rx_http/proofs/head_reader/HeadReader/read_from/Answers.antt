@@ -1,4 +1,3 @@
-use Rattle.std.proofs.Common.{sym}
 use Rattle.rx_http.proofs.HeadBlocks.{IsRead, is-read}
 use Rattle.rx_http.proofs.head_reader.HeadReader.read_from.Given.{Over}
 use Rattle.rx_http.proofs.head_reader.HeadReader.read_from.Goals as goal
