@@ -1,1 +1,2 @@
-mod Turning
+pub mod Turning
+pub mod Amongst

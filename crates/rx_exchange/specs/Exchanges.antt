@@ -13,7 +13,7 @@ use Rattle.rx_session.specs.declared.session_end.SessionEnd.TheVariants as ends
 use Rattle.rx_session.specs.declared.turn.Turn.{Turn}
 use Rattle.rx_session.specs.declared.turn.Turn.TheVariants.{Again, Waits, Stuck, Over}
 use Rattle.rx_exchange.specs.Coming.{AsksFor}
-use Rattle.rx_exchange.specs.Meetings.{Meets, Parties}
+use Rattle.rx_exchange.specs.Meetings.{Meets, Parties, Tells}
 use Rattle.rx_exchange.specs.declared.exchange.Exchange.{Exchange}
 
 -- an exchange that had no turn yet
@@ -28,6 +28,14 @@ HasGotOn (Again writer) before after = after.reads < before.reads
 HasGotOn (Waits writer) before after = after.reads < before.reads
 HasGotOn (Stuck writer) before after = Unit {0}
 HasGotOn (Over end back) before after = Unit {0}
+
+-- a turn of an exchange whose answer was told: it only has go out what waits at the writer
+abbrev pub OnlySends : {W : Type 0} → (W → Option (List ℕ)) → Turn W → Option (List ℕ) → Option (List ℕ) → W → Exchange → Type 0
+OnlySends contents result read_old read_new writer after = Tells contents result writer [] × (read_new ≡ read_old) × (after.answered ≡ true)
+
+-- the writer is back, and something is said of it
+abbrev pub IsBack : {W : Type 0} → Option W → (W → Type 0) → Type 0
+IsBack {W = W} back says = (writer : W) × (back ≡ Some writer) × says writer
 
 module _ {D W : Type 0} (p : Parties D W) where
   -- no head is among the bytes that were read, and nothing was asked of the server or told to the writer
@@ -60,10 +68,6 @@ module _ {D W : Type 0} (p : Parties D W) where
   -- with its desk and its writer
   abbrev pub Sitting : D → W → Option (List ℕ) → Option (List ℕ) → D → W → Exchange → Type 0
   Sitting start first read_old read_now desk writer exchange = IsOpen start first read_old read_now desk writer exchange.answered exchange.head
-
-  -- the writer is back, and something is said of it
-  abbrev pub IsBack : Option W → (W → Type 0) → Type 0
-  IsBack back says = (writer : W) × (back ≡ Some writer) × says writer
 
   -- an exchange that is over: its answer is out, or the server has the writer; or no head came, and the writer is back as it was; or the
   -- writer faulted, and has a front of the answer

@@ -21,7 +21,7 @@ pub struct Exchange {
 }
 
 impl Exchange {
-    ghost use Rattle.rx_exchange.specs.Exchanges.{HasGotOn, IsNew, Sits, Sitting};
+    ghost use Rattle.rx_exchange.specs.Exchanges.{HasGotOn, IsNew, OnlySends, Sits, Sitting};
 
     /// Nothing was read or answered yet, and at most `max_reads` reads may be made. One that would block counts too.
     pub fn new(max_reads: u64) -> Exchange
@@ -51,6 +51,7 @@ impl Exchange {
             → Sitting (parties D.since D.looks D.joins W.contents) start first read_old (R.remaining reader.old) desk.old writer self.old
             → Sits (parties D.since D.looks D.joins W.contents) result start first read_old (R.remaining reader.new) desk.new self.new }
         ensures answered { self.old.answered ≡ true → desk.new ≡ desk.old }
+        ensures sends { self.old.answered ≡ true → OnlySends W.contents result (R.remaining reader.old) (R.remaining reader.new) writer self.new }
         ensures got_on { HasGotOn result self.old self.new }
     {
         if self.answered {

@@ -6,7 +6,7 @@
 //! that no body is taken for a request.
 //!
 //! The crates above rest on the contract of [`Exchange::turn`]: all turns together answer just the head of the bytes that they read
-//! (`specs/Exchanges.antt`). [`laws`] says where an exchange begins.
+//! (`specs/Exchanges.antt`). [`laws`] says where an exchange begins, and that others may call the server between its turns.
 #![tactic(auto)]
 
 mod coming;
