@@ -2,6 +2,7 @@
 
 use crate::answers::bytes_of;
 use crate::drips::Page;
+use crate::plain::{Reader, read};
 use rx_events::EventSink;
 use rx_heap::{Heap, Memory};
 use rx_http::{Answer, Begin, Epoch, Id};
@@ -271,5 +272,83 @@ fn sinks_with_each_growth_refused(rt: HostRuntime) -> Result<(), Fail> {
     let refusals = refuse_in_turn(&Stream, rt.alloc())?;
     assert_eq!(rt; refusals.fault, "", "the stream");
     assert!(rt; refusals.unmade > 0, "no growth was refused");
+    Ok(())
+}
+
+/// What a subject gives, of which two items were left out.
+const GIVEN: [Told; 5] = [
+    Told::Item(0, b"a"),
+    Told::Item(1, b"b"),
+    Told::Item(4, b"c\rd"),
+    Told::Item(5, b"e"),
+    Told::Done,
+];
+
+// The stream of all that is given, to a reader that begins there.
+fn stream_of(heap: &Heap, begin: Begin) -> Result<Vec<u8, Heap>, Fail> {
+    let mut sink = EventSink::new(Vec::new(heap.clone()?), epoch()?, begin, false);
+    sink.start(4)?;
+    for note in &GIVEN {
+        sink.take(note.note(heap)?)?;
+    }
+    let stream = sink.into_writer();
+    match stream.as_slice().strip_prefix(bytes_of(Answer::Events)) {
+        Some(told) => Ok(Vec::from_slice(heap.clone()?, told)?),
+        None => Err(Fail::from("another head")),
+    }
+}
+
+// Where a reader begins that comes with this id; nowhere, where it knows that the subject is over.
+fn begin_with(id: &[u8]) -> Result<Option<Begin>, Fail> {
+    if id.is_empty() {
+        return Ok(Some(Begin::Fresh));
+    }
+    match Id::read(id) {
+        Some(known) => Ok(Begin::by(&epoch()?, Some(known))),
+        None => Err(Fail::from("no id")),
+    }
+}
+
+// Puts what a reader heard, behind what it heard before: of an item its text, of misses how many they are, and the end.
+fn put_heard(heard: &mut Vec<u8, Heap>, reader: &Reader) -> Result<(), Memory> {
+    for message in &reader.messages {
+        match message.kind.as_slice() {
+            b"joined" => {}
+            b"missed" => {
+                heard.push(b'-')?;
+                heard.extend_from_slice(message.text.as_slice())?;
+            }
+            b"done" => heard.push(b'.')?,
+            _ => heard.extend_from_slice(message.text.as_slice())?,
+        }
+    }
+    Ok(())
+}
+
+#[test]
+fn heard_once_at_each_cut(rt: HostRuntime) -> Result<(), Fail> {
+    let heap = Heap::unlimited(rt.alloc());
+    let stream = stream_of(&heap, Begin::Fresh)?;
+    for (cut, _) in stream.iter().enumerate() {
+        let (come, _) = stream.as_slice().split_at(cut);
+        let reader = read(&heap, b"", come)?;
+        let mut heard = Vec::new(heap.clone()?);
+        put_heard(&mut heard, &reader)?;
+        if let Some(begin) = begin_with(reader.last_id.as_slice())? {
+            let rest = stream_of(&heap, begin)?;
+            let again = read(&heap, reader.last_id.as_slice(), rest.as_slice())?;
+            put_heard(&mut heard, &again)?;
+        }
+        assert_eq!(rt;
+            heard.as_slice(),
+            b"ab-2c\nde.".as_slice(),
+            "cut behind {cut} bytes"
+        );
+    }
+    let whole = read(&heap, b"", stream.as_slice())?;
+    assert!(rt;
+        begin_with(whole.last_id.as_slice())?.is_none(),
+        "it is over"
+    );
     Ok(())
 }
