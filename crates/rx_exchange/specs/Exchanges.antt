@@ -1,6 +1,6 @@
 -- What an exchange has come to that is served turn by turn. A turn may begin wherever the one before it ended, and all of them together
 -- answer the head of the bytes that they read.
-use Rattle.std.specs.Prelude.{◌≡◌, ◌<◌, ℕ, Bool, true, false, List, [], Option, None, Some, Result}
+use Rattle.std.specs.Prelude.{◌≡◌, ◌+◌, ℕ, Bool, true, false, List, [], Option, None, Some, Result}
 use Rattle.std.specs.Io.KnownBytes.{Appends, Consumes, IsAtEnd}
 use Rattle.rx_proto.specs.Bytes.{AppendsPrefix}
 use Rattle.rx_http.specs.Answers.{answer_bytes}
@@ -21,13 +21,22 @@ pub record IsNew (exchange : Exchange) : Type 0 where
   pub head_is : exchange.head ≡ []
   pub answered_is : exchange.answered ≡ false
 
--- what a turn has done at least: where another may be made at once, or one is to wait for bytes, it made a read, so that there are only so
--- many of them
+-- all the reads that may be made were made only where none is left
+abbrev pub HasNoReads : SessionEnd → Exchange → Type 0
+HasNoReads ends.TooManyReads before = before.reads ≡ 0
+HasNoReads ends.Quit before = Unit {0}
+HasNoReads ends.EndOfInput before = Unit {0}
+HasNoReads ends.HandedOver before = Unit {0}
+HasNoReads ends.ReadFault before = Unit {0}
+HasNoReads ends.WriteFault before = Unit {0}
+
+-- which reads a turn made: one, where another turn may be made at once, or one is to wait for bytes, so that there are only so many of
+-- them
 abbrev pub HasGotOn : {W : Type 0} → Turn W → Exchange → Exchange → Type 0
-HasGotOn (Again writer) before after = after.reads < before.reads
-HasGotOn (Waits writer) before after = after.reads < before.reads
+HasGotOn (Again writer) before after = before.reads ≡ after.reads + 1
+HasGotOn (Waits writer) before after = before.reads ≡ after.reads + 1
 HasGotOn (Stuck writer) before after = Unit {0}
-HasGotOn (Over end back) before after = Unit {0}
+HasGotOn (Over end back) before after = HasNoReads end before
 
 -- a turn of an exchange whose answer was told: it only has go out what waits at the writer
 abbrev pub OnlySends : {W : Type 0} → (W → Option (List ℕ)) → Turn W → Option (List ℕ) → Option (List ℕ) → W → Exchange → Type 0
