@@ -1,4 +1,4 @@
-mod Accounting
+pub mod Accounting
 mod Back
 mod Cuts
 mod Cutting
@@ -9,8 +9,11 @@ mod Plain
 mod Responses
 mod Single
 mod Spelled
-mod Streams
+pub mod Streams
 mod Telling
 mod Told
 mod Utf8
-mod Writes
+pub mod Writes
+pub mod HeadBlocks
+mod HeadGrammar
+mod HeadLaws

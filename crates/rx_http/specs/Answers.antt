@@ -50,12 +50,9 @@ advice_of Full = codes "as many observers are held as may be"
 advice_of Stopping = codes "the server stops"
 advice_of Memory = codes "the budget of the subject is used up"
 
--- the fields that it has besides: which methods there are, when to come again, and that behind a head that was not read no other
--- request is
+-- the fields that it has besides: which methods there are, and when to come again
 abbrev pub fields_of : Refusal → List ℕ
-fields_of Head = codes "Connection: close\r\n"
 fields_of Method = codes "Allow: GET\r\n"
-fields_of LongHead = codes "Connection: close\r\n"
 fields_of Full = codes "Retry-After: 5\r\n"
 fields_of Stopping = codes "Retry-After: 2\r\n"
 fields_of other = []
@@ -64,11 +61,12 @@ fields_of other = []
 abbrev pub refusal_body : Refusal → List ℕ
 refusal_body refusal = codes "{\"error\":\"" ++ (error_of refusal ++ (codes "\",\"text\":\"" ++ (advice_of refusal ++ codes "\"}\n")))
 
--- the head of an answer whose body has so many bytes
+-- the head of an answer whose body has so many bytes. It is the last of its connection: what stands behind the head of a request, as a
+-- body, is never taken for another
 abbrev pub sized_head : List ℕ → List ℕ → List ℕ → ℕ → List ℕ
 sized_head status kind fields size =
     codes "HTTP/1.1 " ++ (status ++ (codes "\r\nContent-Type: " ++ (kind ++ (codes "\r\nContent-Length: " ++ (decimal size
-    ++ (codes "\r\nCache-Control: no-store\r\nX-Content-Type-Options: nosniff\r\n" ++ (fields ++ codes "\r\n")))))))
+    ++ (codes "\r\nCache-Control: no-store\r\nX-Content-Type-Options: nosniff\r\nConnection: close\r\n" ++ (fields ++ codes "\r\n")))))))
 
 -- an answer with its body
 abbrev pub sized : List ℕ → List ℕ → List ℕ → List ℕ → List ℕ
@@ -84,7 +82,7 @@ events_head = codes "HTTP/1.1 200 OK\r\nContent-Type: text/event-stream\r\nCache
 
 -- the answer to a reader that knows that the subject is over: no EventSource comes again behind it
 abbrev pub over_head : List ℕ
-over_head = codes "HTTP/1.1 204 No Content\r\nCache-Control: no-store\r\nX-Content-Type-Options: nosniff\r\n\r\n"
+over_head = codes "HTTP/1.1 204 No Content\r\nCache-Control: no-store\r\nX-Content-Type-Options: nosniff\r\nConnection: close\r\n\r\n"
 
 -- the bytes of an answer
 abbrev pub answer_bytes : Answer → List ℕ

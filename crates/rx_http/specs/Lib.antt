@@ -1,9 +1,13 @@
 pub mod Accounts
 pub mod Answers
 pub mod Asking
+pub mod Begins
 pub mod Epochs
 pub mod Events
 pub mod Examples
+pub mod HeadBlocks
+pub mod HeadGrammar
+pub mod Heads
 pub mod Ids
 pub mod Laws
 pub mod Pieces

@@ -15,9 +15,9 @@ field name value = record { name = name; raw = 32 ∷ value; end = crlf }
 abbrev pub head : List ℕ → List ℕ → List Field → ResponseHead
 head code reason fields = record { blank = []; minor = 1; digits = code; reason = Some reason; line_end = crlf; fields = fields; last = crlf }
 
--- the fields of an answer that isn't kept by who stands between
+-- the fields of an answer that isn't kept by who stands between, and is the last of its connection
 abbrev pub kept_nowhere : List Field → List Field
-kept_nowhere more = field (codes "Cache-Control") (codes "no-store") ∷ field (codes "X-Content-Type-Options") (codes "nosniff") ∷ more
+kept_nowhere more = field (codes "Cache-Control") (codes "no-store") ∷ field (codes "X-Content-Type-Options") (codes "nosniff") ∷ field (codes "Connection") (codes "close") ∷ more
 
 -- the head of an answer with a body, which has its length
 abbrev pub head_with : List ℕ → List ℕ → List ℕ → List Field → List ℕ → ResponseHead
@@ -30,13 +30,13 @@ refused code reason more refusal = head_with code reason (codes "application/jso
 
 -- the head of a refusal
 abbrev pub refusal_head : Refusal → ResponseHead
-refusal_head Head = refused (codes "400") (codes "Bad Request") (field (codes "Connection") (codes "close") ∷ []) Head
+refusal_head Head = refused (codes "400") (codes "Bad Request") [] Head
 refusal_head Word = refused (codes "400") (codes "Bad Request") [] Word
 refusal_head LastEventId = refused (codes "400") (codes "Bad Request") [] LastEventId
 refusal_head Subject = refused (codes "404") (codes "Not Found") [] Subject
 refusal_head Path = refused (codes "404") (codes "Not Found") [] Path
 refusal_head Method = refused (codes "405") (codes "Method Not Allowed") (field (codes "Allow") (codes "GET") ∷ []) Method
-refusal_head LongHead = refused (codes "431") (codes "Request Header Fields Too Large") (field (codes "Connection") (codes "close") ∷ []) LongHead
+refusal_head LongHead = refused (codes "431") (codes "Request Header Fields Too Large") [] LongHead
 refusal_head Spent = refused (codes "409") (codes "Conflict") [] Spent
 refusal_head Gone = refused (codes "500") (codes "Internal Server Error") [] Gone
 refusal_head Full = refused (codes "503") (codes "Service Unavailable") (field (codes "Retry-After") (codes "5") ∷ []) Full

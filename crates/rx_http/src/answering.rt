@@ -22,7 +22,7 @@ pub fn write_answer<W: Write>(writer: &mut W, answer: Answer) -> Result<(), Writ
         ),
         Answer::Over => write_bytes(
             writer,
-            b"HTTP/1.1 204 No Content\r\nCache-Control: no-store\r\nX-Content-Type-Options: nosniff\r\n\r\n",
+            b"HTTP/1.1 204 No Content\r\nCache-Control: no-store\r\nX-Content-Type-Options: nosniff\r\nConnection: close\r\n\r\n",
         ),
         Answer::Well => write_plain(writer, b"200 OK", b"ok\n"),
         Answer::Unwell => write_plain(writer, b"503 Service Unavailable", b"unwell\n"),
@@ -90,7 +90,7 @@ fn write_head<W: Write>(
     write_three(writer, kind, b"\r\nContent-Length: ", &digits[start..])?;
     write_three(
         writer,
-        b"\r\nCache-Control: no-store\r\nX-Content-Type-Options: nosniff\r\n",
+        b"\r\nCache-Control: no-store\r\nX-Content-Type-Options: nosniff\r\nConnection: close\r\n",
         fields,
         b"\r\n",
     )

@@ -3,6 +3,8 @@
 ghost use Rattle.rx_http.specs.Accounts.{HeardIsKnown, IdIsAccount};
 ghost use Rattle.rx_http.specs.Asking.{HeadAsksForOne};
 ghost use Rattle.rx_http.specs.Epochs.{IsEpoch};
+ghost use Rattle.rx_http.specs.HeadGrammar.{GrammarEndsThere};
+ghost use Rattle.rx_http.specs.Heads.{HeadIsTheSame};
 ghost use Rattle.rx_http.specs.Examples.{AreReadAsTold};
 ghost use Rattle.rx_http.specs.Laws.{CutStreamIsAFront, IsEvent, IsPlace, StreamIsReadBack, StreamIsUtf8};
 ghost use Rattle.rx_http.specs.Resuming.{HeardAreItems, ReaderGoesOn};
@@ -30,6 +32,16 @@ pub fn cut_stream_is_a_front()
 /// All that is written of a stream is UTF-8.
 pub fn stream_is_utf8()
     ensures { StreamIsUtf8 }
+{}
+
+/// However the bytes of a connection come, the same of them are its head.
+pub fn head_is_the_same()
+    ensures { HeadIsTheSame }
+{}
+
+/// A head of the grammar is the head of its connection.
+pub fn grammar_ends_there()
+    ensures { GrammarEndsThere }
 {}
 
 /// A head asks for one thing, or is refused for one cause.

@@ -1,9 +1,9 @@
 //! What a browser asks for and is told of a subject: heads of requests are read, and answers and Server-Sent Events are written
 //! and proved to be read back.
 //!
-//! Nothing here serves: a head comes in as its bytes, and what is written goes to a writer. What is to stand above rests on three
-//! contracts. [`read_request`] answers what a head asks for, or the first cause for which it is refused; [`write_answer`] writes
-//! exactly the bytes of an answer; [`write_event`] writes exactly those of an event, of which [`laws`] says that a reader is told
+//! Nothing here serves: what comes is read where it is at hand, and what is written goes to a writer. What is to stand above rests
+//! on four contracts. [`HeadReader`] finds the head of a connection, however its reads are cut; [`read_request`] answers what a head
+//! asks for, or the first cause for which it is refused; [`write_answer`] writes exactly the bytes of an answer; [`write_event`] writes exactly those of an event, of which [`laws`] says that a reader is told
 //! just that event by them, and by a stream that is cut anywhere a front of its events, with the id of the last.
 #![tactic(auto)]
 
@@ -11,7 +11,10 @@ mod answer;
 mod answering;
 mod asked;
 mod asking;
+mod begin;
 mod epoch;
+mod head_found;
+mod head_reader;
 mod id;
 mod kinds;
 pub mod laws;
@@ -28,7 +31,10 @@ pub use answer::Answer;
 pub use answering::write_answer;
 pub use asked::Asked;
 pub use asking::{MAX_HEAD, read_request};
+pub use begin::Begin;
 pub use epoch::Epoch;
+pub use head_found::HeadFound;
+pub use head_reader::HeadReader;
 pub use id::Id;
 pub use refusal::Refusal;
 pub use stream_event::StreamEvent;

@@ -94,7 +94,6 @@ impl Refusal {
         ensures { result.now ≡ fields_of self }
     {
         match self {
-            Refusal::Head | Refusal::LongHead => b"Connection: close\r\n",
             Refusal::Method => b"Allow: GET\r\n",
             Refusal::Full => b"Retry-After: 5\r\n",
             Refusal::Stopping => b"Retry-After: 2\r\n",

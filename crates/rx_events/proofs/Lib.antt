@@ -1,0 +1,4 @@
+pub mod Writings
+mod Written
+mod Hearing
+mod Accounts

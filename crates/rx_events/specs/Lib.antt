@@ -1,0 +1,4 @@
+pub mod Hearing
+pub mod Sinks
+pub mod Telling
+pub mod Written

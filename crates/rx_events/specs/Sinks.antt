@@ -1,0 +1,48 @@
+-- What the calls of an event sink do (this project's own rule).
+use Rattle.std.specs.Prelude.{◌≡◌, ◌<◌, ◌↔◌, IsTrue, ℕ, Bool, true, false, if◌then◌else◌, List, [], Option}
+use Rattle.std.specs.Io.KnownBytes.{Appends}
+use Rattle.rx_proto.specs.Bytes.{AppendsPrefix}
+use Rattle.rx_sink.specs.declared.flow.Flow.{Flow}
+use Rattle.rx_sink.specs.declared.flow.Flow.TheVariants.{Clear, Ready, Stuck}
+use Rattle.rx_sink.specs.declared.line_rest.LineRest.{LineRest}
+use Rattle.rx_sink.specs.Acts.{Acts, raised}
+use Rattle.rx_sink.specs.Kinds.{ahead_with_one, flow_behind}
+use Rattle.rx_events.specs.Telling.{begin_bytes, is_told, note_events, standing_after, told_bytes}
+use Rattle.rx_events.specs.declared.event_sink.EventSink.{EventSink}
+
+-- how many notes were written since nothing waited, with one more that was told; one that was passed over wasn't written
+abbrev pub ahead_after : Bool → Bool → ℕ → ℕ
+ahead_after told gathers ahead = if told then ahead_with_one gathers ahead else ahead
+
+-- what a flush leaves: where nothing waits any more, the notes are counted anew; only over a writer that gathers it finds the sink
+-- stuck, which then stays so until a flush finds that nothing waits
+abbrev pub FlushLeaves : {W : Type 0} → Flow → EventSink W → EventSink W → Type 0
+FlushLeaves Clear s t = (t.ahead ≡ 0) × (t.stuck ≡ false)
+FlushLeaves Ready s t = ⊥
+FlushLeaves Stuck s t = (s.gathers ≡ true) × (t.ahead ≡ s.ahead) × (t.stuck ≡ true)
+
+-- what stays of a sink through its calls: to whom it tells, and how
+pub record Stays {W : Type 0} (s t : EventSink W) : Type 0 where
+  pub epoch : t.epoch ≡ s.epoch
+  pub begin : t.begin ≡ s.begin
+  pub gathers : t.gathers ≡ s.gathers
+
+-- a sink over a writer writes how its reader begins, and then each note as it is told to that reader, or a front of it at a fault, and
+-- counts the notes that it took; a flush writes nothing more. Nothing ever waits in it, unless its writer gathers what it is given
+abbrev pub event_acts : {W : Type 0} → (W → Option (List ℕ)) → Acts (EventSink W) LineRest
+event_acts contents = record {
+  started = λ s who t. Appends (contents s.writer) (contents t.writer) (begin_bytes s.epoch s.begin s.standing.known who) × Stays s t × (t.standing ≡ s.standing)
+      × (t.notes ≡ s.notes) × (t.faults ≡ s.faults) × (t.ahead ≡ s.ahead) × (t.stuck ≡ s.stuck);
+  start_faulted = λ s who t. AppendsPrefix (contents s.writer) (contents t.writer) (begin_bytes s.epoch s.begin s.standing.known who)
+      × (t.notes ≡ s.notes) × (t.faults ≡ raised s.faults);
+  took = λ s note flow t. (flow ≡ flow_behind s.gathers s.stuck t.ahead) × Appends (contents s.writer) (contents t.writer) (told_bytes s.epoch (note_events s.standing note))
+      × Stays s t × (t.standing ≡ standing_after s.standing note) × (t.notes ≡ raised s.notes) × (t.faults ≡ s.faults)
+      × (t.ahead ≡ ahead_after (is_told s.standing note) s.gathers s.ahead) × (t.stuck ≡ s.stuck);
+  take_faulted = λ s note t. AppendsPrefix (contents s.writer) (contents t.writer) (told_bytes s.epoch (note_events s.standing note))
+      × (t.notes ≡ s.notes) × (t.faults ≡ raised s.faults);
+  flushed = λ s flow t. FlushLeaves flow s t × Appends (contents s.writer) (contents t.writer) [] × Stays s t × (t.standing ≡ s.standing)
+      × (t.notes ≡ s.notes) × (t.faults ≡ s.faults);
+  flush_faulted = λ s t. Appends (contents s.writer) (contents t.writer) [] × (t.notes ≡ s.notes) × (t.faults ≡ raised s.faults);
+  finished = λ s rest. (rest.notes ≡ s.notes) × (IsTrue rest.failed ↔ (0 < s.faults));
+  faults = λ s. s.faults;
+}

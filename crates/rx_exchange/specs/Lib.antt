@@ -1,0 +1,4 @@
+pub mod Among
+pub mod Coming
+pub mod Exchanges
+pub mod Meetings

@@ -1,0 +1,66 @@
+-- What is done with what a connection asks for: its server is asked, and an answer is told, or the server has the writer. The rules are
+-- this project's own.
+use Rattle.std.specs.Prelude.{◌≡◌, ◌⊎◌, ℕ, Bool, if◌then◌else◌, List, Option, None, Some, Result, Ok, Err}
+use Rattle.std.specs.Io.KnownBytes.{Appends}
+use Rattle.rx_note.specs.Choices.{Choice}
+use Rattle.rx_proto.specs.Bytes.{AppendsPrefix}
+use Rattle.rx_http.specs.Begins.{begin_by}
+use Rattle.rx_http.specs.declared.answer.Answer.{Answer}
+use Rattle.rx_http.specs.declared.answer.Answer.TheVariants as answers
+use Rattle.rx_http.specs.declared.asked.Asked.{Asked}
+use Rattle.rx_http.specs.declared.asked.Asked.TheVariants.{Events, Health}
+use Rattle.rx_http.specs.declared.begin.Begin.{Begin}
+use Rattle.rx_http.specs.declared.id.Id.{Id}
+use Rattle.rx_http.specs.declared.refusal.Refusal.{Refusal}
+use Rattle.rx_session.specs.declared.session_end.SessionEnd.TheVariants as ends
+use Rattle.rx_session.specs.declared.turn.Turn.{Turn}
+use Rattle.rx_session.specs.declared.turn.Turn.TheVariants.{Again, Waits, Stuck, Over}
+use Rattle.rx_exchange.specs.declared.joining.Joining.{Joining}
+use Rattle.rx_exchange.specs.declared.joining.Joining.TheVariants.{Taken, Back}
+
+-- the epoch of a server, what its calls do, and what a writer has
+pub record Parties (D W : Type 0) : Type 1 where
+  pub since : D → List ℕ → Type 0
+  pub looks : D → Bool → Type 0
+  pub joins : D → List ℕ → Choice → ℕ → Begin → W → Joining W → D → Type 0
+  pub contents : W → Option (List ℕ)
+
+-- these four
+abbrev pub parties : {D W : Type 0} → (D → List ℕ → Type 0) → (D → Bool → Type 0) → (D → List ℕ → Choice → ℕ → Begin → W → Joining W → D → Type 0) → (W → Option (List ℕ)) → Parties D W
+parties since looks joins contents = record { since = since; looks = looks; joins = joins; contents = contents }
+
+-- the answer to a Join, and the writer to which it is told; none where the server has the writer
+abbrev pub joined : {W : Type 0} → Joining W → Option (Answer × W)
+joined Taken = None
+joined (Back cause writer) = Some (answers.Refused cause, writer)
+
+module _ {D W : Type 0} (p : Parties D W) where
+  -- a Join at the subject of a name: from where its reader begins; where that knows that the subject is over, there is nothing more to come
+  abbrev pub JoinsAt : D → List ℕ → Choice → ℕ → Option Begin → W → Option (Answer × W) → D → Type 0
+  JoinsAt desk subject policy window None writer met after = (after ≡ desk) × (met ≡ Some (answers.Over, writer))
+  JoinsAt desk subject policy window (Some begin) writer met after =
+      (joining : Joining W) × p.joins desk subject policy window begin writer joining after × (met ≡ joined joining)
+
+  -- the same by what a reader says that it knows, in the epoch of the server
+  abbrev pub Joins : D → List ℕ → Choice → ℕ → Option Id → W → Option (Answer × W) → D → Type 0
+  Joins desk subject policy window known writer met after =
+      (epoch : List ℕ) × p.since desk epoch × JoinsAt desk subject policy window (begin_by epoch known) writer met after
+
+  -- what was asked for is met: by an answer, and the writer to which it is to be told, or by none
+  abbrev pub Meets : D → W → Result Asked Refusal → Option (Answer × W) → D → Type 0
+  Meets desk writer (Ok (Events subject policy window known)) met after = Joins desk subject policy window known writer met after
+  Meets desk writer (Ok Health) met after =
+      (after ≡ desk) × (well : Bool) × p.looks desk well × (met ≡ Some ((if well then answers.Well else answers.Unwell), writer))
+  Meets desk writer (Err cause) met after = (after ≡ desk) × (met ≡ Some (answers.Refused cause, writer))
+
+module _ {W : Type 0} (contents : W → Option (List ℕ)) where
+  -- what telling some bytes to a writer did, of which a front may have been told before: they wait to go out, or are out, or the writer
+  -- faulted and has a front of them
+  abbrev pub Tells : Turn W → W → List ℕ → Type 0
+  Tells (Again after) writer bytes = ⊥
+  Tells (Waits after) writer bytes = ⊥
+  Tells (Stuck after) writer bytes = Appends (contents writer) (contents after) bytes
+  Tells (Over end back) writer bytes =
+      (after : W) × (back ≡ Some after)
+      × (((end ≡ ends.Quit) × Appends (contents writer) (contents after) bytes)
+      ⊎ ((end ≡ ends.WriteFault) × AppendsPrefix (contents writer) (contents after) bytes))

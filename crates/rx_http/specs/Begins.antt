@@ -1,0 +1,13 @@
+-- Where a reader begins to hear a subject, by what it says that it knows. The rule is this project's own.
+use Rattle.std.specs.Prelude.{ℕ, List, if◌then◌else◌, Option, None, Some}
+use Rattle.rx_proto.specs.Reading.{same_word}
+use Rattle.rx_http.specs.declared.begin.Begin.{Begin}
+use Rattle.rx_http.specs.declared.begin.Begin.TheVariants.{Fresh, Behind, Restarted}
+use Rattle.rx_http.specs.declared.id.Id.{Id}
+
+-- where a reader begins, by the epoch of the server; nowhere, where it knows that the subject is over
+abbrev pub begin_by : List ℕ → Option Id → Option Begin
+begin_by epoch None = Some Fresh
+begin_by epoch (Some id) =
+    if same_word id.epoch epoch then (if id.over then None else Some (Behind id.place))
+    else Some (Restarted id)

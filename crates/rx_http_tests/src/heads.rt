@@ -1,0 +1,99 @@
+//! The head of a connection, however its reads are cut.
+
+use crate::drips::Drips;
+use rx_heap::{Heap, Memory};
+use rx_http::{HeadFound, HeadReader, MAX_HEAD};
+use std::test::Fail;
+
+/// Bytes of a connection, and what of a head is among them.
+const ROWS: [(&[u8], HeadFound); 11] = [
+    (b"", HeadFound::Partly),
+    (b"GET / HTTP/1.1\r\n\r\n", HeadFound::Whole(18)),
+    (b"GET / HTTP/1.1\r\nA: b\r\n\r\nbody", HeadFound::Whole(24)),
+    (b"GET / HTTP/1.0\n\nGET", HeadFound::Whole(16)),
+    (b"GET / HTTP/1.1\r\n\nGET", HeadFound::Whole(17)),
+    (b"GET / HTTP/1.1\n\r\nGET", HeadFound::Whole(17)),
+    (b"\r\nGET / HTTP/1.1\r\n\r\n", HeadFound::Whole(20)),
+    (b"\n\r\n", HeadFound::Whole(3)),
+    (b"GET / HTTP/1.1\r\n\r", HeadFound::Partly),
+    (b"GET / HTTP/1.1\r\n\r\r\n", HeadFound::Partly),
+    (b"GET / HTTP/1.1\r\r\n", HeadFound::Partly),
+];
+
+// More reads than any row takes.
+const MOST_READS: u32 = 10_000;
+
+// Reads until a head is found, or nothing more comes.
+fn gather(head: &mut HeadReader, drips: &mut Drips<'_>) -> Result<HeadFound, Fail> {
+    for _ in 0..MOST_READS {
+        match head.find() {
+            HeadFound::Partly => {
+                if head.read_from(drips)? == 0 {
+                    return Ok(HeadFound::Partly);
+                }
+            }
+            found => return Ok(found),
+        }
+    }
+    Err(Fail::from("reads without an end"))
+}
+
+#[test]
+fn heads_cut_at_each_byte(rt: HostRuntime) -> Result<(), Fail> {
+    for (i, (bytes, found)) in ROWS.iter().enumerate() {
+        for step in 1..=bytes.len() {
+            let mut drips = Drips::new(bytes, step);
+            let mut head = HeadReader::new();
+            assert_eq!(rt; gather(&mut head, &mut drips)?, *found, "row {i} by {step}");
+        }
+    }
+    Ok(())
+}
+
+#[test]
+fn what_is_left_is_what_came(rt: HostRuntime) -> Result<(), Fail> {
+    let bytes = b"GET / HTTP/1.1\r\n\r\nGET /healthz".as_slice();
+    let mut drips = Drips::new(bytes, bytes.len());
+    let mut head = HeadReader::new();
+    gather(&mut head, &mut drips)?;
+    match head.find() {
+        HeadFound::Whole(len) => {
+            assert_eq!(rt; head.head(len), b"GET / HTTP/1.1\r\n\r\n".as_slice());
+            assert_eq!(rt; head.behind(len), b"GET /healthz".as_slice());
+            Ok(())
+        }
+        _ => Err(Fail::from("no head")),
+    }
+}
+
+// A head of so many bytes, 23 or more.
+fn head_of(heap: &Heap, len: usize) -> Result<Vec<u8, Heap>, Memory> {
+    let mut head = Vec::from_slice(heap.clone()?, b"GET / HTTP/1.1\r\na: ")?;
+    for _ in 23..len {
+        head.push(b'b')?;
+    }
+    head.extend_from_slice(b"\r\n\r\n")?;
+    Ok(head)
+}
+
+#[test]
+fn long_heads(rt: HostRuntime) -> Result<(), Fail> {
+    let heap = Heap::unlimited(rt.alloc());
+    for (len, found) in [
+        (MAX_HEAD, HeadFound::Whole(8192)),
+        (MAX_HEAD + 1, HeadFound::TooLong),
+        (MAX_HEAD + 2, HeadFound::TooLong),
+    ] {
+        let bytes = head_of(&heap, len)?;
+        for step in [1, 1000, 8192, 10_000] {
+            let mut drips = Drips::new(bytes.as_slice(), step);
+            let mut head = HeadReader::new();
+            assert_eq!(rt;
+                gather(&mut head, &mut drips)?,
+                found,
+                "{len} bytes by {step}"
+            );
+        }
+    }
+    Ok(())
+}
