@@ -36,6 +36,14 @@ def connects(peer: socket.socket, path: Path) -> bool:
         raise NoServer(f"{os.fspath(path)}: {fault}") from fault
 
 
+def is_readable(peer: socket.socket) -> bool:
+    """Whether something came, which may be the end."""
+    try:
+        return bool(select.select([peer], [], [], 0)[0])
+    except (OSError, ValueError):
+        return True
+
+
 def moment_after(seconds: Optional[float]) -> Optional[float]:
     """The moment so many seconds from now; None for never."""
     return None if seconds is None else time.monotonic() + seconds
@@ -102,11 +110,8 @@ class Connection:
         return came
 
     def is_cut(self) -> bool:
-        """Whether something came where nothing was asked for, which is the end, as far as can be told without waiting."""
-        try:
-            return bool(select.select([self._peer], [], [], 0)[0])
-        except (OSError, ValueError):
-            return True
+        """Whether it has ended, as far as can be told without waiting, where no answer is to come."""
+        return is_readable(self._peer)
 
     def join(self, line: bytes, ends: Optional[float]) -> None:
         """Makes it an observer's, by this `SUB`. Refused, ConnectionLost, TimedOut."""

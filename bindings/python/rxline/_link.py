@@ -26,14 +26,17 @@ class Link:
     @property
     def is_lost(self) -> bool:
         """Whether nothing more can be asked."""
-        return self._fault is not None or self._wire.is_closing()
+        if self._fault is not None or self._wire.is_closing():
+            return True
+        return not self._unanswered and self._wire.is_cut()
 
     def send(self, lines: List[bytes]) -> "List[asyncio.Future[bytes]]":
         """Sends these; the answer to each is its future's, or that the connection was lost."""
         loop = asyncio.get_running_loop()
         answers: "List[asyncio.Future[bytes]]" = [loop.create_future() for _ in lines]
+        is_lost = self.is_lost
         self._unanswered.extend(answers)
-        if self.is_lost:
+        if is_lost:
             self._lose(ConnectionLost("the connection was ended"))
         elif lines:
             self._wire.write(b"".join(lines))

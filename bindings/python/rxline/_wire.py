@@ -5,7 +5,7 @@ import socket
 import time
 from typing import Awaitable, Optional, Tuple, TypeVar
 
-from ._connection import MAX_LINE, PAUSE, Path, began, connects
+from ._connection import MAX_LINE, PAUSE, Path, began, connects, is_readable
 from ._lines import HELLO, check, check_joined, epoch_in, join_line
 from .errors import ConnectionLost, ProtocolError, TimedOut
 from .policy import BUFFER, Errors
@@ -24,8 +24,8 @@ async def _until(ends: Optional[float], awaited: Awaitable[T], what: str) -> T:
 class Wire:
     """Lines both ways. A moment `ends` is when it stops waiting; None for never."""
 
-    def __init__(self, reader: asyncio.StreamReader, writer: asyncio.StreamWriter) -> None:
-        self._reader, self._writer = reader, writer
+    def __init__(self, peer: socket.socket, reader: asyncio.StreamReader, writer: asyncio.StreamWriter) -> None:
+        self._peer, self._reader, self._writer = peer, reader, writer
 
     @classmethod
     async def open(cls, path: Path, ends: Optional[float]) -> "Wire":
@@ -37,7 +37,7 @@ class Wire:
                 if ends is not None and time.monotonic() > ends:
                     raise TimedOut(f"no connection at {path}")
                 await asyncio.sleep(PAUSE)
-            return cls(*await asyncio.open_unix_connection(sock=peer, limit=MAX_LINE))
+            return cls(peer, *await asyncio.open_unix_connection(sock=peer, limit=MAX_LINE))
         except BaseException:
             peer.close()
             raise
@@ -49,6 +49,10 @@ class Wire:
     def is_closing(self) -> bool:
         """Whether nothing more can be written."""
         return self._writer.is_closing()
+
+    def is_cut(self) -> bool:
+        """Whether it has ended, as far as can be told without waiting, where no answer is to come."""
+        return self._reader.at_eof() or is_readable(self._peer)
 
     async def line(self, ends: Optional[float]) -> bytes:
         """The next line, without its LF. ConnectionLost; TimedOut, after which it can be asked for again."""

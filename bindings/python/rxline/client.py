@@ -119,27 +119,18 @@ class Client:
         )
 
     def _ask(self, line: bytes) -> None:
-        """Sends a line and checks its answer. A line that could not be sent whole was not carried out, and is sent once more."""
-        with self._lock:
-            try:
-                self._send(line)
-            except ConnectionLost:
-                self._send(line)
-            with self._connected() as connection:
-                answer = connection.line(moment_after(self._timeout))
-        check(answer)
-
-    def _send(self, line: bytes) -> None:
-        if self._connection is not None and self._connection.is_cut():
-            self._drop()
-        with self._connected() as connection:
+        with self._lock, self._connected() as connection:
             connection.send(line, moment_after(self._timeout))
+            answer = connection.line(moment_after(self._timeout))
+        check(answer)
 
     @contextlib.contextmanager
     def _connected(self) -> Iterator[Connection]:
-        """The connection, made anew where it is gone. After a fault in its use it is gone."""
+        """The connection, made anew where it is gone, for lines and all their answers. After a fault in its use it is gone."""
         if self._is_closed:
             raise Closed("the client was closed")
+        if self._connection is not None and self._connection.is_cut():
+            self._drop()
         if self._connection is None:
             self._connection = Connection(self._path, moment_after(self._timeout))
         try:

@@ -134,41 +134,26 @@ impl Client {
         Subscription::open(&self.path, &self.options, subject, how)
     }
 
-    /// Sends a line and checks its answer. A line that could not be sent whole was not carried out, and is sent once more.
     fn ask(&mut self, line: &[u8]) -> Result<(), Error> {
-        let sent = self.send(line).or_else(|fault| match fault {
-            Error::Lost(_) => self.send(line),
-            other => Err(other),
+        let timeout = self.options.timeout;
+        let answer = self.connected().and_then(|connection| {
+            connection.send(line, after(timeout))?;
+            connection.line(after(timeout))
         });
-        let answer = sent.and_then(|()| {
-            let ends = after(self.options.timeout);
-            self.connected()?.line(ends)
-        });
-        check(&self.or_drop(answer)?)
+        if answer.is_err() {
+            self.connection = None;
+        }
+        check(&answer?)
     }
 
-    fn send(&mut self, line: &[u8]) -> Result<(), Error> {
+    /// The connection, made anew where it is gone, for lines and all their answers.
+    fn connected(&mut self) -> Result<&mut Connection, Error> {
         if self.connection.as_mut().is_some_and(Connection::is_cut) {
             self.connection = None;
         }
-        let ends = after(self.options.timeout);
-        let sent = self.connected()?.send(line, ends);
-        self.or_drop(sent)
-    }
-
-    /// The connection, made anew where it is gone.
-    fn connected(&mut self) -> Result<&mut Connection, Error> {
         match &mut self.connection {
             Some(connection) => Ok(connection),
             gone => Ok(gone.insert(Connection::open(&self.path)?)),
         }
-    }
-
-    /// After a fault in its use the connection is gone.
-    fn or_drop<T>(&mut self, done: Result<T, Error>) -> Result<T, Error> {
-        if done.is_err() {
-            self.connection = None;
-        }
-        done
     }
 }

@@ -80,7 +80,7 @@ impl Connection {
         }
     }
 
-    /// Whether something came where nothing was asked for, which is the end, as far as can be told without waiting.
+    /// Whether it has ended, as far as can be told without waiting, where no answer is to come.
     pub(crate) fn is_cut(&mut self) -> bool {
         let looked = self.peer.set_nonblocking(true).and_then(|()| self.peer.read(&mut [0]));
         let is_open = matches!(looked, Err(ref error) if error.kind() == ErrorKind::WouldBlock);

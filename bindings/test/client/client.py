@@ -7,7 +7,8 @@
     misuse PATH                                  how calls are refused that are sent to nobody
     waits PATH                                   how long calls wait for a server that says nothing
     quiet PATH                                   that a note which comes late is told
-    idle PATH                                    what becomes of a connection whose server is killed meanwhile
+    idle PATH PATIENCE                           what becomes of connections whose server is killed meanwhile
+    many PATH SUBJECT                            the texts of standard input; which were refused
     shared PATH COUNT                            four that emit by one client, and one that is closed while it waits
 A word that is `-` is left out."""
 
@@ -143,26 +144,33 @@ def waits(path):
 
 def quiet(path):
     with rxline.connect(path) as client, client.subscribe("p", timeout=0.1) as notes:
-        for _ in range(2):
-            try:
-                tell(*words_of(next(notes)))
-            except rxline.TimedOut as fault:
-                tell(kind_of(fault))
-            client.publish("p", "a")
+        try:
+            next(notes)
+        except rxline.TimedOut as fault:
+            tell(kind_of(fault))
+        client.publish("p", "a")
         notes.timeout = None
         tell(*words_of(next(notes)))
 
 
-def idle(path):
-    with rxline.connect(path, patience=0) as client, client.subscribe("p") as notes:
+def idle(path, patience):
+    with rxline.connect(path, patience=float(patience)) as client, client.subscribe("p") as notes:
         tell("joined")
         try:
             next(notes)
         except rxline.RxlineError as fault:
             tell(kind_of(fault))
         sys.stdin.readline()
-        client.publish("p", "a")
-        tell("published")
+        tell("published", client.publish_many("p", ["a", "b"]))
+
+
+def many(path, subject):
+    with rxline.connect(path) as client:
+        try:
+            tell("accepted", client.publish_many(subject, texts()))
+        except rxline.NotAllPublished as outcome:
+            refused = [f"{at}:{type(refusal).__name__}" for at, refusal in outcome.refused.items()]
+            tell("accepted", outcome.accepted, "refused", *refused, "unanswered", len(outcome.unanswered), kind_of(outcome.__cause__))
 
 
 def shared(path, count):

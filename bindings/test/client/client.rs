@@ -59,10 +59,19 @@ fn published(first: usize, outcome: &NotAllPublished) -> usize {
     first + outcome.unanswered.end
 }
 
-fn publish(path: &str, subject: &str, way: &str) -> Result<(), Error> {
+fn input() -> Vec<u8> {
     let mut came = Vec::new();
     io::stdin().read_to_end(&mut came).unwrap();
-    let texts: Vec<&[u8]> = came.strip_suffix(b"\n").unwrap().split(|byte| *byte == b'\n').collect();
+    came
+}
+
+fn texts(came: &[u8]) -> Vec<&[u8]> {
+    came.strip_suffix(b"\n").unwrap().split(|byte| *byte == b'\n').collect()
+}
+
+fn publish(path: &str, subject: &str, way: &str) -> Result<(), Error> {
+    let came = input();
+    let texts = texts(&came);
     let mut client = Client::connect_with(path, Options { resend: way == "resend", ..Options::default() })?;
     let mut first = 0;
     while first < texts.len() {
@@ -133,27 +142,35 @@ fn quiet(path: &str) -> Result<(), Error> {
     let mut client = Client::connect(path)?;
     let timeout = Some(Duration::from_millis(100));
     let mut notes = client.subscribe_with("p", &Subscribe { timeout, ..Subscribe::default() })?;
-    for _ in 0..2 {
-        match notes.next().unwrap() {
-            Ok(note) => tell(&words_of(note)),
-            Err(fault) => tell(kind_of(&fault).as_bytes()),
-        }
-        client.publish("p", "a")?;
-    }
+    tell_kind(notes.next().unwrap());
+    client.publish("p", "a")?;
     notes.set_timeout(None);
     tell(&words_of(notes.next().unwrap()?));
     Ok(())
 }
 
-fn idle(path: &str) -> Result<(), Error> {
-    let patience = Some(Duration::ZERO);
+fn idle(path: &str, patience: &str) -> Result<(), Error> {
+    let patience = Some(Duration::from_secs_f64(patience.parse().unwrap()));
     let mut client = Client::connect_with(path, Options { patience, ..Options::default() })?;
     let mut notes = client.subscribe("p")?;
     tell(b"joined");
     tell_kind(notes.next().unwrap());
     io::stdin().read_line(&mut String::new()).unwrap();
-    client.publish("p", "a")?;
-    tell(b"published");
+    let count = client.publish_many("p", ["a", "b"]).map_err(|outcome| outcome.cause)?;
+    tell(format!("published {count}").as_bytes());
+    Ok(())
+}
+
+fn many(path: &str, subject: &str) -> Result<(), Error> {
+    let came = input();
+    match Client::connect(path)?.publish_many(subject, texts(&came)) {
+        Ok(count) => tell(format!("accepted {count}").as_bytes()),
+        Err(outcome) => {
+            let refused: String = outcome.refused.iter().map(|(at, refusal)| format!(" {at}:{refusal:?}")).collect();
+            let (accepted, unanswered, cause) = (outcome.accepted, outcome.unanswered.len(), kind_of(&outcome.cause));
+            tell(format!("accepted {accepted} refused{refused} unanswered {unanswered} {cause}").as_bytes());
+        }
+    }
     Ok(())
 }
 
@@ -184,7 +201,8 @@ fn main() -> Result<(), Error> {
         ["misuse", path] => misuse(path),
         ["waits", path] => waits(path),
         ["quiet", path] => quiet(path),
-        ["idle", path] => idle(path),
+        ["idle", path, patience] => idle(path, patience),
+        ["many", path, subject] => many(path, subject),
         ["shared", path, count] => shared(path, count),
         _ => panic!("{words:?}"),
     }

@@ -79,26 +79,33 @@ async def waits(path):
 
 async def quiet(path):
     async with await aio.connect(path) as client, await client.subscribe("p", timeout=0.1) as notes:
-        for _ in range(2):
-            try:
-                tell(*words_of(await notes.__anext__()))
-            except rxline.TimedOut as fault:
-                tell(kind_of(fault))
-            await client.publish("p", "a")
+        try:
+            await notes.__anext__()
+        except rxline.TimedOut as fault:
+            tell(kind_of(fault))
+        await client.publish("p", "a")
         notes.timeout = None
         tell(*words_of(await notes.__anext__()))
 
 
-async def idle(path):
-    async with await aio.connect(path, patience=0) as client, await client.subscribe("p") as notes:
+async def idle(path, patience):
+    async with await aio.connect(path, patience=float(patience)) as client, await client.subscribe("p") as notes:
         tell("joined")
         try:
             await notes.__anext__()
         except rxline.RxlineError as fault:
             tell(kind_of(fault))
-        await asyncio.get_running_loop().run_in_executor(None, sys.stdin.readline)
-        await client.publish("p", "a")
-        tell("published")
+        sys.stdin.readline()
+        tell("published", await client.publish_many("p", ["a", "b"]))
+
+
+async def many(path, subject):
+    async with await aio.connect(path) as client:
+        try:
+            tell("accepted", await client.publish_many(subject, texts()))
+        except rxline.NotAllPublished as outcome:
+            refused = [f"{at}:{type(refusal).__name__}" for at, refusal in outcome.refused.items()]
+            tell("accepted", outcome.accepted, "refused", *refused, "unanswered", len(outcome.unanswered), kind_of(outcome.__cause__))
 
 
 async def shared(path, count):
