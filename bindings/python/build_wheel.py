@@ -9,7 +9,7 @@ import zipfile
 from pathlib import Path
 
 HERE = Path(__file__).resolve().parent
-MODULES = ["hazoxe.py", "rxline/*.py", "rxline/py.typed"]
+MODULES = ["hazoxe.py", "rxline/*.py", "rxline/aio/*.py", "rxline/py.typed"]
 LIBRARY = HERE / "libhazoxe.so"
 
 

@@ -4,9 +4,9 @@ import asyncio
 from collections import deque
 from typing import Deque, List, Optional
 
-from ._connection import Path, moment_after
+from .._connection import Path, moment_after
 from ._wire import Wire
-from .errors import ConnectionLost, RxlineError
+from ..errors import ConnectionLost, RxlineError
 
 
 class Link:

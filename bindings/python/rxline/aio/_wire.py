@@ -5,10 +5,10 @@ import socket
 import time
 from typing import Awaitable, Optional, Tuple, TypeVar
 
-from ._connection import MAX_LINE, PAUSE, Path, began, connects, is_readable
-from ._lines import HELLO, check, check_joined, epoch_in, join_line
-from .errors import ConnectionLost, ProtocolError, TimedOut
-from .policy import BUFFER, Errors
+from .._connection import MAX_LINE, PAUSE, Path, began, connects, is_readable
+from .._lines import HELLO, check, check_joined, epoch_in, join_line
+from ..errors import ConnectionLost, ProtocolError, TimedOut
+from ..policy import BUFFER, Errors
 
 T = TypeVar("T")
 
