@@ -1,6 +1,6 @@
 """Builds the wheel of this folder by what PEP 517 asks for, with Python alone: so `pip install` of it needs no network.
 
-The wheel has the module `hazoxe`, the package `rxline`, and the library of the former where it stands beside it, as libhazoxe.so."""
+The wheel has the module `hazoxe`, the package `rxline`, and the library of the former where it stands beside it."""
 
 import base64
 import hashlib
@@ -28,7 +28,8 @@ def contents(folder, tag):
         yield LIBRARY.name, LIBRARY.read_bytes()
     metadata = ["Metadata-Version: 2.1", f"Name: {of['name']}", f"Version: {of['version']}"]
     metadata += [f"Summary: {of['description']}", f"Requires-Python: {of['requires-python']}"]
-    wheel = ["Wheel-Version: 1.0", "Generator: build_wheel.py", f"Root-Is-Purelib: {str(not LIBRARY.exists()).lower()}", f"Tag: {tag}"]
+    is_pure = str(not LIBRARY.exists()).lower()
+    wheel = ["Wheel-Version: 1.0", "Generator: build_wheel.py", f"Root-Is-Purelib: {is_pure}", f"Tag: {tag}"]
     for name, lines in (("METADATA", metadata), ("WHEEL", wheel)):
         yield f"{folder}/{name}", "\n".join([*lines, ""]).encode()
 

@@ -168,8 +168,8 @@ class _Counts(ctypes.Structure):
 _SEEDED = 2  # the library's number of Behavior with a seed
 
 _HOW_TO_BUILD = """
-In the repository `./install PREFIX` builds it, and puts it beside this module in PREFIX/share/hazoxe/python; another place for it is
-told by the variable HAZOXE."""
+In the repository `./install PREFIX` builds it, and puts it beside this module in PREFIX/share/hazoxe/python. Another place for it
+is told by the variable HAZOXE."""
 
 
 def _load() -> ctypes.PyDLL:

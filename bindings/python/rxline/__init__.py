@@ -9,8 +9,8 @@
                 print(note.place, note.text)
 
 A subscription comes again where its connection or its server was lost, and tells each item once: what it can't tell any more is
-told as `Missed`, and that another server began as `Restarted`. `rxline.aio` has the same for asyncio. A text is a str, which is sent
-as UTF-8, or bytes, and bytes when it is told.
+told as `Missed`, and that another server began as `Restarted`. `rxline.aio` has the same for asyncio. A text is a str, sent as
+UTF-8, or bytes, and bytes when it is told.
 """
 
 from .client import Client, connect

@@ -32,17 +32,18 @@ class Client:
     ) -> None:
         """Connects to the server at this path. NoServer, TimedOut.
 
-        `timeout`: how many seconds a connection and an answer may take; None for any. `patience`: for how many seconds a lost server
-        is waited for, by a subscription and by `publish_many` with `resend`; None for ever, 0 for not at all. `epoch_subject`: the
-        subject by which a server that is reached through another one's socket, as by ssh, tells which one it is."""
+        `timeout`: how many seconds a connection and an answer may take; None for any. `patience`: for how many seconds a lost
+        server is waited for, by a subscription and by `publish_many` with `resend`; None for ever, 0 for not at all.
+        `epoch_subject`: the subject by which a server that is reached through another one's socket, as by ssh, tells which one it
+        is."""
         self._path, self._timeout, self._patience, self._epoch_subject = path, timeout, patience, epoch_subject
         self._lock = threading.Lock()
         self._is_closed = False
         self._connection: Optional[Connection] = Connection(path, moment_after(timeout))
 
     def publish(self, subject: str, text: Text) -> None:
-        """Emits an item; once this returns the server has it. Refused; ConnectionLost or TimedOut, and then it may have been emitted,
-        or not; NoServer, and then it was not."""
+        """Emits an item; once this returns the server has it. Refused; NoServer, and then it was not emitted; ConnectionLost or
+        TimedOut, and then it may have been, or not."""
         self._ask(publish_line(subject, text))
 
     def publish_many(self, subject: str, texts: Iterable[Text], *, window: int = WINDOW, resend: bool = False) -> int:
@@ -102,8 +103,8 @@ class Client:
         since: Optional[Position] = None,
         timeout: Optional[float] = None,
     ) -> Subscription:
-        """Follows a subject, from now on or behind the position `since`, by a connection of its own: once this returns it has joined.
-        `timeout`: how many seconds to wait for a note; None for ever. Refused, NoServer, ConnectionLost, which TimedOut is here."""
+        """Follows a subject, from now on or behind the position `since`, by a connection of its own: once this returns it has
+        joined. `timeout`: how many seconds to wait for a note; None for ever. Refused, NoServer, ConnectionLost."""
         if self._is_closed:
             raise Closed("the client was closed")
         return Subscription(

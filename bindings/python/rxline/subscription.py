@@ -48,9 +48,9 @@ class Subscription(Iterator[Note]):
         return self._progress.position
 
     def __next__(self) -> Note:
-        """The next note. TimedOut, where none comes within `timeout` seconds, after which it can be asked for again; ConnectionLost or
-        NoServer, where it may not reconnect, or has tried for `patience` seconds; Refused, where the next server has no such
-        subject, or can't take one more observer for good."""
+        """The next note. TimedOut, where none comes within `timeout` seconds, after which it can be asked for again;
+        ConnectionLost or NoServer, where it may not reconnect, or has tried for `patience` seconds; Refused, where the next
+        server has no such subject, or can't take one more observer for good."""
         with self._in_use:
             note = self._take_or_hear(moment_after(self.timeout))
             if note is None:

@@ -5,8 +5,8 @@ use std::time::{Duration, Instant};
 const FIRST: Duration = Duration::from_millis(100);
 const MOST: Duration = Duration::from_secs(5);
 
-/// Waits that double, each by chance somewhat shorter, so that many who lost one server do not come again together. It gives up when
-/// its patience has passed since the first try that failed.
+/// Waits that double, each by chance somewhat shorter, so that many who lost one server do not come again together. It gives up
+/// when its patience has passed since the first try that failed.
 pub(crate) struct Backoff {
     patience: Option<Duration>,
     pause: Duration,

@@ -5,8 +5,8 @@ use std::error;
 use std::fmt;
 use std::ops::Range;
 
-/// Of many texts some were not accepted. The numbers are places in what was handed in, from 0. Those from `unanswered.end` on were not
-/// sent.
+/// Of many texts some were not accepted. The numbers are places in what was handed in, from 0. Those from `unanswered.end` on were
+/// not sent.
 #[derive(Debug)]
 pub struct NotAllPublished {
     /// How many were accepted.
@@ -32,8 +32,8 @@ impl error::Error for NotAllPublished {
     }
 }
 
-/// The lines of `publish_many`, of which some are on their way at a time. No more are sent once one was refused, or one could not be
-/// made.
+/// The lines of `publish_many`, of which some are on their way at a time. No more are sent once one was refused, or one could not
+/// be made.
 pub(crate) struct Batch<I> {
     lines: I,
     window: usize,

@@ -14,8 +14,8 @@ pub struct Options {
     pub epoch_subject: Option<String>,
     /// How many lines `publish_many` sends before the first is answered, at least 1. At first 64.
     pub window: usize,
-    /// Whether `publish_many` sends what was not answered once more by the next connection, so that it may be emitted twice. At first
-    /// it does not.
+    /// Whether `publish_many` sends what was not answered once more by the next connection, so that it may be emitted twice. At
+    /// first it does not.
     pub resend: bool,
 }
 

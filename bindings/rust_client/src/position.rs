@@ -2,8 +2,8 @@ use std::error::Error;
 use std::fmt;
 use std::str::FromStr;
 
-/// How far a subscriber is: which server it heard, and the place of the last item that it was told of, or that it knows to be missed;
-/// `None` before the first. As a text it is `EPOCH-PLACE`.
+/// How far a subscriber is: which server it heard, and the place of the last item that it was told of, or that it knows to be
+/// missed; `None` before the first. As a text it is `EPOCH-PLACE`.
 #[derive(Clone, Debug, PartialEq, Eq, Hash)]
 pub struct Position {
     /// Which server.

@@ -5,8 +5,8 @@ use crate::policy::Strategy;
 use crate::position::Position;
 use std::collections::VecDeque;
 
-/// Makes notes of lines, so that each item is told once, and a gap or another server is told too. They wait until they are taken, and
-/// the position is that of the last one that was.
+/// Makes notes of lines, so that each item is told once, and a gap or another server is told too. They wait until they are taken,
+/// and the position is that of the last one that was.
 pub(crate) struct Progress {
     position: Option<Position>,
     notes: VecDeque<Note>,

@@ -105,7 +105,8 @@ async def many(path, subject):
             tell("accepted", await client.publish_many(subject, texts()))
         except rxline.NotAllPublished as outcome:
             refused = [f"{at}:{type(refusal).__name__}" for at, refusal in outcome.refused.items()]
-            tell("accepted", outcome.accepted, "refused", *refused, "unanswered", len(outcome.unanswered), kind_of(outcome.__cause__))
+            left = len(outcome.unanswered)
+            tell("accepted", outcome.accepted, "refused", *refused, "unanswered", left, kind_of(outcome.__cause__))
 
 
 async def shared(path, count):

@@ -29,8 +29,8 @@ class Client:
         self._is_closed = False
 
     async def publish(self, subject: str, text: Text) -> None:
-        """Emits an item; once this returns the server has it. Refused; ConnectionLost or TimedOut, and then it may have been emitted,
-        or not; NoServer, and then it was not."""
+        """Emits an item; once this returns the server has it. Refused; NoServer, and then it was not emitted; ConnectionLost or
+        TimedOut, and then it may have been, or not."""
         await self._ask(publish_line(subject, text))
 
     async def publish_many(self, subject: str, texts: Iterable[Text], *, window: int = WINDOW, resend: bool = False) -> int:
