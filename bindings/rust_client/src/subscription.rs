@@ -13,8 +13,8 @@ use std::time::{Duration, Instant};
 /// The notes of one subject, over connections that end and servers that begin anew.
 ///
 /// It ends behind [`Note::Completed`] or [`Note::Failed`]. An error is told too: `TimedOut`, where no note came in time, after
-/// which the next can be asked for again; `Lost` or `NoServer`, where it may not reconnect or has tried for as long as it may; `Refused`,
-/// where the next server has no such subject, or can't take one more observer for good. Dropping it leaves the subject.
+/// which the next can be asked for again; `Lost` or `NoServer`, where it may not reconnect or has tried for as long as it may;
+/// `Refused`, where the next server has no such subject, or can't take one more observer for good. Dropping it leaves the subject.
 pub struct Subscription {
     path: PathBuf,
     line: Vec<u8>,
