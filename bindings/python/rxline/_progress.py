@@ -19,6 +19,7 @@ class Progress:
         # The place that is to come next; None before the first item, for who comes anew wants what there is.
         self._next = None if since is None else since.place + 1
         self._may_overflow = strategy.word == "BOUNDED"
+        self._is_offered = False  # an item, by the connection by which it joined last
         self._heard_seed = False
         self._heard_more = True  # than at the last overflow
         self.is_over = False
@@ -37,13 +38,13 @@ class Progress:
         """The position of who was told this note."""
         if isinstance(note, Item) and note.place is not None:
             return Position(epoch, note.place)
-        if isinstance(note, Missed):
+        if isinstance(note, Missed) and note.last is not None:
             return Position(epoch, note.last)
         return Position(epoch) if isinstance(note, Restarted) else self.position
 
     def joined(self, epoch: str) -> None:
         """It has joined at the server of this epoch, and what was told before is taken."""
-        self.comes_again = False
+        self.comes_again = self._is_offered = False
         if self._epoch is None:
             self._epoch, self.position = epoch, Position(epoch)
         elif self._epoch == epoch:
@@ -69,6 +70,8 @@ class Progress:
             raise ProtocolError(f"a note {line!r}")
 
     def _end(self, note: Note) -> None:
+        if self._next is not None and not self._is_offered:
+            self._notes.append(Missed(self._next, None))
         self.is_over = True
         self._notes.append(note)
 
@@ -82,11 +85,13 @@ class Progress:
             raise ProtocolError(f"a note {line!r}")
 
     def _hear_seed(self, text: bytes) -> None:
+        self._is_offered = True
         if not self._heard_seed:
             self._heard_seed = True
             self._notes.append(Item(text))
 
     def _hear_place(self, item: Item, place: int) -> None:
+        self._is_offered = True
         awaited = place if self._next is None else self._next
         if place < awaited:
             return

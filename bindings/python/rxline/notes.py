@@ -36,15 +36,16 @@ class Item:
 @dataclass(frozen=True)
 class Missed:
     """The items from place `first` to place `last` are not told: the subject had them no more when this subscriber came again,
-    or its strategy let go of them."""
+    or its strategy let go of them. Where it came again and was told the end at once, `last` is None, for nothing tells whether
+    there were any behind what it heard."""
 
     first: int
-    last: int
+    last: Optional[int]
 
     @property
-    def count(self) -> int:
-        """How many items that are."""
-        return self.last - self.first + 1
+    def count(self) -> Optional[int]:
+        """How many items that are; None where nothing tells."""
+        return None if self.last is None else self.last - self.first + 1
 
 
 @dataclass(frozen=True)

@@ -23,12 +23,14 @@ impl fmt::Debug for Item {
 }
 
 /// Items that are not told: the subject had them no more when this subscriber came again, or its strategy let go of them.
+///
+/// Where it came again and was told the end at once, nothing tells whether there were any behind what it heard.
 #[derive(Clone, Copy, Debug, PartialEq, Eq, Hash)]
 pub struct Missed {
     /// The place of the first of them.
     pub first: u32,
-    /// The place of the last of them.
-    pub last: u32,
+    /// The place of the last of them; `None` where nothing tells.
+    pub last: Option<u32>,
 }
 
 /// What a subscriber is told.

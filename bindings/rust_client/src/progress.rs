@@ -14,6 +14,8 @@ pub(crate) struct Progress {
     /// The place that is to come next; `None` before the first item, for who comes anew wants what there is.
     next: Option<u32>,
     may_overflow: bool,
+    /// Whether it was offered an item by the connection by which it joined last.
+    is_offered: bool,
     heard_seed: bool,
     /// Whether it heard something new since the last overflow.
     heard_more: bool,
@@ -34,6 +36,7 @@ impl Progress {
             position: since,
             notes: VecDeque::new(),
             may_overflow: matches!(strategy, Strategy::Bounded(_)),
+            is_offered: false,
             heard_seed: false,
             heard_more: true,
             is_over: false,
@@ -50,7 +53,7 @@ impl Progress {
         let note = self.notes.pop_front()?;
         let place = match &note {
             Note::Item(Item { place: Some(place), .. }) => Some(Some(*place)),
-            Note::Missed(missed) => Some(Some(missed.last)),
+            Note::Missed(Missed { last: Some(last), .. }) => Some(Some(*last)),
             Note::Restarted(_) => Some(None),
             _ => None,
         };
@@ -63,6 +66,7 @@ impl Progress {
     /// It has joined at the server of this epoch, and what was told before is taken.
     pub(crate) fn joined(&mut self, epoch: String) {
         self.comes_again = false;
+        self.is_offered = false;
         let anew = Position { epoch: epoch.clone(), place: None };
         match self.epoch.replace(epoch) {
             None => self.position = Some(anew),
@@ -95,6 +99,9 @@ impl Progress {
     }
 
     fn end(&mut self, note: Note) {
+        if let (Some(first), false) = (self.next, self.is_offered) {
+            self.notes.push_back(Note::Missed(Missed { first, last: None }));
+        }
         self.is_over = true;
         self.notes.push_back(note);
     }
@@ -103,6 +110,7 @@ impl Progress {
     fn hear_item(&mut self, rest: &[u8]) -> Option<()> {
         let mut words = rest.splitn(3, |byte| *byte == b' ');
         let (place, port, text) = (words.next()?, words.next()?, words.next()?.to_vec());
+        self.is_offered = true;
         if place == b"-" && port == b"-" {
             if !self.heard_seed {
                 self.heard_seed = true;
@@ -121,7 +129,7 @@ impl Progress {
             return;
         }
         if place > awaited {
-            self.notes.push_back(Note::Missed(Missed { first: awaited, last: place - 1 }));
+            self.notes.push_back(Note::Missed(Missed { first: awaited, last: Some(place - 1) }));
         }
         self.notes.push_back(Note::Item(item));
         self.next = Some(behind(Some(place)));

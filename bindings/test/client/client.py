@@ -35,7 +35,7 @@ def words_of(note):
     if isinstance(note, rxline.Item):
         return ("seed", note.text) if note.place is None else ("item", note.place, note.text)
     if isinstance(note, rxline.Missed):
-        return ("missed", note.first, note.last)
+        return ("missed", note.first, "-" if note.last is None else note.last)
     if isinstance(note, rxline.Restarted):
         return ("restarted", note.last)
     if isinstance(note, rxline.Failed):

@@ -30,7 +30,10 @@ fn words_of(note: Note) -> Vec<u8> {
             Some(place) => [format!("item {place} ").as_bytes(), &item.text].concat(),
             None => [b"seed ", item.text.as_slice()].concat(),
         },
-        Note::Missed(missed) => format!("missed {} {}", missed.first, missed.last).into_bytes(),
+        Note::Missed(missed) => {
+            let last = missed.last.map_or("-".to_owned(), |last| last.to_string());
+            format!("missed {} {last}", missed.first).into_bytes()
+        }
         Note::Restarted(last) => format!("restarted {last}").into_bytes(),
         Note::Overflow => b"overflow".to_vec(),
         Note::Completed => b"completed".to_vec(),
