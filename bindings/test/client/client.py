@@ -161,6 +161,9 @@ def idle(path, patience):
         except rxline.RxlineError as fault:
             tell(kind_of(fault))
         sys.stdin.readline()
+        client.ping()
+        tell("pinged")
+        sys.stdin.readline()
         tell("published", client.publish_many("p", ["a", "b"]))
 
 

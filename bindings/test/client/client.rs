@@ -159,6 +159,9 @@ fn idle(path: &str, patience: &str) -> Result<(), Error> {
     tell(b"joined");
     tell_kind(notes.next().unwrap());
     io::stdin().read_line(&mut String::new()).unwrap();
+    client.ping()?;
+    tell(b"pinged");
+    io::stdin().read_line(&mut String::new()).unwrap();
     let count = client.publish_many("p", ["a", "b"]).map_err(|outcome| outcome.cause)?;
     tell(format!("published {count}").as_bytes());
     Ok(())

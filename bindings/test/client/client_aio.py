@@ -96,6 +96,9 @@ async def idle(path, patience):
         except rxline.RxlineError as fault:
             tell(kind_of(fault))
         sys.stdin.readline()
+        await client.ping()
+        tell("pinged")
+        sys.stdin.readline()  # nothing is heard meanwhile, not even the end
         tell("published", await client.publish_many("p", ["a", "b"]))
 
 

@@ -57,10 +57,12 @@ class Client:
     async def _exchange(self, link: Link, batch: Batch, backoff: Backoff) -> None:
         answers: "Deque[asyncio.Future[bytes]]" = deque()
         while True:
-            answers.extend(link.send(batch.more()))
+            lines = batch.more()
+            if lines:
+                answers.extend(link.send(lines))
             if not answers:
                 return
-            batch.answer(await self._answer(link, answers.popleft()))
+            batch.answer(await answers.popleft())
             backoff.reset()
 
     async def complete(self, subject: str) -> None:
@@ -104,17 +106,7 @@ class Client:
     async def _ask(self, line: bytes) -> None:
         link = await self._linked()
         [answer] = link.send([line])
-        check(await self._answer(link, answer))
-
-    async def _answer(self, link: Link, answer: "asyncio.Future[bytes]") -> bytes:
-        """Awaits an answer. After one that does not come in time the connection is ended."""
-        if answer.done():
-            return answer.result()
-        try:
-            return await asyncio.wait_for(asyncio.shield(answer), self._timeout)
-        except asyncio.TimeoutError as fault:
-            link.close()
-            raise TimedOut("nothing came in time") from fault
+        check(await answer)
 
     async def _linked(self) -> Link:
         """The connection, made anew where it is gone, by one task for all."""
