@@ -11,6 +11,7 @@ from pathlib import Path
 HERE = Path(__file__).resolve().parent
 MODULES = ["hazoxe.py", "rxline/*.py", "rxline/aio/*.py", "rxline/py.typed"]
 LIBRARY = HERE / "libhazoxe.so"
+WHEN = (1980, 1, 1, 0, 0, 0)  # the earliest that an archive can tell, so that the same files make the same wheel
 
 
 def project():
@@ -39,10 +40,10 @@ def build_wheel(wheel_directory, config_settings=None, metadata_directory=None):
     tag = "py3-none-linux_x86_64" if LIBRARY.exists() else "py3-none-any"
     stem = f"{project()['name']}-{project()['version']}"
     folder, record = f"{stem}.dist-info", []
-    with zipfile.ZipFile(Path(wheel_directory) / f"{stem}-{tag}.whl", "w", zipfile.ZIP_DEFLATED) as wheel:
+    with zipfile.ZipFile(Path(wheel_directory) / f"{stem}-{tag}.whl", "w") as wheel:
         for name, content in contents(folder, tag):
-            wheel.writestr(name, content)
+            wheel.writestr(zipfile.ZipInfo(name, WHEN), content, zipfile.ZIP_DEFLATED)
             digest = base64.urlsafe_b64encode(hashlib.sha256(content).digest()).rstrip(b"=").decode()
             record.append(f"{name},sha256={digest},{len(content)}")
-        wheel.writestr(f"{folder}/RECORD", "\n".join([*record, f"{folder}/RECORD,,", ""]))
+        wheel.writestr(zipfile.ZipInfo(f"{folder}/RECORD", WHEN), "\n".join([*record, f"{folder}/RECORD,,", ""]))
     return f"{stem}-{tag}.whl"
