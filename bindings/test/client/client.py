@@ -1,15 +1,15 @@
 """What tests/clients has each client do, by `rxline`: it prints what it is told.
 
-    follow PATH SUBJECT STRATEGY SINCE EPOCH     each note behind its position, once it has told `joined`
-    publish PATH SUBJECT resend|once             the texts of standard input; which were accepted, which may have been
-    end PATH SUBJECT, fail PATH SUBJECT TEXT     ends the subject
-    refused PATH COUNT                           how so many calls are refused
-    misuse PATH                                  how calls are refused that are sent to nobody
-    waits PATH                                   how long calls wait for a server that says nothing
-    quiet PATH                                   that a note which comes late is told
-    idle PATH PATIENCE                           what becomes of connections whose server is killed meanwhile
-    many PATH SUBJECT                            the texts of standard input; which were refused
-    shared PATH COUNT                            four that emit by one client, and one that is closed while it waits
+    follow PATH SUBJECT STRATEGY SINCE EPOCH PATIENCE     each note behind its position, once it has told `joined`
+    publish PATH SUBJECT resend|once                      the texts of standard input; which were accepted, which may have been
+    end PATH SUBJECT, fail PATH SUBJECT TEXT              ends the subject
+    refused PATH COUNT                                    how so many calls are refused
+    misuse PATH                                           how calls are refused that are sent to nobody
+    waits PATH                                            how long calls wait for a server that says nothing
+    quiet PATH                                            that a note which comes late is told
+    idle PATH PATIENCE                                    what becomes of connections whose server is killed meanwhile
+    many PATH SUBJECT                                     the texts of standard input; which were refused
+    shared PATH COUNT                                     four that emit by one client, and one that is closed while it waits
 A word that is `-` is left out."""
 
 import sys
@@ -43,14 +43,15 @@ def words_of(note):
     return (type(note).__name__.lower(),)
 
 
-def follow_words(strategy, since, epoch):
+def follow_words(strategy, since, epoch, patience):
     """The words for `connect`, and those for `subscribe`."""
     position = None if since == "-" else rxline.Position.parse(since)
-    return {"epoch_subject": None if epoch == "-" else epoch}, {"strategy": strategy_of(strategy), "since": position}
+    connecting = {"epoch_subject": None if epoch == "-" else epoch, "patience": None if patience == "-" else float(patience)}
+    return connecting, {"strategy": strategy_of(strategy), "since": position}
 
 
-def follow(path, subject, strategy, since, epoch):
-    connecting, following = follow_words(strategy, since, epoch)
+def follow(path, subject, *words):
+    connecting, following = follow_words(*words)
     with rxline.connect(path, **connecting) as client, client.subscribe(subject, **following) as notes:
         tell("joined")
         for note in notes:

@@ -41,9 +41,13 @@ fn words_of(note: Note) -> Vec<u8> {
     }
 }
 
-fn follow(path: &str, subject: &str, strategy: &str, since: &str, epoch: &str) -> Result<(), Error> {
+fn seconds(word: &str) -> Option<Duration> {
+    (word != "-").then(|| Duration::from_secs_f64(word.parse().unwrap()))
+}
+
+fn follow(path: &str, subject: &str, strategy: &str, since: &str, epoch: &str, patience: &str) -> Result<(), Error> {
     let epoch_subject = (epoch != "-").then(|| epoch.to_owned());
-    let client = Client::connect_with(path, Options { epoch_subject, ..Options::default() })?;
+    let client = Client::connect_with(path, Options { epoch_subject, patience: seconds(patience), ..Options::default() })?;
     let since = (since != "-").then(|| since.parse().unwrap());
     let mut notes =
         client.subscribe_with(subject, &Subscribe { strategy: strategy_of(strategy), since, ..Subscribe::default() })?;
@@ -153,8 +157,7 @@ fn quiet(path: &str) -> Result<(), Error> {
 }
 
 fn idle(path: &str, patience: &str) -> Result<(), Error> {
-    let patience = Some(Duration::from_secs_f64(patience.parse().unwrap()));
-    let mut client = Client::connect_with(path, Options { patience, ..Options::default() })?;
+    let mut client = Client::connect_with(path, Options { patience: seconds(patience), ..Options::default() })?;
     let mut notes = client.subscribe("p")?;
     tell(b"joined");
     tell_kind(notes.next().unwrap());
@@ -199,7 +202,7 @@ fn main() -> Result<(), Error> {
     let words: Vec<String> = env::args().skip(1).collect();
     let words: Vec<&str> = words.iter().map(String::as_str).collect();
     match words[..] {
-        ["follow", path, subject, strategy, since, epoch] => follow(path, subject, strategy, since, epoch),
+        ["follow", path, subject, strategy, since, epoch, patience] => follow(path, subject, strategy, since, epoch, patience),
         ["publish", path, subject, way] => publish(path, subject, way),
         ["end", path, subject] => Client::connect(path)?.complete(subject),
         ["fail", path, subject, text] => Client::connect(path)?.fail(subject, text),

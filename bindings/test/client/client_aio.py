@@ -8,8 +8,8 @@ from client import MISUSES, ROOMS, follow_words, kind_of, published, strategy_of
 from rxline import aio
 
 
-async def follow(path, subject, strategy, since, epoch):
-    connecting, following = follow_words(strategy, since, epoch)
+async def follow(path, subject, *words):
+    connecting, following = follow_words(*words)
     async with await aio.connect(path, **connecting) as client:
         async with await client.subscribe(subject, **following) as notes:
             tell("joined")
