@@ -31,7 +31,8 @@ BEGIN {
 /^\| / {
     split($0, cell, / *\| */)
     split(cell[2], part, /: /)
-    what = is_of_keys ? part[2] (part[2] == "" ? "" : ". ") cell[3] ". If missing: " cell[4] "." : cell[3] ". It is told as " cell[4] "."
+    if (is_of_keys) what = part[2] (part[2] == "" ? "" : ". ") cell[3] ". If missing: " cell[4] "."
+    else what = cell[3] ". It is told as " cell[4] "."
     printf ".TP\n%s\n%s\n", text(part[1]), text(what)
     next
 }
