@@ -16,7 +16,7 @@ pub struct Client {
 }
 
 impl Client {
-    /// Connects to the server at this path.
+    /// Connects to the server at this path; where it has no room for one more connection, once it has.
     ///
     /// # Errors
     ///
