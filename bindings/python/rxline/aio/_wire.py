@@ -3,70 +3,100 @@
 import asyncio
 import socket
 import time
-from typing import Awaitable, Optional, Tuple, TypeVar
+from collections import deque
+from typing import Deque, Optional, Tuple, Type, cast
 
 from .._connection import MAX_LINE, PAUSE, Path, began, connects, is_readable
 from .._lines import HELLO, check, check_joined, epoch_in, join_line
-from ..errors import ConnectionLost, ProtocolError, TimedOut
+from ..errors import ConnectionLost, ProtocolError, RxlineError, TimedOut
 from ..policy import BUFFER, Errors
 
-T = TypeVar("T")
+MANY_LINES = 64  # With as many it reads no more until half of them are taken, so that a server notices who is slow.
 
 
-async def _until(ends: Optional[float], awaited: Awaitable[T], what: str) -> T:
-    """Awaits it until this moment. TimedOut."""
-    try:
-        return await asyncio.wait_for(awaited, None if ends is None else max(0, ends - time.monotonic()))
-    except asyncio.TimeoutError as fault:
-        raise TimedOut(what) from fault
-
-
-class Wire:
+class Wire(asyncio.Protocol):
     """Lines both ways. A moment `ends` is when it stops waiting; None for never."""
 
-    def __init__(self, peer: socket.socket, reader: asyncio.StreamReader, writer: asyncio.StreamWriter) -> None:
-        self._peer, self._reader, self._writer = peer, reader, writer
+    def __init__(self) -> None:
+        self._transport: Optional[asyncio.Transport] = None
+        self._rest = b""
+        self._lines: Deque[bytes] = deque()
+        self._is_paused = False
+        self._fault: Optional[Tuple[Type[RxlineError], str]] = None
+        self._waiter: Optional["asyncio.Future[None]"] = None
 
     @classmethod
     async def open(cls, path: Path, ends: Optional[float]) -> "Wire":
         """Connects. NoServer, TimedOut."""
         peer = socket.socket(socket.AF_UNIX)
         peer.setblocking(False)
+        wire = cls()
         try:
             while not connects(peer, path):
                 if ends is not None and time.monotonic() > ends:
                     raise TimedOut(f"no connection at {path}")
                 await asyncio.sleep(PAUSE)
-            return cls(peer, *await asyncio.open_unix_connection(sock=peer, limit=MAX_LINE))
+            await asyncio.get_running_loop().create_unix_connection(lambda: wire, sock=peer)
         except BaseException:
             peer.close()
             raise
+        return wire
+
+    def connection_made(self, transport: asyncio.BaseTransport) -> None:
+        self._transport = cast(asyncio.Transport, transport)
+
+    def data_received(self, data: bytes) -> None:
+        *lines, self._rest = (self._rest + data).split(b"\n")
+        self._lines.extend(lines)
+        if len(self._rest) > MAX_LINE:
+            self._end(ProtocolError, "a line without an end")
+            self.close()
+        elif len(self._lines) >= MANY_LINES and self._transport is not None:
+            self._transport.pause_reading()
+            self._is_paused = True
+        self._wake()
+
+    def connection_lost(self, fault: Optional[Exception]) -> None:
+        self._end(ConnectionLost, str(fault) if fault is not None else "the connection was ended")
+
+    def _end(self, kind: Type[RxlineError], why: str) -> None:
+        self._fault = self._fault or (kind, why)
+        self._wake()
+
+    def _wake(self) -> None:
+        if self._waiter is not None and not self._waiter.done():
+            self._waiter.set_result(None)
 
     def write(self, lines: bytes) -> None:
         """Has these sent, once what was written before is."""
-        self._writer.write(lines)
+        if self._transport is not None:
+            self._transport.write(lines)
 
     def is_closing(self) -> bool:
         """Whether nothing more can be written."""
-        return self._writer.is_closing()
+        return self._transport is None or self._transport.is_closing()
 
     def is_cut(self) -> bool:
         """Whether it has ended, as far as can be told without waiting, where no answer is to come."""
-        return self._reader.at_eof() or is_readable(self._peer)
+        if self._transport is None or self._fault is not None or self._lines:
+            return True
+        return is_readable(self._transport.get_extra_info("socket"))
 
     async def line(self, ends: Optional[float]) -> bytes:
-        """The next line, without its LF. ConnectionLost; TimedOut, after which it can be asked for again."""
-        try:
-            line = await _until(ends, self._reader.readuntil(b"\n"), "nothing came in time")
-            return line[:-1]
-        except TimedOut:
-            raise
-        except asyncio.IncompleteReadError as fault:
-            raise ConnectionLost("the server ended the connection") from fault
-        except asyncio.LimitOverrunError as fault:
-            raise ProtocolError("a line without an end") from fault
-        except OSError as fault:
-            raise ConnectionLost(str(fault)) from fault
+        """The next line, without its LF. ConnectionLost; TimedOut, after which it can be asked for again. One task at a time."""
+        while not self._lines:
+            if self._fault is not None:
+                kind, why = self._fault
+                raise kind(why)
+            self._waiter = asyncio.get_running_loop().create_future()
+            try:
+                await asyncio.wait_for(self._waiter, None if ends is None else max(0, ends - time.monotonic()))
+            except asyncio.TimeoutError as fault:
+                raise TimedOut("nothing came in time") from fault
+        if self._is_paused and self._transport is not None and len(self._lines) <= MANY_LINES // 2:
+            self._transport.resume_reading()
+            self._is_paused = False
+        return self._lines.popleft()
 
     async def join(self, line: bytes, ends: Optional[float]) -> None:
         """Makes it an observer's, by this `SUB`. Refused, ConnectionLost, TimedOut."""
@@ -76,7 +106,8 @@ class Wire:
 
     def close(self) -> None:
         """Ends it; who awaits a line is told that it is lost."""
-        self._writer.close()
+        if self._transport is not None:
+            self._transport.close()
 
 
 async def epoch_of(path: Path, subject: Optional[str], ends: Optional[float]) -> str:
