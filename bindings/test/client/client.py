@@ -10,6 +10,7 @@
     idle PATH PATIENCE                                    what becomes of connections whose server is killed meanwhile
     many PATH SUBJECT                                     the texts of standard input; which were refused
     shared PATH COUNT                                     four that emit by one client, and one that is closed while it waits
+    slow PATH                                             what is told, but items, once it looks for notes
 A word that is `-` is left out."""
 
 import sys
@@ -166,6 +167,15 @@ def idle(path, patience):
         tell("pinged")
         sys.stdin.readline()
         tell("published", client.publish_many("p", ["a", "b"]))
+
+
+def slow(path):
+    with rxline.connect(path, patience=0) as client, client.subscribe("p", rxline.bounded(9)) as notes:
+        tell("joined")
+        sys.stdin.readline()
+        for note in notes:
+            if not isinstance(note, rxline.Item):
+                tell(*words_of(note))
 
 
 def many(path, subject):

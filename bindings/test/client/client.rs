@@ -170,6 +170,20 @@ fn idle(path: &str, patience: &str) -> Result<(), Error> {
     Ok(())
 }
 
+fn slow(path: &str) -> Result<(), Error> {
+    let client = Client::connect_with(path, Options { patience: Some(Duration::ZERO), ..Options::default() })?;
+    let notes = client.subscribe_with("p", &Subscribe { strategy: Strategy::Bounded(9), ..Subscribe::default() })?;
+    tell(b"joined");
+    io::stdin().read_line(&mut String::new()).unwrap();
+    for note in notes {
+        match note? {
+            Note::Item(_) => {}
+            other => tell(&words_of(other)),
+        }
+    }
+    Ok(())
+}
+
 fn many(path: &str, subject: &str) -> Result<(), Error> {
     let came = input();
     match Client::connect(path)?.publish_many(subject, texts(&came)) {
@@ -211,6 +225,7 @@ fn main() -> Result<(), Error> {
         ["waits", path] => waits(path),
         ["quiet", path] => quiet(path),
         ["idle", path, patience] => idle(path, patience),
+        ["slow", path] => slow(path),
         ["many", path, subject] => many(path, subject),
         ["shared", path, count] => shared(path, count),
         _ => panic!("{words:?}"),

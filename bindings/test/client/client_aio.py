@@ -102,6 +102,15 @@ async def idle(path, patience):
         tell("published", await client.publish_many("p", ["a", "b"]))
 
 
+async def slow(path):
+    async with await aio.connect(path, patience=0) as client, await client.subscribe("p", rxline.bounded(9)) as notes:
+        tell("joined")
+        await asyncio.get_running_loop().run_in_executor(None, sys.stdin.readline)
+        async for note in notes:
+            if not isinstance(note, rxline.Item):
+                tell(*words_of(note))
+
+
 async def many(path, subject):
     async with await aio.connect(path) as client:
         try:
