@@ -60,11 +60,13 @@ impl Client {
         while let Err(fault) = self.exchange(&mut batch, &mut backoff) {
             self.connection = None;
             let may_resend = self.options.resend && self.options.reconnects() && fault.is_of_connection();
-            let Some(pause) = may_resend.then(|| backoff.pause()).flatten() else {
-                batch.stop(fault);
-                break;
-            };
-            thread::sleep(pause);
+            match may_resend.then(|| backoff.pause()).flatten() {
+                Some(pause) => thread::sleep(pause),
+                None => {
+                    batch.stop(fault);
+                    break;
+                }
+            }
             batch.send_again();
         }
         batch.outcome()
@@ -148,7 +150,7 @@ impl Client {
 
     /// The connection, made anew where it is gone, for lines and all their answers.
     fn connected(&mut self) -> Result<&mut Connection, Error> {
-        if self.connection.as_mut().is_some_and(Connection::is_cut) {
+        if self.connection.as_mut().map_or(false, Connection::is_cut) {
             self.connection = None;
         }
         match &mut self.connection {

@@ -109,22 +109,21 @@ impl Connection {
 /// Which server is at this path: the item that the subject for it tells first, where there is one, else when its socket was made: a
 /// server makes it anew each time that it begins.
 fn epoch_of(path: &Path, options: &Options, ends: Ends) -> Result<String, Error> {
-    let Some(subject) = &options.epoch_subject else {
-        let file = fs::metadata(path).map_err(Error::NoServer)?;
-        let began = i128::from(file.mtime()) * 1_000_000_000 + i128::from(file.mtime_nsec());
-        return Ok(format!("{began:x}.{:x}", file.ino()));
-    };
-    let mut connection = Connection::open(path)?;
-    connection.join(&join(subject, &Subscribe::default())?, ends)?;
-    epoch_in(&connection.line(ends)?)
+    if let Some(subject) = &options.epoch_subject {
+        let mut connection = Connection::open(path)?;
+        connection.join(&join(subject, &Subscribe::default())?, ends)?;
+        return epoch_in(&connection.line(ends)?);
+    }
+    let file = fs::metadata(path).map_err(Error::NoServer)?;
+    let began = i128::from(file.mtime()) * 1_000_000_000 + i128::from(file.mtime_nsec());
+    Ok(format!("{began:x}.{:x}", file.ino()))
 }
 
 /// How long may be waited yet.
 fn left(ends: Ends) -> Result<Option<Duration>, Error> {
-    let Some(ends) = ends else { return Ok(None) };
-    match ends.checked_duration_since(Instant::now()) {
-        Some(left) if !left.is_zero() => Ok(Some(left)),
-        _ => Err(Error::TimedOut),
+    match ends.map(|ends| ends.saturating_duration_since(Instant::now())) {
+        Some(Duration::ZERO) => Err(Error::TimedOut),
+        left => Ok(left),
     }
 }
 

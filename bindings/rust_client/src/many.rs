@@ -67,9 +67,13 @@ impl<I: Iterator<Item = Result<Vec<u8>, Error>>> Batch<I> {
             return sent;
         }
         while self.unanswered.len() < self.window {
-            let Some(line) = self.next_line() else { break };
-            sent.extend_from_slice(&line);
-            self.unanswered.push_back(line);
+            match self.next_line() {
+                Some(line) => {
+                    sent.extend_from_slice(&line);
+                    self.unanswered.push_back(line);
+                }
+                None => break,
+            }
         }
         self.sent = self.sent.max(self.answered + self.unanswered.len());
         sent

@@ -97,18 +97,13 @@ impl Subscription {
     /// Waits before the next try; the fault, where there is to be none.
     fn wait(&mut self, fault: Error, ends: Ends) -> Result<(), Error> {
         let may_come_again = self.options.reconnects() && fault.may_pass();
-        let Some(pause) = may_come_again.then(|| self.backoff.pause()).flatten() else { return Err(fault) };
-        let left = ends.map(|ends| ends.saturating_duration_since(Instant::now()));
-        match left {
-            Some(left) if left < pause => {
-                thread::sleep(left);
-                Err(Error::TimedOut)
-            }
-            _ => {
-                thread::sleep(pause);
-                Ok(())
-            }
+        let pause = may_come_again.then(|| self.backoff.pause()).flatten().ok_or(fault)?;
+        let left = ends.map_or(pause, |ends| ends.saturating_duration_since(Instant::now()));
+        thread::sleep(pause.min(left));
+        if left < pause {
+            return Err(Error::TimedOut);
         }
+        Ok(())
     }
 }
 
