@@ -111,10 +111,14 @@ class Client:
     async def _linked(self) -> Link:
         """The connection, made anew where it is gone, by one task for all."""
         async with self._linking:
-            if self._is_closed:
-                raise Closed("the client was closed")
-            if self._link is None or self._link.is_lost:
+            if self._link is not None and self._link.is_lost:
+                self._link.close()
+                self._link = None
+            if self._link is None and not self._is_closed:
                 self._link = await Link.open(self._path, self._timeout)
+            if self._link is None or self._is_closed:
+                await self.close()
+                raise Closed("the client was closed")
             return self._link
 
     async def close(self) -> None:
