@@ -12,8 +12,8 @@ A subject passes each note from its producers to its observers, in order and onc
 and by its strategy what becomes of those that it did not ask for yet. A call that is refused raises `Refused`, and leaves the
 subject as it was. Threads may share a subject: no two calls of the library overlap, since each keeps Python's global lock.
 
-The library is the file that the variable HAZOXE names, else libhazoxe.so beside this file. This module is not proved: it hands
-on what it is told.
+The library is the file that the variable HAZOXE names, else libhazoxe.so beside this file, where `./install` and pip put it, else
+what the system knows as libhazoxe.so.0. This module is not proved: it hands on what it is told.
 """
 
 import ctypes
@@ -168,18 +168,16 @@ class _Counts(ctypes.Structure):
 _SEEDED = 2  # the library's number of Behavior with a seed
 
 _HOW_TO_BUILD = """
-In the repository it is built by
-    (cd crates/hazoxe_c && rt lib)
-    cc -shared -fPIC -o bindings/python/libhazoxe.so -Wl,--whole-archive crates/hazoxe_c/out/libhazoxe_c.a \\
-        -Wl,--no-whole-archive bindings/c/hazoxe_heap.c
-and another place for it is told by the variable HAZOXE."""
+In the repository `./install PREFIX` builds it, and puts it beside this module in PREFIX/share/hazoxe/python. Another place for it
+is told by the variable HAZOXE."""
 
 
 def _load() -> ctypes.PyDLL:
     """The library, by calls that keep the global lock: so no two of them overlap."""
     if not getattr(sys, "_is_gil_enabled", lambda: True)():
         raise ImportError("hazoxe: rests on Python's global lock, which this one runs without (PYTHON_GIL=1 brings it back)")
-    path = os.environ.get("HAZOXE") or os.path.join(os.path.dirname(os.path.abspath(__file__)), "libhazoxe.so")
+    beside = os.path.join(os.path.dirname(os.path.abspath(__file__)), "libhazoxe.so")
+    path = os.environ.get("HAZOXE") or (beside if os.path.exists(beside) else "libhazoxe.so.0")
     try:
         return ctypes.PyDLL(path)
     except OSError as fault:

@@ -1,13 +1,17 @@
-// Says where the proved library is: in the folder that HAZOXE_LIB names, else where `rt lib` leaves it in this repository; and how it
-// is built, where it is not there.
+// Says where the proved library is: in the folder that HAZOXE_LIB names, else where `rt lib` leaves it in this repository, or where
+// `./install` puts it beside this crate; and how it is built, where it is not there.
 use std::env;
 use std::path::PathBuf;
 
+const LIBRARY: &str = "libhazoxe_c.a";
+
 fn main() {
-    let built = PathBuf::from(env::var("CARGO_MANIFEST_DIR").unwrap()).join("../../crates/hazoxe_c/out");
-    let folder = env::var_os("HAZOXE_LIB").map_or(built, PathBuf::from);
+    let here = PathBuf::from(env::var("CARGO_MANIFEST_DIR").unwrap());
+    let (built, installed) = (here.join("../../crates/hazoxe_c/out"), here.join("../../../../lib"));
+    let found = if installed.join(LIBRARY).exists() { installed } else { built };
+    let folder = env::var_os("HAZOXE_LIB").map_or(found, PathBuf::from);
     println!("cargo:rerun-if-env-changed=HAZOXE_LIB");
-    let library = folder.join("libhazoxe_c.a");
+    let library = folder.join(LIBRARY);
     println!("cargo:rerun-if-changed={}", library.display());
     if !library.exists() {
         println!("cargo:warning={} is not there: `rt lib` in crates/hazoxe_c builds it,", library.display());
