@@ -1,6 +1,8 @@
 //! The desk of a session over the desk of a server: each of its calls reaches the subject. And a worker on this one thread, which
 //! serves what came to its box.
 
+ghost use Rattle.std.specs.Prelude.{◌≡◌, ◌+◌, length, vec_len};
+
 use crate::expecting::{expect_count, expect_that, expect_told};
 use crate::servers::{Host, config_of, copy, started};
 use crate::turns::{Everyone, Still};
