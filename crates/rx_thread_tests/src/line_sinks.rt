@@ -230,8 +230,18 @@ fn a_line_sink_tells_what_waits(rt: HostRuntime) {
 
 #[test]
 fn line_sink_is_flushed(rt: HostRuntime) {
-    for (is_torn, wanted) in [(false, "1-"), (true, "1!")] {
-        let mut sink = LineSink::new(Page::new(is_torn), Version::One);
+    for (gathers, is_torn, wanted) in [
+        (false, false, "1-"),
+        (false, true, "1!"),
+        (true, false, "1-"),
+        (true, true, "1!"),
+    ] {
+        let page = Page::new(is_torn);
+        let mut sink = if gathers {
+            LineSink::gathering(page, Version::One)
+        } else {
+            LineSink::new(page, Version::One)
+        };
         let sign = if sink.flush().is_ok() { b'-' } else { b'!' };
         let mut told = Told::new();
         told.put_digit(sink.into_writer().flushes);
