@@ -1,5 +1,5 @@
 -- The reply with the ticket of a call is the reply to that call.
-use Rattle.std.proofs.Common.{◌≡◌, ◌∙◌, sym, refl, ap, subst, ℕ, ◌<◌, ◌==◌, ◌⊎◌, List, [], ◌∷◌, ◌++◌, append-nil, length, length-append, map, get_or, Option, Some, Ok, Err, slice_get, inl, inr, arith}
+use Rattle.std.proofs.Common.{◌≡◌, ◌∙◌, sym, refl, ap, subst, ℕ, ◌+◌, ◌<◌, ◌==◌, ◌⊎◌, List, [], ◌∷◌, ◌++◌, append-nil, length, length-append, map, get_or, Option, None, Some, Ok, Err, false, slice_get, inl, inr, arith}
 use Rattle.std.specs.List.{All, Contains}
 use Rattle.std.specs.Option.{option_map}
 use Rattle.std.proofs.Math.Seq.{get_or-append_seam}
@@ -19,8 +19,8 @@ use Rattle.rx_mailbox.specs.Boxes.{Outgoing, Incoming, with_letter, with_more}
 use Rattle.rx_pump.specs.declared.call.Call.{Call}
 use Rattle.rx_pump.specs.declared.reply.Reply.{Reply}
 use Rattle.rx_pump.specs.Marks.{Marked, NoLetters, Made, Refused, Ended, letters_of, history_of, replies, reply_to, to_port}
-use Rattle.rx_pump.specs.Desks.{DeskView, Called, next_call, ticket_in, tickets_in, Rise}
-use Rattle.rx_pump.specs.Replying.{IsReplyTo, Meets}
+use Rattle.rx_pump.specs.Desks.{DeskView, Awaits, Called, IsPosted, next_call, ticket_in, tickets_in, Rise}
+use Rattle.rx_pump.specs.Replying.{IsReplyTo, Meets, PutsMore}
 use Rattle.rx_pump.proofs.Pumping.{option_map_some}
 use Rattle.rx_pump.proofs.Replied.{tickets_in-append, each_call_is_replied}
 
@@ -248,3 +248,24 @@ module _ {S : Type 0} where
       (Contains-append_left port.own meets.later (letter port.number (Body call)) (call_put before after subject call port (called.0.put.at subject) meets.at)) in
       let replied : Contains (replies rules port.number B) reply = reply_came before.inbox after.inbox subject reply (replies rules port.number B) meets.more called.1 meets.came in
       each_reply_is_to_its_call rules port.number B call reply meets.rise stands replied called.2
+
+  -- what a desk is answered to a call that it posted is the reply to just that call
+  pub each_post_has_its_answer : (rules : Rules) (B : Marked S) (before posted waiting after : DeskView S) (subject : ℕ) (event : Event) (reply : Reply S) (port : Outgoing (Call S))
+      → IsPosted before posted subject event → PutsMore subject posted after → waiting.is_over ≡ false → Awaits waiting after subject (before.tickets + 1) (Ok reply)
+      → Meets rules B subject after port → IsReplyTo rules port.number B (next_call before event None) reply
+  each_post_has_its_answer rules B before posted waiting after subject event reply port put puts_more goes awaits meets =
+      let call = next_call before event None in
+      let same : puts_more.port_after ≡ port = let both = sym puts_more.at_after ∙ meets.at in cc in
+      let number : puts_more.port.number ≡ port.number = sym puts_more.number ∙ ap (λ (p : Outgoing (Call S)). p.number) same in
+      let own : puts_more.port.own ++ puts_more.more ≡ port.own = sym puts_more.own ∙ ap (λ (p : Outgoing (Call S)). p.own) same in
+      let first : Contains puts_more.port.own (letter port.number (Body call)) =
+      subst (λ (n : ℕ). Contains puts_more.port.own (letter n (Body call))) number
+      (call_put before posted subject call puts_more.port (put.sent.put.at subject) puts_more.at) in
+      let still : Contains port.own (letter port.number (Body call)) =
+      subst (λ (l : List (Letter (Call S))). Contains l (letter port.number (Body call))) own (Contains-append_left puts_more.port.own puts_more.more (letter port.number (Body call)) first) in
+      let stands : Contains (share port.number (letters_of B)) (letter port.number (Body call)) =
+      subst (λ (l : List (Letter (Call S))). Contains l (letter port.number (Body call))) (sym meets.calls)
+      (Contains-append_left port.own meets.later (letter port.number (Body call)) still) in
+      let received = (awaits.receives goes).0 in
+      let replied : Contains (replies rules port.number B) reply = reply_came waiting.inbox after.inbox subject reply (replies rules port.number B) meets.more received.0 meets.came in
+      each_reply_is_to_its_call rules port.number B call reply meets.rise stands replied received.1

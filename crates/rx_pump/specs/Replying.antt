@@ -1,5 +1,5 @@
 -- How the replies to a port go with its calls, for all marked letters (this project's own rule).
-use Rattle.std.specs.Prelude.{◌≡◌, ◌⊎◌, ℕ, List, [], ◌∷◌, ◌++◌, map, Option, Some, Ok, Err, slice_get}
+use Rattle.std.specs.Prelude.{◌≡◌, ◌⊎◌, ◌+◌, ℕ, false, List, [], ◌∷◌, ◌++◌, map, Option, None, Some, Ok, Err, slice_get}
 use Rattle.std.specs.List.{Contains}
 use Rattle.rx_note.specs.declared.event.Event.{Event}
 use Rattle.rx_note.specs.declared.refusal.Refusal.TheVariants.{Memory}
@@ -12,7 +12,7 @@ use Rattle.rx_mailbox.specs.Boxes.{Outgoing}
 use Rattle.rx_pump.specs.declared.call.Call.{Call}
 use Rattle.rx_pump.specs.declared.reply.Reply.{Reply}
 use Rattle.rx_pump.specs.Marks.{Marked, NoLetters, Made, Refused, Ended, letters_of, history_of, replies, reply_to}
-use Rattle.rx_pump.specs.Desks.{DeskView, Called, next_call, tickets_in, Rise}
+use Rattle.rx_pump.specs.Desks.{DeskView, Awaits, Called, IsPosted, next_call, tickets_in, Rise}
 
 -- the replies to a port have the tickets of its calls, in their order: each call is replied to once
 abbrev pub EachCallIsReplied : Type 0 → Type 0
@@ -53,3 +53,22 @@ abbrev pub EachCallHasItsAnswer : Type 0 → Type 0
 EachCallHasItsAnswer S =
     (rules : Rules) (B : Marked S) (before after : DeskView S) (subject : ℕ) (event : Event) (sink : Option S) (reply : Reply S) (port : Outgoing (Call S))
     → Called before after subject event sink (Ok reply) → Meets rules B subject after port → IsReplyTo rules port.number B (next_call before event sink) reply
+
+module _ {S : Type 0} where
+  -- between two moments of a desk its port to a subject only put more
+  pub record PutsMore (subject : ℕ) (before after : DeskView S) : Type 0 where
+    pub port : Outgoing (Call S)
+    pub port_after : Outgoing (Call S)
+    pub at : slice_get before.ports subject ≡ Some port
+    pub at_after : slice_get after.ports subject ≡ Some port_after
+    pub number : port_after.number ≡ port.number
+    pub more : List (Letter (Call S))
+    pub own : port_after.own ≡ port.own ++ more
+
+-- what a desk is answered to a call that it posted, however much later and behind whatever else it put meanwhile, is the reply to just
+-- that call, where the desk met the subject's pump
+abbrev pub EachPostHasItsAnswer : Type 0 → Type 0
+EachPostHasItsAnswer S =
+    (rules : Rules) (B : Marked S) (before posted waiting after : DeskView S) (subject : ℕ) (event : Event) (reply : Reply S) (port : Outgoing (Call S))
+    → IsPosted before posted subject event → PutsMore subject posted after → waiting.is_over ≡ false → Awaits waiting after subject (before.tickets + 1) (Ok reply)
+    → Meets rules B subject after port → IsReplyTo rules port.number B (next_call before event None) reply

@@ -1,6 +1,6 @@
 //! Laws of marked letters: the functions do nothing, and their contracts are the laws.
 
-ghost use Rattle.rx_pump.specs.Replying.{EachCallHasItsAnswer, EachCallIsReplied, EachReplyIsToItsCall};
+ghost use Rattle.rx_pump.specs.Replying.{EachCallHasItsAnswer, EachCallIsReplied, EachPostHasItsAnswer, EachReplyIsToItsCall};
 
 /// Each call of a port has one reply, at its place: the replies to a port have the tickets of its calls, in their order.
 /// So where the boxes have settled, a caller whose tickets differ got the answer to each of its calls once.
@@ -18,4 +18,9 @@ pub fn each_reply_is_to_its_call<S: Drop>()
 /// desk the first of what the pump replied to it.
 pub fn each_call_has_its_answer<S: Drop>()
     ensures { EachCallHasItsAnswer S }
+{}
+
+/// The same of a call that a desk posted, and whose answer it waited for later, whatever it put and was answered in between.
+pub fn each_post_has_its_answer<S: Drop>()
+    ensures { EachPostHasItsAnswer S }
 {}
