@@ -1,9 +1,10 @@
 -- What arrived of a server's letters once it is closed.
-use Rattle.std.proofs.Common.{◌≡◌, ◌∙◌, sym, ap, subst, ℕ, zero, suc, List, [], ◌∷◌, ◌++◌, length, Some, slice_get}
-use Rattle.std.proofs.lemmas.List.Elements.{All-head, All-tail}
+use Rattle.std.proofs.Common.{◌≡◌, ◌∙◌, sym, ap, subst, ℕ, zero, suc, ◌==◌, List, [], ◌∷◌, ◌++◌, length, Some, slice_get}
+use Rattle.std.proofs.lemmas.List.Elements.{All-contains, All-head, All-tail, filter-append}
 use Rattle.std.specs.List.{All, AllZip, zip}
 use Rattle.rx_mailbox.specs.declared.letter.Post.TheVariants.{Bye}
-use Rattle.rx_mailbox.specs.Boxes.{Outgoing}
+use Rattle.rx_mailbox.specs.declared.letter.Letter.{Letter}
+use Rattle.rx_mailbox.specs.Boxes.{Incoming, Outgoing}
 use Rattle.rx_mailbox.specs.Letters.{letter, posts, share}
 use Rattle.rx_mailbox.specs.Passes.{SettledView, inbox_in}
 use Rattle.rx_mailbox.specs.Settling.{GotAll}
@@ -15,10 +16,11 @@ use Rattle.rx_pump.specs.declared.reply.Reply.{Reply}
 use Rattle.rx_pump.specs.Marks.{Marked, route}
 use Rattle.rx_pump.specs.Pumps.{PumpView}
 use Rattle.rx_pump.specs.Serving.{PumpServes}
+use Rattle.rx_drain.specs.declared.drain_end.DrainEnd.{DrainEnd}
 use Rattle.rx_sink.specs.Acts.{Acts}
-use Rattle.rx_server.specs.Arriving.{EachLetterArrives}
+use Rattle.rx_server.specs.Arriving.{EachDeskIsAnswered, EachLetterArrives, EachRequestArrives}
 use Rattle.rx_server.specs.declared.report.Report.{Report}
-use Rattle.rx_server.specs.Servers.{Closes, GotEach, ServerView}
+use Rattle.rx_server.specs.Servers.{AreRepliesOf, Closes, GotEach, ServerView}
 
 -- what holds of each pair holds of the one at a place
 pub zip-at : {A B : Type 0} (R : A → B → Type 0) (xs : List A) (ys : List B) (i : ℕ) (x : A) (y : B) → AllZip R xs ys → slice_get xs i ≡ Some x → slice_get ys i ≡ Some y → R x y
@@ -67,3 +69,29 @@ arrives {S = S} acts server ended report closes i pump end B box at_pump at_end 
           zip-at (λ (box : SettledView (Reply S)) (port : Outgoing (Reply S)). GotAll (inbox_in box) port) report.boxes.replies.items end.replies.items w answers port answers_got at_answers at_port
           ∙ serves.replied w port at_port;
     }
+
+pub answered : {S Rest : Type 0} (acts : Acts S Rest) → EachDeskIsAnswered acts
+answered {S = S} acts server ended report closes i pump end B box at_pump at_end at_marks at_box desk port back within at_port at_back =
+    let settled = closes.settled in
+    let desks = ended ++ (server.kept ++ closes.finished) in
+    let arrived = arrives acts server ended report closes i pump end B box at_pump at_end at_marks at_box in
+    let got = All-contains (λ (one : EndedDesk S). GotEach report.boxes.subjects.items one.ports.items) desks desk settled.by_desks within in
+    let mine = zip-at (λ (box : SettledView (Call S)) (port : Outgoing (Call S)). GotAll (inbox_in box) port) report.boxes.subjects.items desk.ports.items i box port got at_box at_port in
+    let told = All-contains (AreRepliesOf report.boxes.replies.items) desks desk settled.of_desks within in
+    let number : port.number ≡ told.number = all-at (λ (one : Outgoing (Call S)). one.number ≡ told.number) desk.ports.items i port told.ports at_port in
+    let stood : slice_get report.boxes.replies.items port.number ≡ Some told.box = ap (slice_get report.boxes.replies.items) number ∙ told.stood in
+    record {
+      calls = ap (share port.number) arrived.letters ∙ mine;
+      more = share back.number told.received.more;
+      came =
+          sym (filter-append (λ (x : Letter (Reply S)). x.from == back.number) desk.inbox.received told.received.more)
+          ∙ ap (λ (inbox : Incoming (Reply S)). share back.number inbox.received) (sym told.received.received)
+          ∙ arrived.replied port.number back told.box at_back stood;
+    }
+
+pub requested : {S Rest : Type 0} (acts : Acts S Rest) → EachRequestArrives acts
+requested {S = S} {Rest = Rest} acts server ended report closes i pump end B box at_pump at_end at_marks at_box drainer port within at_port =
+    let arrived = arrives acts server ended report closes i pump end B box at_pump at_end at_marks at_box in
+    let got = All-contains (λ (one : DrainEnd S Rest). GotEach report.boxes.subjects.items one.ports.items) closes.drain_ends drainer closes.settled.by_drainers within in
+    ap (share port.number) arrived.letters
+    ∙ zip-at (λ (box : SettledView (Call S)) (port : Outgoing (Call S)). GotAll (inbox_in box) port) report.boxes.subjects.items drainer.ports.items i box port got at_box at_port

@@ -1,5 +1,8 @@
 -- What arrived of a server's letters once it is closed (this project's own rule).
 use Rattle.std.specs.Prelude.{◌≡◌, ℕ, List, [], ◌∷◌, ◌++◌, length, Some, slice_get}
+use Rattle.std.specs.List.{Contains}
+use Rattle.rx_drain.specs.declared.drain_end.DrainEnd.{DrainEnd}
+use Rattle.rx_mailbox.specs.declared.letter.Letter.{Letter}
 use Rattle.rx_mailbox.specs.declared.letter.Post.TheVariants.{Bye}
 use Rattle.rx_mailbox.specs.Boxes.{Outgoing}
 use Rattle.rx_mailbox.specs.Letters.{letter, share, posts}
@@ -35,3 +38,30 @@ module _ {S Rest : Type 0} (acts : Acts S Rest) where
       → (i : ℕ) (pump : PumpView S) (end : PumpEnd S) (B : Marked S) (box : SettledView (Call S))
       → slice_get server.pumps i ≡ Some pump → slice_get closes.pump_ends i ≡ Some end → slice_get closes.marks i ≡ Some B → slice_get report.boxes.subjects.items i ≡ Some box
       → HasArrived pump end B box report.boxes.drainers.items report.boxes.replies.items
+
+module _ {S : Type 0} where
+  -- a desk and a subject met by the desk's port and the pump's port back: what the subject received of the desk is all that the desk
+  -- put, and what the desk received of the subject is the first of the replies to its port, and of the Bye behind them
+  pub record IsAnswered (pump : PumpView S) (B : Marked S) (port : Outgoing (Call S)) (back : Outgoing (Reply S)) (desk : EndedDesk S) : Type 0 where
+    pub calls : share port.number (letters_of B) ≡ port.own
+    pub more : List (Letter (Reply S))
+    pub came : share back.number desk.inbox.received ++ more ≡ posts back.number (replies pump.hub.state.rules port.number B) ++ letter back.number Bye ∷ []
+
+module _ {S Rest : Type 0} (acts : Acts S Rest) where
+  -- of a server that was closed each desk and each subject met so
+  abbrev pub EachDeskIsAnswered : Type 0
+  EachDeskIsAnswered =
+      (server : ServerView S Rest) (ended : List (EndedDesk S)) (report : Report S Rest) (closes : Closes acts server ended report)
+      → (i : ℕ) (pump : PumpView S) (end : PumpEnd S) (B : Marked S) (box : SettledView (Call S))
+      → slice_get server.pumps i ≡ Some pump → slice_get closes.pump_ends i ≡ Some end → slice_get closes.marks i ≡ Some B → slice_get report.boxes.subjects.items i ≡ Some box
+      → (desk : EndedDesk S) (port : Outgoing (Call S)) (back : Outgoing (Reply S)) → Contains (ended ++ (server.kept ++ closes.finished)) desk
+      → slice_get desk.ports.items i ≡ Some port → slice_get end.replies.items port.number ≡ Some back → IsAnswered pump B port back desk
+
+  -- and what each subject received of a drainer is all that the drainer put
+  abbrev pub EachRequestArrives : Type 0
+  EachRequestArrives =
+      (server : ServerView S Rest) (ended : List (EndedDesk S)) (report : Report S Rest) (closes : Closes acts server ended report)
+      → (i : ℕ) (pump : PumpView S) (end : PumpEnd S) (B : Marked S) (box : SettledView (Call S))
+      → slice_get server.pumps i ≡ Some pump → slice_get closes.pump_ends i ≡ Some end → slice_get closes.marks i ≡ Some B → slice_get report.boxes.subjects.items i ≡ Some box
+      → (drainer : DrainEnd S Rest) (port : Outgoing (Call S)) → Contains closes.drain_ends drainer → slice_get drainer.ports.items i ≡ Some port
+      → share port.number (letters_of B) ≡ port.own
