@@ -28,6 +28,7 @@ mod pump_end;
 mod pump_fault;
 mod pump_parts;
 mod pump_stop;
+mod receiving;
 mod reply;
 mod ringing;
 mod rooms;

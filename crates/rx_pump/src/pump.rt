@@ -1,5 +1,5 @@
-ghost use Rattle.std.specs.Prelude.{◌≡◌, ◌+◌, ◌<◌, ◌≤◌, [], vec_len, vec_capacity, if◌then◌else◌, Some, None, Err, MatchResult, OnOk, IfOk, IfSome};
-ghost use Rattle.rx_mailbox.specs.Boxes.{all_told, with_letter, HasBye};
+ghost use Rattle.std.specs.Prelude.{◌≡◌, ◌+◌, ◌<◌, ◌≤◌, [], vec_len, vec_capacity, if◌then◌else◌, Some, None, Err, MatchResult, OnOk, IfSome};
+ghost use Rattle.rx_mailbox.specs.Boxes.{all_told};
 ghost use Rattle.rx_pump.specs.Pumps.{AreFresh, counted};
 
 use crate::call::Call;
@@ -11,28 +11,20 @@ use crate::pump_end::PumpEnd;
 use crate::pump_fault::PumpFault;
 use crate::pump_parts::PumpParts;
 use crate::pump_stop::PumpStop;
+use crate::receiving::{is_drained, receive};
 use crate::reply::Reply;
 use crate::ringing::{ring_all, try_ring_all, try_ring_at};
 use crate::rooms::room;
-use crate::sending::Drainers;
 use rx_heap::{Heap, Memory};
-use rx_hub::{Hub, NoObserver};
-use rx_mailbox::{EndedPort, Gone, Inbox, Letter, Port, Post, TryRecvFault};
+use rx_hub::Hub;
+use rx_mailbox::{EndedPort, Inbox, Letter, Port, Post};
 use rx_note::Given;
 use std::marker::Model;
 use std::sync::Wait;
-use std::time::Duration;
 
 // After so many letters what is held back goes at the latest, however many more stand in the box: so who sends without a rest
 // keeps no observer waiting. A drainer's window is 16 at most, so what it has from so many letters keeps it busy meanwhile.
 const MOST_QUIET: u32 = 64;
-
-// So many observers at most are looked for, from the latest on.
-const MOST_SEARCHED: u32 = 4096;
-
-// How long a letter is waited for while replies are held back for which their box has no room, in milliseconds: their caller
-// may take some and wait for the others.
-const MOST_WAIT: u64 = 4;
 
 /// The owner of a subject's hub: it takes the calls one by one, and sends what comes of them. It stores no letter.
 pub struct Pump<S: Drop> {
@@ -428,73 +420,6 @@ impl<S: Drop> Pump<S> {
     {
         self.refused
     }
-}
-
-// Takes the letter that comes next, and waits while there is none. Before it waits, what is held back goes out.
-fn receive<S: Drop, R: Wait>(
-    rt: &R,
-    inbox: &mut Inbox<Call<S>>,
-    drainers: &mut Drainers<S>,
-    replies: &mut Vec<Port<Reply<S>>, Heap>,
-) -> Result<Letter<Call<S>>, Gone>
-    ensures received { MatchResult result (λ letter. inbox.new ≡ with_letter inbox.old letter) (λ _. inbox.new ≡ inbox.old) }
-    ensures before_bye { IfOk result (λ letter. ¬ HasBye inbox.old letter.from) }
-    ensures drainers { all_told drainers.new.items ≡ all_told drainers.old.items }
-    ensures replies { all_told replies.new.items ≡ all_told replies.old.items }
-{
-    if let Ok(letter) = inbox.try_recv(rt) {
-        return Ok(letter);
-    }
-    ring_all(rt, drainers);
-    if try_ring_all(rt, replies) {
-        return receive_beside(rt, inbox, replies);
-    }
-    inbox.recv(rt)
-}
-
-// The same while replies are held back for which their box has no room: it looks for room now and then.
-#[inline(never)] // a caller who takes no replies is rare
-fn receive_beside<S: Drop, R: Wait>(
-    rt: &R,
-    inbox: &mut Inbox<Call<S>>,
-    replies: &mut Vec<Port<Reply<S>>, Heap>,
-) -> Result<Letter<Call<S>>, Gone>
-    ensures received { MatchResult result (λ letter. inbox.new ≡ with_letter inbox.old letter) (λ _. inbox.new ≡ inbox.old) }
-    ensures before_bye { IfOk result (λ letter. ¬ HasBye inbox.old letter.from) }
-    ensures replies { all_told replies.new.items ≡ all_told replies.old.items }
-{
-    for _ in rt.forever() {
-        match inbox.recv_within(rt, Duration::from_millis(MOST_WAIT)) {
-            Ok(letter) => return Ok(letter),
-            Err(TryRecvFault::Gone) => return Err(Gone),
-            Err(TryRecvFault::Empty) => {}
-        }
-        if !try_ring_all(rt, replies) {
-            return inbox.recv(rt);
-        }
-    }
-    unreachable!()
-}
-
-// Whether nothing waits for any observer, as far as it sees without a long search: of observers that are older than many others it
-// knows nothing, and says no.
-fn is_drained(hub: &Hub) -> bool {
-    let mut left = hub.observers();
-    let joins = hub.joins();
-    for back in 1..=MOST_SEARCHED {
-        if left == 0 {
-            return true;
-        }
-        if back > joins {
-            return false;
-        }
-        match hub.waiting_of(joins - back) {
-            Ok(0) => left -= 1,
-            Ok(_) => return false,
-            Err(NoObserver) => {}
-        }
-    }
-    false
 }
 
 // The count with one more, if it counts.

@@ -1,6 +1,6 @@
 use Rattle.std.proofs.Common.{◌≡◌}
 use Rattle.rx_mailbox.specs.Boxes.{all_told}
-use Rattle.rx_pump.proofs.pump.receive_beside.Given as goal
+use Rattle.rx_pump.proofs.receiving.receive_beside.Given as goal
 
 -- no letter was taken yet, and the ports are as they were
 abbrev pub invariant-loop : goal.invariant-loop
