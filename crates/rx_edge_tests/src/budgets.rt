@@ -94,7 +94,7 @@ fn talk(rt: &impl Host, paths: &Paths) -> bool {
 }
 
 // What is told of the server, whose first subject refused some: how many is told of the hub alone, and not of texts.
-fn expect_bounded(rt: &(impl Host + Abort), paths: &Paths, told: &[u8]) -> io::Result<()> {
+fn expect_bounded(rt: &(impl Host + Abort), paths: &Paths, told: &[u8]) -> Result<(), Fail> {
     let front = b"0 s joins 1 refused ".as_slice();
     let end = b"\nt joins 0 refused 0\n|rxline: listening on rxline-bounded.sock\n".as_slice();
     expect_that(rt, told.starts_with(front), "the first subject");
@@ -105,17 +105,15 @@ fn expect_bounded(rt: &(impl Host + Abort), paths: &Paths, told: &[u8]) -> io::R
 }
 
 #[test]
-fn a_budget_bounds_what_waits(rt: HostRuntime) {
-    let written = write_config(&rt, &BOUNDED, TWO);
-    expect_that(&rt, written.is_ok(), "the configuration");
+fn a_budget_bounds_what_waits(rt: HostRuntime) -> Result<(), Fail> {
+    write_config(&rt, &BOUNDED, TWO)?;
     let (told, right) = join(
         &rt,
         || -> Vec<u8> { serve(&rt, &BOUNDED) },
         || -> bool { talk(&rt, &BOUNDED) },
     );
     expect_that(&rt, right, "the peers");
-    let gone = expect_bounded(&rt, &BOUNDED, told.as_slice());
-    expect_that(&rt, gone.is_ok(), "its files");
+    expect_bounded(&rt, &BOUNDED, told.as_slice())
 }
 
 // What is told where no server is started.

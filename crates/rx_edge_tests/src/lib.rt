@@ -27,8 +27,6 @@ mod rough_peers;
 #[cfg(test)]
 mod servers;
 #[cfg(test)]
-mod session_desks;
-#[cfg(test)]
 mod slow_peers;
 #[cfg(test)]
 mod sockets;

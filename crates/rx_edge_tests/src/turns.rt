@@ -30,7 +30,7 @@ const SENT: [&[u8]; 3] = [
 // What all are answered, each behind the one before.
 const ANSWERED: &str = "OK\nERR SYNTAX\nOK\n|ERR SUBJECT\nOK\n|OK\nOK\nERR VERSION\nOK\n|";
 
-// The same where one is given up, or all are, or none.
+// The same where one is given up, or all are, or none: without the list of what a desk began its items go one by one.
 const GIVEN_UP: [&[u8]; 6] = [
     b"OK\nERR SYNTAX\nOK\n|ERR SUBJECT\nOK\n|OK\nOK\nERR VERSION\nOK\n|",
     b"|ERR SUBJECT\nOK\n|OK\nOK\nERR VERSION\nOK\n|",
