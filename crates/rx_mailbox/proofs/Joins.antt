@@ -53,7 +53,7 @@ module _ {B : Type 0} where
       (cases_eq port.number number)
 
   -- where one port has a number, it is one of them
-  found : (ports : List (Outgoing B)) (number : ℕ) → count_by (λ port. port.number == number) ports ≡ 1 → (port : Outgoing B) × Contains ports port × (port.number ≡ number)
+  pub found : (ports : List (Outgoing B)) (number : ℕ) → count_by (λ port. port.number == number) ports ≡ 1 → (port : Outgoing B) × Contains ports port × (port.number ≡ number)
   found ports number one = ⊎_elim
       (λ t. t)
       (λ none.

@@ -6,3 +6,4 @@ pub mod Steps
 pub mod Tally
 pub mod NewPorts
 pub mod Joins
+pub mod Rests

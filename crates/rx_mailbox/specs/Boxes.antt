@@ -1,5 +1,14 @@
 -- What contracts see of a box: of a port its number and its own list, of an inbox its received list (this project's own
 -- rule).
+--
+-- Mailbox calls: `open` answers `BadSize` exactly where the capacity isn't 1 to 65,536 or the senders aren't 1 to 256, else
+-- `Memory`; an opened box has just as many slots as were asked for. `send` puts one letter at the back of the port's own list
+-- and leaves nothing held back, or hands the body back and changes no list; `finish` does the same with Bye, or hands the
+-- port back. `send_quietly` and `hold` put one letter at the back of the list and may hold it back; `hold_back` holds it back
+-- behind just those that were, or hands it back and changes nothing. `ring` and `try_ring` change no list, and answer just
+-- whether something is held back. `recv` moves the front letter to the received list; it comes from a port of the box whose
+-- Bye had not come; an error changes nothing. `try_recv` does the same and doesn't wait, `recv_within` for a bounded time:
+-- their error says whether a letter may still come.
 use Rattle.std.specs.Prelude.{◌≡◌, ◌<◌, ◌+◌, ℕ, true, List, [], ◌∷◌, ◌++◌, map}
 use Rattle.std.specs.List.{All}
 use Rattle.atomic_table.specs.Seated.{TableId}

@@ -7,3 +7,4 @@ pub mod Rule
 pub mod Steps
 pub mod Hands
 pub mod Passes
+pub mod Rests

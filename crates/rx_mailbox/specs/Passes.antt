@@ -1,4 +1,7 @@
 -- How a port, an inbox and a settled box are kept: by the view of a pass of the box's channel.
+--
+-- That a settled box is empty can't name what the channel holds. It is said by what the inbox's pass knows once each port's
+-- pass was joined into it: wherever the rule of the box holds and a pass knows this, the queue is empty.
 use Rattle.std.specs.Prelude.{◌≡◌, ◌<◌, ℕ, Bool, false, List, [], ◌∷◌, ◌++◌, length, slice_index_or}
 use Rattle.std.specs.List.{Contains}
 use mathlib.Core.Option.{some}

@@ -1,5 +1,11 @@
 -- The rule of a box, which its channel keeps at every moment (this project's own rule).
 -- Each port and the inbox have a pass of the channel, by number, and the pass has a view: what its owner knows.
+--
+-- At every moment, what was taken off a box's channel and then what stands in its queue are all that was ever put there. So
+-- for each port whose pass isn't spent, what was taken of that port followed by what stands in the queue of it is all that it
+-- put. A port puts at most one Bye, and nothing after it. (each atomic step keeps it.) What is put at once carries one letter
+-- or several, in their order: a port's own list is what it put and then what it holds back, of which it tells how many there
+-- are (`Outgoing.held`), and the received list is what was taken without what the inbox has in hand, which came last.
 use Rattle.std.specs.Prelude.{◌≡◌, ◌<◌, ◌≤◌, ℕ, List, [], ◌++◌, Option, Some, None}
 use Rattle.std.specs.List.{All}
 use mathlib.Core.Option.{some}

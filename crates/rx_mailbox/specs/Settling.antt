@@ -1,4 +1,10 @@
 -- When a box settles, and what it has then received (this project's own rule).
+--
+-- Settling: `settle` answers `Stranger` exactly where the ports aren't each number of the box once, else `MissingBye` exactly
+-- where a Bye wasn't received; then all parts come back unchanged. Else of every port what was received is its own list,
+-- whole and in its order, and `letters` is the number received (it stays at the greatest u64). What the settled box knows,
+-- its ports made and ended and the letters received, leaves the queue empty wherever the rule holds (`IsEmptied` of
+-- `specs/Passes.antt`)
 use Rattle.std.specs.Prelude.{◌≡◌, ◌==◌, ◌<◌, ◌^◌, ◌-◌, min, ℕ, List, length}
 use Rattle.std.specs.List.{All, count_by}
 use Rattle.rx_mailbox.specs.declared.letter.Letter.{Letter}

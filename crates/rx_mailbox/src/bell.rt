@@ -1,5 +1,16 @@
 // How the two sides of a box wait for each other: who waits looks again for a while, then sleeps, and is woken once, by the
 // other side, only if it sleeps. Nothing is promised of a wait: it may end for no reason, so who waits looks again.
+//
+// A box waits by itself, above the channel's ruled calls that don't wait. The channel's own sends and receives wake a sleeper
+// at each step until it runs, which was more than one wake a letter. `try_send_as` and `try_recv_as` owe the rule the same
+// steps and tell the same, so every contract stands as it did. Who waits looks again for a while, then sets a flag, looks
+// once more and sleeps; the other side looks at the flag after each of its steps, and only who takes it back wakes. The
+// channel may answer that it is full or empty while a step of another thread is not quite done: that thread looks at the flag
+// when it is, so no wake is missed. No contract can say so, and tests do. The channel's plain forms, which keep no rule, and
+// lock-free structures of this project's own are still left out.
+//
+// It sleeps on a flag, and not by a `Parker`: that one's waker makes an exchange at each letter, also where nobody sleeps, in
+// place of a look, and it is for one sleeper, while many ports may wait for room.
 use std::hint;
 use std::sync::Wait;
 use std::sync::atomic::{AtomicU64, Ordering};

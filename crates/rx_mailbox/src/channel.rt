@@ -1,10 +1,11 @@
 // The channel of a box, the one way in which a port puts a letter, and the one in which the inbox takes one.
-ghost use Rattle.std.specs.Prelude.{◌≡◌, ◌++◌, ◌∷◌, [], false, MatchResult};
+ghost use Rattle.std.specs.Prelude.{◌≡◌, ◌++◌, ◌∷◌, [], false, IfErr, MatchResult};
 ghost use Rattle.crossbeam_channel.specs.Claims.{view, IsSeatAt};
 ghost use Rattle.crossbeam_channel.specs.Ends.{sends_on, receives_on};
 ghost use Rattle.rx_mailbox.specs.declared.rule.View.TheVariants.{Sends};
 ghost use Rattle.rx_mailbox.specs.Letters.{letter};
 ghost use Rattle.rx_mailbox.specs.Passes.{own_of, IsPort, IsReader, TakesOne};
+ghost use Rattle.rx_mailbox.specs.Steps.{Shows};
 
 use crate::batch::Batch;
 use crate::bell::LOOKS;
@@ -139,6 +140,7 @@ pub fn take<B: Drop, R: Wait>(
     requires reader { IsReader (view pass.old) }
     ensures pass { IsSeatAt (receives_on receiver.now) pass.new }
     ensures taken { MatchResult result (λ letter. TakesOne (view pass.old) letter (view pass.new)) (λ _. view pass.new ≡ view pass.old) }
+    ensures none { IfErr result (λ _. Shows (view pass.new) []) }
 {
     receiver.try_recv_as::<Take, R>(rt, pass)
 }

@@ -1,7 +1,10 @@
+// An ended port keeps its sender, because settling joins through it. So an inbox is told that it is gone only after every
+// port and every ended port was dropped.
 ghost use Rattle.std.specs.Prelude.{◌≡◌, []};
 ghost use Rattle.crossbeam_channel.specs.Claims.{view};
 ghost use Rattle.rx_mailbox.specs.Boxes.{HasBye};
 ghost use Rattle.rx_mailbox.specs.Passes.{inbox_of, IsNoted, IsReader, KeepsNotes};
+ghost use Rattle.rx_mailbox.specs.Rests.{IsJoined};
 
 use crate::bells::SharedBells;
 use crate::channel::{BoxPass, BoxSender};
@@ -17,7 +20,7 @@ pub struct EndedPort<B: Drop> {
     pub(crate) pass: BoxPass<B>,
 }
 
-// It stands here, and isn't derived, so that what lets go of an ended port is one call that is proved once.
+// By hand: rx_heap says why.
 impl<B: Drop> Drop for EndedPort<B> {
     fn drop(self) {
         let EndedPort {
@@ -73,5 +76,25 @@ impl<B: Drop> EndedPort<B> {
         } = self;
         sender.absorb::<JoinPort>(pass, own);
         sender.learn_as::<Show>(pass);
+    }
+
+    // Joins its pass into that of the inbox, which may not have received its Bye yet.
+    pub(crate) fn note_into(self, pass: &mut BoxPass<B>)
+        requires reader { IsReader (view pass.old) }
+        requires free { pass.old.me.1 ≡ [] }
+        requires from_box { self.box ≡ (inbox_of pass.old).box }
+        ensures reader { IsReader (view pass.new) }
+        ensures free { pass.new.me.1 ≡ [] }
+        ensures same { inbox_of pass.new ≡ inbox_of pass.old }
+        ensures keeps { KeepsNotes (view pass.old) (view pass.new) }
+        ensures joined { IsJoined (view pass.new) self }
+    {
+        let EndedPort {
+            number: _,
+            sender,
+            bells: _,
+            pass: own,
+        } = self;
+        sender.absorb::<JoinPort>(pass, own);
     }
 }

@@ -1,19 +1,25 @@
+// A look in vain makes no room for a letter. As the toolchain compiles it, a function clears what it may hold as it begins.
+// So what a letter needs once it has come stands in functions of their own (`open_batch`), and a look is short
+// (`Inbox::look`): how soon a letter is seen is half a look.
 ghost use Rattle.std.specs.Prelude.{◌≡◌, ◌≢◌, ◌<◌, ◌+◌, ◌-◌, ◌^◌, ◌↔◌, ◌∷◌, [], List, min, IsTrue, IfErr, IfOk, IfSome, MatchOption, MatchResult};
-ghost use Rattle.crossbeam_channel.specs.Claims.{view};
+ghost use Rattle.crossbeam_channel.specs.Claims.{view, IsSeatAt};
+ghost use Rattle.crossbeam_channel.specs.Ends.{receives_on};
 ghost use Rattle.rx_mailbox.specs.Batches.{carried};
 ghost use Rattle.rx_mailbox.specs.Boxes.{with_letter, HasBye, HasEachBye};
 ghost use Rattle.rx_mailbox.specs.Letters.{posts};
 ghost use Rattle.rx_mailbox.specs.Passes.{inbox_of, IsReader};
+ghost use Rattle.rx_mailbox.specs.Rests.{ReceivesMore};
 ghost use Rattle.rx_mailbox.specs.Settling.{letter_count};
 
 use crate::batch::Batch;
 use crate::bell::{FEW_LOOKS, LOOKS};
-use crate::channel::BoxPass;
+use crate::channel::{BoxPass, BoxReceiver};
 use crate::inlet::Inlet;
 use crate::leavings::SharedLeavings;
 use crate::letter::{Letter, Post};
 use crate::lists::SharedLists;
 use crate::patience::Patience;
+use crate::port::Port;
 use crate::try_recv_fault::TryRecvFault;
 use crossbeam_channel::TryRecvError;
 use rx_heap::Heap;
@@ -50,7 +56,7 @@ pub struct Inbox<B: Drop> {
     pub(crate) patience: Patience,
 }
 
-// It stands here, and isn't derived, so that what lets go of an inbox is one call that is proved once.
+// By hand: rx_heap says why.
 impl<B: Drop> Drop for Inbox<B> {
     fn drop(self) {
         let Inbox {
@@ -258,6 +264,36 @@ impl<B: Drop> Inbox<B> {
             patience: _,
         } = self;
         (inlet.into_pass(), letters)
+    }
+
+    // The way by which it takes letters, its pass, by which what is in hand was received too, and how many letters that makes.
+    pub(crate) fn into_ends(self) -> (BoxReceiver<B>, BoxPass<B>, u64)
+        ensures seat { IsSeatAt (receives_on result.0) result.1 }
+        ensures reader { IsReader (view result.1) }
+        ensures received { ReceivesMore self (inbox_of result.1) }
+        ensures letters { result.2 ≡ letter_count (inbox_of result.1).received }
+    {
+        let Inbox {
+            inlet,
+            lists: _,
+            leavings: _,
+            hand,
+            from: _,
+            letters,
+            patience: _,
+        } = self;
+        let letters = letters.saturating_add(hand.len() as u64);
+        let (receiver, pass) = inlet.into_ends();
+        (receiver, pass, letters)
+    }
+
+    /// Lets go of a port of this box that has not ended: no Bye of it was received.
+    pub fn show_open(&mut self, port: Port<B>)
+        requires { port.box ≡ self.old.box }
+        ensures same { self.new ≡ self.old }
+        ensures open { ¬ HasBye self.old port.number }
+    {
+        self.inlet.show_open(port.into_outlet());
     }
 
     /// Whether the letter that comes next came together with the last one: no port need be rung for it.

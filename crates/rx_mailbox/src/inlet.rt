@@ -1,5 +1,6 @@
 ghost use Rattle.std.specs.Prelude.{◌≡◌, ◌<◌, ◌↔◌, [], true, vec_len, if◌then◌else◌, slice_set, IsTrue, IfOk, MatchResult};
-ghost use Rattle.crossbeam_channel.specs.Claims.{view};
+ghost use Rattle.crossbeam_channel.specs.Claims.{view, IsSeatAt};
+ghost use Rattle.crossbeam_channel.specs.Ends.{receives_on};
 ghost use Rattle.rx_mailbox.specs.Batches.{carried};
 ghost use Rattle.rx_mailbox.specs.Boxes.{with_letters, HasBye, HasEachBye};
 ghost use Rattle.rx_mailbox.specs.Letters.{ends};
@@ -10,6 +11,7 @@ use crate::bell::Bell;
 use crate::bells::SharedBells;
 use crate::channel::{BoxPass, BoxReceiver, take};
 use crate::letter::{Letter, Post};
+use crate::outlet::Outlet;
 use crossbeam_channel::TryRecvError;
 use rx_heap::Heap;
 use std::marker::Model;
@@ -24,7 +26,7 @@ pub(crate) struct Inlet<B: Drop> {
     pub(crate) byes: Vec<bool, Heap>,
 }
 
-// It stands here, and isn't derived, so that what lets go of an inlet is one call that is proved once.
+// By hand: rx_heap says why.
 impl<B: Drop> Drop for Inlet<B> {
     fn drop(self) {
         let Inlet {
@@ -88,6 +90,30 @@ impl<B: Drop> Inlet<B> {
             byes: _,
         } = self;
         pass
+    }
+
+    /// The way by which it takes letters, and its pass.
+    pub(crate) fn into_ends(self) -> (BoxReceiver<B>, BoxPass<B>)
+        ensures seat { IsSeatAt (receives_on result.0) result.1 }
+        ensures pass { inbox_of result.1 ≡ self }
+        ensures reader { IsReader (view result.1) }
+    {
+        let Inlet {
+            receiver,
+            bells: _,
+            pass,
+            byes: _,
+        } = self;
+        (receiver, pass)
+    }
+
+    /// Lets go of a port that has not ended: no Bye of it was received.
+    pub(crate) fn show_open(&mut self, outlet: Outlet<B>)
+        requires { outlet.box ≡ self.old.box }
+        ensures same { self.new ≡ self.old }
+        ensures open { ¬ HasBye self.old outlet.number }
+    {
+        outlet.show_open(&mut self.pass);
     }
 
     /// How many ports the box has.

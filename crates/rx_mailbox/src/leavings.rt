@@ -1,3 +1,8 @@
+// What a box's owner lets go of ends all the same, by the other side (`Port::let_go`, `Inbox::let_go`, in `Leavings`). Who
+// drops a desk or a server has no leave to wait, so it can't put a Bye. The end of a port is left in the box, and the inbox
+// puts its Bye once it finds the box empty; what is put for an inbox that was let go is taken out and lost where the box is
+// full. So a desk that was dropped, even with answers to come, stops no subject; a server that was dropped, or whose start
+// failed halfway, leaves no thread. That a raw port or inbox is dropped still shows as before.
 ghost use Rattle.std.specs.Prelude.{◌≡◌, ◌<◌, IfOk, MatchResult};
 ghost use Rattle.rx_mailbox.specs.Batches.{carried};
 ghost use Rattle.rx_mailbox.specs.Boxes.{with_letters, HasBye};

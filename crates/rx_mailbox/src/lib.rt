@@ -7,6 +7,8 @@
 //! The crates above rest on [`settle`]: where each port of a box has ended and each Bye was received, the letters received
 //! of a port are just those that it put. `specs/Letters.antt`, `Boxes.antt` and `Settling.antt` have the words of the
 //! contracts; `Rule.antt` has the rule that the channel of a box keeps at every moment.
+//!
+//! Its tests stand in `crates/rx_thread_tests`.
 #![tactic(auto)]
 
 mod batch;
@@ -28,6 +30,7 @@ mod rule;
 mod settle_cause;
 mod settled;
 mod settling;
+mod settling_rest;
 mod try_recv_fault;
 mod unsettled;
 
@@ -39,5 +42,6 @@ pub use port::Port;
 pub use settle_cause::SettleCause;
 pub use settled::Settled;
 pub use settling::settle;
+pub use settling_rest::settle_rest;
 pub use try_recv_fault::TryRecvFault;
 pub use unsettled::Unsettled;

@@ -1,6 +1,6 @@
 ghost use Rattle.std.specs.Prelude.{◌≡◌, ◌≤◌, [], IfSome};
 
-use rx_heap::{Heap, Memory};
+use rx_heap::{Heap, Memory, give_back};
 use std::collections::VecDeque;
 use std::sync::{Arc, Mutex, Wait};
 
@@ -55,10 +55,15 @@ impl<B: Drop> Lists<B> {
     }
 
     /// Keeps an empty list for later, where there is room for it and it has the room that a list has. One that grew for want of room
-    /// in the box is let go.
+    /// in the box gives that back first. None is lost by that: a box that had no list left would put each letter alone.
     pub(crate) fn keep<R: Wait>(&self, rt: &R, list: VecDeque<B, Heap>) {
-        if list.capacity() < LENGTH || list.capacity() > MOST_TOGETHER {
+        let mut list = list;
+        list.clear();
+        if list.capacity() < LENGTH {
             return;
+        }
+        if list.capacity() > MOST_TOGETHER {
+            give_back(&mut list);
         }
         let mut spare = self.spare.lock(rt);
         if spare.len() < spare.capacity() {

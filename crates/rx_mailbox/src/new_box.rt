@@ -39,7 +39,7 @@ pub(crate) struct NewBox<B: Drop> {
     ghost receives: { IsSeatAt (receives_on receiver) pass },
 }
 
-// It stands here, and isn't derived, so that what lets go of a new box is one call that is proved once.
+// By hand: rx_heap says why.
 impl<B: Drop> Drop for NewBox<B> {
     fn drop(self) {
         let NewBox {

@@ -1,7 +1,9 @@
-ghost use Rattle.std.specs.Prelude.{◌≡◌, MatchResult};
+ghost use Rattle.std.specs.Prelude.{◌≡◌, [], MatchResult};
+ghost use Rattle.crossbeam_channel.specs.Claims.{view};
 ghost use Rattle.rx_mailbox.specs.declared.letter.Post.TheVariants.{Body, Bye};
 ghost use Rattle.rx_mailbox.specs.Batches.{bodies_in};
-ghost use Rattle.rx_mailbox.specs.Boxes.{with_bodies, with_post};
+ghost use Rattle.rx_mailbox.specs.Boxes.{with_bodies, with_post, HasBye};
+ghost use Rattle.rx_mailbox.specs.Passes.{inbox_of, IsReader};
 
 use crate::batch::Batch;
 use crate::bells::SharedBells;
@@ -9,6 +11,7 @@ use crate::channel::{BoxPass, BoxSender, Unput, put, try_put};
 use crate::ended_port::EndedPort;
 use crate::leavings::Leavings;
 use crate::letter::Post;
+use crate::rule::{JoinPort, Show};
 use rx_heap::Heap;
 use std::collections::VecDeque;
 use std::marker::Model;
@@ -23,7 +26,7 @@ pub(crate) struct Outlet<B: Drop> {
     pub(crate) pass: BoxPass<B>,
 }
 
-// It stands here, and isn't derived, so that what lets go of an outlet is one call that is proved once.
+// By hand: rx_heap says why.
 impl<B: Drop> Drop for Outlet<B> {
     fn drop(self) {
         let Outlet {
@@ -227,5 +230,25 @@ impl<B: Drop> Outlet<B> {
                 pass,
             }),
         }
+    }
+
+    // Joins its pass into that of the inbox: no Bye of it was received.
+    pub(crate) fn show_open(self, pass: &mut BoxPass<B>)
+        requires reader { IsReader (view pass.old) }
+        requires free { pass.old.me.1 ≡ [] }
+        requires from_box { self.box ≡ (inbox_of pass.old).box }
+        ensures reader { IsReader (view pass.new) }
+        ensures free { pass.new.me.1 ≡ [] }
+        ensures same { inbox_of pass.new ≡ inbox_of pass.old }
+        ensures open { ¬ HasBye (inbox_of pass.old) self.number }
+    {
+        let Outlet {
+            number: _,
+            sender,
+            bells: _,
+            pass: own,
+        } = self;
+        sender.absorb::<JoinPort>(pass, own);
+        sender.learn_as::<Show>(pass);
     }
 }

@@ -1,3 +1,5 @@
+// A ring after nothing is none. A port knows whether it put something quietly since it rang; a pump rings before each wait,
+// and would wake a drainer that sleeps at each call that gives it nothing.
 ghost use Rattle.std.specs.Prelude.{◌≡◌, ◌<◌, ◌↔◌, [], true, length, IfErr, IfSome, IsTrue, MatchResult};
 ghost use Rattle.rx_mailbox.specs.declared.letter.Post.TheVariants.{Body, Bye};
 ghost use Rattle.rx_mailbox.specs.Boxes.{told, with_bodies, with_held, with_post};
@@ -27,7 +29,7 @@ pub struct Port<B: Drop> {
     pub(crate) owes_ring: bool,
 }
 
-// It stands here, and isn't derived, so that what lets go of a port is one call that is proved once.
+// By hand: rx_heap says why.
 impl<B: Drop> Drop for Port<B> {
     fn drop(self) {
         let Port {
@@ -53,6 +55,22 @@ impl<B: Drop> Model for Port<B> {
 }
 
 impl<B: Drop> Port<B> {
+    // The way by which it put its letters, without those that it holds back.
+    pub(crate) fn into_outlet(self) -> Outlet<B>
+        ensures from_box { result.box ≡ self.box }
+        ensures number { result.number ≡ self.number }
+    {
+        let Port {
+            outlet,
+            lists: _,
+            leavings: _,
+            held: _,
+            spare: _,
+            owes_ring: _,
+        } = self;
+        outlet
+    }
+
     /// Its number in the box, from 0.
     pub fn number(&self) -> u32
         ensures { result ≡ self.now.number }

@@ -61,8 +61,11 @@ impl<B> Outcome<Letter<B>, View<B>> for Take {
     ghost then = { TakesLetter };
 }
 
+// Where there is none, the inbox's pass reads the rule too.
 impl<B> Lesson<Letter<B>, View<B>> for Take {
-    ghost fact = { λ v queue. ⊤ };
+    ghost use Rattle.rx_mailbox.specs.Steps.{Shows};
+
+    ghost fact = { Shows };
 }
 
 // A port's pass is joined into the inbox's.

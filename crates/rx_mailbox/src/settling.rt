@@ -51,7 +51,7 @@ pub fn settle<B: Drop>(
 }
 
 // Whether these are the ports of the inbox's box by number, each once.
-fn is_each_once<B: Drop>(inbox: &Inbox<B>, ports: &Vec<EndedPort<B>, Heap>) -> bool
+pub(crate) fn is_each_once<B: Drop>(inbox: &Inbox<B>, ports: &Vec<EndedPort<B>, Heap>) -> bool
     ensures { IsTrue result ↔ IsEachOnce inbox.now.ports ports.now.items }
 {
     let made = inbox.ports();

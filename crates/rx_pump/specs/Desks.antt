@@ -1,4 +1,14 @@
 -- A desk, and what its calls do (this project's own rule).
+--
+-- The desk's calls: A `call` that answers a reply put just that call, with a new ticket, into its port's own list, and
+-- received just one letter, from that subject and with that ticket: its answer. `SubjectGone` put nothing and gives the sink
+-- back, or put the call and received nothing; `Strange` put the call and received one letter that is no reply to it. After
+-- `Strange`, the last ticket or a `finish` that came back each call is `SubjectGone` with its sink and changes nothing.
+-- `finish` adds one Bye to each port, and goes on where an earlier one stopped; the tickets of what each port put rise.
+-- `post` puts a call alike, with the next ticket, and receives nothing, or hands its event back and changes nothing; `answer`
+-- receives one letter, or none where none comes any more, and answers it as `call` does by the subject and the ticket that it
+-- is asked for; but after `Strange` or a `finish` that came back it is `SubjectGone` and changes nothing; `tickets` is how
+-- many were used. `subjects` counts its ports, ended or not.
 use Rattle.std.specs.Prelude.{◌≡◌, ◌≢◌, ◌+◌, ◌-◌, ◌^◌, ◌<◌, ◌≤◌, ◌⊎◌, ℕ, Bool, true, false, List, [], ◌∷◌, ◌++◌, Option, None, Result, Ok, Err}
 use Rattle.std.specs.List.{All, AllPairs}
 use Rattle.rx_note.specs.declared.event.Event.{Event}

@@ -1,6 +1,12 @@
 -- What the letters that a pump received mean: the history of its subject, what it sends the drainers, what it replies.
 -- Each body is marked: it was made, or it was refused for want of memory and is not in the history (this project's own
 -- rule).
+--
+-- A pump received some letters. Mark each body among them: it was made, or it was refused for want of memory. The history of
+-- the bodies made is their events, each with its port. The route of drainer d of n has, for each body made in its order, the
+-- `Attach` with the sink of an accepted Join, what the hub gives by exact delivery, and the `Detach` of an accepted Dispose;
+-- of these what concerns observers whose number modulo n is d. The replies to port p have, for each body of p in its order,
+-- its ticket, its answer (Memory where it was refused), and its sink unless that was attached.
 use Rattle.std.specs.Prelude.{ℕ, ◌+◌, ◌%◌, ◌==◌, if◌then◌else◌, List, [], ◌∷◌, ◌++◌, map, Option, None, Some, Result, Ok, Err}
 use Rattle.std.specs.List.{filter}
 use Rattle.rx_note.specs.declared.answer.Answer.{Answer}

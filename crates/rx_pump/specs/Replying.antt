@@ -1,4 +1,9 @@
 -- How the replies to a port go with its calls, for all marked letters (this project's own rule).
+--
+-- A call's answer: Where the tickets of a port's calls rise, the reply that has the ticket of a call is what the subject
+-- answered to just that call at its place, or that it was refused for want of memory. So is the answer to a call of a desk,
+-- where the pump received what the desk's port put, and the desk of that subject the first of what the pump replied to it;
+-- and so is the answer to a call that was posted, whatever the desk put and was answered in between.
 use Rattle.std.specs.Prelude.{◌≡◌, ◌⊎◌, ◌+◌, ℕ, false, List, [], ◌∷◌, ◌++◌, map, Option, None, Some, Ok, Err, slice_get}
 use Rattle.std.specs.List.{Contains}
 use Rattle.rx_note.specs.declared.event.Event.{Event}

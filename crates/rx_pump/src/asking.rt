@@ -1,4 +1,6 @@
 // One call of a desk: what it sends, and what it receives.
+//
+// A call that a port hands back uses no ticket, since it was never put.
 ghost use Rattle.std.specs.Prelude.{◌≡◌, ◌<◌, vec_len, MatchResult};
 ghost use Rattle.rx_mailbox.specs.Boxes.{all_told};
 ghost use Rattle.rx_pump.specs.Desks.{ReadsReply, ReceivesReply};
@@ -79,7 +81,7 @@ pub fn receive<S: Drop, R: Wait>(
     unreachable!()
 }
 
-// ReadsReply the reply of a subject to a ticket in a letter.
+// Reads the reply of a subject to a ticket in a letter.
 fn read<S: Drop>(
     letter: Letter<Reply<S>>,
     subject: usize,

@@ -1,3 +1,6 @@
+// Calls that are posted go to a subject as one letter of the channel, and only then is the first of their replies waited for.
+// `post` takes a call only where the port holds it back and has a second list at hand, which takes the first one's place as
+// that goes (`Port::hold_back`); else the call is made alone.
 ghost use Rattle.std.specs.Prelude.{◌≡◌, ◌+◌, ◌<◌, [], ◌++◌, true, map, length, Err, IfOk, MatchResult};
 ghost use Rattle.std.specs.List.{All};
 ghost use Rattle.rx_pump.specs.Pumps.{IsFresh};

@@ -10,6 +10,8 @@
 //! of those made, the list that it sent each drainer is the drainer's route, and the list that it sent each caller its
 //! replies. And on the desk's calls (`CallDesk::call`): one call is one new ticket and one letter received, its answer.
 //! `specs/Marks.antt` has the definitions, `Pumps.antt`, `Serving.antt` and `Desks.antt` the words of the contracts.
+//!
+//! Its tests stand in `crates/rx_thread_tests`.
 #![tactic(auto)]
 
 mod asking;

@@ -1,3 +1,9 @@
+// What a pump did is the invariant of its type, told again by each turn and by `into_parts`, so that nothing has to be known
+// of the turns that led there. The count of the hub's Memory answers at the pump's beginning is a field, since a new hub may
+// have answered some already.
+//
+// A pump that has stopped at a fault answers it again and does nothing; `serve` then ends no port, since a Bye behind a list
+// that was cut short would say that it is whole.
 ghost use Rattle.std.specs.Prelude.{◌≡◌, ◌+◌, ◌<◌, ◌≤◌, [], vec_len, vec_capacity, if◌then◌else◌, Some, None, Err, MatchResult, OnOk, IfSome};
 ghost use Rattle.rx_mailbox.specs.Boxes.{all_told};
 ghost use Rattle.rx_pump.specs.Pumps.{AreFresh, counted};

@@ -1,3 +1,5 @@
+// What `serve` leaves at a fault are the parts with the ports that have not ended, beside those that have, the first ones of
+// each list. A port that could not end stays among the former.
 ghost use Rattle.std.specs.Prelude.{◌≡◌};
 
 use crate::out::Out;

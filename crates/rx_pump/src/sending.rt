@@ -1,4 +1,7 @@
 // What a pump sends its drainers for one call.
+//
+// A drainer and a caller go by place: observer `who` belongs to the drainer at place `who` modulo their number, the reply to
+// a letter from port p goes by the reply port at place p, whatever these ports' own numbers in their boxes are.
 ghost use Rattle.std.specs.Prelude.{◌≡◌, ◌<◌, [], ◌∷◌, ◌++◌, map, vec_len, option_to_list};
 ghost use Rattle.rx_mailbox.specs.Boxes.{all_told};
 ghost use Rattle.rx_pump.specs.Marks.{attach_of, detach_of, give, sent_back};

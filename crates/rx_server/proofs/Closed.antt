@@ -15,8 +15,8 @@ use Rattle.rx_drain.specs.Drainers.{DrainerView}
 use Rattle.rx_drain.specs.Serving as drainer_serving
 use Rattle.rx_server.specs.declared.close_fault.CloseFault.{CloseFault}
 use Rattle.rx_server.specs.declared.report.Report.{Report}
-use Rattle.rx_server.specs.Returning.{HaveSettledSo}
-use Rattle.rx_server.specs.Servers.{CannotTell, Closes, Fails, HaveSettled, IsEndOf, IsWhole, Reports, ServerView, Unsettles}
+use Rattle.rx_server.specs.Returning.{HaveSettledSo, Unsettles}
+use Rattle.rx_server.specs.Servers.{Closes, Fails, HaveSettled, IsEndOf, IsWhole, Reports, ServerView}
 use Rattle.rx_server.proofs.Complete.{came-each, lacks-one}
 use Rattle.rx_server.proofs.Ending.{desks-many}
 
@@ -46,7 +46,7 @@ module _ {S Rest : Type 0} (acts : Acts S Rest) (server : ServerView S Rest) (wh
   lists-keep (drainer ∷ drainers) [] all = absurd all
   lists-keep (drainer ∷ drainers) (end ∷ ends) all = (all.0.1.places.keeps, lists-keep drainers ends all.1)
 
-  -- all boxes settled, or one did not
+  -- all boxes settled, or not each desk came back once
   pub settled-or-not : (r : Result (Report S Rest) CloseFault) (desks : ℕ) → All (IsEndOf server.made) finished → desks ≡ length whole.wiring.replies
       → IfOk r (λ report. HaveSettled report.boxes (map with_bye server.leaves) all_desks pump_ends drain_ends)
       → IfOk r (λ report. HaveSettledSo desks (map with_bye server.leaves) all_desks pump_ends drain_ends report.boxes.subjects.items)
@@ -71,6 +71,7 @@ module _ {S Rest : Type 0} (acts : Acts S Rest) (server : ServerView S Rest) (wh
       }
   settled-or-not (Err fault) desks own k settled so reports why =
       let of_made = subst (λ n. Unsettles n (map with_bye server.leaves) all_desks pump_ends drain_ends fault) (k ∙ sym (desks-many acts server whole)) why in
+      let wanting = lacks-one acts server whole pump_ends drain_ends all_desks pumped drained (all-own own) fault of_made in
       inr (record {
         pump_ends = pump_ends;
         drain_ends = drain_ends;
@@ -78,20 +79,6 @@ module _ {S Rest : Type 0} (acts : Acts S Rest) (server : ServerView S Rest) (wh
         pumped = pumped;
         drained = drained;
         of_server = own;
-        why = inr of_made;
-        wanting = inr (lacks-one acts server whole pump_ends drain_ends all_desks pumped drained (all-own own) fault of_made);
-      })
-
-  -- a drainer could not be told to leave
-  pub not-told : (fault : CloseFault) → All (IsEndOf server.made) finished → CannotTell acts server.leaves fault → Fails acts server ended fault
-  not-told fault own why =
-      inr (record {
-        pump_ends = pump_ends;
-        drain_ends = drain_ends;
-        finished = finished;
-        pumped = pumped;
-        drained = drained;
-        of_server = own;
-        why = inl why;
-        wanting = inl why;
+        wanting = wanting.1;
+        named = wanting.0;
       })

@@ -1,4 +1,4 @@
--- Where the boxes of a server settle, each desk came back once; and where one does not, a desk is wanting or a Bye.
+-- The boxes of a server settle just where each of its desks came back once.
 use Rattle.std.proofs.Common.{◌≡◌, ◌==◌, ◌∙◌, sym, refl, ap, subst, ℕ, Bool, zero, suc, ◌⊎◌, ◌+◌, ◌<◌, ◌≤◌, List, [], ◌∷◌, ◌++◌, length, map, slice_get, Some, inl, inr, ⊎_elim, arith}
 use Rattle.std.specs.Option.{option_map}
 use Rattle.std.proofs.lemmas.List.{length-map}
@@ -7,7 +7,7 @@ use Rattle.std.proofs.lemmas.Option.{slice_get-map, slice_get_within}
 use Rattle.std.proofs.lemmas.Slice.Zip.{AllZip-long}
 use Rattle.std.specs.List.{All, AllZip, Contains, count_by, enumerate_from, range_with_len, zip}
 use Rattle.rx_hub.specs.Hubs.{HubView}
-use Rattle.rx_mailbox.specs.Boxes.{Box, HasEachBye, Incoming, Outgoing}
+use Rattle.rx_mailbox.specs.Boxes.{Box, Incoming, Outgoing}
 use Rattle.rx_mailbox.specs.Passes.{SettledView}
 use Rattle.rx_mailbox.specs.Settling.{IsEachOnce}
 use Rattle.rx_pump.specs.declared.call.Call.{Call}
@@ -25,13 +25,15 @@ use Rattle.rx_drain.specs.Drainers.{DrainerView}
 use Rattle.rx_drain.specs.Serving as drainer_serving
 use Rattle.rx_settling.specs.Parts.{FirstUnsettled, PartsView, Settles, dealt_each, with_inboxes}
 use Rattle.rx_settling.proofs.Gathered.{dealt-inboxes, dealt_each-count, dealt_each-inboxes, with_inboxes-all, with_inboxes-count, with_inboxes-ports, inboxes_of}
+use Rattle.rx_server.specs.declared.close_fault.CloseCause.{CloseCause}
+use Rattle.rx_server.specs.declared.close_fault.CloseCause.TheVariants.{Unsettled}
 use Rattle.rx_server.specs.declared.close_fault.CloseFault.{CloseFault}
 use Rattle.rx_server.specs.declared.returned.Returned.{Returned}
 use Rattle.rx_server.specs.declared.start_fault.Role.{Role}
 use Rattle.rx_server.specs.declared.start_fault.Role.TheVariants.{Drainer, Pump, Worker}
 use Rattle.rx_server.specs.Leaving.{HasItsBoxes}
-use Rattle.rx_server.specs.Returning.{AreEmpty, CameTwice, EachDeskOnce, HaveComeBack, HaveSettledSo, LacksBye, StopsAt, number_of}
-use Rattle.rx_server.specs.Servers.{IsEndOf, IsWhole, LacksDeskOrBye, ServerView, Unsettles}
+use Rattle.rx_server.specs.Returning.{AreEmpty, CameTwice, EachDeskOnce, HaveComeBack, HaveSettledSo, StopsAt, Unsettles, number_of}
+use Rattle.rx_server.specs.Servers.{IsEndOf, IsWhole, ServerView}
 use Rattle.rx_server.specs.Wirings.{Wiring, desk_of, drainer_of, ports_at, pump_of}
 use Rattle.rx_server.proofs.Arriving.{all-at}
 use Rattle.rx_server.proofs.Desks.{bye-places, end-boxes}
@@ -43,7 +45,7 @@ use Rattle.rx_server.proofs.Returning.{All-here, All-made, desk-number, desk-por
 -- ROWS OF THE PARTS OF A SERVER
 
 module _ {S : Type 0} (w : Wiring S) where
-  -- what pumps left has rows of their numbers, and each of their inboxes was whole
+  -- what pumps left has rows of their numbers, and each of their inboxes has all its ports
   pump-rows : (k : ℕ) (xs : List (HubView × Box (Call S))) (ends : List (PumpEnd S)) → AllZip pump_serving.HasPumped (map (pump_of w) (enumerate_from k xs)) ends
       → AllZip (IsRow (length w.drainers)) (range_with_len k (length xs)) (map (λ end. end.drainers.items) ends)
       × AllZip (IsRow (length w.replies)) (range_with_len k (length xs)) (map (λ end. end.replies.items) ends)
@@ -57,13 +59,13 @@ module _ {S : Type 0} (w : Wiring S) where
       )
 
   pump-inboxes : (k : ℕ) (xs : List (HubView × Box (Call S))) (ends : List (PumpEnd S)) → AllZip pump_serving.HasPumped (map (pump_of w) (enumerate_from k xs)) ends
-      → All (λ inbox. HasEachBye inbox × (inbox.ports ≡ length w.replies + length w.drainers)) (map (λ end. end.inbox) ends)
-  pump-inboxes k [] [] all = All-nil (λ inbox. HasEachBye inbox × (inbox.ports ≡ length w.replies + length w.drainers))
+      → All (λ inbox. inbox.ports ≡ length w.replies + length w.drainers) (map (λ end. end.inbox) ends)
+  pump-inboxes k [] [] all = All-nil (λ inbox. inbox.ports ≡ length w.replies + length w.drainers)
   pump-inboxes k [] (end ∷ ends) all = absurd all
   pump-inboxes k (x ∷ xs) [] all = absurd all
   pump-inboxes k (x ∷ xs) (end ∷ ends) all =
-      All-cons (λ inbox. HasEachBye inbox × (inbox.ports ≡ length w.replies + length w.drainers)) end.inbox (map (λ end. end.inbox) ends)
-      (all.0.1.each_bye, all.0.1.ports) (pump-inboxes (k + 1) xs ends all.1)
+      All-cons (λ inbox. inbox.ports ≡ length w.replies + length w.drainers) end.inbox (map (λ end. end.inbox) ends)
+      all.0.1.ports (pump-inboxes (k + 1) xs ends all.1)
 
   -- and so has what desks left
   desk-rows : 0 < length w.subjects → (desks : List (EndedDesk S)) → All (HasItsBoxes w) desks
@@ -91,13 +93,13 @@ module _ {S Rest : Type 0} (acts : Acts S Rest) (w : Wiring S) (keeps : Bool) wh
   )
 
   drainer-inboxes : (k : ℕ) (boxes : List (Box (Out S))) (ends : List (DrainEnd S Rest)) → AllZip (drainer_serving.HasDrained acts) (map (drainer_of w keeps) (enumerate_from k boxes)) ends
-      → All (λ inbox. HasEachBye inbox × (inbox.ports ≡ length w.subjects + 1)) (map (λ end. end.inbox) ends)
-  drainer-inboxes k [] [] all = All-nil (λ inbox. HasEachBye inbox × (inbox.ports ≡ length w.subjects + 1))
+      → All (λ inbox. inbox.ports ≡ length w.subjects + 1) (map (λ end. end.inbox) ends)
+  drainer-inboxes k [] [] all = All-nil (λ inbox. inbox.ports ≡ length w.subjects + 1)
   drainer-inboxes k [] (end ∷ ends) all = absurd all
   drainer-inboxes k (box ∷ boxes) [] all = absurd all
   drainer-inboxes k (box ∷ boxes) (end ∷ ends) all =
-      All-cons (λ inbox. HasEachBye inbox × (inbox.ports ≡ length w.subjects + 1)) end.inbox (map (λ end. end.inbox) ends)
-      (all.0.1.each_bye, all.0.1.places.count) (drainer-inboxes (k + 1) boxes ends all.1)
+      All-cons (λ inbox. inbox.ports ≡ length w.subjects + 1) end.inbox (map (λ end. end.inbox) ends)
+      all.0.1.places.count (drainer-inboxes (k + 1) boxes ends all.1)
 
 -- DESKS
 
@@ -305,42 +307,38 @@ module _ {S Rest : Type 0} (acts : Acts S Rest) (server : ServerView S Rest) (wh
         let both : Some parts.inbox ≡ Some (Some one.0.inbox) = sym mine ∙ here in
         (one.0, one.1, one.2, cc)
 
-    answers-lack : EachDeskOnce (length server.made) desks → (settled : List (SettledView (Reply S))) (place : ℕ) → FirstUnsettled answers settled place → LacksBye place desks
-    answers-lack each settled place first =
+    answers-settle : EachDeskOnce (length server.made) desks → (settled : List (SettledView (Reply S))) (place : ℕ) → ¬ FirstUnsettled answers settled place
+    answers-settle each settled place first =
         let one = desk-at each place first.parts first.stood in
-        let why = first.cannot one.0.inbox one.3 in
-        let ports : why.0.ports ≡ length w.subjects = ap (λ i. i.ports) why.1.received ∙ desk-inbox one.0 (All-contains (IsEndOf server.made) desks one.0 own one.1) in
+        let ports : one.0.inbox.ports ≡ length w.subjects = desk-inbox one.0 (All-contains (IsEndOf server.made) desks one.0 own one.1) in
         let numbers = all-at (λ (parts : PartsView (Reply S)). map (λ port. port.number) parts.ports ≡ range_with_len 0 (length w.subjects)) answers place first.parts answers-numbers first.stood in
         let once = each-port (length w.subjects) first.parts.ports (range_with_len 0 (length w.subjects)) numbers (each-range 0 (length w.subjects)) in
-        record {
-          desk = one.0;
-          came = one.1;
-          number_is = one.2;
-          after = why.0;
-          received = why.1;
-          missing = λ byes. why.2 (subst (λ n. IsEachOnce n first.parts.ports) (sym ports) once, byes);
-        }
+        first.cannot one.0.inbox one.3 (subst (λ n. IsEachOnce n first.parts.ports) (sym ports) once)
 
     -- ALL BOXES
 
-    -- what is wanting where the box of this role and number is the first that cannot settle
-    abbrev Wanting : Role → ℕ → Type 0
-    Wanting role place =
-        ((role ≡ Pump) × (place ≡ 0) × ¬ EachDeskOnce (length server.made) desks)
-        ⊎ ((role ≡ Worker) × EachDeskOnce (length server.made) desks × LacksBye place desks)
-
-    stops-wanting : (role : Role) (place : ℕ) → StopsAt role place calls outs answers → Wanting role place
-    stops-wanting Pump place stops = let first = calls-unsettled stops.0 place stops.1 in inl (refl, first.0, first.1)
+    -- only the first box cannot settle, and then a desk is wanting
+    stops-wanting : (role : Role) (place : ℕ) → StopsAt role place calls outs answers → (role ≡ Pump) × (place ≡ 0) × ¬ EachDeskOnce (length server.made) desks
+    stops-wanting Pump place stops = let first = calls-unsettled stops.0 place stops.1 in (refl, first.0, first.1)
     stops-wanting Drainer place stops = absurd (outs-settle stops.1.0 place stops.1.1)
-    stops-wanting Worker place stops = let each = calls-settled stops.0.0 stops.0.1 in inr (refl, each, answers-lack each stops.2.0 place stops.2.1)
+    stops-wanting Worker place stops = absurd (answers-settle (calls-settled stops.0.0 stops.0.1) stops.2.0 place stops.2.1)
 
   -- where a box did not settle
-  pub lacks-one : (fault : CloseFault) → Unsettles (length server.made) (map with_bye server.leaves) desks pump_ends drain_ends fault → LacksDeskOrBye acts (length server.made) desks fault
-  lacks-one fault why = ⊎_elim
-      (λ came. inl (came.1, came.2, not-twice-here came.0))
+  pub lacks-one : (fault : CloseFault) → Unsettles (length server.made) (map with_bye server.leaves) desks pump_ends drain_ends fault
+      → (fault ≡ record { thread = Pump; index = 0; cause = Unsettled }) × ¬ EachDeskOnce (length server.made) desks
+  lacks-one fault why =
+      let wanting : (fault.thread ≡ Pump) × (fault.index ≡ 0) × ¬ EachDeskOnce (length server.made) desks = ⊎_elim
+      (λ came. (came.1, came.2, not-twice-here came.0))
       (λ first. stops-wanting first.start first.nothing_came first.calls first.outs first.answers first.came fault.thread fault.index first.stops)
-      why.1
+      why.1 in
+      (one-fault fault wanting.0 wanting.1 why.0, wanting.2)
     where
+      one-fault : (f : CloseFault) → f.thread ≡ Pump → f.index ≡ 0 → f.cause ≡ Unsettled → f ≡ record { thread = Pump; index = 0; cause = Unsettled }
+      one-fault f thread index cause =
+          ap (λ (role : Role). record { thread = role; index = f.index; cause = f.cause }) thread
+          ∙ ap (λ (n : ℕ). record { thread = Pump; index = n; cause = f.cause }) index
+          ∙ ap (λ (c : CloseCause). record { thread = Pump; index = 0; cause = c }) cause
+
       not-twice-here : CameTwice desks → ¬ EachDeskOnce (length server.made) desks
       not-twice-here came each =
           not-twice (length server.made) desks

@@ -5,12 +5,12 @@ use Rattle.std.proofs.lemmas.List.{length-map, map_push}
 use Rattle.std.proofs.lemmas.List.Elements.{All-append, All-cons, All-head, All-nil, All-tail, All-weaker}
 use Rattle.std.proofs.lemmas.List.Sums.{sum_by-append, sum_by-cons}
 use Rattle.std.specs.List.{All, AllZip, Contains, count_by, range_with_len}
-use Rattle.rx_mailbox.specs.Boxes.{Box, HasEachBye, Incoming, Outgoing}
+use Rattle.rx_mailbox.specs.Boxes.{Box, Incoming, Outgoing}
 use Rattle.rx_mailbox.specs.Passes.{SettledView}
 use Rattle.rx_mailbox.specs.Settling.{IsEachOnce}
 use Rattle.rx_pump.specs.Pumps.{AreSame, port_place}
-use Rattle.rx_settling.specs.Parts.{CannotSettle, FirstUnsettled, IsEmpty, PartsView, Settles, dealt, dealt_each, with_port}
-use Rattle.rx_settling.proofs.Gathered.{inboxes_of, ports_of, received-none}
+use Rattle.rx_settling.specs.Parts.{FirstUnsettled, IsEmpty, PartsView, Settles, dealt, dealt_each, with_port}
+use Rattle.rx_settling.proofs.Gathered.{inboxes_of, ports_of}
 use Rattle.rx_settling.proofs.Rows.{dealt-count}
 use Rattle.rx_server.specs.Wirings.{ports_at}
 use Rattle.rx_server.proofs.Arriving.{all-at}
@@ -234,13 +234,6 @@ module _ {B : Type 0} where
 
   -- WHAT SETTLES
 
-  -- an inbox that is whole and each port once: they settle
-  whole-settles : (parts : PartsView B) (inbox : Incoming B) → parts.inbox ≡ Some inbox → HasEachBye inbox → IsEachOnce inbox.ports parts.ports → ¬ CannotSettle parts
-  whole-settles parts inbox came byes once cannot =
-      let why = cannot inbox came in
-      let same : why.0 ≡ inbox = received-none inbox why.0 byes why.1 in
-      why.2 (subst (λ (i : Incoming B). IsEachOnce i.ports parts.ports) (sym same) once, subst HasEachBye (sym same) byes)
-
   -- the inbox that came back to the box at a place
   inbox-at : (P : Incoming B → Type 0) (boxes : List (PartsView B)) (inboxes : List (Incoming B)) (place : ℕ) (parts : PartsView B) → inboxes_of boxes ≡ map Some inboxes → All P inboxes
       → slice_get boxes place ≡ Some parts → (inbox : Incoming B) × (parts.inbox ≡ Some inbox) × P inbox
@@ -255,12 +248,12 @@ module _ {B : Type 0} where
 
   -- a box that settled has the ports of its inbox, each once
   pub settled-once : (made : ℕ) (numbers : List ℕ) (boxes : List (PartsView B)) (inboxes : List (Incoming B)) → inboxes_of boxes ≡ map Some inboxes
-      → All (λ inbox. HasEachBye inbox × (inbox.ports ≡ made)) inboxes → HaveNumbers numbers boxes
+      → All (λ inbox. inbox.ports ≡ made) inboxes → HaveNumbers numbers boxes
       → (place : ℕ) (parts : PartsView B) (box : SettledView B) → slice_get boxes place ≡ Some parts → Settles parts box → (number : ℕ) → number < made → times number numbers ≡ 1
   settled-once made numbers boxes inboxes are whole have place parts box stood settles =
-      let at = inbox-at (λ inbox. HasEachBye inbox × (inbox.ports ≡ made)) boxes inboxes place parts are whole stood in
+      let at = inbox-at (λ inbox. inbox.ports ≡ made) boxes inboxes place parts are whole stood in
       let mine : settles.inbox ≡ at.0 = let both : Some settles.inbox ≡ Some at.0 = sym settles.came ∙ at.1 in cc in
-      let ports : box.ports ≡ made = ap (λ (i : Incoming B). i.ports) settles.received.received ∙ ap (λ (i : Incoming B). i.ports) mine ∙ at.2.1 in
+      let ports : box.ports ≡ made = ap (λ (i : Incoming B). i.ports) settles.received.received ∙ ap (λ (i : Incoming B). i.ports) mine ∙ at.2 in
       port-times made parts.ports numbers (all-at (λ (parts : PartsView B). map (λ port. port.number) parts.ports ≡ numbers) boxes place parts have stood)
       (subst (λ n. IsEachOnce n parts.ports) ports settles.each_once)
 
@@ -279,9 +272,9 @@ module _ {B : Type 0} where
 
   -- so where that is so of each box, none of them is the first that cannot settle
   pub each-settles : (made : ℕ) (numbers : List ℕ) (boxes : List (PartsView B)) (inboxes : List (Incoming B)) → inboxes_of boxes ≡ map Some inboxes
-      → All (λ inbox. HasEachBye inbox × (inbox.ports ≡ made)) inboxes → HaveNumbers numbers boxes → AreEach 0 made numbers
+      → All (λ inbox. inbox.ports ≡ made) inboxes → HaveNumbers numbers boxes → AreEach 0 made numbers
       → (settled : List (SettledView B)) (place : ℕ) → ¬ FirstUnsettled boxes settled place
   each-settles made numbers boxes inboxes are whole have each settled place first =
-      let at = inbox-at (λ inbox. HasEachBye inbox × (inbox.ports ≡ made)) boxes inboxes place first.parts are whole first.stood in
+      let at = inbox-at (λ inbox. inbox.ports ≡ made) boxes inboxes place first.parts are whole first.stood in
       let once = each-port made first.parts.ports numbers (all-at (λ (parts : PartsView B). map (λ port. port.number) parts.ports ≡ numbers) boxes place first.parts have first.stood) each in
-      whole-settles first.parts at.0 at.1 at.2.0 (subst (λ n. IsEachOnce n first.parts.ports) (sym at.2.1) once) first.cannot
+      first.cannot at.0 at.1 (subst (λ n. IsEachOnce n first.parts.ports) (sym at.2) once)

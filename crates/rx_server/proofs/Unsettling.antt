@@ -15,8 +15,7 @@ use Rattle.rx_server.specs.declared.close_fault.CloseFault.{CloseFault}
 use Rattle.rx_server.specs.declared.rooms.Rooms.{Rooms}
 use Rattle.rx_server.specs.declared.start_fault.Role.TheVariants.{Drainer, Pump, Worker}
 use Rattle.rx_server.specs.Leaving.{HasLeft}
-use Rattle.rx_server.specs.Returning.{AreEmpty, CameTwice, HaveSettledSo, StopsAt}
-use Rattle.rx_server.specs.Servers.{Unsettles}
+use Rattle.rx_server.specs.Returning.{AreEmpty, CameTwice, HaveSettledSo, StopsAt, Unsettles}
 use Rattle.rx_server.specs.Wirings.{Wiring}
 use Rattle.rx_server.proofs.Settled.{CameBack, ends-count}
 

@@ -1,4 +1,9 @@
 -- The server's sentence: what each sink of a closed server took, by the definitions (this project's own rule).
+--
+-- What the sinks of a closed server took: Of each sink that a drainer had, served to its end or had it put away: what it took
+-- is a front of what the definitions give its observer for the history of the letters that its subject's box received, less
+-- those refused for want of memory; and all of it where the sink had no fault, and nothing that the subject sent its drainer
+-- came behind the word to leave. All is of one choice of marks for each subject, that of closing.
 use Rattle.std.specs.Prelude.{◌≡◌, ◌<◌, ◌⊎◌, ℕ, Bool, true, false, List, [], ◌∷◌, ◌++◌, length, Some, slice_get}
 use Rattle.std.specs.List.{AllByRecursion}
 use Rattle.rx_note.specs.declared.note.Note.{Note}

@@ -1,18 +1,35 @@
 -- What comes back of the boxes of a server, as its parts end (this project's own rule).
-use Rattle.std.specs.Prelude.{◌≡◌, ◌==◌, ◌<◌, ◌+◌, ◌++◌, ℕ, List, [], ◌∷◌, length, map}
-use Rattle.std.specs.List.{All, AllZip, Contains, FoldsTo, count_by}
+--
+-- Closing: Handed in are desks of this server, each ended. Where a report is answered, each pump and each drainer has served
+-- as its own promise says, and each box that the server made has settled and is empty: the box of a subject is the one that
+-- its pump received from, the box of a drainer that which the drainer received from, and the box of the replies to a desk
+-- received beside what the desk had received only what was still on its way. Each port came back just once, and of each its
+-- box received all that it put, in its order: to the subjects sent the desks, whether they were handed in, were those of the
+-- workers or were not handed out, and the drainers; to the drainers the pumps and the port that tells them to leave; to the
+-- desks the pumps. So with the marks of the pumps, of which there is one choice for all of this, what a drainer was sent is
+-- the route of its subjects, what a subject received of a drainer is what that sent, and what a desk was answered is the
+-- first of the replies to its calls. The report counts what pumps and drainers counted: of each subject its calls, those
+-- refused and its joins; the notes taken; and what was put away, drainer by drainer, kept where the drainer kept it, so that
+-- the report of a server that `start` made has all of it. A fault `Ended` names the first pump that stopped at a fault of its
+-- own, or where all pumps served the first such drainer; all threads are over then. `Unsettled` says that all threads served
+-- to their end, and that not each desk of the server came back just once, by hand, of its workers or ended by the close: where
+-- each did, a report is answered; and where one is answered, each desk came back once. No port is refused for want of room.
+use Rattle.std.specs.Prelude.{◌≡◌, ◌==◌, ◌<◌, ◌+◌, ◌++◌, ◌⊎◌, ℕ, List, [], ◌∷◌, length, map}
+use Rattle.std.specs.List.{All, AllZip, FoldsTo, count_by}
 use Rattle.rx_drain.specs.declared.drain_end.DrainEnd.{DrainEnd}
-use Rattle.rx_mailbox.specs.Boxes.{HasEachBye, Incoming, Outgoing}
+use Rattle.rx_mailbox.specs.Boxes.{Outgoing}
 use Rattle.rx_mailbox.specs.Passes.{SettledView}
 use Rattle.rx_pump.specs.declared.call.Call.{Call}
 use Rattle.rx_pump.specs.declared.ended_desk.EndedDesk.{EndedDesk}
 use Rattle.rx_pump.specs.declared.out.Out.{Out}
 use Rattle.rx_pump.specs.declared.pump_end.PumpEnd.{PumpEnd}
 use Rattle.rx_pump.specs.declared.reply.Reply.{Reply}
+use Rattle.rx_server.specs.declared.close_fault.CloseCause.TheVariants.{Unsettled}
+use Rattle.rx_server.specs.declared.close_fault.CloseFault.{CloseFault}
 use Rattle.rx_server.specs.declared.returned.Returned.{Returned}
 use Rattle.rx_server.specs.declared.start_fault.Role.{Role}
 use Rattle.rx_server.specs.declared.start_fault.Role.TheVariants.{Drainer, Pump, Worker}
-use Rattle.rx_settling.specs.Parts.{FirstUnsettled, IsEmpty, LacksInbox, PartsView, ReceivesMore, Settles, dealt, dealt_each, with_inboxes, placed}
+use Rattle.rx_settling.specs.Parts.{FirstUnsettled, IsEmpty, LacksInbox, PartsView, Settles, dealt, dealt_each, with_inboxes, placed}
 
 module _ {S : Type 0} where
   -- nothing came back yet of so many boxes, and there is room for each port that was made of them
@@ -63,15 +80,6 @@ module _ {S : Type 0} where
   abbrev pub EachDeskOnce : ℕ → List (EndedDesk S) → Type 0
   EachDeskOnce made desks = (number : ℕ) → number < made → count_by (λ desk. number_of desk.ports.items == number) desks ≡ 1
 
-  -- the box of the replies to the desk of this number, which came back, lacks a Bye, with what it still received
-  pub record LacksBye (number : ℕ) (desks : List (EndedDesk S)) : Type 0 where
-    pub desk : EndedDesk S
-    pub came : Contains desks desk
-    pub number_is : number_of desk.ports.items ≡ number
-    pub after : Incoming (Reply S)
-    pub received : ReceivesMore desk.inbox after
-    pub missing : ¬ HasEachBye after
-
   -- the box that counts as this thread is the first that cannot settle, pumps before drainers before workers: those before it did
   abbrev pub StopsAt : Role → ℕ → List (PartsView (Call S)) → List (PartsView (Out S)) → List (PartsView (Reply S)) → Type 0
   StopsAt Pump place calls outs answers = (settled : List (SettledView (Call S))) × FirstUnsettled calls settled place
@@ -103,6 +111,13 @@ module _ {S Rest : Type 0} where
     pub answers : List (PartsView (Reply S))
     pub came : HaveComeBack start leaves desks pumps drainers calls outs answers
     pub stops : StopsAt role place calls outs answers
+
+  -- a box of a server of so many workers did not settle: a desk came back twice, and with it a port of each subject's box, of which
+  -- the first is named; or the one that is named is the first that cannot settle
+  abbrev pub Unsettles : ℕ → List (Outgoing (Out S)) → List (EndedDesk S) → List (PumpEnd S) → List (DrainEnd S Rest) → CloseFault → Type 0
+  Unsettles workers leaves desks pumps drainers fault =
+      (fault.cause ≡ Unsettled)
+      × ((CameTwice desks × (fault.thread ≡ Pump) × (fault.index ≡ 0)) ⊎ IsFirstUnsettled workers leaves desks pumps drainers fault.thread fault.index)
 
   -- with what came back so, these are the boxes of the subjects that settled
   pub record HaveSettledSo (workers : ℕ) (leaves : List (Outgoing (Out S))) (desks : List (EndedDesk S)) (pumps : List (PumpEnd S)) (drainers : List (DrainEnd S Rest)) (settled : List (SettledView (Call S))) : Type 0 where

@@ -4,6 +4,7 @@ use Rattle.std.specs.List.{All, AllZip, filter_map, sum_by, zip}
 use Rattle.rx_hub.specs.Hubs.{HubView}
 use Rattle.rx_mailbox.specs.Boxes.{Outgoing}
 use Rattle.rx_mailbox.specs.Passes.{IsEmptied, SettledView, inbox_in}
+use Rattle.rx_mailbox.specs.Rests.{ReceivesMore}
 use Rattle.rx_mailbox.specs.Settling.{GotAll}
 use Rattle.rx_pump.specs.declared.ended_desk.EndedDesk.{EndedDesk}
 use Rattle.rx_pump.specs.declared.out.Out.{Out}
@@ -18,7 +19,6 @@ use Rattle.rx_sink.specs.Acts.{Acts}
 use Rattle.rx_drain.specs.declared.drain_end.DrainEnd.{DrainEnd}
 use Rattle.rx_drain.specs.Drainers.{DrainerView}
 use Rattle.rx_drain.specs.Serving as drainer_serving
-use Rattle.rx_settling.specs.Parts.{ReceivesMore}
 use Rattle.rx_server.specs.declared.close_fault.CloseCause.TheVariants.{Ended, Unsettled}
 use Rattle.rx_server.specs.declared.close_fault.CloseFault.{CloseFault}
 use Rattle.rx_config.specs.declared.config.Config.{Config}
@@ -28,7 +28,7 @@ use Rattle.rx_server.specs.declared.settled_boxes.SettledBoxes.{SettledBoxes}
 use Rattle.rx_server.specs.declared.start_fault.Role.{Role}
 use Rattle.rx_server.specs.declared.start_fault.Role.TheVariants.{Drainer, Pump, Worker}
 use Rattle.rx_server.specs.Ends.{FirstStopped, AreOver}
-use Rattle.rx_server.specs.Returning.{CameTwice, EachDeskOnce, IsFirstUnsettled, LacksBye}
+use Rattle.rx_server.specs.Returning.{EachDeskOnce}
 use Rattle.rx_server.specs.Wirings.{Wiring, IsWired, joined_parts}
 
 -- a server: its configuration, its pumps and drainers as they were before their first turn, the ports by which the drainers are
@@ -201,14 +201,6 @@ module _ {S Rest : Type 0} (acts : Acts S Rest) where
 
 -- WHY NOTHING IS REPORTED
 
-module _ {S Rest : Type 0} where
-  -- a box of a server of so many workers did not settle: a desk came back twice, and with it a port of each subject's box, of which
-  -- the first is named; or the one that is named is the first that cannot settle
-  abbrev pub Unsettles : ℕ → List (Outgoing (Out S)) → List (EndedDesk S) → List (PumpEnd S) → List (DrainEnd S Rest) → CloseFault → Type 0
-  Unsettles workers leaves desks pumps drainers fault =
-      (fault.cause ≡ Unsettled)
-      × ((CameTwice desks × (fault.thread ≡ Pump) × (fault.index ≡ 0)) ⊎ IsFirstUnsettled workers leaves desks pumps drainers fault.thread fault.index)
-
 module _ {S Rest : Type 0} (acts : Acts S Rest) where
   -- each pump served to its end
   abbrev pub HavePumped : List (PumpView S) → Type 0
@@ -223,19 +215,8 @@ module _ {S Rest : Type 0} (acts : Acts S Rest) where
       HavePumped pumps × FirstStopped (drainer_serving.HasDrained acts) (drainer_serving.DrainerHasFailed acts) drainers index
   IsFirst pumps drainers Worker index = ⊥
 
-  -- a drainer could not be told to leave, since its inbox was gone, though it served to its end
-  abbrev pub CannotTell : List (Outgoing (Out S)) → CloseFault → Type 0
-  CannotTell leaves fault = (fault.cause ≡ Unsettled) × (fault.thread ≡ Drainer) × (fault.index < length leaves)
-
-  -- not each of so many desks came back once, and the first pump is named, to whose box each desk has a port; or each did, and the
-  -- box of the replies to the one that is named lacks a Bye
-  abbrev pub LacksDeskOrBye : ℕ → List (EndedDesk S) → CloseFault → Type 0
-  LacksDeskOrBye made desks fault =
-      ((fault.thread ≡ Pump) × (fault.index ≡ 0) × ¬ EachDeskOnce made desks)
-      ⊎ ((fault.thread ≡ Worker) × EachDeskOnce made desks × LacksBye fault.index desks)
-
-  -- all threads served to their end, and yet a box did not settle, with the desks that were handed in, those that the server kept,
-  -- and those that it ended itself
+  -- all threads served to their end, and yet not each desk came back once, by hand, kept by the server, or ended by its close; the
+  -- first pump is named, to whose box each desk has a port
   pub record LeavesUnsettled (server : ServerView S Rest) (ended : List (EndedDesk S)) (fault : CloseFault) : Type 0 where
     pub pump_ends : List (PumpEnd S)
     pub drain_ends : List (DrainEnd S Rest)
@@ -243,10 +224,10 @@ module _ {S Rest : Type 0} (acts : Acts S Rest) where
     pub pumped : AllZip pump_serving.HasPumped server.pumps pump_ends
     pub drained : AllZip (drainer_serving.HasDrained acts) server.drainers drain_ends
     pub of_server : All (IsEndOf server.made) finished
-    pub why : CannotTell server.leaves fault ⊎ Unsettles (length server.made) (map with_bye server.leaves) (ended ++ (server.kept ++ finished)) pump_ends drain_ends fault
-    pub wanting : CannotTell server.leaves fault ⊎ LacksDeskOrBye (length server.made) (ended ++ (server.kept ++ finished)) fault
+    pub wanting : ¬ EachDeskOnce (length server.made) (ended ++ (server.kept ++ finished))
+    pub named : fault ≡ record { thread = Pump; index = 0; cause = Unsettled }
 
-  -- a thread stopped at a fault of its own, or all served to their end and a box did not settle
+  -- a thread stopped at a fault of its own, or all served to their end and not each desk came back once
   abbrev pub Fails : ServerView S Rest → List (EndedDesk S) → CloseFault → Type 0
   Fails server ended fault =
       ((fault.cause ≡ Ended) × IsFirst server.pumps server.drainers fault.thread fault.index) ⊎ LeavesUnsettled server ended fault

@@ -1,4 +1,11 @@
 -- Why a server was not started (this project's own rule).
+--
+-- Start and hand-out: a server that was started has a box for each subject, drainer and desk, of the sizes of the
+-- configuration, each new; its pumps have hubs of the rules of the subjects, and all its parts are joined by these boxes;
+-- where `start` made it, each of its drainers keeps what its sinks leave, and where `start_unread` did, none. One that was
+-- not started names a pump, a drainer or a worker of the configuration by its number: for want of memory, or of a thread for
+-- a pump or a drainer. `desk` hands out each desk once, in their order, each is one of the server's own, and has a port for
+-- each subject, of which there is one at least.
 use Rattle.std.specs.Prelude.{◌≡◌, ◌≢◌, ◌<◌, ◌⊎◌, ℕ, length}
 use Rattle.rx_config.specs.declared.config.Config.{Config}
 use Rattle.rx_server.specs.declared.start_fault.Role.{Role}

@@ -9,14 +9,13 @@ use std::fmt;
 pub enum CloseCause {
     /// The thread ended by a fault of its own.
     Ended,
-    /// All threads ended well, but a box did not settle, with all those before it settled: not each port of it came back once,
-    /// or a Bye is missing. The box of a subject counts as its pump, the box of a drainer as that drainer, and the box of replies
-    /// to a desk as that worker.
+    /// All threads ended well, but not each desk of the server came back once. The first pump is named: each desk has a port to
+    /// its box, which so did not settle.
     Unsettled,
 }
 
 /// Why a server that was closed has no report: first a thread that ended by a fault of its own, pumps before drainers, each by
-/// its number among those of its role; then a box that did not settle, of pumps, drainers and workers in that order.
+/// its number among those of its role; then a desk that did not come back once.
 #[derive(Clone, Copy, Debug, PartialEq, Eq)]
 pub struct CloseFault {
     pub thread: Role,

@@ -1,4 +1,13 @@
 // How a server is closed: its desks and leave ports end, and its threads are joined.
+//
+// `close` asks that the ended desks are the server's own, since no box can be compared while a program runs. A port that came
+// back twice, or none, is found all the same, and told as `Unsettled`.
+//
+// The Byes that are left in the boxes of replies are received only where every thread ended well. An ended port keeps its
+// sender, so after a fault a receiver could wait for ever.
+//
+// What a close needs is made at the start: room for each port of each box, and for each box that settles. So a close takes no
+// memory, and has no fault of that kind.
 ghost use Rattle.std.specs.Prelude.{◌≡◌, ◌+◌, ◌<◌, ◌≤◌, [], List, length, map, vec_len, vec_capacity, MatchResult};
 ghost use Rattle.std.specs.List.{All, AllZip};
 ghost use Rattle.std.specs.Vec.Iter.{into_iter_items};
@@ -26,16 +35,15 @@ impl<S: Sink> Server<S> {
 
     /// Ends the desks that were not handed out, and waits until each subject heard that all desks ended and what waits for observers
     /// has gone to their sinks; but where nothing moves for a quarter of a second, a sink takes nothing, and that is given up. Then it
-    /// tells the drainers to leave, waits until all threads have ended, receives what is still
-    /// on its way to the desks, settles each box that `start` made, and reports. Handed in are the desks that were handed out, each
-    /// ended. One that was let go instead has ended too, but is missing.
+    /// tells the drainers to leave, waits until all threads have ended, receives what is still in the boxes of the desks, settles
+    /// each box that `start` made, and reports. Handed in are the desks that were handed out, each ended. One that was let go
+    /// instead has ended too, but is missing.
     ///
     /// # Errors
     ///
     /// `Ended`: a thread ended by a fault of its own, the first such pump, else the first such drainer; all threads have ended
-    /// then too. `Unsettled`: all served to their end, and a box did not settle. It names the first pump where not each desk of
-    /// the server came back once, since one that was handed out was not handed in, or is gone; a drainer that could not be told
-    /// to leave; or a worker whose box of replies lacks a Bye. Where a report is answered, each desk came back once.
+    /// then too. `Unsettled`: all served to their end, and not each desk of the server came back once, since one that was handed
+    /// out was not handed in, or is gone; it names the first pump. Where each did, a report is answered.
     pub fn close<R: Threads + Wait>(
         self,
         rt: &R,
@@ -51,7 +59,18 @@ impl<S: Sink> Server<S> {
         running.join(rt, &mut rooms)?;
         match told {
             Ok(()) => rooms.settle(rt, ended),
-            Err(place) => Err(CloseFault::unsettled(Role::Drainer, place)),
+            Err(_) => {
+                // A drainer that served to its end received the Bye of each of its ports, so each of these has ended.
+                let Some(port) = leaves.pop() else {
+                    unreachable!()
+                };
+                let Some(drainer) = rooms.drainers.pop() else {
+                    unreachable!()
+                };
+                let DrainEnd { mut inbox, .. } = drainer;
+                inbox.show_open(port);
+                unreachable!()
+            }
         }
     }
 }

@@ -11,6 +11,8 @@
 //!
 //! The configuration, and the desks of sessions with their workers, stand in crates of their own below this one, and are
 //! exported again.
+//!
+//! Its tests stand in `crates/rx_edge_tests`.
 #![tactic(auto)]
 
 mod close_fault;

@@ -1,4 +1,9 @@
 // The parts of a server, made of new boxes.
+//
+// The parts of a server go into room that was made before them, and its loops take what they are made of from lists that they
+// do not own. So no loop has a way out on which lists are let go, and those ways were the other part. A server is started and
+// closed in steps that own one part each, for the same reason: what a function costs to prove grows with the types that it
+// reaches times the ways out on which it lets something go.
 ghost use Rattle.std.specs.Prelude.{◌≡◌, ◌+◌, ◌<◌, ◌≤◌, ◌++◌, ◌∷◌, [], length, map, vec_len, vec_capacity, IfErr, IfOk, OnErr, OnOk, true};
 ghost use Rattle.std.specs.List.{All, enumerate_from, zip};
 ghost use Rattle.std.specs.Vec.Iter.{into_iter_items};

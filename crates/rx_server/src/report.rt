@@ -27,7 +27,7 @@ pub struct Report<S: Sink> {
     pub(crate) boxes: SettledBoxes<S>,
 }
 
-// It stands here, and isn't derived, so that what lets go of a report is one call that is proved once.
+// By hand: rx_heap says why.
 impl<S: Sink> Drop for Report<S> {
     fn drop(self) {
         let Report {

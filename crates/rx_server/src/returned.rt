@@ -25,7 +25,7 @@ pub(crate) struct Returned<S: Drop> {
     pub(crate) replies: Vec<BoxParts<Reply<S>>, Heap>,
 }
 
-// It stands here, and isn't derived, so that what lets go of the parts of boxes is one call that is proved once.
+// By hand: rx_heap says why.
 impl<S: Drop> Drop for Returned<S> {
     fn drop(self) {
         let Returned {

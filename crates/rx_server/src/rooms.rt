@@ -2,8 +2,8 @@
 ghost use Rattle.std.specs.Prelude.{◌≡◌, ◌+◌, ◌++◌, ◌^◌, ◌<◌, [], length, map, IfErr, IfOk};
 ghost use Rattle.std.specs.List.{sum_by};
 ghost use Rattle.rx_pump.specs.Pumps.{counted};
-ghost use Rattle.rx_server.specs.Returning.{CameTwice, HaveComeBack, HaveSettledSo};
-ghost use Rattle.rx_server.specs.Servers.{HaveSettled, Reports, Unsettles, report_of};
+ghost use Rattle.rx_server.specs.Returning.{CameTwice, HaveComeBack, HaveSettledSo, Unsettles};
+ghost use Rattle.rx_server.specs.Servers.{HaveSettled, Reports, report_of};
 ghost use Rattle.rx_server.specs.Wirings.{Wiring};
 
 use crate::close_fault::{CloseCause, CloseFault};
@@ -32,7 +32,7 @@ pub(crate) struct Rooms<S: Sink> {
     pub(crate) settled: SettledBoxes<S>,
 }
 
-// It stands here, and isn't derived, so that what lets go of the rooms of a server is one call that is proved once.
+// By hand: rx_heap says why.
 impl<S: Sink> Drop for Rooms<S> {
     fn drop(self) {
         let Rooms {

@@ -25,7 +25,7 @@ pub(crate) struct Running<S: Sink> {
     pub(crate) drainers: Vec<RunningDrainer<S>, Heap>,
 }
 
-// It stands here, and isn't derived, so that what lets go of running threads is one call that is proved once.
+// By hand: rx_heap says why.
 impl<S: Sink> Drop for Running<S> {
     fn drop(self) {
         let Running {

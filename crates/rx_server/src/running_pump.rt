@@ -34,7 +34,7 @@ pub(crate) struct RunningPump<S: Drop> {
     heard: SharedHeard,
 }
 
-// It stands here, and isn't derived, so that what lets go of a running pump is one call that is proved once.
+// By hand: rx_heap says why.
 impl<S: Drop> Drop for RunningPump<S> {
     fn drop(self) {
         let RunningPump {

@@ -12,7 +12,7 @@ pub(crate) struct SettledBoxes<S: Drop> {
     pub(crate) replies: Vec<Settled<Reply<S>>, Heap>,
 }
 
-// It stands here, and isn't derived, so that what lets go of the boxes of a server is one call that is proved once.
+// By hand: rx_heap says why.
 impl<S: Drop> Drop for SettledBoxes<S> {
     fn drop(self) {
         let SettledBoxes {

@@ -53,7 +53,7 @@ struct Boxes<S: Drop> {
     replies: Opened<Reply<S>>,
 }
 
-// It stands here, and isn't derived, so that what lets go of the boxes of a server is one call that is proved once.
+// By hand: rx_heap says why.
 impl<S: Drop> Drop for Boxes<S> {
     fn drop(self) {
         let Boxes {

@@ -6,7 +6,8 @@ use Rattle.rx_mailbox.specs.Boxes.{Box, HasEachBye, Incoming, Outgoing, incoming
 use Rattle.rx_mailbox.specs.declared.letter.Letter.{Letter}
 use Rattle.rx_mailbox.specs.Passes.{IsEmptied, SettledView, inbox_in}
 use Rattle.rx_mailbox.specs.Settling.{GotAll}
-use Rattle.rx_settling.specs.Parts.{AreOfOneBox, IsEmpty, PartsView, ReceivesMore, Settles, dealt, dealt_each, with_inboxes, placed, with_inbox}
+use Rattle.rx_mailbox.specs.Rests.{ReceivesMore}
+use Rattle.rx_settling.specs.Parts.{AreOfOneBox, IsEmpty, PartsView, Settles, dealt, dealt_each, with_inboxes, placed, with_inbox}
 use Rattle.rx_settling.proofs.Rows.{dealt-count}
 
 module _ {X B : Type 0} (P : X → Outgoing B → Type 0) where

@@ -1,9 +1,9 @@
 -- What came back of boxes that end, and when they settle (this project's own rule).
 use Rattle.std.specs.Prelude.{◌≡◌, ◌+◌, ◌≤◌, ℕ, zero, suc, List, [], ◌∷◌, ◌++◌, length, take, Option, None, Some, slice_get}
 use Rattle.std.specs.List.{All, AllZip}
-use Rattle.rx_mailbox.specs.declared.letter.Letter.{Letter}
-use Rattle.rx_mailbox.specs.Boxes.{AreOf, HasEachBye, Incoming, Outgoing, incoming}
+use Rattle.rx_mailbox.specs.Boxes.{AreOf, HasEachBye, Incoming, Outgoing}
 use Rattle.rx_mailbox.specs.Passes.{IsEmptied, SettledView, inbox_in}
+use Rattle.rx_mailbox.specs.Rests.{ReceivesMore}
 use Rattle.rx_mailbox.specs.Settling.{GotAll, IsEachOnce}
 
 -- of a box: its inbox, where that came back, the ended ports that came back, and for how many there is room
@@ -76,14 +76,6 @@ module _ {B : Type 0} where
   missing [] = 0
   missing (parts ∷ boxes) = lacking parts.inbox + missing boxes
 
-  -- RECEIVING
-
-  -- letters more were received, but none where the Bye of each port had been
-  pub record ReceivesMore (before after : Incoming B) : Type 0 where
-    pub more : List (Letter B)
-    pub received : after ≡ incoming before.box before.ports (before.received ++ more)
-    pub only_missing : HasEachBye before → more ≡ []
-
   -- SETTLING
 
   -- its inbox and ports belong to one box
@@ -100,11 +92,9 @@ module _ {B : Type 0} where
     pub got : All (GotAll (inbox_in settled)) parts.ports
     pub emptied : IsEmptied settled
 
-  -- its inbox did not come back; or, with what it received then, not each port came back once, or a Bye is missing
+  -- its inbox did not come back, or not each port came back once
   abbrev pub CannotSettle : PartsView B → Type 0
-  CannotSettle parts =
-      (inbox : Incoming B) → parts.inbox ≡ Some inbox
-      → (after : Incoming B) × ReceivesMore inbox after × ¬ (IsEachOnce after.ports parts.ports × HasEachBye after)
+  CannotSettle parts = (inbox : Incoming B) → parts.inbox ≡ Some inbox → ¬ IsEachOnce inbox.ports parts.ports
 
   -- the one at this place is the first that cannot settle
   pub record FirstUnsettled (boxes : List (PartsView B)) (settled : List (SettledView B)) (place : ℕ) : Type 0 where

@@ -1,9 +1,8 @@
-ghost use Rattle.std.specs.Prelude.{◌≡◌, ◌<◌, ◌≢◌, ◌≤◌, [], true, false, None, length, IfOk, MatchOption, MatchResult};
-ghost use Rattle.rx_mailbox.specs.Boxes.{HasEachBye};
-ghost use Rattle.rx_settling.specs.Parts.{AreOfOneBox, CannotSettle, IsFull, ReceivesMore, Settles, with_inbox, with_port};
+ghost use Rattle.std.specs.Prelude.{◌≡◌, ◌<◌, ◌≢◌, ◌≤◌, [], true, false, None, length, IfOk, MatchOption};
+ghost use Rattle.rx_settling.specs.Parts.{AreOfOneBox, CannotSettle, IsFull, Settles, with_inbox, with_port};
 
 use rx_heap::{Heap, Memory};
-use rx_mailbox::{EndedPort, Gone, Inbox, Settled, settle};
+use rx_mailbox::{EndedPort, Inbox, Settled, settle_rest};
 use std::marker::Model;
 use std::sync::Wait;
 
@@ -13,7 +12,7 @@ pub struct BoxParts<B: Drop> {
     pub(crate) ports: Vec<EndedPort<B>, Heap>,
 }
 
-// It stands here, and isn't derived, so that what lets go of the parts of a box is one call that is proved once.
+// By hand: rx_heap says why.
 impl<B: Drop> Drop for BoxParts<B> {
     fn drop(self) {
         let BoxParts { inbox: _, ports: _ } = self;
@@ -70,34 +69,16 @@ impl<B: Drop> BoxParts<B> {
         true
     }
 
-    // The box, settled, once the Byes that are left were received. None where its inbox didn't come back, or not each of its
-    // ports once, or a Bye is missing and no letter will come any more.
+    // The box, settled, with what was still in it received. None where its inbox didn't come back, or not each of its ports once.
     pub(crate) fn settle<R: Wait>(self, rt: &R) -> Option<Settled<B>>
         requires { AreOfOneBox self }
         ensures { MatchOption result (CannotSettle self) (Settles self) }
     {
         let BoxParts { inbox, ports } = self;
-        let mut inbox = inbox?;
-        let Ok(()) = receive_byes(rt, &mut inbox) else {
-            return None;
-        };
-        let Ok(settled) = settle(inbox, ports) else {
-            return None;
-        };
-        Some(settled)
-    }
-}
-
-// ReceivesMore until the Bye of each port was received. `Err` where one is missing, and no letter will come any more.
-fn receive_byes<B: Drop, R: Wait>(rt: &R, inbox: &mut Inbox<B>) -> Result<(), Gone>
-    ensures received { ReceivesMore inbox.old inbox.new }
-    ensures byes { MatchResult result (λ _. HasEachBye inbox.new) (λ _. ¬ HasEachBye inbox.new) }
-{
-    for _ in rt.forever() {
-        if inbox.has_each_bye() {
-            return Ok(());
+        let inbox = inbox?;
+        match settle_rest(rt, inbox, ports) {
+            Ok(settled) => Some(settled),
+            Err(_) => None,
         }
-        inbox.recv(rt)?;
     }
-    unreachable!()
 }

@@ -1,3 +1,6 @@
+// Boxes that end together settle by rows. What made several boxes handed out their ports in rows, one of each box, and what
+// comes back are rows too; so a row is dealt to the boxes without a look at a port's number, and what holds of all ports of
+// each box holds of each row. Whether each number came back just once is asked once, by `settle`.
 ghost use Rattle.std.specs.Prelude.{◌≡◌, ◌≤◌, [], length, vec_capacity, MatchResult};
 ghost use Rattle.std.specs.List.{All, AllZip};
 ghost use Rattle.rx_settling.specs.Parts.{AreOfOneBox, FirstUnsettled, Settles};
@@ -7,12 +10,9 @@ use rx_heap::Heap;
 use rx_mailbox::Settled;
 use std::sync::Wait;
 
-/// Receives of each box, in their order, the Byes that are left, and settles it; `settled` gets them in that order. `Err`
-/// tells the place of the first that doesn't settle: its inbox didn't come back, or not each of its ports once, or a Bye is
-/// missing.
-///
-/// It waits for letters that are on their way. A port that has ended is kept until its box settles, so a Bye that was never
-/// put is waited for for ever.
+/// Receives what is still in each box, in their order, and settles it; `settled` gets them in that order. `Err` tells the place
+/// of the first that doesn't settle: its inbox didn't come back, or not each of its ports once. It waits for no letter, since a
+/// port that has ended has put its last.
 pub fn settle_each<B: Drop, R: Wait>(
     rt: &R,
     boxes: Vec<BoxParts<B>, Heap>,

@@ -1,4 +1,6 @@
 -- What an acceptor does with the connections that it accepts: it deals them to its workers in turn (this project's own rule).
+--
+-- The acceptor: connection i, from 0, goes to worker i modulo their number, each once; after a fault those before it did.
 use Rattle.std.specs.Prelude.{◌≡◌, ◌+◌, ◌<◌, ◌%◌, ℕ, List, [], ◌∷◌, ◌++◌, length, Result, Ok, Err}
 use Rattle.rx_mailbox.specs.Boxes.{Outgoing}
 use Rattle.rx_pump.specs.Marks.{to_port}

@@ -1,5 +1,17 @@
 -- What a crew of workers does with the connections of a listener: each is served by the worker to which it was dealt (this
 -- project's own rule).
+--
+-- All connections: There was no desk exactly where it answers `NoDesk`. Where all are served, just as many were accepted as
+-- the configuration says; `Accept` says that fewer were, and that then the listener failed. In both cases connection i was
+-- served by the worker of desk i modulo their number, those of a worker in their order: its box, which holds 16, was new and
+-- has settled, so it received just those that were dealt to it and then its Bye, and served each to its end but those that it
+-- gave up. `Memory`, and `Thread` of a worker that did not begin: none was accepted. `Thread` behind that names the worker of
+-- the next connection, which is given up, or else the first whose box did not settle: those of the desks before it served
+-- what was dealt to them. The desks come back as their calls left them, after a fault too.
+--
+-- That a fault of a worker was met by a real want, of a thread, of a watch or of memory, no contract can say, nor that a box
+-- which did not settle had a worker that was gone. That the server waits for each of its threads, and the order in which it
+-- closes, is read off the code.
 use Rattle.std.specs.Prelude.{◌≡◌, ◌⊎◌, ◌+◌, ◌<◌, ◌%◌, ℕ, List, [], ◌∷◌, ◌++◌, length, map, reverse, Option, None, Some, IfSome, IsSomeAnd, Result, Ok, Err}
 use Rattle.rx_config.specs.declared.config.Config.{Config}
 use Rattle.rx_mailbox.specs.declared.letter.Post.TheVariants.{Bye}

@@ -1,5 +1,14 @@
 -- What a session's desk does: it makes one call to the subject of a name, and answers by what came of it (this project's
 -- own rule).
+--
+-- The session's desk: A command that names no subject of the configuration is answered `SUBJECT`, and no call is made; nor is
+-- there memory for its text. Any other makes just one call to the first subject of its name, with the moment that `now` told:
+-- the Emit of the note, or the Join by that policy, with the configured window as its first request and a line sink over the
+-- writer, in the version that `follow` was given. It is answered by what the call was, `GONE` where it had no reply. `follow`
+-- answers `Taken` just where the observer joined or no sink came back; else the writer comes back with the answer. What was
+-- begun is the same: each note a moment and a call of its own, in their order, and each `answer` that of the oldest; so a
+-- session is as if each line had been carried out before the next. Of a desk that makes no call any more each emission is
+-- answered `GONE`, and `emit` and `dispose` put nothing; what was begun with an earlier one may have been put before that.
 use Rattle.std.specs.Prelude.{◌≡◌, ◌<◌, ◌≤◌, ℕ, true, false, List, [], length, Option, None, Some, MatchOption, Result, Ok, Err, position, if◌then◌else◌}
 use Rattle.rx_note.specs.Choices.{Choice}
 use Rattle.rx_note.specs.declared.answer.Answer.{Answer}

@@ -1,5 +1,19 @@
 -- What a worker does: it serves the connections that it receives, each by a session that has its turns among those of the
 -- others (this project's own rule).
+--
+-- A worker: What it does is a list of deeds, in their order: a connection came and was given a vacant place, or was given up;
+-- the Bye came; its inbox told that no letter comes any more; the session at a place had one turn; the follower at a place
+-- was parted with, and its observer, whom the last Join of its session made, was disposed of by one call. The desk's calls
+-- are just the calls of these deeds, in the order made. It ends behind its Bye alone, or where its inbox told that none comes
+-- any more, and once no session is under way. Each connection that was given a place is served to its end: what was read and
+-- written there is a session, as the session's bytes say, whose lines were asked of the desk as others left it. `sessions`
+-- counts them. What `join` answers is this of the worker that was started. No clause says why a connection was given up,
+-- which is for want of memory or since it can't be watched, nor that the inbox did tell that none comes, nor that who is
+-- ready has a turn: these are tested. A session begins watched for bytes; behind a turn it is watched for bytes where it has
+-- none, for room too where its writer took no more, and as before where it goes on at once. Inside the crate each call that
+-- serves is given a `Readiness` that watches the connection at each place for that, who follows for the hang-up, and nothing
+-- at a vacant place, and leaves it so. Of who is ready, the session at its place alone has turns, and where the `Readiness`
+-- tells that its peer hung up, and just there, the follower at its place is parted with.
 use Rattle.std.specs.Prelude.{◌≡◌, ◌⊎◌, ◌<◌, ℕ, Bool, true, false, List, [], ◌∷◌, ◌++◌, length, Option, None, Some, option_map}
 use Rattle.std.specs.List.{All, Contains}
 use Rattle.rx_mailbox.specs.Boxes.{Incoming, with_letter}

@@ -1,3 +1,5 @@
+// A place of a worker's table is its connection's key, and is given anew only before a wait, so that no event of one
+// connection is taken for another's.
 ghost use Rattle.std.specs.Prelude.{◌≡◌, ◌<◌, ◌↔◌, [], ◌∷◌, ◌++◌, IfNone, IfOk, IfSome, IsTrue, MatchOption, None, OnErr, OnOk, OnSome, Some, length};
 ghost use Rattle.std.specs.List.{All};
 ghost use Rattle.rx_workers.specs.Clients.{AreSameClients, IsFollower, IsQuiet, IsTalk, Sets, client_at, first_vacant};
@@ -14,7 +16,7 @@ pub struct Clients<C: Drop, W: Drop> {
     places: Vec<Option<Client<C, W>>, Heap>,
 }
 
-// It stands here, and isn't derived, so that what lets go of the clients is one call that is proved once.
+// By hand: rx_heap says why.
 impl<C: Drop, W: Drop> Drop for Clients<C, W> {
     fn drop(self) {
         let Clients { places: _ } = self;

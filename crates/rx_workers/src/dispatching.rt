@@ -1,4 +1,6 @@
 // The connections of a listener, served by a crew of workers.
+//
+// A worker that is lost is told in the place of a listener that failed, since not all that was accepted was served then.
 ghost use Rattle.std.specs.Prelude.{◌≡◌, ◌↔◌, ◌+◌, ◌≤◌, ◌<◌, ℕ, [], Err, OnOk, IfErr, IfOk, map, reverse, vec_len, vec_capacity};
 ghost use Rattle.std.specs.Arc.{arc_value};
 ghost use Rattle.std.specs.List.{All, AllZip};

@@ -1,4 +1,8 @@
 // How the workers of a crew end, and their desks come back.
+//
+// A worker's box is settled as soon as the worker has ended, one after another from the first desk on, and each is told that
+// no connection comes any more right before: so a worker whose sessions have ended waits on beside the others, which costs a
+// thread that sleeps, and its observers are looked after meanwhile. The room for that is taken with the box.
 ghost use Rattle.std.specs.Prelude.{◌≡◌, ◌+◌, ◌<◌, ◌≤◌, ℕ, List, [], None, Some, IfSome, map, reverse, vec_len, vec_capacity};
 ghost use Rattle.std.specs.List.{All, AllZip};
 ghost use Rattle.rx_config.specs.declared.config.Config.{Config};

@@ -30,7 +30,7 @@ pub struct Hired<M: Moments + Drop, C: Read + Drop, W: Write + Drop, P: Readines
     room: Vec<EndedPort<(C, W)>, Heap>,
 }
 
-// It stands here, and isn't derived, so that what lets go of a hired worker is one call that is proved once.
+// By hand: rx_heap says why.
 impl<M: Moments + Drop, C: Read + Drop, W: Write + Drop, P: Readiness<C> + Drop> Drop
     for Hired<M, C, W, P> {
     fn drop(self) {

@@ -7,7 +7,7 @@ pub struct Idle<C, P: Readiness<C> + Drop> {
     of: PhantomData<C>,
 }
 
-// It stands here, and isn't derived, so that what lets go of it is one call that is proved once.
+// By hand: rx_heap says why.
 impl<C, P: Readiness<C> + Drop> Drop for Idle<C, P> {
     fn drop(self) {
         let Idle {

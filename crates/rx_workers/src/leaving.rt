@@ -1,4 +1,8 @@
 // What a turn of a session leaves at its place.
+//
+// A peer that hung up is found by the worker that had its session: it goes on to watch the connection for that alone, and
+// disposes of the observer by its own desk. The writer, as it goes, shuts the connection down, so that the peer hears the end
+// though the worker still watches. That an observer has left by then is an answer like any other.
 ghost use Rattle.std.specs.Prelude.{◌≡◌, Some};
 ghost use Rattle.rx_workers.specs.Watching.{IsAimed, Watches, WatchesSame, aim_of};
 ghost use Rattle.rx_workers.specs.Working.{GoesOn, Leaves, goes_on, left_by};

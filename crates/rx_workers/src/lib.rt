@@ -9,6 +9,8 @@
 //! which it was dealt, and the desks are where they were, as their calls left them. Below that stand what a session's desk does
 //! (`SessionDesks.antt`), what a worker does and leaves (`Working.antt`, `Workers.antt`) and where connections go
 //! (`Accepting.antt`).
+//!
+//! What it does is tested over a server, in `rx_edge_tests`.
 #![tactic(auto)]
 
 mod accepting;

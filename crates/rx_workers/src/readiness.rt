@@ -1,3 +1,10 @@
+// A readiness says what it watches, and not who is ready. A turn of a session is right whenever it is made, and one that is
+// never made leaves it as it is, so the worker's contract holds whatever a poll tells (`rx_workers::Readiness`). That one
+// which is ready has its turn is tested. What is watched for what is known by key: between any two calls of a worker the
+// connection at each place is watched for what is waited for there, and nothing where nobody is (`specs/Watching.antt`). A
+// worker begins by an `Idle` readiness, whose invariant is that it watches nothing, so no list of them needs a clause. What
+// was asked of the system is a history that only contracts see and that takes no memory (`rx_program::WatchLog`, over `Log`
+// of `http_server`).
 use std::error::Error;
 use std::fmt;
 

@@ -39,7 +39,7 @@ pub struct RunningWorker<
     handle: PromisedHandle<WorkerEnd<C, W>, Worked<M, C, W, P>>,
 }
 
-// It stands here, and isn't derived, so that what lets go of a running worker is one call that is proved once.
+// By hand: rx_heap says why.
 impl<M: Moments + Drop, C: Read + Drop, W: Write + Drop, P: Readiness<C> + Drop> Drop
     for RunningWorker<M, C, W, P> {
     fn drop(self) {

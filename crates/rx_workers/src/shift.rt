@@ -27,7 +27,7 @@ pub struct Shift<'a, R, M: Drop, C: Drop, W: Write + Drop> {
     is_open: bool,
 }
 
-// It stands here, and isn't derived, so that what lets go of a shift is one call that is proved once.
+// By hand: rx_heap says why.
 impl<'a, R, M: Drop, C: Drop, W: Write + Drop> Drop for Shift<'a, R, M, C, W> {
     fn drop(self) {
         let Shift {

@@ -33,7 +33,7 @@ pub struct Worker<M: Drop, C: Drop, W: Write + Drop, P: Readiness<C> + Drop> {
     readiness: Idle<C, P>,
 }
 
-// It stands here, and isn't derived, so that what lets go of a worker is one call that is proved once.
+// By hand: rx_heap says why.
 impl<M: Drop, C: Drop, W: Write + Drop, P: Readiness<C> + Drop> Drop for Worker<M, C, W, P> {
     fn drop(self) {
         let Worker {

@@ -1,6 +1,7 @@
 use Rattle.std.proofs.Common.{◌∙◌, ◌++◌, ◌<◌, sym, ap, subst, List, Vec, map, length, length-append, inl, IfErr, IfOk, arith}
 use Rattle.std.proofs.lemmas.List.{length-map}
 use Rattle.std.proofs.lemmas.Result.{err_from_is_err_and}
+use Rattle.std.proofs.lemmas.Slice.Zip.{AllZip-long}
 use Rattle.std.specs.List.{All, AllZip}
 use Rattle.rx_mailbox.specs.Boxes.{all_told}
 use Rattle.rx_pump.specs.Pumps.{PumpView}
@@ -11,11 +12,12 @@ use Rattle.rx_drain.specs.Drainers.{DrainerView}
 use Rattle.rx_drain.specs.Serving as drainer_serving
 use Rattle.rx_server.specs.declared.returned.Returned.{Returned}
 use Rattle.rx_server.specs.declared.close_fault.CloseFault.{CloseFault}
-use Rattle.rx_server.specs.Returning.{HaveSettledSo}
-use Rattle.rx_server.specs.Servers.{HaveSettled, IsDeskOf, IsFirst, Unsettles}
-use Rattle.rx_server.proofs.Closed.{not-told, settled-or-not}
+use Rattle.rx_server.specs.Returning.{HaveSettledSo, Unsettles}
+use Rattle.rx_server.specs.Servers.{HaveSettled, IsDeskOf, IsFirst}
+use Rattle.rx_server.proofs.Closed.{settled-or-not}
 use Rattle.rx_server.proofs.Ending.{desks-many, has-left}
 use Rattle.rx_server.proofs.Joining.{leaves-fit}
+use Rattle.rx_server.proofs.Told.{open-came}
 use Rattle.rx_server.proofs.Whole.{desks-own}
 use Rattle.rx_server.proofs.server.Server.close.Goals as goal
 
@@ -46,8 +48,8 @@ settle-requires g c =
           (subst (λ (drainers : List (DrainerView _ _)). AllZip (drainer_serving.HasDrained g.S.Sink.acts) drainers left.drainers.items) parts.ensures.drainers c.in_ok-join.ensures.drained),
     )
 
-pub returns-in-Ok : goal.returns-in-Ok
-returns-in-Ok g c =
+pub returns : goal.returns
+returns g c =
     let parts = c.into_parts-running in
     let self = c.args.self in
     let whole = parts.ensures.whole in
@@ -73,23 +75,44 @@ returns-in-Ok g c =
     (subst (λ (l : List _). IfErr c.settle.result (Unsettles (length left.returned.replies.items) l (c.args.ended.items ++ (self.kept ++ more.0)) left.pumps.items left.drainers.items)) leaves
     (subst (λ (l : List _). IfErr c.settle.result (Unsettles (length left.returned.replies.items) left.leaves.items (c.args.ended.items ++ l) left.pumps.items left.drainers.items)) desks c.settle.ensures.fault))
 
-pub returns-in-Err : goal.returns-in-Err
-returns-in-Err g c =
+-- a port that did not end is left
+pub unreachable-requires : goal.unreachable-requires
+unreachable-requires g c = omega (arith, c.in_default.ensures.cases.0, c.in-Err.ensures.ended.0.some, told-length c.finish_all-told.new.ports.items, c.finish_all-told.new.ports.ok.0)
+
+-- and as many drainers ended as there are ports that tell them to leave
+pub unreachable-requires-in_default-pop : goal.unreachable-requires-in_default-pop
+unreachable-requires-in_default-pop g c =
     let parts = c.into_parts-running in
-    let self = c.args.self in
     let whole = parts.ensures.whole in
-    let left = c.join.new.rooms in
+    let self = c.args.self in
     let some = c.in-Err.ensures.ended.0 in
     let leaves = ap length parts.ensures.leaves ∙ leaves-fit whole.wiring whole.keeps self.leaves self.drainers whole.wired.leaves_are whole.wired.drainers_are in
-    let cut = ap length some.parts in
-    let count = ap length some.ended in
-    let below : c.in-Err.place < length self.leaves = omega (arith, leaves, ap length parts.ensures.leaves, cut, length-append some.done (all_told c.finish_all-told.new.ports.items), told-length parts.result.1.items, some.some, count, ap length parts.ensures.rooms.no_leaves, length-append parts.result.3.leaves.items (map with_bye some.done), length-map some.done with_bye, c.in-Err.ensures.ended.1, c.finish_all-told.new.ended.ok) in
-    let more = c.finish_desks.ensures.own self.made (subst (All (IsDeskOf self.made)) (sym parts.ensures.desks) (desks-own self whole)) in
-    not-told g.S.Sink.acts self whole left.pumps.items left.drainers.items c.args.ended.items more.0 c.requires
-    (subst (λ (pumps : List (PumpView _)). AllZip pump_serving.HasPumped pumps left.pumps.items) parts.ensures.pumps c.in_ok-join.ensures.pumped)
-    (subst (λ (drainers : List (DrainerView _ _)). AllZip (drainer_serving.HasDrained g.S.Sink.acts) drainers left.drainers.items) parts.ensures.drainers c.in_ok-join.ensures.drained)
-    c.unsettled.result more.2
-    (ap (λ (f : CloseFault). f.cause) c.unsettled.ensures, ap (λ (f : CloseFault). f.thread) c.unsettled.ensures, subst (λ n. n < length self.leaves) (sym (ap (λ (f : CloseFault). f.index) c.unsettled.ensures)) below)
+    let drained = subst (λ (drainers : List (DrainerView _ _)). AllZip (drainer_serving.HasDrained g.S.Sink.acts) drainers c.join.new.rooms.drainers.items) parts.ensures.drainers c.in_ok-join.ensures.drained in
+    let many = AllZip-long (drainer_serving.HasDrained g.S.Sink.acts) self.drainers c.join.new.rooms.drainers.items drained in
+    let told = ap length some.parts ∙ told-length parts.result.1.items in
+    omega (arith, c.in_default-pop.ensures.cases.0, some.some, told, length-append some.done (all_told c.finish_all-told.new.ports.items), leaves, many, c.join.new.rooms.drainers.ok.0)
+
+-- that port is of the box of the last drainer, which received its Bye
+pub show_open-requires : goal.show_open-requires
+show_open-requires g c =
+    let parts = c.into_parts-running in
+    let self = c.args.self in
+    let some = c.in-Err.ensures.ended.0 in
+    let ends = c.join.new.rooms.drainers.items in
+    let drained = subst (λ (drainers : List (DrainerView _ _)). AllZip (drainer_serving.HasDrained g.S.Sink.acts) drainers ends) parts.ensures.drainers c.in_ok-join.ensures.drained in
+    (open-came g.S.Sink.acts self parts.ensures.whole ends drained some.done c.finish_all-told.new.ports.items c.pop.new.self.items c.in-Some.port c.pop-in-Err.new.self.items c.in-Some-pop.drainer
+    c.in-Some.ensures.items (some.parts ∙ ap all_told parts.ensures.leaves) c.in-Some-pop.ensures.items).0
+
+pub unreachable-requires-in-Err : goal.unreachable-requires-in-Err
+unreachable-requires-in-Err g c =
+    let parts = c.into_parts-running in
+    let self = c.args.self in
+    let some = c.in-Err.ensures.ended.0 in
+    let ends = c.join.new.rooms.drainers.items in
+    let drained = subst (λ (drainers : List (DrainerView _ _)). AllZip (drainer_serving.HasDrained g.S.Sink.acts) drainers ends) parts.ensures.drainers c.in_ok-join.ensures.drained in
+    c.show_open.ensures.open
+    (open-came g.S.Sink.acts self parts.ensures.whole ends drained some.done c.finish_all-told.new.ports.items c.pop.new.self.items c.in-Some.port c.pop-in-Err.new.self.items c.in-Some-pop.drainer
+    c.in-Some.ensures.items (some.parts ∙ ap all_told parts.ensures.leaves) c.in-Some-pop.ensures.items).1
 
 pub returns-in_err-join : goal.returns-in_err-join
 returns-in_err-join g c =
