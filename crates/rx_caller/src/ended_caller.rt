@@ -1,0 +1,45 @@
+ghost use Rattle.std.specs.Prelude.{◌≡◌};
+
+use rx_pump::EndedDesk;
+use rx_server::Server;
+use rx_sink::Sink;
+use std::marker::Model;
+use std::snapshot::Snapshot;
+
+/// What a caller left that has ended: [`crate::Callers::take`] has it back.
+pub struct EndedCaller<S: Sink> {
+    pub(crate) desk: EndedDesk<S>,
+    // Its server: contracts alone see it.
+    pub(crate) server: Snapshot<Server<S>>,
+}
+
+// It stands here, and isn't derived, so that what lets go of it is one call that is proved once.
+impl<S: Sink> Drop for EndedCaller<S> {
+    fn drop(self) {
+        let EndedCaller { desk: _, server: _ } = self;
+    }
+}
+
+impl<S: Sink> Model for EndedCaller<S> {
+    ghost use Rattle.rx_server.specs.Servers.{IsEndOf};
+    ghost use Rattle.rx_caller.specs.Calling.{EndView};
+
+    ghost Value = { EndView S };
+
+    ghost view = { λ e. record { end = e.desk; made = e.server.value.made } };
+
+    ghost invariant = { λ e. IsEndOf e.server.value.made e.desk };
+}
+
+impl<S: Sink> EndedCaller<S> {
+    ghost use Rattle.rx_server.specs.Servers.{IsEndOf};
+
+    // What its desk left, which is of its server.
+    pub(crate) fn into_desk(self) -> EndedDesk<S>
+        ensures desk { result ≡ self.end }
+        ensures own { IsEndOf self.made result }
+    {
+        let EndedCaller { desk, server: _ } = self;
+        desk
+    }
+}

@@ -1,0 +1,6 @@
+pub mod Among
+pub mod Bytewise
+pub mod Digits
+pub mod Lines
+pub mod Tiled
+pub mod Written

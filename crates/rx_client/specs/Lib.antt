@@ -1,0 +1,6 @@
+pub mod Hearing
+pub mod Following
+pub mod Tiling
+pub mod Printed
+pub mod Requests
+pub mod Running

@@ -1,0 +1,32 @@
+//! A client of the line server: it emits lines, and follows a subject over connections that end and servers that begin anew.
+//!
+//! What a follower tells is a function of what it heard, and at which servers (`specs/Following.antt`): [`Follower`] tells each
+//! item once, in its order, and each gap, which [`laws`] says of whole runs. A line is heard exactly where a server prints it
+//! ([`read_note`]), and a subscription is one that a session takes ([`sub_line`]). Around that stands a thin edge over a Unix
+//! socket: [`publish`], and [`subscribe`], which prints what such a follower tells and nothing else.
+#![tactic(auto)]
+
+mod connection;
+mod decimals;
+mod epoch;
+mod follower;
+mod format;
+mod heard;
+pub mod laws;
+mod pause;
+mod plain;
+mod printing;
+mod publishing;
+mod request;
+mod subscribing;
+mod told;
+
+pub use epoch::Epoch;
+pub use follower::{Ending, Follower};
+pub use format::Format;
+pub use heard::{Heard, read_note};
+pub use plain::Plain;
+pub use publishing::{PublishFault, Published, publish};
+pub use request::{Unsaid, sub_line};
+pub use subscribing::{SubscribeFault, Wanted, subscribe};
+pub use told::{Telling, Told};
