@@ -1,3 +1,4 @@
 pub mod Passing
+pub mod Reports
 pub mod WatchLogs
 pub mod Writes

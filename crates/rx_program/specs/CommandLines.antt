@@ -1,11 +1,20 @@
 -- The command line: the words that the program takes, the task that they name, and what may be wrong with them.
-use Rattle.std.specs.Prelude.{◌≡◌, ◌⊎◌, ℕ, List, [], Option, None, Some, codes, option_map, true}
+--
+-- What words ask for: a task that is answered is the one of the command that the words name, with the path that stands behind
+-- it: a script over the standard configuration where they name none, a script, an audit, a check or a server over that file
+-- else, with the path of a socket for a server, and for a check where there is one; what is to be published, or whom to
+-- subscribe to, at a socket; words that `clap` states a fault of, for
+-- the declared command line, are refused by a fault of just these, or for want of memory; where it states none, also by that
+-- they name no task.
+use Rattle.std.specs.Prelude.{◌≡◌, ◌⊎◌, ◌↔◌, ℕ, List, [], Option, None, Some, codes, option_map, true, unwrap_or}
 use Rattle.clap.specs.Simple.{on_top}
+use Rattle.clap.specs.declared.builder.action.ArgAction.TheVariants.{SetTrue}
 use Rattle.clap.specs.Words.{App, IsAmong, Row, Rule, Text, fault_of, first_of, new_app, new_rule, subcommand_of, with_rule, with_subcommand}
 use Rattle.clap.specs.declared.error.kind.ErrorKind.{ErrorKind}
 use Rattle.clap.specs.declared.error.kind.ErrorKind.TheVariants.{DisplayHelp, DisplayVersion, InvalidSubcommand}
 use Rattle.rx_program.specs.declared.task.Task.{Task}
-use Rattle.rx_program.specs.declared.task.Task.TheVariants.{Script, Audit, Check, Serve}
+use Rattle.rx_program.specs.declared.task.Task.TheVariants.{Script, Audit, Check, Serve, Publish, Subscribe}
+use Rattle.rx_program.specs.declared.subscription.Subscription.{Subscription}
 
 -- the path of a configuration, which a command needs
 abbrev pub path : Rule
@@ -19,6 +28,34 @@ socket = record (new_rule (codes "socket")) { required = true }
 abbrev pub place : Rule
 place = new_rule (codes "socket")
 
+-- the name of a subject, which a command needs
+abbrev pub subject : Rule
+subject = record (new_rule (codes "subject")) { required = true }
+
+-- the text of an item
+abbrev pub text : Rule
+text = new_rule (codes "text")
+
+-- a word behind its name, as in --from
+abbrev pub option : List ℕ → Rule
+option name = record (new_rule name) { long = Some name }
+
+abbrev pub strategy : Rule
+strategy = option (codes "strategy")
+
+abbrev pub errors : Rule
+errors = option (codes "errors")
+
+abbrev pub from : Rule
+from = option (codes "from")
+
+abbrev pub count : Rule
+count = option (codes "count")
+
+-- a name alone
+abbrev pub json : Rule
+json = record (option (codes "json")) { action = Some SetTrue }
+
 abbrev pub script_app : App
 script_app = with_rule (new_app (codes "script")) path
 
@@ -31,13 +68,22 @@ check_app = with_rule (with_rule (new_app (codes "check")) path) place
 abbrev pub serve_app : App
 serve_app = with_rule (with_rule (new_app (codes "serve")) path) socket
 
+abbrev pub pub_app : App
+pub_app = with_rule (with_rule (with_rule (new_app (codes "pub")) socket) subject) text
+
+abbrev pub sub_app : App
+sub_app = with_rule (with_rule (with_rule (with_rule (with_rule (with_rule (with_rule (new_app (codes "sub")) socket) subject) strategy) errors) from) count) json
+
 -- the program, whose words come without its name, and which tells its version
 abbrev pub top_app : App
 top_app = on_top (λ s. record s { no_binary_name = true; has_version = true }) (new_app (codes "rxline"))
 
 -- the program with its commands
 abbrev pub line_app : App
-line_app = with_subcommand (with_subcommand (with_subcommand (with_subcommand top_app script_app.top) audit_app.top) check_app.top) serve_app.top
+line_app =
+    with_subcommand
+    (with_subcommand (with_subcommand (with_subcommand (with_subcommand (with_subcommand top_app script_app.top) audit_app.top) check_app.top) serve_app.top) pub_app.top)
+    sub_app.top
 
 -- a command of this name was named, with this path
 abbrev pub Named : List ℕ → List ℕ → Option (Text × List Row) → Type 0
@@ -53,6 +99,25 @@ abbrev pub NamedServe : List ℕ → List ℕ → Option (Text × List Row) → 
 NamedServe file place named =
     (rows : List Row) × (named ≡ Some (codes "serve", rows)) × (first_of (codes "config") rows ≡ Some file) × (first_of (codes "socket") rows ≡ Some place)
 
+-- the command that emits was named, with the path of a socket, a subject and a text, if there is one
+abbrev pub NamedPublish : List ℕ → List ℕ → Option (List ℕ) → Option (Text × List Row) → Type 0
+NamedPublish place name text named =
+    (rows : List Row) × (named ≡ Some (codes "pub", rows)) × (first_of (codes "socket") rows ≡ Some place) × (first_of (codes "subject") rows ≡ Some name)
+    × (first_of (codes "text") rows ≡ text)
+
+-- the words of a subscription are those that stand in these rows; BUFFER and DELAY where there are none
+pub record AreWords (s : Subscription) (rows : List Row) : Type 0 where
+  pub subject_is : first_of (codes "subject") rows ≡ Some s.subject.now
+  pub strategy_is : s.strategy.now ≡ unwrap_or (first_of (codes "strategy") rows) (codes "BUFFER")
+  pub errors_is : s.errors.now ≡ unwrap_or (first_of (codes "errors") rows) (codes "DELAY")
+  pub from_is : option_map (λ t. t.now) s.from ≡ first_of (codes "from") rows
+  pub count_is : option_map (λ t. t.now) s.count ≡ first_of (codes "count") rows
+  pub json_is : s.is_json ≡ true ↔ (first_of (codes "json") rows ≡ Some (codes "true"))
+
+-- the command that follows was named, with the path of a socket and these words
+abbrev pub NamedSubscribe : List ℕ → Subscription → Option (Text × List Row) → Type 0
+NamedSubscribe place s named = (rows : List Row) × (named ≡ Some (codes "sub", rows)) × (first_of (codes "socket") rows ≡ Some place) × AreWords s rows
+
 -- the task is that of the command that was named, with its paths as they were read; without a command it is a script over the
 -- standard configuration
 abbrev pub IsNamedBy : Option (Text × List Row) → Task → Type 0
@@ -61,6 +126,8 @@ IsNamedBy named (Script (Some file)) = Named (codes "script") file.now named
 IsNamedBy named (Audit file) = Named (codes "audit") file.now named
 IsNamedBy named (Check file place) = NamedCheck file.now (option_map (λ s. s.now) place) named
 IsNamedBy named (Serve file place) = NamedServe file.now place.now named
+IsNamedBy named (Publish place name text) = NamedPublish place.now name.now (option_map (λ t. t.now) text) named
+IsNamedBy named (Subscribe place s) = NamedSubscribe place.now s named
 
 -- the words ask for a task: `clap` states no fault of them, and they name its command
 abbrev pub Asks : List Text → Task → Type 0

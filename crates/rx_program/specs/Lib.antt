@@ -1,3 +1,5 @@
 pub mod CommandLines
 pub mod Programs
+pub mod Reporting
 pub mod WatchLogs
+pub mod Clients

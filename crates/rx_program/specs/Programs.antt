@@ -1,5 +1,13 @@
 -- What the program does: for the words of its command line, its exit status, what becomes of its streams, and what it
 -- tells on the standard error. The statuses and the lines of faults are this project's own.
+--
+-- The program: what the words ask for is done: for a script and an audit over the configuration of their path all that
+-- `run_script` and `run_audit` promise; of a configuration that is checked exactly its lines are written, or where the writer
+-- fails a front of them, and nothing is read; where it was also to look at the path of a socket, it ends then as if it had
+-- not, or by `Listen`; the status is 0, with nothing told, where the run was finished, and else 1 with the line of its fault,
+-- or a front of it, on the standard error; a configuration that can't be had leaves reader and writer, and so do words that
+-- are refused, whose status is 2; help and the version take nothing from the reader and end with status 0, or 1 where it
+-- could not be written.
 use Rattle.std.specs.Prelude.{◌≡◌, ◌≢◌, ◌⊎◌, ◌≤◌, ◌++◌, ℕ, List, [], codes, length, Option, None, Some, Result, Ok, Err, MatchOption, MatchResult, IsSome, option_map}
 use Rattle.clap.specs.Words.{Text}
 use Rattle.clap.specs.declared.error.kind.ErrorKind.{ErrorKind}
@@ -13,16 +21,19 @@ use Rattle.rx_listing.specs.Listings.{config_lines}
 use Rattle.rx_session.specs.declared.session_end.SessionEnd.{SessionEnd}
 use Rattle.rx_session.specs.declared.session_end.SessionEnd.TheVariants as ends
 use Rattle.rx_script.specs.Audits.{Audits, BreaksOff}
-use Rattle.rx_server.specs.declared.close_fault.CloseFault.{CloseFault}
+use Rattle.rx_server.specs.declared.start_fault.StartFault.{StartFault}
+use Rattle.rx_sink.specs.Acts.{Acts}
 use Rattle.rx_workers.specs.declared.serve_fault.ServeFault.{ServeFault}
 use Rattle.rx_workers.specs.declared.serve_fault.ServeFault.TheVariants as serves
 use Rattle.rx_program.specs.CommandLines.{Asks, IsAgainst, IsHelp}
+use Rattle.rx_program.specs.Reporting.{Closed, ClosesWith, names_of, report_lines}
 use Rattle.rx_script.specs.Scripts.{Runs, new_subjects}
 use Rattle.rx_script.specs.Transcripts.{Subject}
 use Rattle.rx_program.specs.declared.program_fault.ProgramFault.{ProgramFault}
 use Rattle.rx_program.specs.declared.program_fault.ProgramFault.TheVariants as faults
 use Rattle.rx_program.specs.declared.task.Task.{Task}
-use Rattle.rx_program.specs.declared.task.Task.TheVariants.{Script, Audit, Check, Serve}
+use Rattle.rx_program.specs.declared.task.Task.TheVariants.{Script, Audit, Check, Serve, Publish, Subscribe}
+use Rattle.rx_program.specs.Clients.{Emits, FollowsSubject, IsBad}
 
 -- the bytes that the reader has left and those that the writer has, where they are known
 pub record Streams : Type 0 where
@@ -48,6 +59,11 @@ fault_text (faults.Start fault) words = codes "cannot start " ++ words
 fault_text faults.Accept words = codes "accept fault"
 fault_text faults.Serve words = codes "serve fault"
 fault_text (faults.Close fault) words = codes "close fault: " ++ words
+fault_text faults.Connect words = codes "cannot connect"
+fault_text faults.Refused words = codes "refused"
+fault_text faults.Lost words = codes "connection lost"
+fault_text faults.Failed words = codes "subject failed"
+fault_text faults.Strange words = codes "no line of a server"
 
 -- the words of a cause stand behind those of its fault; one without a cause has no more words
 abbrev pub HasCause : {C : Type 0} → Option C → ProgramFault → Type 0
@@ -104,6 +120,11 @@ LacksConfig path (faults.Start fault) = ⊥
 LacksConfig path faults.Accept = ⊥
 LacksConfig path faults.Serve = ⊥
 LacksConfig path (faults.Close fault) = ⊥
+LacksConfig path faults.Connect = ⊥
+LacksConfig path faults.Refused = ⊥
+LacksConfig path faults.Lost = ⊥
+LacksConfig path faults.Failed = ⊥
+LacksConfig path faults.Strange = ⊥
 
 -- THE TASK
 
@@ -129,28 +150,18 @@ Over path runs done old new =
     ((config : Config) × Configures path (settings_of config) × runs (new_subjects config.subjects.items) done old new)
     ⊎ ((fault : ProgramFault) × (done ≡ Err fault) × LacksConfig path fault × Untouched old new)
 
--- why a server may not have served to its end
-abbrev pub MayServe : ProgramFault → Type 0
-MayServe faults.NoConfig = ⊥
-MayServe (faults.Config cause) = ⊥
-MayServe faults.Read = ⊥
-MayServe faults.Write = Unit {0}
-MayServe faults.TooManyReads = ⊥
-MayServe faults.Memory = Unit {0}
-MayServe faults.Listen = Unit {0}
-MayServe (faults.Start fault) = Unit {0}
-MayServe faults.Accept = Unit {0}
-MayServe faults.Serve = Unit {0}
-MayServe (faults.Close fault) = Unit {0}
-
 -- the socket of a server can't be had
 abbrev pub LacksSocket : ProgramFault → Type 0
 LacksSocket fault = (fault ≡ faults.Memory) ⊎ (fault ≡ faults.Listen)
 
--- how the report of a server that was closed was told: it is on the writer, or it could not be written; or there is none
-abbrev pub IsReported : {R : Type 0} → Result R CloseFault → Done → Type 0
-IsReported (Ok report) done = IsShown done
-IsReported (Err fault) done = done ≡ Err (faults.Close fault)
+-- why a server did not begin: its socket can't be had, or it did not start
+abbrev pub DidNotBegin : ProgramFault → Type 0
+DidNotBegin fault = LacksSocket fault ⊎ ((cause : StartFault) × (fault ≡ faults.Start cause))
+
+-- how the close of a server was told: the lines of its report were written, or a front of them; or there is none, and nothing was
+abbrev pub IsReported : List (List ℕ) → Closed → Done → Option (List ℕ) → Option (List ℕ) → Type 0
+IsReported names (Ok subjects) done old new = IsShown done × Writes done old new (report_lines names subjects)
+IsReported names (Err fault) done old new = (done ≡ Err (faults.Close fault)) × (new ≡ old)
 
 -- a fault of serving, as the program tells it
 abbrev pub serving_fault : ServeFault → ProgramFault
@@ -165,11 +176,29 @@ ending (Ok served) told = told
 ending (Err fault) (Ok shown) = Err (serving_fault fault)
 ending (Err fault) (Err later) = Err later
 
+-- a server of subjects of these names was closed so, and that was told
+abbrev pub EndsServer : List (List ℕ) → Closed → Done → Option (List ℕ) → Option (List ℕ) → Type 0
+EndsServer names closed done old new =
+    (served : Result (Unit {0}) ServeFault) × (told : Done) × IsReported names closed told old new × (done ≡ ending served told)
+
+-- a server of these settings did not begin, and nothing was written; or it was closed, and that was told
+abbrev pub ServesSettings : Settings → Done → Option (List ℕ) → Option (List ℕ) → Type 0
+ServesSettings settings done old new =
+    ((fault : ProgramFault) × (done ≡ Err fault) × DidNotBegin fault × (new ≡ old))
+    ⊎ ((closed : Closed) × EndsServer (names_of settings) closed done old new)
+
 -- the subjects of the configuration of a path were served; or there is none, and nothing was written
 abbrev pub Serves : Option (List ℕ) → Done → Option (List ℕ) → Option (List ℕ) → Type 0
 Serves path done written_old written_new =
-    ((config : Config) × Configures path (settings_of config) × MatchResult done (λ _. Unit {0}) MayServe)
+    ((config : Config) × Configures path (settings_of config) × ServesSettings (settings_of config) done written_old written_new)
     ⊎ ((fault : ProgramFault) × (done ≡ Err fault) × LacksConfig path fault × (written_new ≡ written_old))
+
+module _ {S Rest : Type 0} (acts : Acts S Rest) where
+  -- A SERVER of this configuration did not begin, and nothing was written; or it was closed, and what its close answered was told
+  abbrev pub ReportsServer : Config → Done → Option (List ℕ) → Option (List ℕ) → Type 0
+  ReportsServer config done old new =
+      ((fault : ProgramFault) × (done ≡ Err fault) × DidNotBegin fault × (new ≡ old))
+      ⊎ ((closed : Closed) × ClosesWith acts config closed × EndsServer (names_of (settings_of config)) closed done old new)
 
 -- the lines of a configuration were written, all of them or, where the writer failed, a front of them
 abbrev pub Lists : Settings → Done → Option (List ℕ) → Option (List ℕ) → Type 0
@@ -190,12 +219,14 @@ Checks path socket done written_old written_new =
     ((config : Config) × Configures path (settings_of config) × ListsAndLooks (settings_of config) socket done written_old written_new)
     ⊎ ((fault : ProgramFault) × (done ≡ Err fault) × LacksConfig path fault × (written_new ≡ written_old))
 
--- a task was done; for a script and an audit nothing was told meanwhile, and to check or to serve nothing was read
+-- a task was done; for a script and an audit nothing was told meanwhile, and to check, to serve or to follow nothing was read
 abbrev pub Does : Task → Done → Streams → Streams → Option (List ℕ) → Option (List ℕ) → Type 0
 Does (Script path) done old new told_old told = Over (option_map (λ s. s.now) path) RunsScript done old new × (told ≡ told_old)
 Does (Audit path) done old new told_old told = Over (Some path.now) RunsAudit done old new × (told ≡ told_old)
 Does (Check path socket) done old new told_old told = Checks (Some path.now) (option_map (λ s. s.now) socket) done old.written new.written × (new.left ≡ old.left)
 Does (Serve path socket) done old new told_old told = Serves (Some path.now) done old.written new.written × (new.left ≡ old.left)
+Does (Publish socket subject text) done old new told_old told = Emits done old.written new.written
+Does (Subscribe socket subscription) done old new told_old told = FollowsSubject subscription.is_json done old.written new.written × (new.left ≡ old.left)
 
 -- THE PROGRAM
 
@@ -206,10 +237,10 @@ Carries words done old new told_old told =
     ⊎ ((kind : ErrorKind) × IsAgainst words kind × IsHelp kind × IsShown done × (new.left ≡ old.left) × (told ≡ told_old))
     ⊎ ((done ≡ Err faults.Memory) × Untouched old new × (told ≡ told_old))
 
--- the words are none that the program takes, and that is told
+-- the words are none that the program takes, or no server would take what they name, and that is told
 abbrev pub Refuses : List Text → Streams → Streams → Type 0
 Refuses words old new =
-    ((kind : ErrorKind) × IsAgainst words kind × ¬ IsHelp kind × (kind ≢ OutOfMemory)) × Untouched old new
+    (((kind : ErrorKind) × IsAgainst words kind × ¬ IsHelp kind × (kind ≢ OutOfMemory)) ⊎ ((task : Task) × Asks words task × IsBad task)) × Untouched old new
 
 -- what was answered to words for which an error of this kind was found: help or the version is shown, want of memory is told, or the error
 abbrev pub Answers : ErrorKind → ℕ → Option (List ℕ) → Option (List ℕ) → Option (List ℕ) → Option (List ℕ) → Type 0

@@ -1,11 +1,11 @@
 //! A configuration, told and not served.
 ghost use Rattle.std.specs.Prelude.{◌≡◌, ◌⊎◌, Err, Some, option_map};
-ghost use Rattle.std.specs.Io.KnownBytes.{Keeps};
 ghost use Rattle.rx_config.specs.Configurations.{settings_of};
 ghost use Rattle.rx_proto.specs.Bytes.{Writes};
 ghost use Rattle.rx_program.specs.Programs.{Checks, IsShown, Lists, ListsAndLooks, Looks};
 
 use crate::config_file::read_file;
+use crate::flushing::flushed;
 use crate::host::Host;
 use crate::listening::in_the_way;
 use crate::program_fault::ProgramFault;
@@ -127,16 +127,5 @@ fn write_out<W: Write>(bytes: &[u8], writer: &mut W) -> Result<(), ProgramFault>
     match write_bytes(writer, bytes) {
         Ok(()) => flushed(writer),
         Err(WriteFault) => Err(ProgramFault::Write),
-    }
-}
-
-// Flushes the writer, which keeps what it holds.
-fn flushed<W: Write>(writer: &mut W) -> Result<(), ProgramFault>
-    ensures shown { IsShown result }
-    ensures kept { Keeps (W.contents writer.old) (W.contents writer.new) }
-{
-    match writer.flush() {
-        Ok(()) => Ok(()),
-        Err(_) => Err(ProgramFault::Write),
     }
 }

@@ -9,7 +9,7 @@ pub struct Ended {
     pub closed: Result<Vec<SubjectReport, Heap>, CloseFault>,
 }
 
-// It stands here, and isn't derived, so that what lets go of an end is one call that is proved once.
+// By hand: rx_heap says why.
 impl Drop for Ended {
     fn drop(self) {
         let Ended {

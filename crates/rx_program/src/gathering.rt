@@ -1,3 +1,11 @@
+// What waits for a peer: whatever is written for a peer, by whatever writes and flushes, with whatever faults: what its
+// socket took and then what waits is just that, in order, none of it lost or doubled; after a flush that is no fault nothing
+// waits. (A socket's own contract says only how many bytes each write took)
+//
+// No write to a socket has more than 4,096 bytes. The system makes a block of what one write has, and counts a block as taken
+// once the peer read all of it. Of writes of up to 68 KB a peer had to read some 36 KB within `stall` seconds to show that it
+// read at all. It costs nothing where notes are short; long ones, of 900 bytes to eight observers that catch up, took up to a
+// third more of the processor, and came up to a third slower.
 ghost use Rattle.std.specs.Prelude.{◌≡◌, ◌+◌, ◌-◌, ◌≤◌, [], length, take, drop, min, vec_len, OnOk};
 ghost use Rattle.std.specs.Io.{WritesAtMost};
 ghost use Rattle.std.specs.Io.KnownBytes.{Appends, WriteAppends};

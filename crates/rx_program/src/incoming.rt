@@ -1,3 +1,5 @@
+// A session that is idle fails in its reader, which knows when its last bytes came, so that no contract speaks of time; the
+// poll tells connections on which nothing happened for as long, so that they have a turn.
 use crate::link::Link;
 use std::io;
 use std::io::{ErrorKind, Read};
@@ -14,7 +16,7 @@ pub struct Incoming<C: Clock + Drop> {
     last: Duration,
 }
 
-// It stands here, and isn't derived, so that what lets go of it is one call that is proved once.
+// By hand: rx_heap says why.
 impl<C: Clock + Drop> Drop for Incoming<C> {
     fn drop(self) {
         let Incoming {

@@ -1,4 +1,13 @@
 //! The path of a server's socket, and the lock beside it.
+//!
+//! A path is taken over only where a socket stands there and refuses a connection, and only where the pool says so: a file,
+//! or a server that listens, is never removed.
+//!
+//! A server locks a file beside its socket, and does not look at the socket of one that holds the lock. To look whether
+//! somebody listens takes a connection, which that server counts; and between such a look and the removal of a socket that
+//! was left another server may have taken the path. A lock has neither fault: it goes with its process, also where that is
+//! killed, and one that is stopped keeps it. The file stays, since who removes it may take it from under another that has
+//! opened it. At a socket of another program it is still looked, by a call that waits for nobody.
 
 use crate::host::Host;
 use crate::obstacle::Obstacle;

@@ -16,7 +16,7 @@ pub struct Outgoing<C: Clock + Drop> {
     held: Box<Gathering<Wire, C>, Heap>,
 }
 
-// It stands here, and isn't derived, so that what lets go of it is one call that is proved once.
+// By hand: rx_heap says why.
 impl<C: Clock + Drop> Drop for Outgoing<C> {
     fn drop(self) {
         let Outgoing { held: _ } = self;

@@ -1,3 +1,7 @@
+// Events are told once, at a change. A connection is watched for bytes alone, and for room too only while an answer waits. A
+// session that has had its turns for now and would go on has lines in hand, of which the system knows nothing, and its socket
+// may have no room: it stands in a list (`Readiness::again`), once, by which the next wait is none, and is told behind the
+// others that are ready by then.
 ghost use Rattle.std.specs.Prelude.{IfOk};
 ghost use Rattle.rx_program.specs.WatchLogs.{watched_by};
 ghost use Rattle.rx_workers.specs.Watching.{WatchesNothing};
@@ -19,7 +23,7 @@ pub struct Polling<C: Clock + Drop> {
     log: WatchLog,
 }
 
-// It stands here, and isn't derived, so that what lets go of it is one call that is proved once.
+// By hand: rx_heap says why.
 impl<C: Clock + Drop> Drop for Polling<C> {
     fn drop(self) {
         let Polling { events: _, log: _ } = self;

@@ -3,16 +3,18 @@ ghost use Rattle.clap.specs.Words.{kind_of};
 ghost use Rattle.rx_program.specs.Programs.{Answers, Does, EndsWith, IsShown, Over, Program, RunsAudit, RunsScript, Serves, done_of};
 
 use crate::checking::check_at;
+use crate::client::{publish_at, subscribe_at};
 use crate::config_file::config_at;
 use crate::host::Host;
-use crate::plain::Plain;
 use crate::program_fault::ProgramFault;
+use crate::refusing::refusal_of;
 use crate::serving::serve_on;
 use crate::task::Task;
 use crate::telling::tell;
 use crate::words::read_words;
 use clap::Error;
 use clap::error::ErrorKind;
+use rx_client::Plain;
 use rx_heap::{Heap, Memory};
 use rx_script::{run_audit, run_script};
 use rx_session::SessionEnd;
@@ -43,10 +45,16 @@ pub fn run_words<'a, F: Host, R: Read, W: Write, E: Write>(
     ensures { Program (map (λ s. s.now) words.entry.now) result (record { left = R.remaining reader.old; written = W.contents writer.old }) (record { left = R.remaining reader.new; written = W.contents writer.new }) (E.contents faults.old) (E.contents faults.new) }
 {
     match read_words(rt.alloc(), words) {
-        Ok(task) => {
-            let done = run_task(rt, task, reader, writer, faults);
-            status_of(done, faults)
-        }
+        Ok(task) => match refusal_of(&Heap::unlimited(rt.alloc()), task) {
+            Some(why) => {
+                let _ = writeln!(faults, "error: {why}");
+                WRONG_WORDS
+            }
+            None => {
+                let done = run_task(rt, task, reader, writer, faults);
+                status_of(done, faults)
+            }
+        },
         Err(error) => answer(&error, writer, faults),
     }
 }
@@ -106,6 +114,12 @@ fn run_task<F: Host, R: Read, W: Write, E: Write>(
         Task::Audit(path) => run_audit_at(rt, path, reader, writer),
         Task::Check(path, socket) => check_at(rt, path, socket, writer, faults),
         Task::Serve(path, socket) => serve_at(rt, path, socket, writer, faults),
+        Task::Publish(socket, subject, text) => {
+            publish_at(rt, socket, subject, text, reader, writer, faults)
+        }
+        Task::Subscribe(socket, subscription) => {
+            subscribe_at(rt, socket, subscription, writer, faults)
+        }
     }
 }
 

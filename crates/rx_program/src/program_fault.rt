@@ -32,6 +32,16 @@ pub enum ProgramFault {
     Serve,
     /// A thread of the server ended by a fault.
     Close(CloseFault),
+    /// Nobody listens at the path of a socket, or may not be connected to.
+    Connect,
+    /// A server refused a line.
+    Refused,
+    /// A connection was lost, and lines have no answer.
+    Lost,
+    /// The subject that was followed failed.
+    Failed,
+    /// What came is no line that a server prints.
+    Strange,
 }
 
 impl ProgramFault {
@@ -51,6 +61,11 @@ impl ProgramFault {
             ProgramFault::Accept => "accept fault",
             ProgramFault::Serve => "serve fault",
             ProgramFault::Close(_) => "close fault: ",
+            ProgramFault::Connect => "cannot connect",
+            ProgramFault::Refused => "refused",
+            ProgramFault::Lost => "connection lost",
+            ProgramFault::Failed => "subject failed",
+            ProgramFault::Strange => "no line of a server",
         }
     }
 
@@ -69,7 +84,12 @@ impl ProgramFault {
             | ProgramFault::Memory
             | ProgramFault::Listen
             | ProgramFault::Accept
-            | ProgramFault::Serve => None,
+            | ProgramFault::Serve
+            | ProgramFault::Connect
+            | ProgramFault::Refused
+            | ProgramFault::Lost
+            | ProgramFault::Failed
+            | ProgramFault::Strange => None,
         }
     }
 }

@@ -1,16 +1,23 @@
 //! The server: a configuration served on a Unix socket.
-ghost use Rattle.std.specs.Prelude.{◌≡◌, MatchResult};
-ghost use Rattle.rx_program.specs.Programs.{IsReported, IsShown, MayServe, ending, serving_fault};
+ghost use Rattle.std.specs.Prelude.{◌≡◌};
+ghost use Rattle.rx_listing.specs.Listings.{number_words};
+ghost use Rattle.rx_proto.specs.Bytes.{Writes};
+ghost use Rattle.rx_program.specs.Programs.{IsReported, IsShown, ReportsServer, ending, serving_fault};
+ghost use Rattle.rx_program.specs.Reporting.{closed_as, report_line, report_lines};
 
+use crate::flushing::flushed;
 use crate::host::Host;
 use crate::names::Names;
+use crate::outgoing::Outgoing;
 use crate::program_fault::ProgramFault;
 use crate::site::Site;
 use crate::telling::tell;
+use itoa::Buffer;
 use rx_config::Config;
 use rx_heap::Heap;
-use rx_proto::Name;
+use rx_proto::{Name, WriteFault, write_bytes};
 use rx_server::{CloseFault, ServeFault, SubjectReport};
+use rx_sink::{LineSink, Sink};
 use std::io::Write;
 
 /// Serves a configuration on a new Unix socket of this path, until as many connections have ended as it says. Once it listens
@@ -28,7 +35,7 @@ pub fn serve_on<F: Host, W: Write, E: Write>(
     writer: &mut W,
     faults: &mut E,
 ) -> Result<(), ProgramFault>
-    ensures { MatchResult result (λ _. Unit {0}) MayServe }
+    ensures { ReportsServer ⟦<LineSink<Outgoing<F>> as Sink>⟧.acts config result (W.contents writer.old) (W.contents writer.new) }
 {
     let Ok(names) = Names::of(heap, &config) else {
         return Err(ProgramFault::Memory);
@@ -45,11 +52,10 @@ fn told<W: Write>(
     closed: &Result<Vec<SubjectReport, Heap>, CloseFault>,
     writer: &mut W,
 ) -> Result<(), ProgramFault>
-    ensures serves { MatchResult result (λ _. Unit {0}) MayServe }
-    ensures reported { IsReported closed.now result }
+    ensures { IsReported names.now (closed_as closed.now) result (W.contents writer.old) (W.contents writer.new) }
 {
     match closed {
-        Ok(subjects) => write_report(names.as_slice(), subjects, writer),
+        Ok(subjects) => write_report(names.as_slice(), subjects.as_slice(), writer),
         Err(fault) => Err(ProgramFault::Close(*fault)),
     }
 }
@@ -60,9 +66,7 @@ fn end_of<E: Write>(
     closed: Result<(), ProgramFault>,
     faults: &mut E,
 ) -> Result<(), ProgramFault>
-    requires { MatchResult closed (λ _. Unit {0}) MayServe }
-    ensures serves { MatchResult result (λ _. Unit {0}) MayServe }
-    ensures ending { result ≡ ending served closed }
+    ensures { result ≡ ending served closed }
 {
     let Err(fault) = served else {
         return closed;
@@ -88,33 +92,50 @@ fn serving_fault(fault: ServeFault) -> ProgramFault
 // Writes the report, and flushes it.
 fn write_report<W: Write>(
     names: &[Name],
-    subjects: &Vec<SubjectReport, Heap>,
+    subjects: &[SubjectReport],
     writer: &mut W,
 ) -> Result<(), ProgramFault>
-    ensures { IsShown result }
+    ensures shown { IsShown result }
+    ensures written { Writes result (W.contents writer.old) (W.contents writer.new) (report_lines names.now subjects.now) }
 {
-    for (name, subject) in names.iter().zip(subjects.iter()) {
-        write_subject(name, subject, writer)?;
-    }
-    match writer.flush() {
-        Ok(()) => Ok(()),
-        Err(_) => Err(ProgramFault::Write),
+    match write_lines(names, subjects, writer) {
+        Ok(()) => flushed(writer),
+        Err(WriteFault) => Err(ProgramFault::Write),
     }
 }
 
+// Writes the lines of all subjects.
+fn write_lines<W: Write>(
+    names: &[Name],
+    subjects: &[SubjectReport],
+    writer: &mut W,
+) -> Result<(), WriteFault>
+    ensures { Writes result (W.contents writer.old) (W.contents writer.new) (report_lines names.now subjects.now) }
+{
+    for (name, subject) in names.iter().zip(subjects.iter()) {
+        write_line(name, subject, writer)?;
+    }
+    Ok(())
+}
+
 // Writes the line of a subject.
-fn write_subject<W: Write>(
+fn write_line<W: Write>(
     name: &Name,
     subject: &SubjectReport,
     writer: &mut W,
-) -> Result<(), ProgramFault>
-    ensures { IsShown result }
+) -> Result<(), WriteFault>
+    ensures { Writes result (W.contents writer.old) (W.contents writer.new) (report_line (name.now, subject.now)) }
 {
-    let SubjectReport { joins, refused, .. } = subject;
-    if writer.write_all(name.as_bytes()).is_err()
-        || writeln!(writer, " joins {joins} refused {refused}").is_err()
-    {
-        return Err(ProgramFault::Write);
-    }
-    Ok(())
+    write_bytes(writer, name.as_bytes())?;
+    write_number(b" joins ", u64::from(subject.joins), writer)?;
+    write_number(b" refused ", subject.refused, writer)?;
+    write_bytes(writer, b"\n")
+}
+
+// Writes the words of a key and its number.
+fn write_number<W: Write>(key: &[u8], number: u64, writer: &mut W) -> Result<(), WriteFault>
+    ensures { Writes result (W.contents writer.old) (W.contents writer.new) (number_words key.now number) }
+{
+    write_bytes(writer, key)?;
+    write_bytes(writer, Buffer::new().format(number).as_bytes())
 }

@@ -1,5 +1,6 @@
-ghost use Rattle.std.specs.Prelude.{◌≡◌, IfErr};
+ghost use Rattle.std.specs.Prelude.{◌≡◌, IfErr, IfOk, MatchResult};
 ghost use Rattle.rx_program.specs.Programs.{LacksSocket};
+ghost use Rattle.rx_program.specs.Reporting.{ClosesWith, closed_as};
 ghost use Rattle.rx_server.specs.declared.start_fault.StartFault.{StartFault};
 
 use crate::clocked::Clocked;
@@ -13,8 +14,8 @@ use crate::terms::Terms;
 use rx_config::Config;
 use rx_heap::Heap;
 use rx_listing::Shown;
-use rx_server::start_unread;
-use rx_sink::LineSink;
+use rx_server::{CloseFault, Report, SubjectReport, start_unread};
+use rx_sink::{LineSink, Sink};
 use std::fs::File;
 use std::io::Write;
 use std::os::unix::net::UnixListener;
@@ -32,7 +33,7 @@ pub struct Site<F: Host> {
     own: Heap,
 }
 
-// It stands here, and isn't derived, so that what lets go of a site is one call that is proved once.
+// By hand: rx_heap says why.
 impl<F: Host> Drop for Site<F> {
     fn drop(self) {
         let Site {
@@ -94,7 +95,8 @@ impl<F: Host> Site<F> {
         path: &str,
         faults: &mut E,
     ) -> Result<Ended, ProgramFault>
-        ensures { IfErr result (λ fault. (cause : StartFault) × (fault ≡ ProgramFault.Start cause)) }
+        ensures closed { IfOk result (λ ended. ClosesWith ⟦<LineSink<Outgoing<F>> as Sink>⟧.acts config (closed_as ended.closed)) }
+        ensures fault { IfErr result (λ fault. (cause : StartFault) × (fault ≡ ProgramFault.Start cause)) }
     {
         let Site {
             listener,
@@ -114,11 +116,20 @@ impl<F: Host> Site<F> {
         let mut socket = Socket::new(listener, host, waiting, terms, faults);
         let served = server.serve(rt, &mut socket, Clocked::new(clock));
         drop(socket);
-        let closed = match server.close(rt, Vec::new(heap)) {
-            Ok(report) => Ok(report.into_subjects()),
-            Err(fault) => Err(fault),
-        };
+        let closed = subjects_of(server.close(rt, Vec::new(heap)));
         drop(lock);
         Ok(Ended { served, closed })
+    }
+}
+
+// What a closed server reports of each subject, or why there is no report.
+fn subjects_of<S: Sink>(
+    closed: Result<Report<S>, CloseFault>,
+) -> Result<Vec<SubjectReport, Heap>, CloseFault>
+    ensures { MatchResult closed (λ report. result ≡ Ok report.subjects) (λ fault. result ≡ Err fault) }
+{
+    match closed {
+        Ok(report) => Ok(report.into_subjects()),
+        Err(fault) => Err(fault),
     }
 }

@@ -1,3 +1,5 @@
+// Where there is no descriptor or no memory for a connection, the acceptor pauses and tries again, and tells so once. Only a
+// broken listener ends serving.
 ghost use Rattle.std.specs.Prelude.{◌≡◌, ◌↔◌, ◌⊎◌, IsTrue};
 
 use crate::incoming::Incoming;
@@ -29,7 +31,7 @@ pub struct Socket<'a, F: Clock + Drop, E: Write> {
     is_told: bool,
 }
 
-// It stands here, and isn't derived, so that what lets go of a socket is one call that is proved once.
+// By hand: rx_heap says why.
 impl<'a, F: Clock + Drop, E: Write> Drop for Socket<'a, F, E> {
     fn drop(self) {
         let Socket {

@@ -46,7 +46,7 @@ struct Watched {
     is_again: bool,
 }
 
-// It stands here, and isn't derived, so that what lets go of it is one call that is proved once.
+// By hand: rx_heap says why.
 impl<C: Clock + Drop> Drop for SystemEvents<C> {
     fn drop(self) {
         let SystemEvents {

@@ -1,3 +1,5 @@
+use crate::subscription::Subscription;
+
 /// What the words of a command line ask for.
 #[derive(Clone, Copy, Debug, PartialEq, Eq)]
 pub enum Task<'a> {
@@ -9,4 +11,9 @@ pub enum Task<'a> {
     Check(&'a str, Option<&'a str>),
     /// To serve the configuration in the file of the first path on a new Unix socket at the second.
     Serve(&'a str, &'a str),
+    /// To emit items of the subject of the second word at the server whose socket is at the path: this text, or where there is
+    /// none each line of the input.
+    Publish(&'a str, &'a str, Option<&'a str>),
+    /// To follow a subject at the server whose socket is at the path.
+    Subscribe(&'a str, Subscription<'a>),
 }

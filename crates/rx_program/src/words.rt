@@ -2,8 +2,9 @@ ghost use Rattle.std.specs.Prelude.{◌≡◌, ◌⊎◌, IfOk, MatchOption, Mat
 ghost use Rattle.clap.specs.Words.{app_of, first_of, found_of, kind_of, new_app, rows_of, rule_of, subcommand_rows_of, with_rule, with_subcommand};
 ghost use Rattle.clap.specs.declared.Command.{out-Command};
 ghost use Rattle.clap.specs.declared.error.kind.ErrorKind.TheVariants.{OutOfMemory};
-ghost use Rattle.rx_program.specs.CommandLines.{Asks, IsAgainst, IsNamedBy, NamesNone, audit_app, check_app, line_app, path, place, script_app, serve_app, socket, top_app};
+ghost use Rattle.rx_program.specs.CommandLines.{Asks, IsAgainst, IsNamedBy, NamesNone, audit_app, check_app, line_app, path, place, pub_app, script_app, serve_app, socket, sub_app, top_app};
 
+use crate::client_words::{publish_command, publish_in, subscribe_command, subscribe_in};
 use crate::task::Task;
 use clap::error::ErrorKind;
 use clap::{Arg, ArgMatches, Command, Error};
@@ -11,13 +12,13 @@ use std::alloc::{AllocError, Global};
 
 const CONFIG: &str = "config";
 
-const SOCKET: &str = "socket";
+pub(crate) const SOCKET: &str = "socket";
 
 const VERSION: &str = "0.1.0";
 
 // The commands that there are, as the usage line of the program names them.
 const COMMANDS: &str =
-    "script <config> | audit <config> | check <config> [socket] | serve <config> <socket>";
+    "script <config> | audit <config> | check <config> [socket] | serve <config> <socket> | pub <socket> <subject> [text] | sub <socket> <subject>";
 
 const ABOUT: &str = "Multicasts items to observers by the lines of a script.";
 
@@ -44,7 +45,8 @@ prints
 A session on the socket of 'rxline serve' takes PUB, END, FAIL, HELLO and QUIT too, and
   SUB s BUFFER DELAY        makes the connection an observer's, to which notes are sent
 A server ends once as many connections have ended as its configuration says, or by a
-signal. 'rxline serve --help' says more, with an example.
+signal. 'rxline serve --help' says more, with an example. 'rxline pub' emits to it, and
+'rxline sub' follows one of its subjects.
 
 The exit status is 0 after a finished run, 1 after a fault, and 2 after a wrong command line.";
 
@@ -116,6 +118,12 @@ fn task_of<'a>(matches: &ArgMatches<'a>) -> Option<Task<'a>>
 fn named<'a>(name: &'a str, found: &ArgMatches<'a>) -> Option<Task<'a>>
     ensures { MatchOption result (NamesNone (Some (name.now, rows_of (found_of found.now)))) (IsNamedBy (Some (name.now, rows_of (found_of found.now)))) }
 {
+    if name == "pub" {
+        return publish_in(found);
+    }
+    if name == "sub" {
+        return subscribe_in(found);
+    }
     let path = path_in(found)?;
     if name == "script" {
         return Some(Task::Script(Some(path)));
@@ -141,7 +149,7 @@ fn path_in<'a>(found: &ArgMatches<'a>) -> Option<&'a str>
 }
 
 // The path of the socket that a command was given.
-fn socket_in<'a>(found: &ArgMatches<'a>) -> Option<&'a str>
+pub(crate) fn socket_in<'a>(found: &ArgMatches<'a>) -> Option<&'a str>
     ensures { option_map (λ s. s.now) result ≡ first_of (codes "socket") (rows_of (found_of found.now)) }
 {
     found.get_str(SOCKET)
@@ -159,7 +167,20 @@ fn line<'a>(alloc: Global) -> Result<Command<'a>, AllocError>
     ensures app { IfOk result (λ c. app_of c ≡ line_app) }
 {
     let command = with_audit(alloc, with_script(alloc, top(alloc))?)?;
-    with_serve(alloc, with_check(alloc, command)?)
+    let command = with_serve(alloc, with_check(alloc, command)?)?;
+    with_subscribe(alloc, with_publish(alloc, command)?)
+}
+
+fn with_publish<'a>(alloc: Global, command: Command<'a>) -> Result<Command<'a>, AllocError>
+    ensures app { IfOk result (λ c. app_of c ≡ with_subcommand (app_of command.entry) pub_app.top) }
+{
+    command.subcommand(publish_command(alloc)?)
+}
+
+fn with_subscribe<'a>(alloc: Global, command: Command<'a>) -> Result<Command<'a>, AllocError>
+    ensures app { IfOk result (λ c. app_of c ≡ with_subcommand (app_of command.entry) sub_app.top) }
+{
+    command.subcommand(subscribe_command(alloc)?)
 }
 
 fn with_script<'a>(alloc: Global, command: Command<'a>) -> Result<Command<'a>, AllocError>
@@ -244,7 +265,12 @@ fn serve<'a>(alloc: Global) -> Result<Command<'a>, AllocError>
 }
 
 // A command that takes nothing yet, with what its help says. `clap` would leave out the program's name, which is no word here.
-fn new_command<'a>(alloc: Global, name: &'a str, usage: &'a str, about: &'a str) -> Command<'a>
+pub(crate) fn new_command<'a>(
+    alloc: Global,
+    name: &'a str,
+    usage: &'a str,
+    about: &'a str,
+) -> Command<'a>
     ensures app { app_of result ≡ new_app name.entry.now }
     ensures local { (out-Command result).has_globals ≡ false }
 {
@@ -252,7 +278,7 @@ fn new_command<'a>(alloc: Global, name: &'a str, usage: &'a str, about: &'a str)
 }
 
 // A command whose help ends with this.
-fn with_help<'a>(command: Command<'a>, example: &'a str) -> Command<'a>
+pub(crate) fn with_help<'a>(command: Command<'a>, example: &'a str) -> Command<'a>
     ensures app { app_of result ≡ app_of command.entry }
     ensures local { (out-Command result).has_globals ≡ (out-Command command.entry).has_globals }
 {

@@ -1,6 +1,9 @@
 //! The line server: it reads script lines from standard input and answers on standard output.
 //!
 //! `rx_program::run_words` is the program over any streams; `main` hands it the standard ones.
+//!
+//! At a terminal the program says that it reads a script, on standard error, where it was given no words: that its input is a
+//! terminal needs no handle, and what it writes and ends with is as without.
 #![tactic(auto)]
 
 ghost use Rattle.std.specs.Prelude.{map};

@@ -23,10 +23,13 @@ answered words kind status left written_old written_new told_old told_new agains
     | inl lacks ↦ inl (Err faults.Memory, told_old, inr (inr (refl, (refl, lacks.1), refl)), lacks.2)
     | inr wrong ↦ elim against [
       | inl memory ↦ absurd (wrong.1 memory)
-      | inr is ↦ inr (wrong.2, ((kind, is, wrong.0, wrong.1), (refl, wrong.3)))
+      | inr is ↦ inr (wrong.2, (inl (kind, is, wrong.0, wrong.1), (refl, wrong.3)))
     ]
   ]
 ]
 
-pub returns-in-Err : goal.returns-in-Err
-returns-in-Err g c = answered _ _ c.answer.result _ _ _ _ _ c.in-Err.ensures c.answer.ensures
+pub returns : goal.returns
+returns g c = answered _ _ c.answer.result _ _ _ _ _ c.in-Err.ensures c.answer.ensures
+
+pub returns-in-Some : goal.returns-in-Some
+returns-in-Some g c = inr (refl, (inr (c.in-Ok.task, c.in-Ok.ensures, c.in-Some.ensures), (refl, refl)))
