@@ -1,7 +1,9 @@
-"""A server in a folder of its own, for the programs beside this one."""
+"""A server in a folder of its own and the peers of one, for the programs beside this one."""
 
 import os
+import select
 import shutil
+import socket
 import subprocess
 import sys
 import tempfile
@@ -79,3 +81,82 @@ class Server:
         reported, _ = self.process.communicate(timeout=MOST)
         want("the status", self.process.returncode, 0)
         return reported
+
+
+class Peer:
+    """A connection that sends bytes, and reads lines or bytes. What does not come in its time ends the program."""
+
+    def __init__(self, path, least=None):
+        self.socket = socket.socket(socket.AF_UNIX)
+        if least is not None:
+            self.socket.setsockopt(socket.SOL_SOCKET, socket.SO_RCVBUF, least)
+        self.socket.settimeout(MOST)
+        self.socket.connect(path)
+        self.rest = b""
+
+    def __enter__(self):
+        return self
+
+    def __exit__(self, *_):
+        self.close()
+
+    def close(self):
+        self.socket.close()
+
+    def send(self, lines):
+        self.socket.sendall(lines)
+
+    def send_last(self, lines):
+        """Sends these, and then ends what it sends."""
+        self.send(lines)
+        self.socket.shutdown(socket.SHUT_WR)
+
+    def more(self):
+        """Reads what is there, or waits for it. Returns whether it was the end of file."""
+        try:
+            more = self.socket.recv(1 << 16)
+        except socket.timeout:
+            more = None
+        want(f"that something comes within {MOST} s behind {self.rest[-100:]!r}", more is not None, True)
+        self.rest += more
+        return not more
+
+    def line(self):
+        """Returns the next line, or None at the end of file."""
+        while b"\n" not in self.rest:
+            if self.more():
+                return None
+        line, self.rest = self.rest.split(b"\n", 1)
+        return line
+
+    def lines(self, seconds):
+        """Returns the lines that come within so many seconds, as soon as some do; None at the end of file."""
+        if b"\n" not in self.rest:
+            if not select.select([self.socket], [], [], max(0, seconds))[0]:
+                return []
+            if self.more():
+                return None
+        *lines, self.rest = self.rest.split(b"\n")
+        return lines
+
+    def ask(self, line, wanted):
+        self.send(line + b"\n")
+        want(f"the answer to {line!r}", self.line(), wanted)
+
+    def follow(self, subject, policy):
+        self.send(f"SUB {subject} {policy}\n".encode())
+        want("a join", (self.line() or b"")[:7], b"JOINED ")
+
+    def hear(self, wanted):
+        """These bytes are to come next."""
+        while len(self.rest) < len(wanted) and wanted.startswith(self.rest):
+            if self.more():
+                break
+        got, self.rest = self.rest[: len(wanted)], self.rest[len(wanted) :]
+        want("what is heard", got, wanted)
+
+    def hear_last(self, wanted=b""):
+        """These bytes are to come next, and then the end of file."""
+        self.hear(wanted)
+        if self.rest or not self.more():
+            want("what is heard behind that", self.rest, b"")

@@ -11,7 +11,7 @@ pub(crate) struct Ran {
     pub(crate) written: Vec<u8>,
 }
 
-// It stands here, and isn't derived, so that what lets go of a run is one call that is proved once.
+// By hand: rx_heap says why.
 impl Drop for Ran {
     fn drop(self) {
         let Ran { end: _, written: _ } = self;

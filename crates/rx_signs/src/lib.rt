@@ -1,6 +1,12 @@
 //! What the crates of tests share: the signs of which their scripts are made, what is told of a run, runs with each of their
 //! growths refused in turn, sinks that meet, and sinks in which notes wait.
 //!
+//! One legend for all scripts of tests. What is done: a letter emits or offers the item of that text, `.` the completion, `!` the
+//! failure `x`; `+` joins an observer, a digit requests so many items, `-` has the observer leave; `?` asks how things stand. What is
+//! told: the letter of an item, `.` and `!` alike; `_` where there is nothing, and for want of memory `M` or `m`; `Z` and `T` where
+//! no items or too many were requested; and behind `|` what the other side was asked or took. What a file's scripts have besides
+//! stands at its head.
+//!
 //! Nothing of the product stands on it. A test that fails is told where the test stands: here nothing ends the process.
 #![tactic(auto)]
 

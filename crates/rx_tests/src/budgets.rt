@@ -23,7 +23,7 @@ struct Waiting {
     outs: Vec<Given, Heap>,
 }
 
-// It stands here, and isn't derived, so that what lets go of it is one call that is proved once.
+// By hand: rx_heap says why.
 impl Drop for Waiting {
     fn drop(self) {
         let Waiting {

@@ -20,7 +20,7 @@ struct Charged {
     outs: Vec<Given, Heap>,
 }
 
-// It stands here, and isn't derived, so that what lets go of it is one call that is proved once.
+// By hand: rx_heap says why.
 impl Drop for Charged {
     fn drop(self) {
         let Charged {

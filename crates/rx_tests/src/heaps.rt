@@ -28,7 +28,7 @@ struct Tried {
     told: Told,
 }
 
-// It stands here, and isn't derived, so that what lets go of it is one call that is proved once.
+// By hand: rx_heap says why.
 impl Drop for Tried {
     fn drop(self) {
         let Tried {

@@ -157,7 +157,7 @@ pub(crate) struct Reading {
     pub(crate) ghost limited: { rules.limits.observers ≤ 64 },
 }
 
-// It stands here, and isn't derived, so that what lets go of a reading is one call that is proved once.
+// By hand: rx_heap says why.
 impl Drop for Reading {
     fn drop(self) {
         let Reading {
@@ -174,7 +174,7 @@ pub(crate) struct Ran {
     pub(crate) hub: Hub,
 }
 
-// It stands here, and isn't derived, so that what lets go of a run is one call that is proved once.
+// By hand: rx_heap says why.
 impl Drop for Ran {
     fn drop(self) {
         let Ran {

@@ -95,7 +95,7 @@ struct Drawing {
     run: Run,
 }
 
-// It stands here, and isn't derived, so that what lets go of a drawing is one call that is proved once.
+// By hand: rx_heap says why.
 impl Drop for Drawing {
     fn drop(self) {
         let Drawing { events: _, run: _ } = self;

@@ -53,7 +53,7 @@ struct Tried {
     misses: u64,
 }
 
-// It stands here, and isn't derived, so that what lets go of it is one call that is proved once.
+// By hand: rx_heap says why.
 impl Drop for Tried {
     fn drop(self) {
         let Tried {

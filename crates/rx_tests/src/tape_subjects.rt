@@ -27,7 +27,7 @@ struct Tried {
     ghost within: { length subject.stamps ≤ length tape.items },
 }
 
-// It stands here, and isn't derived, so that what lets go of it is one call that is proved once.
+// By hand: rx_heap says why.
 impl Drop for Tried {
     fn drop(self) {
         let Tried {

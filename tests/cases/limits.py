@@ -1,0 +1,186 @@
+"""What a server bounds: times, memory, and who may listen at its path."""
+
+import os
+import time
+
+from cases import case
+from cases.ground import LONG, PUBLISH, UNHEARD, answered_to_quit, config, emit_all, emit_for, folder_with, joined, joins_at_last, run, served
+from serving import MOST, Peer, Server, want
+
+
+# Times.
+
+
+@case
+def ages_items_by_another_unit(rxline):
+    """A moment of a server is a millisecond: an item is gone behind a second where it may be so old, and not where it may be a minute."""
+    ages = "".join(f'[[subject]]\nname = "{name}"\nkind = "replay"\nage = {age}\n' for name, age in (("brief", 1_000), ("long", 60_000)))
+    report = b"s joins 0 refused 0\nbrief joins 1 refused 0\nlong joins 1 refused 0\n"
+    with served(rxline, config("connections = 3", more=ages), report) as server:
+        producer = Peer(server.path)
+        producer.ask(b"PUB brief a", b"OK")
+        producer.ask(b"PUB long a", b"OK")
+        time.sleep(1.2)
+        answered_to_quit(producer, b"END brief", b"END long")
+        joined(server, 0, "brief").hear_last(b"DONE\n")
+        joined(server, 0, "long").hear_last(b"NEXT a\nDONE\n")
+
+
+@case
+def ends_the_wrong_session_as_idle(rxline):
+    """One says nothing and is let go; one that says something now and then is not, nor an observer, who may be silent."""
+    with served(rxline, config("connections = 3", "workers = 1", "idle = 3"), b"s joins 1 refused 0\n") as server:
+        follower, idle, busy = joined(server, 0), Peer(server.path), Peer(server.path)
+        for _ in range(12):
+            emit_for(busy, [follower], [b"a"])
+            time.sleep(0.4)
+        idle.hear_last()
+        answered_to_quit(busy, b"END s")
+        follower.hear_last(b"DONE\n")
+
+
+@case
+def ends_no_session_that_is_idle_alone(rxline):
+    """Nobody else says a word, and yet a silent session is ended: behind its time, and not before it."""
+    with served(rxline, config("connections = 1", "idle = 2"), b"s joins 0 refused 0\n") as server:
+        peer = Peer(server.path)
+        begins = time.monotonic()
+        peer.hear_last()
+        want("that it is not ended before its time", time.monotonic() - begins > 1.8, True)
+
+
+@case
+def adds_up_the_pauses_of_one_who_reads(rxline):
+    """Who twice takes nothing for less than `stall` seconds, and in between reads all, is not given up."""
+    with served(rxline, config("connections = 2", "stall = 6"), b"s joins 1 refused 0\n") as server:
+        reader, producer = joined(server, 0), Peer(server.path)
+        for _ in range(2):
+            # More than a socket takes.
+            emit_all(producer, [b"x" * 1_000] * 400)
+            time.sleep(4)
+            for _ in range(400):
+                reader.hear(b"NEXT " + b"x" * 1_000 + b"\n")
+        answered_to_quit(producer, b"END s")
+        reader.hear_last(b"DONE\n")
+
+
+@case
+def keeps_the_place_of_one_who_stalls(rxline):
+    """Of two observers, as many as there may be, one takes nothing for a second; then there is a place for another one."""
+    with served(rxline, config("connections = 4", "stall = 1"), b"s joins 3 refused 0\n") as server:
+        _stalled, _silent, producer = joined(server, 0), joined(server, 1, policy="DROP:0 DELAY"), Peer(server.path)
+        emit_all(producer, [LONG] * 6_000)
+        late = Peer(server.path)
+        want("a place", joins_at_last(late), b"JOINED 2")
+        answered_to_quit(producer)
+
+
+# The report, the path, and memory.
+
+
+@case
+def keeps_quiet_of_a_report_that_is_not_written(rxline):
+    with Server(rxline, config("connections = 1"), 'exec "$@" > /dev/full') as server:
+        answered_to_quit(Peer(server.path))
+        want("the status", server.process.wait(MOST), 1)
+        server.expect([server.listening(), "rxline: write fault"])
+
+
+ABANDONED = b": a socket stands there on which nobody listens: takeover = true in [pool] has it removed\n"
+TAKEN = b": another server listens there\n"
+NO_SOCKET = b": something stands there that is no socket, and is not removed\n"
+
+
+def checked(rxline, server, wanted):
+    """A check of the path tells this, and refuses it where it tells something."""
+    status, _, told = run(rxline, "check", f"{server.folder}/s.toml", server.path)
+    told_wanted = server.path.encode() + wanted + UNHEARD if wanted else b""
+    want("what is told to be in the way", (status, told), (1 if wanted else 0, told_wanted))
+
+
+def refused(rxline, server):
+    """Another server can't listen there."""
+    want("a server beside", run(rxline, "serve", f"{server.folder}/s.toml", server.path), (1, b"", UNHEARD))
+
+
+def listens_alone(rxline, server):
+    """It serves the one connection that it is to serve. Neither a check nor another server counts as one."""
+    refused(rxline, server)
+    checked(rxline, server, TAKEN)
+    answered_to_quit(Peer(server.path), b"PUB s a")
+    want("the report", server.report(), b"s joins 0 refused 0\n")
+
+
+@case
+def takes_over_a_path_that_is_held(rxline):
+    """A path where a socket was left is taken over where the pool says so, and else refused; so is one where a server listens, and one
+    where a file stands, which stays. A check tells which it is."""
+    with Server(rxline, config("connections = 1")) as server:
+        listens_alone(rxline, server)
+        refused(rxline, server)
+        checked(rxline, server, ABANDONED)
+        with open(f"{server.folder}/s.toml", "a", encoding="ascii") as file:
+            file.write("takeover = true\n")
+        checked(rxline, server, b"")
+        server.start()
+        server.expect([server.listening()])
+        listens_alone(rxline, server)
+        os.remove(server.path)
+        checked(rxline, server, b"")
+        with open(server.path, "wb"):
+            pass
+        checked(rxline, server, NO_SOCKET)
+        refused(rxline, server)
+        want("the file that stands there", os.path.getsize(server.path), 0)
+
+
+# More items than a socket and the budget take.
+MANY = 20_000
+MEMORY = b"ERR MEMORY"
+
+
+def emits_until_refused(producer):
+    """Returns how many items are admitted until one is refused for want of memory."""
+    for admitted in range(MANY):
+        producer.send(b"PUB s " + LONG + b"\n")
+        answer = producer.line()
+        if answer != b"OK":
+            want("what an item is refused for", answer, MEMORY)
+            return admitted
+    want("that an item is refused", False, True)
+
+
+def emits_at_last(producer):
+    ends = time.monotonic() + MOST
+    producer.send(b"PUB s " + LONG + b"\n")
+    while (answer := producer.line()) == MEMORY and time.monotonic() < ends:
+        time.sleep(0.005)
+        producer.send(b"PUB s " + LONG + b"\n")
+    want("an item at last", answer, b"OK")
+
+
+@case
+def holds_more_than_its_budget(rxline):
+    """What waits for one who does not read is bounded. It hears all that was admitted, its subject goes on, and another one did."""
+    subjects = PUBLISH + 'observers = 2\nbudget = 64000\n[[subject]]\nname = "t"\nkind = "publish"\n[pool]\nconnections = 2\n'
+    with Server(rxline, subjects) as server:
+        reader, producer = joined(server, 0), Peer(server.path)
+        admitted = emits_until_refused(producer)
+        producer.ask(b"PUB t a", b"OK")
+        for _ in range(admitted):
+            reader.hear(b"NEXT " + LONG + b"\n")
+        emits_at_last(producer)
+        reader.hear(b"NEXT " + LONG + b"\n")
+        answered_to_quit(producer, b"END s")
+        reader.hear_last(b"DONE\n")
+        first, second = server.report().splitlines()
+        # How many were refused is told of the hub alone, and not of texts.
+        want("the report of the first", first.rpartition(b" ")[0], b"s joins 1 refused")
+        want("the report of the second", second, b"t joins 0 refused 0")
+
+
+@case
+def starts_without_memory_for_a_hub(rxline):
+    little = PUBLISH + '[[subject]]\nname = "t"\nkind = "publish"\nbudget = 1\n'
+    with folder_with(little):
+        want("a budget that holds no hub", run(rxline, "serve", "c.toml", "s.sock"), (1, b"", b"rxline: cannot start pump 1\n"))
