@@ -1,5 +1,16 @@
 -- How a program in C says how an observer is to be served, and what a call does for the subject in its struct. The numbers
 -- are this project's own.
+--
+-- The contracts speak of what the struct holds, `handle.value`: nothing, or a desk, which is a hub with the notes that it
+-- gave and that were not taken yet. Each call that finds none answers `NoSubject`, leaves it so, and writes nothing
+-- (`Serves`).
+--
+-- An emission, join, request or disposal is one step of the hub: the number is that of its answer, the notes that wait to be
+-- taken are followed by exactly what the step gives, and the hub stands for the history with the event; a refusal for memory
+-- leaves all but the count of such.
+--
+-- That a text which is within its limits is ever taken, no contract says where memory is wanting: `Emitted` and `Made` leave
+-- `Memory` open, as `Text::new` and `Hub::new` do.
 use Rattle.std.specs.Prelude.{◌≡◌, ℕ, ◌==◌, ◌&&◌, nat_le, Bool, if◌then◌else◌, Option, None, Some, Result, Ok, Err, MatchOption, MatchResult}
 use Rattle.rx_note.specs.Choices.{Choice, choice}
 use Rattle.rx_note.specs.declared.strategy.Strategy.{Strategy}

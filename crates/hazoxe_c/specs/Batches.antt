@@ -1,4 +1,7 @@
 -- How a program in C takes many notes by one call.
+--
+-- The first notes that wait are told of and taken, the most for which there are structs and bytes, with their texts one
+-- behind the other.
 use Rattle.std.specs.Prelude.{◌≡◌, ℕ, ◌+◌, ◌<◌, ◌≤◌, ◌⊎◌, List, ◌++◌, map, length, take, drop, Result, Ok}
 use Rattle.std.specs.List.{flat_map}
 use Rattle.rx_note.specs.declared.given.Given.{Given}

@@ -1,4 +1,7 @@
 -- Which subject a program in C asks for. The numbers, and that 0 stands for none, are this project's own.
+--
+-- A subject is made as asked for, stands for the empty history, and has given nothing; or the first fault of what was asked
+-- is answered, else `Memory`, and the struct holds none; one that holds a subject keeps it.
 use Rattle.std.specs.Prelude.{◌≡◌, ℕ, ◌==◌, ◌&&◌, not, nat_lt, Bool, if◌then◌else◌, List, length, Option, None, Some, Result, Ok, Err, is_some, MatchOption, MatchResult}
 use Rattle.rx_note.specs.declared.kind.Kind.{Kind}
 use Rattle.rx_note.specs.declared.kind.Kind.TheVariants.{Publish, Behavior, Async, Replay}

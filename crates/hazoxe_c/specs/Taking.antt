@@ -1,4 +1,7 @@
 -- How a program in C is told of the notes that were given, and takes them. The numbers are this project's own.
+--
+-- The first note that waits is told of, and taken with its text where the buffer has room for it; else it stays, and so does
+-- the buffer.
 use Rattle.std.specs.Prelude.{◌≡◌, ℕ, nat_lt, List, [], ◌∷◌, ◌++◌, length, drop, Option, None, Some, Result, Ok, Err, MatchBool}
 use Rattle.rx_note.specs.declared.given.Given.{Given}
 use Rattle.rx_note.specs.declared.note.Note.{Note}

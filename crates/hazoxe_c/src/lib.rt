@@ -3,6 +3,8 @@
 //!
 //! It is no server, and has no thread: each call does what it says and returns. A program rests on two facts: a struct that
 //! holds no subject is told by it, and each call that does something to a subject makes one step of a hub.
+//!
+//! Its tests stand in `bindings/test`.
 #![tactic(auto)]
 
 mod batch;

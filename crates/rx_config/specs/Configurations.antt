@@ -1,5 +1,10 @@
 -- What a configuration says: the settings that stand in the table of a TOML text, or the first cause for which it is
 -- refused. The keys, the ranges and the order are this project's own.
+--
+-- The configuration: where `toml` reads a table of the bytes, what is answered is exactly what that table says, or the first
+-- cause that holds in it, or `Memory`; `Syntax` is answered only where the bytes are no UTF-8 or `toml` states no table for
+-- them, and no configuration comes of such bytes; the kind of each subject is one that `Kind::check` passes, and its limits
+-- are those that `Hub::new` takes.
 use Rattle.std.specs.Prelude.{◌≤◌, ◌≡◌, ◌⊎◌, ℕ, ℤ, suc, pos, negsuc, Bool, true, false, ◌&&◌, ◌||◌, not, nat_le, nat_eq, List, [], ◌∷◌, ◌++◌, map, length, codes, Option, None, Some, Result, Ok, Err, if◌then◌else◌, option_and_then, option_map}
 use Rattle.std.specs.List.{list_all, list_any}
 use Rattle.std.specs.Str.{IsUtf8}

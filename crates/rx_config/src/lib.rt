@@ -5,6 +5,8 @@
 //!
 //! They rest on what a configuration says (`specs/Configurations.antt`): exactly the settings that stand in its table, or the
 //! first cause that holds; and on the ranges that each [`Config`] and each [`SubjectConfig`] keeps.
+//!
+//! Its tests stand in `crates/rx_script_tests`.
 #![tactic(auto)]
 
 mod budget;

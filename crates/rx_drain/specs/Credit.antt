@@ -1,4 +1,16 @@
 -- Whose credit is held back (this project's own rule).
+--
+-- Credit: After each turn without a fault each sink that is kept was flushed last, and something is due of those alone that
+-- were found stuck. Where nothing ever waits in a sink, as in a `MemorySink`, nothing is due of any that is kept, and nothing
+-- may wait in it, so that each turn receives a letter; in a `LineSink` something waits only where its writer gathers what it
+-- is given (`LineSink::gathering`)
+--
+-- Credit can't be withheld: that of a sink which was not flushed last, or was not found stuck, all is paid at the end of a
+-- turn is in the invariant of a drainer. A law alone, that whatever is due was held back by a stuck sink, would pass a
+-- drainer that never flushes.
+--
+-- No more than a `u32` counts is held back of a stuck sink; one item more is paid. Else a count of what is due would need a
+-- bound that nothing gives.
 use Rattle.std.specs.Prelude.{◌≡◌, ◌⊎◌, ℕ, Some}
 use Rattle.std.specs.List.{AllByRecursion}
 use Rattle.rx_sink.specs.declared.flow.Flow.{Flow}

@@ -1,4 +1,16 @@
 -- A drainer, and what it has done with the letters that it received (this project's own rule).
+--
+-- The drainer's calls: After each turn, which may have received none where something may have waited in a sink before it, and
+-- else received one at least, there are marks for the letters received such that the own list of each subject's port is just
+-- the calls that they owe it, and a Bye once the leave port's came; the sinks kept and put away are those of the attachments
+-- that they make; so many sinks found no memory as `misses` counts, and so many notes were taken as `taken` counts. `serve`
+-- ends with the Bye of each port of its box, and no sink kept, and takes no letter where each had come before. After a fault
+-- the drainer does nothing more.
+--
+-- A drainer's fault: `InboxGone`: the turn received nothing, and all was sent; where a drainer serves that had no fault, a
+-- Bye had not come. `SubjectGone`: of the calls that are owed, in their order, all were sent that come before one for the
+-- subject that is named, and nothing from there on; or all were sent, the ports before the one that is named have ended, and
+-- no other (`SentUpTo`)
 use Rattle.std.specs.Prelude.{◌≡◌, ◌+◌, ◌<◌, ◌≤◌, ◌⊎◌, ℕ, Bool, true, false, List, [], ◌∷◌, ◌++◌, length, Option, Some, None, slice_get, vec_len, vec_capacity}
 use Rattle.std.specs.List.{list_any}
 use Rattle.rx_mailbox.specs.declared.letter.Letter.{Letter}

@@ -1,6 +1,20 @@
 -- What the letters that a drainer received mean: which sinks are attached, what each took, why it was put away, and what is
 -- owed to each subject. Between letters the drainer flushes sinks. Each letter and each flush is marked, how it went with it
 -- (this project's own rule).
+--
+-- A drainer received some letters. Between them it flushed sinks. Mark each letter and each flush: it went well, and the sink
+-- that it reached answered so; that sink had a fault; or there was no memory for the sink that it brought. By these marks an
+-- `Attach` of a subject makes an attachment of its observer, where none is kept and before the leave port's Bye; the
+-- attachment is served the notes that come for its observer, up to a terminal; it ends when its sink took a terminal and
+-- nothing waits in it any more, when the sink had a fault, when its observer left, or at the leave port's Bye. For each item
+-- that its sink took one is due. All that is due the subject is asked for, item by item, where a take or a flush leaves the
+-- sink not stuck (of a stuck one no more is held back than a `u32` counts), and at the end. At its end, but where the
+-- observer had left before a terminal, and where its sink found no memory, the observer is disposed of. What the leave port
+-- sends besides its Bye, and what comes for an observer without a sink, is discarded.
+--
+-- A drainer's letters are marked by how it went with each, since what is kept depends on what the sinks answered, which no
+-- letter tells. The rules are those of one attachment, one line a case; the laws about what a sink took are read off the
+-- letters alone.
 use Rattle.std.specs.Prelude.{◌==◌, ◌+◌, ◌||◌, ◌&&◌, if◌then◌else◌, ℕ, Bool, true, false, List, [], ◌∷◌, ◌++◌, length, Option, Some, None}
 use Rattle.rx_mailbox.specs.declared.letter.Letter.{Letter}
 use Rattle.rx_mailbox.specs.declared.letter.Post.{Post}

@@ -1,4 +1,6 @@
 -- Each sink that came and found its place is kept or was put away, once (this project's own rule).
+--
+-- Each sink once: Each sink that came and found its place is kept or was put away, and none twice.
 use Rattle.std.specs.Prelude.{◌≡◌, ◌==◌, ◌+◌, ◌≤◌, if◌then◌else◌, ℕ, Bool, List, [], ◌∷◌, ◌++◌, length, map, Option, Some, None}
 use Rattle.rx_mailbox.specs.declared.letter.Letter.{Letter}
 use Rattle.rx_mailbox.specs.declared.letter.Post.{Post}

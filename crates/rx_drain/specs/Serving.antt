@@ -1,4 +1,7 @@
 -- What a drainer leaves that has served to its end, or to a fault (this project's own rule).
+--
+-- The drainer's thread: what `join` answers is what `serve` promises of the drainer that was handed in, but that at a fault
+-- what it left was let go and the fault alone is answered: there was such a stop.
 use Rattle.std.specs.Prelude.{◌≡◌, true, [], length, Some, None}
 use Rattle.rx_mailbox.specs.Boxes.{HasEachBye}
 use Rattle.rx_sink.specs.Acts.{Acts}

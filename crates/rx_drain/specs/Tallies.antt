@@ -1,4 +1,6 @@
 -- The count of the notes taken is the number of notes that the sinks of all attachments took.
+--
+-- Notes taken: The count of notes taken is the number of notes that the sinks of all attachments took, kept or put away.
 use Rattle.std.specs.Prelude.{◌≡◌, ◌+◌, ℕ, List, [], ◌∷◌, length}
 use Rattle.rx_sink.specs.Attachments.{Attachment, Why}
 use Rattle.rx_drain.specs.Logs.{Log, kept_in, gone_in, taken_in}

@@ -1,4 +1,7 @@
 // What waits in the sinks goes out, as far as it can now.
+//
+// When a server closes, it is the drainer that waits for peers, for a quarter of a second in all, in rounds over all its
+// sinks (`flushing::flush_last`); a wait of each writer's own as it goes would add up.
 ghost use Rattle.std.specs.Prelude.{◌≡◌, ◌+◌, ◌<◌, ◌≤◌, false, None, vec_len};
 ghost use Rattle.rx_pump.specs.Pumps.{AreSame};
 ghost use Rattle.rx_drain.specs.Drainers.{Fits, FlushesAll, FlushesAt, any_may_wait, view_of};

@@ -1,4 +1,11 @@
 // One letter: the sinks take it, and the ports send what it owes.
+//
+// 4,096 letters at most are taken before a flush, four times as many as the windows of 64 observers let come, so that one
+// write has several windows' notes where more come meanwhile: with 1,024, 64 lines at a time brought 64 subscribers two
+// thirds of the notes, by three times as many writes. There is a bound since a first request may ask for any number.
+//
+// At the leave port's Bye all sinks are put away even where a subject is gone, so that nothing of theirs is lost; only what
+// was sent is then cut short.
 ghost use Rattle.std.specs.Prelude.{◌≡◌, true, false, None, IfOk, MatchResult, OnOk, OnErr};
 ghost use Rattle.rx_mailbox.specs.declared.letter.Post.TheVariants.{Bye};
 ghost use Rattle.rx_mailbox.specs.Boxes.{all_told, with_letter};

@@ -14,6 +14,8 @@
 //! subject was sent. What [`RunningDrainer::join`] answers is what `serve` promises of the drainer that was started.
 //!
 //! The sinks stand in a crate of their own below this one, and are exported again.
+//!
+//! Its tests stand in `crates/rx_thread_tests`.
 #![tactic(auto)]
 
 mod bursts;

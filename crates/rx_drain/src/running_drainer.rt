@@ -1,4 +1,7 @@
 //! Drainers in threads of their own.
+//!
+//! A running drainer that is let go is not waited for: join each. What its thread answers is not given back then, as the
+//! toolchain has it.
 ghost use Rattle.std.specs.Prelude.{◌≡◌, MatchResult, IfOk};
 ghost use Rattle.rx_drain.specs.Serving.{HasDrained, DrainerHasFailed};
 
@@ -43,7 +46,7 @@ pub struct RunningDrainer<S: Sink> {
     handle: PromisedHandle<Result<DrainEnd<S>, DrainFault>, Served<S>>,
 }
 
-// It stands here, and isn't derived, so that what lets go of a running drainer is one call that is proved once.
+// By hand: rx_heap says why.
 impl<S: Sink> Drop for RunningDrainer<S> {
     fn drop(self) {
         let RunningDrainer { handle: _ } = self;

@@ -1,4 +1,6 @@
 // What a drainer sends its subjects.
+//
+// What comes for a subject without a port is dropped: a drainer of a right box meets none.
 ghost use Rattle.std.specs.Prelude.{[], ◌∷◌, map};
 ghost use Rattle.rx_mailbox.specs.Boxes.{all_told};
 ghost use Rattle.rx_sink.specs.KeptSinks.{events_of};

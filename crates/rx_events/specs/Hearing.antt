@@ -1,4 +1,10 @@
 -- What the reader of an event sink hears, and that it comes again with the id of what it knows.
+--
+-- Its reader hears its subject: of the notes that it took, but an overflow, its reader hears just what is told to one that
+-- knows what it said, or that asked from the first that came where it said nothing.
+--
+-- Its stream is an account: wherever it is cut, its reader was told a front of the events, and comes again with the id of
+-- what it knows by them.
 use Rattle.std.specs.Prelude.{◌≡◌, ◌<◌, ◌^◌, ℕ, Bool, if◌then◌else◌, List, [], ◌∷◌, ◌++◌}
 use Rattle.rx_note.specs.declared.note.Note.{Note}
 use Rattle.rx_note.specs.declared.note.Note.TheVariants.{Next, Completed, Failed}

@@ -1,4 +1,10 @@
 -- What the calls of an event sink do (this project's own rule).
+--
+-- An event sink: it writes the head of an answer and where its reader begins, and then of each note that it takes the events
+-- by which that is told to a reader that was told those before: none of an item that it knows, which is taken like any other;
+-- how many are missed before an item that isn't the next; an overflow without an id, where its observer may end by one. After
+-- a fault it has written a front of that. Its rest tells how many notes it took, and whether it had a fault. Something waits
+-- in it only where its writer gathers, and what it passed over isn't counted there.
 use Rattle.std.specs.Prelude.{◌≡◌, ◌<◌, ◌↔◌, IsTrue, ℕ, Bool, true, false, if◌then◌else◌, List, [], Option}
 use Rattle.std.specs.Io.KnownBytes.{Appends}
 use Rattle.rx_proto.specs.Bytes.{AppendsPrefix}

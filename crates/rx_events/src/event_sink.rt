@@ -1,3 +1,8 @@
+// Nothing of an answer is written before the Join is accepted. The sink writes the head of the stream when it is started, so
+// that a Join that is refused is answered by its status.
+//
+// An overflow is told by the strategy. Its error is that of a subject that fails with the text `OVERFLOW`, so the sink is
+// told whether its observer may overflow; to others that error is the end of the subject.
 ghost use Rattle.std.specs.Prelude.{◌≡◌, true, false};
 ghost use Rattle.rx_sink.specs.Kinds.{flow_behind};
 ghost use Rattle.rx_events.specs.Sinks.{ahead_after};

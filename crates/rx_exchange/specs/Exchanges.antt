@@ -1,5 +1,12 @@
 -- What an exchange has come to that is served turn by turn. A turn may begin wherever the one before it ended, and all of them together
 -- answer the head of the bytes that they read.
+--
+-- An exchange: all its turns together read bytes, and meet what the head of these asks for, once: whether all is well, or a
+-- Join at the subject of that name, with that policy and window and from where its reader begins, by which the server has the
+-- writer; else the answer is told to the writer, all of it where the exchange ended by itself, a front of it after a fault of
+-- the writer. Where the bytes end before, or reading fails, the writer is back as it was, and the server was asked nothing. A
+-- turn that goes on at once or waits for bytes made a read. No turn waits, and no memory is taken. Others may call the server
+-- between its turns.
 use Rattle.std.specs.Prelude.{◌≡◌, ◌+◌, ℕ, Bool, true, false, List, [], Option, None, Some, Result}
 use Rattle.std.specs.Io.KnownBytes.{Appends, Consumes, IsAtEnd}
 use Rattle.rx_proto.specs.Bytes.{AppendsPrefix}

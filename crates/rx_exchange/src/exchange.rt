@@ -1,3 +1,6 @@
+// Each answer is the last of its connection. A head is read and nothing behind it: a body that is never read would be taken
+// for the next request, and so could be one that a proxy forwards for somebody else. A connection to a Unix socket costs next
+// to nothing, and a stream of events goes to the end of its own in any case.
 ghost use Rattle.std.specs.Prelude.{◌≡◌, ◌<◌, List, ℕ, Option, [], false, true, length};
 ghost use Rattle.rx_http.specs.Heads.{HasNoHead};
 ghost use Rattle.rx_exchange.specs.Meetings.{parties};

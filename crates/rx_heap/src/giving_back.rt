@@ -1,3 +1,8 @@
+// Room goes back by quarters. A tape, and the stamps that a subject keeps of it, give back room whenever items leave them
+// that needed more than 64 places and now need no more than a quarter (`rx_heap::give_back`): they keep room for twice what
+// is left, and for 64. So a hub that has drained holds no more after a long burst than after a short one; each item that
+// leaves pays for no more than one that is moved, and a list that is in use at one size never grows and shrinks in turns.
+// Where the memory for the smaller block can't be had, the larger one stays, and no call is refused for it.
 ghost use Rattle.std.specs.Prelude.{◌≡◌};
 
 use crate::Heap;

@@ -2,6 +2,11 @@
 //!
 //! A call that may grow takes a [`Heap`] first, and a type that holds a collection keeps its own. A `Heap` hands out the
 //! runtime's memory: all of it, or no more than a budget of bytes, which all clones of the handle share.
+//!
+//! Many types that own memory have their `Drop` written by hand, in this crate and above it, where it could be derived: what lets
+//! go of one is then a call, which is proved once and not anew in each function that does. Such a one says `By hand`.
+//!
+//! Its tests stand in `crates/rx_tests`.
 #![tactic(auto)]
 
 mod budget;

@@ -1,3 +1,11 @@
+// A block that it hands out is memory of the size and alignment asked for, which the allocator within handed out; what is
+// given back goes back to that allocator, and any thread may give it back where that allocator allows it; a block that could
+// not be resized is as it was.
+//
+// A heap has a `shrink` of its own, though the allocator's trait has one. The trait's own takes a new block before it gives
+// the old one back, so a list within a budget could find no room to be cut; and a proof that rests on a body of the trait's
+// is checked anew in each crate above, with all that cites it: in the hub more than a quarter of what was checked was proofs
+// of the crates below.
 ghost use Rattle.std.specs.Prelude.{◌≡◌, ◌^◌, min, IfOk, None, Some};
 
 use crate::budget::Budget;
@@ -17,7 +25,7 @@ pub struct Limited<B: Allocator + Drop> {
     limit: Limit,
 }
 
-// It stands here, and isn't derived, so that what lets go of a heap is one call that is proved once.
+// By hand: rx_heap says why.
 impl<B: Allocator + Drop> Drop for Limited<B> {
     #[inline(always)] // nothing is done
     fn drop(self) {

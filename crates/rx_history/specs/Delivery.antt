@@ -3,6 +3,12 @@
 -- (reactivex.io/documentation/contract.html); that a request bounds what is given is that of the Backpressure operators
 -- (reactivex.io/documentation/operators/backpressure.html); that a room bounds what waits, and that an overflow ends one
 -- observer alone, are this project's own.
+--
+-- The law of an error ahead speaks of an observer that is held when the error is emitted. One that joins a failed subject by
+-- Ahead is given of its opening what its first request releases, and then the error.
+--
+-- The law that offers are in order speaks of the seed and the accepted items, since a seed is no accepted item; and an Async
+-- subject has a law of its own in place of the one that each item is offered.
 use Rattle.std.specs.Prelude.{◌≡◌, ℕ, ◌+◌, ◌<◌, ◌≤◌, ◌==◌, Bool, true, false, not, if◌then◌else◌, List, [], ◌∷◌, ◌++◌, length, map, Option, None, Some, is_some, option_to_list, ◌⊎◌}
 use Rattle.std.specs.List.{filter, items_where_true}
 use Rattle.std.specs.Option.{option_map, option_map_or}

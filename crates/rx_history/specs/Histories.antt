@@ -3,6 +3,9 @@
 -- for want of memory is not in it.
 -- That a subject ends once, and what a joiner begins with, are those of the pages Observable Contract and Subject
 -- (reactivex.io/documentation); moments, numbers and limits are this project's own.
+--
+-- An observer that left keeps its signals. No signal is added to them once it is held by nobody; so what it was given is told
+-- as before, and its line and what waits are cut by one test in the definitions.
 use Rattle.std.specs.Prelude.{ℕ, ◌+◌, ◌-◌, ◌==◌, Bool, true, false, ◌&&◌, not, max, nat_lt, nat_le, if◌then◌else◌, List, [], ◌∷◌, ◌++◌, length, map, drop, Option, None, Some, is_some, Result, Ok, Err, option_to_list}
 use Rattle.std.specs.List.{list_any, flat_map, filter}
 use Rattle.std.specs.Option.{option_map, option_or, option_map_or}

@@ -1,3 +1,6 @@
+// A stored history walks its events twice or three times: the first walk finds out who is held and how many have joined, and
+// takes no memory, so that `NoObserver` is exact and comes before `Memory`. It has room for 64 observers at a time, the
+// greatest limit of this project; so `line`, `given` and `waiting` have the condition that the rules are in that limit.
 ghost use Rattle.std.specs.Prelude.{◌≡◌, ◌≤◌, ◌↔◌, [], ◌∷◌, ◌++◌, None, is_some, Err, length, IfOk, OnOk, OnErr};
 ghost use Rattle.rx_history.specs.Histories.{is_held, signals, line_of, given_to, waiting_for};
 ghost use Rattle.rx_history.specs.Stored.{history_of};
@@ -18,7 +21,7 @@ pub struct History {
     entries: Vec<(u32, Event), Heap>,
 }
 
-// It stands here, and isn't derived, so that what lets go of a history is one call that is proved once.
+// By hand: rx_heap says why.
 impl Drop for History {
     fn drop(self) {
         let History { entries: _ } = self;

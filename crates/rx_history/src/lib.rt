@@ -6,6 +6,8 @@
 //! above rest on one fact: what it answers is what the definitions say. [`laws`] has what follows from these for every
 //! observer: order, nothing twice, nothing lost under Buffer, nothing after a terminal, no more given than was requested,
 //! no more waiting than there is room for.
+//!
+//! Its tests stand in `crates/rx_tests`.
 #![tactic(auto)]
 
 mod history;

@@ -16,7 +16,7 @@ pub(crate) struct Past {
     pub(crate) items: Vec<Stamped, Heap>,
 }
 
-// It stands here, and isn't derived, so that what lets go of a past is one call that is proved once.
+// By hand: rx_heap says why.
 impl Drop for Past {
     fn drop(self) {
         let Past {

@@ -19,7 +19,7 @@ pub(crate) struct Trace {
     pub(crate) ghost in_line: { given ≤ vec_len items },
 }
 
-// It stands here, and isn't derived, so that what lets go of a trace is one call that is proved once.
+// By hand: rx_heap says why.
 impl Drop for Trace {
     fn drop(self) {
         let Trace {

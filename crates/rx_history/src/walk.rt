@@ -21,7 +21,7 @@ pub(crate) struct Walk {
     pub(crate) trace: Option<Trace>,
 }
 
-// It stands here, and isn't derived, so that what lets go of a walk is one call that is proved once.
+// By hand: rx_heap says why.
 impl Drop for Walk {
     fn drop(self) {
         let Walk {

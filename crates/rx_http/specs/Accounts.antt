@@ -1,5 +1,9 @@
 -- The ids by which a reader goes on: each tells of how many of its subject's items it knows what became (this project's own
 -- rule).
+--
+-- The id is an account: of a stream whose events are counted from what is known at its begin, cut anywhere: its reader was
+-- told a front of the events, and comes again with the id of just as many items as it then knows of, which is what it heard
+-- comes to; or with the id that it came with where it was told none.
 use Rattle.std.specs.Prelude.{◌≡◌, ℕ, zero, suc, ◌+◌, ◌==◌, Bool, true, false, if◌then◌else◌, List, [], ◌∷◌, ◌++◌, Option, None, Some}
 use Rattle.rx_note.specs.declared.note.Note.TheVariants.{Completed, Failed}
 use Rattle.rx_http.specs.Epochs.{IsEpoch}

@@ -1,4 +1,7 @@
 -- What requests are answered, byte by byte. The answers are this project's own.
+--
+-- The exact answers: each answer is written as exactly its bytes, or a prefix of them after a fault; each says that it is the
+-- last of its connection. No memory is taken.
 use Rattle.std.specs.Prelude.{ℕ, List, [], ◌++◌, length, codes, decimal}
 use Rattle.rx_http.specs.declared.answer.Answer.{Answer}
 use Rattle.rx_http.specs.declared.answer.Answer.TheVariants.{Events, Over, Well, Unwell, Refused}

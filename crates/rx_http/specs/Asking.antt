@@ -1,5 +1,11 @@
 -- What a request asks for, by its head, and for which cause it is refused. The rules are this project's own; what a head is says
 -- httparse (RFC 9112).
+--
+-- The exact requests: a head of at most 8,192 bytes and 32 fields that is one of the grammar of HTTP/1.0 and HTTP/1.1 asks
+-- for the events of a subject, by GET of `/subjects/NAME`, or for whether all is well, by GET of `/healthz`; or it is refused
+-- for the first of these causes: its path, its method, a word of its query, what its reader says to know, the name of the
+-- subject. Other bytes are refused as too long, where they are more or begin with more fields, or as no head. It asks for one
+-- thing, or is refused for one cause. No memory is taken.
 use Rattle.std.specs.Prelude.{◌≡◌, ◌<◌, ◌≤◌, ◌⊎◌, ℕ, List, [], ◌∷◌, length, map, if◌then◌else◌, Option, None, Some, Result, Ok, Err, codes}
 use Rattle.std.specs.Option.{unwrap_or}
 use Rattle.std.specs.Str.{str_to_ascii_lowercase}

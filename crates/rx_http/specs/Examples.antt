@@ -1,4 +1,6 @@
 -- Streams that the standard tells of (its four examples, and the ends of lines that it allows), and how they are to be read.
+--
+-- The standard's reader: four examples of the standard and the ends of lines that it allows are read as it says.
 use Rattle.std.specs.Prelude.{◌≡◌, ℕ, List, [], ◌∷◌, codes}
 use Rattle.rx_http.specs.Reading.{Message, read, reader_with}
 

@@ -1,4 +1,9 @@
 -- Where the head of a request ends among the bytes of a connection: with its first empty line (RFC 9112, section 2.1).
+--
+-- The head of a connection: however its reads are cut, the head that is found ends with the first empty line of all bytes
+-- that came, has at most 8,192, and the bytes that are handed on of it and behind it are together what came; none is found
+-- just where there is none among the first 8,192. It stays the same where more comes. Of a connection that begins with a head
+-- of the grammar, before which one empty line may stand, it is that head. No memory is taken.
 use Rattle.std.specs.Prelude.{◌≡◌, ◌<◌, ◌≤◌, ◌+◌, ◌||◌, ℕ, Bool, true, false, nat_eq, List, ◌++◌, length, take, codes, Result, Ok, Err, MatchResult, Option}
 use Rattle.std.specs.Io.KnownBytes.{Consumes, IsAtEnd, Keeps}
 use Rattle.std.specs.List.{ends_with}

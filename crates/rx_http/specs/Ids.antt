@@ -1,4 +1,7 @@
 -- The ids by which a reader goes on where it was. The rules are this project's own.
+--
+-- The exact ids: `Id::read` answers an id exactly for the bytes by which one is told: an epoch, a place without leading zeros
+-- if one is known, and whether the subject is over; `Id::known` is of how many items it tells.
 use Rattle.std.specs.Prelude.{ℕ, List, [], ◌∷◌, ◌++◌, Bool, if◌then◌else◌, Option, None, Some, codes, decimal}
 use Rattle.rx_http.specs.declared.id.Id.{Id}
 

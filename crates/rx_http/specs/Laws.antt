@@ -1,4 +1,19 @@
 -- What a reader is told by a stream, wherever it is cut.
+--
+-- Events are read back: the reader of a stream is told just its events, in their order, each with its id, its kind and its
+-- text, in which a CR is an LF; heartbeats tell it nothing.
+--
+-- A stream that is cut: wherever it is cut, its reader was told a front of its events, and comes again with the id of the
+-- last of them, or with the one that it came with where it was told none.
+--
+-- Events are UTF-8: all that is written of a stream is UTF-8, so that nothing is lost where its reader decodes it.
+--
+-- The laws speak of events whose numbers have 32 bits, whose texts have no LF and whose ids have an epoch: all that there are
+-- (`laws::event_can_be_told`). A reader is told of bytes: what parts a stream are the same bytes in UTF-8. A byte order mark
+-- at its begin, with which no piece begins, and how long a reader waits before it comes again are left out of the
+-- definitions. The laws of a reader that comes again suppose that its connections are of one epoch, that it says at each
+-- begin what it knows, by the id, and that a server tells it the line of its observer by an event sink that begins where it
+-- says: that one does is still to be proved there.
 use Rattle.std.specs.Prelude.{◌≡◌, ◌<◌, ◌^◌, ℕ, List, [], ◌∷◌, ◌++◌, ◌==◌, if◌then◌else◌, Option, None, Some}
 use Rattle.std.specs.Str.{IsUtf8}
 use Rattle.rx_proto.specs.LineFeeds.{HasNoLf}

@@ -1,4 +1,7 @@
 -- What is written to a stream, byte by byte: pieces, each a message or one that tells none.
+--
+-- The exact events: each event is written as exactly its bytes, or a prefix of them after a fault; so are a heartbeat and the
+-- line that says when to come again. A text that is no UTF-8 goes in base64, under a kind of its own. No memory is taken.
 use Rattle.std.specs.Prelude.{ℕ, List, [], ◌∷◌, ◌++◌, ◌==◌, if◌then◌else◌, Option, None, Some, codes, decimal}
 
 -- what a message says: its id, if it tells one, its kind and its text

@@ -1,4 +1,7 @@
 -- What answers are by the grammar of heads (RFC 9112, as httparse has it): a status, fields and a body.
+--
+-- Answers are read: by the grammar of heads each answer is a head with just its status and its fields, behind which stands
+-- its body; an answer with a body tells its length.
 use Rattle.std.specs.Prelude.{ℕ, List, [], ◌∷◌, length, Some, codes, decimal}
 use Rattle.httparse.specs.Grammar.{Field, ResponseHead, ReadsResponse, crlf}
 use Rattle.rx_http.specs.Answers.{answer_bytes, plain_kind, refusal_body}

@@ -1,4 +1,10 @@
 -- What a reader is told that comes again and again, and what it all comes to (this project's own rule).
+--
+-- A reader goes on: in all its connections, each cut anywhere, a reader that says at each begin what it knows hears each item
+-- at most once and in order; what it heard and the numbers that it was told as missed are together, without a gap, the items
+-- from the first that it asked for on.
+--
+-- Those are the subject's items: what is heard in a connection are items of the subject, in their order, each at most once.
 use Rattle.std.specs.Prelude.{ℕ, ◌+◌, ◌-◌, ◌≡◌, ◌≤◌, if◌then◌else◌, ◌==◌, nat_lt, List, [], ◌∷◌, ◌++◌, length, Option, None, Some}
 use Rattle.rx_note.specs.declared.item.Item.{Item}
 use Rattle.rx_note.specs.declared.note.Note.{Note}

@@ -1,3 +1,6 @@
+// One empty line before a head is passed over, and two are none. So a head ends with the first empty line of its connection,
+// whatever stands before it, and is looked for without being parsed: each byte is searched once, however the reads are cut.
+// That this is the head of the grammar is a law.
 ghost use Rattle.std.specs.Prelude.{◌≡◌, ◌<◌, ◌≤◌, ◌+◌, [], drop, length, take, MatchOption};
 ghost use Rattle.rx_http.specs.Heads.{FindsHead, Gathers, HasNoHead, IsHeadAt, NoneBelow, count_of, ends_empty};
 

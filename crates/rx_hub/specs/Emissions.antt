@@ -1,4 +1,7 @@
 -- An emission, and what it does to a subject on a tape and to its observers.
+--
+-- What an emission does is one record (`Admits`): five functions carry it, from the one that takes any emission down to the
+-- one that knows what is offered, and each leaves all as it was where it is refused (`StaysAs`).
 use Rattle.std.specs.Prelude.{◌≡◌, ◌<◌, ◌≤◌, ℕ, true, false, List, is_some, length}
 use Rattle.rx_note.specs.declared.event.Event.TheVariants.{Emit}
 use Rattle.rx_note.specs.declared.given.Given.{Given}

@@ -1,4 +1,12 @@
 -- What contracts see of a hub, the histories that it stands for, and what a step does.
+--
+-- One step: for every history that the hub stands for, an answer other than `Memory` is the definition's answer (to an
+-- emission `Ended`, else `Spent` where the limit has no room for an item, else that it was admitted), what the step gives is
+-- exactly the definition's, by rising observer and in each observer's order, and the hub then stands for the history with
+-- this event.
+--
+-- Want of memory: a step answered `Memory` changes nothing but `misses`, which rises by one, and comes only where the event
+-- would have been accepted and is no dispose; no other step changes `misses`.
 use Rattle.std.specs.Prelude.{◌≡◌, ◌&&◌, nat_le, ℕ, Bool, true, false, List, ◌++◌, Result, Ok, Err, IsOk, MatchBool}
 use Rattle.rx_note.specs.declared.given.Given.{Given}
 use Rattle.rx_note.specs.declared.rules.Rules.{Rules}

@@ -1,5 +1,11 @@
 -- A whole run: several events taken one after another, from a history on. A step refused for want of memory is not in
 -- the history that follows, and the run goes on.
+--
+-- A whole run: for every history that the hub stands for, each event of a run is answered as the definitions say or, where
+-- they accept it, `Memory`, which leaves it out of the history; what is given is what these entries give, in their order, and
+-- each step's place tells how much of it was given up to that step; up to each step, what each observer was given is what its
+-- given gained since the run began; the hub then stands for the history of the events that were not answered `Memory`. Where
+-- the list of steps can't be had, the run is `Memory` and nothing has changed.
 use Rattle.std.specs.Prelude.{◌≡◌, ◌⊎◌, ℕ, ◌+◌, ◌<◌, ◌-◌, ◌^◌, min, List, [], ◌∷◌, ◌++◌, length, map, take, get_or, Result, Err, if◌then◌else◌}
 use Rattle.rx_note.specs.declared.given.Given.{Given}
 use Rattle.rx_note.specs.declared.rules.Rules.{Rules}

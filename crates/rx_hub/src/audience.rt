@@ -1,3 +1,9 @@
+// The list of what is given has room for a joiner's whole opening reserved, also where most of it waits or is lost: a join
+// may so answer `Memory` a little before the last byte is used.
+//
+// The hub asks for as many places as it has observers before an emission of an item, and for twice as many before one that
+// ends the subject, since its offer has room for an item and an end; so too where an item overflows at an observer. It may so
+// answer `Memory` a little before the last byte is used.
 ghost use Rattle.std.specs.Prelude.{◌≡◌, ◌+◌, ◌<◌, ◌≤◌, ◌==◌, ◌++◌, ℕ, max, length, take, drop, get_or, position, false, true, None, IfOk, IfSome, OnOk, OnErr};
 ghost use Rattle.rx_note.specs.Signals.{Signals, waiting};
 ghost use Rattle.rx_tape.specs.Tapes.{last_items};
@@ -26,7 +32,7 @@ pub(crate) struct Audience {
     subscriptions: Vec<Subscription, Heap>,
 }
 
-// It stands here, and isn't derived, so that what lets go of the observers is one call that is proved once.
+// By hand: rx_heap says why.
 impl Drop for Audience {
     fn drop(self) {
         let Audience {

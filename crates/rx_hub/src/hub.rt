@@ -1,3 +1,5 @@
+// `Hub::new` reserves the list of observers, so that its `Memory` is met where the list can't be had, and a join grows
+// little.
 ghost use Rattle.std.specs.Prelude.{◌≡◌, ◌≢◌, ◌+◌, ◌-◌, ◌^◌, ◌↔◌, min, Err, false, IfOk, OnErr, if◌then◌else◌, length};
 ghost use Rattle.rx_hub.specs.Counts.{waiting_count};
 ghost use Rattle.rx_hub.specs.Hubs.{is_miss};
@@ -41,7 +43,7 @@ pub struct Hub {
     misses: u64,
 }
 
-// It stands here, and isn't derived, so that what lets go of a hub is one call that is proved once.
+// By hand: rx_heap says why.
 impl Drop for Hub {
     fn drop(self) {
         let Hub {

@@ -3,6 +3,8 @@
 //! It starts no thread, waits for nothing and reaches nothing outside. The crates above rest on one contract, exact
 //! delivery: for every history that a hub stands for, a step answers and gives what `rx_history` defines for that
 //! history and the event, and the hub then stands for the history with the event.
+//!
+//! Its tests stand in `crates/rx_tests`.
 #![tactic(auto)]
 
 mod audience;

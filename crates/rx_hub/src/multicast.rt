@@ -1,3 +1,5 @@
+// A hub's tape has no more items than the most that wait for one observer, or are kept for joiners. That is a fact of the
+// private type `Multicast`, after each step; it rests on every cursor of the tape being that of a seat.
 ghost use Rattle.std.specs.Prelude.{◌≡◌, ◌<◌, ◌≤◌, ◌^◌, ℕ, List, true, max, length, IfOk};
 ghost use Rattle.rx_note.specs.declared.event.Event.TheVariants.{Emit, Join, Request, Dispose};
 ghost use Rattle.rx_note.specs.declared.given.Given.{Given};
@@ -32,7 +34,7 @@ pub(crate) struct Multicast {
     ghost tight: { length audience.items ≤ max (length subject.stamps) (most_waiting audience.observers) },
 }
 
-// It stands here, and isn't derived, so that what lets go of a subject and its observers is one call that is proved once.
+// By hand: rx_heap says why.
 impl Drop for Multicast {
     fn drop(self) {
         let Multicast {

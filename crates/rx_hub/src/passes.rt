@@ -1,4 +1,14 @@
 // The passes of an emission over all observers: what may be refused comes in the first, and what can't fail in the second.
+//
+// A refused emission leaves nothing behind. The copies that queues of their own keep of an item are made ready before the
+// last growth, so where that is refused they are let go at once (`passes::take_back`, `forget_all`). That nothing is ready
+// between two steps is an invariant of the audience, so the prover refuses a way out that leaves a copy. A Publish subject
+// keeps no stamp, so an item takes no room there that is given back at once.
+//
+// What all observers are owed, and nobody may need later, goes by no tape. A Publish subject keeps nothing for those who join
+// later, so an item that each of its observers is given at once is pushed nowhere, and no cursor moves. An emission asks this
+// first (`passes::are_owed`); then the item is copied for all observers but the last, which is given the item itself, and the
+// lanes count one item less that is owed.
 ghost use Rattle.std.specs.Prelude.{◌≡◌, ◌+◌, ◌*◌, ◌<◌, ◌≤◌, ◌↔◌, ◌==◌, ◌++◌, ◌∷◌, [], List, take, is_some, option_to_list, true, false, IsTrue, IfOk, OnOk, vec_len, vec_capacity};
 ghost use Rattle.std.specs.List.{All};
 ghost use Rattle.rx_note.specs.declared.item.Item.{Item};

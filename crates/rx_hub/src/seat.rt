@@ -1,3 +1,6 @@
+// An observer under Drop has a lane of its own beside the tape, since what waits for it is no end of the tape. So has one
+// under Bounded: what waits in front of its overflow is no end of the tape either, once more items come. It takes a copy of
+// each item that is not owed, save where it has ended, and where `Lane::loses_next` says that it would lose it.
 ghost use Rattle.std.specs.Prelude.{◌≡◌, ◌≤◌, ◌<◌, ◌+◌, ◌++◌, ◌∷◌, [], ℕ, List, true, false, None, Some, map, length, option_to_list, if◌then◌else◌, IfOk, OnErr, vec_len, vec_capacity};
 ghost use Rattle.rx_note.specs.declared.item.Item.{Item};
 ghost use Rattle.rx_note.specs.declared.note.Note.{Note};

@@ -1,4 +1,13 @@
 -- The queue of one observer: what contracts see of it, and the signals that it stands for.
+--
+-- A request, an offered item and the end give exactly what given gains by what the subject sends with that signal, and the
+-- lane then stands for the longer list: where an item overflows, by the error in its place, which comes back from `offer`
+-- where it is given at once. An item and an end are for a lane that has not ended. By `ask_for` each note is addressed to the
+-- observer of the number handed in.
+--
+-- `reserve` leaves what the lane stands for, and afterwards so many offers find room; `ask` and `end` keep the room, an offer
+-- all but one place; under Buffer there always is room, so there `offer` needs no `reserve`; an offer is never refused, also
+-- where it overflows.
 use Rattle.std.specs.Prelude.{◌≡◌, ◌+◌, ◌<◌, ◌≤◌, ◌^◌, ◌↔◌, ◌&&◌, nat_le, ℕ, Bool, false, List, ◌++◌, Option, Some, Result, Err, is_some, length, map}
 use Rattle.rx_note.specs.declared.given.Given.{Given}
 use Rattle.rx_note.specs.declared.item.Item.{Item}

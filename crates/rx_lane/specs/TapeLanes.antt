@@ -1,5 +1,18 @@
 -- The queue of an observer whose items stand on a tape that several observers share: what contracts see of it, and the
 -- queue that it is over the items of that tape.
+--
+-- A lane that joins with a policy and a request, and is then offered a lead and the last so many items of the tape, gives
+-- exactly what these signals release and stands for them; `Memory` leaves the tape's items and cursors and the list. By
+-- `open_for` each note is addressed to the observer that joins.
+--
+-- A request, an offer of the tape's last item or of one that is not on the tape, and the end give exactly what given gains by
+-- that signal, and the lane then stands for the longer list over the tape as it then is; an item and an end are for a lane
+-- that has not ended (`is_ended`); a request is refused as by a `Lane`, and leaves the lane, the tape and the list. By
+-- `ask_for` and `ask_alone` each note that is given is addressed to the observer of the number handed in.
+--
+-- Its cursor stands before the tape's end by the number of its items that wait there, and no call moves another's; `end_on`
+-- moves it past what waits no more, and `close` releases it. But for `ask_alone`, which asks that no other cursor is on the
+-- tape, no call adds or removes an item.
 use Rattle.std.specs.Prelude.{◌≡◌, ◌≢◌, ℕ, ◌-◌, ◌<◌, ◌≤◌, ◌++◌, Bool, List, [], ◌∷◌, length, map, Option, None, Some, nat_lt, option_to_list, if◌then◌else◌}
 use Rattle.rx_note.specs.declared.given.Given.{Given}
 use Rattle.rx_note.specs.declared.item.Item.{Item}

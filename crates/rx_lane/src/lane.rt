@@ -1,3 +1,9 @@
+// The error of an overflow is made where the lane is made, and kept until the end: so an offer takes no memory and can't be
+// refused, and a join says `Memory` where there was none. (Its text has 8 bytes, which take no memory today; the contract of
+// a text allows the refusal all the same.)
+//
+// `Lane::joined` stands beside `Lane::new`, since an observer may join with a request for 0 items, which `ask` refuses; and
+// `waiting_notes` beside `waiting_len`, since a hub counts the terminal too.
 ghost use Rattle.std.specs.Prelude.{◌≡◌, ◌≤◌, ◌<◌, ◌+◌, ◌^◌, ◌↔◌, [], ◌++◌, ◌∷◌, true, false, is_some, Some, Ok, Err, None, map, take, drop, length, option_to_list, OnOk, OnErr, IfOk, min, vec_len, vec_capacity};
 ghost use Rattle.rx_note.specs.Signals.{Signals, Start, ◌▸◌, Requested, Offered, Ended, terminal_of, goes_ahead, owed, waiting, waiting_items};
 ghost use Rattle.rx_note.specs.declared.item.Item.{Item};
@@ -30,7 +36,7 @@ pub struct Lane {
     ended: bool,
 }
 
-// It stands here, and isn't derived, so that what lets go of a lane is one call that is proved once.
+// By hand: rx_heap says why.
 impl Drop for Lane {
     fn drop(self) {
         let Lane {

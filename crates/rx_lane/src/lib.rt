@@ -4,6 +4,8 @@
 //! It knows nothing of subjects and of other observers. The crates above rest on one contract, the exact lane: for every
 //! list of signals that a lane stands for, `ask`, `offer` and `end` give exactly what the definitions of `rx_note` give
 //! by that signal, and the lane then stands for the longer list.
+//!
+//! Its tests stand in `crates/rx_tests`.
 #![tactic(auto)]
 
 mod ask_error;

@@ -1,3 +1,12 @@
+// `Lane` keeps a queue of its own under each strategy, beside `TapeLane`: under Drop and Bounded a hub runs it, and it is a
+// ring there; under Buffer and Latest it is the plain form, to hold the shared one against. As a tape and its `TapeLane` it
+// would lose two arms in each of the six calls of `Queue`, some 20 lines, since Drop and Bounded need the rest; and would
+// gain an arm in each of its nine calls, a `reserve` of the tape that its contracts can see, and copies where it moves items
+// today.
+//
+// The variant of a queue is its strategy, and the capacity of a ring its room, so that no field can disagree with them. Drop
+// with no room has a variant of its own and keeps no ring. A ring has all its memory from the beginning; Buffer grows by what
+// `reserve` asks.
 ghost use Rattle.std.specs.Prelude.{◌≡◌, ◌<◌, ◌≤◌, ◌+◌, ◌^◌, [], false, length, drop, slice_get, IfOk, OnOk, OnErr};
 ghost use Rattle.rx_note.specs.Queues.{queued};
 ghost use Rattle.rx_note.specs.declared.strategy.Strategy.TheVariants.{Buffer};

@@ -1,3 +1,10 @@
+// A request of a `TapeLane` asks nothing of a cursor where nothing waits on the tape. By `end` an error ahead lets what waits
+// go and leaves the cursor where it was; `end_on`, which the hub calls, moves it to the end, so that the tape need not hold
+// those items until the observer leaves.
+//
+// A request on the tape puts its notes where they go, addressed to their observer: `TapeLane::ask_for` makes room once, for
+// just what it gives, and copies item after item from the tape. So a request that gives very many notes holds each once, and
+// one that gives none takes no memory.
 ghost use Rattle.std.specs.Prelude.{ℕ, ◌≡◌, ◌≤◌, ◌<◌, ◌+◌, ◌-◌, [], ◌++◌, ◌∷◌, List, ◌⊎◌, is_some, Ok, Err, None, Some, map, take, length, min, option_to_list, vec_len, vec_capacity, OnOk, OnErr, IfOk};
 ghost use Rattle.rx_note.specs.declared.item.Item.{Item};
 ghost use Rattle.rx_note.specs.declared.note.Note.TheVariants.{Next};
@@ -30,7 +37,7 @@ pub struct TapeLane {
     ended: bool,
 }
 
-// It stands here, and isn't derived, so that what lets go of a lane is one call that is proved once.
+// By hand: rx_heap says why.
 impl Drop for TapeLane {
     fn drop(self) {
         let TapeLane {

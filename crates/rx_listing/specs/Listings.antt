@@ -1,5 +1,8 @@
 -- What is printed for a configuration that was accepted: a line for each subject, and one for the pool. The words are this
 -- project's own, mostly the keys of the configuration.
+--
+-- The lines of a configuration: of a configuration that was accepted exactly the lines are told: each subject in its order,
+-- with its name, kind, bounds, limits, budget and seed, and then the pool; or `Memory`.
 use Rattle.std.specs.Prelude.{ℕ, Bool, true, false, List, [], ◌++◌, codes, decimal, Option, None, Some}
 use Rattle.std.specs.List.{flat_map}
 use Rattle.rx_note.specs.declared.kind.Kind.{Kind}

@@ -3,6 +3,8 @@
 //!
 //! Nothing here reads a file. The crate above rests on one contract: what [`config_lines`] tells is exactly what
 //! `specs/Listings.antt` prints for the settings of the configuration. What is told of a refused one no contract says.
+//!
+//! Its tests stand in `crates/rx_script_tests`.
 #![tactic(auto)]
 
 mod advice;

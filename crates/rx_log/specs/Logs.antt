@@ -4,6 +4,18 @@
 -- Two premises say of a real log that it is such a list. One list: what any reader is told of the entry at a place, at any time,
 -- is the entry of one list there. Own entries: an own entry behind a tenure was appended by the run that holds the tenure.
 -- Nothing is known of how often an entry is appended, when, or what was answered.
+--
+-- The laws, over the definitions alone, stand in `crates/rx_log/proofs`: `once`, `known-anywhere` and `opens-anywhere`,
+-- `own-anywhere`, `claims` and `known-then`, `stretch`, `placed` and `items-emitted`.
+--
+-- A tenure is known by its place, which the list itself gives and nobody else can have: no clock, and no name on which
+-- exactness rests.
+--
+-- Any tenure of its node voids one whose base is before it, also one that is void. So who appended a tenure that counts had
+-- read every one of its node, and knows that nothing behind an older one can count any more.
+--
+-- What is far behind does not count. So what counts is known from the last entries alone, and what a rule holds is of a span,
+-- however long the log.
 use Rattle.std.specs.Prelude.{ℕ, ◌+◌, ◌==◌, Bool, false, ◌&&◌, nat_le, if◌then◌else◌, Option, None, Some}
 use Rattle.rx_log.specs.declared.entry.Entry.{Entry}
 use Rattle.rx_log.specs.declared.entry.Entry.TheVariants.{Tenure, Own, Foreign}

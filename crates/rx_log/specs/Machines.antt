@@ -1,4 +1,16 @@
 -- A machine that reads a log and appends to it: what of the log is its own, and the calls and logs that it stands for.
+--
+-- What to append: exactly what is due: nothing unless it has caught up and is connected; a tenure of its holder that tells
+-- how far it has read and what it knows the log to come to; or the next call that waits, numbered behind its tenure, within
+-- the window. It then stands for all that it appended and this. `Memory` leaves it.
+--
+-- An entry is read: `Passed` exactly at a place that was read, `Gone` exactly behind one that was not, else perhaps `Memory`,
+-- by which nothing changes. Else, where an own entry of the machine's is one that it appended: it stands as the definition
+-- says, it answers the call that is next behind those that count, exactly where it is the machine's own and counts, and the
+-- machine stands for the longer log; its part that appends is exactly as the definition says.
+--
+-- That a machine stands for its calls says: the notes that count of its own, followed by those of the calls that wait, are
+-- exactly those of the calls that were made, in order.
 use Rattle.std.specs.Prelude.{◌≡◌, ℕ, ◌-◌, ◌<◌, ◌≤◌, Bool, true, ◌&&◌, if◌then◌else◌, List, [], ◌∷◌, ◌++◌, length, map, drop, slice_get, Option, None, Some, option_map, All, Contains}
 use Rattle.rx_note.specs.declared.note.Note.{Note}
 use Rattle.rx_log.specs.declared.call.Call.{Call}

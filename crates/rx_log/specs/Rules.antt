@@ -1,4 +1,8 @@
 -- What contracts see of the rule that reads a log entry by entry, and the logs that it stands for.
+--
+-- One entry more: for every log that the rule stands for: the entry at the next place stands exactly as the definition says,
+-- void, a tenure that counts, or a note that counts, with who holds its tenure and what is known to come before it; the rule
+-- then stands for the longer log. `Memory` leaves it, and comes at the latest behind 9,223,372,036,854,775,807 entries.
 use Rattle.std.specs.Prelude.{◌≡◌, ℕ, ◌+◌, ◌<◌, ◌≤◌, ◌⊎◌, Bool, true, nat_le, if◌then◌else◌, List, [], ◌∷◌, ◌++◌, Option, None, Some, option_map, All}
 use Rattle.rx_log.specs.declared.total.Total.{Total}
 use Rattle.rx_log.specs.declared.term.Term.{Term}

@@ -1,4 +1,7 @@
 -- What the notes of a log come to, and what of that a machine knows that began to read anywhere.
+--
+-- A tenure is believed once, and never more items than there are entries before its base. By whoever tells what it knows that
+-- is always so; and whatever else stands in a log, no count of a rule can overflow.
 use Rattle.std.specs.Prelude.{◌≡◌, ℕ, ◌+◌, ◌==◌, Bool, true, false, ◌&&◌, nat_le, if◌then◌else◌, List, [], ◌∷◌, ◌++◌, Option, None, Some}
 use Rattle.rx_note.specs.declared.note.Note.{Note}
 use Rattle.rx_note.specs.declared.note.Note.TheVariants.{Next, Completed, Failed}

@@ -3,6 +3,8 @@
 //! It reads no log and writes none: it is told each entry that was read, and tells what to append. The crates above rest on
 //! one contract, the exact log: an entry counts exactly where the definitions say so of the whole list, and what of it is a
 //! machine's own, followed by what waits there, is exactly the list of its calls.
+//!
+//! Its tests stand in `crates/rx_log_tests`.
 #![tactic(auto)]
 
 mod call;

@@ -1,3 +1,6 @@
+// What is to be appended is asked for one by one, and counts as appended then, so each of its growths is refused by itself
+// and leaves the machine as it was. Within a tenure the same number is always the same note, so an append more can do no
+// harm.
 ghost use Rattle.std.specs.Prelude.{◌≡◌, ◌+◌, ◌<◌, ◌≤◌, ◌↔◌, ◌++◌, ◌∷◌, [], List, length, option_to_list, Err, IfOk, OnOk, OnErr};
 ghost use Rattle.rx_log.specs.declared.call.Call.{Call};
 ghost use Rattle.rx_log.specs.declared.entry.Entry.{Entry};

@@ -1,4 +1,7 @@
 // What is had of several nodes.
+//
+// What is had of the nodes is a short list, and a change goes over all of it, so that nothing rests on a node standing there
+// once. A node whose last tenure is far behind gives its place to the next new one.
 ghost use Rattle.std.specs.Prelude.{◌≡◌, ◌≢◌, ◌+◌, ◌-◌, ◌<◌, ◌^◌, ◌⊎◌, [], ◌∷◌, ◌++◌, ℕ, map, set, length, get_or, All, Contains, IfSome, IfNone, IfOk, OnOk, OnErr};
 ghost use Rattle.rx_log.specs.declared.term.Term.{Term};
 ghost use Rattle.rx_log.specs.Terms.{TakesPlace, Stands, renewed, with_number};

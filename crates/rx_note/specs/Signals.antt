@@ -3,6 +3,20 @@
 -- Demand and the end are those of the Observable Contract (reactivex.io/documentation/contract.html), strategies those
 -- of the Backpressure operators (reactivex.io/documentation/operators/backpressure.html); rooms and losses are this
 -- project's own words. That an error may go ahead of what waits is an operator's word (reactivex.io/documentation/operators/observeon.html).
+--
+-- Losses are the greatest excess at any prefix, found in one count along the signals, and where they rise one place is lost.
+-- The code never counts: it looks whether its queue is full. That both come to the same is proved, for Drop and for Latest
+-- (`crates/rx_note/proofs/Kept.antt`).
+--
+-- Under Drop the item just offered is lost, under Latest the oldest that waits, each where the losses rise: with nothing owed
+-- and a full room. The other strategies of the Backpressure page that need a clock or other operators are left out.
+--
+-- The line is cut by the demand. What was given is the first so many items of the line, and its ending once these are all. So
+-- a body that keeps everything waiting is refused.
+--
+-- Whether an item overflows is told by counts alone, of items offered and requested: under Bounded nothing is lost before an
+-- end, so these tell how many wait. The code looks whether its queue is full; that both come to the same is proved
+-- (`crates/rx_note/proofs/Sending.antt`).
 use Rattle.std.specs.Prelude.{ℕ, ◌+◌, ◌-◌, max, Bool, true, false, if◌then◌else◌, ◌==◌, nat_lt, nat_le, List, [], ◌∷◌, ◌++◌, length, map, take, drop, Option, None, Some, is_some, option_to_list, codes}
 use Rattle.std.specs.List.{list_any}
 use Rattle.rx_note.specs.declared.item.Item.{Item}

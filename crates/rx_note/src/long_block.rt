@@ -13,7 +13,7 @@ pub(crate) enum LongBlock {
     UpTo1024(Arc<Block<1024>, Heap>),
 }
 
-// It stands here, and isn't derived, so that what lets go of a block is one call that is proved once.
+// By hand: rx_heap says why.
 impl Drop for LongBlock {
     fn drop(self) {
         match self {

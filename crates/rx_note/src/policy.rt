@@ -1,3 +1,5 @@
+// The policy of an observer is seen by contracts as its two choices, though its fields are private: it is made by
+// `Policy::new` alone, which refuses rooms that are out of limits, and that its room is in them is a fact of the type.
 ghost use Rattle.std.specs.Prelude.{◌≡◌, true};
 
 use crate::{Errors, Strategy};

@@ -1,4 +1,7 @@
 -- What the reading of a line and the grammar say of each other, and what is printed of what was meant.
+--
+-- The exact grammar: what is read of a line is what it spells, what it spells is read of it, and it is refused as Long or as
+-- Syntax exactly as stated, in a session and in a script; a parser lacks memory only for a text.
 use Rattle.std.specs.Prelude.{◌≡◌, ◌<◌, ◌≤◌, ◌^◌, ◌↔◌, ℕ, List, length, Result, Ok, Err}
 use Rattle.rx_note.specs.declared.note.Note.{Note}
 use Rattle.rx_note.specs.declared.note.Note.TheVariants.{Next, Completed, Failed}

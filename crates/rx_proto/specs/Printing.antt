@@ -1,4 +1,8 @@
 -- What is printed, byte by byte.
+--
+-- The exact printing: a response and a note, in either version, are written as exactly their line, or a prefix of it after a
+-- fault; two responses written alike are equal; two notes written alike are equal but for port and place in version 1, and
+-- equal in version 2, where an item has the place of a seed only together with its port.
 use Rattle.std.specs.Prelude.{ℕ, List, [], ◌∷◌, ◌++◌, ◌==◌, if◌then◌else◌, codes, decimal}
 use Rattle.rx_note.specs.declared.item.Item.{Item}
 use Rattle.rx_note.specs.declared.note.Note.{Note}

@@ -3,6 +3,8 @@
 //! Nothing here reads or serves: a line comes in as its bytes, and what is printed goes to a writer. The crates above rest
 //! on one fact: [`parse_line`] and [`parse_script`] accept exactly the lines of the grammar (`specs/Grammar.antt`), each
 //! with its meaning. [`laws`] says so both ways, and that what is printed tells what was meant.
+//!
+//! Its tests stand in `crates/rx_tests`.
 #![tactic(auto)]
 
 mod command;

@@ -1,5 +1,11 @@
 -- What the audit of a script is: the subjects after its lines, and the printing of what each observer was given and of
 -- what waits for it, in the first version: a HELLO is passed over. The rules are this project's own.
+--
+-- For every reader and writer that tell their bytes there are the bytes that were read. At the end of the input or at `QUIT`,
+-- what was written is the printing of what each observer of each subject was given and of what waits for it, in version 1, by
+-- the definitions over the histories that the lines of those bytes define, of which a `HELLO` changes none; after a write
+-- fault it is a prefix of that; after a read fault or too many reads nothing was written; where memory was wanting, nothing
+-- or a prefix. Carried by `run_audit`: the record `Audits`, and `BreaksOff` for want of memory.
 use Rattle.std.specs.Prelude.{◌≡◌, ◌⊎◌, ℕ, zero, suc, Bool, true, false, if◌then◌else◌, List, [], ◌∷◌, ◌++◌, map, Option, None, Some, is_some, Result, codes, decimal}
 use Rattle.std.specs.List.{flat_map}
 use Rattle.std.specs.Io.KnownBytes.{Consumes, Appends, IsAtEnd}

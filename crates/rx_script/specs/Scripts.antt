@@ -1,4 +1,11 @@
 -- What a run of a script does as a whole, and what a topic does that takes an event.
+--
+-- For every reader and writer that tell their bytes there are the bytes that were read and a mark for each line that met want
+-- of memory, and what was written is the transcript of the lines of those bytes, each note in the version that the last
+-- accepted `HELLO` before it set; after a write fault it is a prefix of that; the end that is answered is the one that the
+-- input gives. A mark counts only at a line to a known subject that may take memory: for its text, or for an event that is
+-- accepted and is no dispose. Where a hub could not be made, nothing was read or written. Carried by `run_script`: the record
+-- `Runs`.
 use Rattle.std.specs.Prelude.{◌≡◌, ℕ, Bool, true, false, List, [], ◌∷◌, map, Option, Result, if◌then◌else◌, slice_index_or, slice_set}
 use Rattle.std.specs.Io.KnownBytes.{Consumes, Appends, IsAtEnd}
 use Rattle.rx_history.specs.Histories.{NoEvents}

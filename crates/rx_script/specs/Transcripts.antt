@@ -1,6 +1,9 @@
 -- What is written for the lines of a script. A script is told by the histories of its subjects: each line is answered,
 -- and gives, what the definitions say of the history of the subject that it names. Its events come at the moment, and notes
 -- are printed in the version, that a line set last. The rules are this project's own.
+--
+-- A mark for want of memory counts only where memory may be taken: at a text of a subject that there is, whatever its length,
+-- or at an event that its subject accepts. So the transcript can't be met by refusing lines at will.
 use Rattle.std.specs.Prelude.{ℕ, ◌&&◌, ◌||◌, Bool, true, false, if◌then◌else◌, List, [], ◌∷◌, ◌++◌, Option, None, Some, Result, Ok, Err, is_ok}
 use Rattle.std.specs.List.{flat_map}
 use Rattle.std.specs.Option.{option_map_or}

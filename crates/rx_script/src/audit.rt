@@ -23,7 +23,7 @@ pub(crate) struct Audit {
     moment: u64,
 }
 
-// It stands here, and isn't derived, so that what lets go of an audit is one call that is proved once.
+// By hand: rx_heap says why.
 impl Drop for Audit {
     fn drop(self) {
         let Audit {

@@ -11,7 +11,7 @@ pub struct Ledger {
     pub history: History,
 }
 
-// It stands here, and isn't derived, so that what lets go of a ledger is one call that is proved once.
+// By hand: rx_heap says why.
 impl Drop for Ledger {
     fn drop(self) {
         let Ledger {

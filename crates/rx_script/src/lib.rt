@@ -3,6 +3,8 @@
 //! [`run_script`] has the subjects' hubs take what the lines ask, and writes each answer and each note that is given at once
 //! (`specs/Transcripts.antt`). [`run_audit`] answers no line: it prints at the end what the stored histories of the same lines
 //! say of each observer (`specs/Audits.antt`). Nothing here waits, and nothing is of a server but its configuration.
+//!
+//! Its tests stand in `crates/rx_script_tests`.
 #![tactic(auto)]
 
 mod asked;

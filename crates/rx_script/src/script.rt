@@ -63,7 +63,7 @@ pub(crate) struct Script {
     ghost nothing_left: { outs.items ≡ [] },
 }
 
-// It stands here, and isn't derived, so that what lets go of a script is one call that is proved once.
+// By hand: rx_heap says why.
 impl Drop for Script {
     fn drop(self) {
         let Script {

@@ -14,7 +14,7 @@ pub struct Topic {
     pub heap: Heap,
 }
 
-// It stands here, and isn't derived, so that what lets go of a subject is one call that is proved once.
+// By hand: rx_heap says why.
 impl Drop for Topic {
     fn drop(self) {
         let Topic {

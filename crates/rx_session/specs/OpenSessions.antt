@@ -1,5 +1,13 @@
 -- What a session has come to that is served turn by turn. A turn may begin wherever the one before it ended, and all of them
 -- together do what a session does with the bytes that they read.
+--
+-- A session by turns: a turn of an open session goes on from whatever place the session has come to, and after it, with the
+-- bytes read by then, the session has come to a place so: so all turns together are exactly the session's bytes of the bytes
+-- read, and the turn that is over gives what `serve_lines` gives; the answer to `QUIT` is written whole before that, and no
+-- writer is handed over before it has all. Between its turns others may call the desk: then the same holds of a session over
+-- a desk that others call too. After a turn behind which another may be made at once the session made a read, of those that
+-- it may make, or carried out a line in hand, and no answer waits; where it waits for its reader it made a read, no whole
+-- line is in hand and no answer waits. A new session may make as many reads as it is told.
 use Rattle.std.specs.Prelude.{◌≡◌, ◌<◌, ◌⊎◌, ℕ, Bool, true, false, List, [], ◌∷◌, ◌++◌, length, Option, Some, Result, Ok}
 use Rattle.std.specs.Io.KnownBytes.{Consumes}
 use Rattle.rx_proto.specs.LineFeeds.{HasNoLf}

@@ -1,5 +1,12 @@
 -- What a session does: it asks its desk the commands of its lines but HELLO and QUIT, in order, a SUB in the version then set,
 -- and tells the line of each response to the writer that it holds. The rules are this project's own.
+--
+-- The session's bytes: the desk was asked exactly the commands of the lines read, but `HELLO`, in order, up to `QUIT`, a
+-- `SUB` by which the writer is gone, or the end, and each `SUB` in the version that the last accepted `HELLO` before it set,
+-- at first 1; a `HELLO` is answered without the desk; each response is told to the writer then held; the desk is handed a
+-- writer only when it has all that was told to it; a refused line is answered without the desk, for want of memory only a
+-- `PUB` or `FAIL` for a subject that the desk has; an end without a fault leaves all written, a fault of the writer a prefix;
+-- the end is the one by which the reading of lines ended.
 use Rattle.std.specs.Prelude.{◌≡◌, ◌⊎◌, ℕ, List, [], ◌∷◌, ◌++◌, Option, None, Some, Result, Ok, Err}
 use Rattle.std.specs.Io.KnownBytes.{Consumes, Appends, IsAtEnd}
 use Rattle.rx_note.specs.Choices.{Choice}

@@ -4,6 +4,8 @@
 //! bytes, and of [`LineState`] and [`Outbox`], by which a script is read and answered too. An [`OpenSession`] is a session
 //! that waits for nobody: it is served turn by turn, and others between its turns. [`laws`] says what the lines of some bytes
 //! are, and that an open session is a session.
+//!
+//! Its tests stand in `crates/rx_tests`.
 #![tactic(auto)]
 
 mod came;

@@ -1,3 +1,5 @@
+// The program reads standard input directly, in blocks of 8,192 bytes, and gathers answers in a block of the same size;
+// neither takes memory from the heap. A line is found in its block and parsed where it stands.
 ghost use Rattle.std.specs.Prelude.{length, ◌≤◌, ◌<◌, ◌≡◌, drop, take, []};
 ghost use Rattle.rx_session.specs.Windows.{FindsLf, Fills, count_of};
 

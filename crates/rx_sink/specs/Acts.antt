@@ -1,4 +1,14 @@
 -- What a kind of sink does, as relations between its states (this project's own rule).
+--
+-- A kind of sink tells by relations between its states what an Ok `start`, an Ok `take` and an Ok `flush` with their answers,
+-- a fault and `finish` do, and how many faults it had. The answer is that nothing waits in the sink, that something waits and
+-- it takes more, or that it is stuck: something waits that can't go out now. All below holds for every kind of sink.
+--
+-- A take and a flush answer how the sink stands, in one relation each with the answer as its argument, so that what a drainer
+-- asks for is tied to what the sink said: a body that pays for a stuck sink, or puts a terminal away with bytes waiting, is
+-- refused. In the log a flush is an entry of its own, and what a sink took does not depend on where it was flushed. What is
+-- due is a count of the attachment, and the law of each attachment's calls says that what was sent, with what is due, is a
+-- request for each item: no subtraction.
 use Rattle.std.specs.Prelude.{◌≡◌, ◌+◌, ◌-◌, ◌^◌, min, ℕ, List, [], ◌∷◌, Option, Some, None}
 use Rattle.std.specs.List.{FoldsTo}
 use Rattle.rx_note.specs.declared.note.Note.{Note}

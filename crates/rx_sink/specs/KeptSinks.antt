@@ -1,4 +1,10 @@
 -- What the sinks that are kept and those that were put away stand for: lists of attachments (this project's own rule).
+--
+-- The sinks' notes: Each sink that is kept is the one that came, after its `start`, the Ok `take` of just the notes that its
+-- attachment took, and Ok flushes between them; one that was put away is that with its last fault, if it had one, and then
+-- its `finish`. Whatever the kind, its own count of faults rose at that fault and stayed else. A sink that is left unserved,
+-- since one is kept for its observer or there was no memory for it, comes back from `attach` as it came, and is finished in
+-- one place (`finish_unserved` in `rx_drain`)
 use Rattle.std.specs.Prelude.{◌≡◌, ◌+◌, ◌&&◌, if◌then◌else◌, ℕ, zero, suc, Bool, true, false, not, List, [], ◌∷◌, ◌++◌, map, replicate, Option, Some, slice_get, Result, Ok, Err}
 use Rattle.std.specs.List.{AllZip, remove}
 use Rattle.rx_note.specs.declared.event.Event.{Event}

@@ -1,4 +1,14 @@
 -- What the calls of the sinks of this crate do (this project's own rule).
+--
+-- Memory sinks: what is left of a `MemorySink` that was empty when it came is the list of the notes that it took.
+--
+-- Line sinks: what a `LineSink` wrote is the line of its start and the lines of the notes that it took, in its version, after
+-- a fault followed by a front of the next line; what is left of it tells how many it took and whether it had a fault.
+--
+-- How a line sink stands: over a writer that gathers what it is given, a take answers Stuck where the sink was found stuck
+-- and not yet found free again, or where more than 48 lines were written since nothing waited, this one counted, and else
+-- Ready; a flush that finds that nothing waits begins the count anew and answers Clear, and one that finds the sink stuck
+-- leaves the count. Over any other writer both answer Clear (`flow_behind`, `FlushLeaves` and `line_acts`)
 use Rattle.std.specs.Prelude.{◌≡◌, ◌+◌, ◌-◌, ◌^◌, ◌<◌, ◌≤◌, ◌↔◌, ◌⊎◌, ◌||◌, if◌then◌else◌, min, nat_le, nat_lt, IsTrue, ℕ, Bool, true, false, List, [], ◌∷◌, ◌++◌, Option, Some, None, vec_len, vec_capacity}
 use Rattle.std.specs.Io.KnownBytes.{Appends}
 use Rattle.std.specs.declared.alloc.Global.{Global}

@@ -1,4 +1,8 @@
 -- What the sinks left that were put away, kept or not (this project's own rule).
+--
+-- What the sinks left: contracts see the whole list of what was put away left, kept or not. A drainer keeps it until its end,
+-- unless it was told to `forget`: then what a sink leaves is let go as it is put away, and takes no room. No turn changes
+-- which; where it is kept, `as_slice` answers all of it, and else none.
 use Rattle.std.specs.Prelude.{◌≡◌, ◌+◌, ◌≤◌, ℕ, Bool, true, List, length}
 use Rattle.rx_sink.specs.declared.put_away.PutAway.{PutAway}
 

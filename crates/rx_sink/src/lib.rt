@@ -10,6 +10,8 @@
 //! the lists what the rules of one attachment say (`specs/Attachments.antt`), whatever kind of sink it is. `specs/Acts.antt`
 //! has the words in which a kind of sink tells what its calls do, `specs/KeptSinks.antt` what the lists stand for. [`laws`] says
 //! what the sinks of this crate have taken, and that nothing waits in them.
+//!
+//! Its tests stand in `crates/rx_thread_tests`.
 #![tactic(auto)]
 
 mod asks;

@@ -1,3 +1,9 @@
+// 48 lines ahead. A sink over a writer that gathers asks for the next item at once until 48 lines were written since nothing
+// waited, unless it was found stuck (`LineSink::gathering`). So one write can hold more notes than a window, and what is
+// outside its subject for a slow peer is 64 notes at most.
+//
+// A sink's line is put together on the stack and written by one `write`, since sinks travel in letters and a buffer in them
+// would be moved with each.
 ghost use Rattle.std.specs.Prelude.{◌≡◌, true, false};
 ghost use Rattle.rx_sink.specs.Kinds.{ahead_with_one, flow_behind};
 

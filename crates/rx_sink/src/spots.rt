@@ -1,3 +1,11 @@
+// The search for a kept sink begins where it stood when it was looked for last (`rx_sink`'s `Spots`, in `Places`), and goes
+// down from there, since those behind a sink that goes move down. The spots stand by rising subject and number, as the notes
+// of an item come, so the one behind the last is tried first, and then halving. They are no part of what is proved: any place
+// is right to begin at. The room for a spot is made with the place of its sink (`Places::grow`), so want of memory for it is
+// told like any other. Nor are they kept exact: a sink that goes leaves its spot behind, and the stale ones are let go once
+// they are as many as the others and 64. The number of the observer, where it began before, is its place only for the first
+// observers of one subject. That any place found is the first is known since no two sinks are kept for one observer, which is
+// part of what the lists stand for (`Stand`).
 ghost use Rattle.std.specs.Prelude.{◌≤◌, length};
 
 use crate::Kept;
@@ -48,7 +56,8 @@ impl Spots {
     }
 
     /// Where the sink of an observer stood when it was looked for last. The notes of an item go to the observers of a subject by
-    /// their rising numbers, so it is mostly the spot behind the one asked for before.
+    /// their rising numbers, and what one observer asked for goes to it together, so it is mostly the spot behind the one asked for
+    /// before, or that one again.
     pub(crate) fn near(&mut self, subject: u32, who: u32) -> usize {
         let Some(list) = &self.list else {
             return who as usize;
@@ -56,6 +65,8 @@ impl Spots {
         let next = self.last.saturating_add(1);
         self.last = if is_spot_of(list, next, subject, who) {
             next
+        } else if is_spot_of(list, self.last, subject, who) {
+            self.last
         } else {
             spot_index(list, subject, who)
         };

@@ -1,4 +1,13 @@
 -- What contracts see of a subject, and the histories that it stands for.
+--
+-- It keeps the history's end and stamp and how many items were accepted, and of the items those that a later joiner may need:
+-- none (Publish), the last one (Behavior, Async), the last `count` of those that are younger than `age` at the stamp, or at
+-- the end once there is one (Replay). For all rules of its kind and every history that the subject stands for:.
+--
+-- `admit` answers `Ended` exactly after the end, else perhaps `Memory`, and a refusal leaves the subject; its offer has the
+-- signals that the definition adds by this note, the item at the place that is the number of items accepted before, and,
+-- where the limit has room for it, the subject then stands for the history with it. An item is handed in only where fewer
+-- than 4,294,967,295 were admitted.
 use Rattle.std.specs.Prelude.{◌≡◌, ◌<◌, ℕ, ◌+◌, max, List, [], ◌∷◌, ◌++◌, map, take, Option, None, Some, is_some, if◌then◌else◌}
 use Rattle.rx_note.specs.declared.kind.Kind.{Kind}
 use Rattle.rx_note.specs.declared.kind.Kind.TheVariants.{Publish, Behavior, Async, Replay}

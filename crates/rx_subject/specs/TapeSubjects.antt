@@ -1,5 +1,14 @@
 -- What a subject keeps for later joiners where its items stand on a tape: their stamps alone. Over the items of the tape it
 -- is the subject that keeps them itself.
+--
+-- Of a subject whose items stand on a tape (`crates/rx_subject/specs/TapeSubjects.antt`: over the items of the tape it is
+-- such a subject) the same holds, by clauses of the same names: `TapeSubject::new`, `admit`, `admit_offered`, `admit_on`,
+-- `keep_back`, `pass_item`, `preview`, `opening`, `joined`, `is_ended`, `stamp`, `items`. `admit` puts the item on the tape,
+-- none of Async, as its last growth; `admit_offered` puts there each item that the note offers; `admit_on` takes an item by
+-- value, of a kind that keeps none back, `keep_back` one that Async keeps back, of which it says that nothing is offered, and
+-- `pass_item` one of which Publish keeps nothing, so that it goes by no tape; an opening is a lead and the last so many items
+-- of the tape. `keep` tells how many of the tape's last items later joiners may need; it is never more than there are, which
+-- is the condition of `admit` and `opening` on the tape.
 use Rattle.std.specs.Prelude.{◌≡◌, ℕ, suc, ◌-◌, max, List, [], ◌∷◌, length, Option, None, Some, if◌then◌else◌}
 use Rattle.rx_note.specs.declared.item.Item.{Item}
 use Rattle.rx_note.specs.declared.kind.Kind.{Kind}

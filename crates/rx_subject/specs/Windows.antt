@@ -1,4 +1,11 @@
 -- What a subject has to keep of its items for later joiners.
+--
+-- What a subject keeps is one list for all kinds, the last so many of the items that are young enough, with their stamps:
+-- none for Publish, one for Behavior and Async, those of its bounds for Replay. So one law says what an item, an end and a
+-- join leave of it. A Behavior subject keeps its last item after the end, where nothing asks for it.
+--
+-- Items that are too old are dropped from the front of the window, at the step that raises the stamp. That this drops all of
+-- them and no other rests on the law that stamps never fall; the definition filters all items of the history.
 use Rattle.std.specs.Prelude.{ℕ, ◌-◌, List, [], ◌∷◌, Option, None, Some, if◌then◌else◌}
 use Rattle.rx_note.specs.declared.kind.Kind.{Kind}
 use Rattle.rx_note.specs.declared.kind.Kind.TheVariants.{Publish, Behavior, Async, Replay}

@@ -4,6 +4,8 @@
 //! and stores no history. The crates above rest on one fact: for every history that a subject stands for, its offers and
 //! openings are those that `rx_history` defines, and it then stands for the history with the event. A [`TapeSubject`] does so
 //! where its items stand on a tape that its observers share.
+//!
+//! Its tests stand in `crates/rx_tests`.
 #![tactic(auto)]
 
 mod admit_error;

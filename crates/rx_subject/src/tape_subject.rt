@@ -1,3 +1,6 @@
+// A subject on a tape keeps the stamps of the last items, of Async the last item itself, which is offered only at the
+// completion and so never waits on the tape before. By `admit` it is no item of the tape then either; `admit_offered`, which
+// the hub calls, puts each item that is offered on the tape, so that an observer is always offered the tape's last item.
 ghost use Rattle.std.specs.Prelude.{◌≡◌, ◌≢◌, ◌↔◌, ◌≤◌, ◌<◌, ◌+◌, ℕ, List, [], None, Some, max, length, is_some, true, false, Err, IfOk, OnOk, OnErr, option_to_list};
 ghost use Rattle.rx_note.specs.declared.event.Event.TheVariants.{Emit, Join};
 ghost use Rattle.rx_note.specs.declared.kind.Kind.TheVariants.{Publish, Async};
@@ -38,7 +41,7 @@ pub struct TapeSubject {
     count: u32,
 }
 
-// It stands here, and isn't derived, so that what lets go of a subject is one call that is proved once.
+// By hand: rx_heap says why.
 impl Drop for TapeSubject {
     fn drop(self) {
         let TapeSubject {

@@ -4,6 +4,8 @@
 //! requests and of strategies. The crates above rest on one contract, the exact tape: an item is pushed at the end, a cursor
 //! reads the item at its place, no call moves another's cursor, and what every cursor has passed is removed, save the last
 //! items that are to be kept.
+//!
+//! Its tests stand in `crates/rx_tests`.
 #![tactic(auto)]
 
 mod places;

@@ -1,3 +1,9 @@
+// A tape's places are absolute, so neither a push nor a trim moves a cursor; reading, advancing and releasing a number of no
+// cursor do nothing, so no condition has to be carried for them. The cursor that was lowest when it was last looked for is
+// remembered: while it stands at the front, a trim is one comparison.
+//
+// A tape that holds 4,294,967,295 cursors, or has been pushed 2^64 - 1 items, answers `Memory` without a refused growth. No
+// machine holds as many.
 ghost use Rattle.std.specs.Prelude.{◌≡◌, ◌≤◌, ◌<◌, ◌^◌, ◌-◌, ◌+◌, ◌↔◌, ℕ, true, drop, None, Some, length, min, slice_get, option_copied, IfOk, OnOk, OnErr};
 ghost use Rattle.rx_tape.specs.Tapes.{end_of, place_of, ahead, tape_at_first, pushed, HavePassed, MovesOn, Spares, trimmed, without};
 
@@ -19,7 +25,7 @@ pub struct Tape {
     slowest: u32,
 }
 
-// It stands here, and isn't derived, so that what lets go of a tape is one call that is proved once.
+// By hand: rx_heap says why.
 impl Drop for Tape {
     fn drop(self) {
         let Tape {

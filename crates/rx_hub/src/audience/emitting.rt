@@ -1,4 +1,14 @@
 // What an emission does to the observers of a subject.
+//
+// An item that is owed is put where it goes in the first pass of its emission, by far the commonest step: the second pass
+// only tells the queues, and a refusal cuts the list of what is given to what it was. A subject's end, whose item and
+// terminal alternate in that list, and an item that overflows at an observer, whose error stands among what the others are
+// given, have their copies made ready in the observers' own places, as has what a queue of its own keeps; so none of these
+// takes a list. After a step that was refused for want of memory they are let go.
+//
+// The copies of an emission are made of one `TapeSubject::preview`, and `TapeSubject::admit_offered` is its last growth. An
+// observer to which nothing is owed costs no copy of an item, save under Drop where the item will wait, and under Bounded
+// where it has not ended.
 ghost use Rattle.std.specs.Prelude.{◌≡◌, ◌≢◌, ℕ, option_to_list, OnOk, OnErr};
 ghost use Rattle.rx_note.specs.declared.kind.Kind.TheVariants.{Async};
 ghost use Rattle.rx_subject.specs.Subjects.{HasPlace, offered_by, signals_by};
