@@ -14,10 +14,12 @@ mod giving_back;
 mod limit;
 mod limited;
 mod refused;
+mod rooms;
 
 pub use giving_back::give_back;
 pub use limited::Limited;
 pub use refused::Memory;
+pub use rooms::room;
 
 /// The memory handle: the allocator of the runtime under a limit. Nothing above relies on its being `Copy`: a second owner
 /// clones it, and shares its limit.

@@ -4,13 +4,16 @@ use Rattle.std.specs.Arc.{arc_value}
 use Rattle.rx_note.specs.declared.body.Body.{Body}
 use Rattle.rx_note.specs.declared.body.Body.TheVariants.{Short, Medium, Long}
 use Rattle.rx_note.specs.declared.long_block.LongBlock.{LongBlock}
-use Rattle.rx_note.specs.declared.long_block.LongBlock.TheVariants.{UpTo120, UpTo248, UpTo504, UpTo1024}
+use Rattle.rx_note.specs.declared.long_block.LongBlock.TheVariants.{UpTo120, UpTo184, UpTo248, UpTo376, UpTo504, UpTo760, UpTo1024}
 
 -- the bytes in the block of a long text
 abbrev pub bytes_in : LongBlock → List ℕ
 bytes_in (UpTo120 block) = arc_value block
+bytes_in (UpTo184 block) = arc_value block
 bytes_in (UpTo248 block) = arc_value block
+bytes_in (UpTo376 block) = arc_value block
 bytes_in (UpTo504 block) = arc_value block
+bytes_in (UpTo760 block) = arc_value block
 bytes_in (UpTo1024 block) = arc_value block
 
 -- the bytes

@@ -33,7 +33,6 @@ mod pump_stop;
 mod receiving;
 mod reply;
 mod ringing;
-mod rooms;
 mod sending;
 
 pub use call::Call;
@@ -51,4 +50,3 @@ pub use pump_parts::PumpParts;
 pub use pump_stop::PumpStop;
 pub use reply::Reply;
 pub use ringing::{ring_all, try_ring_all};
-pub use rooms::room;

@@ -4,8 +4,7 @@ ghost use Rattle.std.specs.Vec.Iter.{into_iter_items};
 
 use crate::closing::finish_desks;
 use crate::server::Server;
-use rx_heap::Heap;
-use rx_pump::room;
+use rx_heap::{Heap, room};
 use rx_sink::LineSink;
 use rx_workers::{Listener, Moments, ServeFault, serve_connections};
 use std::io::Write;

@@ -19,11 +19,11 @@ use crate::port_row::{PortRow, next_ports};
 use crate::start_fault::{Role, StartFault};
 use rx_config::SubjectConfig;
 use rx_drain::Drainer;
-use rx_heap::{Heap, Memory};
+use rx_heap::{Heap, Memory, room};
 use rx_hub::{Hub, HubError};
 use rx_mailbox::{Inbox, Port};
 use rx_note::Kind;
-use rx_pump::{Call, CallDesk, Out, Pump, Reply, room};
+use rx_pump::{Call, CallDesk, Out, Pump, Reply};
 use rx_sink::Sink;
 use std::vec::IntoIter;
 

@@ -8,9 +8,8 @@ ghost use Rattle.rx_server.specs.Wirings.{AreOpened, whole_row};
 
 use crate::port_row::PortRow;
 use crate::start_fault::{Role, StartFault};
-use rx_heap::{Heap, Memory};
+use rx_heap::{Heap, Memory, room};
 use rx_mailbox::{Inbox, open};
-use rx_pump::room;
 use std::vec::IntoIter;
 
 // The inboxes of some boxes, of which one after another is taken, and their ports.

@@ -3,9 +3,8 @@ ghost use Rattle.std.specs.Prelude.{◌≡◌, ◌<◌, ◌≤◌, [], vec_len, 
 ghost use Rattle.std.specs.List.{All};
 ghost use Rattle.rx_server.specs.Wirings.{behind, next_port, ports_from, whole_row};
 
-use rx_heap::{Heap, Memory};
+use rx_heap::{Heap, Memory, room};
 use rx_mailbox::{Inbox, Port};
-use rx_pump::room;
 use std::marker::Model;
 use std::snapshot::Snapshot;
 use std::vec::IntoIter;

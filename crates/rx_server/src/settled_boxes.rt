@@ -1,8 +1,8 @@
 ghost use Rattle.std.specs.Prelude.{◌≡◌, ◌≤◌, [], vec_capacity, IfOk};
 
-use rx_heap::{Heap, Memory};
+use rx_heap::{Heap, Memory, room};
 use rx_mailbox::Settled;
-use rx_pump::{Call, Out, Reply, room};
+use rx_pump::{Call, Out, Reply};
 
 // The boxes of a server that have settled: those of its subjects, of its drainers, and of the replies to its desks, each in the
 // order of their numbers.

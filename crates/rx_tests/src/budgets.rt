@@ -267,7 +267,7 @@ fn refill(text: &mut Text, other: Text, shared: bool) -> Result<bool, Memory> {
 }
 
 // How long a text and the one that takes its place are, whether a copy shares it, and whether it is refilled.
-const REFILLS: [(usize, usize, bool, bool); 13] = [
+const REFILLS: [(usize, usize, bool, bool); 16] = [
     (21, 56, false, true),
     (56, 21, false, true),
     (50, 50, true, false),
@@ -275,9 +275,12 @@ const REFILLS: [(usize, usize, bool, bool); 13] = [
     (50, 57, false, false),
     (57, 50, false, false),
     (57, 120, false, true),
-    (121, 248, false, true),
-    (249, 504, false, true),
-    (505, 1024, false, true),
+    (121, 184, false, true),
+    (185, 248, false, true),
+    (249, 376, false, true),
+    (377, 504, false, true),
+    (505, 760, false, true),
+    (761, 1024, false, true),
     (505, 504, false, false),
     (1024, 1024, true, false),
     (20, 50, false, false),

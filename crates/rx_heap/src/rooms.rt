@@ -1,6 +1,6 @@
 ghost use Rattle.std.specs.Prelude.{◌≡◌, ◌≤◌, [], vec_capacity, IfOk};
 
-use rx_heap::{Heap, Memory};
+use crate::{Heap, Memory};
 
 /// An empty list with room for so many.
 pub fn room<T: Drop>(alloc: &Heap, count: usize) -> Result<Vec<T, Heap>, Memory>
