@@ -1,6 +1,6 @@
 -- Desks that are handed in are of the server that handed them out.
 use Rattle.std.proofs.Common.{List, Result, Ok, Err, IfOk}
-use Rattle.rx_pump.specs.declared.ended_desk.EndedDesk.{EndedDesk}
+use Rattle.rx_pump.specs.declared.call_desk.ended_desk.EndedDesk.{EndedDesk}
 use Rattle.rx_pump.specs.Desks.{DeskView, KeepsDesk}
 use Rattle.rx_server.specs.Servers.{IsDeskOf, IsEndOf}
 use Rattle.rx_server.proofs.Desks.{desk-goes}

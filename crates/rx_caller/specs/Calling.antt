@@ -5,9 +5,9 @@ use Rattle.rx_note.specs.declared.answer.Answer.TheVariants.{Joined}
 use Rattle.rx_note.specs.declared.event.Event.{Event}
 use Rattle.rx_note.specs.declared.refusal.Refusal.{Refusal}
 use Rattle.rx_pump.specs.Desks.{Called, DeskView}
-use Rattle.rx_pump.specs.declared.call_error.CallError.{CallError}
-use Rattle.rx_pump.specs.declared.call_error.CallError.TheVariants.{SubjectGone, Strange}
-use Rattle.rx_pump.specs.declared.ended_desk.EndedDesk.{EndedDesk}
+use Rattle.rx_pump.specs.declared.call_desk.call_error.CallError.{CallError}
+use Rattle.rx_pump.specs.declared.call_desk.call_error.CallError.TheVariants.{SubjectGone, Strange}
+use Rattle.rx_pump.specs.declared.call_desk.ended_desk.EndedDesk.{EndedDesk}
 use Rattle.rx_pump.specs.declared.reply.Reply.{Reply}
 use Rattle.rx_server.specs.Servers.{ServerView}
 use Rattle.rx_caller.specs.declared.caller_error.CallerError.{CallerError}

@@ -11,7 +11,8 @@ use Rattle.rx_mailbox.specs.Letters.{share, ends, has_bye}
 use Rattle.rx_mailbox.specs.Boxes.{Outgoing, Incoming, HasEachBye, incoming, with_letter}
 use Rattle.rx_pump.specs.declared.call.Call.{Call}
 use Rattle.rx_pump.specs.declared.out.Out.{Out}
-use Rattle.rx_pump.specs.Pumps.{AreSame, IsFresh, port_place}
+use Rattle.rx_pump.specs.Pumps.{AreSame, port_place}
+use Rattle.rx_mailbox.specs.PortRows.{IsFresh}
 use Rattle.rx_pump.proofs.Pumping.{HavePut-fresh, AreSame-length}
 use Rattle.rx_sink.specs.declared.kept.Kept.{Kept}
 use Rattle.rx_sink.specs.declared.put_away.PutAway.{PutAway}

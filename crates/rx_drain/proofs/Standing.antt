@@ -14,7 +14,7 @@ use Rattle.rx_pump.specs.declared.call.Call.{Call}
 use Rattle.rx_pump.specs.declared.out.Out.{Out}
 use Rattle.rx_pump.specs.declared.out.Out.TheVariants.{Attach, Give, Detach}
 use Rattle.rx_pump.specs.Pumps.{AreSame, port_place}
-use Rattle.rx_pump.specs.Sends.{Puts, with_bye, EndsSome}
+use Rattle.rx_mailbox.specs.PortRows.{Puts, with_bye, EndsSome}
 use Rattle.rx_pump.proofs.Pumping.{HavePut-puts, HavePut-same, AreSame-puts}
 use Rattle.rx_pump.proofs.Leaving.{AreSame-byes, HaveEnded-byes, HaveEndedSome-some, EndsSome-first}
 use Rattle.rx_sink.specs.declared.flow.Flow.TheVariants.{Clear}

@@ -1,6 +1,6 @@
 ghost use Rattle.std.specs.Prelude.{◌≡◌, ◌+◌, false, true, [], Some, None, Err, vec_len, MatchResult, OnOk, IfSome};
 ghost use Rattle.std.specs.List.{All};
-ghost use Rattle.rx_pump.specs.Pumps.{IsFresh};
+ghost use Rattle.rx_mailbox.specs.PortRows.{IsFresh};
 
 use crate::bursts::Bursts;
 use crate::drain_end::DrainEnd;

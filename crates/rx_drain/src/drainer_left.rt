@@ -1,7 +1,7 @@
 use crate::DrainerParts;
 use rx_heap::Heap;
-use rx_mailbox::EndedPort;
-use rx_pump::{Call, let_go_all};
+use rx_mailbox::{EndedPort, let_go_all};
+use rx_pump::Call;
 use rx_sink::{Kept, Places, Rests, Sink};
 
 /// What is left of a drainer that goes no further.

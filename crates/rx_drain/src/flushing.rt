@@ -8,7 +8,7 @@ ghost use Rattle.rx_drain.specs.Drainers.{Fits, FlushesAll, FlushesAt, any_may_w
 
 use crate::sending::send_asks;
 use crate::{DrainFault, DrainerLeft};
-use rx_pump::try_ring_all;
+use rx_mailbox::try_ring_all;
 use rx_sink::{Kept, Sink, flush_one};
 use std::sync::Wait;
 use std::sync::atomic::AtomicU64;

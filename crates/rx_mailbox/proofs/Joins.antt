@@ -6,10 +6,10 @@ use Rattle.std.proofs.lemmas.Bool.{cases_eq, cases_lt}
 use Rattle.std.proofs.lemmas.List.{append-nil}
 use Rattle.std.proofs.lemmas.List.Elements.{All-nil, All-cons, All-push, All-contains, All-weaker, Contains-push, Contains-append_left, filter-append}
 use Rattle.std.proofs.lemmas.List.Sums.{sum_by-le}
-use Rattle.rx_mailbox.specs.declared.batch.Batch.{Batch}
+use Rattle.rx_mailbox.specs.declared.letter.batch.Batch.{Batch}
 use Rattle.rx_mailbox.specs.declared.letter.Letter.{Letter}
-use Rattle.rx_mailbox.specs.declared.rule.View.{View}
-use Rattle.rx_mailbox.specs.declared.rule.View.TheVariants.{Receives}
+use Rattle.rx_mailbox.specs.declared.channel.rule.View.{View}
+use Rattle.rx_mailbox.specs.declared.channel.rule.View.TheVariants.{Receives}
 use Rattle.rx_mailbox.specs.Letters.{share, has_bye, NothingAfterBye}
 use Rattle.rx_mailbox.specs.Batches.{unpacked}
 use Rattle.rx_mailbox.specs.Boxes.{Outgoing, Incoming, HasBye, HasEachBye}

@@ -7,3 +7,9 @@ pub mod Tally
 pub mod NewPorts
 pub mod Joins
 pub mod Rests
+pub mod Told
+pub mod Ending
+pub mod Causes
+pub mod Gathered
+pub mod Room
+pub mod Rows

@@ -3,10 +3,10 @@ use Rattle.std.proofs.Common.{◌≡◌, ◌+◌, ◌-◌, ◌<◌, ◌^◌, min
 use Rattle.std.specs.List.{All, Contains}
 use Rattle.std.proofs.lemmas.List.{append-nil, length-map}
 use Rattle.std.proofs.lemmas.List.Elements.{All-contains, All-push, All-weaker, Contains-push}
-use Rattle.rx_mailbox.specs.declared.batch.Batch.{Batch}
+use Rattle.rx_mailbox.specs.declared.letter.batch.Batch.{Batch}
 use Rattle.rx_mailbox.specs.declared.letter.Letter.{Letter}
 use Rattle.rx_mailbox.specs.declared.letter.Post.TheVariants.{Body}
-use Rattle.rx_mailbox.specs.declared.rule.View.{View}
+use Rattle.rx_mailbox.specs.declared.channel.rule.View.{View}
 use Rattle.rx_mailbox.specs.Letters.{letter, posts, share, has_bye}
 use Rattle.rx_mailbox.specs.Batches.{unpacked}
 use Rattle.rx_mailbox.specs.Boxes.{Incoming, Outgoing, HasBye, HasEachBye, incoming, with_letters}

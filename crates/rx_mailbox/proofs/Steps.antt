@@ -8,8 +8,8 @@ use lib.ListN.{get_elem?}
 use Rattle.atomic_table.proofs.Lists.{at_set}
 use Rattle.crossbeam_channel.specs.Fifo.{Pushes, Pops, Forks, Merges, Learns}
 use Rattle.rx_mailbox.specs.declared.letter.Letter.{Letter}
-use Rattle.rx_mailbox.specs.declared.rule.View.{View}
-use Rattle.rx_mailbox.specs.declared.rule.View.TheVariants.{Sends, Receives, Spent}
+use Rattle.rx_mailbox.specs.declared.channel.rule.View.{View}
+use Rattle.rx_mailbox.specs.declared.channel.rule.View.TheVariants.{Sends, Receives, Spent}
 use Rattle.rx_mailbox.specs.Letters.{share, has_bye, NothingAfterBye}
 use Rattle.rx_mailbox.specs.Rule.{KeepsShares}
 use Rattle.rx_mailbox.specs.Steps.{one_more, new_port, PutsLetter, TakesLetter, noted, Shows}

@@ -6,10 +6,10 @@ use Rattle.std.proofs.lemmas.Bool.{cases_eq}
 use Rattle.std.proofs.lemmas.List.{get_or-replicate, get_or-set_same, get_or-set_other}
 use Rattle.std.proofs.lemmas.List.Folds.{list_any-append}
 use Rattle.rx_mailbox.specs.declared.letter.Letter.{Letter}
-use Rattle.rx_mailbox.specs.declared.rule.View.{View}
-use Rattle.rx_mailbox.specs.declared.rule.View.TheVariants.{Receives}
+use Rattle.rx_mailbox.specs.declared.channel.rule.View.{View}
+use Rattle.rx_mailbox.specs.declared.channel.rule.View.TheVariants.{Receives}
 use Rattle.rx_mailbox.specs.Letters.{share, ends, has_bye}
-use Rattle.rx_mailbox.specs.declared.batch.Batch.{Batch}
+use Rattle.rx_mailbox.specs.declared.letter.batch.Batch.{Batch}
 use Rattle.rx_mailbox.specs.Passes.{made_of, taken_of, IsReader, TakesOne, IsTally}
 use Rattle.rx_mailbox.proofs.Batches.{bye_share}
 use Rattle.rx_mailbox.proofs.Letters.{share-own, share-other}

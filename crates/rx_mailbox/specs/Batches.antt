@@ -1,8 +1,8 @@
 -- What the letters of a box's channel carry: a port may put several bodies at once (this project's own rule).
 use Rattle.std.specs.Prelude.{ℕ, List, [], ◌∷◌}
 use Rattle.std.specs.List.{flat_map}
-use Rattle.rx_mailbox.specs.declared.batch.Batch.{Batch}
-use Rattle.rx_mailbox.specs.declared.batch.Batch.TheVariants.{One, Many}
+use Rattle.rx_mailbox.specs.declared.letter.batch.Batch.{Batch}
+use Rattle.rx_mailbox.specs.declared.letter.batch.Batch.TheVariants.{One, Many}
 use Rattle.rx_mailbox.specs.declared.letter.Letter.{Letter}
 use Rattle.rx_mailbox.specs.declared.letter.Post.{Post}
 use Rattle.rx_mailbox.specs.declared.letter.Post.TheVariants.{Body, Bye}

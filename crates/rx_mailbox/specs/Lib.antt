@@ -8,3 +8,5 @@ pub mod Steps
 pub mod Hands
 pub mod Passes
 pub mod Rests
+pub mod PortRows
+pub mod Parts

@@ -1,9 +1,9 @@
 -- What is still in a box whose ports have ended, and what the joining of such a port tells (this project's own rule).
 use Rattle.std.specs.Prelude.{◌≡◌, true, List, [], ◌++◌}
 use Rattle.std.specs.List.{Contains}
-use Rattle.rx_mailbox.specs.declared.batch.Batch.{Batch}
+use Rattle.rx_mailbox.specs.declared.letter.batch.Batch.{Batch}
 use Rattle.rx_mailbox.specs.declared.letter.Letter.{Letter}
-use Rattle.rx_mailbox.specs.declared.rule.View.{View}
+use Rattle.rx_mailbox.specs.declared.channel.rule.View.{View}
 use Rattle.rx_mailbox.specs.Letters.{has_bye}
 use Rattle.rx_mailbox.specs.Batches.{unpacked}
 use Rattle.rx_mailbox.specs.Boxes.{HasEachBye, Incoming, Outgoing, incoming}

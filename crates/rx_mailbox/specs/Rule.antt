@@ -11,8 +11,8 @@ use Rattle.std.specs.List.{All}
 use mathlib.Core.Option.{some}
 use lib.ListN.{get_elem?}
 use Rattle.rx_mailbox.specs.declared.letter.Letter.{Letter}
-use Rattle.rx_mailbox.specs.declared.rule.View.{View}
-use Rattle.rx_mailbox.specs.declared.rule.View.TheVariants.{Sends, Receives}
+use Rattle.rx_mailbox.specs.declared.channel.rule.View.{View}
+use Rattle.rx_mailbox.specs.declared.channel.rule.View.TheVariants.{Sends, Receives}
 use Rattle.rx_mailbox.specs.Letters.{share, NothingAfterBye}
 
 module _ {B : Type 0} where

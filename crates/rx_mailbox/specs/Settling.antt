@@ -8,8 +8,8 @@
 use Rattle.std.specs.Prelude.{◌≡◌, ◌==◌, ◌<◌, ◌^◌, ◌-◌, min, ℕ, List, length}
 use Rattle.std.specs.List.{All, count_by}
 use Rattle.rx_mailbox.specs.declared.letter.Letter.{Letter}
-use Rattle.rx_mailbox.specs.declared.settle_cause.SettleCause.{SettleCause}
-use Rattle.rx_mailbox.specs.declared.settle_cause.SettleCause.TheVariants.{Stranger, MissingBye}
+use Rattle.rx_mailbox.specs.declared.settlement.settle_cause.SettleCause.{SettleCause}
+use Rattle.rx_mailbox.specs.declared.settlement.settle_cause.SettleCause.TheVariants.{Stranger, MissingBye}
 use Rattle.rx_mailbox.specs.Letters.{share}
 use Rattle.rx_mailbox.specs.Boxes.{Outgoing, Incoming, HasEachBye}
 

@@ -4,8 +4,8 @@
 use Rattle.std.specs.Prelude.{◌≡◌, ◌<◌, ◌≤◌, ◌+◌, ℕ, List, [], ◌∷◌, ◌++◌, false}
 use Rattle.std.specs.List.{All}
 use Rattle.rx_mailbox.specs.declared.letter.Letter.{Letter}
-use Rattle.rx_mailbox.specs.declared.rule.View.{View}
-use Rattle.rx_mailbox.specs.declared.rule.View.TheVariants.{Sends, Receives, Spent}
+use Rattle.rx_mailbox.specs.declared.channel.rule.View.{View}
+use Rattle.rx_mailbox.specs.declared.channel.rule.View.TheVariants.{Sends, Receives, Spent}
 use Rattle.rx_mailbox.specs.Letters.{share, has_bye, NothingAfterBye}
 
 module _ {B : Type 0} where

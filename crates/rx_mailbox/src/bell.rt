@@ -11,6 +11,10 @@
 //
 // It sleeps on a flag, and not by a `Parker`: that one's waker makes an exchange at each letter, also where nobody sleeps, in
 // place of a look, and it is for one sleeper, while many ports may wait for room.
+
+pub(crate) mod bells;
+pub(crate) mod patience;
+
 use std::hint;
 use std::sync::Wait;
 use std::sync::atomic::{AtomicU64, Ordering};

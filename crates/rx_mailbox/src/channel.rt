@@ -2,17 +2,21 @@
 ghost use Rattle.std.specs.Prelude.{◌≡◌, ◌++◌, ◌∷◌, [], false, IfErr, MatchResult};
 ghost use Rattle.crossbeam_channel.specs.Claims.{view, IsSeatAt};
 ghost use Rattle.crossbeam_channel.specs.Ends.{sends_on, receives_on};
-ghost use Rattle.rx_mailbox.specs.declared.rule.View.TheVariants.{Sends};
+ghost use Rattle.rx_mailbox.specs.declared.channel.rule.View.TheVariants.{Sends};
 ghost use Rattle.rx_mailbox.specs.Letters.{letter};
 ghost use Rattle.rx_mailbox.specs.Passes.{own_of, IsPort, IsReader, TakesOne};
 ghost use Rattle.rx_mailbox.specs.Steps.{Shows};
 
-use crate::batch::Batch;
+pub(crate) mod inlet;
+pub(crate) mod outlet;
+pub(crate) mod rule;
+
 use crate::bell::LOOKS;
-use crate::bells::Bells;
-use crate::leavings::Leavings;
+use crate::bell::bells::Bells;
+use crate::channel::rule::{MailboxRule, Put, Take, View};
+use crate::letter::batch::Batch;
 use crate::letter::{Letter, Post};
-use crate::rule::{MailboxRule, Put, Take, View};
+use crate::opening::leavings::Leavings;
 use crossbeam_channel::{Pass, RuledReceiver, RuledSender, TryRecvError, TrySendError};
 use rx_heap::Heap;
 use std::sync::Wait;

@@ -11,16 +11,18 @@ ghost use Rattle.rx_mailbox.specs.Passes.{inbox_of, IsReader};
 ghost use Rattle.rx_mailbox.specs.Rests.{ReceivesMore};
 ghost use Rattle.rx_mailbox.specs.Settling.{letter_count};
 
-use crate::batch::Batch;
+pub(crate) mod try_recv_fault;
+
+use crate::bell::patience::Patience;
 use crate::bell::{FEW_LOOKS, LOOKS};
+use crate::channel::inlet::Inlet;
 use crate::channel::{BoxPass, BoxReceiver};
-use crate::inlet::Inlet;
-use crate::leavings::SharedLeavings;
+use crate::inbox::try_recv_fault::TryRecvFault;
+use crate::letter::batch::Batch;
+use crate::letter::lists::SharedLists;
 use crate::letter::{Letter, Post};
-use crate::lists::SharedLists;
-use crate::patience::Patience;
+use crate::opening::leavings::SharedLeavings;
 use crate::port::Port;
-use crate::try_recv_fault::TryRecvFault;
 use crossbeam_channel::TryRecvError;
 use rx_heap::Heap;
 use std::collections::VecDeque;

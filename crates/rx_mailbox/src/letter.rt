@@ -1,4 +1,8 @@
 /// What a letter carries.
+
+pub(crate) mod batch;
+pub(crate) mod lists;
+
 #[derive(Debug, Drop, PartialEq, Eq)]
 pub enum Post<B> {
     Body(B),

@@ -6,42 +6,33 @@
 //!
 //! The crates above rest on [`settle`]: where each port of a box has ended and each Bye was received, the letters received
 //! of a port are just those that it put. `specs/Letters.antt`, `Boxes.antt` and `Settling.antt` have the words of the
-//! contracts; `Rule.antt` has the rule that the channel of a box keeps at every moment.
+//! contracts; `Rule.antt` has the rule that the channel of a box keeps at every moment. Whoever made several boxes of one kind
+//! and handed out their ports in rows, one of each box, ends them together by [`settle_each`], of which `Parts.antt` has the words.
 //!
 //! Its tests stand in `crates/rx_thread_tests`.
 #![tactic(auto)]
 
-mod batch;
-mod bell;
-mod bells;
-mod channel;
-mod ended_port;
-mod inbox;
-mod inlet;
-mod leavings;
-mod letter;
-mod lists;
-mod new_box;
-mod opening;
-mod outlet;
-mod patience;
-mod port;
-mod rule;
-mod settle_cause;
-mod settled;
-mod settling;
-mod settling_rest;
-mod try_recv_fault;
-mod unsettled;
+pub(crate) mod bell;
+pub(crate) mod channel;
+pub(crate) mod inbox;
+pub(crate) mod letter;
+pub(crate) mod opening;
+pub(crate) mod port;
+pub(crate) mod settlement;
 
-pub use ended_port::EndedPort;
+pub use inbox::try_recv_fault::TryRecvFault;
 pub use inbox::{Gone, Inbox};
 pub use letter::{Letter, Post};
 pub use opening::{MAX_CAPACITY, MAX_PORTS, OpenError, open};
 pub use port::Port;
-pub use settle_cause::SettleCause;
-pub use settled::Settled;
-pub use settling::settle;
-pub use settling_rest::settle_rest;
-pub use try_recv_fault::TryRecvFault;
-pub use unsettled::Unsettled;
+pub use port::ended_port::EndedPort;
+pub use port::ends_of_ports::{finish_all, let_go_all};
+pub use port::rings_of_ports::{ring_all, ring_at, try_ring_all, try_ring_at};
+pub use settlement::box_parts::BoxParts;
+pub use settlement::deal_of_rows::{Twice, deal, parts_of, put_inbox};
+pub use settlement::each_box::settle_each;
+pub use settlement::rest::settle_rest;
+pub use settlement::settle;
+pub use settlement::settle_cause::SettleCause;
+pub use settlement::settled::Settled;
+pub use settlement::unsettled::Unsettled;

@@ -4,8 +4,11 @@ ghost use Rattle.rx_mailbox.specs.declared.opening.OpenError.TheVariants.{BadSiz
 ghost use Rattle.rx_mailbox.specs.Boxes.{capacity_of, incoming, outgoing, AreOf};
 ghost use Rattle.rx_mailbox.specs.Sizes.{IsSize};
 
+pub(crate) mod leavings;
+pub(crate) mod new_box;
+
 use crate::inbox::Inbox;
-use crate::new_box::NewBox;
+use crate::opening::new_box::NewBox;
 use crate::port::Port;
 use rx_heap::{Heap, Memory};
 use std::error::Error;

@@ -4,11 +4,15 @@ ghost use Rattle.std.specs.Prelude.{◌≡◌, ◌<◌, ◌↔◌, [], true, len
 ghost use Rattle.rx_mailbox.specs.declared.letter.Post.TheVariants.{Body, Bye};
 ghost use Rattle.rx_mailbox.specs.Boxes.{told, with_bodies, with_held, with_post};
 
-use crate::batch::Batch;
-use crate::ended_port::EndedPort;
-use crate::leavings::{Leavings, SharedLeavings};
-use crate::lists::{LENGTH, MOST_TOGETHER, SharedLists};
-use crate::outlet::Outlet;
+pub(crate) mod ended_port;
+pub(crate) mod ends_of_ports;
+pub(crate) mod rings_of_ports;
+
+use crate::channel::outlet::Outlet;
+use crate::letter::batch::Batch;
+use crate::letter::lists::{LENGTH, MOST_TOGETHER, SharedLists};
+use crate::opening::leavings::{Leavings, SharedLeavings};
+use crate::port::ended_port::EndedPort;
 use rx_heap::Heap;
 use std::collections::VecDeque;
 use std::marker::Model;

@@ -5,7 +5,7 @@ use Rattle.std.proofs.lemmas.Result.{MatchResult-from_err}
 use Rattle.std.specs.Io.KnownBytes.{Appends, Keeps}
 use Rattle.std.specs.Result.{IsErr}
 use Rattle.rx_proto.specs.Bytes.{AppendsPrefix, Writes}
-use Rattle.rx_session.proofs.Written.{Prefix-behind, Prefix-kept, Prefix-more}
+use Rattle.rx_lines.proofs.Written.{Prefix-behind, Prefix-kept, Prefix-more}
 
 -- a call that writes behind another
 pub Writes-then : {T E : Type 0} (result : Result T E) (old mid new : Option (List ℕ)) (xs ys : List ℕ) → Appends old mid xs → Writes result mid new ys → Writes result old new (xs ++ ys)

@@ -6,7 +6,7 @@ use Rattle.rx_config.specs.declared.config.Config.{Config}
 use Rattle.rx_listing.specs.Listings.{number_words}
 use Rattle.rx_proto.specs.Bytes.{Writes}
 use Rattle.rx_proto.specs.Printing.{line}
-use Rattle.rx_pump.specs.declared.ended_desk.EndedDesk.{EndedDesk}
+use Rattle.rx_pump.specs.declared.call_desk.ended_desk.EndedDesk.{EndedDesk}
 use Rattle.rx_server.specs.declared.close_fault.CloseFault.{CloseFault}
 use Rattle.rx_server.specs.declared.report.Report.{Report}
 use Rattle.rx_server.specs.declared.report.SubjectReport.{SubjectReport}

@@ -10,12 +10,13 @@ use Rattle.rx_history.specs.Histories.{History, answer}
 use Rattle.rx_hub.specs.Hubs.{HubView, StandsFor, Steps, MayMiss, is_miss}
 use Rattle.rx_pump.specs.declared.call.Call.{Call}
 use Rattle.rx_pump.specs.declared.out.Out.{Out}
-use Rattle.rx_pump.specs.declared.pump_fault.PumpFault.{PumpFault}
-use Rattle.rx_pump.specs.declared.pump_fault.PumpFault.TheVariants.{DrainerGone}
+use Rattle.rx_pump.specs.declared.pump.pump_fault.PumpFault.{PumpFault}
+use Rattle.rx_pump.specs.declared.pump.pump_fault.PumpFault.TheVariants.{DrainerGone}
 use Rattle.rx_pump.specs.declared.reply.Reply.{Reply}
 use Rattle.rx_mailbox.specs.Boxes.{Outgoing}
 use Rattle.rx_pump.specs.Marks.{attach_of, detach_of, leaver, give, sent_by, sent_back, reply_to, to_port}
-use Rattle.rx_pump.specs.Sends.{Puts, SendsOuts}
+use Rattle.rx_pump.specs.Sends.{SendsOuts}
+use Rattle.rx_mailbox.specs.PortRows.{Puts}
 use Rattle.rx_pump.proofs.Putting.{Puts-no_place}
 use Rattle.rx_pump.specs.Turns.{Ports, Sends, IsMade, IsRefused, HandlesCall}
 

@@ -11,13 +11,13 @@ use Rattle.rx_mailbox.specs.declared.letter.Post.TheVariants.{Body, Bye}
 use Rattle.rx_mailbox.specs.Letters.{letter, posts}
 use Rattle.rx_mailbox.specs.Boxes.{Outgoing, Incoming, with_more}
 use Rattle.rx_pump.specs.declared.call.Call.{Call}
-use Rattle.rx_pump.specs.declared.call_error.CallError.{CallError}
-use Rattle.rx_pump.specs.declared.call_error.CallError.TheVariants.{SubjectGone, Strange}
+use Rattle.rx_pump.specs.declared.call_desk.call_error.CallError.{CallError}
+use Rattle.rx_pump.specs.declared.call_desk.call_error.CallError.TheVariants.{SubjectGone, Strange}
 use Rattle.rx_pump.specs.declared.reply.Reply.{Reply}
 use Rattle.rx_pump.specs.Desks.{DeskView, AreUpTo, IsUpTo, KeepsDesk, ReceivesReply, Rise, TicketsRise, ticket_in, tickets_in}
 use Rattle.rx_pump.specs.Marks.{to_port}
-use Rattle.rx_pump.specs.Pumps.{IsFresh}
-use Rattle.rx_pump.specs.Sends.{with_bye, Puts, EndsSome}
+use Rattle.rx_mailbox.specs.PortRows.{IsFresh}
+use Rattle.rx_mailbox.specs.PortRows.{with_bye, Puts, EndsSome}
 use Rattle.rx_pump.proofs.Pumping.{AreSame-puts}
 use Rattle.rx_pump.proofs.Replied.{tickets_in-append}
 use Rattle.rx_pump.proofs.Answering.{Rise-push}

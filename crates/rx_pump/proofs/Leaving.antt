@@ -8,19 +8,19 @@ use Rattle.rx_mailbox.specs.Boxes.{Outgoing, Incoming, all_told, HasEachBye}
 use Rattle.rx_note.specs.declared.rules.Rules.{Rules}
 use Rattle.rx_hub.specs.Hubs.{HubView}
 use Rattle.rx_pump.specs.declared.call.Call.{Call}
-use Rattle.rx_pump.specs.declared.pump_end.PumpEnd.{PumpEnd}
-use Rattle.rx_pump.specs.declared.pump_fault.PumpFault.{PumpFault}
-use Rattle.rx_pump.specs.declared.pump_fault.PumpFault.TheVariants.{InboxGone, DrainerGone, CallerGone}
+use Rattle.rx_pump.specs.declared.pump.pump_end.PumpEnd.{PumpEnd}
+use Rattle.rx_pump.specs.declared.pump.pump_fault.PumpFault.{PumpFault}
+use Rattle.rx_pump.specs.declared.pump.pump_fault.PumpFault.TheVariants.{InboxGone, DrainerGone, CallerGone}
 use Rattle.rx_pump.specs.declared.out.Out.{Out}
 use Rattle.rx_pump.specs.declared.reply.Reply.{Reply}
-use Rattle.rx_pump.specs.declared.pump_stop.PumpStop.{PumpStop}
+use Rattle.rx_pump.specs.declared.pump.pump_stop.PumpStop.{PumpStop}
 use Rattle.rx_pump.specs.Marks.{Marked, route, replies}
-use Rattle.rx_pump.specs.Sends.{with_bye, EndsSome}
+use Rattle.rx_mailbox.specs.PortRows.{with_bye, EndsSome}
 use Rattle.rx_pump.specs.Pumps.{PumpView, HavePut, HavePutUpTo, AreSame, port_place, Accounts, IsPumped, KeepsPump}
 use Rattle.rx_pump.specs.Serving.{HaveEnded, HaveEndedSome, HasPumped, StopsInTurn, IsNextToEnd, StopsAtEnd, PumpHasStopped}
 use Rattle.rx_pump.proofs.Placing.{slice_get-append_left, slice_get-append_right}
 use Rattle.rx_pump.proofs.Pumping.{HavePut-same, AreSame-length, option_map_some}
-use Rattle.rx_pump.proofs.Told.{told-length}
+use Rattle.rx_mailbox.proofs.Told.{told-length}
 use Rattle.rx_pump.proofs.Turning.{PutAll-whole}
 
 module _ {X : Type 0} where

@@ -1,11 +1,9 @@
 pub mod Placing
-pub mod Told
 pub mod Putting
 pub mod Giving
 pub mod Calls
 pub mod Pumping
 pub mod Turning
-pub mod Ending
 pub mod Leaving
 pub mod Desking
 pub mod Replied

@@ -11,13 +11,15 @@ use Rattle.rx_mailbox.specs.declared.letter.Post.TheVariants.{Body}
 use Rattle.rx_mailbox.specs.Letters.{letter, posts}
 use Rattle.rx_mailbox.specs.Boxes.{Outgoing, with_more}
 use Rattle.rx_pump.specs.declared.out.Out.{Out}
-use Rattle.rx_pump.specs.declared.pump_fault.PumpFault.{PumpFault}
-use Rattle.rx_pump.specs.declared.pump_fault.PumpFault.TheVariants.{InboxGone, DrainerGone, CallerGone}
+use Rattle.rx_pump.specs.declared.pump.pump_fault.PumpFault.{PumpFault}
+use Rattle.rx_pump.specs.declared.pump.pump_fault.PumpFault.TheVariants.{InboxGone, DrainerGone, CallerGone}
 use Rattle.rx_pump.specs.declared.reply.Reply.{Reply}
 use Rattle.rx_pump.specs.Marks.{Marked, outs_in, replies, for_drainer, who_of, to_port}
-use Rattle.rx_pump.specs.Sends.{Puts, PutsFor}
+use Rattle.rx_pump.specs.Sends.{PutsFor}
+use Rattle.rx_mailbox.specs.PortRows.{Puts}
 use Rattle.rx_pump.specs.Turns.{Ports, Sends}
-use Rattle.rx_pump.specs.Pumps.{counted, HavePut, IsFresh, port_place, AreSame, before_last, PutAll, HavePutUpTo}
+use Rattle.rx_pump.specs.Pumps.{counted, HavePut, port_place, AreSame, before_last, PutAll, HavePutUpTo}
+use Rattle.rx_mailbox.specs.PortRows.{IsFresh}
 use Rattle.rx_pump.proofs.Placing.{same_by_place}
 
 -- what a map gave it gave of something

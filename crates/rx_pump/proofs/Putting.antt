@@ -12,8 +12,9 @@ use Rattle.rx_mailbox.specs.Boxes.{Outgoing, told, all_told, with_post, with_mor
 use Rattle.rx_mailbox.specs.Letters.{posts}
 use Rattle.rx_pump.specs.declared.out.Out.{Out}
 use Rattle.rx_pump.specs.Marks.{to_port, for_drainer, who_of}
-use Rattle.rx_pump.specs.Sends.{Puts, PutsFor, StopsAt, SendsOuts}
-use Rattle.rx_pump.proofs.Told.{told-at, told-length, told-set, told-set_same}
+use Rattle.rx_pump.specs.Sends.{PutsFor, StopsAt, SendsOuts}
+use Rattle.rx_mailbox.specs.PortRows.{Puts}
+use Rattle.rx_mailbox.proofs.Told.{told-at, told-length, told-set, told-set_same}
 use Rattle.rx_pump.proofs.Placing.{slice_get-set_same, slice_get-set_other, option_map-same, option_map-then}
 
 module _ {X : Type 0} where

@@ -18,12 +18,12 @@ use Rattle.rx_mailbox.specs.declared.letter.Post.TheVariants.{Body, Bye}
 use Rattle.rx_mailbox.specs.Letters.{letter}
 use Rattle.rx_mailbox.specs.Boxes.{Outgoing, Incoming, with_letter}
 use Rattle.rx_pump.specs.declared.call.Call.{Call}
-use Rattle.rx_pump.specs.declared.call_error.CallError.{CallError}
-use Rattle.rx_pump.specs.declared.call_error.CallError.TheVariants.{SubjectGone, Strange}
+use Rattle.rx_pump.specs.declared.call_desk.call_error.CallError.{CallError}
+use Rattle.rx_pump.specs.declared.call_desk.call_error.CallError.TheVariants.{SubjectGone, Strange}
 use Rattle.rx_pump.specs.declared.reply.Reply.{Reply}
 use Rattle.rx_pump.specs.Marks.{to_port}
 use Rattle.rx_pump.specs.Pumps.{AreSame}
-use Rattle.rx_pump.specs.Sends.{Puts}
+use Rattle.rx_mailbox.specs.PortRows.{Puts}
 
 -- a desk: its ports to subjects, the inbox of its replies, the ports that have ended, how many tickets it used, and
 -- whether it makes no call any more

@@ -17,12 +17,13 @@ use Rattle.rx_history.specs.Histories.{NoEvents}
 use Rattle.rx_hub.specs.Hubs.{HubView, StandsFor}
 use Rattle.rx_mailbox.specs.declared.letter.Letter.{Letter}
 use Rattle.rx_mailbox.specs.Boxes.{Box, Outgoing, Incoming, all_told, with_letter}
+use Rattle.rx_mailbox.specs.PortRows.{IsFresh}
 use Rattle.rx_mailbox.specs.Letters.{posts}
 use Rattle.rx_pump.specs.declared.call.Call.{Call}
 use Rattle.rx_pump.specs.declared.out.Out.{Out}
-use Rattle.rx_pump.specs.declared.pump_fault.PumpFault.{PumpFault}
-use Rattle.rx_pump.specs.declared.pump_fault.PumpFault.TheVariants.{InboxGone, DrainerGone, CallerGone}
-use Rattle.rx_pump.specs.declared.pump_parts.PumpParts.{PumpParts}
+use Rattle.rx_pump.specs.declared.pump.pump_fault.PumpFault.{PumpFault}
+use Rattle.rx_pump.specs.declared.pump.pump_fault.PumpFault.TheVariants.{InboxGone, DrainerGone, CallerGone}
+use Rattle.rx_pump.specs.declared.pump.pump_parts.PumpParts.{PumpParts}
 use Rattle.rx_pump.specs.declared.reply.Reply.{Reply}
 use Rattle.rx_note.specs.declared.rules.Rules.{Rules}
 use Rattle.rx_pump.specs.Marks.{Marked, NoLetters, Made, Refused, Ended, letters_of, bodies_in, refused_in, history_of, AreAcceptable, outs_in, who_of, for_drainer, route, replies}
@@ -49,10 +50,6 @@ module _ {X : Type 0} where
   -- the own list of the port at each place is just its bodies
   abbrev pub HavePut : (ℕ → List X) → List (Outgoing X) → Type 0
   HavePut bodies ports = (d : ℕ) (port : Outgoing X) → slice_get ports d ≡ Some port → port.own ≡ posts port.number (bodies d)
-
-  -- a port has put nothing
-  abbrev pub IsFresh : Outgoing X → Type 0
-  IsFresh port = (port.own ≡ []) × (port.held ≡ 0)
 
   -- which port of which box it is
   abbrev pub port_place : Outgoing X → Box X × ℕ

@@ -6,12 +6,13 @@ use Rattle.rx_hub.specs.Hubs.{HubView, StandsFor, MayMiss}
 use Rattle.rx_mailbox.specs.Boxes.{Outgoing, all_told}
 use Rattle.rx_pump.specs.declared.call.Call.{Call}
 use Rattle.rx_pump.specs.declared.out.Out.{Out}
-use Rattle.rx_pump.specs.declared.pump_fault.PumpFault.{PumpFault}
-use Rattle.rx_pump.specs.declared.pump_fault.PumpFault.TheVariants.{InboxGone, DrainerGone, CallerGone}
-use Rattle.rx_pump.specs.declared.pump_parts.PumpParts.{PumpParts}
+use Rattle.rx_pump.specs.declared.pump.pump_fault.PumpFault.{PumpFault}
+use Rattle.rx_pump.specs.declared.pump.pump_fault.PumpFault.TheVariants.{InboxGone, DrainerGone, CallerGone}
+use Rattle.rx_pump.specs.declared.pump.pump_parts.PumpParts.{PumpParts}
 use Rattle.rx_pump.specs.declared.reply.Reply.{Reply}
 use Rattle.rx_pump.specs.Marks.{sent_by, reply_to, to_port}
-use Rattle.rx_pump.specs.Sends.{Puts, PutsFor, StopsAt}
+use Rattle.rx_pump.specs.Sends.{PutsFor, StopsAt}
+use Rattle.rx_mailbox.specs.PortRows.{Puts}
 use Rattle.rx_pump.specs.Pumps.{counted}
 
 -- the ports of a pump, in the order of their places, whatever they hold back

@@ -3,19 +3,22 @@
 // that goes (`Port::hold_back`); else the call is made alone.
 ghost use Rattle.std.specs.Prelude.{◌≡◌, ◌+◌, ◌<◌, [], ◌++◌, true, map, length, Err, IfOk, MatchResult};
 ghost use Rattle.std.specs.List.{All};
-ghost use Rattle.rx_pump.specs.Pumps.{IsFresh};
-ghost use Rattle.rx_pump.specs.Sends.{with_bye, EndsSome};
+ghost use Rattle.rx_mailbox.specs.PortRows.{IsFresh};
+ghost use Rattle.rx_mailbox.specs.PortRows.{with_bye, EndsSome};
 
-use crate::asking::{is_strange, post_call, receive, send_call};
+pub(crate) mod call_error;
+pub(crate) mod desk_parts;
+pub(crate) mod ended_desk;
+pub(crate) mod exchange;
+
 use crate::call::Call;
-use crate::call_error::CallError;
-use crate::desk_parts::DeskParts;
-use crate::ended_desk::EndedDesk;
-use crate::finishing::{finish_all, let_go_all};
+use crate::call_desk::call_error::CallError;
+use crate::call_desk::desk_parts::DeskParts;
+use crate::call_desk::ended_desk::EndedDesk;
+use crate::call_desk::exchange::{is_strange, post_call, receive, send_call};
 use crate::reply::Reply;
-use crate::ringing::ring_at;
 use rx_heap::{Heap, room};
-use rx_mailbox::{EndedPort, Inbox, Port};
+use rx_mailbox::{EndedPort, Inbox, Port, finish_all, let_go_all, ring_at};
 use rx_note::Event;
 use std::marker::Model;
 use std::sync::Wait;

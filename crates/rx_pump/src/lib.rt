@@ -14,39 +14,23 @@
 //! Its tests stand in `crates/rx_thread_tests`.
 #![tactic(auto)]
 
-mod asking;
 mod call;
-mod call_desk;
-mod call_error;
-mod desk_parts;
-mod ended_desk;
-mod finishing;
-mod handling;
-mod heard;
+pub(crate) mod call_desk;
 pub mod laws;
 mod out;
-mod pump;
-mod pump_end;
-mod pump_fault;
-mod pump_parts;
-mod pump_stop;
-mod receiving;
+pub(crate) mod pump;
 mod reply;
-mod ringing;
-mod sending;
 
 pub use call::Call;
 pub use call_desk::CallDesk;
-pub use call_error::CallError;
-pub use desk_parts::DeskParts;
-pub use ended_desk::EndedDesk;
-pub use finishing::{finish_all, let_go_all};
-pub use heard::{Heard, SharedHeard};
+pub use call_desk::call_error::CallError;
+pub use call_desk::desk_parts::DeskParts;
+pub use call_desk::ended_desk::EndedDesk;
 pub use out::Out;
 pub use pump::Pump;
-pub use pump_end::PumpEnd;
-pub use pump_fault::PumpFault;
-pub use pump_parts::PumpParts;
-pub use pump_stop::PumpStop;
+pub use pump::heard::{Heard, SharedHeard};
+pub use pump::pump_end::PumpEnd;
+pub use pump::pump_fault::PumpFault;
+pub use pump::pump_parts::PumpParts;
+pub use pump::pump_stop::PumpStop;
 pub use reply::Reply;
-pub use ringing::{ring_all, try_ring_all};

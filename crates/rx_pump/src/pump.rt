@@ -8,21 +8,30 @@ ghost use Rattle.std.specs.Prelude.{◌≡◌, ◌+◌, ◌<◌, ◌≤◌, [], 
 ghost use Rattle.rx_mailbox.specs.Boxes.{all_told};
 ghost use Rattle.rx_pump.specs.Pumps.{AreFresh, counted};
 
+pub(crate) mod deliveries;
+pub(crate) mod heard;
+pub(crate) mod next_letter;
+pub(crate) mod one_call;
+pub(crate) mod pump_end;
+pub(crate) mod pump_fault;
+pub(crate) mod pump_parts;
+pub(crate) mod pump_stop;
+
 use crate::call::Call;
-use crate::finishing::finish_all;
-use crate::handling::handle;
-use crate::heard::{Heard, SharedHeard, Telling};
 use crate::out::Out;
-use crate::pump_end::PumpEnd;
-use crate::pump_fault::PumpFault;
-use crate::pump_parts::PumpParts;
-use crate::pump_stop::PumpStop;
-use crate::receiving::{is_drained, receive};
+use crate::pump::heard::{Heard, SharedHeard, Telling};
+use crate::pump::next_letter::{is_drained, receive};
+use crate::pump::one_call::handle;
+use crate::pump::pump_end::PumpEnd;
+use crate::pump::pump_fault::PumpFault;
+use crate::pump::pump_parts::PumpParts;
+use crate::pump::pump_stop::PumpStop;
 use crate::reply::Reply;
-use crate::ringing::{ring_all, try_ring_all, try_ring_at};
 use rx_heap::{Heap, Memory, room};
 use rx_hub::Hub;
-use rx_mailbox::{EndedPort, Inbox, Letter, Port, Post};
+use rx_mailbox::{
+    EndedPort, Inbox, Letter, Port, Post, finish_all, ring_all, try_ring_all, try_ring_at,
+};
 use rx_note::Given;
 use std::marker::Model;
 use std::sync::Wait;

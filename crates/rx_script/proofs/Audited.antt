@@ -3,19 +3,19 @@ use Rattle.std.proofs.Common.{◌≡◌, ℕ, true, false, cond, List, [], ◌++
 use Rattle.std.proofs.KnownBytes.{Appends-nil, Appends-trans, Consumes-trans, Consumes-nil}
 use Rattle.std.specs.Io.KnownBytes.{Consumes, Appends}
 use Rattle.rx_proto.specs.declared.line_error.BadLine.{BadLine}
-use Rattle.rx_session.specs.declared.line_state.LineState.{LineState}
+use Rattle.rx_lines.specs.declared.line_state.LineState.{LineState}
 use Rattle.rx_proto.specs.declared.script_line.ScriptLine.{ScriptLine}
 use Rattle.rx_session.specs.declared.session_end.SessionEnd.{SessionEnd}
 use Rattle.rx_session.specs.declared.session_end.SessionEnd.TheVariants as ends
 use Rattle.rx_script.specs.Audits.{Audits, audited, audit_written, prints, Prints, Learns, Enters, Follows, after_entry}
 use Rattle.rx_proto.specs.Bytes.{AppendsPrefix, Writes}
-use Rattle.rx_session.specs.Bytes.{Holds}
-use Rattle.rx_session.specs.Lines.{lines_of, TakesLine, TakesNoLine, without_cr}
+use Rattle.rx_lines.specs.Bytes.{Holds}
+use Rattle.rx_lines.specs.Lines.{lines_of, TakesLine, TakesNoLine, without_cr}
 use Rattle.rx_proto.specs.Reading.{script_read}
-use Rattle.rx_session.specs.Steps.{unread, GoesOn}
+use Rattle.rx_lines.specs.Steps.{unread, GoesOn}
 use Rattle.rx_script.specs.Transcripts.{Subject, State, new_state, has_end}
-use Rattle.rx_session.proofs.LinesOf.{lines_of-first, lines_of-taken, lines_of-none}
-use Rattle.rx_session.proofs.Written.{Prefix-behind, Prefix-none}
+use Rattle.rx_lines.proofs.LinesOf.{lines_of-first, lines_of-taken, lines_of-none}
+use Rattle.rx_lines.proofs.Written.{Prefix-behind, Prefix-none}
 
 -- ONE LINE
 

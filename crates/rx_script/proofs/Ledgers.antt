@@ -18,10 +18,10 @@ use Rattle.rx_script.specs.declared.ledger.Ledger.{Ledger}
 use Rattle.rx_script.specs.Audits.{subject_in, subjects_in, observer_written, observers_written, observed_lines, subject_written}
 use Rattle.rx_script.specs.Scripts.{new_subject, new_subjects}
 use Rattle.rx_config.specs.declared.subject_config.SubjectConfig.{SubjectConfig}
-use Rattle.rx_session.specs.Bytes.{Loses}
+use Rattle.rx_lines.specs.Bytes.{Loses}
 use Rattle.rx_proto.specs.Reading.{same_word}
 use Rattle.rx_script.specs.Transcripts.{Subject, taking, all_taking}
-use Rattle.rx_session.proofs.Written.{Loses-more}
+use Rattle.rx_lines.proofs.Written.{Loses-more}
 
 -- A LEDGER MORE
 

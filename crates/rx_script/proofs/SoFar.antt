@@ -2,23 +2,23 @@
 use Rattle.std.proofs.Common.{◌≡◌, ℕ, Bool, true, false, cond, List, [], ◌∷◌, ◌++◌, Option, None, Some, sym, ap, subst, ◌∙◌, append_assoc, append-nil}
 use Rattle.std.proofs.KnownBytes.{Appends-trans, Appends-nil, Consumes-trans, Consumes-nil}
 use Rattle.std.specs.Io.KnownBytes.{Consumes, Appends}
-use Rattle.rx_session.specs.declared.line_state.LineState.{LineState}
+use Rattle.rx_lines.specs.declared.line_state.LineState.{LineState}
 use Rattle.rx_script.specs.declared.script.Script.{Script}
 use Rattle.rx_session.specs.declared.session_end.SessionEnd.{SessionEnd}
 use Rattle.rx_session.specs.declared.session_end.SessionEnd.TheVariants as ends
 use Rattle.rx_script.specs.declared.topic.Topic.{Topic}
 use Rattle.rx_proto.specs.Bytes.{AppendsPrefix}
-use Rattle.rx_session.specs.Bytes.{Holds, Loses}
+use Rattle.rx_lines.specs.Bytes.{Holds, Loses}
 use Rattle.rx_proto.specs.LineFeeds.{HasNoLf}
-use Rattle.rx_session.specs.Lines.{without_cr, lines_of, BeginsWithLine, TakesLine, TakesNoLine}
+use Rattle.rx_lines.specs.Lines.{without_cr, lines_of, BeginsWithLine, TakesLine, TakesNoLine}
 use Rattle.rx_proto.specs.Reading.{script_read}
 use Rattle.rx_script.specs.Scripts.{StandForSubjects, Runs}
-use Rattle.rx_session.specs.Steps.{unread}
+use Rattle.rx_lines.specs.Steps.{unread}
 use Rattle.rx_script.specs.Tellings.{IsIn, Turns, TellsOn}
 use Rattle.rx_script.specs.Transcripts.{Subject, State, new_state, line_written, after_line, ends_script, transcript, has_end}
-use Rattle.rx_session.proofs.LinesOf.{lines_of-first, lines_of-taken, lines_of-none}
+use Rattle.rx_lines.proofs.LinesOf.{lines_of-first, lines_of-taken, lines_of-none}
 use Rattle.rx_proto.proofs.LineFeeds.{HasNoLf-front}
-use Rattle.rx_session.proofs.Written.{Prefix-behind, Prefix-more}
+use Rattle.rx_lines.proofs.Written.{Prefix-behind, Prefix-more}
 
 -- some bytes were read and some written; what was written and what is held is the transcript so far, which goes on from
 -- the state as it is now over the bytes that are unread

@@ -2,28 +2,28 @@
 use Rattle.std.proofs.Common.{◌≡◌, ℕ, ◌<◌, Bool, List, ◌++◌, length, Option, None, Some, MatchOption, Result, Err, inl, sym, ap, subst, ◌∙◌}
 use Rattle.std.proofs.KnownBytes.{Appends-trans}
 use Rattle.std.specs.Io.KnownBytes.{Appends}
-use Rattle.rx_session.specs.declared.input_end.InputEnd.{InputEnd}
+use Rattle.rx_lines.specs.declared.input_end.InputEnd.{InputEnd}
 use Rattle.rx_proto.specs.declared.line_error.BadLine.{BadLine}
 use Rattle.rx_proto.specs.declared.line_error.BadLine.TheVariants.{Long}
-use Rattle.rx_session.specs.declared.line_state.LineState.{LineState}
+use Rattle.rx_lines.specs.declared.line_state.LineState.{LineState}
 use Rattle.rx_script.specs.declared.script.Script.{Script}
 use Rattle.rx_proto.specs.declared.script_line.ScriptLine.{ScriptLine}
 use Rattle.rx_session.specs.declared.session_end.SessionEnd.{SessionEnd}
 use Rattle.rx_session.specs.declared.session_end.SessionEnd.TheVariants as ends
-use Rattle.rx_session.specs.declared.step.Step.{Step}
-use Rattle.rx_session.specs.declared.step.Step.TheVariants as steps
+use Rattle.rx_lines.specs.declared.step.Step.{Step}
+use Rattle.rx_lines.specs.declared.step.Step.TheVariants as steps
 use Rattle.rx_script.specs.declared.told.Told.{Told}
 use Rattle.rx_script.specs.declared.told.Told.TheVariants as told
 use Rattle.rx_proto.specs.Bytes.{AppendsPrefix}
-use Rattle.rx_session.specs.Bytes.{Holds}
-use Rattle.rx_session.specs.Lines.{TakesLine, without_cr}
+use Rattle.rx_lines.specs.Bytes.{Holds}
+use Rattle.rx_lines.specs.Lines.{TakesLine, without_cr}
 use Rattle.rx_proto.specs.Reading.{script_read}
 use Rattle.rx_proto.proofs.Exact.{script_exact}
-use Rattle.rx_session.specs.Steps.{unread, GoesOn, Goes, Advances}
+use Rattle.rx_lines.specs.Steps.{unread, GoesOn, Goes, Advances}
 use Rattle.rx_script.specs.Tellings.{IsIn, IsInHand, Quits, TellsOn, Turns, is_last}
 use Rattle.rx_script.specs.Transcripts.{State, line_written, after_line, ends_script}
-use Rattle.rx_session.proofs.Stepping.{told-is_line}
-use Rattle.rx_session.proofs.Written.{Prefix-behind}
+use Rattle.rx_lines.proofs.Stepping.{told-is_line}
+use Rattle.rx_lines.proofs.Written.{Prefix-behind}
 
 -- what was held and then written is what was put
 appended : (old mid new : Option (List ℕ)) (held then bytes : List ℕ) → Holds held then old mid bytes → Appends mid new then → Appends old new (held ++ bytes)

@@ -16,18 +16,18 @@ use Rattle.rx_script.specs.declared.asked.Asked.{Asked}
 use Rattle.rx_script.specs.declared.audit.Audit.{Audit}
 use Rattle.rx_script.specs.declared.ledger.Ledger.{Ledger}
 use Rattle.rx_proto.specs.declared.line_error.BadLine.{BadLine}
-use Rattle.rx_session.specs.declared.line_state.LineState.{LineState}
+use Rattle.rx_lines.specs.declared.line_state.LineState.{LineState}
 use Rattle.rx_script.specs.declared.observed.Observed.{Observed}
 use Rattle.rx_proto.specs.declared.script_line.ScriptLine.{ScriptLine}
 use Rattle.rx_session.specs.declared.session_end.SessionEnd.{SessionEnd}
 use Rattle.rx_session.specs.declared.session_end.SessionEnd.TheVariants as ends
 use Rattle.rx_proto.specs.Bytes.{AppendsPrefix}
-use Rattle.rx_session.specs.Lines.{lines_of, TakesLine, TakesNoLine}
+use Rattle.rx_lines.specs.Lines.{lines_of, TakesLine, TakesNoLine}
 use Rattle.rx_proto.specs.Printing.{note_line}
 use Rattle.rx_proto.specs.Reading.{script_read}
 use Rattle.rx_proto.specs.declared.version.Version.TheVariants.{One}
 use Rattle.rx_script.specs.Scripts.{EndsSo}
-use Rattle.rx_session.specs.Steps.{unread, GoesOn}
+use Rattle.rx_lines.specs.Steps.{unread, GoesOn}
 use Rattle.rx_script.specs.Transcripts.{Subject, State, new_state, after_asked, after_line, ends_script, is_quit}
 
 -- THE SUBJECTS AFTER THE LINES

@@ -21,8 +21,8 @@ use Rattle.rx_script.specs.declared.topic.Topic.{Topic}
 use Rattle.rx_proto.specs.declared.version.Version.{Version}
 use Rattle.rx_proto.specs.declared.writing.WriteFault.{WriteFault}
 use Rattle.rx_proto.specs.Bytes.{AppendsPrefix}
-use Rattle.rx_session.specs.Bytes.{Puts}
-use Rattle.rx_session.specs.Lines.{lines_of}
+use Rattle.rx_lines.specs.Bytes.{Puts}
+use Rattle.rx_lines.specs.Lines.{lines_of}
 use Rattle.rx_proto.specs.Printing.{reply_line}
 use Rattle.rx_script.specs.Transcripts.{Subject, new_state, takes_it_with_memory, taking, event_written, transcript, has_end}
 

@@ -9,21 +9,21 @@ use Rattle.rx_script.specs.declared.script.Script.{Script}
 use Rattle.rx_proto.specs.declared.script_line.ScriptLine.{ScriptLine}
 use Rattle.rx_proto.specs.declared.line_error.BadLine.{BadLine}
 use Rattle.rx_proto.specs.declared.line_error.BadLine.TheVariants.{Long}
-use Rattle.rx_session.specs.declared.line_state.LineState.{LineState}
+use Rattle.rx_lines.specs.declared.line_state.LineState.{LineState}
 use Rattle.rx_session.specs.declared.session_end.SessionEnd.{SessionEnd}
 use Rattle.rx_session.specs.declared.session_end.SessionEnd.TheVariants as ends
-use Rattle.rx_session.specs.declared.step.Step.{Step}
-use Rattle.rx_session.specs.declared.step.Step.TheVariants as steps
+use Rattle.rx_lines.specs.declared.step.Step.{Step}
+use Rattle.rx_lines.specs.declared.step.Step.TheVariants as steps
 use Rattle.rx_script.specs.declared.told.Told.{Told}
 use Rattle.rx_script.specs.declared.told.Told.TheVariants as told
 use Rattle.rx_proto.specs.declared.writing.WriteFault.{WriteFault}
 use Rattle.rx_proto.specs.Bytes.{AppendsPrefix}
-use Rattle.rx_session.specs.Bytes.{Holds, Puts}
-use Rattle.rx_session.specs.Lines.{TakesLine, TakesNoLine}
+use Rattle.rx_lines.specs.Bytes.{Holds, Puts}
+use Rattle.rx_lines.specs.Lines.{TakesLine, TakesNoLine}
 use Rattle.rx_proto.specs.LineFeeds.{HasNoLf}
 use Rattle.rx_proto.specs.Reading.{script_read}
 use Rattle.rx_script.specs.Scripts.{StandForSubjects}
-use Rattle.rx_session.specs.Steps.{unread, GoesOn}
+use Rattle.rx_lines.specs.Steps.{unread, GoesOn}
 use Rattle.rx_proto.specs.Printing.{reply_line}
 use Rattle.rx_script.specs.Transcripts.{State, wants_memory, is_quit, asked_written, after_asked, line_written, after_line, ends_script}
 

@@ -1,7 +1,7 @@
 ghost use Rattle.std.specs.Prelude.{◌≡◌, ◌≤◌, length, ◌++◌, None, IfOk, MatchResult};
 ghost use Rattle.rx_script.specs.Audits.{Audits, BreaksOff, Enters, EntersAsked, Follows, Learns, audit_written, note_lines, observed_lines, prints, state_in, subject_in, subject_written, subjects_in};
 ghost use Rattle.rx_proto.specs.Bytes.{AppendsPrefix, Writes};
-ghost use Rattle.rx_session.specs.Bytes.{Puts};
+ghost use Rattle.rx_lines.specs.Bytes.{Puts};
 ghost use Rattle.rx_proto.specs.Reading.{script_read};
 ghost use Rattle.rx_script.specs.Scripts.{new_subjects};
 

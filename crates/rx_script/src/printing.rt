@@ -1,6 +1,6 @@
 ghost use Rattle.std.specs.Prelude.{◌≡◌, ◌≤◌, ◌+◌, ◌++◌, decimal, length};
 ghost use Rattle.rx_script.specs.Audits.{observer_line};
-ghost use Rattle.rx_session.specs.Bytes.{Puts};
+ghost use Rattle.rx_lines.specs.Bytes.{Puts};
 ghost use Rattle.rx_proto.specs.Printing.{note_line};
 ghost use Rattle.rx_proto.specs.declared.version.Version.TheVariants.{One};
 ghost use Rattle.rx_script.specs.Printing.{given_line};

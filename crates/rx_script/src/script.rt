@@ -1,7 +1,7 @@
 ghost use Rattle.std.specs.Prelude.{◌≡◌, ◌<◌, ◌++◌, [], true, None, IfOk, OnErr, OnOk, length};
 ghost use Rattle.rx_script.specs.declared.topic.Topic.{Topic};
 ghost use Rattle.rx_proto.specs.Bytes.{Writes};
-ghost use Rattle.rx_session.specs.Bytes.{Puts};
+ghost use Rattle.rx_lines.specs.Bytes.{Puts};
 ghost use Rattle.rx_session.specs.Responses.{response_to};
 ghost use Rattle.rx_proto.specs.Grammar.{IsSpelled};
 ghost use Rattle.rx_proto.specs.LineFeeds.{HasNoLf};
@@ -81,8 +81,8 @@ impl Script {
     ghost use Rattle.rx_script.specs.Scripts.{TakesAt};
     ghost use Rattle.std.specs.Prelude.{List, Option, ℕ};
     ghost use Rattle.rx_script.specs.Scripts.{StandForSubjects};
-    ghost use Rattle.rx_session.specs.declared.line_state.LineState.{LineState};
-    ghost use Rattle.rx_session.specs.Steps.{unread, Goes};
+    ghost use Rattle.rx_lines.specs.declared.line_state.LineState.{LineState};
+    ghost use Rattle.rx_lines.specs.Steps.{unread, Goes};
     ghost use Rattle.rx_script.specs.Tellings.{CarriesOut, IsIn, IsInHand, MayBeTold, Quits, Tells, TellsOn, Turns, reading_of};
     ghost use Rattle.rx_script.specs.Transcripts.{Subject, new_state};
 

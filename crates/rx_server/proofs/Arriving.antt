@@ -9,9 +9,9 @@ use Rattle.rx_mailbox.specs.Letters.{letter, posts, share}
 use Rattle.rx_mailbox.specs.Passes.{SettledView, inbox_in}
 use Rattle.rx_mailbox.specs.Settling.{GotAll}
 use Rattle.rx_pump.specs.declared.call.Call.{Call}
-use Rattle.rx_pump.specs.declared.ended_desk.EndedDesk.{EndedDesk}
+use Rattle.rx_pump.specs.declared.call_desk.ended_desk.EndedDesk.{EndedDesk}
 use Rattle.rx_pump.specs.declared.out.Out.{Out}
-use Rattle.rx_pump.specs.declared.pump_end.PumpEnd.{PumpEnd}
+use Rattle.rx_pump.specs.declared.pump.pump_end.PumpEnd.{PumpEnd}
 use Rattle.rx_pump.specs.declared.reply.Reply.{Reply}
 use Rattle.rx_pump.specs.Marks.{Marked, route}
 use Rattle.rx_pump.specs.Pumps.{PumpView}

@@ -11,20 +11,20 @@ use Rattle.rx_mailbox.specs.Boxes.{Box, Incoming, Outgoing}
 use Rattle.rx_mailbox.specs.Passes.{SettledView}
 use Rattle.rx_mailbox.specs.Settling.{IsEachOnce}
 use Rattle.rx_pump.specs.declared.call.Call.{Call}
-use Rattle.rx_pump.specs.declared.ended_desk.EndedDesk.{EndedDesk}
+use Rattle.rx_pump.specs.declared.call_desk.ended_desk.EndedDesk.{EndedDesk}
 use Rattle.rx_pump.specs.declared.out.Out.{Out}
-use Rattle.rx_pump.specs.declared.pump_end.PumpEnd.{PumpEnd}
+use Rattle.rx_pump.specs.declared.pump.pump_end.PumpEnd.{PumpEnd}
 use Rattle.rx_pump.specs.declared.reply.Reply.{Reply}
 use Rattle.rx_pump.specs.Desks.{DeskView}
 use Rattle.rx_pump.specs.Pumps.{PumpView}
-use Rattle.rx_pump.specs.Sends.{with_bye}
+use Rattle.rx_mailbox.specs.PortRows.{with_bye}
 use Rattle.rx_pump.specs.Serving as pump_serving
 use Rattle.rx_sink.specs.Acts.{Acts}
 use Rattle.rx_drain.specs.declared.drain_end.DrainEnd.{DrainEnd}
 use Rattle.rx_drain.specs.Drainers.{DrainerView}
 use Rattle.rx_drain.specs.Serving as drainer_serving
-use Rattle.rx_settling.specs.Parts.{FirstUnsettled, PartsView, Settles, dealt_each, with_inboxes}
-use Rattle.rx_settling.proofs.Gathered.{dealt-inboxes, dealt_each-count, dealt_each-inboxes, with_inboxes-all, with_inboxes-count, with_inboxes-ports, inboxes_of}
+use Rattle.rx_mailbox.specs.Parts.{FirstUnsettled, PartsView, Settles, dealt_each, with_inboxes}
+use Rattle.rx_mailbox.proofs.Gathered.{dealt-inboxes, dealt_each-count, dealt_each-inboxes, with_inboxes-all, with_inboxes-count, with_inboxes-ports, inboxes_of}
 use Rattle.rx_server.specs.declared.close_fault.CloseCause.{CloseCause}
 use Rattle.rx_server.specs.declared.close_fault.CloseCause.TheVariants.{Unsettled}
 use Rattle.rx_server.specs.declared.close_fault.CloseFault.{CloseFault}

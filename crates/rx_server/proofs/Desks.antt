@@ -5,11 +5,11 @@ use Rattle.std.proofs.lemmas.Slice.Zip.{all_zipped_more}
 use Rattle.std.specs.List.{All, AllZip, enumerate_from, filter_map}
 use Rattle.rx_mailbox.specs.Boxes.{Box, Outgoing}
 use Rattle.rx_pump.specs.declared.call.Call.{Call}
-use Rattle.rx_pump.specs.declared.ended_desk.EndedDesk.{EndedDesk}
+use Rattle.rx_pump.specs.declared.call_desk.ended_desk.EndedDesk.{EndedDesk}
 use Rattle.rx_pump.specs.declared.reply.Reply.{Reply}
 use Rattle.rx_pump.specs.Desks.{DeskView, KeepsDesk}
 use Rattle.rx_pump.specs.Pumps.{port_place}
-use Rattle.rx_pump.specs.Sends.{EndsSome, with_bye}
+use Rattle.rx_mailbox.specs.PortRows.{EndsSome, with_bye}
 use Rattle.rx_server.specs.Leaving.{HasItsBoxes}
 use Rattle.rx_server.specs.Servers.{EndsMore, IsFateOf, EndsEach, IsDeskOf, IsEndOf}
 use Rattle.rx_server.specs.Wirings.{Wiring, desk_of, desks_of, ports_at}

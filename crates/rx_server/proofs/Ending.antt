@@ -6,10 +6,10 @@ use Rattle.std.specs.List.{All, AllZip, enumerate_from, zip}
 use Rattle.rx_hub.specs.Hubs.{HubView}
 use Rattle.rx_mailbox.specs.Boxes.{Box, HasEachBye, Outgoing}
 use Rattle.rx_pump.specs.declared.call.Call.{Call}
-use Rattle.rx_pump.specs.declared.ended_desk.EndedDesk.{EndedDesk}
+use Rattle.rx_pump.specs.declared.call_desk.ended_desk.EndedDesk.{EndedDesk}
 use Rattle.rx_pump.specs.declared.out.Out.{Out}
 use Rattle.rx_pump.specs.Pumps.{AreSame, PumpView, port_place}
-use Rattle.rx_pump.specs.Sends.{with_bye}
+use Rattle.rx_mailbox.specs.PortRows.{with_bye}
 use Rattle.rx_pump.specs.Serving as pump_serving
 use Rattle.rx_sink.specs.Acts.{Acts}
 use Rattle.rx_drain.specs.Drainers.{DrainerView}

@@ -10,7 +10,7 @@ use Rattle.rx_server.specs.declared.close_fault.CloseCause.TheVariants.{Ended}
 use Rattle.rx_server.specs.declared.close_fault.CloseFault.{CloseFault}
 use Rattle.rx_server.specs.declared.start_fault.Role.{Role}
 use Rattle.rx_server.specs.declared.start_fault.Role.TheVariants.{Drainer, Pump}
-use Rattle.rx_pump.specs.declared.pump_end.PumpEnd.{PumpEnd}
+use Rattle.rx_pump.specs.declared.pump.pump_end.PumpEnd.{PumpEnd}
 use Rattle.rx_pump.specs.Pumps.{PumpView}
 use Rattle.rx_pump.specs.Serving as pump_serving
 use Rattle.rx_sink.specs.Acts.{Acts}

@@ -9,9 +9,9 @@ use Rattle.rx_mailbox.specs.Boxes.{Box, Incoming, Outgoing}
 use Rattle.rx_mailbox.specs.Passes.{SettledView}
 use Rattle.rx_mailbox.specs.Settling.{IsEachOnce}
 use Rattle.rx_pump.specs.Pumps.{AreSame, port_place}
-use Rattle.rx_settling.specs.Parts.{FirstUnsettled, IsEmpty, PartsView, Settles, dealt, dealt_each, with_port}
-use Rattle.rx_settling.proofs.Gathered.{inboxes_of, ports_of}
-use Rattle.rx_settling.proofs.Rows.{dealt-count}
+use Rattle.rx_mailbox.specs.Parts.{FirstUnsettled, IsEmpty, PartsView, Settles, dealt, dealt_each, with_port}
+use Rattle.rx_mailbox.proofs.Gathered.{inboxes_of, ports_of}
+use Rattle.rx_mailbox.proofs.Rows.{dealt-count}
 use Rattle.rx_server.specs.Wirings.{ports_at}
 use Rattle.rx_server.proofs.Arriving.{all-at}
 use Rattle.rx_server.proofs.Returning.{All-back, All-front, All-made, All-source}

@@ -5,15 +5,15 @@ use Rattle.std.proofs.lemmas.List.Elements.{All-cons, All-head, All-nil, All-tai
 use Rattle.std.specs.List.{All, FoldsTo}
 use Rattle.rx_mailbox.specs.Boxes.{Box, Incoming, Outgoing}
 use Rattle.rx_pump.specs.declared.call.Call.{Call}
-use Rattle.rx_pump.specs.declared.ended_desk.EndedDesk.{EndedDesk}
+use Rattle.rx_pump.specs.declared.call_desk.ended_desk.EndedDesk.{EndedDesk}
 use Rattle.rx_pump.specs.declared.reply.Reply.{Reply}
 use Rattle.rx_pump.specs.Pumps.{port_place}
 use Rattle.rx_server.specs.Leaving.{HasItsBoxes}
 use Rattle.rx_server.specs.Returning.{CameTwice, ComesAgain, ReturnsInbox, number_of}
 use Rattle.rx_server.specs.Wirings.{Wiring}
-use Rattle.rx_settling.specs.Parts.{LacksInbox, PartsView, placed}
-use Rattle.rx_settling.proofs.Gathered.{AllInboxes, inboxes_of, placed-count, placed-inboxes, placed-ports, ports_of}
-use Rattle.rx_settling.proofs.Room.{placed-lacks}
+use Rattle.rx_mailbox.specs.Parts.{LacksInbox, PartsView, placed}
+use Rattle.rx_mailbox.proofs.Gathered.{AllInboxes, inboxes_of, placed-count, placed-inboxes, placed-ports, ports_of}
+use Rattle.rx_mailbox.proofs.Room.{placed-lacks}
 
 -- what holds of all holds of the item behind the first ones
 pub All-here : {X : Type 0} (P : X → Type 0) (xs : List X) (x : X) (ys : List X) → All P (xs ++ x ∷ ys) → P x

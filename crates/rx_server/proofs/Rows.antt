@@ -4,7 +4,7 @@ use Rattle.std.proofs.lemmas.List.{length-map, map_more}
 use Rattle.std.proofs.lemmas.List.Elements.{All-head, All-map, All-same, All-weaker}
 use Rattle.std.specs.List.{All, enumerate_from, zip}
 use Rattle.rx_mailbox.specs.Boxes.{Box, Outgoing, outgoing}
-use Rattle.rx_pump.specs.Pumps.{IsFresh}
+use Rattle.rx_mailbox.specs.PortRows.{IsFresh}
 use Rattle.rx_server.specs.Wirings.{RowView, behind, next_port, row_ports}
 
 module _ {B : Type 0} where

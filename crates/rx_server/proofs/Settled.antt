@@ -8,15 +8,15 @@ use Rattle.rx_mailbox.specs.Boxes.{Box, HasEachBye, Incoming, Outgoing}
 use Rattle.rx_mailbox.specs.Passes.{SettledView, inbox_in}
 use Rattle.rx_mailbox.specs.Settling.{GotAll}
 use Rattle.rx_pump.specs.declared.call.Call.{Call}
-use Rattle.rx_pump.specs.declared.ended_desk.EndedDesk.{EndedDesk}
+use Rattle.rx_pump.specs.declared.call_desk.ended_desk.EndedDesk.{EndedDesk}
 use Rattle.rx_pump.specs.declared.out.Out.{Out}
-use Rattle.rx_pump.specs.declared.pump_end.PumpEnd.{PumpEnd}
+use Rattle.rx_pump.specs.declared.pump.pump_end.PumpEnd.{PumpEnd}
 use Rattle.rx_pump.specs.declared.reply.Reply.{Reply}
 use Rattle.rx_drain.specs.declared.drain_end.DrainEnd.{DrainEnd}
 use Rattle.rx_mailbox.specs.Rests.{ReceivesMore}
-use Rattle.rx_settling.specs.Parts.{AreOfOneBox, PartsView, Settles, dealt, dealt_each, with_inboxes}
-use Rattle.rx_settling.proofs.Gathered.{AllInboxes, AllPorts, dealt-all, dealt-inboxes, dealt-of, dealt_each-all, dealt_each-count, dealt_each-inboxes, dealt_each-of, empty-inboxes, empty-ports, with_inboxes-all, with_inboxes-count, with_inboxes-ports, inboxes-of, inboxes_of, of-one-box, ports-of, ports-same, received-none, settled-at, settled-came, settled-empty, settled-got}
-use Rattle.rx_settling.proofs.Rows.{dealt-count}
+use Rattle.rx_mailbox.specs.Parts.{AreOfOneBox, PartsView, Settles, dealt, dealt_each, with_inboxes}
+use Rattle.rx_mailbox.proofs.Gathered.{AllInboxes, AllPorts, dealt-all, dealt-inboxes, dealt-of, dealt_each-all, dealt_each-count, dealt_each-inboxes, dealt_each-of, empty-inboxes, empty-ports, with_inboxes-all, with_inboxes-count, with_inboxes-ports, inboxes-of, inboxes_of, of-one-box, ports-of, ports-same, received-none, settled-at, settled-came, settled-empty, settled-got}
+use Rattle.rx_mailbox.proofs.Rows.{dealt-count}
 use Rattle.rx_server.specs.declared.rooms.Rooms.{Rooms}
 use Rattle.rx_server.specs.declared.settled_boxes.SettledBoxes.{SettledBoxes}
 use Rattle.rx_server.specs.Leaving.{AreRow, HasItsBoxes, HasLeft}

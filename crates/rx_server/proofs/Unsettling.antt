@@ -4,12 +4,12 @@ use Rattle.std.specs.List.{AllZip}
 use Rattle.rx_mailbox.specs.Boxes.{Outgoing}
 use Rattle.rx_mailbox.specs.Passes.{SettledView}
 use Rattle.rx_pump.specs.declared.call.Call.{Call}
-use Rattle.rx_pump.specs.declared.ended_desk.EndedDesk.{EndedDesk}
+use Rattle.rx_pump.specs.declared.call_desk.ended_desk.EndedDesk.{EndedDesk}
 use Rattle.rx_pump.specs.declared.out.Out.{Out}
-use Rattle.rx_pump.specs.declared.pump_end.PumpEnd.{PumpEnd}
+use Rattle.rx_pump.specs.declared.pump.pump_end.PumpEnd.{PumpEnd}
 use Rattle.rx_pump.specs.declared.reply.Reply.{Reply}
 use Rattle.rx_drain.specs.declared.drain_end.DrainEnd.{DrainEnd}
-use Rattle.rx_settling.specs.Parts.{FirstUnsettled, PartsView, Settles}
+use Rattle.rx_mailbox.specs.Parts.{FirstUnsettled, PartsView, Settles}
 use Rattle.rx_server.specs.declared.close_fault.CloseCause.TheVariants.{Unsettled}
 use Rattle.rx_server.specs.declared.close_fault.CloseFault.{CloseFault}
 use Rattle.rx_server.specs.declared.rooms.Rooms.{Rooms}

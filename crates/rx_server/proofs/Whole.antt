@@ -3,7 +3,7 @@ use Rattle.std.proofs.Common.{◌≡◌, ◌∙◌, refl, sym, ap, subst, ℕ, �
 use Rattle.std.proofs.lemmas.List.Elements.{All-append, All-head, All-nil}
 use Rattle.std.specs.List.{All}
 use Rattle.rx_config.specs.declared.config.Config.{Config}
-use Rattle.rx_pump.specs.declared.ended_desk.EndedDesk.{EndedDesk}
+use Rattle.rx_pump.specs.declared.call_desk.ended_desk.EndedDesk.{EndedDesk}
 use Rattle.rx_pump.specs.Desks.{DeskView}
 use Rattle.rx_workers.specs.Crews.{IsFor}
 use Rattle.rx_server.specs.declared.rooms.Rooms.{Rooms}

@@ -8,9 +8,9 @@ use Rattle.rx_mailbox.specs.Boxes.{Outgoing}
 use Rattle.rx_mailbox.specs.Letters.{letter, share, posts}
 use Rattle.rx_mailbox.specs.Passes.{SettledView}
 use Rattle.rx_pump.specs.declared.call.Call.{Call}
-use Rattle.rx_pump.specs.declared.ended_desk.EndedDesk.{EndedDesk}
+use Rattle.rx_pump.specs.declared.call_desk.ended_desk.EndedDesk.{EndedDesk}
 use Rattle.rx_pump.specs.declared.out.Out.{Out}
-use Rattle.rx_pump.specs.declared.pump_end.PumpEnd.{PumpEnd}
+use Rattle.rx_pump.specs.declared.pump.pump_end.PumpEnd.{PumpEnd}
 use Rattle.rx_pump.specs.declared.reply.Reply.{Reply}
 use Rattle.rx_pump.specs.Marks.{Marked, letters_of, replies, route}
 use Rattle.rx_pump.specs.Pumps.{PumpView}

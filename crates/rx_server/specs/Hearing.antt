@@ -14,9 +14,9 @@ use Rattle.rx_mailbox.specs.declared.letter.Post.TheVariants.{Bye}
 use Rattle.rx_mailbox.specs.Boxes.{Outgoing}
 use Rattle.rx_mailbox.specs.Letters.{letter, share}
 use Rattle.rx_mailbox.specs.Passes.{SettledView}
-use Rattle.rx_pump.specs.declared.ended_desk.EndedDesk.{EndedDesk}
+use Rattle.rx_pump.specs.declared.call_desk.ended_desk.EndedDesk.{EndedDesk}
 use Rattle.rx_pump.specs.declared.out.Out.{Out}
-use Rattle.rx_pump.specs.declared.pump_end.PumpEnd.{PumpEnd}
+use Rattle.rx_pump.specs.declared.pump.pump_end.PumpEnd.{PumpEnd}
 use Rattle.rx_pump.specs.Marks.{Marked, history_of}
 use Rattle.rx_pump.specs.Pumps.{PumpView}
 use Rattle.rx_sink.specs.Acts.{Acts}

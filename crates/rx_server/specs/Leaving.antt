@@ -2,7 +2,7 @@
 use Rattle.std.specs.Prelude.{◌≡◌, ◌++◌, ◌<◌, ◌≤◌, ℕ, List, [], length, map, Some, slice_get, vec_len, vec_capacity}
 use Rattle.std.specs.List.{All}
 use Rattle.rx_mailbox.specs.Boxes.{Box, HasEachBye, Outgoing}
-use Rattle.rx_pump.specs.declared.ended_desk.EndedDesk.{EndedDesk}
+use Rattle.rx_pump.specs.declared.call_desk.ended_desk.EndedDesk.{EndedDesk}
 use Rattle.rx_pump.specs.Pumps.{port_place}
 use Rattle.rx_server.specs.declared.rooms.Rooms.{Rooms}
 use Rattle.rx_server.specs.Returning.{AreEmpty}

@@ -20,16 +20,16 @@ use Rattle.rx_drain.specs.declared.drain_end.DrainEnd.{DrainEnd}
 use Rattle.rx_mailbox.specs.Boxes.{Outgoing}
 use Rattle.rx_mailbox.specs.Passes.{SettledView}
 use Rattle.rx_pump.specs.declared.call.Call.{Call}
-use Rattle.rx_pump.specs.declared.ended_desk.EndedDesk.{EndedDesk}
+use Rattle.rx_pump.specs.declared.call_desk.ended_desk.EndedDesk.{EndedDesk}
 use Rattle.rx_pump.specs.declared.out.Out.{Out}
-use Rattle.rx_pump.specs.declared.pump_end.PumpEnd.{PumpEnd}
+use Rattle.rx_pump.specs.declared.pump.pump_end.PumpEnd.{PumpEnd}
 use Rattle.rx_pump.specs.declared.reply.Reply.{Reply}
 use Rattle.rx_server.specs.declared.close_fault.CloseCause.TheVariants.{Unsettled}
 use Rattle.rx_server.specs.declared.close_fault.CloseFault.{CloseFault}
 use Rattle.rx_server.specs.declared.returned.Returned.{Returned}
 use Rattle.rx_server.specs.declared.start_fault.Role.{Role}
 use Rattle.rx_server.specs.declared.start_fault.Role.TheVariants.{Drainer, Pump, Worker}
-use Rattle.rx_settling.specs.Parts.{FirstUnsettled, IsEmpty, LacksInbox, PartsView, Settles, dealt, dealt_each, with_inboxes, placed}
+use Rattle.rx_mailbox.specs.Parts.{FirstUnsettled, IsEmpty, LacksInbox, PartsView, Settles, dealt, dealt_each, with_inboxes, placed}
 
 module _ {S : Type 0} where
   -- nothing came back yet of so many boxes, and there is room for each port that was made of them

@@ -4,7 +4,7 @@ ghost use Rattle.std.specs.List.{All, AllZip, sum_by};
 ghost use Rattle.rx_pump.specs.Pumps.{counted};
 ghost use Rattle.rx_server.specs.Returning.{ComesAgain, HaveReturned, StopsAt, number_of};
 ghost use Rattle.rx_server.specs.Servers.{report_of};
-ghost use Rattle.rx_settling.specs.Parts.{AreOfOneBox, HasRoom, Settles, dealt_each, with_inboxes, missing};
+ghost use Rattle.rx_mailbox.specs.Parts.{AreOfOneBox, HasRoom, Settles, dealt_each, with_inboxes, missing};
 
 use crate::close_fault::{CloseCause, CloseFault};
 use crate::report::SubjectReport;
@@ -12,9 +12,8 @@ use crate::settled_boxes::SettledBoxes;
 use crate::start_fault::Role;
 use rx_drain::DrainEnd;
 use rx_heap::{Heap, Memory};
-use rx_mailbox::EndedPort;
+use rx_mailbox::{BoxParts, EndedPort, deal, parts_of, put_inbox, settle_each};
 use rx_pump::{Call, EndedDesk, Out, PumpEnd, Reply};
-use rx_settling::{BoxParts, deal, parts_of, put_inbox, settle_each};
 use rx_sink::{Rests, Sink};
 use std::sync::Wait;
 

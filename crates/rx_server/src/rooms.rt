@@ -13,9 +13,8 @@ use crate::settled_boxes::SettledBoxes;
 use crate::start_fault::Role;
 use rx_drain::DrainEnd;
 use rx_heap::{Heap, Memory, room};
-use rx_mailbox::EndedPort;
+use rx_mailbox::{EndedPort, deal};
 use rx_pump::{EndedDesk, Out, PumpEnd};
-use rx_settling::deal;
 use rx_sink::{Rests, Sink};
 use std::sync::Wait;
 

@@ -8,12 +8,12 @@ use Rattle.rx_proto.specs.declared.line_error.BadLine.{BadLine}
 use Rattle.rx_proto.specs.declared.response.Response.TheVariants.{Done}
 use Rattle.rx_proto.specs.declared.version.Version.{Version}
 use Rattle.rx_session.specs.Among.{among, moved}
-use Rattle.rx_session.specs.Lines.{lines_of}
+use Rattle.rx_lines.specs.Lines.{lines_of}
 use Rattle.rx_session.specs.OpenSessions.{Reaches, Through, IsOpen, IsOver, Sits, Sitting}
 use Rattle.rx_session.specs.Sessions.{Parties, Place, Outcome, Goes, Closes, Faults, Stops, Serves, answered, end_of}
-use Rattle.rx_session.specs.Steps.{unread}
+use Rattle.rx_lines.specs.Steps.{unread}
 use Rattle.rx_session.specs.Turns.{hands, IsAt}
-use Rattle.rx_session.specs.declared.input_end.InputEnd.{InputEnd}
+use Rattle.rx_lines.specs.declared.input_end.InputEnd.{InputEnd}
 use Rattle.rx_session.specs.declared.open_session.OpenSession.{OpenSession}
 use Rattle.rx_session.specs.declared.session_end.SessionEnd.{SessionEnd}
 use Rattle.rx_session.specs.declared.session_end.SessionEnd.TheVariants as ends

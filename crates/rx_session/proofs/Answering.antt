@@ -20,20 +20,20 @@ use Rattle.rx_proto.specs.declared.response.Response.{Response}
 use Rattle.rx_proto.specs.declared.response.Response.TheVariants.{Done, Refused}
 use Rattle.rx_proto.specs.declared.version.Version.{Version}
 use Rattle.rx_proto.specs.declared.word.Word.{Word}
-use Rattle.rx_session.specs.Lines.{TakesLine, without_cr}
+use Rattle.rx_lines.specs.Lines.{TakesLine, without_cr}
 use Rattle.rx_session.specs.Sessions.{Parties, Place, Outcome, answered, Emits, Goes, Lacks}
-use Rattle.rx_session.specs.Steps.{Advances, Goes as Steps}
+use Rattle.rx_lines.specs.Steps.{Advances, Goes as Steps}
 use Rattle.rx_session.specs.Turns.{asked_by, hands, Tells, Quits, IsAt, HasNoText, Comes, Carries}
 use Rattle.rx_session.specs.declared.follow.Follow.{Follow}
 use Rattle.rx_session.specs.declared.follow.Follow.TheVariants.{Taken, Back}
-use Rattle.rx_session.specs.declared.input_end.InputEnd.{InputEnd}
-use Rattle.rx_session.specs.declared.line_state.LineState.{LineState}
+use Rattle.rx_lines.specs.declared.input_end.InputEnd.{InputEnd}
+use Rattle.rx_lines.specs.declared.line_state.LineState.{LineState}
 use Rattle.rx_session.specs.declared.serving.Turned.{Turned}
 use Rattle.rx_session.specs.declared.serving.Turned.TheVariants.{On, Over}
 use Rattle.rx_session.specs.declared.session_end.SessionEnd.{SessionEnd}
 use Rattle.rx_session.specs.declared.session_end.SessionEnd.TheVariants as ends
-use Rattle.rx_session.specs.declared.step.Step.{Step}
-use Rattle.rx_session.proofs.Written.{Prefix-behind}
+use Rattle.rx_lines.specs.declared.step.Step.{Step}
+use Rattle.rx_lines.proofs.Written.{Prefix-behind}
 
 -- two outcomes at a desk
 same_outcome : {D W : Type 0} (desk : D) (end end' : SessionEnd) (back back' : Option W) → end ≡ end' → back ≡ back'

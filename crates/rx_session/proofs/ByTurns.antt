@@ -10,16 +10,16 @@ use Rattle.rx_proto.specs.declared.command.Command.TheVariants.{Quit}
 use Rattle.rx_proto.specs.declared.line_error.BadLine.{BadLine}
 use Rattle.rx_proto.specs.declared.response.Response.TheVariants.{Done}
 use Rattle.rx_proto.specs.declared.version.Version.{Version}
-use Rattle.rx_session.specs.Bytes.{Holds, Loses}
-use Rattle.rx_session.specs.Feeds.{IsRest, Comes}
-use Rattle.rx_session.specs.Lines.{BeginsWithLine, lines_of, without_cr}
+use Rattle.rx_lines.specs.Bytes.{Holds, Loses}
+use Rattle.rx_lines.specs.Feeds.{IsRest, Comes}
+use Rattle.rx_lines.specs.Lines.{BeginsWithLine, lines_of, without_cr}
 use Rattle.rx_session.specs.Sessions.{Parties, Place, Outcome, Serves, Session, Goes, Faults, Closes, Stops, answered, end_of}
 use Rattle.rx_session.specs.OpenSessions.{Sends, Reaches, Through, Listens, Leaves, IsOpen, IsOver, CarriesOut, IsNew, first_place, Sitting, Carried, Sits}
-use Rattle.rx_session.specs.Steps.{unread}
+use Rattle.rx_lines.specs.Steps.{unread}
 use Rattle.rx_session.specs.Turns.{Hands, hands, IsAt, Tells, Ends}
-use Rattle.rx_session.specs.declared.came.Came.TheVariants.{Bytes, Nothing, End}
-use Rattle.rx_session.specs.declared.feed.Feed.{Feed}
-use Rattle.rx_session.specs.declared.input_end.InputEnd.{InputEnd}
+use Rattle.rx_lines.specs.declared.came.Came.TheVariants.{Bytes, Nothing, End}
+use Rattle.rx_lines.specs.declared.feed.Feed.{Feed}
+use Rattle.rx_lines.specs.declared.input_end.InputEnd.{InputEnd}
 use Rattle.rx_session.specs.declared.open_session.OpenSession.{OpenSession}
 use Rattle.rx_session.specs.declared.serving.Turned.{Turned}
 use Rattle.rx_session.specs.declared.serving.Turned.TheVariants.{On, Over}
@@ -28,10 +28,10 @@ use Rattle.rx_session.specs.declared.session_end.SessionEnd.TheVariants as ends
 use Rattle.rx_session.specs.declared.turn.Turn.{Turn}
 use Rattle.rx_session.specs.declared.turn.Turn.TheVariants as turns
 use Rattle.rx_session.proofs.Answering.{told}
-use Rattle.rx_session.proofs.Feeding.{IsRest-plain}
-use Rattle.rx_session.proofs.LinesOf.{lines_of-first, lines_of-none, BeginsWithLine-more}
+use Rattle.rx_lines.proofs.Feeding.{IsRest-plain}
+use Rattle.rx_lines.proofs.LinesOf.{lines_of-first, lines_of-none, BeginsWithLine-more}
 use Rattle.rx_session.proofs.SoFar.{Serves-ends, Serves-fault}
-use Rattle.rx_session.proofs.Written.{Prefix-behind}
+use Rattle.rx_lines.proofs.Written.{Prefix-behind}
 use Rattle.rx_proto.specs.Bytes.{AppendsPrefix}
 
 -- known bytes that are the same are kept

@@ -8,19 +8,19 @@ use Rattle.rx_proto.specs.declared.line_error.BadLine.{BadLine}
 use Rattle.rx_proto.specs.declared.response.Response.{Response}
 use Rattle.rx_proto.specs.declared.version.Version.{Version}
 use Rattle.rx_session.specs.Begun.{Asked, IsBehind}
-use Rattle.rx_session.specs.Feeds.{IsRest, IsLine, Tells as TellsOf}
+use Rattle.rx_lines.specs.Feeds.{IsRest, IsLine, Tells as TellsOf}
 use Rattle.rx_session.specs.Gathering.{Ahead, Answered, IsBegun, Asks, Begins, CarriesBehind, EmitsEach, Gathered, Gathering, Gathers, IsGathering, StandsBehind}
-use Rattle.rx_session.specs.Lines.{BeginsWithLine, without_cr}
+use Rattle.rx_lines.specs.Lines.{BeginsWithLine, without_cr}
 use Rattle.rx_session.specs.OpenSessions.{Carried, IsOpen, Leaves, Sitting, Through}
 use Rattle.rx_session.specs.Sessions.{Parties, Place, Emits, Goes, answered}
-use Rattle.rx_session.specs.Steps.{unread}
+use Rattle.rx_lines.specs.Steps.{unread}
 use Rattle.rx_session.specs.Turns.{Hands, hands, IsAt}
-use Rattle.rx_session.specs.declared.feed.Feed.{Feed}
+use Rattle.rx_lines.specs.declared.feed.Feed.{Feed}
 use Rattle.rx_session.specs.declared.open_session.OpenSession.{OpenSession}
 use Rattle.rx_session.specs.declared.serving.Turned.{Turned}
 use Rattle.rx_session.specs.declared.serving.Turned.TheVariants.{On, Over}
-use Rattle.rx_session.specs.declared.step.Step.{Step}
-use Rattle.rx_session.specs.declared.step.Step.TheVariants as steps
+use Rattle.rx_lines.specs.declared.step.Step.{Step}
+use Rattle.rx_lines.specs.declared.step.Step.TheVariants as steps
 use Rattle.rx_session.proofs.ByTurns.{Through-line, line_on}
 
 -- lines ahead, some and then others

@@ -1,14 +1,5 @@
 pub mod Amongst
-pub mod Blocks
 pub mod ByTurns
-pub mod Feeding
-pub mod Known
-pub mod Lanes
-pub mod Lfs
-pub mod LinesOf
 pub mod Answering
-pub mod Sheds
 pub mod SoFar
-pub mod Stepping
-pub mod Written
 pub mod Gathering

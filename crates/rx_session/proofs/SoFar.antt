@@ -7,20 +7,20 @@ use Rattle.rx_proto.specs.LineFeeds.{HasNoLf}
 use Rattle.rx_proto.specs.Reading.{session_read}
 use Rattle.rx_proto.specs.declared.version.Version.{Version}
 use Rattle.rx_proto.specs.declared.version.Version.TheVariants.{One}
-use Rattle.rx_session.specs.Bytes.{Holds, Loses}
-use Rattle.rx_session.specs.Lines.{lines_of, without_cr}
+use Rattle.rx_lines.specs.Bytes.{Holds, Loses}
+use Rattle.rx_lines.specs.Lines.{lines_of, without_cr}
 use Rattle.rx_session.specs.Sessions.{Parties, Place, Outcome, Serves, Session, Faults, end_of}
-use Rattle.rx_session.specs.Steps.{unread, GoesOn}
+use Rattle.rx_lines.specs.Steps.{unread, GoesOn}
 use Rattle.rx_session.specs.Turns.{Hands, hands, IsAt, Carries, Ends, Turns}
-use Rattle.rx_session.specs.declared.input_end.InputEnd.{InputEnd}
-use Rattle.rx_session.specs.declared.line_state.LineState.{LineState}
+use Rattle.rx_lines.specs.declared.input_end.InputEnd.{InputEnd}
+use Rattle.rx_lines.specs.declared.line_state.LineState.{LineState}
 use Rattle.rx_session.specs.declared.serving.Turned.{Turned}
 use Rattle.rx_session.specs.declared.serving.Turned.TheVariants.{On, Over}
 use Rattle.rx_session.specs.declared.session_end.SessionEnd.{SessionEnd}
 use Rattle.rx_session.specs.declared.session_end.SessionEnd.TheVariants as ends
 use Rattle.rx_proto.proofs.LineFeeds.{HasNoLf-front}
-use Rattle.rx_session.proofs.LinesOf.{lines_of-first, lines_of-taken, lines_of-none}
-use Rattle.rx_session.proofs.Written.{Prefix-behind}
+use Rattle.rx_lines.proofs.LinesOf.{lines_of-first, lines_of-taken, lines_of-none}
+use Rattle.rx_lines.proofs.Written.{Prefix-behind}
 
 -- the outcome at a desk of a turn that ended the session
 abbrev pub outcome_of : {D W : Type 0} → Turned W → D → Outcome D W → Outcome D W

@@ -7,11 +7,11 @@ use Rattle.rx_proto.specs.declared.command.Command.TheVariants.{Pub}
 use Rattle.rx_proto.specs.declared.line_error.BadLine.{BadLine}
 use Rattle.rx_proto.specs.declared.version.Version.{Version}
 use Rattle.rx_session.specs.Begun.{Asked, IsBehind}
-use Rattle.rx_session.specs.Feeds.{IsRest}
-use Rattle.rx_session.specs.Lines.{BeginsWithLine, without_cr}
+use Rattle.rx_lines.specs.Feeds.{IsRest}
+use Rattle.rx_lines.specs.Lines.{BeginsWithLine, without_cr}
 use Rattle.rx_session.specs.OpenSessions.{CarriesOut, IsOver, Leaves, Through}
 use Rattle.rx_session.specs.Sessions.{Parties, Place, Emits}
-use Rattle.rx_session.specs.Steps.{unread}
+use Rattle.rx_lines.specs.Steps.{unread}
 use Rattle.rx_session.specs.Turns.{Hands, hands, IsAt}
 use Rattle.rx_session.specs.declared.open_session.OpenSession.{OpenSession}
 use Rattle.rx_session.specs.declared.serving.Turned.{Turned}

@@ -2,10 +2,10 @@
 use Rattle.std.specs.Prelude.{◌≡◌, ℕ, List, [], ◌∷◌, Option}
 use Rattle.rx_proto.specs.LineFeeds.{HasNoLf}
 use Rattle.rx_session.specs.Among.{among}
-use Rattle.rx_session.specs.Lines.{BeginsWithLine, lines_of, without_cr}
+use Rattle.rx_lines.specs.Lines.{BeginsWithLine, lines_of, without_cr}
 use Rattle.rx_session.specs.OpenSessions.{IsNew, IsOver, Sits, Sitting, first_place}
 use Rattle.rx_session.specs.Sessions.{Parties, Place, Outcome, Session}
-use Rattle.rx_session.specs.declared.input_end.InputEnd.{InputEnd}
+use Rattle.rx_lines.specs.declared.input_end.InputEnd.{InputEnd}
 use Rattle.rx_session.specs.declared.open_session.OpenSession.{OpenSession}
 use Rattle.rx_session.specs.declared.turn.Turn.{Turn}
 

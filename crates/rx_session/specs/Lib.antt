@@ -1,15 +1,8 @@
 pub mod Among
-pub mod Bytes
-pub mod Feeds
 pub mod Laws
-pub mod Lines
-pub mod Nexts
 pub mod OpenSessions
-pub mod Reads
 pub mod Responses
 pub mod Sessions
-pub mod Steps
 pub mod Turns
-pub mod Windows
 pub mod Begun
 pub mod Gathering

@@ -18,13 +18,13 @@ use Rattle.rx_proto.specs.declared.line_error.BadLine.{BadLine}
 use Rattle.rx_proto.specs.declared.response.Response.TheVariants.{Done}
 use Rattle.rx_proto.specs.declared.version.Version.{Version}
 use Rattle.rx_proto.specs.declared.version.Version.TheVariants.{One}
-use Rattle.rx_session.specs.Bytes.{Holds, Loses}
-use Rattle.rx_session.specs.Feeds.{IsRest}
-use Rattle.rx_session.specs.Lines.{BeginsWithLine, lines_of, without_cr}
+use Rattle.rx_lines.specs.Bytes.{Holds, Loses}
+use Rattle.rx_lines.specs.Feeds.{IsRest}
+use Rattle.rx_lines.specs.Lines.{BeginsWithLine, lines_of, without_cr}
 use Rattle.rx_session.specs.Sessions.{Parties, Place, Outcome, Goes, Serves, answered}
-use Rattle.rx_session.specs.Steps.{unread}
+use Rattle.rx_lines.specs.Steps.{unread}
 use Rattle.rx_session.specs.Turns.{Hands, hands, IsAt, Carries, Comes}
-use Rattle.rx_session.specs.declared.input_end.InputEnd.{InputEnd}
+use Rattle.rx_lines.specs.declared.input_end.InputEnd.{InputEnd}
 use Rattle.rx_session.specs.declared.open_session.OpenSession.{OpenSession}
 use Rattle.rx_session.specs.declared.serving.Turned.{Turned}
 use Rattle.rx_session.specs.declared.serving.Turned.TheVariants.{On, Over}

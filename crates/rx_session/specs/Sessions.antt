@@ -8,7 +8,7 @@
 -- `PUB` or `FAIL` for a subject that the desk has; an end without a fault leaves all written, a fault of the writer a prefix;
 -- the end is the one by which the reading of lines ended.
 use Rattle.std.specs.Prelude.{◌≡◌, ◌⊎◌, ℕ, List, [], ◌∷◌, ◌++◌, Option, None, Some, Result, Ok, Err}
-use Rattle.std.specs.Io.KnownBytes.{Consumes, Appends, IsAtEnd}
+use Rattle.std.specs.Io.KnownBytes.{Consumes, Appends}
 use Rattle.rx_note.specs.Choices.{Choice}
 use Rattle.rx_note.specs.declared.note.Note.{Note}
 use Rattle.rx_note.specs.declared.note.Note.TheVariants.{Next, Completed, Failed}
@@ -24,11 +24,12 @@ use Rattle.rx_proto.specs.declared.response.Response.TheVariants.{Done, Refused}
 use Rattle.rx_proto.specs.declared.version.Version.{Version}
 use Rattle.rx_proto.specs.declared.version.Version.TheVariants.{One}
 use Rattle.rx_proto.specs.declared.word.Word.TheVariants as words
-use Rattle.rx_session.specs.Lines.{lines_of}
+use Rattle.rx_lines.specs.Lines.{lines_of}
+use Rattle.rx_lines.specs.Reads.{IsLeft}
 use Rattle.rx_session.specs.declared.follow.Follow.{Follow}
 use Rattle.rx_session.specs.declared.follow.Follow.TheVariants.{Taken, Back}
-use Rattle.rx_session.specs.declared.input_end.InputEnd.{InputEnd}
-use Rattle.rx_session.specs.declared.input_end.InputEnd.TheVariants as inputs
+use Rattle.rx_lines.specs.declared.input_end.InputEnd.{InputEnd}
+use Rattle.rx_lines.specs.declared.input_end.InputEnd.TheVariants as inputs
 use Rattle.rx_session.specs.declared.session_end.SessionEnd.{SessionEnd}
 use Rattle.rx_session.specs.declared.session_end.SessionEnd.TheVariants as ends
 
@@ -51,12 +52,6 @@ abbrev pub end_of : InputEnd → SessionEnd
 end_of inputs.EndOfInput = ends.EndOfInput
 end_of inputs.ReadFault = ends.ReadFault
 end_of inputs.TooManyReads = ends.TooManyReads
-
--- an end of input is told where no byte is left
-abbrev pub IsLeft : InputEnd → Option (List ℕ) → Type 0
-IsLeft inputs.EndOfInput left = IsAtEnd left
-IsLeft inputs.ReadFault left = Unit {0}
-IsLeft inputs.TooManyReads left = Unit {0}
 
 module _ {D W : Type 0} where
   -- the place after a response, which is told

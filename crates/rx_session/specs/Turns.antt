@@ -12,12 +12,13 @@ use Rattle.rx_proto.specs.declared.response.Response.TheVariants.{Done, Refused}
 use Rattle.rx_proto.specs.declared.version.Version.{Version}
 use Rattle.rx_proto.specs.declared.word.Word.{Word}
 use Rattle.rx_proto.specs.declared.word.Word.TheVariants as words
-use Rattle.rx_session.specs.Bytes.{Holds}
-use Rattle.rx_session.specs.Lines.{TakesLine, TakesNoLine}
-use Rattle.rx_session.specs.Sessions.{Parties, Place, Outcome, Goes, Faults, Stops, IsLeft, end_of}
-use Rattle.rx_session.specs.Steps.{unread, GoesOn}
-use Rattle.rx_session.specs.declared.input_end.InputEnd.{InputEnd}
-use Rattle.rx_session.specs.declared.line_state.LineState.{LineState}
+use Rattle.rx_lines.specs.Bytes.{Holds}
+use Rattle.rx_lines.specs.Lines.{TakesLine, TakesNoLine}
+use Rattle.rx_session.specs.Sessions.{Parties, Place, Outcome, Goes, Faults, Stops, end_of}
+use Rattle.rx_lines.specs.Reads.{IsLeft}
+use Rattle.rx_lines.specs.Steps.{unread, GoesOn}
+use Rattle.rx_lines.specs.declared.input_end.InputEnd.{InputEnd}
+use Rattle.rx_lines.specs.declared.line_state.LineState.{LineState}
 use Rattle.rx_session.specs.declared.session_end.SessionEnd.TheVariants as ends
 use Rattle.rx_session.specs.declared.serving.Turned.{Turned}
 use Rattle.rx_session.specs.declared.serving.Turned.TheVariants.{On, Over}

@@ -2,19 +2,18 @@ ghost use Rattle.std.specs.Prelude.{◌≡◌, ◌<◌, ◌≤◌, ◌+◌, ◌*
 ghost use Rattle.rx_proto.specs.Grammar.{IsSpelled};
 ghost use Rattle.rx_proto.specs.Reading.{meaning_of, session_read};
 ghost use Rattle.rx_session.specs.Begun.{Asked, IsBehind};
-ghost use Rattle.rx_session.specs.Feeds.{IsLine, IsWhole};
+ghost use Rattle.rx_lines.specs.Feeds.{IsLine, IsWhole};
 ghost use Rattle.rx_session.specs.Gathering.{Answered, Begins, EmitsEach, IsBegun, StandsBehind};
 ghost use Rattle.rx_session.specs.OpenSessions.{Sends};
 ghost use Rattle.rx_session.specs.Sessions.{Place, parties};
-ghost use Rattle.rx_session.specs.Steps.{unread};
+ghost use Rattle.rx_lines.specs.Steps.{unread};
 ghost use Rattle.rx_session.specs.Turns.{IsAt, asked_by, hands};
 
-use crate::came::Came;
-use crate::feed::Feed;
 use crate::serving::{Turned, answer, carry_out};
 use crate::telling::end_of;
 use crate::texts::text_for;
-use crate::{Desk, Outbox, SessionEnd, Step, Turn};
+use crate::{Desk, SessionEnd, Turn};
+use rx_lines::{Came, Feed, Outbox, Step};
 use rx_note::{Item, Note};
 use rx_proto::{BadLine, Line, Name, Response, Version, Word, read_line_without_lf};
 use std::io::{Read, Write};

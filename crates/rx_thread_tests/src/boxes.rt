@@ -1,6 +1,6 @@
 //! Boxes between threads: what no clause says, and that calls succeed.
 
-ghost use Rattle.rx_pump.specs.Pumps.{IsFresh};
+ghost use Rattle.rx_mailbox.specs.PortRows.{IsFresh};
 ghost use Rattle.std.specs.Prelude.{◌≡◌, [], Ok, IfSome};
 ghost use Rattle.rx_mailbox.specs.declared.letter.Post.TheVariants.{Body, Bye};
 ghost use Rattle.rx_mailbox.specs.Boxes.{told, with_post, AreOf};

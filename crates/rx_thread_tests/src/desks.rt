@@ -4,8 +4,8 @@
 ghost use Rattle.std.specs.Prelude.{◌≡◌, ◌≤◌, ◌<◌, [], ◌∷◌, length, map, vec_len};
 ghost use Rattle.std.specs.List.{All};
 ghost use Rattle.rx_pump.specs.Desks.{KeepsDesk, fresh_desk};
-ghost use Rattle.rx_pump.specs.Pumps.{IsFresh};
-ghost use Rattle.rx_pump.specs.Sends.{with_bye};
+ghost use Rattle.rx_mailbox.specs.PortRows.{IsFresh};
+ghost use Rattle.rx_mailbox.specs.PortRows.{with_bye};
 ghost use Rattle.rx_pump.specs.Serving.{HasPumped};
 ghost use Rattle.rx_thread_tests.specs.Wiring.{IsOne, boxes_of};
 

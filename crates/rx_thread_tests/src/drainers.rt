@@ -4,7 +4,7 @@
 //! What a drainer did is told by the notes that its sink took, `|`, and what it sent its subject: `r` and `d` with the observer
 //! for a request of one item and for a disposal, `.` for the Bye. `!` alone is told where there was no memory for the drainer.
 
-ghost use Rattle.rx_pump.specs.Pumps.{IsFresh};
+ghost use Rattle.rx_mailbox.specs.PortRows.{IsFresh};
 ghost use Rattle.std.specs.Prelude.{◌≡◌, []};
 
 use crate::boxes::{copy, finish, first_of_two, send, two, unlimited};

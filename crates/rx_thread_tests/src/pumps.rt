@@ -4,7 +4,7 @@
 ghost use Rattle.std.specs.Prelude.{◌≡◌, ◌≤◌, [], vec_len, IfSome};
 ghost use Rattle.std.specs.List.{All};
 ghost use Rattle.rx_mailbox.specs.Boxes.{AreOf};
-ghost use Rattle.rx_pump.specs.Pumps.{IsFresh};
+ghost use Rattle.rx_mailbox.specs.PortRows.{IsFresh};
 ghost use Rattle.rx_pump.specs.Serving.{HasPumped};
 ghost use Rattle.rx_thread_tests.specs.Wiring.{IsOne};
 

@@ -1,6 +1,6 @@
 //! A box between two threads: each sends, and this one receives.
 
-ghost use Rattle.rx_pump.specs.Pumps.{IsFresh};
+ghost use Rattle.rx_mailbox.specs.PortRows.{IsFresh};
 ghost use Rattle.std.specs.Prelude.{◌≡◌, []};
 ghost use Rattle.rx_mailbox.specs.Letters.{share};
 ghost use Rattle.rx_mailbox.specs.Passes.{inbox_in};

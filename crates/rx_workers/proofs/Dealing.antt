@@ -8,7 +8,7 @@ use Rattle.rx_mailbox.specs.declared.letter.Post.TheVariants.{Body}
 use Rattle.rx_mailbox.specs.Letters.{letter}
 use Rattle.rx_mailbox.specs.Boxes.{Outgoing, with_post, with_more}
 use Rattle.rx_pump.specs.Marks.{to_port}
-use Rattle.rx_pump.specs.Sends.{Puts}
+use Rattle.rx_mailbox.specs.PortRows.{Puts}
 use Rattle.rx_pump.proofs.Putting.{Puts-at, Puts-none, Puts-same, Puts-then}
 use Rattle.rx_workers.specs.Accepting.{dealt, Deals, Accepts, AcceptsAll, AcceptsNext, HoldsNothing}
 use Rattle.rx_workers.specs.declared.accepting.AcceptStop.{AcceptStop}

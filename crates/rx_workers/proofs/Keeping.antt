@@ -11,12 +11,12 @@ use Rattle.rx_proto.specs.declared.response.Response.{Response}
 use Rattle.rx_proto.specs.declared.version.Version.{Version}
 use Rattle.rx_session.specs.OpenSessions.{IsOpen, Reaches, Sits}
 use Rattle.rx_session.specs.Sessions.{Parties, Place, Outcome, Emits, Lacks, Goes, Faults, Stops, RunsOut, Serves}
-use Rattle.rx_session.specs.Lines.{lines_of}
-use Rattle.rx_session.specs.Steps.{unread}
+use Rattle.rx_lines.specs.Lines.{lines_of}
+use Rattle.rx_lines.specs.Steps.{unread}
 use Rattle.rx_session.specs.Turns.{hands}
 use Rattle.rx_session.specs.declared.follow.Follow.{Follow}
 use Rattle.rx_session.specs.declared.follow.Follow.TheVariants.{Taken, Back}
-use Rattle.rx_session.specs.declared.input_end.InputEnd.{InputEnd}
+use Rattle.rx_lines.specs.declared.input_end.InputEnd.{InputEnd}
 use Rattle.rx_session.specs.declared.open_session.OpenSession.{OpenSession}
 use Rattle.rx_session.specs.declared.turn.Turn.{Turn}
 use Rattle.rx_session.specs.declared.turn.Turn.TheVariants.{Again, Waits, Stuck, Over}

@@ -13,8 +13,8 @@ use Rattle.rx_proto.specs.declared.response.Response.TheVariants.{Refused}
 use Rattle.rx_proto.specs.declared.word.Word.TheVariants as words
 use Rattle.rx_pump.specs.Desks.{Awaits, Called, DeskView, IsOver, IsPosted, IsSent, KeepsDesk, ReceivesReply, is_strange}
 use Rattle.rx_pump.specs.Pumps.{port_place}
-use Rattle.rx_pump.specs.declared.call_error.CallError.{CallError}
-use Rattle.rx_pump.specs.declared.call_error.CallError.TheVariants.{SubjectGone, Strange}
+use Rattle.rx_pump.specs.declared.call_desk.call_error.CallError.{CallError}
+use Rattle.rx_pump.specs.declared.call_desk.call_error.CallError.TheVariants.{SubjectGone, Strange}
 use Rattle.rx_pump.specs.declared.reply.Reply.{Reply}
 use Rattle.rx_session.specs.Begun.{Asked, IsBehind, asked}
 use Rattle.rx_sink.specs.declared.line_sink.LineSink.{LineSink}

@@ -13,7 +13,7 @@ use Rattle.rx_mailbox.specs.Settling.{GotAll}
 use Rattle.rx_mailbox.specs.declared.letter.Letter.{Letter}
 use Rattle.rx_mailbox.specs.declared.letter.Post.TheVariants.{Bye}
 use Rattle.rx_pump.specs.Desks.{DeskView, KeepsDesk}
-use Rattle.rx_pump.specs.Sends.{with_bye}
+use Rattle.rx_mailbox.specs.PortRows.{with_bye}
 use Rattle.rx_sink.specs.declared.line_sink.LineSink.{LineSink}
 use Rattle.rx_workers.specs.Accepting.{dealt, Deals, AcceptsAll}
 use Rattle.rx_workers.specs.Crews.{AreOut, IsPortOf, NamesLast, worker_desk, first_lost}

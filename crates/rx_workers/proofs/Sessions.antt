@@ -11,10 +11,10 @@ use Rattle.rx_proto.specs.declared.response.Response.TheVariants.{Refused}
 use Rattle.rx_proto.specs.declared.version.Version.{Version}
 use Rattle.rx_proto.specs.declared.word.Word.TheVariants as words
 use Rattle.rx_pump.specs.Desks.{DeskView, KeepsDesk}
-use Rattle.rx_session.specs.Feeds.{IsRest}
+use Rattle.rx_lines.specs.Feeds.{IsRest}
 use Rattle.rx_session.specs.OpenSessions.{IsOpen}
 use Rattle.rx_session.specs.Sessions.{Place}
-use Rattle.rx_session.specs.Steps.{unread}
+use Rattle.rx_lines.specs.Steps.{unread}
 use Rattle.rx_session.specs.Turns.{hands}
 use Rattle.rx_session.specs.declared.follow.Follow.{Follow}
 use Rattle.rx_session.specs.declared.follow.Follow.TheVariants.{Back}

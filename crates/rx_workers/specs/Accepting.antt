@@ -4,7 +4,7 @@
 use Rattle.std.specs.Prelude.{◌≡◌, ◌+◌, ◌<◌, ◌%◌, ℕ, List, [], ◌∷◌, ◌++◌, length, Result, Ok, Err}
 use Rattle.rx_mailbox.specs.Boxes.{Outgoing}
 use Rattle.rx_pump.specs.Marks.{to_port}
-use Rattle.rx_pump.specs.Sends.{Puts}
+use Rattle.rx_mailbox.specs.PortRows.{Puts}
 use Rattle.rx_workers.specs.declared.accepting.AcceptStop.{AcceptStop}
 use Rattle.rx_workers.specs.declared.accepting.AcceptStop.TheVariants.{NoConnection, WorkerGone}
 

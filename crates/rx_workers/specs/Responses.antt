@@ -6,8 +6,8 @@ use Rattle.rx_note.specs.declared.refusal.Refusal.{Refusal}
 use Rattle.rx_proto.specs.declared.response.Response.{Response}
 use Rattle.rx_proto.specs.declared.response.Response.TheVariants as responses
 use Rattle.rx_proto.specs.declared.word.Word.TheVariants as words
-use Rattle.rx_pump.specs.declared.call_error.CallError.{CallError}
-use Rattle.rx_pump.specs.declared.call_error.CallError.TheVariants.{SubjectGone, Strange}
+use Rattle.rx_pump.specs.declared.call_desk.call_error.CallError.{CallError}
+use Rattle.rx_pump.specs.declared.call_desk.call_error.CallError.TheVariants.{SubjectGone, Strange}
 use Rattle.rx_pump.specs.declared.reply.Reply.{Reply}
 use Rattle.rx_session.specs.Responses.{response_to}
 

@@ -18,7 +18,7 @@ use Rattle.rx_mailbox.specs.declared.letter.Post.TheVariants.{Bye}
 use Rattle.rx_mailbox.specs.Boxes.{Outgoing, capacity_of, incoming, outgoing}
 use Rattle.rx_mailbox.specs.Letters.{letter, posts}
 use Rattle.rx_pump.specs.Desks.{DeskView}
-use Rattle.rx_pump.specs.Sends.{with_bye}
+use Rattle.rx_mailbox.specs.PortRows.{with_bye}
 use Rattle.rx_sink.specs.declared.line_sink.LineSink.{LineSink}
 use Rattle.rx_workers.specs.Accepting.{Accepts, AcceptsAll, dealt}
 use Rattle.rx_workers.specs.Crews.{NamesLast, SettlesWith}

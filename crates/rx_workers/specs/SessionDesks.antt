@@ -23,8 +23,8 @@ use Rattle.rx_proto.specs.declared.response.Response.TheVariants.{Refused}
 use Rattle.rx_proto.specs.declared.version.Version.{Version}
 use Rattle.rx_proto.specs.declared.word.Word.TheVariants as words
 use Rattle.rx_pump.specs.Desks.{DeskView, Called, IsOver, KeepsDesk}
-use Rattle.rx_pump.specs.declared.call_error.CallError.{CallError}
-use Rattle.rx_pump.specs.declared.call_error.CallError.TheVariants.{SubjectGone}
+use Rattle.rx_pump.specs.declared.call_desk.call_error.CallError.{CallError}
+use Rattle.rx_pump.specs.declared.call_desk.call_error.CallError.TheVariants.{SubjectGone}
 use Rattle.rx_pump.specs.declared.reply.Reply.{Reply}
 use Rattle.rx_session.specs.declared.follow.Follow.{Follow}
 use Rattle.rx_session.specs.declared.follow.Follow.TheVariants.{Taken, Back}

@@ -24,7 +24,7 @@ use Rattle.rx_pump.specs.Pumps.{counted}
 use Rattle.rx_session.specs.Among.{among}
 use Rattle.rx_session.specs.OpenSessions.{IsNew, Sitting, Sits}
 use Rattle.rx_session.specs.Sessions.{Parties, Place, Session, parties}
-use Rattle.rx_session.specs.declared.input_end.InputEnd.{InputEnd}
+use Rattle.rx_lines.specs.declared.input_end.InputEnd.{InputEnd}
 use Rattle.rx_session.specs.declared.open_session.OpenSession.{OpenSession}
 use Rattle.rx_session.specs.declared.session_end.SessionEnd.{SessionEnd}
 use Rattle.rx_session.specs.declared.session_end.SessionEnd.TheVariants as ends

@@ -1,6 +1,6 @@
 //! Work that a thread of its own does to its end.
 ghost use Rattle.std.specs.Prelude.{◌≡◌, IfSome, MatchResult};
-ghost use Rattle.rx_pump.specs.Sends.{with_bye};
+ghost use Rattle.rx_mailbox.specs.PortRows.{with_bye};
 
 use rx_mailbox::{EndedPort, Port};
 use std::sync::Wait;

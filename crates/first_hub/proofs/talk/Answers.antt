@@ -1,6 +1,6 @@
 use Rattle.std.proofs.Common.{◌∙◌, [], ◌∷◌, ◌++◌, ap, subst, sym, List, Result, IfOk, of_calls}
 use Rattle.std.proofs.lemmas.List.Elements.{All-nil, All-push, All-same}
-use Rattle.rx_pump.specs.declared.ended_desk.EndedDesk.{EndedDesk}
+use Rattle.rx_pump.specs.declared.call_desk.ended_desk.EndedDesk.{EndedDesk}
 use Rattle.rx_pump.specs.Desks.{DeskView}
 use Rattle.rx_server.specs.Servers.{IsDeskOf, IsEndOf}
 use Rattle.first_hub.specs.declared.shelf.Shelf.{Shelf}

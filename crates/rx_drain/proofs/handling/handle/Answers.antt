@@ -1,7 +1,7 @@
 use Rattle.std.proofs.Common.{◌≡◌, ◌==◌, false, refl, length, length-append, map, ◌++◌, None, eq-eqb, arith}
 use Rattle.std.proofs.lemmas.Bool.{ne_eqb}
 use Rattle.rx_mailbox.specs.Boxes.{all_told}
-use Rattle.rx_pump.proofs.Told.{told-length}
+use Rattle.rx_mailbox.proofs.Told.{told-length}
 use Rattle.rx_sink.specs.KeptSinks.{events_of}
 use Rattle.rx_drain.proofs.Standing.{same_sent, of_sent, stands_served, stands_idle_left, stands_idle_leave, handles_body, handles_next}
 use Rattle.rx_drain.specs.Drainers.{view_of}

@@ -5,7 +5,7 @@ use Rattle.rx_drain.specs.declared.drain_fault.DrainFault.{DrainFault}
 use Rattle.rx_drain.specs.declared.drainer_left.DrainerLeft.{DrainerLeft}
 use Rattle.rx_drain.specs.declared.drainer_parts.DrainerParts.{DrainerParts}
 use Rattle.rx_drain.specs.Drainers.{Fits, Goes, TakesMore, view_of}
-use Rattle.rx_pump.proofs.Told.{told-count, told-nil}
+use Rattle.rx_mailbox.proofs.Told.{told-count, told-nil}
 use Rattle.rx_drain.proofs.Ending.{goes_further, goes_letter, goes_nowhere, takes_none, takes_then}
 use Rattle.rx_drain.proofs.handling.handle_more.Goals as goal
 

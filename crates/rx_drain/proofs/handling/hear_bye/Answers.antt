@@ -8,7 +8,7 @@ use Rattle.rx_sink.specs.Attachments.{Fine}
 use Rattle.rx_drain.specs.declared.drainer_left.DrainerLeft.{DrainerLeft}
 use Rattle.rx_drain.specs.Drainers.{HandlesLetter, view_of}
 use Rattle.rx_mailbox.specs.Boxes.{all_told}
-use Rattle.rx_pump.proofs.Told.{told-length}
+use Rattle.rx_mailbox.proofs.Told.{told-length}
 use Rattle.rx_drain.proofs.Clearing.{handles_cut, handles_flushed}
 use Rattle.rx_drain.proofs.Standing.{stands_idle_left, stands_idle_bye, handles_next}
 use Rattle.rx_drain.proofs.handling.hear_bye.Goals as goal

@@ -1,9 +1,9 @@
 use Rattle.std.proofs.Common.{◌≡◌, ◌≤◌, ◌+◌, ◌∙◌, sym, refl, ap, subst, ℕ, List, [], ◌++◌, length, length-append, map, true, is_some, vec_len, arith}
 use Rattle.std.proofs.lemmas.List.{length-map}
 use Rattle.rx_mailbox.specs.Boxes.{Outgoing, all_told}
-use Rattle.rx_pump.specs.Sends.{with_bye, EndsSome}
+use Rattle.rx_mailbox.specs.PortRows.{with_bye, EndsSome}
 use Rattle.rx_pump.proofs.Pumping.{AreSame-length}
-use Rattle.rx_pump.proofs.Told.{told-length}
+use Rattle.rx_mailbox.proofs.Told.{told-length}
 use Rattle.rx_sink.specs.declared.kept.Kept.{Kept}
 use Rattle.rx_sink.specs.KeptSinks.{addressed}
 use Rattle.rx_sink.specs.Rests.{HasRoomFor, RestsView}

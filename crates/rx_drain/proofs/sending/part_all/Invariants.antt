@@ -1,6 +1,6 @@
 use Rattle.std.proofs.Common.{take}
 use Rattle.rx_mailbox.specs.Boxes.{all_told}
-use Rattle.rx_pump.specs.Sends.{Puts}
+use Rattle.rx_mailbox.specs.PortRows.{Puts}
 use Rattle.rx_drain.specs.Calls.{calls_to, partings_of}
 use Rattle.rx_drain.proofs.sending.part_all.Given as goal
 

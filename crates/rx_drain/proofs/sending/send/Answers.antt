@@ -1,6 +1,6 @@
 use Rattle.std.proofs.Common.{arith}
 use Rattle.rx_mailbox.specs.Boxes.{all_told}
-use Rattle.rx_pump.proofs.Told.{told-length}
+use Rattle.rx_mailbox.proofs.Told.{told-length}
 use Rattle.rx_drain.proofs.Events.{SendsEvents-one, SendsEvents-no_port, SendsEvents-back}
 use Rattle.rx_drain.proofs.sending.send.Goals as goal
 

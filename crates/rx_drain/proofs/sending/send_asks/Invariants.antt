@@ -1,5 +1,5 @@
 use Rattle.rx_mailbox.specs.Boxes.{all_told}
-use Rattle.rx_pump.specs.Sends.{Puts}
+use Rattle.rx_mailbox.specs.PortRows.{Puts}
 use Rattle.rx_drain.specs.Calls.{calls_to}
 use Rattle.rx_drain.proofs.Events.{requested}
 use Rattle.rx_drain.proofs.sending.send_asks.Given as goal

@@ -1,7 +1,7 @@
 use Rattle.std.proofs.Common.{◌≡◌, [], map}
 use Rattle.std.specs.List.{range_with_len}
 use Rattle.crossbeam_channel.specs.Claims.{view}
-use Rattle.rx_mailbox.specs.declared.rule.View.TheVariants.{Receives}
+use Rattle.rx_mailbox.specs.declared.channel.rule.View.TheVariants.{Receives}
 use Rattle.rx_mailbox.specs.Boxes.{capacity_of, outgoing}
 use Rattle.rx_mailbox.specs.Passes.{box_of, IsTally}
 use Rattle.rx_mailbox.proofs.opening.make.Given as goal

@@ -1,7 +1,7 @@
 use Rattle.std.proofs.Common.{◌≡◌, None}
 use Rattle.rx_script.specs.Audits.{state_in}
-use Rattle.rx_session.specs.Reads.{ahead}
-use Rattle.rx_session.specs.Steps.{unread}
+use Rattle.rx_lines.specs.Reads.{ahead}
+use Rattle.rx_lines.specs.Steps.{unread}
 use Rattle.rx_script.proofs.Audited.{LearnsSoFar}
 use Rattle.rx_script.proofs.audit.enter_all.Given as goal
 

@@ -2,9 +2,9 @@ use Rattle.std.proofs.Common.{◌<◌, ℕ, List, length, ap, sym, ◌∙◌, re
 use Rattle.std.proofs.lemmas.Result.{IfOk-weaker}
 use Rattle.rx_script.specs.Audits.{state_in}
 use Rattle.rx_proto.specs.declared.line_error.BadLine.TheVariants as bad
-use Rattle.rx_session.specs.declared.step.Step.TheVariants.{Line, Long}
+use Rattle.rx_lines.specs.declared.step.Step.TheVariants.{Line, Long}
 use Rattle.rx_proto.specs.Reading.{script_read}
-use Rattle.rx_session.specs.Steps.{IsTold}
+use Rattle.rx_lines.specs.Steps.{IsTold}
 use Rattle.rx_script.proofs.Audited.{follows}
 use Rattle.rx_script.proofs.Turning.{goes_by, script_read-long}
 use Rattle.rx_script.proofs.audit.enter_next.Goals as goal

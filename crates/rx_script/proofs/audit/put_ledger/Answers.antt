@@ -3,10 +3,10 @@ use Rattle.rx_history.specs.Histories.{joins}
 use Rattle.rx_history.proofs.Entries.{signals_none}
 use Rattle.rx_script.specs.Audits.{Observes, subject_in, observers_written}
 use Rattle.rx_proto.specs.Bytes.{AppendsPrefix}
-use Rattle.rx_session.specs.Bytes.{Holds, Loses}
+use Rattle.rx_lines.specs.Bytes.{Holds, Loses}
 use Rattle.rx_script.specs.declared.observed.Observed.{Observed}
 use Rattle.rx_script.proofs.Ledgers.{joins_within, made, observers_front, observers-all, observers-lost, observers-next}
-use Rattle.rx_session.proofs.Written.{Holds-then, Loses-then, Prefix-cut}
+use Rattle.rx_lines.proofs.Written.{Holds-then, Loses-then, Prefix-cut}
 use Rattle.std.proofs.lemmas.Result.{MatchResult-from_err}
 use Rattle.rx_script.proofs.audit.put_ledger.Goals as goal
 

@@ -4,7 +4,7 @@ use Rattle.rx_script.specs.Audits.{note_lines}
 use Rattle.rx_proto.specs.Printing.{note_line}
 use Rattle.rx_proto.specs.declared.version.Version.TheVariants.{One}
 use Rattle.rx_script.proofs.Pieces.{flat_map-next, flat_map-parts}
-use Rattle.rx_session.proofs.Written.{Holds-then, Loses-then, Loses-more, Puts-as, Puts-fault}
+use Rattle.rx_lines.proofs.Written.{Holds-then, Loses-then, Loses-more, Puts-as, Puts-fault}
 use Rattle.rx_script.proofs.audit.put_notes.Goals as goal
 
 pub returns-in_err-put_marked : goal.returns-in_err-put_marked

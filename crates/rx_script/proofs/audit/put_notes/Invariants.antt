@@ -1,6 +1,6 @@
 use Rattle.std.proofs.Common.{take}
 use Rattle.rx_script.specs.Audits.{note_lines}
-use Rattle.rx_session.specs.Bytes.{Holds}
+use Rattle.rx_lines.specs.Bytes.{Holds}
 use Rattle.rx_script.proofs.audit.put_notes.Given as goal
 
 abbrev pub invariant-loop-note : goal.invariant-loop-note

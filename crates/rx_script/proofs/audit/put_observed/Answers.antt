@@ -1,4 +1,4 @@
-use Rattle.rx_session.proofs.Written.{Loses-more, Loses-then, Puts-fault, Puts-then}
+use Rattle.rx_lines.proofs.Written.{Loses-more, Loses-then, Puts-fault, Puts-then}
 use Rattle.rx_script.proofs.audit.put_observed.Goals as goal
 
 pub returns-in_err-put_observer : goal.returns-in_err-put_observer

@@ -4,12 +4,12 @@ use Rattle.std.proofs.lemmas.List.Folds.{flat_map-map}
 use Rattle.std.specs.List.{flat_map}
 use Rattle.rx_script.specs.Audits.{subject_in, subject_written}
 use Rattle.rx_proto.specs.Bytes.{AppendsPrefix}
-use Rattle.rx_session.specs.Bytes.{Holds, Loses, Puts}
+use Rattle.rx_lines.specs.Bytes.{Holds, Loses, Puts}
 use Rattle.rx_script.specs.declared.ledger.Ledger.{Ledger}
 use Rattle.rx_proto.specs.declared.writing.WriteFault.{WriteFault}
 use Rattle.rx_script.proofs.Audited.{Writes-held}
 use Rattle.rx_script.proofs.Pieces.{flat_map-next, flat_map-parts}
-use Rattle.rx_session.proofs.Written.{Holds-then, Loses-more, Loses-then}
+use Rattle.rx_lines.proofs.Written.{Holds-then, Loses-more, Loses-then}
 use Rattle.std.proofs.lemmas.Result.{MatchResult-from_err}
 use Rattle.rx_script.proofs.audit.write_audit.Goals as goal
 

@@ -1,7 +1,7 @@
 use Rattle.std.proofs.Common.{take, []}
 use Rattle.std.specs.List.{flat_map}
 use Rattle.rx_script.specs.Audits.{subject_in, subject_written}
-use Rattle.rx_session.specs.Bytes.{Holds}
+use Rattle.rx_lines.specs.Bytes.{Holds}
 use Rattle.rx_script.proofs.audit.write_audit.Given as goal
 
 abbrev pub invariant-loop-ledger : goal.invariant-loop-ledger

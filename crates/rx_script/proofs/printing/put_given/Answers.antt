@@ -1,7 +1,7 @@
 use Rattle.std.proofs.Common.{List, [], ◌∷◌, ◌++◌, ℕ, ap, ◌∙◌}
 use Rattle.std.specs.Fmt.{decimal}
 use Rattle.rx_proto.specs.Printing.{note_line}
-use Rattle.rx_session.proofs.Written.{Holds-pushed}
+use Rattle.rx_lines.proofs.Written.{Holds-pushed}
 use Rattle.rx_script.proofs.Pushing.{Puts-refused, pushed-five}
 use Rattle.rx_script.proofs.printing.put_given.Goals as goal
 

@@ -1,4 +1,4 @@
-use Rattle.rx_session.proofs.Written.{Holds-pushed}
+use Rattle.rx_lines.proofs.Written.{Holds-pushed}
 use Rattle.rx_script.proofs.Pushing.{Puts-refused, pushed-on}
 use Rattle.rx_script.proofs.printing.put_marked.Goals as goal
 

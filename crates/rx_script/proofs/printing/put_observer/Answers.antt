@@ -1,6 +1,6 @@
 use Rattle.std.proofs.Common.{List, [], ◌∷◌, ◌++◌, ℕ, ap, ◌∙◌, codes}
 use Rattle.std.specs.Fmt.{decimal}
-use Rattle.rx_session.proofs.Written.{Holds-pushed}
+use Rattle.rx_lines.proofs.Written.{Holds-pushed}
 use Rattle.rx_script.proofs.Pushing.{Puts-refused, pushed-five}
 use Rattle.rx_script.proofs.printing.put_observer.Goals as goal
 

@@ -1,4 +1,4 @@
-use Rattle.rx_session.proofs.Written.{Loses-more, Puts-fault, Puts-then}
+use Rattle.rx_lines.proofs.Written.{Loses-more, Puts-fault, Puts-then}
 use Rattle.rx_script.proofs.script.put_answer.Goals as goal
 
 pub returns-in_err-put_reply : goal.returns-in_err-put_reply

@@ -1,7 +1,7 @@
 use Rattle.std.proofs.Common.{◌<◌, length, ap, ◌∙◌, arith}
 use Rattle.rx_script.specs.Transcripts.{given_lines}
 use Rattle.rx_script.proofs.Tellings.{given_lines-more, given_lines-parts}
-use Rattle.rx_session.proofs.Written.{Holds-then, Loses-then, Loses-more, Puts-as, Puts-fault}
+use Rattle.rx_lines.proofs.Written.{Holds-then, Loses-then, Loses-more, Puts-as, Puts-fault}
 use Rattle.rx_script.proofs.script.put_each.Goals as goal
 
 pub returns-in_err-put_given : goal.returns-in_err-put_given

@@ -1,5 +1,5 @@
 use Rattle.std.proofs.Common.{take}
-use Rattle.rx_session.specs.Bytes.{Holds}
+use Rattle.rx_lines.specs.Bytes.{Holds}
 use Rattle.rx_script.specs.Transcripts.{given_lines}
 use Rattle.rx_script.proofs.script.put_each.Given as goal
 

@@ -1,7 +1,7 @@
 use Rattle.std.proofs.Common.{◌≡◌, None}
-use Rattle.rx_session.specs.Reads.{ahead}
+use Rattle.rx_lines.specs.Reads.{ahead}
 use Rattle.rx_script.specs.Scripts.{new_subjects}
-use Rattle.rx_session.specs.Steps.{unread}
+use Rattle.rx_lines.specs.Steps.{unread}
 use Rattle.rx_script.proofs.SoFar.{SoFar}
 use Rattle.rx_script.proofs.script.run_script.Given as goal
 

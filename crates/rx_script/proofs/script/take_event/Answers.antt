@@ -2,7 +2,7 @@ use Rattle.std.proofs.Common.{ap, subst, List, ◌∙◌}
 use Rattle.rx_note.specs.declared.given.Given.{Given}
 use Rattle.rx_hub.specs.Hubs.{HubView, Steps}
 use Rattle.rx_script.proofs.Tellings.{told}
-use Rattle.rx_session.proofs.Written.{Puts-as}
+use Rattle.rx_lines.proofs.Written.{Puts-as}
 use Rattle.rx_script.proofs.script.take_event.Goals as goal
 
 pub returns-clause-took : goal.returns-clause-took

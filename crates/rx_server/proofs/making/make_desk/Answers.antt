@@ -1,5 +1,5 @@
 use Rattle.std.proofs.lemmas.List.Elements.{All-same}
-use Rattle.rx_pump.specs.Pumps.{IsFresh}
+use Rattle.rx_mailbox.specs.PortRows.{IsFresh}
 use Rattle.rx_server.proofs.Rows.{ports-fresh}
 use Rattle.rx_server.proofs.making.make_desk.Goals as goal
 

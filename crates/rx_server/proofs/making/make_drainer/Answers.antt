@@ -1,7 +1,7 @@
 use Rattle.std.proofs.Common.{◌≡◌, ◌∙◌, ap, length, arith}
 use Rattle.std.proofs.lemmas.List.{length-map}
 use Rattle.std.proofs.lemmas.List.Elements.{All-same}
-use Rattle.rx_pump.specs.Pumps.{IsFresh}
+use Rattle.rx_mailbox.specs.PortRows.{IsFresh}
 use Rattle.rx_server.specs.Wirings.{next_port}
 use Rattle.rx_server.proofs.Rows.{ports-fresh}
 use Rattle.rx_server.proofs.making.make_drainer.Goals as goal

@@ -3,10 +3,10 @@ use Rattle.std.proofs.lemmas.Fn.{FoldsTo-push}
 use Rattle.std.proofs.lemmas.List.{map_push}
 use Rattle.std.specs.List.{All}
 use Rattle.std.specs.Vec.Iter.{into_iter_items}
-use Rattle.rx_pump.specs.declared.ended_desk.EndedDesk.{EndedDesk}
-use Rattle.rx_settling.specs.Parts.{HasRoom, LacksInbox, dealt, dealt_each, missing, placed}
-use Rattle.rx_settling.proofs.Gathered.{dealt_each-count, dealt_each-more}
-use Rattle.rx_settling.proofs.Room.{dealt-room, not-full, placed-missing}
+use Rattle.rx_pump.specs.declared.call_desk.ended_desk.EndedDesk.{EndedDesk}
+use Rattle.rx_mailbox.specs.Parts.{HasRoom, LacksInbox, dealt, dealt_each, missing, placed}
+use Rattle.rx_mailbox.proofs.Gathered.{dealt_each-count, dealt_each-more}
+use Rattle.rx_mailbox.proofs.Room.{dealt-room, not-full, placed-missing}
 use Rattle.rx_server.specs.Returning.{ReturnsInbox, number_of}
 use Rattle.rx_server.proofs.Returning.{All-here, returns-count}
 use Rattle.rx_server.proofs.returned.return_desks.Goals as goal

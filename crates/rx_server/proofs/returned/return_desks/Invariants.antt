@@ -1,7 +1,7 @@
 use Rattle.std.proofs.Common.{◌≡◌, ◌++◌, map}
 use Rattle.std.specs.List.{All, FoldsTo}
 use Rattle.std.specs.Vec.Iter.{into_iter_items}
-use Rattle.rx_settling.specs.Parts.{HasRoom, dealt_each, missing}
+use Rattle.rx_mailbox.specs.Parts.{HasRoom, dealt_each, missing}
 use Rattle.rx_server.specs.Returning.{ReturnsInbox}
 use Rattle.rx_server.proofs.returned.return_desks.Given as goal
 

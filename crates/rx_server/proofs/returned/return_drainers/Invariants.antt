@@ -2,7 +2,7 @@ use Rattle.std.proofs.Common.{◌≡◌, ◌++◌, ◌+◌, ◌≤◌, length, m
 use Rattle.std.specs.List.{All, sum_by}
 use Rattle.std.specs.Vec.Iter.{into_iter_items}
 use Rattle.rx_pump.specs.Pumps.{counted}
-use Rattle.rx_settling.specs.Parts.{HasRoom, dealt_each, with_inboxes}
+use Rattle.rx_mailbox.specs.Parts.{HasRoom, dealt_each, with_inboxes}
 use Rattle.rx_server.proofs.returned.return_drainers.Given as goal
 
 -- what the first drainers left came back, is counted and listed, and there is room for the others

@@ -3,10 +3,10 @@ use Rattle.std.proofs.lemmas.List.{length-map, map_push}
 use Rattle.std.specs.List.{All}
 use Rattle.std.specs.Vec.Iter.{into_iter_items}
 use Rattle.rx_mailbox.specs.Boxes.{Incoming}
-use Rattle.rx_pump.specs.declared.pump_end.PumpEnd.{PumpEnd}
-use Rattle.rx_settling.specs.Parts.{HasRoom, LacksInbox, dealt, dealt_each, with_inboxes, placed}
-use Rattle.rx_settling.proofs.Gathered.{dealt_each-count, dealt_each-more, with_inboxes-count, with_inboxes-more}
-use Rattle.rx_settling.proofs.Room.{dealt-room, with_inboxes-lacks, not-full}
+use Rattle.rx_pump.specs.declared.pump.pump_end.PumpEnd.{PumpEnd}
+use Rattle.rx_mailbox.specs.Parts.{HasRoom, LacksInbox, dealt, dealt_each, with_inboxes, placed}
+use Rattle.rx_mailbox.proofs.Gathered.{dealt_each-count, dealt_each-more, with_inboxes-count, with_inboxes-more}
+use Rattle.rx_mailbox.proofs.Room.{dealt-room, with_inboxes-lacks, not-full}
 use Rattle.rx_server.specs.declared.report.SubjectReport.{SubjectReport}
 use Rattle.rx_server.specs.Servers.{report_of}
 use Rattle.rx_server.proofs.Returning.{All-here}

@@ -1,7 +1,7 @@
 use Rattle.std.proofs.Common.{◌≡◌, ◌++◌, ◌+◌, ◌≤◌, length, map, vec_len, vec_capacity}
 use Rattle.std.specs.List.{All}
 use Rattle.std.specs.Vec.Iter.{into_iter_items}
-use Rattle.rx_settling.specs.Parts.{HasRoom, dealt_each, with_inboxes}
+use Rattle.rx_mailbox.specs.Parts.{HasRoom, dealt_each, with_inboxes}
 use Rattle.rx_server.specs.Servers.{report_of}
 use Rattle.rx_server.proofs.returned.return_pumps.Given as goal
 

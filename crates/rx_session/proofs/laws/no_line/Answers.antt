@@ -1,4 +1,4 @@
-use Rattle.rx_session.proofs.LinesOf.{lines_of-none}
+use Rattle.rx_lines.proofs.LinesOf.{lines_of-none}
 use Rattle.rx_session.proofs.laws.no_line.Goals as goal
 
 pub returns : goal.returns

@@ -1,5 +1,5 @@
 use Rattle.std.proofs.Common.{refl, inr}
-use Rattle.rx_session.proofs.Written.{Prefix-put}
+use Rattle.rx_lines.proofs.Written.{Prefix-put}
 use Rattle.rx_session.proofs.serving.quit.Goals as goal
 
 pub returns-in-Err-flush : goal.returns-in-Err-flush

@@ -1,8 +1,8 @@
 use Rattle.std.proofs.Common.{◌≡◌, [], None}
 use Rattle.rx_proto.specs.declared.version.Version.TheVariants.{One}
-use Rattle.rx_session.specs.Reads.{ahead}
+use Rattle.rx_lines.specs.Reads.{ahead}
 use Rattle.rx_session.specs.Sessions.{parties}
-use Rattle.rx_session.specs.Steps.{unread}
+use Rattle.rx_lines.specs.Steps.{unread}
 use Rattle.rx_session.specs.Turns.{hands}
 use Rattle.rx_session.proofs.SoFar.{SoFar}
 use Rattle.rx_session.proofs.serving.serve.Given as goal

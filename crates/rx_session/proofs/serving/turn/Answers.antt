@@ -5,12 +5,12 @@ use Rattle.rx_proto.specs.declared.line_error.BadLine.TheVariants as bad
 use Rattle.rx_proto.specs.declared.command.Command.{Command}
 use Rattle.rx_proto.specs.declared.line_error.BadLine.{BadLine}
 use Rattle.rx_session.specs.Sessions.{Place, parties}
-use Rattle.rx_session.specs.Steps.{IsTold}
+use Rattle.rx_lines.specs.Steps.{IsTold}
 use Rattle.rx_session.specs.Turns.{Carries}
-use Rattle.rx_session.specs.declared.input_end.InputEnd.TheVariants as inputs
-use Rattle.rx_session.specs.declared.step.Step.TheVariants.{Line, Long, EndOfInput, ReadFault, TooManyReads}
+use Rattle.rx_lines.specs.declared.input_end.InputEnd.TheVariants as inputs
+use Rattle.rx_lines.specs.declared.step.Step.TheVariants.{Line, Long, EndOfInput, ReadFault, TooManyReads}
 use Rattle.rx_session.proofs.Answering.{asked_by-read, long_read, refused, spelled, steps_by, taken}
-use Rattle.rx_session.proofs.Stepping.{told-is_line}
+use Rattle.rx_lines.proofs.Stepping.{told-is_line}
 use Rattle.rx_session.proofs.serving.turn.Goals as goal
 
 pub read_line_without_lf-read-requires-clause-within : goal.read_line_without_lf-read-requires-clause-within

@@ -6,9 +6,9 @@ use Rattle.std.specs.Result.{is_ok}
 use Rattle.std.proofs.lemmas.List.Elements.{All-cons, All-head, All-nil}
 use Rattle.rx_mailbox.specs.Boxes.{Incoming, Outgoing, HasBye, HasEachBye}
 use Rattle.rx_mailbox.specs.Settling.{GotAll, IsCause, IsEachOnce}
-use Rattle.rx_mailbox.specs.declared.settle_cause.SettleCause.{SettleCause}
-use Rattle.rx_mailbox.specs.declared.settle_cause.SettleCause.TheVariants.{Stranger, MissingBye}
-use Rattle.rx_mailbox.specs.declared.unsettled.Unsettled.{Unsettled}
+use Rattle.rx_mailbox.specs.declared.settlement.settle_cause.SettleCause.{SettleCause}
+use Rattle.rx_mailbox.specs.declared.settlement.settle_cause.SettleCause.TheVariants.{Stranger, MissingBye}
+use Rattle.rx_mailbox.specs.declared.settlement.unsettled.Unsettled.{Unsettled}
 use Rattle.rx_workers.specs.Crews.{SettlesWith}
 use Rattle.rx_workers.proofs.hired.has_settled.Goals as goal
 

@@ -3,7 +3,7 @@ use Rattle.rx_drain.specs.declared.drain_end.DrainEnd.{DrainEnd}
 use Rattle.rx_mailbox.specs.Boxes.{all_told, HasEachBye}
 use Rattle.rx_drain.specs.Drainers.{DrainerView, view_of}
 use Rattle.rx_drain.specs.Serving.{HasDrained}
-use Rattle.rx_pump.proofs.Told.{told-length}
+use Rattle.rx_mailbox.proofs.Told.{told-length}
 use Rattle.rx_drain.proofs.Ending.{told_to_leave, served_end}
 use Rattle.rx_drain.proofs.drainer.Drainer.end.Goals as goal
 

@@ -1,8 +1,8 @@
 use Rattle.std.proofs.Common.{◌≡◌, sym, refl, subst, List, [], ◌++◌, arith, rules}
 use Rattle.std.specs.List.{All}
 use Rattle.rx_mailbox.specs.Boxes.{Outgoing, all_told}
-use Rattle.rx_pump.specs.Pumps.{IsFresh}
-use Rattle.rx_pump.proofs.Told.{told-fresh}
+use Rattle.rx_mailbox.specs.PortRows.{IsFresh}
+use Rattle.rx_mailbox.proofs.Told.{told-fresh}
 use Rattle.rx_drain.proofs.Ending.{drained_fresh}
 use Rattle.rx_drain.proofs.drainer.Drainer.new.Goals as goal
 

@@ -1,7 +1,7 @@
 use Rattle.std.proofs.Common.{◌+◌, refl, subst, arith}
 use Rattle.rx_mailbox.specs.Boxes.{all_told}
 use Rattle.rx_pump.specs.Desks.{DeskView, KeepsDesk}
-use Rattle.rx_pump.proofs.Told.{told-length}
+use Rattle.rx_mailbox.proofs.Told.{told-length}
 use Rattle.rx_pump.proofs.Desking.{AreUpTo-sent, TicketsRise-sent, KeepsDesk-call}
 use Rattle.rx_pump.proofs.call_desk.CallDesk.call.Goals as goal
 

@@ -1,7 +1,7 @@
 use Rattle.std.proofs.Common.{◌≡◌, ◌+◌, ap, length, length-append, arith}
 use Rattle.std.proofs.lemmas.List.{length-map}
 use Rattle.rx_mailbox.specs.Boxes.{all_told}
-use Rattle.rx_pump.proofs.Told.{told-length}
+use Rattle.rx_mailbox.proofs.Told.{told-length}
 use Rattle.rx_pump.proofs.Desking.{AreUpTo-left, TicketsRise-left, TicketsRise-all, TicketsRise-ended}
 use Rattle.rx_pump.proofs.call_desk.CallDesk.finish.Goals as goal
 

@@ -3,7 +3,7 @@ use Rattle.std.proofs.lemmas.List.Elements.{All-nil}
 use Rattle.rx_mailbox.specs.Boxes.{Outgoing}
 use Rattle.rx_pump.specs.Desks.{AreUpTo, Rise, TicketsRise, tickets_in}
 use Rattle.rx_pump.proofs.Desking.{AreUpTo-fresh, TicketsRise-fresh}
-use Rattle.rx_pump.proofs.Told.{told-fresh}
+use Rattle.rx_mailbox.proofs.Told.{told-fresh}
 use Rattle.rx_pump.proofs.call_desk.CallDesk.new.Goals as goal
 
 pub invariant_of-result : goal.invariant_of-result

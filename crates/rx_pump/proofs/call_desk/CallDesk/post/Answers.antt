@@ -1,7 +1,7 @@
 use Rattle.std.proofs.Common.{◌+◌, refl, sym, subst, arith}
 use Rattle.rx_mailbox.specs.Boxes.{all_told}
 use Rattle.rx_pump.specs.Desks.{AreUpTo, TicketsRise, DeskView, KeepsDesk}
-use Rattle.rx_pump.proofs.Told.{told-length, told-count}
+use Rattle.rx_mailbox.proofs.Told.{told-length, told-count}
 use Rattle.rx_pump.proofs.Desking.{AreUpTo-sent, TicketsRise-sent, KeepsDesk-sent}
 use Rattle.rx_pump.proofs.call_desk.CallDesk.post.Goals as goal
 

@@ -1,10 +1,10 @@
 use Rattle.std.proofs.Common.{◌∙◌, refl, sym, ap, subst, ◌++◌, map, arith}
 use Rattle.rx_mailbox.specs.Boxes.{all_told, HasEachBye}
-use Rattle.rx_pump.specs.declared.pump_end.PumpEnd.{PumpEnd}
-use Rattle.rx_pump.specs.declared.pump_fault.PumpFault.TheVariants.{DrainerGone, CallerGone}
-use Rattle.rx_pump.specs.declared.pump_stop.PumpStop.{PumpStop}
+use Rattle.rx_pump.specs.declared.pump.pump_end.PumpEnd.{PumpEnd}
+use Rattle.rx_pump.specs.declared.pump.pump_fault.PumpFault.TheVariants.{DrainerGone, CallerGone}
+use Rattle.rx_pump.specs.declared.pump.pump_stop.PumpStop.{PumpStop}
 use Rattle.rx_pump.specs.Pumps.{PumpView, pump_with}
-use Rattle.rx_pump.specs.Sends.{with_bye}
+use Rattle.rx_mailbox.specs.PortRows.{with_bye}
 use Rattle.rx_pump.specs.Serving.{HasPumped, PumpHasStopped}
 use Rattle.rx_pump.proofs.Leaving.{EndsSome-first, PumpHasStopped-drainers, PumpHasStopped-replies, HasPumped-all}
 use Rattle.rx_pump.proofs.pump.Pump.finish.Goals as goal

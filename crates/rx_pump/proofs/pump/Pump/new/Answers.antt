@@ -1,6 +1,6 @@
 use Rattle.std.proofs.Common.{rules}
 use Rattle.rx_pump.proofs.Turning.{IsPumped-told}
-use Rattle.rx_pump.proofs.Told.{told-fresh}
+use Rattle.rx_mailbox.proofs.Told.{told-fresh}
 use Rattle.rx_pump.proofs.pump.Pump.new.Goals as goal
 
 pub invariant_of-result : goal.invariant_of-result

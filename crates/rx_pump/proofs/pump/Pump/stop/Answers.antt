@@ -1,7 +1,7 @@
 use Rattle.std.proofs.Common.{◌∙◌, refl, ap, subst}
 use Rattle.rx_pump.specs.Pumps.{PumpView, pump_with}
 use Rattle.rx_pump.specs.Serving.{PumpHasStopped}
-use Rattle.rx_pump.specs.declared.pump_stop.PumpStop.{PumpStop}
+use Rattle.rx_pump.specs.declared.pump.pump_stop.PumpStop.{PumpStop}
 use Rattle.rx_pump.proofs.Leaving.{PumpHasStopped-turn}
 use Rattle.rx_pump.proofs.pump.Pump.stop.Goals as goal
 

@@ -3,11 +3,11 @@ use Rattle.rx_mailbox.specs.Boxes.{all_told, with_letter}
 use Rattle.rx_mailbox.specs.Letters.{letter}
 use Rattle.rx_mailbox.specs.declared.letter.Letter.{Letter}
 use Rattle.rx_pump.specs.declared.call.Call.{Call}
-use Rattle.rx_pump.specs.declared.pump_fault.PumpFault.TheVariants.{InboxGone}
+use Rattle.rx_pump.specs.declared.pump.pump_fault.PumpFault.TheVariants.{InboxGone}
 use Rattle.rx_pump.specs.Turns.{HandlesCall, ports_of}
 use Rattle.rx_pump.specs.Pumps.{PumpView, pump_with, IsPumped, KeepsPump}
 use Rattle.rx_pump.proofs.Pumping.{AreSame-length}
-use Rattle.rx_pump.proofs.Told.{told-count, told-length}
+use Rattle.rx_mailbox.proofs.Told.{told-count, told-length}
 use Rattle.rx_pump.proofs.Turning.{IsPumped-gone, IsPumped-bye, IsPumped-call, KeepsPump-call, TakesCall}
 use Rattle.rx_pump.proofs.pump.Pump.take_letter.Given as given
 use Rattle.rx_pump.proofs.pump.Pump.take_letter.Goals as goal

@@ -10,7 +10,7 @@ use Rattle.rx_proto.specs.Reading.{same_word}
 use Rattle.rx_script.specs.Tellings.{CarriesOut, is_last}
 use Rattle.rx_script.specs.Transcripts.{event_written, wants_memory_for}
 use Rattle.rx_hub.proofs.Positions.{position-within}
-use Rattle.rx_session.proofs.Written.{Puts-as}
+use Rattle.rx_lines.proofs.Written.{Puts-as}
 use Rattle.rx_script.proofs.Wanted.{event_asked, text_asked, some_asked, wants-text, wants-event}
 use Rattle.rx_script.proofs.Subjects.{found_at, unknown_to, some_topic, IsIn-after, IsIn-unknown, IsIn-same, match_ok}
 use Rattle.rx_script.proofs.script.Script.ask.Goals as goal

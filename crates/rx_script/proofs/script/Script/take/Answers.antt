@@ -2,7 +2,7 @@ use Rattle.std.proofs.Common.{refl, sym, subst, ◌∙◌}
 use Rattle.std.proofs.lemmas.List.{get_or_default}
 use Rattle.rx_script.specs.declared.topic.Topic.{Topic}
 use Rattle.rx_script.specs.Scripts.{StandsForSubject}
-use Rattle.rx_session.proofs.Written.{Puts-fault}
+use Rattle.rx_lines.proofs.Written.{Puts-fault}
 use Rattle.rx_script.proofs.script.Script.take.Goals as goal
 
 pub returns-in_err-take_event-clause-took : goal.returns-in_err-take_event-clause-took

@@ -1,8 +1,8 @@
 use Rattle.std.proofs.Common.{◌<◌, ℕ, List, length, ap, subst, sym, ◌∙◌}
 use Rattle.rx_proto.specs.Reading.{script_read}
-use Rattle.rx_session.specs.Steps.{IsTold, Goes}
-use Rattle.rx_session.specs.declared.step.Step.{Step}
-use Rattle.rx_session.specs.declared.step.Step.TheVariants.{Line, Long}
+use Rattle.rx_lines.specs.Steps.{IsTold, Goes}
+use Rattle.rx_lines.specs.declared.step.Step.{Step}
+use Rattle.rx_lines.specs.declared.step.Step.TheVariants.{Line, Long}
 use Rattle.rx_script.specs.Tellings.{IsInHand}
 use Rattle.rx_script.proofs.Turning.{turned, script_read-long}
 use Rattle.rx_script.proofs.script.Script.tell_step.Goals as goal

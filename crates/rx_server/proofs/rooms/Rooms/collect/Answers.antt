@@ -4,12 +4,12 @@ use Rattle.std.proofs.lemmas.List.Elements.{All-weaker}
 use Rattle.std.proofs.lemmas.Option.{slice_get_within}
 use Rattle.std.proofs.lemmas.Result.{err_from_is_err_and}
 use Rattle.std.specs.List.{All, FoldsTo}
-use Rattle.rx_pump.specs.declared.ended_desk.EndedDesk.{EndedDesk}
-use Rattle.rx_pump.specs.declared.pump_end.PumpEnd.{PumpEnd}
+use Rattle.rx_pump.specs.declared.call_desk.ended_desk.EndedDesk.{EndedDesk}
+use Rattle.rx_pump.specs.declared.pump.pump_end.PumpEnd.{PumpEnd}
 use Rattle.rx_drain.specs.declared.drain_end.DrainEnd.{DrainEnd}
-use Rattle.rx_settling.specs.Parts.{HasRoom, IsEmpty, LacksInbox, PartsView, dealt, dealt_each, with_inboxes, missing}
-use Rattle.rx_settling.proofs.Gathered.{dealt_each-count, with_inboxes-count}
-use Rattle.rx_settling.proofs.Room.{dealt_each-lacks, dealt_each-missing, dealt_each-none, dealt_each-room, empty-lacks, empty-missing, empty-room, with_inboxes-room, not-full}
+use Rattle.rx_mailbox.specs.Parts.{HasRoom, IsEmpty, LacksInbox, PartsView, dealt, dealt_each, with_inboxes, missing}
+use Rattle.rx_mailbox.proofs.Gathered.{dealt_each-count, with_inboxes-count}
+use Rattle.rx_mailbox.proofs.Room.{dealt_each-lacks, dealt_each-missing, dealt_each-none, dealt_each-room, empty-lacks, empty-missing, empty-room, with_inboxes-room, not-full}
 use Rattle.rx_server.specs.Leaving.{AreRow, HasItsBoxes}
 use Rattle.rx_server.specs.Returning.{ReturnsInbox, number_of}
 use Rattle.rx_server.proofs.Returning.{All-back, All-front, FoldsTo-append, again-behind, again-front, came-twice, desk-number, desk-row, returns-count}

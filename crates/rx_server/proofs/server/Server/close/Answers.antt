@@ -5,9 +5,9 @@ use Rattle.std.proofs.lemmas.Slice.Zip.{AllZip-long}
 use Rattle.std.specs.List.{All, AllZip}
 use Rattle.rx_mailbox.specs.Boxes.{all_told}
 use Rattle.rx_pump.specs.Pumps.{PumpView}
-use Rattle.rx_pump.specs.Sends.{with_bye}
+use Rattle.rx_mailbox.specs.PortRows.{with_bye}
 use Rattle.rx_pump.specs.Serving as pump_serving
-use Rattle.rx_pump.proofs.Told.{told-byes, told-length}
+use Rattle.rx_mailbox.proofs.Told.{told-byes, told-length}
 use Rattle.rx_drain.specs.Drainers.{DrainerView}
 use Rattle.rx_drain.specs.Serving as drainer_serving
 use Rattle.rx_server.specs.declared.returned.Returned.{Returned}

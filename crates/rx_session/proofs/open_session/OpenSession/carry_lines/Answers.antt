@@ -1,10 +1,10 @@
 -- As far as the loop has come the session is under way, but for what is begun, and each line leaves it so or ends it.
 use Rattle.std.proofs.Common.{◌≡◌, ◌∙◌, ◌<◌, ℕ, refl, ap, inl, inr, length, arith}
 use Rattle.std.proofs.lemmas.Bool.{cases_lt}
-use Rattle.rx_session.specs.declared.feed.Feed.{Feed}
+use Rattle.rx_lines.specs.declared.feed.Feed.{Feed}
 use Rattle.rx_session.specs.declared.open_session.OpenSession.{OpenSession}
 use Rattle.rx_session.specs.Sessions.{parties}
-use Rattle.rx_session.specs.Steps.{unread}
+use Rattle.rx_lines.specs.Steps.{unread}
 use Rattle.rx_session.specs.Turns.{hands}
 use Rattle.rx_session.specs.declared.serving.Turned.TheVariants.{On, Over}
 use Rattle.rx_session.proofs.Gathering.{Gathering-begun, Gathering-kept, carry_behind, gathers}

@@ -2,7 +2,7 @@ use Rattle.std.proofs.Common.{◌≡◌, ◌+◌, ◌*◌, ◌<◌, ◌≤◌, �
 use Rattle.rx_session.specs.Gathering.{Gathering}
 use Rattle.rx_session.specs.OpenSessions.{Sitting}
 use Rattle.rx_session.specs.Sessions.{Place, parties}
-use Rattle.rx_session.specs.Steps.{unread}
+use Rattle.rx_lines.specs.Steps.{unread}
 use Rattle.rx_session.proofs.open_session.OpenSession.carry_lines.Given as goal
 
 abbrev pub invariant-loop-line : goal.invariant-loop-line

@@ -2,7 +2,7 @@
 use Rattle.std.proofs.Common.{◌≡◌, ◌∙◌, Option, None, Some, IfSome, IsSomeAnd, refl, sym, ap, subst, true≢false}
 use Rattle.rx_mailbox.specs.Boxes.{Incoming, Outgoing}
 use Rattle.rx_mailbox.specs.Settling.{GotAll}
-use Rattle.rx_pump.specs.Sends.{with_bye}
+use Rattle.rx_mailbox.specs.PortRows.{with_bye}
 use Rattle.rx_workers.specs.Crews.{worker_desk}
 use Rattle.rx_workers.specs.Working.{WorkerView}
 use Rattle.rx_workers.specs.Workers.{HasEnded}

@@ -1,0 +1,9 @@
+pub mod Blocks
+pub mod Lanes
+pub mod Lfs
+pub mod Sheds
+pub mod Stepping
+pub mod Known
+pub mod Written
+pub mod Feeding
+pub mod LinesOf

@@ -1,6 +1,0 @@
-use Rattle.rx_pump.proofs.Told.{told-set_same}
-use Rattle.rx_pump.proofs.ringing.ring_at.Goals as goal
-
-pub returns-clause-told : goal.returns-clause-told
-returns-clause-told g c =
-    told-set_same c.args.ports.now.items c.args.place c.index_mut.result.now c.ring-went.new.self c.index_mut.ensures.value c.ring-went.ensures.same

@@ -1,0 +1,169 @@
+// One call: the hub takes its event, and the ports put what it gave and answered.
+ghost use Rattle.std.specs.Prelude.{◌≡◌, ◌<◌, ◌≤◌, ◌++◌, ℕ, Some, None, length, map, vec_len, option_to_list, MatchOption, MatchResult};
+ghost use Rattle.rx_note.specs.declared.event.Event.TheVariants.{Request};
+ghost use Rattle.rx_hub.specs.Hubs.{is_miss};
+ghost use Rattle.rx_mailbox.specs.Boxes.{all_told};
+ghost use Rattle.rx_pump.specs.Marks.{give, to_port};
+ghost use Rattle.rx_mailbox.specs.PortRows.{Puts};
+ghost use Rattle.rx_pump.specs.Turns.{HandlesCall, Sends, ports_of};
+
+use crate::call::Call;
+use crate::out::Out;
+use crate::pump::deliveries::{detach, give_all, leaver, part, send_all};
+use crate::pump::pump_fault::PumpFault;
+use crate::pump::pump_parts::PumpParts;
+use crate::reply::Reply;
+use rx_heap::Heap;
+use rx_mailbox::Port;
+use rx_note::{Answer, Event, Given, Refusal};
+use std::sync::Wait;
+
+// What became of a call.
+#[derive(Clone, Copy)]
+pub struct Handled {
+    // It was refused for want of memory.
+    pub refused: bool,
+    pub fault: Option<PumpFault>,
+}
+
+// Hands a call from a port to the hub, and sends what comes of it. `outs` is but room.
+#[inline(always)] // once for each call, which is moved no further where it asks for items
+pub fn handle<S: Drop, R: Wait>(
+    rt: &R,
+    parts: &mut PumpParts<S>,
+    outs: &mut Vec<Given, Heap>,
+    port: u32,
+    call: Call<S>,
+) -> Handled
+    requires { 0 < vec_len parts.old.drainers }
+    ensures handles { HandlesCall parts.old.hub parts.new.hub (ports_of parts.old) (ports_of parts.new) result.refused result.fault port call }
+    ensures inbox { parts.new.inbox ≡ parts.old.inbox }
+{
+    if let Event::Request { who, n } = call.event
+        && call.sink.is_none()
+        && port as usize >= parts.replies.len()
+    {
+        return handle_request(rt, parts, outs, port, who, n);
+    }
+    handle_any(rt, parts, outs, port, call)
+}
+
+// The same of a call that asks for items and brings no sink, and that is told no reply: of a drainer's, the commonest by far.
+fn handle_request<S: Drop, R: Wait>(
+    rt: &R,
+    parts: &mut PumpParts<S>,
+    outs: &mut Vec<Given, Heap>,
+    port: u32,
+    who: u32,
+    n: u32,
+) -> Handled
+    requires some { 0 < vec_len parts.old.drainers }
+    requires silent { vec_len parts.old.replies ≤ port }
+    ensures handles { (ticket : ℕ) → HandlesCall parts.old.hub parts.new.hub (ports_of parts.old) (ports_of parts.new) result.refused result.fault port
+        (record { ticket = ticket; event = Request who n; sink = None }) }
+    ensures inbox { parts.new.inbox ≡ parts.old.inbox }
+{
+    outs.clear();
+    let answered = parts.hub.step(port, Event::Request { who, n }, outs);
+    let outcome = give_all(rt, &mut parts.drainers, outs);
+    Handled {
+        refused: is_memory(answered),
+        fault: drainer_gone(outcome),
+    }
+}
+
+// The fault where a drainer is gone.
+fn drainer_gone(outcome: Result<(), usize>) -> Option<PumpFault>
+    ensures { MatchResult outcome (λ _. result ≡ None) (λ place. result ≡ Some (PumpFault.DrainerGone place)) }
+{
+    match outcome {
+        Ok(()) => None,
+        Err(place) => Some(PumpFault::DrainerGone(place)),
+    }
+}
+
+// The same of any call.
+#[inline(never)] // so that a request makes no room for it
+fn handle_any<S: Drop, R: Wait>(
+    rt: &R,
+    parts: &mut PumpParts<S>,
+    outs: &mut Vec<Given, Heap>,
+    port: u32,
+    call: Call<S>,
+) -> Handled
+    requires { 0 < vec_len parts.old.drainers }
+    ensures handles { HandlesCall parts.old.hub parts.new.hub (ports_of parts.old) (ports_of parts.new) result.refused result.fault port call }
+    ensures inbox { parts.new.inbox ≡ parts.old.inbox }
+{
+    let Call {
+        ticket,
+        event,
+        sink,
+    } = call;
+    let leaving = leaver(&event);
+    outs.clear();
+    let result = parts.hub.step(port, event, outs);
+    let (first, sink) = part(result, sink);
+    let reply = Reply {
+        ticket,
+        result,
+        sink,
+    };
+    let last = detach(leaving, result);
+    let fault = send(rt, parts, first, outs, last, port, reply);
+    Handled {
+        refused: is_memory(result),
+        fault,
+    }
+}
+
+// Whether memory was wanting.
+fn is_memory(answered: Result<Answer, Refusal>) -> bool
+    ensures { result ≡ is_miss answered }
+{
+    matches!(answered, Err(Refusal::Memory))
+}
+
+// Sends what a call sends, and then its reply. It answers the fault, if there is one. All of it may be held back, and nobody
+// need be woken.
+fn send<S: Drop, R: Wait>(
+    rt: &R,
+    parts: &mut PumpParts<S>,
+    first: Option<Out<S>>,
+    outs: &mut Vec<Given, Heap>,
+    last: Option<Out<S>>,
+    port: u32,
+    reply: Reply<S>,
+) -> Option<PumpFault>
+    requires { 0 < vec_len parts.old.drainers }
+    ensures sends { Sends result (option_to_list first ++ map give outs.old.items ++ option_to_list last) port reply (ports_of parts.old) (ports_of parts.new) }
+    ensures inbox { parts.new.inbox ≡ parts.old.inbox }
+    ensures hub { parts.new.hub ≡ parts.old.hub }
+{
+    if let Err(place) = send_all(rt, &mut parts.drainers, first, outs, last) {
+        return Some(PumpFault::DrainerGone(place));
+    }
+    send_reply(rt, &mut parts.replies, port, reply)
+}
+
+// Sends a reply to the port's calls, if there is a port for it. It answers the fault, if there is one. It waits for no room, since
+// its caller may wait for room in the box of calls.
+fn send_reply<S: Drop, R: Wait>(
+    rt: &R,
+    callers: &mut Vec<Port<Reply<S>>, Heap>,
+    port: u32,
+    reply: Reply<S>,
+) -> Option<PumpFault>
+    ensures { MatchOption result
+        (Puts (λ p. to_port port p reply) (all_told callers.old.items) (all_told callers.new.items))
+        (λ fault. (fault ≡ PumpFault.CallerGone port) × (all_told callers.new.items ≡ all_told callers.old.items) × (port < length (all_told callers.old.items))) }
+{
+    let place = port as usize;
+    if place >= callers.len() {
+        return None;
+    }
+    let Ok(()) = callers[place].hold(rt, reply) else {
+        return Some(PumpFault::CallerGone(place));
+    };
+    None
+}

@@ -1,5 +1,0 @@
-use Rattle.rx_session.proofs.Written.{Holds-here}
-use Rattle.rx_session.proofs.outbox.Outbox.put.Goals as goal
-
-pub returns : goal.returns
-returns g c = Holds-here _ _ _ _ c.push.ensures

@@ -1,4 +1,0 @@
-pub mod Causes
-pub mod Gathered
-pub mod Room
-pub mod Rows
