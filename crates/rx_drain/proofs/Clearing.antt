@@ -14,8 +14,8 @@ use Rattle.rx_sink.specs.declared.kept.Kept.{Kept}
 use Rattle.rx_sink.specs.Acts.{Acts}
 use Rattle.rx_sink.specs.Attachments.{Attachment, Why, closed}
 use Rattle.rx_sink.specs.KeptSinks.{IsKept, Stand, addressed}
-use Rattle.rx_drain.specs.declared.drain_fault.DrainFault.{DrainFault}
-use Rattle.rx_drain.specs.declared.drain_fault.DrainFault.TheVariants.{InboxGone, SubjectGone}
+use Rattle.rx_drain.specs.declared.drainer.drain_fault.DrainFault.{DrainFault}
+use Rattle.rx_drain.specs.declared.drainer.drain_fault.DrainFault.TheVariants.{InboxGone, SubjectGone}
 use Rattle.rx_drain.specs.Calls.{partings_of}
 use Rattle.rx_drain.specs.Credit.{AreAllPaid, IsPaid}
 use Rattle.rx_drain.specs.Logs.{Log, Next, Flush, letters, kept_in, sent_in}

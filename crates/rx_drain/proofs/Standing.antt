@@ -23,8 +23,8 @@ use Rattle.rx_sink.specs.Acts.{Acts, raised}
 use Rattle.rx_sink.specs.Attachments.{Attachment, Why, Mark, Fine, Change, brought, flushing, kept_for, unchanged, left, closed, dispose, requests, parting, partings, request}
 use Rattle.rx_sink.specs.KeptSinks.{Stand, Tends, IsKept, IsPutAway, addressed, sinks, tallied}
 use Rattle.rx_sink.proofs.Counts.{missed_attached, missed_notified, missed_flushed, missed_detached, took_attached, took_notified, took_flushed, took_detached}
-use Rattle.rx_drain.specs.declared.drain_fault.DrainFault.{DrainFault}
-use Rattle.rx_drain.specs.declared.drain_fault.DrainFault.TheVariants.{InboxGone, SubjectGone}
+use Rattle.rx_drain.specs.declared.drainer.drain_fault.DrainFault.{DrainFault}
+use Rattle.rx_drain.specs.declared.drainer.drain_fault.DrainFault.TheVariants.{InboxGone, SubjectGone}
 use Rattle.rx_drain.specs.Calls.{calls_to, parting_of, partings_of, SendsEvents}
 use Rattle.rx_drain.specs.Logs.{Log, Next, Flush, letters, has_left, out_change, service_of, letter_change, kept_in, change, flush_change, gone_in, sent_in, missed_in, taken_in, put_by}
 use Rattle.rx_drain.proofs.Changing.{post_change}

@@ -27,9 +27,9 @@ use Rattle.rx_sink.specs.Acts.{Acts}
 use Rattle.rx_sink.specs.Attachments.{Mark}
 use Rattle.rx_sink.specs.KeptSinks.{Stand, addressed}
 use Rattle.rx_sink.specs.Rests.{HasRoomFor}
-use Rattle.rx_drain.specs.declared.drain_fault.DrainFault.{DrainFault}
-use Rattle.rx_drain.specs.declared.drain_fault.DrainFault.TheVariants.{InboxGone, SubjectGone}
-use Rattle.rx_drain.specs.declared.drainer_left.DrainerLeft.{DrainerLeft}
+use Rattle.rx_drain.specs.declared.drainer.drain_fault.DrainFault.{DrainFault}
+use Rattle.rx_drain.specs.declared.drainer.drain_fault.DrainFault.TheVariants.{InboxGone, SubjectGone}
+use Rattle.rx_drain.specs.declared.drainer.drainer_left.DrainerLeft.{DrainerLeft}
 use Rattle.rx_drain.specs.Credit.{AreAllPaid}
 use Rattle.rx_drain.specs.Calls.{calls_to}
 use Rattle.rx_drain.specs.Logs.{Log, Next, Flush, letters, has_left, kept_in, gone_in, sent_in, missed_in, taken_in, put_by}

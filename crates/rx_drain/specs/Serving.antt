@@ -5,10 +5,10 @@
 use Rattle.std.specs.Prelude.{◌≡◌, true, [], length, Some, None}
 use Rattle.rx_mailbox.specs.Boxes.{HasEachBye}
 use Rattle.rx_sink.specs.Acts.{Acts}
-use Rattle.rx_drain.specs.declared.drain_end.DrainEnd.{DrainEnd}
-use Rattle.rx_drain.specs.declared.drain_fault.DrainFault.{DrainFault}
-use Rattle.rx_drain.specs.declared.drain_fault.DrainFault.TheVariants.{InboxGone}
-use Rattle.rx_drain.specs.declared.drain_stop.DrainStop.{DrainStop}
+use Rattle.rx_drain.specs.declared.drainer.drain_end.DrainEnd.{DrainEnd}
+use Rattle.rx_drain.specs.declared.drainer.drain_fault.DrainFault.{DrainFault}
+use Rattle.rx_drain.specs.declared.drainer.drain_fault.DrainFault.TheVariants.{InboxGone}
+use Rattle.rx_drain.specs.declared.drainer.drain_stop.DrainStop.{DrainStop}
 use Rattle.rx_drain.specs.Logs.{Log, has_left}
 use Rattle.rx_drain.specs.Drainers.{DrainerView, Drains, KeepsDrainer, view_of}
 

@@ -2,14 +2,25 @@ ghost use Rattle.std.specs.Prelude.{◌≡◌, ◌+◌, false, true, [], Some, N
 ghost use Rattle.std.specs.List.{All};
 ghost use Rattle.rx_mailbox.specs.PortRows.{IsFresh};
 
-use crate::bursts::Bursts;
-use crate::drain_end::DrainEnd;
-use crate::drain_fault::DrainFault;
-use crate::drain_stop::DrainStop;
-use crate::drainer_left::DrainerLeft;
-use crate::drainer_parts::DrainerParts;
-use crate::handling::{handle_first, handle_more, handle_rest};
-use crate::sending::holds_back;
+pub(crate) mod asks;
+pub(crate) mod bursts;
+pub(crate) mod drain_end;
+pub(crate) mod drain_fault;
+pub(crate) mod drain_stop;
+pub(crate) mod drainer_left;
+pub(crate) mod drainer_parts;
+pub(crate) mod flushes;
+pub(crate) mod one_letter;
+pub(crate) mod outs;
+
+use crate::drainer::asks::holds_back;
+use crate::drainer::bursts::Bursts;
+use crate::drainer::drain_end::DrainEnd;
+use crate::drainer::drain_fault::DrainFault;
+use crate::drainer::drain_stop::DrainStop;
+use crate::drainer::drainer_left::DrainerLeft;
+use crate::drainer::drainer_parts::DrainerParts;
+use crate::drainer::one_letter::{handle_first, handle_more, handle_rest};
 use rx_heap::{Heap, room};
 use rx_mailbox::{Inbox, Port};
 use rx_pump::{Call, Out};

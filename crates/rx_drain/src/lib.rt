@@ -18,26 +18,16 @@
 //! Its tests stand in `crates/rx_thread_tests`.
 #![tactic(auto)]
 
-mod bursts;
-mod drain_end;
-mod drain_fault;
-mod drain_stop;
-mod drainer;
-mod drainer_left;
-mod drainer_parts;
-mod flushing;
-mod handling;
+pub(crate) mod drainer;
 pub mod laws;
 mod running_drainer;
-mod sending;
-mod serving_out;
 
-pub use drain_end::DrainEnd;
-pub use drain_fault::DrainFault;
-pub use drain_stop::DrainStop;
 pub use drainer::Drainer;
-pub use drainer_left::DrainerLeft;
-pub use drainer_parts::DrainerParts;
+pub use drainer::drain_end::DrainEnd;
+pub use drainer::drain_fault::DrainFault;
+pub use drainer::drain_stop::DrainStop;
+pub use drainer::drainer_left::DrainerLeft;
+pub use drainer::drainer_parts::DrainerParts;
 pub use running_drainer::{NoThread, RunningDrainer, start_drainer};
 pub use rx_sink::{
     Asks, Flow, Kept, LineRest, LineSink, MemorySink, Places, PutAway, Rests, Sink, SinkFault,

@@ -5,9 +5,9 @@
 ghost use Rattle.std.specs.Prelude.{◌≡◌, MatchResult, IfOk};
 ghost use Rattle.rx_drain.specs.Serving.{HasDrained, DrainerHasFailed};
 
-use crate::drain_end::DrainEnd;
-use crate::drain_fault::DrainFault;
 use crate::drainer::Drainer;
+use crate::drainer::drain_end::DrainEnd;
+use crate::drainer::drain_fault::DrainFault;
 use rx_sink::Sink;
 use std::error::Error;
 use std::snapshot::Snapshot;

@@ -11,8 +11,8 @@ use Rattle.rx_http.specs.Laws.{ArePieces, IsPlace}
 use Rattle.rx_http.specs.Pieces.{retry_line}
 use Rattle.rx_http.specs.Reading.{read, reader_with}
 use Rattle.rx_http.specs.declared.answer.Answer.TheVariants.{Events}
-use Rattle.rx_http.specs.declared.begin.Begin.{Begin}
-use Rattle.rx_http.specs.declared.begin.Begin.TheVariants.{Fresh, Behind, Restarted}
+use Rattle.rx_http.specs.declared.request.begin.Begin.{Begin}
+use Rattle.rx_http.specs.declared.request.begin.Begin.TheVariants.{Fresh, Behind, Restarted}
 use Rattle.rx_http.specs.declared.stream_event.StreamEvent.{StreamEvent}
 use Rattle.rx_http.specs.declared.stream_event.StreamEvent.TheVariants as events
 use Rattle.rx_http.proofs.Accounting.{id_is_account}

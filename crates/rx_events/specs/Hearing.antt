@@ -16,8 +16,8 @@ use Rattle.rx_http.specs.Laws.{IsPlace, Piece, Retry, stream_of}
 use Rattle.rx_http.specs.Reading.{read, reader_with}
 use Rattle.rx_http.specs.Resuming.{told}
 use Rattle.rx_http.specs.declared.answer.Answer.TheVariants.{Events}
-use Rattle.rx_http.specs.declared.begin.Begin.{Begin}
-use Rattle.rx_http.specs.declared.begin.Begin.TheVariants.{Fresh, Behind, Restarted}
+use Rattle.rx_http.specs.declared.request.begin.Begin.{Begin}
+use Rattle.rx_http.specs.declared.request.begin.Begin.TheVariants.{Fresh, Behind, Restarted}
 use Rattle.rx_http.specs.declared.stream_event.StreamEvent.{StreamEvent}
 use Rattle.rx_events.specs.Telling.{begin_bytes, begin_events, count_to, is_overflow, is_seed, notes_events, pieces_of, standing_at, told_bytes}
 use Rattle.rx_events.specs.declared.standing.Standing.{Standing}

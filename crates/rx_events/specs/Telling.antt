@@ -7,8 +7,8 @@ use Rattle.rx_proto.specs.Reading.{same_word}
 use Rattle.rx_http.specs.Answers.{answer_bytes}
 use Rattle.rx_http.specs.Laws.{Event, Piece, Retry, stream_of}
 use Rattle.rx_http.specs.declared.answer.Answer.TheVariants.{Events}
-use Rattle.rx_http.specs.declared.begin.Begin.{Begin}
-use Rattle.rx_http.specs.declared.begin.Begin.TheVariants.{Behind, Fresh, Restarted}
+use Rattle.rx_http.specs.declared.request.begin.Begin.{Begin}
+use Rattle.rx_http.specs.declared.request.begin.Begin.TheVariants.{Behind, Fresh, Restarted}
 use Rattle.rx_http.specs.declared.stream_event.StreamEvent.{StreamEvent}
 use Rattle.rx_http.specs.declared.stream_event.StreamEvent.TheVariants.{Completed, Failed, Joined, Missed, Next, Overflowed}
 use Rattle.rx_http.specs.declared.stream_event.StreamEvent.TheVariants as events

@@ -6,10 +6,10 @@ use Rattle.rx_proto.specs.Bytes.{AppendsPrefix}
 use Rattle.rx_http.specs.Answers.{answer_bytes}
 use Rattle.rx_http.specs.Begins.{begin_by}
 use Rattle.rx_http.specs.declared.answer.Answer.{Answer}
-use Rattle.rx_http.specs.declared.asked.Asked.{Asked}
-use Rattle.rx_http.specs.declared.asked.Asked.TheVariants as asks
-use Rattle.rx_http.specs.declared.begin.Begin.{Begin}
-use Rattle.rx_http.specs.declared.refusal.Refusal.{Refusal}
+use Rattle.rx_http.specs.declared.request.asked.Asked.{Asked}
+use Rattle.rx_http.specs.declared.request.asked.Asked.TheVariants as asks
+use Rattle.rx_http.specs.declared.request.begin.Begin.{Begin}
+use Rattle.rx_http.specs.declared.answer.refusal.Refusal.{Refusal}
 use Rattle.rx_session.specs.declared.session_end.SessionEnd.{SessionEnd}
 use Rattle.rx_session.specs.declared.session_end.SessionEnd.TheVariants as ends
 use Rattle.rx_session.specs.declared.turn.Turn.{Turn}

@@ -5,8 +5,8 @@ use Rattle.std.specs.Io.KnownBytes.{Appends, Consumes}
 use Rattle.rx_http.specs.Answers.{answer_bytes}
 use Rattle.rx_http.specs.Heads.{HasNoHead}
 use Rattle.rx_http.specs.declared.answer.Answer.{Answer}
-use Rattle.rx_http.specs.declared.asked.Asked.{Asked}
-use Rattle.rx_http.specs.declared.refusal.Refusal.{Refusal}
+use Rattle.rx_http.specs.declared.request.asked.Asked.{Asked}
+use Rattle.rx_http.specs.declared.answer.refusal.Refusal.{Refusal}
 use Rattle.rx_http.proofs.Writes.{Prefix-behind}
 use Rattle.rx_session.specs.declared.session_end.SessionEnd.{SessionEnd}
 use Rattle.rx_session.specs.declared.session_end.SessionEnd.TheVariants as ends

@@ -3,9 +3,9 @@ use Rattle.std.specs.Prelude.{◌≡◌, ◌<◌, ◌⊎◌, ℕ, List, ◌++◌
 use Rattle.std.specs.Io.KnownBytes.{Consumes, IsAtEnd, Keeps}
 use Rattle.rx_http.specs.Asking.{IsReadOfHead}
 use Rattle.rx_http.specs.Heads.{HasNoHead, IsHeadAt}
-use Rattle.rx_http.specs.declared.asked.Asked.{Asked}
-use Rattle.rx_http.specs.declared.refusal.Refusal.{Refusal}
-use Rattle.rx_http.specs.declared.refusal.Refusal.TheVariants.{LongHead}
+use Rattle.rx_http.specs.declared.request.asked.Asked.{Asked}
+use Rattle.rx_http.specs.declared.answer.refusal.Refusal.{Refusal}
+use Rattle.rx_http.specs.declared.answer.refusal.Refusal.TheVariants.{LongHead}
 use Rattle.rx_session.specs.declared.session_end.SessionEnd.{SessionEnd}
 use Rattle.rx_session.specs.declared.session_end.SessionEnd.TheVariants as ends
 use Rattle.rx_exchange.specs.declared.coming.Came.{Came}

@@ -7,11 +7,11 @@ use Rattle.rx_proto.specs.Bytes.{AppendsPrefix}
 use Rattle.rx_http.specs.Begins.{begin_by}
 use Rattle.rx_http.specs.declared.answer.Answer.{Answer}
 use Rattle.rx_http.specs.declared.answer.Answer.TheVariants as answers
-use Rattle.rx_http.specs.declared.asked.Asked.{Asked}
-use Rattle.rx_http.specs.declared.asked.Asked.TheVariants.{Events, Health}
-use Rattle.rx_http.specs.declared.begin.Begin.{Begin}
+use Rattle.rx_http.specs.declared.request.asked.Asked.{Asked}
+use Rattle.rx_http.specs.declared.request.asked.Asked.TheVariants.{Events, Health}
+use Rattle.rx_http.specs.declared.request.begin.Begin.{Begin}
 use Rattle.rx_http.specs.declared.id.Id.{Id}
-use Rattle.rx_http.specs.declared.refusal.Refusal.{Refusal}
+use Rattle.rx_http.specs.declared.answer.refusal.Refusal.{Refusal}
 use Rattle.rx_session.specs.declared.session_end.SessionEnd.TheVariants as ends
 use Rattle.rx_session.specs.declared.turn.Turn.{Turn}
 use Rattle.rx_session.specs.declared.turn.Turn.TheVariants.{Again, Waits, Stuck, Over}

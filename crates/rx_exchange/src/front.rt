@@ -7,7 +7,7 @@ use rx_proto::Name;
 pub trait Front<W> {
     ghost use Rattle.std.specs.Prelude.{List, ℕ, Bool};
     ghost use Rattle.rx_note.specs.Choices.{Choice};
-    ghost use Rattle.rx_http.specs.declared.begin.Begin.{Begin};
+    ghost use Rattle.rx_http.specs.declared.request.begin.Begin.{Begin};
     ghost use Rattle.rx_exchange.specs.declared.joining.Joining.{Joining};
 
     ghost since: { Self → List ℕ → Type 0 };

@@ -9,10 +9,10 @@ use Rattle.rx_http.specs.Asking.{AsksAt, AsksForEvents, HasWords, HeadAsksForOne
 use Rattle.rx_http.specs.Ids.{id_of, over_word, place_digits}
 use Rattle.rx_http.specs.Laws.{IsPlace}
 use Rattle.rx_http.specs.Words.{HasPolicy, HasWindow, IsId, SaysKnown, errors_word}
-use Rattle.rx_http.specs.declared.asked.Asked.{Asked}
-use Rattle.rx_http.specs.declared.asked.Asked.TheVariants.{Events, Health}
-use Rattle.rx_http.specs.declared.refusal.Refusal.{Refusal}
-use Rattle.rx_http.specs.declared.refusal.Refusal.TheVariants.{Head, Word, LastEventId, Subject, Path, Method, Spent, LongHead, Gone, Full, Stopping, Memory}
+use Rattle.rx_http.specs.declared.request.asked.Asked.{Asked}
+use Rattle.rx_http.specs.declared.request.asked.Asked.TheVariants.{Events, Health}
+use Rattle.rx_http.specs.declared.answer.refusal.Refusal.{Refusal}
+use Rattle.rx_http.specs.declared.answer.refusal.Refusal.TheVariants.{Head, Word, LastEventId, Subject, Path, Method, Spent, LongHead, Gone, Full, Stopping, Memory}
 use Rattle.rx_http.specs.declared.id.Id.{Id}
 use Rattle.rx_http.proofs.Cuts.{parted-one}
 use Rattle.rx_http.proofs.Spelled.{apart, limits-room, strategy-one}

@@ -16,10 +16,10 @@ use Rattle.rx_proto.specs.Names.{IsName}
 use Rattle.rx_proto.specs.Reading.{begins_with, rest_behind, same_word}
 use Rattle.rx_http.specs.Queries.{path_of, query_of, word_in}
 use Rattle.rx_http.specs.Words.{HasPolicy, HasWindow, SaysKnown}
-use Rattle.rx_http.specs.declared.asked.Asked.{Asked}
-use Rattle.rx_http.specs.declared.asked.Asked.TheVariants.{Events, Health}
-use Rattle.rx_http.specs.declared.refusal.Refusal.{Refusal}
-use Rattle.rx_http.specs.declared.refusal.Refusal.TheVariants as causes
+use Rattle.rx_http.specs.declared.request.asked.Asked.{Asked}
+use Rattle.rx_http.specs.declared.request.asked.Asked.TheVariants.{Events, Health}
+use Rattle.rx_http.specs.declared.answer.refusal.Refusal.{Refusal}
+use Rattle.rx_http.specs.declared.answer.refusal.Refusal.TheVariants as causes
 use Rattle.rx_http.specs.declared.id.Id.{Id}
 
 -- the value of the first field of this name, which is told in small letters: in a head they may be large too

@@ -8,8 +8,8 @@
 -- none, by an id without a place, is told all that it misses.
 use Rattle.std.specs.Prelude.{ℕ, List, if◌then◌else◌, Option, None, Some}
 use Rattle.rx_proto.specs.Reading.{same_word}
-use Rattle.rx_http.specs.declared.begin.Begin.{Begin}
-use Rattle.rx_http.specs.declared.begin.Begin.TheVariants.{Fresh, Behind, Restarted}
+use Rattle.rx_http.specs.declared.request.begin.Begin.{Begin}
+use Rattle.rx_http.specs.declared.request.begin.Begin.TheVariants.{Fresh, Behind, Restarted}
 use Rattle.rx_http.specs.declared.id.Id.{Id}
 
 -- where a reader begins, by the epoch of the server; nowhere, where it knows that the subject is over

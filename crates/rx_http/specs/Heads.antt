@@ -7,8 +7,8 @@
 use Rattle.std.specs.Prelude.{◌≡◌, ◌<◌, ◌≤◌, ◌+◌, ◌||◌, ℕ, Bool, true, false, nat_eq, List, ◌++◌, length, take, codes, Result, Ok, Err, MatchResult, Option}
 use Rattle.std.specs.Io.KnownBytes.{Consumes, IsAtEnd, Keeps}
 use Rattle.std.specs.List.{ends_with}
-use Rattle.rx_http.specs.declared.head_found.HeadFound.{HeadFound}
-use Rattle.rx_http.specs.declared.head_found.HeadFound.TheVariants.{Whole, Partly, TooLong}
+use Rattle.rx_http.specs.declared.head_reader.head_found.HeadFound.{HeadFound}
+use Rattle.rx_http.specs.declared.head_reader.head_found.HeadFound.TheVariants.{Whole, Partly, TooLong}
 
 -- whether the bytes end with an empty line: behind an LF there is another one, or a CR and another one
 abbrev pub ends_empty : List ℕ → Bool

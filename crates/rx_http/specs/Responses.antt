@@ -7,8 +7,8 @@ use Rattle.httparse.specs.Grammar.{Field, ResponseHead, ReadsResponse, crlf}
 use Rattle.rx_http.specs.Answers.{answer_bytes, plain_kind, refusal_body}
 use Rattle.rx_http.specs.declared.answer.Answer.{Answer}
 use Rattle.rx_http.specs.declared.answer.Answer.TheVariants.{Events, Over, Well, Unwell, Refused}
-use Rattle.rx_http.specs.declared.refusal.Refusal.{Refusal}
-use Rattle.rx_http.specs.declared.refusal.Refusal.TheVariants.{Head, Word, LastEventId, Subject, Path, Method, Spent, LongHead, Gone, Full, Stopping, Memory}
+use Rattle.rx_http.specs.declared.answer.refusal.Refusal.{Refusal}
+use Rattle.rx_http.specs.declared.answer.refusal.Refusal.TheVariants.{Head, Word, LastEventId, Subject, Path, Method, Spent, LongHead, Gone, Full, Stopping, Memory}
 
 -- a field of an answer
 abbrev pub field : List ℕ → List ℕ → Field

@@ -1,3 +1,6 @@
+pub(crate) mod refusal;
+pub(crate) mod written_answer;
+
 use crate::Refusal;
 
 /// What a request is answered.

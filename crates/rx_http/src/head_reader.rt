@@ -4,6 +4,8 @@
 ghost use Rattle.std.specs.Prelude.{◌≡◌, ◌<◌, ◌≤◌, ◌+◌, [], drop, length, take, MatchOption};
 ghost use Rattle.rx_http.specs.Heads.{FindsHead, Gathers, HasNoHead, IsHeadAt, NoneBelow, count_of, ends_empty};
 
+pub(crate) mod head_found;
+
 use crate::{HeadFound, MAX_HEAD};
 use std::io;
 use std::io::Read;

@@ -9,35 +9,25 @@
 //! Its tests stand in `crates/rx_http_tests`.
 #![tactic(auto)]
 
-mod answer;
-mod answering;
-mod asked;
-mod asking;
-mod begin;
+pub(crate) mod answer;
 mod epoch;
-mod head_found;
-mod head_reader;
+pub(crate) mod head_reader;
 mod id;
-mod kinds;
 pub mod laws;
 mod number;
 mod parts;
-mod query;
-mod refusal;
-mod stream_event;
-mod word;
-mod words;
-mod writing;
+pub(crate) mod request;
+pub(crate) mod stream_event;
 
 pub use answer::Answer;
-pub use answering::write_answer;
-pub use asked::Asked;
-pub use asking::{MAX_HEAD, read_request};
-pub use begin::Begin;
+pub use answer::refusal::Refusal;
+pub use answer::written_answer::write_answer;
 pub use epoch::Epoch;
-pub use head_found::HeadFound;
 pub use head_reader::HeadReader;
+pub use head_reader::head_found::HeadFound;
 pub use id::Id;
-pub use refusal::Refusal;
+pub use request::asked::Asked;
+pub use request::begin::Begin;
+pub use request::{MAX_HEAD, read_request};
 pub use stream_event::StreamEvent;
-pub use writing::{write_event, write_heartbeat, write_retry};
+pub use stream_event::written_event::{write_event, write_heartbeat, write_retry};

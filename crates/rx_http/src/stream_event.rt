@@ -1,3 +1,6 @@
+pub(crate) mod lines;
+pub(crate) mod written_event;
+
 use crate::Id;
 use rx_note::{Item, Text};
 

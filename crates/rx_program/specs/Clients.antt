@@ -12,11 +12,11 @@ use Rattle.rx_proto.specs.Bytes.{Writes}
 use Rattle.rx_proto.specs.Grammar.{IsText}
 use Rattle.rx_proto.specs.Names.{IsName}
 use Rattle.rx_proto.specs.Printing.{line}
-use Rattle.rx_program.specs.declared.program_fault.ProgramFault.{ProgramFault}
-use Rattle.rx_program.specs.declared.program_fault.ProgramFault.TheVariants as faults
-use Rattle.rx_program.specs.declared.subscription.Subscription.{Subscription}
-use Rattle.rx_program.specs.declared.task.Task.{Task}
-use Rattle.rx_program.specs.declared.task.Task.TheVariants.{Publish, Subscribe}
+use Rattle.rx_program.specs.declared.program.program_fault.ProgramFault.{ProgramFault}
+use Rattle.rx_program.specs.declared.program.program_fault.ProgramFault.TheVariants as faults
+use Rattle.rx_program.specs.declared.command_line.subscription.Subscription.{Subscription}
+use Rattle.rx_program.specs.declared.command_line.task.Task.{Task}
+use Rattle.rx_program.specs.declared.command_line.task.Task.TheVariants.{Publish, Subscribe}
 
 -- EMITTING
 

@@ -12,9 +12,9 @@ use Rattle.clap.specs.declared.builder.action.ArgAction.TheVariants.{SetTrue}
 use Rattle.clap.specs.Words.{App, IsAmong, Row, Rule, Text, fault_of, first_of, new_app, new_rule, subcommand_of, with_rule, with_subcommand}
 use Rattle.clap.specs.declared.error.kind.ErrorKind.{ErrorKind}
 use Rattle.clap.specs.declared.error.kind.ErrorKind.TheVariants.{DisplayHelp, DisplayVersion, InvalidSubcommand}
-use Rattle.rx_program.specs.declared.task.Task.{Task}
-use Rattle.rx_program.specs.declared.task.Task.TheVariants.{Script, Audit, Check, Serve, Publish, Subscribe}
-use Rattle.rx_program.specs.declared.subscription.Subscription.{Subscription}
+use Rattle.rx_program.specs.declared.command_line.task.Task.{Task}
+use Rattle.rx_program.specs.declared.command_line.task.Task.TheVariants.{Script, Audit, Check, Serve, Publish, Subscribe}
+use Rattle.rx_program.specs.declared.command_line.subscription.Subscription.{Subscription}
 
 -- the path of a configuration, which a command needs
 abbrev pub path : Rule

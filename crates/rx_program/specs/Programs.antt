@@ -29,10 +29,10 @@ use Rattle.rx_program.specs.CommandLines.{Asks, IsAgainst, IsHelp}
 use Rattle.rx_program.specs.Reporting.{Closed, ClosesWith, names_of, report_lines}
 use Rattle.rx_script.specs.Scripts.{Runs, new_subjects}
 use Rattle.rx_script.specs.Transcripts.{Subject}
-use Rattle.rx_program.specs.declared.program_fault.ProgramFault.{ProgramFault}
-use Rattle.rx_program.specs.declared.program_fault.ProgramFault.TheVariants as faults
-use Rattle.rx_program.specs.declared.task.Task.{Task}
-use Rattle.rx_program.specs.declared.task.Task.TheVariants.{Script, Audit, Check, Serve, Publish, Subscribe}
+use Rattle.rx_program.specs.declared.program.program_fault.ProgramFault.{ProgramFault}
+use Rattle.rx_program.specs.declared.program.program_fault.ProgramFault.TheVariants as faults
+use Rattle.rx_program.specs.declared.command_line.task.Task.{Task}
+use Rattle.rx_program.specs.declared.command_line.task.Task.TheVariants.{Script, Audit, Check, Serve, Publish, Subscribe}
 use Rattle.rx_program.specs.Clients.{Emits, FollowsSubject, IsBad}
 
 -- the bytes that the reader has left and those that the writer has, where they are known

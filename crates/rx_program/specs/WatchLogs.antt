@@ -1,6 +1,6 @@
 -- What a readiness was asked to watch (this project's own rule).
 use Rattle.std.specs.Prelude.{ℕ, ◌==◌, if◌then◌else◌, List, [], ◌∷◌, Option, None}
-use Rattle.rx_program.specs.declared.watch_log.WatchLog.{WatchLog}
+use Rattle.rx_program.specs.declared.socket.watch_log.WatchLog.{WatchLog}
 use Rattle.rx_workers.specs.declared.readiness.Aim.{Aim}
 
 -- what a key is watched for behind these calls, by the last one of this key; before them it was for this

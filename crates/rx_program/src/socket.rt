@@ -2,11 +2,25 @@
 // broken listener ends serving.
 ghost use Rattle.std.specs.Prelude.{◌≡◌, ◌↔◌, ◌⊎◌, IsTrue};
 
-use crate::incoming::Incoming;
-use crate::outgoing::Outgoing;
-use crate::polling::Polling;
-use crate::ring::Ring;
-use crate::terms::Terms;
+pub(crate) mod clocked;
+pub(crate) mod gathering;
+pub(crate) mod incoming;
+pub(crate) mod link;
+pub(crate) mod obstacle;
+pub(crate) mod outgoing;
+pub(crate) mod path;
+pub(crate) mod polling;
+pub(crate) mod ring;
+pub(crate) mod system_events;
+pub(crate) mod terms;
+pub(crate) mod watch_log;
+pub(crate) mod wire;
+
+use crate::socket::incoming::Incoming;
+use crate::socket::outgoing::Outgoing;
+use crate::socket::polling::Polling;
+use crate::socket::ring::Ring;
+use crate::socket::terms::Terms;
 use rx_heap::Heap;
 use rx_server::{AcceptFault, Idle, Listener, Watch, WatchFault};
 use std::io::{ErrorKind, Write};

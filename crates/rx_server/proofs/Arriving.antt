@@ -16,7 +16,7 @@ use Rattle.rx_pump.specs.declared.reply.Reply.{Reply}
 use Rattle.rx_pump.specs.Marks.{Marked, route}
 use Rattle.rx_pump.specs.Pumps.{PumpView}
 use Rattle.rx_pump.specs.Serving.{PumpServes}
-use Rattle.rx_drain.specs.declared.drain_end.DrainEnd.{DrainEnd}
+use Rattle.rx_drain.specs.declared.drainer.drain_end.DrainEnd.{DrainEnd}
 use Rattle.rx_sink.specs.Acts.{Acts}
 use Rattle.rx_server.specs.Arriving.{EachDeskIsAnswered, EachLetterArrives, EachRequestArrives}
 use Rattle.rx_server.specs.declared.report.Report.{Report}

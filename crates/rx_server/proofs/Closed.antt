@@ -10,7 +10,7 @@ use Rattle.rx_mailbox.specs.PortRows.{with_bye}
 use Rattle.rx_pump.specs.Serving as pump_serving
 use Rattle.rx_sink.specs.Acts.{Acts}
 use Rattle.rx_sink.specs.Rests.{RestsView}
-use Rattle.rx_drain.specs.declared.drain_end.DrainEnd.{DrainEnd}
+use Rattle.rx_drain.specs.declared.drainer.drain_end.DrainEnd.{DrainEnd}
 use Rattle.rx_drain.specs.Drainers.{DrainerView}
 use Rattle.rx_drain.specs.Serving as drainer_serving
 use Rattle.rx_server.specs.declared.close_fault.CloseFault.{CloseFault}

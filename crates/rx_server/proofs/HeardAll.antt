@@ -16,7 +16,7 @@ use Rattle.rx_pump.specs.declared.out.Out.TheVariants.{Attach, Give, Detach}
 use Rattle.rx_pump.specs.Marks.{Marked, history_of, outs_in, route, who_of}
 use Rattle.rx_sink.specs.Acts.{Acts}
 use Rattle.rx_sink.specs.Attachments.{Attachment, Why, TookLast, Detached, Closed, FailedAtStart, FailedAt, FailedAtFlush, is_last}
-use Rattle.rx_drain.specs.declared.drain_end.DrainEnd.{DrainEnd}
+use Rattle.rx_drain.specs.declared.drainer.drain_end.DrainEnd.{DrainEnd}
 use Rattle.rx_drain.specs.Logs.{letters, gone_in}
 use Rattle.rx_drain.specs.Served.{Bearing, Bears, Stops, Passes, out_bearing, from_leave, from_subject, bearing, notes_in, TookOf, served, AttachCame}
 use Rattle.rx_drain.proofs.Taking.{each_sink_took}

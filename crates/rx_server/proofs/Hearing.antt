@@ -30,7 +30,7 @@ use Rattle.rx_pump.specs.declared.out.Out.TheVariants.{Attach, Give, Detach}
 use Rattle.rx_pump.specs.Marks.{Marked, NoLetters, Made, Refused, Ended, history_of, leaver, attach_of, give, detach_of, sent_by, outs_in, who_of, for_drainer, route}
 use Rattle.rx_sink.specs.Acts.{Acts}
 use Rattle.rx_sink.specs.Attachments.{Attachment, Why, TookLast, Detached, Closed, FailedAtStart, FailedAt, FailedAtFlush, is_last}
-use Rattle.rx_drain.specs.declared.drain_end.DrainEnd.{DrainEnd}
+use Rattle.rx_drain.specs.declared.drainer.drain_end.DrainEnd.{DrainEnd}
 use Rattle.rx_drain.specs.Logs.{Log, letters, gone_in}
 use Rattle.rx_drain.specs.Served.{Bearing, Bears, Stops, Passes, out_bearing, from_leave, from_subject, bearing, serving, notes_in, TookOf, bearings, served, AttachCame}
 use Rattle.rx_drain.proofs.Taking.{each_sink_took}

@@ -12,7 +12,7 @@ use Rattle.rx_pump.specs.declared.call_desk.ended_desk.EndedDesk.{EndedDesk}
 use Rattle.rx_pump.specs.declared.out.Out.{Out}
 use Rattle.rx_pump.specs.declared.pump.pump_end.PumpEnd.{PumpEnd}
 use Rattle.rx_pump.specs.declared.reply.Reply.{Reply}
-use Rattle.rx_drain.specs.declared.drain_end.DrainEnd.{DrainEnd}
+use Rattle.rx_drain.specs.declared.drainer.drain_end.DrainEnd.{DrainEnd}
 use Rattle.rx_mailbox.specs.Rests.{ReceivesMore}
 use Rattle.rx_mailbox.specs.Parts.{AreOfOneBox, PartsView, Settles, dealt, dealt_each, with_inboxes}
 use Rattle.rx_mailbox.proofs.Gathered.{AllInboxes, AllPorts, dealt-all, dealt-inboxes, dealt-of, dealt_each-all, dealt_each-count, dealt_each-inboxes, dealt_each-of, empty-inboxes, empty-ports, with_inboxes-all, with_inboxes-count, with_inboxes-ports, inboxes-of, inboxes_of, of-one-box, ports-of, ports-same, received-none, settled-at, settled-came, settled-empty, settled-got}

@@ -6,7 +6,7 @@ use Rattle.std.specs.List.{AllZip, enumerate_from}
 use Rattle.rx_mailbox.specs.Boxes.{Box, HasBye, Outgoing, all_told, told}
 use Rattle.rx_pump.specs.declared.out.Out.{Out}
 use Rattle.rx_sink.specs.Acts.{Acts}
-use Rattle.rx_drain.specs.declared.drain_end.DrainEnd.{DrainEnd}
+use Rattle.rx_drain.specs.declared.drainer.drain_end.DrainEnd.{DrainEnd}
 use Rattle.rx_drain.specs.Drainers.{DrainerView}
 use Rattle.rx_drain.specs.Serving.{HasDrained}
 use Rattle.rx_server.specs.Servers.{IsWhole, ServerView}

@@ -8,7 +8,7 @@ use Rattle.rx_pump.specs.declared.call_desk.ended_desk.EndedDesk.{EndedDesk}
 use Rattle.rx_pump.specs.declared.out.Out.{Out}
 use Rattle.rx_pump.specs.declared.pump.pump_end.PumpEnd.{PumpEnd}
 use Rattle.rx_pump.specs.declared.reply.Reply.{Reply}
-use Rattle.rx_drain.specs.declared.drain_end.DrainEnd.{DrainEnd}
+use Rattle.rx_drain.specs.declared.drainer.drain_end.DrainEnd.{DrainEnd}
 use Rattle.rx_mailbox.specs.Parts.{FirstUnsettled, PartsView, Settles}
 use Rattle.rx_server.specs.declared.close_fault.CloseCause.TheVariants.{Unsettled}
 use Rattle.rx_server.specs.declared.close_fault.CloseFault.{CloseFault}

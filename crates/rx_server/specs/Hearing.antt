@@ -21,7 +21,7 @@ use Rattle.rx_pump.specs.Marks.{Marked, history_of}
 use Rattle.rx_pump.specs.Pumps.{PumpView}
 use Rattle.rx_sink.specs.Acts.{Acts}
 use Rattle.rx_sink.specs.Attachments.{Why, TookLast, Detached, Closed, FailedAtStart, FailedAt, FailedAtFlush}
-use Rattle.rx_drain.specs.declared.drain_end.DrainEnd.{DrainEnd}
+use Rattle.rx_drain.specs.declared.drainer.drain_end.DrainEnd.{DrainEnd}
 use Rattle.rx_drain.specs.Drainers.{DrainerView}
 use Rattle.rx_drain.specs.Logs.{Log, letters, gone_in}
 use Rattle.rx_drain.specs.Serving.{DrainerServes}

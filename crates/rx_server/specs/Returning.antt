@@ -16,7 +16,7 @@
 -- each did, a report is answered; and where one is answered, each desk came back once. No port is refused for want of room.
 use Rattle.std.specs.Prelude.{◌≡◌, ◌==◌, ◌<◌, ◌+◌, ◌++◌, ◌⊎◌, ℕ, List, [], ◌∷◌, length, map}
 use Rattle.std.specs.List.{All, AllZip, FoldsTo, count_by}
-use Rattle.rx_drain.specs.declared.drain_end.DrainEnd.{DrainEnd}
+use Rattle.rx_drain.specs.declared.drainer.drain_end.DrainEnd.{DrainEnd}
 use Rattle.rx_mailbox.specs.Boxes.{Outgoing}
 use Rattle.rx_mailbox.specs.Passes.{SettledView}
 use Rattle.rx_pump.specs.declared.call.Call.{Call}

@@ -4,7 +4,7 @@ use Rattle.clap.specs.declared.error.kind.ErrorKind.{ErrorKind}
 use Rattle.clap.specs.declared.error.kind.ErrorKind.TheVariants.{OutOfMemory}
 use Rattle.rx_program.specs.CommandLines.{IsAgainst, IsHelp}
 use Rattle.rx_program.specs.Programs.{Answers, Program}
-use Rattle.rx_program.specs.declared.program_fault.ProgramFault.TheVariants as faults
+use Rattle.rx_program.specs.declared.program.program_fault.ProgramFault.TheVariants as faults
 use Rattle.rx_program.proofs.program.run_words.Goals as goal
 
 no_help : (kind : ErrorKind) → kind ≡ OutOfMemory → ¬ IsHelp kind

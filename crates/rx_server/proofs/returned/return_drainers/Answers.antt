@@ -4,7 +4,7 @@ use Rattle.std.proofs.lemmas.List.Sums.{sum_by_push}
 use Rattle.std.specs.List.{All}
 use Rattle.std.specs.Vec.Iter.{into_iter_items}
 use Rattle.rx_mailbox.specs.Boxes.{Incoming}
-use Rattle.rx_drain.specs.declared.drain_end.DrainEnd.{DrainEnd}
+use Rattle.rx_drain.specs.declared.drainer.drain_end.DrainEnd.{DrainEnd}
 use Rattle.rx_mailbox.specs.Parts.{HasRoom, LacksInbox, dealt, dealt_each, with_inboxes, placed}
 use Rattle.rx_mailbox.proofs.Gathered.{dealt_each-count, dealt_each-more, with_inboxes-count, with_inboxes-more}
 use Rattle.rx_mailbox.proofs.Room.{dealt-room, with_inboxes-lacks, not-full}

@@ -1,5 +1,5 @@
 use Rattle.std.proofs.Common.{◌≡◌, ◌+◌, ◌∙◌, sym, refl, ap, subst, true, length, length-append, arith}
-use Rattle.rx_drain.specs.declared.drain_end.DrainEnd.{DrainEnd}
+use Rattle.rx_drain.specs.declared.drainer.drain_end.DrainEnd.{DrainEnd}
 use Rattle.rx_mailbox.specs.Boxes.{all_told, HasEachBye}
 use Rattle.rx_drain.specs.Drainers.{DrainerView, view_of}
 use Rattle.rx_drain.specs.Serving.{HasDrained}

@@ -1,9 +1,9 @@
 use Rattle.std.proofs.Common.{◌≡◌, false, None, Some, Option, OnOk, MatchResult, Result, Ok, Err, sym, refl, ap, subst, ◌∙◌}
 use Rattle.rx_mailbox.specs.Boxes.{Incoming}
 use Rattle.rx_pump.specs.Pumps.{AreSame}
-use Rattle.rx_drain.specs.declared.drain_fault.DrainFault.{DrainFault}
-use Rattle.rx_drain.specs.declared.drain_fault.DrainFault.TheVariants.{InboxGone, SubjectGone}
-use Rattle.rx_drain.specs.declared.drainer_left.DrainerLeft.{DrainerLeft}
+use Rattle.rx_drain.specs.declared.drainer.drain_fault.DrainFault.{DrainFault}
+use Rattle.rx_drain.specs.declared.drainer.drain_fault.DrainFault.TheVariants.{InboxGone, SubjectGone}
+use Rattle.rx_drain.specs.declared.drainer.drainer_left.DrainerLeft.{DrainerLeft}
 use Rattle.rx_drain.specs.Drainers.{DrainerView, Fits, Goes, IsDrained, IsOfSubject, KeepsDrainer, TakesMore, TakesSome, any_may_wait, view_of}
 use Rattle.rx_drain.proofs.Ending.{drained_gone, drained_turn, goes_further, takes_both, takes_one_and}
 use Rattle.rx_drain.proofs.drainer.Drainer.turn_by.Given as given

@@ -6,7 +6,7 @@ use Rattle.std.proofs.lemmas.Result.{err_from_is_err_and}
 use Rattle.std.specs.List.{All, FoldsTo}
 use Rattle.rx_pump.specs.declared.call_desk.ended_desk.EndedDesk.{EndedDesk}
 use Rattle.rx_pump.specs.declared.pump.pump_end.PumpEnd.{PumpEnd}
-use Rattle.rx_drain.specs.declared.drain_end.DrainEnd.{DrainEnd}
+use Rattle.rx_drain.specs.declared.drainer.drain_end.DrainEnd.{DrainEnd}
 use Rattle.rx_mailbox.specs.Parts.{HasRoom, IsEmpty, LacksInbox, PartsView, dealt, dealt_each, with_inboxes, missing}
 use Rattle.rx_mailbox.proofs.Gathered.{dealt_each-count, with_inboxes-count}
 use Rattle.rx_mailbox.proofs.Room.{dealt_each-lacks, dealt_each-missing, dealt_each-none, dealt_each-room, empty-lacks, empty-missing, empty-room, with_inboxes-room, not-full}

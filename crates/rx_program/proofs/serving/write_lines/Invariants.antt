@@ -1,8 +1,0 @@
-use Rattle.std.proofs.Common.{length}
-use Rattle.std.specs.Io.KnownBytes.{Appends}
-use Rattle.rx_program.proofs.Reports.{first_lines}
-use Rattle.rx_program.proofs.serving.write_lines.Given as goal
-
--- the lines so far were written
-abbrev pub invariant-loop-name : goal.invariant-loop-name
-invariant-loop-name g l = Appends (g.W.Write.contents l.initial.writer) (g.W.Write.contents l.writer) (first_lines (length l.yielded) l.names l.subjects)

@@ -1,0 +1,141 @@
+//! The server: a configuration served on a Unix socket.
+ghost use Rattle.std.specs.Prelude.{◌≡◌};
+ghost use Rattle.rx_listing.specs.Listings.{number_words};
+ghost use Rattle.rx_proto.specs.Bytes.{Writes};
+ghost use Rattle.rx_program.specs.Programs.{IsReported, IsShown, ReportsServer, ending, serving_fault};
+ghost use Rattle.rx_program.specs.Reporting.{closed_as, report_line, report_lines};
+
+use crate::program::flushed::flushed;
+use crate::program::host::Host;
+use crate::program::names::Names;
+use crate::program::program_fault::ProgramFault;
+use crate::program::site::Site;
+use crate::program::told_fault::tell;
+use crate::socket::outgoing::Outgoing;
+use itoa::Buffer;
+use rx_config::Config;
+use rx_heap::Heap;
+use rx_proto::{Name, WriteFault, write_bytes};
+use rx_server::{CloseFault, ServeFault, SubjectReport};
+use rx_sink::{LineSink, Sink};
+use std::io::Write;
+
+/// Serves a configuration on a new Unix socket of this path, until as many connections have ended as it says. Once it listens
+/// it tells so on `faults`; at the end it writes the report, one line a subject, also after a fault of serving.
+///
+/// # Errors
+///
+/// `Listen`: the socket can't be had. `Start`, `Memory`: the server did not start. `Accept`, `Serve`: it served fewer
+/// connections. `Close`: a thread ended by a fault, and there is no report. `Write`: the report was not written.
+pub fn serve_on<F: Host, W: Write, E: Write>(
+    rt: &F,
+    heap: &Heap,
+    config: Config,
+    path: &str,
+    writer: &mut W,
+    faults: &mut E,
+) -> Result<(), ProgramFault>
+    ensures { ReportsServer ⟦<LineSink<Outgoing<F>> as Sink>⟧.acts config result (W.contents writer.old) (W.contents writer.new) }
+{
+    let Ok(names) = Names::of(heap, &config) else {
+        return Err(ProgramFault::Memory);
+    };
+    let site = Site::at(rt, heap, path, &config)?;
+    let ended = site.serve(rt, config, path, faults)?;
+    let reported = told(&names, &ended.closed, writer);
+    end_of(ended.served, reported, faults)
+}
+
+// Tells the report of a server that was closed, or why there is none.
+fn told<W: Write>(
+    names: &Names,
+    closed: &Result<Vec<SubjectReport, Heap>, CloseFault>,
+    writer: &mut W,
+) -> Result<(), ProgramFault>
+    ensures { IsReported names.now (closed_as closed.now) result (W.contents writer.old) (W.contents writer.new) }
+{
+    match closed {
+        Ok(subjects) => write_report(names.as_slice(), subjects.as_slice(), writer),
+        Err(fault) => Err(ProgramFault::Close(*fault)),
+    }
+}
+
+// How it ended, by how serving and closing did. Where both had a fault, the first is told here.
+fn end_of<E: Write>(
+    served: Result<(), ServeFault>,
+    closed: Result<(), ProgramFault>,
+    faults: &mut E,
+) -> Result<(), ProgramFault>
+    ensures { result ≡ ending served closed }
+{
+    let Err(fault) = served else {
+        return closed;
+    };
+    let fault = serving_fault(fault);
+    if closed.is_ok() {
+        return Err(fault);
+    }
+    let _ = tell(fault, faults);
+    closed
+}
+
+// A fault of serving, as the program tells it.
+fn serving_fault(fault: ServeFault) -> ProgramFault
+    ensures { result ≡ serving_fault fault }
+{
+    match fault {
+        ServeFault::Accept => ProgramFault::Accept,
+        ServeFault::NoDesk | ServeFault::Thread(_) | ServeFault::Memory => ProgramFault::Serve,
+    }
+}
+
+// Writes the report, and flushes it.
+fn write_report<W: Write>(
+    names: &[Name],
+    subjects: &[SubjectReport],
+    writer: &mut W,
+) -> Result<(), ProgramFault>
+    ensures shown { IsShown result }
+    ensures written { Writes result (W.contents writer.old) (W.contents writer.new) (report_lines names.now subjects.now) }
+{
+    match write_lines(names, subjects, writer) {
+        Ok(()) => flushed(writer),
+        Err(WriteFault) => Err(ProgramFault::Write),
+    }
+}
+
+// Writes the lines of all subjects.
+fn write_lines<W: Write>(
+    names: &[Name],
+    subjects: &[SubjectReport],
+    writer: &mut W,
+) -> Result<(), WriteFault>
+    ensures { Writes result (W.contents writer.old) (W.contents writer.new) (report_lines names.now subjects.now) }
+{
+    for (name, subject) in names.iter().zip(subjects.iter()) {
+        write_line(name, subject, writer)?;
+    }
+    Ok(())
+}
+
+// Writes the line of a subject.
+fn write_line<W: Write>(
+    name: &Name,
+    subject: &SubjectReport,
+    writer: &mut W,
+) -> Result<(), WriteFault>
+    ensures { Writes result (W.contents writer.old) (W.contents writer.new) (report_line (name.now, subject.now)) }
+{
+    write_bytes(writer, name.as_bytes())?;
+    write_number(b" joins ", u64::from(subject.joins), writer)?;
+    write_number(b" refused ", subject.refused, writer)?;
+    write_bytes(writer, b"\n")
+}
+
+// Writes the words of a key and its number.
+fn write_number<W: Write>(key: &[u8], number: u64, writer: &mut W) -> Result<(), WriteFault>
+    ensures { Writes result (W.contents writer.old) (W.contents writer.new) (number_words key.now number) }
+{
+    write_bytes(writer, key)?;
+    write_bytes(writer, Buffer::new().format(number).as_bytes())
+}

@@ -1,0 +1,88 @@
+// Events are told once, at a change. A connection is watched for bytes alone, and for room too only while an answer waits. A
+// session that has had its turns for now and would go on has lines in hand, of which the system knows nothing, and its socket
+// may have no room: it stands in a list (`Readiness::again`), once, by which the next wait is none, and is told behind the
+// others that are ready by then.
+ghost use Rattle.std.specs.Prelude.{IfOk};
+ghost use Rattle.rx_program.specs.WatchLogs.{watched_by};
+ghost use Rattle.rx_workers.specs.Watching.{WatchesNothing};
+
+use crate::socket::incoming::Incoming;
+use crate::socket::ring::Ring;
+use crate::socket::system_events::SystemEvents;
+use crate::socket::watch_log::WatchLog;
+use rx_heap::Heap;
+use rx_server::{Aim, Readiness, Ready, WatchFault};
+use std::alloc::Global;
+use std::io;
+use std::net::Net;
+use std::time::{Clock, Duration};
+
+/// The readiness of the connections of a Unix socket, by the system's events, and for contracts what it was asked to watch.
+pub struct Polling<C: Clock + Drop> {
+    events: SystemEvents<C>,
+    log: WatchLog,
+}
+
+// By hand: rx_heap says why.
+impl<C: Clock + Drop> Drop for Polling<C> {
+    fn drop(self) {
+        let Polling { events: _, log: _ } = self;
+    }
+}
+
+impl<C: Clock + Drop> Polling<C> {
+    /// It watches nothing, and tells connections on which nothing happened for so long, by this clock.
+    pub fn new(
+        net: &impl Net,
+        runtime: Global,
+        clock: C,
+        heap: &Heap,
+        idle: Option<Duration>,
+    ) -> io::Result<Polling<C>>
+        ensures { IfOk result (λ polling. WatchesNothing (watched_by polling.log)) }
+    {
+        Ok(Polling {
+            events: SystemEvents::new(net, runtime, clock, heap, idle)?,
+            log: WatchLog::new(),
+        })
+    }
+
+    /// A bell that ends its waits.
+    pub fn bell(&self) -> io::Result<Ring> {
+        self.events.bell()
+    }
+}
+
+impl<C: Clock + Drop> Readiness<Incoming<C>> for Polling<C> {
+    ghost use Rattle.rx_program.specs.WatchLogs.{watched_by};
+
+    ghost watched = { λ p. watched_by p.log };
+
+    fn begin(&mut self, connection: &Incoming<C>, key: usize) -> Result<(), WatchFault> {
+        self.events.begin(connection, key)?;
+        self.log = self.log.and(key, Some(Aim::Bytes));
+        Ok(())
+    }
+
+    fn change(&mut self, connection: &Incoming<C>, key: usize, aim: Aim) {
+        self.events.change(connection, key, aim);
+        self.log = self.log.and(key, Some(aim));
+    }
+
+    fn again(&mut self, key: usize) {
+        self.events.again(key);
+    }
+
+    fn forget(&mut self, connection: &Incoming<C>, key: usize) {
+        self.events.forget(connection);
+        self.log = self.log.and(key, None);
+    }
+
+    fn wait(&mut self) {
+        self.events.wait();
+    }
+
+    fn next(&mut self) -> Option<Ready> {
+        self.events.next()
+    }
+}
