@@ -6,7 +6,7 @@
 //! They rest on what a configuration says (`specs/Configurations.antt`): exactly the settings that stand in its table, or the
 //! first cause that holds; and on the ranges that each [`Config`] and each [`SubjectConfig`] keeps.
 //!
-//! Its tests stand in `crates/rx_script_tests`.
+//! Its tests stand in `crates/test_scripts`.
 #![tactic(auto)]
 
 mod budget;

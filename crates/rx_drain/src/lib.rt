@@ -15,7 +15,7 @@
 //!
 //! The sinks stand in a crate of their own below this one, and are exported again.
 //!
-//! Its tests stand in `crates/rx_thread_tests`.
+//! Its tests stand in `crates/test_threads`.
 #![tactic(auto)]
 
 pub(crate) mod drainer;

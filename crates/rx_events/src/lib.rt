@@ -8,7 +8,7 @@
 //! What is to stand above rests on what the sink says of its calls (`specs/Sinks.antt`), by how each note is told
 //! (`specs/Telling.antt`); [`laws`] says what a sink that is put away has written, and what its reader heard.
 //!
-//! Its tests stand in `crates/rx_http_tests`.
+//! Its tests stand in `crates/test_http`.
 #![tactic(auto)]
 
 mod event_sink;

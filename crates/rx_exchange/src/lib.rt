@@ -8,7 +8,7 @@
 //! The crates above rest on the contract of [`Exchange::turn`]: all turns together answer just the head of the bytes that they read
 //! (`specs/Exchanges.antt`). [`laws`] says where an exchange begins, and that others may call the server between its turns.
 //!
-//! Its tests stand in `crates/rx_http_tests`.
+//! Its tests stand in `crates/test_http`.
 #![tactic(auto)]
 
 mod coming;

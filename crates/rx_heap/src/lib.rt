@@ -6,7 +6,7 @@
 //! Many types that own memory have their `Drop` written by hand, in this crate and above it, where it could be derived: what lets
 //! go of one is then a call, which is proved once and not anew in each function that does. Such a one says `By hand`.
 //!
-//! Its tests stand in `crates/rx_tests`.
+//! Its tests stand in `crates/test_core`.
 #![tactic(auto)]
 
 mod budget;

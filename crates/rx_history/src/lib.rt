@@ -7,7 +7,7 @@
 //! observer: order, nothing twice, nothing lost under Buffer, nothing after a terminal, no more given than was requested,
 //! no more waiting than there is room for.
 //!
-//! Its tests stand in `crates/rx_tests`.
+//! Its tests stand in `crates/test_core`.
 #![tactic(auto)]
 
 mod history;

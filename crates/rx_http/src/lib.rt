@@ -6,7 +6,7 @@
 //! asks for, or the first cause for which it is refused; [`write_answer`] writes exactly the bytes of an answer; [`write_event`] writes exactly those of an event, of which [`laws`] says that a reader is told
 //! just that event by them, and by a stream that is cut anywhere a front of its events, with the id of the last.
 //!
-//! Its tests stand in `crates/rx_http_tests`.
+//! Its tests stand in `crates/test_http`.
 #![tactic(auto)]
 
 pub(crate) mod answer;

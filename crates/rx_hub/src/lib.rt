@@ -4,7 +4,7 @@
 //! delivery: for every history that a hub stands for, a step answers and gives what `rx_history` defines for that
 //! history and the event, and the hub then stands for the history with the event.
 //!
-//! Its tests stand in `crates/rx_tests`.
+//! Its tests stand in `crates/test_core`.
 #![tactic(auto)]
 
 mod audience;

@@ -5,7 +5,7 @@
 //! list of signals that a lane stands for, `ask`, `offer` and `end` give exactly what the definitions of `rx_note` give
 //! by that signal, and the lane then stands for the longer list.
 //!
-//! Its tests stand in `crates/rx_tests`.
+//! Its tests stand in `crates/test_core`.
 #![tactic(auto)]
 
 mod ask_error;

@@ -5,7 +5,7 @@
 //! lines where no read waits. `specs/Lines.antt` has what the lines of some bytes are, `Steps.antt`, `Feeds.antt` and
 //! `Bytes.antt` the words of the contracts.
 //!
-//! Its tests stand in `crates/rx_tests`.
+//! Its tests stand in `crates/test_core`.
 #![tactic(auto)]
 
 mod came;

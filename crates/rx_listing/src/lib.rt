@@ -4,7 +4,7 @@
 //! Nothing here reads a file. The crate above rests on one contract: what [`config_lines`] tells is exactly what
 //! `specs/Listings.antt` prints for the settings of the configuration. What is told of a refused one no contract says.
 //!
-//! Its tests stand in `crates/rx_script_tests`.
+//! Its tests stand in `crates/test_scripts`.
 #![tactic(auto)]
 
 mod advice;

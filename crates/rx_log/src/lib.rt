@@ -4,7 +4,7 @@
 //! one contract, the exact log: an entry counts exactly where the definitions say so of the whole list, and what of it is a
 //! machine's own, followed by what waits there, is exactly the list of its calls.
 //!
-//! Its tests stand in `crates/rx_log_tests`.
+//! Its tests stand in `crates/test_log`.
 #![tactic(auto)]
 
 mod call;

@@ -9,7 +9,7 @@
 //! contracts; `Rule.antt` has the rule that the channel of a box keeps at every moment. Whoever made several boxes of one kind
 //! and handed out their ports in rows, one of each box, ends them together by [`settle_each`], of which `Parts.antt` has the words.
 //!
-//! Its tests stand in `crates/rx_thread_tests`.
+//! Its tests stand in `crates/test_threads`.
 #![tactic(auto)]
 
 pub(crate) mod bell;

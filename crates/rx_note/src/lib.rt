@@ -4,7 +4,7 @@
 //! No queue and no subject stands here. The crates above rest on two facts: a `Text` and the room of a `Policy` are in
 //! their limits, and a copy is equal to its source.
 //!
-//! Its tests stand in `crates/rx_tests`.
+//! Its tests stand in `crates/test_core`.
 #![tactic(auto)]
 
 mod answer;

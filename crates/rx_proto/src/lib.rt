@@ -4,7 +4,7 @@
 //! on one fact: [`parse_line`] and [`parse_script`] accept exactly the lines of the grammar (`specs/Grammar.antt`), each
 //! with its meaning. [`laws`] says so both ways, and that what is printed tells what was meant.
 //!
-//! Its tests stand in `crates/rx_tests`.
+//! Its tests stand in `crates/test_core`.
 #![tactic(auto)]
 
 mod command;

@@ -11,7 +11,7 @@
 //! replies. And on the desk's calls (`CallDesk::call`): one call is one new ticket and one letter received, its answer.
 //! `specs/Marks.antt` has the definitions, `Pumps.antt`, `Serving.antt` and `Desks.antt` the words of the contracts.
 //!
-//! Its tests stand in `crates/rx_thread_tests`.
+//! Its tests stand in `crates/test_threads`.
 #![tactic(auto)]
 
 mod call;

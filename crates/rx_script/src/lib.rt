@@ -4,7 +4,7 @@
 //! (`specs/Transcripts.antt`). [`run_audit`] answers no line: it prints at the end what the stored histories of the same lines
 //! say of each observer (`specs/Audits.antt`). Nothing here waits, and nothing is of a server but its configuration.
 //!
-//! Its tests stand in `crates/rx_script_tests`.
+//! Its tests stand in `crates/test_scripts`.
 #![tactic(auto)]
 
 mod asked;

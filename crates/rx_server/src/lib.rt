@@ -12,7 +12,7 @@
 //! The configuration, and the desks of sessions with their workers, stand in crates of their own below this one, and are
 //! exported again.
 //!
-//! Its tests stand in `crates/rx_edge_tests`.
+//! Its tests stand in `crates/test_edge`.
 #![tactic(auto)]
 
 mod close_fault;

@@ -4,7 +4,7 @@
 //! bytes. An [`OpenSession`] is a session that waits for nobody: it is served turn by turn, and others between its turns.
 //! [`laws`] says what the lines of some bytes are, and that an open session is a session.
 //!
-//! Its tests stand in `crates/rx_tests`.
+//! Its tests stand in `crates/test_core`.
 #![tactic(auto)]
 
 mod desk;

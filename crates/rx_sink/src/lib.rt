@@ -11,7 +11,7 @@
 //! has the words in which a kind of sink tells what its calls do, `specs/KeptSinks.antt` what the lists stand for. [`laws`] says
 //! what the sinks of this crate have taken, and that nothing waits in them.
 //!
-//! Its tests stand in `crates/rx_thread_tests`.
+//! Its tests stand in `crates/test_threads`.
 #![tactic(auto)]
 
 mod asks;

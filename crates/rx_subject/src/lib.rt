@@ -5,7 +5,7 @@
 //! openings are those that `rx_history` defines, and it then stands for the history with the event. A [`TapeSubject`] does so
 //! where its items stand on a tape that its observers share.
 //!
-//! Its tests stand in `crates/rx_tests`.
+//! Its tests stand in `crates/test_core`.
 #![tactic(auto)]
 
 mod admit_error;

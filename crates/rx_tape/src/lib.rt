@@ -5,7 +5,7 @@
 //! reads the item at its place, no call moves another's cursor, and what every cursor has passed is removed, save the last
 //! items that are to be kept.
 //!
-//! Its tests stand in `crates/rx_tests`.
+//! Its tests stand in `crates/test_core`.
 #![tactic(auto)]
 
 mod places;

@@ -10,7 +10,7 @@
 //! (`SessionDesks.antt`), what a worker does and leaves (`Working.antt`, `Workers.antt`) and where connections go
 //! (`Accepting.antt`).
 //!
-//! What it does is tested over a server, in `rx_edge_tests`.
+//! What it does is tested over a server, in `test_edge`.
 #![tactic(auto)]
 
 mod accepting;

@@ -1,6 +1,0 @@
-use Rattle.rx_pump.specs.Desks.{KeepsDesk}
-use Rattle.rx_edge_tests.proofs.order.emit_items.Given as goal
-
--- the desk is where it was
-abbrev pub invariant-loop-number : goal.invariant-loop-number
-invariant-loop-number g l = KeepsDesk l.initial.caller.desk l.caller.desk

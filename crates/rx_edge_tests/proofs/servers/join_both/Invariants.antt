@@ -1,6 +1,0 @@
-use Rattle.rx_pump.specs.Desks.{KeepsDesk}
-use Rattle.rx_edge_tests.proofs.servers.join_both.Given as goal
-
--- the desk keeps what no call changes
-abbrev pub invariant-loop-who : goal.invariant-loop-who
-invariant-loop-who g l = KeepsDesk l.initial.caller.desk l.caller.desk

@@ -1,7 +1,0 @@
-use Rattle.std.proofs.Common.{arith}
-use Rattle.std.proofs.lemmas.Grind.{common_steps}
-use Rattle.rx_tests.proofs.Places.{has_place}
-use Rattle.rx_tests.proofs.subjects.Tried.admitted.Goals as goal
-
-pub admit-requires : goal.admit-requires
-admit-requires c = has_place _ _ (grind (arith, common_steps))

@@ -1,0 +1,8 @@
+use Rattle.rx_server.proofs.Desks.{keeps-none, keeps-then}
+use Rattle.test_edge.proofs.going_on.emit_often.Goals as goal
+
+pub loop-init : goal.loop-init
+loop-init g c = keeps-none c.args.caller.now.desk
+
+pub loop-preserved : goal.loop-preserved
+loop-preserved g c = keeps-then c.args.caller.now.desk c.loop.caller.desk c.emit_together.new.caller.desk c.loop.invariant c.emit_together.ensures
