@@ -6,9 +6,9 @@ use Rattle.std.proofs.lemmas.Slice.Zip.{get_or-zip, length-zip}
 use Rattle.std.specs.List.{flat_map, zip}
 use Rattle.rx_config.specs.declared.config.Config.{Config}
 use Rattle.rx_pump.specs.declared.call_desk.ended_desk.EndedDesk.{EndedDesk}
-use Rattle.rx_server.specs.declared.close_fault.CloseFault.{CloseFault}
-use Rattle.rx_server.specs.declared.report.Report.{Report}
-use Rattle.rx_server.specs.declared.report.SubjectReport.{SubjectReport}
+use Rattle.rx_server.specs.declared.close.close_fault.CloseFault.{CloseFault}
+use Rattle.rx_server.specs.declared.close.report.Report.{Report}
+use Rattle.rx_server.specs.declared.close.report.SubjectReport.{SubjectReport}
 use Rattle.rx_server.specs.Servers.{Closes, Fails, ServerView}
 use Rattle.rx_sink.specs.Acts.{Acts}
 use Rattle.rx_program.specs.Reporting.{Closed, ClosesWith, report_line, report_lines}

@@ -21,10 +21,10 @@ use Rattle.rx_listing.specs.Listings.{config_lines}
 use Rattle.rx_session.specs.declared.session_end.SessionEnd.{SessionEnd}
 use Rattle.rx_session.specs.declared.session_end.SessionEnd.TheVariants as ends
 use Rattle.rx_script.specs.Audits.{Audits, BreaksOff}
-use Rattle.rx_server.specs.declared.start_fault.StartFault.{StartFault}
+use Rattle.rx_server.specs.declared.wired.start_fault.StartFault.{StartFault}
 use Rattle.rx_sink.specs.Acts.{Acts}
-use Rattle.rx_workers.specs.declared.serve_fault.ServeFault.{ServeFault}
-use Rattle.rx_workers.specs.declared.serve_fault.ServeFault.TheVariants as serves
+use Rattle.rx_workers.specs.declared.crew.serve_fault.ServeFault.{ServeFault}
+use Rattle.rx_workers.specs.declared.crew.serve_fault.ServeFault.TheVariants as serves
 use Rattle.rx_program.specs.CommandLines.{Asks, IsAgainst, IsHelp}
 use Rattle.rx_program.specs.Reporting.{Closed, ClosesWith, names_of, report_lines}
 use Rattle.rx_script.specs.Scripts.{Runs, new_subjects}

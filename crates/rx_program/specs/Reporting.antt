@@ -7,9 +7,9 @@ use Rattle.rx_listing.specs.Listings.{number_words}
 use Rattle.rx_proto.specs.Bytes.{Writes}
 use Rattle.rx_proto.specs.Printing.{line}
 use Rattle.rx_pump.specs.declared.call_desk.ended_desk.EndedDesk.{EndedDesk}
-use Rattle.rx_server.specs.declared.close_fault.CloseFault.{CloseFault}
-use Rattle.rx_server.specs.declared.report.Report.{Report}
-use Rattle.rx_server.specs.declared.report.SubjectReport.{SubjectReport}
+use Rattle.rx_server.specs.declared.close.close_fault.CloseFault.{CloseFault}
+use Rattle.rx_server.specs.declared.close.report.Report.{Report}
+use Rattle.rx_server.specs.declared.close.report.SubjectReport.{SubjectReport}
 use Rattle.rx_server.specs.Servers.{Closes, Fails, ServerView}
 use Rattle.rx_sink.specs.Acts.{Acts}
 

@@ -19,7 +19,7 @@ use Rattle.rx_pump.specs.Serving.{PumpServes}
 use Rattle.rx_drain.specs.declared.drainer.drain_end.DrainEnd.{DrainEnd}
 use Rattle.rx_sink.specs.Acts.{Acts}
 use Rattle.rx_server.specs.Arriving.{EachDeskIsAnswered, EachLetterArrives, EachRequestArrives}
-use Rattle.rx_server.specs.declared.report.Report.{Report}
+use Rattle.rx_server.specs.declared.close.report.Report.{Report}
 use Rattle.rx_server.specs.Servers.{AreRepliesOf, Closes, GotEach, ServerView}
 
 -- what holds of each pair holds of the one at a place

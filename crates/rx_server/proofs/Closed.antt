@@ -13,8 +13,8 @@ use Rattle.rx_sink.specs.Rests.{RestsView}
 use Rattle.rx_drain.specs.declared.drainer.drain_end.DrainEnd.{DrainEnd}
 use Rattle.rx_drain.specs.Drainers.{DrainerView}
 use Rattle.rx_drain.specs.Serving as drainer_serving
-use Rattle.rx_server.specs.declared.close_fault.CloseFault.{CloseFault}
-use Rattle.rx_server.specs.declared.report.Report.{Report}
+use Rattle.rx_server.specs.declared.close.close_fault.CloseFault.{CloseFault}
+use Rattle.rx_server.specs.declared.close.report.Report.{Report}
 use Rattle.rx_server.specs.Returning.{HaveSettledSo, Unsettles}
 use Rattle.rx_server.specs.Servers.{Closes, Fails, HaveSettled, IsEndOf, IsWhole, Reports, ServerView}
 use Rattle.rx_server.proofs.Complete.{came-each, lacks-one}

@@ -25,12 +25,12 @@ use Rattle.rx_drain.specs.Drainers.{DrainerView}
 use Rattle.rx_drain.specs.Serving as drainer_serving
 use Rattle.rx_mailbox.specs.Parts.{FirstUnsettled, PartsView, Settles, dealt_each, with_inboxes}
 use Rattle.rx_mailbox.proofs.Gathered.{dealt-inboxes, dealt_each-count, dealt_each-inboxes, with_inboxes-all, with_inboxes-count, with_inboxes-ports, inboxes_of}
-use Rattle.rx_server.specs.declared.close_fault.CloseCause.{CloseCause}
-use Rattle.rx_server.specs.declared.close_fault.CloseCause.TheVariants.{Unsettled}
-use Rattle.rx_server.specs.declared.close_fault.CloseFault.{CloseFault}
-use Rattle.rx_server.specs.declared.returned.Returned.{Returned}
-use Rattle.rx_server.specs.declared.start_fault.Role.{Role}
-use Rattle.rx_server.specs.declared.start_fault.Role.TheVariants.{Drainer, Pump, Worker}
+use Rattle.rx_server.specs.declared.close.close_fault.CloseCause.{CloseCause}
+use Rattle.rx_server.specs.declared.close.close_fault.CloseCause.TheVariants.{Unsettled}
+use Rattle.rx_server.specs.declared.close.close_fault.CloseFault.{CloseFault}
+use Rattle.rx_server.specs.declared.close.returned.Returned.{Returned}
+use Rattle.rx_server.specs.declared.wired.start_fault.Role.{Role}
+use Rattle.rx_server.specs.declared.wired.start_fault.Role.TheVariants.{Drainer, Pump, Worker}
 use Rattle.rx_server.specs.Leaving.{HasItsBoxes}
 use Rattle.rx_server.specs.Returning.{AreEmpty, CameTwice, EachDeskOnce, HaveComeBack, HaveSettledSo, StopsAt, Unsettles, number_of}
 use Rattle.rx_server.specs.Servers.{IsEndOf, IsWhole, ServerView}

@@ -14,7 +14,7 @@ use Rattle.rx_pump.specs.Serving as pump_serving
 use Rattle.rx_sink.specs.Acts.{Acts}
 use Rattle.rx_drain.specs.Drainers.{DrainerView}
 use Rattle.rx_drain.specs.Serving as drainer_serving
-use Rattle.rx_server.specs.declared.rooms.Rooms.{Rooms}
+use Rattle.rx_server.specs.declared.close.rooms.Rooms.{Rooms}
 use Rattle.rx_server.specs.Leaving.{AreRow, HasItsBoxes, HasLeft}
 use Rattle.rx_server.specs.Returning.{AreEmpty}
 use Rattle.rx_server.specs.Rooms.{AreRooms, HoldBoxes}

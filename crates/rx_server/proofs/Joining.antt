@@ -17,8 +17,8 @@ use Rattle.rx_pump.specs.Desks.{DeskView, fresh_desk}
 use Rattle.rx_drain.specs.Drainers.{DrainerView, fresh_drainer}
 use Rattle.rx_config.specs.declared.config.Config.{Config}
 use Rattle.rx_config.specs.declared.subject_config.SubjectConfig.{SubjectConfig}
-use Rattle.rx_server.specs.declared.rooms.Rooms.{Rooms}
-use Rattle.rx_server.specs.declared.wiring.Boxes.{Boxes}
+use Rattle.rx_server.specs.declared.close.rooms.Rooms.{Rooms}
+use Rattle.rx_server.specs.declared.wired.Boxes.{Boxes}
 use Rattle.rx_workers.specs.Crews.{IsFor}
 use Rattle.rx_server.specs.OpenBoxes.{AreOpenFor}
 use Rattle.rx_server.specs.Rooms.{AreRooms}

@@ -6,10 +6,10 @@ use Rattle.std.proofs.lemmas.Option.{slice_get_within}
 use Rattle.std.proofs.lemmas.Slice.Zip.{all_zipped_more, AllZip-long}
 use Rattle.std.specs.List.{AllZip}
 use Rattle.rx_pump.proofs.Placing.{slice_get-append_left}
-use Rattle.rx_server.specs.declared.close_fault.CloseCause.TheVariants.{Ended}
-use Rattle.rx_server.specs.declared.close_fault.CloseFault.{CloseFault}
-use Rattle.rx_server.specs.declared.start_fault.Role.{Role}
-use Rattle.rx_server.specs.declared.start_fault.Role.TheVariants.{Drainer, Pump}
+use Rattle.rx_server.specs.declared.close.close_fault.CloseCause.TheVariants.{Ended}
+use Rattle.rx_server.specs.declared.close.close_fault.CloseFault.{CloseFault}
+use Rattle.rx_server.specs.declared.wired.start_fault.Role.{Role}
+use Rattle.rx_server.specs.declared.wired.start_fault.Role.TheVariants.{Drainer, Pump}
 use Rattle.rx_pump.specs.declared.pump.pump_end.PumpEnd.{PumpEnd}
 use Rattle.rx_pump.specs.Pumps.{PumpView}
 use Rattle.rx_pump.specs.Serving as pump_serving

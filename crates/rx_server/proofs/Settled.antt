@@ -17,8 +17,8 @@ use Rattle.rx_mailbox.specs.Rests.{ReceivesMore}
 use Rattle.rx_mailbox.specs.Parts.{AreOfOneBox, PartsView, Settles, dealt, dealt_each, with_inboxes}
 use Rattle.rx_mailbox.proofs.Gathered.{AllInboxes, AllPorts, dealt-all, dealt-inboxes, dealt-of, dealt_each-all, dealt_each-count, dealt_each-inboxes, dealt_each-of, empty-inboxes, empty-ports, with_inboxes-all, with_inboxes-count, with_inboxes-ports, inboxes-of, inboxes_of, of-one-box, ports-of, ports-same, received-none, settled-at, settled-came, settled-empty, settled-got}
 use Rattle.rx_mailbox.proofs.Rows.{dealt-count}
-use Rattle.rx_server.specs.declared.rooms.Rooms.{Rooms}
-use Rattle.rx_server.specs.declared.settled_boxes.SettledBoxes.{SettledBoxes}
+use Rattle.rx_server.specs.declared.close.rooms.Rooms.{Rooms}
+use Rattle.rx_server.specs.declared.close.settled_boxes.SettledBoxes.{SettledBoxes}
 use Rattle.rx_server.specs.Leaving.{AreRow, HasItsBoxes, HasLeft}
 use Rattle.rx_server.specs.Returning.{HaveComeBack, number_of}
 use Rattle.rx_server.specs.Rooms.{HoldBoxes}

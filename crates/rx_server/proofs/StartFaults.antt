@@ -1,9 +1,9 @@
 -- Which thread of a server could not be had.
 use Rattle.std.proofs.Common.{sym, refl, subst, ℕ, ◌<◌, ◌≤◌, ◌≢◌, ◌⊎◌, length, inl, inr, arith}
 use Rattle.rx_config.specs.declared.config.Config.{Config}
-use Rattle.rx_server.specs.declared.start_fault.Role.{Role}
-use Rattle.rx_server.specs.declared.start_fault.Role.TheVariants.{Drainer, Pump, Worker}
-use Rattle.rx_server.specs.declared.start_fault.StartFault.{StartFault}
+use Rattle.rx_server.specs.declared.wired.start_fault.Role.{Role}
+use Rattle.rx_server.specs.declared.wired.start_fault.Role.TheVariants.{Drainer, Pump, Worker}
+use Rattle.rx_server.specs.declared.wired.start_fault.StartFault.{StartFault}
 use Rattle.rx_server.specs.Starting.{CannotRun, IsStartFaultOf, NoMemoryBelow, NoMemoryFor, NoMemoryIn, NoThreadFor, threads_of}
 
 -- a fault of one is a fault of one of so many

@@ -10,10 +10,10 @@ use Rattle.rx_pump.specs.declared.pump.pump_end.PumpEnd.{PumpEnd}
 use Rattle.rx_pump.specs.declared.reply.Reply.{Reply}
 use Rattle.rx_drain.specs.declared.drainer.drain_end.DrainEnd.{DrainEnd}
 use Rattle.rx_mailbox.specs.Parts.{FirstUnsettled, PartsView, Settles}
-use Rattle.rx_server.specs.declared.close_fault.CloseCause.TheVariants.{Unsettled}
-use Rattle.rx_server.specs.declared.close_fault.CloseFault.{CloseFault}
-use Rattle.rx_server.specs.declared.rooms.Rooms.{Rooms}
-use Rattle.rx_server.specs.declared.start_fault.Role.TheVariants.{Drainer, Pump, Worker}
+use Rattle.rx_server.specs.declared.close.close_fault.CloseCause.TheVariants.{Unsettled}
+use Rattle.rx_server.specs.declared.close.close_fault.CloseFault.{CloseFault}
+use Rattle.rx_server.specs.declared.close.rooms.Rooms.{Rooms}
+use Rattle.rx_server.specs.declared.wired.start_fault.Role.TheVariants.{Drainer, Pump, Worker}
 use Rattle.rx_server.specs.Leaving.{HasLeft}
 use Rattle.rx_server.specs.Returning.{AreEmpty, CameTwice, HaveSettledSo, StopsAt, Unsettles}
 use Rattle.rx_server.specs.Wirings.{Wiring}

@@ -6,7 +6,7 @@ use Rattle.rx_config.specs.declared.config.Config.{Config}
 use Rattle.rx_pump.specs.declared.call_desk.ended_desk.EndedDesk.{EndedDesk}
 use Rattle.rx_pump.specs.Desks.{DeskView}
 use Rattle.rx_workers.specs.Crews.{IsFor}
-use Rattle.rx_server.specs.declared.rooms.Rooms.{Rooms}
+use Rattle.rx_server.specs.declared.close.rooms.Rooms.{Rooms}
 use Rattle.rx_server.specs.Rooms.{AreRooms}
 use Rattle.rx_server.specs.Servers.{IsDeskOf, IsEndOf, IsWhole, RunsOn, ServerView, server_of}
 use Rattle.rx_server.proofs.Desks.{desks-left}

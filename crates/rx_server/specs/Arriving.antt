@@ -15,7 +15,7 @@ use Rattle.rx_pump.specs.declared.reply.Reply.{Reply}
 use Rattle.rx_pump.specs.Marks.{Marked, letters_of, replies, route}
 use Rattle.rx_pump.specs.Pumps.{PumpView}
 use Rattle.rx_sink.specs.Acts.{Acts}
-use Rattle.rx_server.specs.declared.report.Report.{Report}
+use Rattle.rx_server.specs.declared.close.report.Report.{Report}
 use Rattle.rx_server.specs.Servers.{Closes, ServerView}
 
 module _ {S : Type 0} where

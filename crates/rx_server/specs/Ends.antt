@@ -1,9 +1,9 @@
 -- What the threads of a role leave, as they are joined one after another (this project's own rule).
 use Rattle.std.specs.Prelude.{◌≡◌, ℕ, List, [], ◌∷◌, ◌++◌, length, take, Option, None, Some, Result, Ok, Err, MatchResult, slice_get}
 use Rattle.std.specs.List.{AllZip}
-use Rattle.rx_server.specs.declared.close_fault.CloseCause.TheVariants.{Ended}
-use Rattle.rx_server.specs.declared.close_fault.CloseFault.{CloseFault}
-use Rattle.rx_server.specs.declared.start_fault.Role.{Role}
+use Rattle.rx_server.specs.declared.close.close_fault.CloseCause.TheVariants.{Ended}
+use Rattle.rx_server.specs.declared.close.close_fault.CloseFault.{CloseFault}
+use Rattle.rx_server.specs.declared.wired.start_fault.Role.{Role}
 
 module _ {T E F : Type 0} (served : T → E → Type 0) (stopped : T → F → Type 0) where
   -- each thread served to its end, or stopped at a fault of its own

@@ -25,7 +25,7 @@ use Rattle.rx_drain.specs.declared.drainer.drain_end.DrainEnd.{DrainEnd}
 use Rattle.rx_drain.specs.Drainers.{DrainerView}
 use Rattle.rx_drain.specs.Logs.{Log, letters, gone_in}
 use Rattle.rx_drain.specs.Serving.{DrainerServes}
-use Rattle.rx_server.specs.declared.report.Report.{Report}
+use Rattle.rx_server.specs.declared.close.report.Report.{Report}
 use Rattle.rx_server.specs.Servers.{Closes, ServerView}
 
 -- these are the first of those

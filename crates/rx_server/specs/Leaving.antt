@@ -4,7 +4,7 @@ use Rattle.std.specs.List.{All}
 use Rattle.rx_mailbox.specs.Boxes.{Box, HasEachBye, Outgoing}
 use Rattle.rx_pump.specs.declared.call_desk.ended_desk.EndedDesk.{EndedDesk}
 use Rattle.rx_pump.specs.Pumps.{port_place}
-use Rattle.rx_server.specs.declared.rooms.Rooms.{Rooms}
+use Rattle.rx_server.specs.declared.close.rooms.Rooms.{Rooms}
 use Rattle.rx_server.specs.Returning.{AreEmpty}
 use Rattle.rx_server.specs.Rooms.{HoldBoxes}
 use Rattle.rx_server.specs.Wirings.{Wiring}

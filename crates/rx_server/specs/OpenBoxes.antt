@@ -3,8 +3,8 @@
 use Rattle.std.specs.Prelude.{◌≡◌, ◌+◌, ◌≤◌, [], length, vec_capacity}
 use Rattle.std.specs.Vec.Iter.{into_iter_items}
 use Rattle.rx_config.specs.declared.config.Config.{Config}
-use Rattle.rx_server.specs.declared.wiring.Boxes.{Boxes}
-use Rattle.rx_server.specs.declared.wiring.Wired.{Wired}
+use Rattle.rx_server.specs.declared.wired.Boxes.{Boxes}
+use Rattle.rx_server.specs.declared.wired.Wired.{Wired}
 use Rattle.rx_server.specs.Wirings.{AreOpened, Wiring, drainer_capacity}
 
 module _ {S : Type 0} where

@@ -24,11 +24,11 @@ use Rattle.rx_pump.specs.declared.call_desk.ended_desk.EndedDesk.{EndedDesk}
 use Rattle.rx_pump.specs.declared.out.Out.{Out}
 use Rattle.rx_pump.specs.declared.pump.pump_end.PumpEnd.{PumpEnd}
 use Rattle.rx_pump.specs.declared.reply.Reply.{Reply}
-use Rattle.rx_server.specs.declared.close_fault.CloseCause.TheVariants.{Unsettled}
-use Rattle.rx_server.specs.declared.close_fault.CloseFault.{CloseFault}
-use Rattle.rx_server.specs.declared.returned.Returned.{Returned}
-use Rattle.rx_server.specs.declared.start_fault.Role.{Role}
-use Rattle.rx_server.specs.declared.start_fault.Role.TheVariants.{Drainer, Pump, Worker}
+use Rattle.rx_server.specs.declared.close.close_fault.CloseCause.TheVariants.{Unsettled}
+use Rattle.rx_server.specs.declared.close.close_fault.CloseFault.{CloseFault}
+use Rattle.rx_server.specs.declared.close.returned.Returned.{Returned}
+use Rattle.rx_server.specs.declared.wired.start_fault.Role.{Role}
+use Rattle.rx_server.specs.declared.wired.start_fault.Role.TheVariants.{Drainer, Pump, Worker}
 use Rattle.rx_mailbox.specs.Parts.{FirstUnsettled, IsEmpty, LacksInbox, PartsView, Settles, dealt, dealt_each, with_inboxes, placed}
 
 module _ {S : Type 0} where

@@ -1,7 +1,7 @@
 -- Room that a server keeps for its close (this project's own rule).
 use Rattle.std.specs.Prelude.{◌≡◌, ◌+◌, ◌≤◌, ℕ, [], vec_len, vec_capacity}
-use Rattle.rx_server.specs.declared.rooms.Rooms.{Rooms}
-use Rattle.rx_server.specs.declared.settled_boxes.SettledBoxes.{SettledBoxes}
+use Rattle.rx_server.specs.declared.close.rooms.Rooms.{Rooms}
+use Rattle.rx_server.specs.declared.close.settled_boxes.SettledBoxes.{SettledBoxes}
 use Rattle.rx_server.specs.Returning.{AreEmpty}
 
 module _ {S : Type 0} where

@@ -19,14 +19,14 @@ use Rattle.rx_sink.specs.Acts.{Acts}
 use Rattle.rx_drain.specs.declared.drainer.drain_end.DrainEnd.{DrainEnd}
 use Rattle.rx_drain.specs.Drainers.{DrainerView}
 use Rattle.rx_drain.specs.Serving as drainer_serving
-use Rattle.rx_server.specs.declared.close_fault.CloseCause.TheVariants.{Ended, Unsettled}
-use Rattle.rx_server.specs.declared.close_fault.CloseFault.{CloseFault}
+use Rattle.rx_server.specs.declared.close.close_fault.CloseCause.TheVariants.{Ended, Unsettled}
+use Rattle.rx_server.specs.declared.close.close_fault.CloseFault.{CloseFault}
 use Rattle.rx_config.specs.declared.config.Config.{Config}
-use Rattle.rx_server.specs.declared.report.SubjectReport.{SubjectReport}
-use Rattle.rx_server.specs.declared.report.Report.{Report}
-use Rattle.rx_server.specs.declared.settled_boxes.SettledBoxes.{SettledBoxes}
-use Rattle.rx_server.specs.declared.start_fault.Role.{Role}
-use Rattle.rx_server.specs.declared.start_fault.Role.TheVariants.{Drainer, Pump, Worker}
+use Rattle.rx_server.specs.declared.close.report.SubjectReport.{SubjectReport}
+use Rattle.rx_server.specs.declared.close.report.Report.{Report}
+use Rattle.rx_server.specs.declared.close.settled_boxes.SettledBoxes.{SettledBoxes}
+use Rattle.rx_server.specs.declared.wired.start_fault.Role.{Role}
+use Rattle.rx_server.specs.declared.wired.start_fault.Role.TheVariants.{Drainer, Pump, Worker}
 use Rattle.rx_server.specs.Ends.{FirstStopped, AreOver}
 use Rattle.rx_server.specs.Returning.{EachDeskOnce}
 use Rattle.rx_server.specs.Wirings.{Wiring, IsWired, joined_parts}

@@ -8,10 +8,10 @@
 -- each subject, of which there is one at least.
 use Rattle.std.specs.Prelude.{◌≡◌, ◌≢◌, ◌<◌, ◌⊎◌, ℕ, length}
 use Rattle.rx_config.specs.declared.config.Config.{Config}
-use Rattle.rx_server.specs.declared.start_fault.Role.{Role}
-use Rattle.rx_server.specs.declared.start_fault.Role.TheVariants.{Drainer, Pump, Worker}
-use Rattle.rx_server.specs.declared.start_fault.StartCause.TheVariants.{Memory, NoThread}
-use Rattle.rx_server.specs.declared.start_fault.StartFault.{StartFault}
+use Rattle.rx_server.specs.declared.wired.start_fault.Role.{Role}
+use Rattle.rx_server.specs.declared.wired.start_fault.Role.TheVariants.{Drainer, Pump, Worker}
+use Rattle.rx_server.specs.declared.wired.start_fault.StartCause.TheVariants.{Memory, NoThread}
+use Rattle.rx_server.specs.declared.wired.start_fault.StartFault.{StartFault}
 
 -- there was no memory for what the thread of this role and number needs
 abbrev pub NoMemoryFor : Role → ℕ → StartFault → Type 0

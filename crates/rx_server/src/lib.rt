@@ -15,25 +15,14 @@
 //! Its tests stand in `crates/test_edge`.
 #![tactic(auto)]
 
-mod close_fault;
-mod closing;
-mod hosting;
+pub(crate) mod close;
+mod hosted;
 pub mod laws;
-mod making;
-mod opened;
-mod port_row;
-mod report;
-mod returned;
-mod rooms;
-mod running;
-mod running_pump;
 mod server;
-mod settled_boxes;
-mod start_fault;
-mod wiring;
+pub(crate) mod wired;
 
-pub use close_fault::{CloseCause, CloseFault};
-pub use report::{Report, SubjectReport};
+pub use close::close_fault::{CloseCause, CloseFault};
+pub use close::report::{Report, SubjectReport};
 pub use rx_config::{Budget, Config, ConfigError, SubjectConfig, read_config};
 pub use rx_session::response_to;
 pub use rx_workers::{
@@ -42,4 +31,4 @@ pub use rx_workers::{
     accept_all, serve_connections, start_worker,
 };
 pub use server::{Server, start, start_unread};
-pub use start_fault::{Role, StartCause, StartFault};
+pub use wired::start_fault::{Role, StartCause, StartFault};

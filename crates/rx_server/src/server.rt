@@ -6,10 +6,10 @@ ghost use Rattle.rx_server.specs.Wirings.{Wiring};
 ghost use Rattle.rx_server.specs.Servers.{IsServerOf};
 ghost use Rattle.rx_server.specs.Starting.{IsStartFaultOf, NoMemoryFor};
 
-use crate::rooms::Rooms;
-use crate::running::Running;
-use crate::start_fault::{Role, StartFault};
-use crate::wiring::wire;
+use crate::close::rooms::Rooms;
+use crate::wired::running::Running;
+use crate::wired::start_fault::{Role, StartFault};
+use crate::wired::wire;
 use rx_config::Config;
 use rx_heap::{Heap, Memory};
 use rx_mailbox::{Port, let_go_all};

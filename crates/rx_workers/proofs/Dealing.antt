@@ -11,8 +11,8 @@ use Rattle.rx_pump.specs.Marks.{to_port}
 use Rattle.rx_mailbox.specs.PortRows.{Puts}
 use Rattle.rx_pump.proofs.Putting.{Puts-at, Puts-none, Puts-same, Puts-then}
 use Rattle.rx_workers.specs.Accepting.{dealt, Deals, Accepts, AcceptsAll, AcceptsNext, HoldsNothing}
-use Rattle.rx_workers.specs.declared.accepting.AcceptStop.{AcceptStop}
-use Rattle.rx_workers.specs.declared.accepting.AcceptStop.TheVariants.{NoConnection, WorkerGone}
+use Rattle.rx_workers.specs.declared.crew.acceptor.AcceptStop.{AcceptStop}
+use Rattle.rx_workers.specs.declared.crew.acceptor.AcceptStop.TheVariants.{NoConnection, WorkerGone}
 
 module _ {X : Type 0} where
   -- one connection is sent to its worker

@@ -2,7 +2,6 @@ pub mod Crews
 pub mod Dealing
 pub mod Keeping
 pub mod Places
-pub mod Queues
 pub mod Received
 pub mod Service
 pub mod Sessions

@@ -5,9 +5,9 @@ use Rattle.std.proofs.lemmas.List.Quantifiers.{position-Some}
 use Rattle.std.specs.List.{All}
 use Rattle.std.proofs.lemmas.List.Elements.{All-cons, All-head, All-nil, All-tail}
 use Rattle.rx_workers.specs.Clients.{AreSameClients, IsQuiet, IsTalk, Sets, client_at, first_vacant}
-use Rattle.rx_workers.specs.declared.client.Client.{Client}
-use Rattle.rx_workers.specs.declared.client.Client.TheVariants.{Talks}
-use Rattle.rx_workers.specs.declared.client.Talk.{Talk}
+use Rattle.rx_workers.specs.declared.worker.client.Client.{Client}
+use Rattle.rx_workers.specs.declared.worker.client.Client.TheVariants.{Talks}
+use Rattle.rx_workers.specs.declared.worker.client.Talk.{Talk}
 
 module _ {C W : Type 0} where
   -- a vacant place more

@@ -18,15 +18,15 @@ use Rattle.rx_sink.specs.declared.line_sink.LineSink.{LineSink}
 use Rattle.rx_workers.specs.Accepting.{dealt, Deals, AcceptsAll}
 use Rattle.rx_workers.specs.Crews.{AreOut, IsPortOf, NamesLast, worker_desk, first_lost}
 use Rattle.rx_workers.specs.Service.{DealsUntil, EndsEarly, FirstEndsEarly, HasServedJust, HaveServedFrom, HaveServedAll, IsNewOver, ServesUntil, fault_in, port_to, session_over, with_lost}
-use Rattle.rx_workers.specs.SessionDesks.{SessionView, no_queue}
+use Rattle.rx_desk.specs.SessionDesks.{SessionView, no_queue}
 use Rattle.rx_workers.specs.Telling.{IsTold}
 use Rattle.rx_workers.specs.Workers.{HasEnded, worker_at_end}
 use Rattle.rx_workers.specs.Working.{WorkerView, worker, HasWorked, state, came}
-use Rattle.rx_workers.specs.declared.accepting.AcceptStop.{AcceptStop}
-use Rattle.rx_workers.specs.declared.accepting.AcceptStop.TheVariants.{NoConnection, WorkerGone}
-use Rattle.rx_workers.specs.declared.serve_fault.ServeFault.{ServeFault}
-use Rattle.rx_workers.specs.declared.serve_fault.ServeFault.TheVariants.{NoDesk, Accept, Thread, Memory}
-use Rattle.rx_workers.specs.declared.worker_end.WorkerEnd.{WorkerEnd}
+use Rattle.rx_workers.specs.declared.crew.acceptor.AcceptStop.{AcceptStop}
+use Rattle.rx_workers.specs.declared.crew.acceptor.AcceptStop.TheVariants.{NoConnection, WorkerGone}
+use Rattle.rx_workers.specs.declared.crew.serve_fault.ServeFault.{ServeFault}
+use Rattle.rx_workers.specs.declared.crew.serve_fault.ServeFault.TheVariants.{NoDesk, Accept, Thread, Memory}
+use Rattle.rx_workers.specs.declared.worker.worker_end.WorkerEnd.{WorkerEnd}
 use Rattle.rx_workers.proofs.Received.{IsFrom, bodies, bodies-posts, share-all, works_came}
 
 -- LISTS

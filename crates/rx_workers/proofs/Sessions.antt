@@ -22,9 +22,9 @@ use Rattle.rx_session.specs.declared.open_session.OpenSession.{OpenSession}
 use Rattle.rx_session.specs.declared.turn.Turn.{Turn}
 use Rattle.rx_session.proofs.ByTurns.{Through-begun}
 use Rattle.rx_sink.specs.declared.line_sink.LineSink.{LineSink}
-use Rattle.rx_workers.specs.SessionDesks.{SessionView, KeepsSession, place_of, emits, follows, EmitsAt, FollowsAt}
+use Rattle.rx_desk.specs.SessionDesks.{SessionView, KeepsSession, place_of, emits, follows, EmitsAt, FollowsAt}
 use Rattle.rx_workers.specs.Working.{TakesTurn, calls}
-use Rattle.rx_workers.specs.declared.client.Talk.{Talk}
+use Rattle.rx_workers.specs.declared.worker.client.Talk.{Talk}
 use Rattle.rx_workers.proofs.Keeping.{sits_keeps}
 
 module _ {S : Type 0} where

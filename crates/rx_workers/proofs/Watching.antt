@@ -3,7 +3,7 @@ use Rattle.std.proofs.Common.{◌≡◌, ℕ, zero, suc, List, [], Option, None,
 use Rattle.std.proofs.lemmas.Bool.{cases_eq}
 use Rattle.rx_workers.specs.Clients.{AreSameClients, Sets, client_at}
 use Rattle.rx_workers.specs.Watching.{AreWatched, Watches, WatchesNothing, WatchesSame, aim_of}
-use Rattle.rx_workers.specs.declared.client.Client.{Client}
+use Rattle.rx_workers.specs.declared.worker.client.Client.{Client}
 use Rattle.rx_workers.specs.declared.readiness.Aim.{Aim}
 
 module _ {C W : Type 0} where

@@ -17,13 +17,13 @@ use Rattle.rx_session.proofs.Amongst.{Sitting-then}
 use Rattle.rx_session.proofs.ByTurns.{IsOver-session, Sitting-new}
 use Rattle.rx_sink.specs.declared.line_sink.LineSink.{LineSink}
 use Rattle.rx_workers.specs.Clients.{AreSameClients, IsQuiet, IsTalk, Sets, client_at}
-use Rattle.rx_workers.specs.SessionDesks.{Queue, SessionView, KeepsSession}
+use Rattle.rx_desk.specs.SessionDesks.{Queue, SessionView, KeepsSession}
 use Rattle.rx_config.specs.declared.subject_config.SubjectConfig.{SubjectConfig}
-use Rattle.rx_workers.specs.declared.client.Client.{Client}
-use Rattle.rx_workers.specs.declared.client.Client.TheVariants.{Talks, Follows}
-use Rattle.rx_workers.specs.declared.client.Talk.{Talk}
-use Rattle.rx_workers.specs.declared.joined.Joined.{Joined}
-use Rattle.rx_workers.specs.declared.worker_end.WorkerEnd.{WorkerEnd}
+use Rattle.rx_workers.specs.declared.worker.client.Client.{Client}
+use Rattle.rx_workers.specs.declared.worker.client.Client.TheVariants.{Talks, Follows}
+use Rattle.rx_workers.specs.declared.worker.client.Talk.{Talk}
+use Rattle.rx_desk.specs.declared.joined.Joined.{Joined}
+use Rattle.rx_workers.specs.declared.worker.worker_end.WorkerEnd.{WorkerEnd}
 use Rattle.rx_workers.specs.Workers.{worker_at_end}
 use Rattle.rx_workers.specs.Working.{WorkerView, worker, State, state, Deed, Admitted, GivenUp, Dismissed, Abandoned, Turned, Parted, admitted, Begins, IsTalkOf, Leaves, HasArrivals, HasConnection, HasNoConnection, HasTurn, HasTurnBehind, HasTurnTo, HasTurns, IsConnection, PartsAt, ServesAt, Does, Works, DoesSome, IsServed, HasWorked, calls, goes_on}
 use Rattle.rx_workers.proofs.Sessions.{keeps-equal, keeps-then, turn_keeps}

@@ -5,8 +5,8 @@ use Rattle.std.specs.Prelude.{◌≡◌, ◌+◌, ◌<◌, ◌%◌, ℕ, List, [
 use Rattle.rx_mailbox.specs.Boxes.{Outgoing}
 use Rattle.rx_pump.specs.Marks.{to_port}
 use Rattle.rx_mailbox.specs.PortRows.{Puts}
-use Rattle.rx_workers.specs.declared.accepting.AcceptStop.{AcceptStop}
-use Rattle.rx_workers.specs.declared.accepting.AcceptStop.TheVariants.{NoConnection, WorkerGone}
+use Rattle.rx_workers.specs.declared.crew.acceptor.AcceptStop.{AcceptStop}
+use Rattle.rx_workers.specs.declared.crew.acceptor.AcceptStop.TheVariants.{NoConnection, WorkerGone}
 
 module _ {X : Type 0} where
   -- a port holds nothing back

@@ -1,8 +1,8 @@
 -- The clients of a worker, each at a place of its own (this project's own rule).
 use Rattle.std.specs.Prelude.{◌≡◌, ◌≢◌, ℕ, List, Option, None, Some, is_none, slice_index_or}
 use Rattle.std.specs.List.{position}
-use Rattle.rx_workers.specs.declared.client.Client.{Client}
-use Rattle.rx_workers.specs.declared.client.Client.TheVariants.{Talks, Follows}
+use Rattle.rx_workers.specs.declared.worker.client.Client.{Client}
+use Rattle.rx_workers.specs.declared.worker.client.Client.TheVariants.{Talks, Follows}
 
 module _ {C W : Type 0} where
   -- who is at a place; at one that is vacant, or that there isn't, nobody

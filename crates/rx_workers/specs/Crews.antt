@@ -5,8 +5,8 @@ use Rattle.std.specs.List.{AllZip}
 use Rattle.rx_pump.specs.Desks.{DeskView, KeepsDesk}
 use Rattle.rx_sink.specs.declared.line_sink.LineSink.{LineSink}
 use Rattle.rx_workers.specs.Working.{WorkerView}
-use Rattle.rx_workers.specs.declared.serve_fault.ServeFault.{ServeFault}
-use Rattle.rx_workers.specs.declared.serve_fault.ServeFault.TheVariants.{NoDesk, Accept, Thread, Memory}
+use Rattle.rx_workers.specs.declared.crew.serve_fault.ServeFault.{ServeFault}
+use Rattle.rx_workers.specs.declared.crew.serve_fault.ServeFault.TheVariants.{NoDesk, Accept, Thread, Memory}
 use Rattle.rx_config.specs.declared.config.Config.{Config}
 
 -- a desk has a port for each subject of a configuration

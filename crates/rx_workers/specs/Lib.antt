@@ -1,10 +1,7 @@
 pub mod Accepting
 pub mod Clients
 pub mod Crews
-pub mod Queues
-pub mod Responses
 pub mod Service
-pub mod SessionDesks
 pub mod Telling
 pub mod Watching
 pub mod Workers

@@ -22,16 +22,16 @@ use Rattle.rx_mailbox.specs.PortRows.{with_bye}
 use Rattle.rx_sink.specs.declared.line_sink.LineSink.{LineSink}
 use Rattle.rx_workers.specs.Accepting.{Accepts, AcceptsAll, dealt}
 use Rattle.rx_workers.specs.Crews.{NamesLast, SettlesWith}
-use Rattle.rx_workers.specs.SessionDesks.{Queue, SessionView, no_queue}
+use Rattle.rx_desk.specs.SessionDesks.{Queue, SessionView, no_queue}
 use Rattle.rx_workers.specs.Telling.{IsTold}
 use Rattle.rx_workers.specs.Workers.{HasEnded}
 use Rattle.rx_workers.specs.Working.{WorkerView, worker, HasWorked, came}
-use Rattle.rx_workers.specs.declared.accepting.AcceptStop.{AcceptStop}
-use Rattle.rx_workers.specs.declared.accepting.AcceptStop.TheVariants.{NoConnection, WorkerGone}
-use Rattle.rx_workers.specs.declared.joined.Joined.{Joined}
-use Rattle.rx_workers.specs.declared.serve_fault.ServeFault.{ServeFault}
-use Rattle.rx_workers.specs.declared.serve_fault.ServeFault.TheVariants.{NoDesk, Accept, Thread, Memory}
-use Rattle.rx_workers.specs.declared.worker_end.WorkerEnd.{WorkerEnd}
+use Rattle.rx_workers.specs.declared.crew.acceptor.AcceptStop.{AcceptStop}
+use Rattle.rx_workers.specs.declared.crew.acceptor.AcceptStop.TheVariants.{NoConnection, WorkerGone}
+use Rattle.rx_desk.specs.declared.joined.Joined.{Joined}
+use Rattle.rx_workers.specs.declared.crew.serve_fault.ServeFault.{ServeFault}
+use Rattle.rx_workers.specs.declared.crew.serve_fault.ServeFault.TheVariants.{NoDesk, Accept, Thread, Memory}
+use Rattle.rx_workers.specs.declared.worker.worker_end.WorkerEnd.{WorkerEnd}
 
 -- the desk of a worker's sessions over a desk that makes its calls, by a configuration
 abbrev pub session_over : {W : Type 0} → Config → DeskView (LineSink W) → Option Joined → Queue → SessionView (Unit {0}) (LineSink W)

@@ -4,8 +4,8 @@ use Rattle.std.specs.Prelude.{◌≡◌, ◌≢◌, ℕ, List, Option, None, Som
 use Rattle.rx_session.specs.declared.turn.Turn.{Turn}
 use Rattle.rx_session.specs.declared.turn.Turn.TheVariants.{Again, Waits, Stuck, Over}
 use Rattle.rx_workers.specs.Clients.{client_at}
-use Rattle.rx_workers.specs.declared.client.Client.{Client}
-use Rattle.rx_workers.specs.declared.client.Client.TheVariants.{Talks, Follows}
+use Rattle.rx_workers.specs.declared.worker.client.Client.{Client}
+use Rattle.rx_workers.specs.declared.worker.client.Client.TheVariants.{Talks, Follows}
 use Rattle.rx_workers.specs.declared.readiness.Aim.{Aim}
 use Rattle.rx_workers.specs.declared.readiness.Aim.TheVariants.{Bytes, Both, HangUp}
 

@@ -1,10 +1,10 @@
 -- What a worker leaves once it has served all its connections (this project's own rule).
 use Rattle.std.specs.Prelude.{ℕ, List, Option}
-use Rattle.rx_workers.specs.SessionDesks.{Queue}
+use Rattle.rx_desk.specs.SessionDesks.{Queue}
 use Rattle.rx_workers.specs.Telling.{IsTold}
 use Rattle.rx_workers.specs.Working.{WorkerView, worker, HasWorked}
-use Rattle.rx_workers.specs.declared.joined.Joined.{Joined}
-use Rattle.rx_workers.specs.declared.worker_end.WorkerEnd.{WorkerEnd}
+use Rattle.rx_desk.specs.declared.joined.Joined.{Joined}
+use Rattle.rx_workers.specs.declared.worker.worker_end.WorkerEnd.{WorkerEnd}
 
 -- the worker with the desk and the inbox that it left, whoever joined last and whatever its sessions began to emit
 abbrev pub worker_at_end : {C W : Type 0} → WorkerView (Unit {0}) C W → Option Joined → Queue → WorkerEnd C W → WorkerView (Unit {0}) C W

@@ -33,12 +33,12 @@ use Rattle.rx_session.specs.declared.turn.Turn.TheVariants.{Again, Waits, Stuck,
 use Rattle.rx_sink.specs.Acts.{raised}
 use Rattle.rx_sink.specs.declared.line_sink.LineSink.{LineSink}
 use Rattle.rx_workers.specs.Clients.{AreSameClients, IsFollower, IsQuiet, IsTalk, Sets, client_at}
-use Rattle.rx_workers.specs.SessionDesks.{SessionView, KeepsSession, Disposes, emits, follows, knows}
-use Rattle.rx_workers.specs.declared.client.Client.{Client}
-use Rattle.rx_workers.specs.declared.client.Client.TheVariants.{Talks, Follows}
-use Rattle.rx_workers.specs.declared.client.Follower.{Follower}
-use Rattle.rx_workers.specs.declared.client.Talk.{Talk}
-use Rattle.rx_workers.specs.declared.joined.Joined.{Joined}
+use Rattle.rx_desk.specs.SessionDesks.{SessionView, KeepsSession, Disposes, emits, follows, knows}
+use Rattle.rx_workers.specs.declared.worker.client.Client.{Client}
+use Rattle.rx_workers.specs.declared.worker.client.Client.TheVariants.{Talks, Follows}
+use Rattle.rx_workers.specs.declared.worker.client.Follower.{Follower}
+use Rattle.rx_workers.specs.declared.worker.client.Talk.{Talk}
+use Rattle.rx_desk.specs.declared.joined.Joined.{Joined}
 use Rattle.rx_workers.specs.declared.readiness.Aim.TheVariants.{Bytes}
 use Rattle.rx_workers.specs.Watching.{IsAimed}
 

@@ -1,6 +1,6 @@
 ghost use Rattle.std.specs.Prelude.{IfOk, OnErr};
 
-use crate::idle::Idle;
+use crate::crew::idle::Idle;
 use crate::readiness::{Bell, Readiness, WatchFault};
 use std::error::Error;
 use std::fmt;

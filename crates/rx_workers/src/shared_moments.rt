@@ -1,4 +1,4 @@
-use crate::moments::Moments;
+use rx_desk::Moments;
 use std::marker::Model;
 use std::sync::{Mutex, Wait};
 

@@ -1,17 +1,26 @@
 ghost use Rattle.std.specs.Prelude.{◌≡◌, ◌+◌, None, length, vec_len};
 ghost use Rattle.std.specs.Arc.{arc_value};
-ghost use Rattle.rx_workers.specs.SessionDesks.{no_queue};
+ghost use Rattle.rx_desk.specs.SessionDesks.{no_queue};
 
-use crate::idle::Idle;
-use crate::moments::Moments;
+pub(crate) mod admission;
+pub(crate) mod client;
+pub(crate) mod clients;
+pub(crate) mod parting;
+pub(crate) mod rounds;
+pub(crate) mod running_worker;
+pub(crate) mod shift;
+pub(crate) mod task;
+pub(crate) mod worker_end;
+
+use crate::crew::idle::Idle;
 use crate::readiness::Readiness;
-use crate::serving::serve_all;
-use crate::session_desk::SessionDesk;
 use crate::shared_moments::SharedMoments;
-use crate::shift::Shift;
-use crate::task::Task;
-use crate::worker_end::WorkerEnd;
+use crate::worker::rounds::serve_all;
+use crate::worker::shift::Shift;
+use crate::worker::task::Task;
+use crate::worker::worker_end::WorkerEnd;
 use rx_config::Config;
+use rx_desk::{Moments, SessionDesk};
 use rx_heap::Heap;
 use rx_mailbox::Inbox;
 use rx_pump::CallDesk;
@@ -51,7 +60,7 @@ impl<M: Drop, C: Drop, W: Write + Drop, P: Readiness<C> + Drop> Drop for Worker<
 impl<M: Drop, C: Drop, W: Write + Drop, P: Readiness<C> + Drop> Model for Worker<M, C, W, P> {
     ghost use Rattle.std.specs.Prelude.{◌≡◌, ◌+◌, None, length, vec_len};
     ghost use Rattle.std.specs.Arc.{arc_value};
-    ghost use Rattle.rx_workers.specs.SessionDesks.{no_queue};
+    ghost use Rattle.rx_desk.specs.SessionDesks.{no_queue};
     ghost use Rattle.rx_workers.specs.Working.{WorkerView, worker};
 
     ghost Value = { WorkerView (Unit {0}) C W };

@@ -1,7 +1,7 @@
 ghost use Rattle.std.specs.Prelude.{◌≡◌, IfErr, IfOk, MatchResult};
 ghost use Rattle.rx_program.specs.Programs.{LacksSocket};
 ghost use Rattle.rx_program.specs.Reporting.{ClosesWith, closed_as};
-ghost use Rattle.rx_server.specs.declared.start_fault.StartFault.{StartFault};
+ghost use Rattle.rx_server.specs.declared.wired.start_fault.StartFault.{StartFault};
 
 use crate::program::ended::Ended;
 use crate::program::host::Host;

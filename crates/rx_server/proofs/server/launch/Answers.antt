@@ -5,7 +5,7 @@ use Rattle.std.specs.List.{All, zip}
 use Rattle.std.specs.Vec.Iter.{into_iter_items}
 use Rattle.rx_config.specs.declared.config.Config.{Config}
 use Rattle.rx_drain.specs.Drainers.{DrainerView}
-use Rattle.rx_server.specs.declared.start_fault.Role.TheVariants.{Pump, Worker}
+use Rattle.rx_server.specs.declared.wired.start_fault.Role.TheVariants.{Pump, Worker}
 use Rattle.rx_server.specs.Servers.{IsEndOf, IsWhole, server_of}
 use Rattle.rx_server.specs.Wirings.{IsWired, desk_of, drainer_of, joined_parts, pump_of}
 use Rattle.rx_server.proofs.Joining.{Rooms-as, drainers-keep, hubs-count, made-count, mapped-count, zip-count}

@@ -10,8 +10,8 @@ use Rattle.rx_pump.specs.Serving as pump_serving
 use Rattle.rx_mailbox.proofs.Told.{told-byes, told-length}
 use Rattle.rx_drain.specs.Drainers.{DrainerView}
 use Rattle.rx_drain.specs.Serving as drainer_serving
-use Rattle.rx_server.specs.declared.returned.Returned.{Returned}
-use Rattle.rx_server.specs.declared.close_fault.CloseFault.{CloseFault}
+use Rattle.rx_server.specs.declared.close.returned.Returned.{Returned}
+use Rattle.rx_server.specs.declared.close.close_fault.CloseFault.{CloseFault}
 use Rattle.rx_server.specs.Returning.{HaveSettledSo, Unsettles}
 use Rattle.rx_server.specs.Servers.{HaveSettled, IsDeskOf, IsFirst}
 use Rattle.rx_server.proofs.Closed.{settled-or-not}

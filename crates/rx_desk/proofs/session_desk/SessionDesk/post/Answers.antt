@@ -1,0 +1,27 @@
+-- The call was posted, or it waits.
+use Rattle.std.proofs.Common.{◌++◌, ◌∷◌, ◌∙◌, List, [], Option, ap, refl, sym}
+use Rattle.std.specs.Prelude.{option_to_list}
+use Rattle.rx_note.specs.declared.event.Event.{Event}
+use Rattle.rx_desk.specs.Queues.{with_waiting}
+use Rattle.rx_desk.proofs.Queues.{Posts-posted, Waits-posted, Waits-waiting}
+use Rattle.rx_desk.proofs.session_desk.SessionDesk.post.Goals as goal
+
+pub returns-in-Ok : goal.returns-in-Ok
+returns-in-Ok g c =
+    let none = rw (← c.self.view_is) at c.requires.none in
+    rw (← c.self.view_is)
+    (λ base begun w.
+    Waits-posted g.M.Moments.tells base (with_waiting c.args.event _) _ begun c.args.event
+    (record { subjects = refl; window = refl; moments = refl; joined = refl; subject = refl })
+    (ap (λ (es : List Event). es ++ c.args.event ∷ []) none ∙ ap (λ (es : List Event). c.args.event ∷ es) (sym none))
+    (Posts-posted c.self.inside.calls c.post.new.self c.self.inside.subject c.args.event c.in-Ok.ensures.posted c.in-Ok.ensures.kept) refl w)
+
+pub returns-in-Err : goal.returns-in-Err
+returns-in-Err g c =
+    let none = rw (← c.self.view_is) at c.requires.none in
+    let posted = c.in-Err.ensures.posted in
+    rw (← c.self.view_is)
+    (λ base begun w.
+    Waits-waiting g.M.Moments.tells base _ _ begun c.args.event (record { subjects = refl; window = refl; moments = refl; joined = refl; subject = refl }) posted.1
+    (ap (λ (o : Option Event). option_to_list o) c.replace.ensures.after ∙ ap (λ (e : Event). e ∷ []) posted.0
+    ∙ ap (λ (es : List Event). es ++ c.args.event ∷ []) (sym none)) refl w)

@@ -1,0 +1,144 @@
+-- What a session's desk does: it makes one call to the subject of a name, and answers by what came of it (this project's
+-- own rule).
+--
+-- The session's desk: A command that names no subject of the configuration is answered `SUBJECT`, and no call is made; nor is
+-- there memory for its text. Any other makes just one call to the first subject of its name, with the moment that `now` told:
+-- the Emit of the note, or the Join by that policy, with the configured window as its first request and a line sink over the
+-- writer, in the version that `follow` was given. It is answered by what the call was, `GONE` where it had no reply. `follow`
+-- answers `Taken` just where the observer joined or no sink came back; else the writer comes back with the answer. What was
+-- begun is the same: each note a moment and a call of its own, in their order, and each `answer` that of the oldest; so a
+-- session is as if each line had been carried out before the next. Of a desk that makes no call any more each emission is
+-- answered `GONE`, and `emit` and `dispose` put nothing; what was begun with an earlier one may have been put before that.
+use Rattle.std.specs.Prelude.{◌≡◌, ◌<◌, ◌≤◌, ℕ, true, false, List, [], length, Option, None, Some, MatchOption, Result, Ok, Err, position, if◌then◌else◌}
+use Rattle.rx_note.specs.Choices.{Choice}
+use Rattle.rx_note.specs.declared.answer.Answer.{Answer}
+use Rattle.rx_note.specs.declared.answer.Answer.TheVariants as answers
+use Rattle.rx_note.specs.declared.event.Event.{Event}
+use Rattle.rx_note.specs.declared.event.Event.TheVariants.{Emit, Join, Dispose}
+use Rattle.rx_note.specs.declared.note.Note.{Note}
+use Rattle.rx_note.specs.declared.refusal.Refusal.{Refusal}
+use Rattle.rx_proto.specs.Reading.{same_word}
+use Rattle.rx_proto.specs.declared.response.Response.{Response}
+use Rattle.rx_proto.specs.declared.response.Response.TheVariants.{Refused}
+use Rattle.rx_proto.specs.declared.version.Version.{Version}
+use Rattle.rx_proto.specs.declared.word.Word.TheVariants as words
+use Rattle.rx_pump.specs.Desks.{DeskView, Called, IsOver, KeepsDesk}
+use Rattle.rx_pump.specs.declared.call_desk.call_error.CallError.{CallError}
+use Rattle.rx_pump.specs.declared.call_desk.call_error.CallError.TheVariants.{SubjectGone}
+use Rattle.rx_pump.specs.declared.reply.Reply.{Reply}
+use Rattle.rx_session.specs.declared.follow.Follow.{Follow}
+use Rattle.rx_session.specs.declared.follow.Follow.TheVariants.{Taken, Back}
+use Rattle.rx_sink.specs.declared.line_sink.LineSink.{LineSink}
+use Rattle.rx_desk.specs.Responses.{response_of, has_joined, sink_back}
+use Rattle.rx_desk.specs.declared.joined.Joined.{Joined}
+use Rattle.rx_config.specs.declared.subject_config.SubjectConfig.{SubjectConfig}
+
+-- the notes that a session's desk began to emit: the place of their subject, the events whose calls wait, and how many calls were
+-- posted and have no answer yet
+pub record Queue : Type 0 where
+  pub subject : ℕ
+  pub events : List Event
+  pub sent : ℕ
+
+-- the queue of a desk that never began a note
+abbrev pub no_queue : Queue
+no_queue = record { subject = 0; events = []; sent = 0 }
+
+-- a session's desk: the subjects, by whose names it finds them, the first request of an observer, where its moments come
+-- from, the desk that makes its calls, whom its last Join made, and what it began to emit
+pub record SessionView (M S : Type 0) : Type 0 where
+  pub subjects : List SubjectConfig
+  pub window : ℕ
+  pub moments : M
+  pub calls : DeskView S
+  pub joined : Option Joined
+  pub queue : Queue
+
+-- the place of the first subject of a name
+abbrev pub place_of : List ℕ → List SubjectConfig → Option ℕ
+place_of name subjects = position (λ subject. same_word subject.name name) subjects
+
+-- what no call of a session's desk changes: the subjects, the window, and to which boxes it belongs
+pub record KeepsSession {M S : Type 0} (before after : SessionView M S) : Type 0 where
+  pub subjects : after.subjects ≡ before.subjects
+  pub window : after.window ≡ before.window
+  pub calls : KeepsDesk before.calls after.calls
+
+module _ {W : Type 0} where
+  -- the sink over a writer that writes its notes in a version, and wrote nothing yet
+  abbrev pub line_sink : Version → W → LineSink W
+  line_sink version writer = record { writer = writer; version = version; notes = 0; faults = 0; gathers = true; ahead = 0; stuck = false }
+
+  -- the writer of the sink that came back, with a response; without one it is taken
+  abbrev pub back_with : Response → Option (LineSink W) → Follow W
+  back_with response None = Taken
+  back_with response (Some sink) = Back response sink.writer
+
+  -- what becomes of a writer by the answer to its call: it is taken by the observer that was made, else its sink came back or
+  -- was lost
+  abbrev pub followed : Result (Reply (LineSink W)) (CallError (LineSink W)) → Follow W
+  followed answered = if has_joined answered then Taken else back_with (response_of answered) (sink_back answered)
+
+-- whom an answer of the subject at this place made
+abbrev pub joined_in : ℕ → Result Answer Refusal → Option Joined
+joined_in subject (Ok answers.Admitted) = None
+joined_in subject (Ok (answers.Joined who)) = Some (record { subject = subject; who = who })
+joined_in subject (Ok answers.Asked) = None
+joined_in subject (Ok answers.Left) = None
+joined_in subject (Err refusal) = None
+
+-- whom a call to the subject at this place made
+abbrev pub joined_by : {S : Type 0} → ℕ → Result (Reply S) (CallError S) → Option Joined
+joined_by subject (Ok reply) = joined_in subject reply.result
+joined_by subject (Err error) = None
+
+-- the desk has a subject of this name
+abbrev pub knows : {M S : Type 0} → SessionView M S → List ℕ → Type 0
+knows desk name = (place : ℕ) × (place_of name desk.subjects ≡ Some place)
+
+module _ {M W : Type 0} (tells : M → ℕ → M → Type 0) where
+  -- a moment was told, and one call made to a subject with the event at that moment; the rest is as it was
+  pub record CallsOnce (before after : SessionView M (LineSink W)) (subject : ℕ) (event : ℕ → Event) (sink : Option (LineSink W)) (answered : Result (Reply (LineSink W)) (CallError (LineSink W))) : Type 0 where
+    pub at : ℕ
+    pub told : tells before.moments at after.moments
+    pub called : Called before.calls after.calls subject (event at) sink answered
+    pub over : IsOver before.calls → answered ≡ Err (SubjectGone sink)
+    pub kept : KeepsSession before after
+
+  -- a note was emitted at the subject at this place, and the response is that of the answer. (Of a desk that makes no call any more
+  -- the call may have been put together with an earlier one, before that.)
+  abbrev pub EmitsAt : SessionView M (LineSink W) → Note → Response → SessionView M (LineSink W) → ℕ → Type 0
+  EmitsAt before note response after subject =
+      (answered : Result (Reply (LineSink W)) (CallError (LineSink W))) × CallsOnce before after subject (λ at. Emit note at) None answered
+      × (response ≡ response_of answered) × (after.joined ≡ before.joined) × (after.queue.events ≡ before.queue.events) × (after.queue.sent ≡ before.queue.sent)
+
+  -- an Emit at the subject of a name; without such a subject no call is made
+  abbrev pub emits : SessionView M (LineSink W) → List ℕ → Note → Response → SessionView M (LineSink W) → Type 0
+  emits before name note response after =
+      MatchOption (place_of name before.subjects) ((response ≡ Refused words.Subject) × (after ≡ before)) (EmitsAt before note response after)
+
+  -- an observer joined at the subject at this place, with the window as its first request and a sink of the version over the
+  -- writer
+  abbrev pub FollowsAt : SessionView M (LineSink W) → Choice → Version → W → Follow W → SessionView M (LineSink W) → ℕ → Type 0
+  FollowsAt before policy version writer result after subject =
+      (answered : Result (Reply (LineSink W)) (CallError (LineSink W)))
+      × CallsOnce before after subject (λ at. Join policy before.window at) (Some (line_sink version writer)) answered × (result ≡ followed answered)
+      × (IsOver before.calls → after.calls ≡ before.calls) × (after.queue ≡ before.queue)
+      × (after.joined ≡ joined_by subject answered)
+
+  -- a Join at the subject of a name; without such a subject no call is made, and the writer comes back
+  abbrev pub follows : SessionView M (LineSink W) → List ℕ → Choice → Version → W → Follow W → SessionView M (LineSink W) → Type 0
+  follows before name policy version writer result after =
+      MatchOption (place_of name before.subjects) ((result ≡ Back (Refused words.Subject) writer) × (after ≡ before))
+      (FollowsAt before policy version writer result after)
+
+module _ {M W : Type 0} where
+  -- the observer was disposed of, by a call to its subject; without such a subject no call is made, nor by a desk that makes none any
+  -- more
+  pub record Disposes (before : SessionView M (LineSink W)) (observer : Joined) (after : SessionView M (LineSink W)) : Type 0 where
+    pub called : observer.subject < length before.subjects → (answered : Result (Reply (LineSink W)) (CallError (LineSink W))) × Called before.calls after.calls observer.subject (Dispose observer.who) None answered
+    pub none : length before.subjects ≤ observer.subject → after ≡ before
+    pub over : IsOver before.calls → after.calls ≡ before.calls
+    pub kept : KeepsSession before after
+    pub joined : after.joined ≡ before.joined
+    pub queue : after.queue ≡ before.queue

@@ -1,0 +1,299 @@
+ghost use Rattle.std.specs.Prelude.{◌≡◌, ◌+◌, ◌-◌, ◌^◌, ◌<◌, ◌∷◌, List, [], None, length, vec_len, IsTrue};
+ghost use Rattle.rx_proto.specs.Reading.{same_word};
+ghost use Rattle.rx_desk.specs.SessionDesks.{followed, joined_by, no_queue, place_of};
+
+use crate::joined::Joined;
+use crate::moments::Moments;
+use crate::responses::{has_joined, response_of, sink_back};
+use rx_config::{Config, SubjectConfig};
+use rx_heap::Heap;
+use rx_note::{Answer, Event, Note, Policy};
+use rx_proto::{Name, Response, Version, Word};
+use rx_pump::{CallDesk, CallError, Reply};
+use rx_session::{Desk, Follow};
+use rx_sink::LineSink;
+use std::io::Write;
+use std::marker::Model;
+use std::sync::Wait;
+
+/// The desk of a session: it finds the subject of a name in the configuration, and makes one call to it for each command,
+/// with the moment at which the command was given. The call of what is begun is posted, so that several go to their subject together.
+#[derive(Drop)]
+pub struct SessionDesk<'a, R, M: Drop, W: Write + Drop> {
+    rt: &'a R,
+    // The memory for the texts of subjects without a budget.
+    heap: &'a Heap,
+    config: &'a Config,
+    moments: M,
+    calls: CallDesk<LineSink<W>>,
+    // Whom the last Join made.
+    joined: Option<Joined>,
+    // The place of the subject of what was begun.
+    subject: usize,
+    // How many calls were posted that have no answer yet.
+    sent: u32,
+    // The event of what was begun last, where its call could not be posted: it goes alone, once the others have their answers.
+    waiting: Option<Event>,
+}
+
+impl<'a, R, M: Drop, W: Write + Drop> Model for SessionDesk<'a, R, M, W> {
+    ghost use Rattle.std.specs.Prelude.{◌+◌, ◌≡◌, length, option_to_list, vec_len};
+    ghost use Rattle.rx_sink.specs.declared.line_sink.LineSink.{LineSink};
+    ghost use Rattle.rx_desk.specs.SessionDesks.{SessionView};
+
+    ghost Value = { SessionView M (LineSink W) };
+
+    ghost view = { λ d. record { subjects = d.config.now.subjects.items; window = d.config.now.window; moments = d.moments; calls = d.calls; joined = d.joined; queue = record { subject = d.subject; events = option_to_list d.waiting; sent = d.sent } } };
+
+    ghost invariant = { λ d. length d.calls.ports + length d.calls.ended ≡ vec_len d.config.now.subjects };
+}
+
+impl<'a, R, M: Drop, W: Write + Drop> SessionDesk<'a, R, M, W> {
+    ghost use Rattle.rx_desk.specs.SessionDesks.{place_of};
+
+    /// The desk of a session over a desk that has a port for each subject, in the order of the configuration. The texts of
+    /// subjects without a budget are made over `heap`.
+    pub fn new(
+        rt: &'a R,
+        heap: &'a Heap,
+        calls: CallDesk<LineSink<W>>,
+        config: &'a Config,
+        moments: M,
+    ) -> SessionDesk<'a, R, M, W>
+        requires { length calls.ports + length calls.ended ≡ vec_len config.now.subjects }
+        ensures { result ≡ record { subjects = config.now.subjects.items; window = config.now.window; moments = moments; calls = calls; joined = None; queue = no_queue } }
+    {
+        SessionDesk {
+            rt,
+            heap,
+            config,
+            moments,
+            calls,
+            joined: None,
+            subject: 0,
+            sent: 0,
+            waiting: None,
+        }
+    }
+
+    /// The desk that made the calls, as they left it.
+    pub fn into_desk(self) -> CallDesk<LineSink<W>>
+        ensures calls { result ≡ self.entry.calls }
+        ensures ports { length result.ports + length result.ended ≡ length self.entry.subjects }
+    {
+        self.calls
+    }
+
+    /// Whom the last call made that a Join was sent by, if it made an observer.
+    pub fn joined(&self) -> Option<Joined>
+        ensures { result ≡ self.now.joined }
+    {
+        self.joined
+    }
+
+    // The place of the first subject of this name.
+    fn place_of(&self, name: &Name) -> Option<usize>
+        ensures { result ≡ place_of name.now self.now.subjects }
+    {
+        place_in(&self.config.subjects, name)
+    }
+}
+
+impl<'a, R: Wait, M: Moments + Drop, W: Write + Drop> SessionDesk<'a, R, M, W> {
+    ghost use Rattle.rx_desk.specs.SessionDesks.{Disposes};
+
+    /// Disposes of an observer, by one call to its subject; one that has left by then is refused there. Nothing is done where
+    /// the configuration has no such subject.
+    pub fn dispose(&mut self, observer: Joined)
+        ensures { Disposes self.old observer self.new }
+    {
+        if observer.subject >= self.config.subjects.len() {
+            return;
+        }
+        let event = Event::Dispose { who: observer.who };
+        drop(self.calls.call(self.rt, observer.subject, event, None));
+    }
+}
+
+impl<'a, R: Wait, M: Moments + Drop, W: Write + Drop> SessionDesk<'a, R, M, W> {
+    ghost use Rattle.rx_note.specs.declared.note.Note.{Note};
+    ghost use Rattle.rx_session.specs.Begun.{Asked, IsBehind};
+    ghost use Rattle.rx_desk.specs.Queues.{GoesBehind, Waits, with_waiting};
+    ghost use Rattle.rx_desk.specs.SessionDesks.{SessionView, emits};
+
+    // Whether a note for the subject at this place may be begun behind so many: these are just what is begun, for the same one, and
+    // each call of theirs was posted.
+    fn goes_behind(&self, place: usize, behind: u32) -> bool
+        ensures { IsTrue result → GoesBehind self.now place behind }
+    {
+        self.waiting.is_none()
+            && self.sent == behind
+            && behind < u32::MAX
+            && (behind == 0 || place == self.subject)
+    }
+
+    // Posts the call of what is begun by this event; where that can't be it waits.
+    fn post(&mut self, event: Event)
+        requires subject { self.old.queue.subject < length self.old.subjects }
+        requires none { self.old.queue.events ≡ [] }
+        requires room { self.old.queue.sent < 2 ^ 32 - 1 }
+        ensures { (base : SessionView M (LineSink W)) (begun : List Asked) → Waits M.tells base begun (with_waiting event self.old) → Waits M.tells base begun self.new }
+    {
+        match self.calls.post(self.rt, self.subject, event) {
+            Ok(()) => self.sent += 1,
+            Err(back) => drop(self.waiting.replace(back)),
+        }
+    }
+
+    // The response to the oldest call that was posted and has none.
+    fn next_answer(&mut self) -> Response
+        requires subject { self.old.queue.subject < length self.old.subjects }
+        requires some { 0 < self.old.queue.sent }
+        ensures { (base : SessionView M (LineSink W)) (first : Asked) (rest : List Asked) → Waits M.tells base (first ∷ rest) self.old
+            → (after : SessionView M (LineSink W)) × emits M.tells base first.name first.note result after × IsBehind (Waits M.tells) after rest self.new }
+    {
+        let before = self.calls.tickets().saturating_sub(u64::from(self.sent));
+        self.sent -= 1;
+        let ticket = before.saturating_add(1);
+        let answered = self.calls.answer(self.rt, self.subject, ticket);
+        response_of(&answered)
+    }
+
+    // Makes the call that waits, alone.
+    fn call_waiting(&mut self) -> Response
+        requires subject { self.old.queue.subject < length self.old.subjects }
+        requires none { self.old.queue.sent ≡ 0 }
+        ensures { (base : SessionView M (LineSink W)) (first : Asked) (rest : List Asked) → Waits M.tells base (first ∷ rest) self.old
+            → (after : SessionView M (LineSink W)) × emits M.tells base first.name first.note result after × IsBehind (Waits M.tells) after rest self.new }
+    {
+        let Some(event) = self.waiting.take() else {
+            return Response::Done;
+        };
+        let answered = self.calls.call(self.rt, self.subject, event, None);
+        response_of(&answered)
+    }
+}
+
+impl<'a, R: Wait, M: Moments + Drop, W: Write + Drop> Desk<W> for SessionDesk<'a, R, M, W> {
+    ghost use Rattle.rx_pump.specs.Desks.{IsOver};
+    ghost use Rattle.rx_desk.specs.Queues.{Waits};
+    ghost use Rattle.rx_desk.specs.SessionDesks.{emits, follows, knows};
+
+    ghost knows = { knows };
+
+    ghost emits = { emits M.tells };
+
+    ghost waits = { Waits M.tells };
+
+    ghost follows = { follows M.tells };
+
+    fn memory(&self, name: &Name) -> Option<&Heap> {
+        let Some(place) = self.place_of(name) else {
+            return None;
+        };
+        Some(self.config.subjects[place].memory(self.heap))
+    }
+
+    fn emit(&mut self, name: &Name, note: Note) -> Response
+        ensures emits { emits M.tells self.old name.now note result self.new }
+
+        // What was begun may have been put before; an emission at a desk that makes no call any more puts nothing.
+        ensures over { IsOver self.old.calls → self.new.calls ≡ self.old.calls }
+    {
+        let Some(place) = self.place_of(name) else {
+            return Response::Refused(Word::Subject);
+        };
+        let at = self.moments.now();
+        let event = Event::Emit { note, at };
+        let answered = self.calls.call(self.rt, place, event, None);
+        response_of(&answered)
+    }
+
+    fn may_begin(&self, name: &Name) -> bool {
+        match self.config.subjects.get(self.subject) {
+            Some(subject) => is_named(subject, name),
+            None => false,
+        }
+    }
+
+    fn begin(&mut self, name: &Name, note: Note, behind: u32) -> Result<(), Note> {
+        let Some(place) = self.place_of(name) else {
+            return Err(note);
+        };
+        if !self.goes_behind(place, behind) {
+            return Err(note);
+        }
+        let at = self.moments.now();
+        self.subject = place;
+        self.post(Event::Emit { note, at });
+        Ok(())
+    }
+
+    fn answer(&mut self) -> Response {
+        if self.subject >= self.config.subjects.len() {
+            return Response::Done;
+        }
+        if self.sent == 0 {
+            return self.call_waiting();
+        }
+        self.next_answer()
+    }
+
+    fn follow(&mut self, name: &Name, policy: Policy, version: Version, writer: W) -> Follow<W> {
+        let Some(place) = self.place_of(name) else {
+            return Follow::Back(Response::Refused(Word::Subject), writer);
+        };
+        let at = self.moments.now();
+        let first = u32::from(self.config.window);
+        let event = Event::Join { policy, first, at };
+        let sink = LineSink::gathering(writer, version);
+        let answered = self.calls.call(self.rt, place, event, Some(sink));
+        self.joined = joined_by(place, &answered);
+        followed(answered)
+    }
+}
+
+// The place of the first subject of this name.
+fn place_in(subjects: &Vec<SubjectConfig, Heap>, name: &Name) -> Option<usize>
+    ensures { result ≡ place_of name.now subjects.now.items }
+{
+    subjects.iter().position(|subject| is_named(subject, name))
+}
+
+fn is_named(subject: &SubjectConfig, name: &Name) -> bool
+    ensures { result ≡ same_word subject.now.name name.now }
+{
+    subject.name == *name
+}
+
+// Whom a call to the subject at this place made.
+fn joined_by<W: Write + Drop>(
+    subject: usize,
+    answered: &Result<Reply<LineSink<W>>, CallError<LineSink<W>>>,
+) -> Option<Joined>
+    ensures { result ≡ joined_by subject answered.now }
+{
+    match answered {
+        Ok(reply) => match reply.result {
+            Ok(Answer::Joined(who)) => Some(Joined { subject, who }),
+            _ => None,
+        },
+        Err(_) => None,
+    }
+}
+
+// What becomes of the writer, by the answer to the call of its sink.
+fn followed<W: Write + Drop>(
+    answered: Result<Reply<LineSink<W>>, CallError<LineSink<W>>>,
+) -> Follow<W>
+    ensures { result ≡ followed answered }
+{
+    if has_joined(&answered) {
+        return Follow::Taken;
+    }
+    let response = response_of(&answered);
+    match sink_back(answered) {
+        None => Follow::Taken,
+        Some(sink) => Follow::Back(response, sink.into_writer()),
+    }
+}
