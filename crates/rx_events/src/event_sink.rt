@@ -9,7 +9,7 @@ ghost use Rattle.rx_events.specs.Sinks.{ahead_after};
 ghost use Rattle.rx_events.specs.Telling.{standing_after, standing_at};
 
 use crate::Standing;
-use crate::telling::{write_begin, write_note};
+use crate::told_note::{write_begin, write_note};
 use rx_http::{Begin, Epoch};
 use rx_note::Note;
 use rx_sink::{Flow, LineRest, Sink, SinkFault};

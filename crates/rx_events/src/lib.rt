@@ -14,7 +14,7 @@
 mod event_sink;
 pub mod laws;
 mod standing;
-mod telling;
+mod told_note;
 
 pub use event_sink::EventSink;
 pub use standing::Standing;

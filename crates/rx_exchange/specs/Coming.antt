@@ -8,8 +8,8 @@ use Rattle.rx_http.specs.declared.answer.refusal.Refusal.{Refusal}
 use Rattle.rx_http.specs.declared.answer.refusal.Refusal.TheVariants.{LongHead}
 use Rattle.rx_session.specs.declared.session_end.SessionEnd.{SessionEnd}
 use Rattle.rx_session.specs.declared.session_end.SessionEnd.TheVariants as ends
-use Rattle.rx_exchange.specs.declared.coming.Came.{Came}
-use Rattle.rx_exchange.specs.declared.coming.Came.TheVariants.{Asks, Partly, Nothing, End}
+use Rattle.rx_exchange.specs.declared.came.Came.{Came}
+use Rattle.rx_exchange.specs.declared.came.Came.TheVariants.{Asks, Partly, Nothing, End}
 
 -- what the first bytes of a connection ask for: what their head does; or they are refused, where that is longer than a head may be
 abbrev pub AsksFor : List ℕ → Result Asked Refusal → Type 0

@@ -6,8 +6,8 @@ ghost use Rattle.rx_http.specs.Heads.{HasNoHead};
 ghost use Rattle.rx_exchange.specs.Meetings.{parties};
 
 use crate::Front;
-use crate::coming::{Came, come};
-use crate::meeting::{meet, send, tell};
+use crate::came::{Came, come};
+use crate::met_request::{meet, send, tell};
 use rx_http::HeadReader;
 use rx_session::{SessionEnd, Turn};
 use std::io::{Read, Write};

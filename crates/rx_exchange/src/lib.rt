@@ -11,12 +11,12 @@
 //! Its tests stand in `crates/test_http`.
 #![tactic(auto)]
 
-mod coming;
+mod came;
 mod exchange;
 mod front;
 mod joining;
 pub mod laws;
-mod meeting;
+mod met_request;
 
 pub use exchange::Exchange;
 pub use front::Front;

@@ -6,8 +6,8 @@ use Rattle.rx_client.specs.Requests.{IsNoSub}
 use Rattle.rx_client.specs.Running.{Subscribes}
 use Rattle.rx_client.specs.declared.format.Format.{Format}
 use Rattle.rx_client.specs.declared.format.Format.TheVariants.{Plain, Json}
-use Rattle.rx_client.specs.declared.subscribing.SubscribeFault.{SubscribeFault}
-use Rattle.rx_client.specs.declared.subscribing.SubscribeFault.TheVariants as follows
+use Rattle.rx_client.specs.declared.subscriber.SubscribeFault.{SubscribeFault}
+use Rattle.rx_client.specs.declared.subscriber.SubscribeFault.TheVariants as follows
 use Rattle.rx_proto.specs.Bytes.{Writes}
 use Rattle.rx_proto.specs.Grammar.{IsText}
 use Rattle.rx_proto.specs.Names.{IsName}

@@ -9,7 +9,7 @@ use crate::asked::{Asked, asked_at};
 use crate::ledger::Ledger;
 use crate::ledger_list::{enter, ledgers_of};
 use crate::observed::Observed;
-use crate::printing::{put_marked, put_observer};
+use crate::printed_note::{put_marked, put_observer};
 use rx_config::Config;
 use rx_heap::{Heap, Memory};
 use rx_note::Note;

@@ -8,12 +8,12 @@
 #![tactic(auto)]
 
 mod asked;
-mod asking;
 mod audit;
 mod ledger;
 mod ledger_list;
+mod line_event;
 mod observed;
-mod printing;
+mod printed_note;
 mod script;
 mod told;
 mod topic;

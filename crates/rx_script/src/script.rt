@@ -11,8 +11,8 @@ ghost use Rattle.rx_script.specs.Asking.{names_subject};
 ghost use Rattle.rx_script.specs.Scripts.{Runs, TakesEvent, new_subjects};
 ghost use Rattle.rx_script.specs.Transcripts.{asked_at, given_lines};
 
-use crate::asking::{event_in, name_in};
-use crate::printing::put_given;
+use crate::line_event::{event_in, name_in};
+use crate::printed_note::put_given;
 use crate::told::Told;
 use crate::topic::{Topic, place_of, topics_of};
 use rx_config::Config;

@@ -17,8 +17,8 @@ use Rattle.rx_lines.specs.Steps.{unread}
 use Rattle.rx_session.specs.Turns.{Hands, hands, IsAt}
 use Rattle.rx_lines.specs.declared.feed.Feed.{Feed}
 use Rattle.rx_session.specs.declared.open_session.OpenSession.{OpenSession}
-use Rattle.rx_session.specs.declared.serving.Turned.{Turned}
-use Rattle.rx_session.specs.declared.serving.Turned.TheVariants.{On, Over}
+use Rattle.rx_session.specs.declared.whole_session.Turned.{Turned}
+use Rattle.rx_session.specs.declared.whole_session.Turned.TheVariants.{On, Over}
 use Rattle.rx_lines.specs.declared.step.Step.{Step}
 use Rattle.rx_lines.specs.declared.step.Step.TheVariants as steps
 use Rattle.rx_session.proofs.ByTurns.{Through-line, line_on}

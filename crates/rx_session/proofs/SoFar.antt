@@ -14,8 +14,8 @@ use Rattle.rx_lines.specs.Steps.{unread, GoesOn}
 use Rattle.rx_session.specs.Turns.{Hands, hands, IsAt, Carries, Ends, Turns}
 use Rattle.rx_lines.specs.declared.input_end.InputEnd.{InputEnd}
 use Rattle.rx_lines.specs.declared.line_state.LineState.{LineState}
-use Rattle.rx_session.specs.declared.serving.Turned.{Turned}
-use Rattle.rx_session.specs.declared.serving.Turned.TheVariants.{On, Over}
+use Rattle.rx_session.specs.declared.whole_session.Turned.{Turned}
+use Rattle.rx_session.specs.declared.whole_session.Turned.TheVariants.{On, Over}
 use Rattle.rx_session.specs.declared.session_end.SessionEnd.{SessionEnd}
 use Rattle.rx_session.specs.declared.session_end.SessionEnd.TheVariants as ends
 use Rattle.rx_proto.proofs.LineFeeds.{HasNoLf-front}

@@ -14,8 +14,8 @@ use Rattle.rx_session.specs.Sessions.{Parties, Place, Emits}
 use Rattle.rx_lines.specs.Steps.{unread}
 use Rattle.rx_session.specs.Turns.{Hands, hands, IsAt}
 use Rattle.rx_session.specs.declared.open_session.OpenSession.{OpenSession}
-use Rattle.rx_session.specs.declared.serving.Turned.{Turned}
-use Rattle.rx_session.specs.declared.serving.Turned.TheVariants.{On, Over}
+use Rattle.rx_session.specs.declared.whole_session.Turned.{Turned}
+use Rattle.rx_session.specs.declared.whole_session.Turned.TheVariants.{On, Over}
 
 -- a line that was read so emits this item
 abbrev pub Asks : Result Command BadLine → Asked → Type 0

@@ -26,8 +26,8 @@ use Rattle.rx_lines.specs.Steps.{unread}
 use Rattle.rx_session.specs.Turns.{Hands, hands, IsAt, Carries, Comes}
 use Rattle.rx_lines.specs.declared.input_end.InputEnd.{InputEnd}
 use Rattle.rx_session.specs.declared.open_session.OpenSession.{OpenSession}
-use Rattle.rx_session.specs.declared.serving.Turned.{Turned}
-use Rattle.rx_session.specs.declared.serving.Turned.TheVariants.{On, Over}
+use Rattle.rx_session.specs.declared.whole_session.Turned.{Turned}
+use Rattle.rx_session.specs.declared.whole_session.Turned.TheVariants.{On, Over}
 use Rattle.rx_session.specs.declared.session_end.SessionEnd.TheVariants as ends
 use Rattle.rx_session.specs.declared.turn.Turn.{Turn}
 use Rattle.rx_session.specs.declared.turn.Turn.TheVariants as turns

@@ -20,8 +20,8 @@ use Rattle.rx_lines.specs.Steps.{unread, GoesOn}
 use Rattle.rx_lines.specs.declared.input_end.InputEnd.{InputEnd}
 use Rattle.rx_lines.specs.declared.line_state.LineState.{LineState}
 use Rattle.rx_session.specs.declared.session_end.SessionEnd.TheVariants as ends
-use Rattle.rx_session.specs.declared.serving.Turned.{Turned}
-use Rattle.rx_session.specs.declared.serving.Turned.TheVariants.{On, Over}
+use Rattle.rx_session.specs.declared.whole_session.Turned.{Turned}
+use Rattle.rx_session.specs.declared.whole_session.Turned.TheVariants.{On, Over}
 
 -- what is asked of a session by a line that was read so
 abbrev pub asked_by : Result Line BadLine → Result Command BadLine

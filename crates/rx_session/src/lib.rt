@@ -8,21 +8,21 @@
 #![tactic(auto)]
 
 mod desk;
+mod ends;
 mod follow;
 pub mod laws;
 mod open_session;
-mod responding;
-mod serving;
+mod responses;
 mod session_end;
-mod telling;
 mod texts;
 mod turn;
+mod whole_session;
 
 pub use desk::Desk;
 pub use follow::Follow;
 pub use open_session::OpenSession;
-pub use responding::response_to;
+pub use responses::response_to;
 pub use rx_lines::{InputEnd, LineReader, LineState, Next, Outbox, Step};
-pub use serving::{serve, serve_lines};
 pub use session_end::SessionEnd;
 pub use turn::Turn;
+pub use whole_session::{serve, serve_lines};

@@ -9,9 +9,9 @@ ghost use Rattle.rx_session.specs.Sessions.{Place, parties};
 ghost use Rattle.rx_lines.specs.Steps.{unread};
 ghost use Rattle.rx_session.specs.Turns.{IsAt, asked_by, hands};
 
-use crate::serving::{Turned, answer, carry_out};
-use crate::telling::end_of;
+use crate::ends::end_of;
 use crate::texts::text_for;
+use crate::whole_session::{Turned, answer, carry_out};
 use crate::{Desk, SessionEnd, Turn};
 use rx_lines::{Came, Feed, Outbox, Step};
 use rx_note::{Item, Note};

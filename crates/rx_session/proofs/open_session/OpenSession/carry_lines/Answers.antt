@@ -6,7 +6,7 @@ use Rattle.rx_session.specs.declared.open_session.OpenSession.{OpenSession}
 use Rattle.rx_session.specs.Sessions.{parties}
 use Rattle.rx_lines.specs.Steps.{unread}
 use Rattle.rx_session.specs.Turns.{hands}
-use Rattle.rx_session.specs.declared.serving.Turned.TheVariants.{On, Over}
+use Rattle.rx_session.specs.declared.whole_session.Turned.TheVariants.{On, Over}
 use Rattle.rx_session.proofs.Gathering.{Gathering-begun, Gathering-kept, carry_behind, gathers}
 use Rattle.rx_session.proofs.open_session.OpenSession.carry_lines.Goals as goal
 
