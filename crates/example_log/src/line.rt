@@ -1,3 +1,4 @@
+// The lines by which entries of a log are written down.
 use anyhow::{Context, Result, bail};
 use rx_heap::Heap;
 use rx_log::{Entry, Holder, Total};

@@ -1,3 +1,4 @@
+// Notes of one call, told together: a head for each, and the bytes of their texts in one block.
 ghost use Rattle.std.specs.Prelude.{◌≡◌, ◌≤◌, length, take};
 ghost use Rattle.hazoxe_c.specs.Batches.{Appended, Tells};
 ghost use Rattle.hazoxe_c.specs.Taking.{text_of};

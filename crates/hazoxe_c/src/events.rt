@@ -1,3 +1,4 @@
+// The calls of the library that are an event of a subject each.
 ghost use Rattle.std.specs.Prelude.{◌≡◌};
 ghost use Rattle.rx_note.specs.declared.note.Note.TheVariants.{Completed, Failed};
 ghost use Rattle.rx_note.specs.declared.event.Event.TheVariants.{Emit, Request, Dispose};

@@ -1,3 +1,4 @@
+// The calls of the library that look at what was given, or take it.
 ghost use Rattle.std.specs.Prelude.{◌≡◌};
 ghost use Rattle.hazoxe_c.specs.Asking.{Serves};
 ghost use Rattle.hazoxe_c.specs.Batches.{TakesMany};

@@ -1,3 +1,4 @@
+// The calls of the library by which a subject is made and let go.
 ghost use Rattle.std.specs.Result.{result_map_both};
 ghost use Rattle.hazoxe_c.specs.Opening.{Opens, Closes, Made};
 

@@ -1,3 +1,4 @@
+// The policy that a program in C asks for, by its numbers.
 ghost use Rattle.std.specs.Prelude.{◌≡◌};
 ghost use Rattle.hazoxe_c.specs.Asking.{strategy_read, errors_read, policy_read, roomed};
 

@@ -1,3 +1,4 @@
+// The calls of the library that count.
 ghost use Rattle.std.specs.Prelude.{◌≡◌};
 ghost use Rattle.hazoxe_c.specs.Asking.{Serves};
 ghost use Rattle.hazoxe_c.specs.Taking.{Waits, Counted};

@@ -1,3 +1,4 @@
+// Numbers as a server prints them.
 ghost use Rattle.std.specs.Prelude.{◌≡◌, ◌≢◌, ◌<◌, ◌^◌, ◌++◌, ◌∷◌, ℕ, List, Err, Ok, IfNone, IfSome, MatchOption, decimal};
 ghost use Rattle.rx_proto.specs.Reading.{cut_read};
 ghost use Rattle.rx_proto.specs.declared.line_error.BadLine.TheVariants.{Syntax};

@@ -1,3 +1,4 @@
+// What a subscriber prints of what it is told, in words or as JSON.
 ghost use Rattle.std.specs.Prelude.{◌≡◌, ◌++◌, ◌<◌, ℕ, List, OnOk, codes, decimal};
 ghost use Rattle.rx_client.specs.Printed.{HasItem, HasMembers, Quotes, Prints, digit, hexed, in_hex, in_quotes, plain_text, quoted};
 

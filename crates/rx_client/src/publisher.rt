@@ -1,3 +1,4 @@
+// A producer over a connection, with so many lines on their way.
 use crate::Plain;
 use crate::connection::Connection;
 use crate::request::put_pub;

@@ -1,3 +1,4 @@
+// The lines that a client sends.
 ghost use Rattle.std.specs.Prelude.{◌≡◌, ◌++◌, IfOk, OnOk};
 ghost use Rattle.rx_client.specs.Requests.{IsNoSub, IsSub, pub_line, sub_words};
 

@@ -1,3 +1,4 @@
+// The refusal of a growth.
 use std::alloc::{AllocError, AllocFailed};
 use std::error::Error;
 use std::fmt;

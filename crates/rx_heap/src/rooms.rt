@@ -1,3 +1,4 @@
+// Lists with room.
 ghost use Rattle.std.specs.Prelude.{◌≡◌, ◌≤◌, [], vec_capacity, IfOk};
 
 use crate::{Heap, Memory};

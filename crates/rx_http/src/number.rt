@@ -1,3 +1,4 @@
+// Numbers of a request.
 ghost use Rattle.std.specs.Prelude.{decimal};
 ghost use Rattle.rx_http.specs.Words.{IsNumber, IsReadOf};
 

@@ -1,3 +1,4 @@
+// Bytes that marks keep apart.
 ghost use Rattle.std.specs.Prelude.{◌≡◌, MatchOption};
 ghost use Rattle.rx_http.specs.Queries.{AreParted, HasNo, cut_at};
 

@@ -1,3 +1,4 @@
+// What a head asks for, or the first cause for which it is refused.
 ghost use Rattle.std.specs.Prelude.{◌≡◌, All, length, map, option_map};
 ghost use Rattle.std.specs.Str.{str_to_ascii_lowercase};
 ghost use Rattle.httparse.specs.Grammar.{RequestHead};

@@ -1,3 +1,4 @@
+// The terminal of a queue, which goes behind all that waits.
 ghost use Rattle.std.specs.Prelude.{◌≡◌, ◌≤◌, ◌+◌, ◌++◌, None, length, option_to_list, vec_len, vec_capacity};
 ghost use Rattle.rx_lane.specs.Lanes.{addressed};
 

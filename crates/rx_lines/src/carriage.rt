@@ -1,3 +1,4 @@
+// The CR before an LF.
 ghost use Rattle.std.specs.Prelude.{◌≡◌, ◌≤◌, length, take};
 ghost use Rattle.rx_lines.specs.Lines.{without_cr};
 

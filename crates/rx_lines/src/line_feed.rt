@@ -1,3 +1,4 @@
+// Where the first LF stands, sought several bytes at a time.
 ghost use Rattle.std.specs.Prelude.{◌≡◌, ◌+◌, ◌≤◌, ◌==◌, length, take, drop, not};
 ghost use Rattle.std.specs.List.{prefix_len};
 ghost use Rattle.rx_proto.specs.LineFeeds.{HasNoLf};

@@ -1,3 +1,4 @@
+// The search for a line's end among the bytes that a reader gives.
 ghost use Rattle.std.specs.Prelude.{length, ◌<◌, ◌≡◌};
 ghost use Rattle.rx_proto.specs.LineFeeds.{HasLf};
 ghost use Rattle.rx_lines.specs.Reads.{ReadsOn, FindsNext};

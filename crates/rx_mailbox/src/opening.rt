@@ -1,3 +1,4 @@
+// A box is opened: its ports, its inbox, and room for what is in it.
 ghost use Rattle.std.specs.Prelude.{◌≡◌, ◌↔◌, [], Err, map, IsTrue, IfOk};
 ghost use Rattle.std.specs.List.{range_with_len};
 ghost use Rattle.rx_mailbox.specs.declared.opening.OpenError.TheVariants.{BadSize};

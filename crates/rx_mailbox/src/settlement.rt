@@ -1,3 +1,4 @@
+// A box ends: of each port all that it put was received.
 ghost use Rattle.std.specs.Prelude.{◌≡◌, ◌==◌, ◌<◌, ◌↔◌, ℕ, [], IsTrue, IfOk, IfErr};
 ghost use Rattle.std.specs.List.{All, count_by};
 ghost use Rattle.crossbeam_channel.specs.Claims.{view};

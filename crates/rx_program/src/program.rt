@@ -1,3 +1,4 @@
+// The program over any streams: a task is carried out, and its status answered.
 ghost use Rattle.std.specs.Prelude.{◌≡◌, Some, map, option_map};
 ghost use Rattle.clap.specs.Words.{kind_of};
 ghost use Rattle.rx_program.specs.Programs.{Answers, Does, EndsWith, IsShown, Over, Program, RunsAudit, RunsScript, Serves, done_of};

@@ -1,3 +1,4 @@
+// Decimal digits, written.
 ghost use Rattle.std.specs.Prelude.{◌≡◌, ◌≤◌, drop, decimal};
 
 /// The most digits that a number of 32 bits has.

@@ -1,3 +1,4 @@
+// What a line says, read where it stands and without memory.
 ghost use Rattle.std.specs.Prelude.{◌≡◌, ◌≤◌, Err, IfNone, IfSome, codes, false, length};
 ghost use Rattle.rx_proto.specs.LineFeeds.{HasNoLf};
 ghost use Rattle.rx_proto.specs.Reading.{Gives, begins_with, meaning_of, is_sub, line_read, script_read, words_read, pub_read, join_read, request_read, dispose_read, sub_read};

@@ -1,3 +1,4 @@
+// What a line says, with a text and a name of its own.
 ghost use Rattle.std.specs.Prelude.{◌≡◌, ◌≤◌, MatchResult, Ok, length};
 ghost use Rattle.rx_proto.specs.Grammar.{IsSpelled, IsText};
 ghost use Rattle.rx_proto.specs.LineFeeds.{HasNoLf};

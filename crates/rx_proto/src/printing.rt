@@ -1,3 +1,4 @@
+// The bytes of each line that is written.
 ghost use Rattle.std.specs.Prelude.{◌≡◌, ◌≤◌, ◌+◌, [], ◌∷◌, ◌++◌, length, decimal};
 ghost use Rattle.rx_proto.specs.Printing.{reply_line, joined_line, note_line, origin_of};
 ghost use Rattle.rx_proto.specs.declared.version.Version.TheVariants.{One, Two};

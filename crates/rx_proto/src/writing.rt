@@ -1,3 +1,4 @@
+// Lines, written to a writer.
 ghost use Rattle.std.specs.Prelude.{◌≤◌, length};
 ghost use Rattle.rx_proto.specs.Bytes.{Writes};
 ghost use Rattle.rx_proto.specs.Printing.{reply_line, joined_line, note_line};

@@ -1,3 +1,4 @@
+// The ledgers of an audit, one for each subject.
 ghost use Rattle.std.specs.Prelude.{◌≡◌, IfOk, OnOk, position};
 ghost use Rattle.rx_proto.specs.Reading.{same_word};
 ghost use Rattle.rx_script.specs.Audits.{subjects_in};

@@ -1,3 +1,4 @@
+// What a script prints of a note.
 ghost use Rattle.std.specs.Prelude.{◌≡◌, ◌≤◌, ◌+◌, ◌++◌, decimal, length};
 ghost use Rattle.rx_script.specs.Audits.{observer_line};
 ghost use Rattle.rx_lines.specs.Bytes.{Puts};

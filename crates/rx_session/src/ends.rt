@@ -1,3 +1,4 @@
+// How a session ends with its input.
 ghost use Rattle.std.specs.Prelude.{◌≡◌};
 ghost use Rattle.rx_session.specs.Sessions.{end_of};
 

@@ -1,3 +1,4 @@
+// A session from its first line to its end, in one call.
 ghost use Rattle.std.specs.Prelude.{◌≡◌, [], None, IfOk, Ok, OnOk, Option};
 ghost use Rattle.rx_proto.specs.Grammar.{IsSpelled, IsText};
 ghost use Rattle.rx_proto.specs.LineFeeds.{HasNoLf};

@@ -1,3 +1,4 @@
+// What each kind offers of an item, and keeps for later joiners.
 ghost use Rattle.std.specs.Prelude.{◌≡◌, List, Some, take, IfOk, ℕ, option_to_list};
 ghost use Rattle.rx_note.specs.declared.item.Item.{Item};
 ghost use Rattle.rx_note.specs.declared.note.Note.TheVariants.{Next};

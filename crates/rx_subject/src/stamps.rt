@@ -1,3 +1,4 @@
+// The stamps of the last items, by which they grow too old.
 ghost use Rattle.std.specs.Prelude.{◌≡◌, ◌≢◌, ◌≤◌, ◌<◌, ◌∷◌, ◌++◌, [], ℕ, Some, length, drop, OnOk};
 ghost use Rattle.std.specs.VecDeque.{deque_len, deque_capacity};
 ghost use Rattle.rx_subject.specs.TapeSubjects.{old_count, beyond};

@@ -1,3 +1,4 @@
+// The bytes of an answer.
 ghost use Rattle.std.specs.Prelude.{◌≡◌, ◌<◌, ◌^◌, ◌++◌, [], length};
 ghost use Rattle.rx_http.specs.declared.answer.Answer.TheVariants.{Refused};
 ghost use Rattle.rx_proto.specs.Bytes.{Writes};

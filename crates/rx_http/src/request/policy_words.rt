@@ -1,3 +1,4 @@
+// The words by which a reader chooses a strategy, an error mode and a window.
 ghost use Rattle.std.specs.Prelude.{◌↔◌, IsTrue, codes, decimal};
 ghost use Rattle.rx_http.specs.Queries.{word_in};
 ghost use Rattle.rx_http.specs.Words.{HasPolicy, HasRoom, HasWindow, IsAnyErrors, IsFound, IsNumber, IsReadOf, IsRoom, IsWindow, errors_word, strategy_word};

@@ -1,3 +1,4 @@
+// The words of a query, by their keys.
 ghost use Rattle.std.specs.Prelude.{◌≡◌, ◌≤◌, SomeIff, length, option_map};
 ghost use Rattle.rx_http.specs.Queries.{value_in, word_in};
 

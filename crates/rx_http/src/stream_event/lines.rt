@@ -1,3 +1,4 @@
+// What stands in a line of a stream: a text as itself, or in base64.
 ghost use Rattle.std.specs.Prelude.{◌≡◌, codes};
 ghost use Rattle.std.specs.Str.{is_utf8};
 ghost use Rattle.rx_http.specs.Events.{kind_by};

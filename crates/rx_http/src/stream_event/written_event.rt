@@ -1,3 +1,4 @@
+// The bytes of an event.
 ghost use Rattle.std.specs.Prelude.{◌≡◌, ◌≤◌, ◌++◌, decimal, drop, Option, Some};
 ghost use Rattle.rx_proto.specs.Bytes.{Writes};
 ghost use Rattle.base64.specs.Engines.{standard};

@@ -1,3 +1,4 @@
+// A configuration, read from its file.
 ghost use Rattle.std.specs.Prelude.{◌≡◌, ◌≤◌, ◌⊎◌, IfErr, IfOk, MatchResult, length, option_map};
 ghost use Rattle.rx_config.specs.Configurations.{settings_of};
 ghost use Rattle.rx_program.specs.Programs.{Configures, LacksConfig};

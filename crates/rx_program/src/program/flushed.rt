@@ -1,3 +1,4 @@
+// The last flush of an output.
 ghost use Rattle.std.specs.Io.KnownBytes.{Keeps};
 ghost use Rattle.rx_program.specs.Programs.{IsShown};
 

@@ -1,3 +1,4 @@
+// A fault, told in one line on standard error.
 ghost use Rattle.std.specs.Prelude.{◌≤◌, List, ℕ};
 ghost use Rattle.rx_proto.specs.Bytes.{Writes};
 ghost use Rattle.rx_program.specs.Programs.{Tells, fault_text};
