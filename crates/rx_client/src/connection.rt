@@ -6,7 +6,7 @@ use std::os::unix::net::UnixStream;
 const LF: u8 = b'\n';
 
 /// A connection to a server, by lines both ways.
-pub struct Connection {
+pub(crate) struct Connection {
     peer: BufReader<UnixStream, Heap>,
     line: Vec<u8, Heap>,
 }
@@ -20,7 +20,7 @@ impl Drop for Connection {
 
 impl Connection {
     /// To the server at this path.
-    pub fn to(net: &impl Net, heap: &Heap, path: &str) -> io::Result<Connection> {
+    pub(crate) fn to(net: &impl Net, heap: &Heap, path: &str) -> io::Result<Connection> {
         let stream = UnixStream::connect(net, path)?;
         Ok(Connection {
             peer: BufReader::new(heap.clone()?, stream)?,
@@ -29,13 +29,13 @@ impl Connection {
     }
 
     /// Sends these bytes. A fault may leave a front of them sent.
-    pub fn send(&mut self, bytes: &[u8]) -> io::Result<()> {
+    pub(crate) fn send(&mut self, bytes: &[u8]) -> io::Result<()> {
         let mut stream = self.peer.get_ref();
         stream.write_all(bytes)
     }
 
     /// The next line, without its LF. Where the connection ends before one, `UnexpectedEof`.
-    pub fn line(&mut self) -> io::Result<&[u8]> {
+    pub(crate) fn line(&mut self) -> io::Result<&[u8]> {
         self.line.clear();
         self.peer.read_until(LF, &mut self.line)?;
         match self.line.as_slice().strip_suffix(b"\n".as_slice()) {

@@ -10,7 +10,7 @@ use std::str;
 const SPACE: u8 = b' ';
 
 // The number that stands before the first space as a server prints it, and what stands behind that.
-pub fn decimal_before_space(bytes: &[u8]) -> Option<(u32, &[u8])>
+pub(crate) fn decimal_before_space(bytes: &[u8]) -> Option<(u32, &[u8])>
     ensures some { IfSome result (λ parts. decimal parts.0 ++ 32 ∷ parts.1.now ≡ bytes.now) }
     ensures fits { IfSome result (λ parts. parts.0 < 2 ^ 32) }
     ensures none { IfNone result ((n : ℕ) (rest : List ℕ) → n < 2 ^ 32 → decimal n ++ 32 ∷ rest ≢ bytes.now) }

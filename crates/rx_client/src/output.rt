@@ -7,7 +7,11 @@ use itoa::Buffer;
 use rx_heap::{Heap, Memory};
 
 /// Puts what is printed of what is told behind what stands in a block: a line, or nothing.
-pub fn put_told(block: &mut Vec<u8, Heap>, told: &Told<'_>, format: Format) -> Result<(), Memory>
+pub(crate) fn put_told(
+    block: &mut Vec<u8, Heap>,
+    told: &Told<'_>,
+    format: Format,
+) -> Result<(), Memory>
     ensures { OnOk result ((text : List ℕ) × Prints format told.now text × (block.new.items ≡ block.old.items ++ text)) }
 {
     match format {

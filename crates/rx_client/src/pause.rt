@@ -10,19 +10,19 @@ const MOST: u64 = 5000;
 
 /// How long is waited before the next try: twice as long each time.
 #[derive(Clone, Copy, Debug)]
-pub struct Pause {
+pub(crate) struct Pause {
     millis: u64,
     ghost in_limits: { millis ≤ 5000 },
 }
 
 impl Pause {
     /// Nothing was tried yet.
-    pub fn first() -> Pause {
+    pub(crate) fn first() -> Pause {
         Pause { millis: FIRST }
     }
 
     /// Waits.
-    pub fn wait(&mut self, clock: &impl Clock) {
+    pub(crate) fn wait(&mut self, clock: &impl Clock) {
         thread::sleep(clock, Duration::from_millis(self.millis));
         let next = (2 * self.millis).min(MOST);
         self.millis = next;

@@ -54,7 +54,7 @@ fn sub_words(
 
 /// Puts the line that emits an item behind what stands in a block: of this subject, with what a line of some input says, of which
 /// one CR at its end is no part.
-pub fn put_pub(block: &mut Vec<u8, Heap>, subject: &[u8], input: &[u8]) -> Result<(), Memory>
+pub(crate) fn put_pub(block: &mut Vec<u8, Heap>, subject: &[u8], input: &[u8]) -> Result<(), Memory>
     ensures { OnOk result (block.new.items ≡ block.old.items ++ pub_line subject.now input.now) }
 {
     block.extend_from_slice(b"PUB ")?;

@@ -9,7 +9,7 @@ use rx_pump::{CallError, Reply};
 use rx_session::response_to;
 
 // The response to a call.
-pub fn response_of<S>(answered: &Result<Reply<S>, CallError<S>>) -> Response
+pub(crate) fn response_of<S>(answered: &Result<Reply<S>, CallError<S>>) -> Response
     ensures { result ≡ response_of answered.now }
 {
     match answered {
@@ -19,7 +19,7 @@ pub fn response_of<S>(answered: &Result<Reply<S>, CallError<S>>) -> Response
 }
 
 // Whether the call made an observer.
-pub fn has_joined<S>(answered: &Result<Reply<S>, CallError<S>>) -> bool
+pub(crate) fn has_joined<S>(answered: &Result<Reply<S>, CallError<S>>) -> bool
     ensures { result ≡ responses.has_joined answered.now }
 {
     match answered {
@@ -35,7 +35,7 @@ fn is_joined(answered: Result<Answer, Refusal>) -> bool
 }
 
 // The sink that came back, if one did.
-pub fn sink_back<S: Drop>(answered: Result<Reply<S>, CallError<S>>) -> Option<S>
+pub(crate) fn sink_back<S: Drop>(answered: Result<Reply<S>, CallError<S>>) -> Option<S>
     ensures { result ≡ sink_back answered }
 {
     match answered {

@@ -30,7 +30,7 @@ impl Error for NoThread {}
 /// What the thread of a drainer answers is what `serve` promises of that drainer, but that of what it left at a fault there is the
 /// fault alone.
 #[derive(Drop)]
-pub struct Served<S: Sink>(Snapshot<Drainer<S>>);
+pub(crate) struct Served<S: Sink>(Snapshot<Drainer<S>>);
 
 impl<S: Sink> Promise<Result<DrainEnd<S>, DrainFault>> for Served<S> {
     ghost use Rattle.std.specs.Prelude.{MatchResult};

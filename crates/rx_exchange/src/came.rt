@@ -9,7 +9,7 @@ use std::io::{ErrorKind, Read};
 
 /// What one read of a connection came to.
 #[derive(Drop)]
-pub enum Came {
+pub(crate) enum Came {
     /// The head is whole, and asks for this; or it is refused, also where it has more than 8,192 bytes.
     Asks(Result<Asked, Refusal>),
     /// The head isn't whole yet, or the read was interrupted.
@@ -21,7 +21,7 @@ pub enum Came {
 }
 
 /// One read behind the bytes that came, among which no head is.
-pub fn come<R: Read>(head: &mut HeadReader, reader: &mut R) -> Came
+pub(crate) fn come<R: Read>(head: &mut HeadReader, reader: &mut R) -> Came
     requires room { length head.old < 8192 }
     requires none { HasNoHead head.old }
     ensures { Comes result (R.remaining reader.old) (R.remaining reader.new) head.old head.new }

@@ -9,7 +9,7 @@ use rx_session::{SessionEnd, Turn};
 use std::io::{ErrorKind, Write};
 
 /// Has what was asked for met. It answers what is to be told to the writer; None where the server has that.
-pub fn meet<W: Write + Drop, D: Front<W>>(
+pub(crate) fn meet<W: Write + Drop, D: Front<W>>(
     asked: Result<Asked, Refusal>,
     writer: W,
     desk: &mut D,
@@ -40,7 +40,7 @@ pub fn meet<W: Write + Drop, D: Front<W>>(
 }
 
 /// Tells an answer to the writer, and has it go out as far as it can now.
-pub fn tell<W: Write + Drop>(answer: Answer, writer: W) -> Turn<W>
+pub(crate) fn tell<W: Write + Drop>(answer: Answer, writer: W) -> Turn<W>
     ensures { Tells W.contents result writer (answer_bytes answer) }
 {
     let mut writer = writer;
@@ -51,7 +51,7 @@ pub fn tell<W: Write + Drop>(answer: Answer, writer: W) -> Turn<W>
 }
 
 /// Has go out what waits at the writer, as far as it can now.
-pub fn send<W: Write + Drop>(writer: W) -> Turn<W>
+pub(crate) fn send<W: Write + Drop>(writer: W) -> Turn<W>
     ensures { Tells W.contents result writer [] }
 {
     let mut writer = writer;

@@ -5,7 +5,7 @@ ghost use Rattle.rx_lines.specs.Lines.{without_cr};
 const CR: u8 = b'\r';
 
 /// How many bytes a line has without the one CR that may stand at its end.
-pub fn len_without_cr(line: &[u8]) -> usize
+pub(crate) fn len_without_cr(line: &[u8]) -> usize
     ensures line { take result line.now ≡ without_cr line.now }
     ensures within { result ≤ length line.now }
 {

@@ -10,7 +10,7 @@ use std::io::{ErrorKind, Write};
 use std::marker::Model;
 
 /// The bytes that an outbox holds at most.
-pub const BLOCK: usize = 8192;
+pub(crate) const BLOCK: usize = 8192;
 
 // The room for any line that is written.
 const LINE_ROOM: usize = 2048;

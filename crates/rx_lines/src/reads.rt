@@ -11,7 +11,7 @@ use std::io::{ErrorKind, Read};
 
 /// What was found behind the unread bytes.
 #[derive(Drop)]
-pub enum Found {
+pub(crate) enum Found {
     /// An LF, behind so many bytes of the window.
     Lf(usize),
     /// The same, and the front of its line, of more than 1,101 bytes, was let go.
@@ -21,7 +21,7 @@ pub enum Found {
 }
 
 /// Reads until an LF stands in the window, or an end comes. A read that would block has failed.
-pub fn next_lf<R: Read>(window: &mut Window, reads: &mut u64, reader: &mut R) -> Found
+pub(crate) fn next_lf<R: Read>(window: &mut Window, reads: &mut u64, reader: &mut R) -> Found
     ensures found { FindsNext result (R.remaining reader.old) (R.remaining reader.new) window.old window.new reads.old reads.new }
     ensures no_read { HasLf window.old → reads.new ≡ reads.old }
 {
@@ -47,7 +47,7 @@ pub fn next_lf<R: Read>(window: &mut Window, reads: &mut u64, reader: &mut R) ->
 }
 
 /// One read. Where it was interrupted it is made again, and counts again.
-pub fn read_more<R: Read>(window: &mut Window, reads: &mut u64, reader: &mut R) -> Came
+pub(crate) fn read_more<R: Read>(window: &mut Window, reads: &mut u64, reader: &mut R) -> Came
     requires { length window.old < 8192 }
     ensures { ReadsOn result (R.remaining reader.old) (R.remaining reader.new) window.old window.new reads.old reads.new }
 {

@@ -6,7 +6,7 @@ use crate::input_end::InputEnd;
 use crate::step::Step;
 
 /// The step that tells an end.
-pub fn told_end(end: InputEnd) -> Step
+pub(crate) fn told_end(end: InputEnd) -> Step
     ensures { result ≡ told end }
 {
     match end {

@@ -9,14 +9,14 @@ use std::io::Read;
 use std::marker::Model;
 
 /// The bytes that a window has room for.
-pub const BLOCK: usize = 8192;
+pub(crate) const BLOCK: usize = 8192;
 
 /// A window on the bytes of a reader: what was read and not yet let go. Contracts see a window as the list of those
 /// bytes.
 ///
 /// They stand in one block, and letting go of the front moves none of them.
 #[derive(Drop)]
-pub struct Window {
+pub(crate) struct Window {
     block: [u8; BLOCK],
     start: usize,
     searched: usize,
@@ -38,7 +38,7 @@ impl Model for Window {
 impl Window {
     /// The window with no bytes.
     #[inline(always)] // so that its block is made where it stays
-    pub fn new() -> Window
+    pub(crate) fn new() -> Window
         ensures { result ≡ [] }
     {
         Window {
@@ -50,7 +50,7 @@ impl Window {
     }
 
     /// How many bytes it has.
-    pub fn len(&self) -> usize
+    pub(crate) fn len(&self) -> usize
         ensures len { result ≡ length self.now }
         ensures within { result ≤ 8192 }
     {
@@ -58,7 +58,7 @@ impl Window {
     }
 
     /// Its first bytes.
-    pub fn front(&self, len: usize) -> &[u8]
+    pub(crate) fn front(&self, len: usize) -> &[u8]
         requires { len ≤ length self.now }
         ensures { result.now ≡ take len self.now }
     {
@@ -66,7 +66,7 @@ impl Window {
     }
 
     /// Whether this byte stands behind so many.
-    pub fn has_at(&self, place: usize, byte: u8) -> bool
+    pub(crate) fn has_at(&self, place: usize, byte: u8) -> bool
         requires { place ≤ length self.now }
     {
         let at = self.start + place;
@@ -74,7 +74,7 @@ impl Window {
     }
 
     /// Lets go of its first bytes.
-    pub fn drop_front(&mut self, len: usize)
+    pub(crate) fn drop_front(&mut self, len: usize)
         requires { len ≤ length self.old }
         ensures { self.new ≡ drop len self.old }
     {
@@ -83,7 +83,7 @@ impl Window {
     }
 
     /// Lets go of all its bytes.
-    pub fn clear(&mut self)
+    pub(crate) fn clear(&mut self)
         ensures { self.new ≡ [] }
     {
         self.start = 0;
@@ -92,7 +92,7 @@ impl Window {
     }
 
     /// How many bytes stand before its first LF. None where no LF is among its bytes. No byte is searched twice.
-    pub fn find_lf(&mut self) -> Option<usize>
+    pub(crate) fn find_lf(&mut self) -> Option<usize>
         ensures kept { self.new ≡ self.old }
         ensures found { FindsLf result self.new }
         ensures within { length self.new ≤ 8192 }
@@ -110,7 +110,7 @@ impl Window {
     }
 
     /// One read, behind its bytes. How many bytes came: none only at the end of the input.
-    pub fn read_from<R: Read>(&mut self, reader: &mut R) -> io::Result<usize>
+    pub(crate) fn read_from<R: Read>(&mut self, reader: &mut R) -> io::Result<usize>
         requires { length self.old < 8192 }
         ensures fills { Fills result (R.remaining reader.old) (R.remaining reader.new) self.old self.new }
         ensures within { length self.new ≤ 8192 }

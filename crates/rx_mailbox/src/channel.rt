@@ -21,22 +21,22 @@ use crossbeam_channel::{Pass, RuledReceiver, RuledSender, TryRecvError, TrySendE
 use rx_heap::Heap;
 use std::sync::Wait;
 
-pub type BoxSender<B> = RuledSender<Letter<Batch<B>>, View<Batch<B>>, MailboxRule, Heap>;
+pub(crate) type BoxSender<B> = RuledSender<Letter<Batch<B>>, View<Batch<B>>, MailboxRule, Heap>;
 
-pub type BoxReceiver<B> = RuledReceiver<Letter<Batch<B>>, View<Batch<B>>, MailboxRule, Heap>;
+pub(crate) type BoxReceiver<B> = RuledReceiver<Letter<Batch<B>>, View<Batch<B>>, MailboxRule, Heap>;
 
-pub type BoxPass<B> = Pass<Letter<Batch<B>>, View<Batch<B>>>;
+pub(crate) type BoxPass<B> = Pass<Letter<Batch<B>>, View<Batch<B>>>;
 
 // A post that was not put.
 #[derive(Drop)]
-pub struct Unput<B: Drop> {
-    pub post: Post<Batch<B>>,
+pub(crate) struct Unput<B: Drop> {
+    pub(crate) post: Post<Batch<B>>,
     // The box is full; else its inbox is gone.
-    pub is_full: bool,
+    pub(crate) is_full: bool,
 }
 
 // Puts a letter of the port at the back where there is room, and waits for none, or hands the post back. It rings no inbox.
-pub fn try_put<B: Drop, R: Wait>(
+pub(crate) fn try_put<B: Drop, R: Wait>(
     rt: &R,
     sender: &BoxSender<B>,
     pass: &mut BoxPass<B>,
@@ -71,7 +71,7 @@ pub fn try_put<B: Drop, R: Wait>(
 
 // Puts a letter of the port at the back, and waits while there is no room, or hands the post back. It rings no inbox that
 // sleeps, but where it waits for room.
-pub fn put<B: Drop, R: Wait>(
+pub(crate) fn put<B: Drop, R: Wait>(
     rt: &R,
     sender: &BoxSender<B>,
     bells: &Bells,
@@ -135,7 +135,7 @@ fn put_again<B: Drop, R: Wait>(
 }
 
 // Takes the letter at the front, if there is one. `Err` says whether none will come any more.
-pub fn take<B: Drop, R: Wait>(
+pub(crate) fn take<B: Drop, R: Wait>(
     rt: &R,
     receiver: &BoxReceiver<B>,
     pass: &mut BoxPass<B>,

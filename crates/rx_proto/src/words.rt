@@ -13,10 +13,10 @@ use rx_note::{Errors, MAX_TEXT, Policy, Strategy};
 const SPACE: u8 = b' ';
 
 /// The most digits that a number has on a line.
-pub const MAX_DIGITS: usize = 20;
+pub(crate) const MAX_DIGITS: usize = 20;
 
 /// The bytes before the first space, and those behind it.
-pub fn cut_at_space(bytes: &[u8]) -> Result<(&[u8], &[u8]), BadLine>
+pub(crate) fn cut_at_space(bytes: &[u8]) -> Result<(&[u8], &[u8]), BadLine>
     ensures { Gives (λ parts. (parts.0.now, parts.1.now)) result (cut_read bytes.now) }
 {
     match bytes.find_byte(SPACE) {
@@ -26,7 +26,7 @@ pub fn cut_at_space(bytes: &[u8]) -> Result<(&[u8], &[u8]), BadLine>
 }
 
 /// These bytes, if they are a name.
-pub fn name_of(bytes: &[u8]) -> Result<&[u8], BadLine>
+pub(crate) fn name_of(bytes: &[u8]) -> Result<&[u8], BadLine>
     ensures { Gives (λ name. name.now) result (name_read bytes.now) }
 {
     if is_name(bytes) {
@@ -38,7 +38,7 @@ pub fn name_of(bytes: &[u8]) -> Result<&[u8], BadLine>
 
 /// A name, and what stands behind one space. It looks at each byte of the name once.
 #[inline(always)] // a part of each PUB
-pub fn named(bytes: &[u8]) -> Result<(&[u8], &[u8]), BadLine>
+pub(crate) fn named(bytes: &[u8]) -> Result<(&[u8], &[u8]), BadLine>
     ensures { Gives (λ parts. (parts.0.now, parts.1.now)) result (named_read bytes.now) }
 {
     for (len, byte) in bytes.iter().enumerate() {
@@ -69,7 +69,7 @@ fn named_at(bytes: &[u8], len: usize) -> Result<(&[u8], &[u8]), BadLine>
 
 /// The text that these bytes of a line are, among which is no LF.
 #[inline(always)] // a part of each PUB
-pub fn text_of(bytes: &[u8]) -> Result<&[u8], BadLine>
+pub(crate) fn text_of(bytes: &[u8]) -> Result<&[u8], BadLine>
     requires { HasNoLf bytes.now }
     ensures { Gives (λ text. text.now) result (text_read bytes.now) }
 {
@@ -81,7 +81,7 @@ pub fn text_of(bytes: &[u8]) -> Result<&[u8], BadLine>
 
 /// The number of 32 bits that these digits spell, leading zeros allowed.
 #[tactic(auto, unfolding(crate::specs::Reading::number_read))]
-pub fn number_of(bytes: &[u8]) -> Result<u32, BadLine>
+pub(crate) fn number_of(bytes: &[u8]) -> Result<u32, BadLine>
     ensures { result ≡ number_read bytes.now }
 {
     match u32::try_from(wide_number_of(bytes)?) {
@@ -92,7 +92,7 @@ pub fn number_of(bytes: &[u8]) -> Result<u32, BadLine>
 
 /// The number of 64 bits that these digits spell, leading zeros allowed.
 #[tactic(auto, unfolding(crate::specs::Reading::wide_number_read))]
-pub fn wide_number_of(bytes: &[u8]) -> Result<u64, BadLine>
+pub(crate) fn wide_number_of(bytes: &[u8]) -> Result<u64, BadLine>
     ensures { result ≡ wide_number_read bytes.now }
 {
     if bytes.is_empty() || bytes.len() > MAX_DIGITS {
@@ -136,7 +136,7 @@ fn is_digit(byte: u8) -> bool
 /// A name and a text, behind one space.
 #[inline(always)] // a part of each PUB
 #[tactic(auto, unfolding(crate::specs::Reading::named_text_read))]
-pub fn named_text(bytes: &[u8]) -> Result<(&[u8], &[u8]), BadLine>
+pub(crate) fn named_text(bytes: &[u8]) -> Result<(&[u8], &[u8]), BadLine>
     requires { HasNoLf bytes.now }
     ensures { Gives (λ parts. (parts.0.now, parts.1.now)) result (named_text_read bytes.now) }
 {
@@ -147,7 +147,7 @@ pub fn named_text(bytes: &[u8]) -> Result<(&[u8], &[u8]), BadLine>
 
 /// The policy that a strategy's word and an error mode's word spell. A room that `Policy::new` refuses is a fault.
 #[tactic(auto, unfolding(crate::specs::Reading::policy_read))]
-pub fn policy_of(strategy: &[u8], errors: &[u8]) -> Result<Policy, BadLine>
+pub(crate) fn policy_of(strategy: &[u8], errors: &[u8]) -> Result<Policy, BadLine>
     ensures { result ≡ policy_read strategy.now errors.now }
 {
     let strategy = strategy_of(strategy)?;

@@ -7,7 +7,7 @@ use rx_proto::{Command, Name, ScriptLine};
 
 /// What a line asks of a run.
 #[derive(Drop)]
-pub enum Asked {
+pub(crate) enum Asked {
     /// To take an event, for the subject of this name.
     Event(Name, Event),
     /// To have the events that follow come at this moment, in milliseconds.
@@ -19,7 +19,7 @@ pub enum Asked {
 }
 
 /// What a line of a script asks at a moment, in milliseconds, at which its event comes.
-pub fn asked_at(line: ScriptLine, moment: u64) -> Asked
+pub(crate) fn asked_at(line: ScriptLine, moment: u64) -> Asked
     ensures { result ≡ asked_at moment line }
 {
     match line {

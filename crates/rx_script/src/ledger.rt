@@ -6,9 +6,9 @@ use rx_heap::{Heap, Memory};
 use rx_history::{History, LineError};
 
 /// A subject of an audit, and its stored history.
-pub struct Ledger {
-    pub subject: SubjectConfig,
-    pub history: History,
+pub(crate) struct Ledger {
+    pub(crate) subject: SubjectConfig,
+    pub(crate) history: History,
 }
 
 // By hand: rx_heap says why.
@@ -26,7 +26,7 @@ impl Ledger {
     ghost use Rattle.rx_script.specs.Scripts.{new_subject};
 
     /// The ledger of a subject, with no event yet.
-    pub fn new(alloc: Heap, subject: SubjectConfig) -> Ledger
+    pub(crate) fn new(alloc: Heap, subject: SubjectConfig) -> Ledger
         ensures { subject_in result ≡ new_subject subject }
     {
         Ledger {
@@ -36,7 +36,7 @@ impl Ledger {
     }
 
     /// What is known of an observer. None exactly where no accepted Join made it.
-    pub fn observed(&self, who: u32) -> Result<Option<Observed>, Memory>
+    pub(crate) fn observed(&self, who: u32) -> Result<Option<Observed>, Memory>
         ensures { IfOk result (λ observed. Observes observed (subject_in self.now) who) }
     {
         let given = match self.history.given(&self.subject.rules, who) {

@@ -12,7 +12,7 @@ use rx_note::Event;
 use rx_proto::Name;
 
 /// The ledgers of these subjects, in their order.
-pub fn ledgers_of(
+pub(crate) fn ledgers_of(
     alloc: &Heap,
     subjects: Vec<SubjectConfig, Heap>,
 ) -> Result<Vec<Ledger, Heap>, Memory>
@@ -26,7 +26,11 @@ pub fn ledgers_of(
 }
 
 /// Adds an event to the first ledger of this name, if there is one. It comes from port 0.
-pub fn enter(ledgers: &mut Vec<Ledger, Heap>, name: &Name, event: Event) -> Result<(), Memory>
+pub(crate) fn enter(
+    ledgers: &mut Vec<Ledger, Heap>,
+    name: &Name,
+    event: Event,
+) -> Result<(), Memory>
     ensures { OnOk result (subjects_in ledgers.new.items ≡ all_taking (subjects_in ledgers.old.items) name.now event) }
 {
     match place_of(ledgers, name) {

@@ -12,7 +12,7 @@ use rx_proto::Line;
 
 /// The name of the subject of which a line asks something.
 #[inline(always)] // once for each line of a script
-pub fn name_in<'a>(line: &Line<'a>) -> &'a [u8]
+pub(crate) fn name_in<'a>(line: &Line<'a>) -> &'a [u8]
     requires { names_subject (meaning_of line.now) ≡ true }
     ensures { (moment : ℕ) → name_asked (asked_at moment (meaning_of line.now)) ≡ Some result.now }
 {
@@ -31,7 +31,7 @@ pub fn name_in<'a>(line: &Line<'a>) -> &'a [u8]
 /// The event for which a line asks, at a moment in milliseconds. Its text is made over `heap`; where nothing is counted there, it
 /// is the spare one if that has room for the bytes.
 #[inline(always)] // once for each line of a script
-pub fn event_in(
+pub(crate) fn event_in(
     heap: &Heap,
     spare: &mut Option<Text>,
     line: &Line<'_>,

@@ -3,7 +3,7 @@ use rx_note::Note;
 
 /// What an observer was given, and what waits for it.
 #[derive(Drop)]
-pub struct Observed {
-    pub given: Vec<Note, Heap>,
-    pub waiting: Vec<Note, Heap>,
+pub(crate) struct Observed {
+    pub(crate) given: Vec<Note, Heap>,
+    pub(crate) waiting: Vec<Note, Heap>,
 }

@@ -13,7 +13,7 @@ use std::io::Write;
 
 /// Puts the line that a script prints in a version for a note given to an observer of this subject.
 #[inline(always)] // once for each note
-pub fn put_given<W: Write>(
+pub(crate) fn put_given<W: Write>(
     outbox: &mut Outbox,
     writer: &mut W,
     version: Version,
@@ -34,7 +34,7 @@ pub fn put_given<W: Write>(
 }
 
 /// Puts the line that begins the audit of an observer.
-pub fn put_observer<W: Write>(
+pub(crate) fn put_observer<W: Write>(
     outbox: &mut Outbox,
     writer: &mut W,
     name: &Name,
@@ -53,7 +53,7 @@ pub fn put_observer<W: Write>(
 }
 
 /// Puts the line of a note, in the first version, with a mark before it of at most 16 bytes.
-pub fn put_marked<W: Write>(
+pub(crate) fn put_marked<W: Write>(
     outbox: &mut Outbox,
     writer: &mut W,
     mark: &[u8],

@@ -8,10 +8,10 @@ use rx_hub::{Hub, HubError};
 use rx_proto::Name;
 
 /// A subject of a script: its name, its hub, and the memory of the hub and of the texts that it is handed.
-pub struct Topic {
-    pub name: Name,
-    pub hub: Hub,
-    pub heap: Heap,
+pub(crate) struct Topic {
+    pub(crate) name: Name,
+    pub(crate) hub: Hub,
+    pub(crate) heap: Heap,
 }
 
 // By hand: rx_heap says why.
@@ -45,7 +45,7 @@ impl Topic {
 }
 
 /// The topics of these subjects, in their order.
-pub fn topics_of(
+pub(crate) fn topics_of(
     alloc: &Heap,
     subjects: Vec<SubjectConfig, Heap>,
 ) -> Result<Vec<Topic, Heap>, Memory>
@@ -60,7 +60,7 @@ pub fn topics_of(
 
 /// The place of the first topic of this name.
 #[inline(always)] // once for each line of a script
-pub fn place_of(topics: &Vec<Topic, Heap>, name: &[u8]) -> Option<usize>
+pub(crate) fn place_of(topics: &Vec<Topic, Heap>, name: &[u8]) -> Option<usize>
     ensures { result ≡ position (λ topic. same_word topic.name name.now) topics.now.items }
 {
     topics

@@ -7,7 +7,7 @@ use rx_lines::InputEnd;
 
 /// The end of a session whose input ended so.
 /// The end of a session whose input ended so.
-pub fn end_of(end: InputEnd) -> SessionEnd
+pub(crate) fn end_of(end: InputEnd) -> SessionEnd
     ensures { result ≡ end_of end }
 {
     match end {

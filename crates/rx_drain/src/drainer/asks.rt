@@ -16,7 +16,7 @@ use std::sync::Wait;
 
 // Asks the subject for what it is to be asked, one item after another. That may be held back, need not wake the subject, and waits
 // for no room as long as there is memory: the subject may wait for room in the drainer's box. It answers the fault, if there is one.
-pub fn send_asks<S: Drop, R: Wait>(
+pub(crate) fn send_asks<S: Drop, R: Wait>(
     rt: &R,
     subjects: &mut Vec<Port<Call<S>>, Heap>,
     subject: u32,
@@ -39,7 +39,7 @@ pub fn send_asks<S: Drop, R: Wait>(
 
 // Asks for what is due of each sink, and has its observer disposed of, in their order, as `send_asks` does. It answers the fault, if
 // there is one.
-pub fn part_all<S: Sink, R: Wait>(
+pub(crate) fn part_all<S: Sink, R: Wait>(
     rt: &R,
     subjects: &mut Vec<Port<Call<S>>, Heap>,
     kept: &[Kept<S>],
@@ -85,11 +85,11 @@ fn send<S: Drop, R: Wait>(
 }
 
 // Whether requests are held back for which their box had no room.
-pub fn holds_back<S: Drop>(subjects: &Vec<Port<Call<S>>, Heap>) -> bool {
+pub(crate) fn holds_back<S: Drop>(subjects: &Vec<Port<Call<S>>, Heap>) -> bool {
     subjects.iter().any(|port| port.holds_back())
 }
 
 // Whether a subject sleeps that is to be asked for more.
-pub fn would_wake<S: Drop>(subjects: &Vec<Port<Call<S>>, Heap>) -> bool {
+pub(crate) fn would_wake<S: Drop>(subjects: &Vec<Port<Call<S>>, Heap>) -> bool {
     subjects.iter().any(|port| port.would_wake())
 }

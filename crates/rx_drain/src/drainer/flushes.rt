@@ -22,7 +22,7 @@ const LAST_REST: u64 = 10;
 
 // Flushes each sink in which something may wait, and asks the subjects for what is due of those that are not stuck. It
 // answers the fault, if there is one.
-pub fn flush_all<S: Sink, R: Wait>(
+pub(crate) fn flush_all<S: Sink, R: Wait>(
     rt: &R,
     hands: &mut DrainerLeft<S>,
     leave: usize,
@@ -41,7 +41,7 @@ pub fn flush_all<S: Sink, R: Wait>(
 
 // Flushes all sinks, also those in which nothing waits: one whose reader is gone may have its fault then. It answers the fault
 // of a subject, if there is one.
-pub fn look_after<S: Sink, R: Wait>(
+pub(crate) fn look_after<S: Sink, R: Wait>(
     rt: &R,
     hands: &mut DrainerLeft<S>,
     leave: usize,
@@ -89,7 +89,7 @@ fn flush_each<S: Sink, R: Wait>(
 
 // Flushes the sinks until nothing waits in any, but for about a quarter of a second at most, all of them together. It answers
 // the fault, if there is one.
-pub fn flush_last<S: Sink, R: Wait>(
+pub(crate) fn flush_last<S: Sink, R: Wait>(
     rt: &R,
     hands: &mut DrainerLeft<S>,
     leave: usize,
@@ -120,7 +120,7 @@ fn rest<R: Wait>(rt: &R) {
 }
 
 // Whether something may wait in one of the sinks.
-pub fn may_wait<S: Sink>(kept: &[Kept<S>]) -> bool
+pub(crate) fn may_wait<S: Sink>(kept: &[Kept<S>]) -> bool
     ensures { result ≡ any_may_wait kept.now }
 {
     kept.iter().any(|one| one.may_wait)

@@ -39,14 +39,14 @@ const MOST_IDLE: u64 = 250;
 
 // What became of a letter.
 #[derive(Clone, Copy)]
-pub struct Handled {
+pub(crate) struct Handled {
     // The drainer was told to leave, now or before.
-    pub left: bool,
-    pub fault: Option<DrainFault>,
+    pub(crate) left: bool,
+    pub(crate) fault: Option<DrainFault>,
 }
 
 // Does what a letter asks. `leave` is the number of the leave port, and `left` says whether its Bye came before.
-pub fn handle<S: Sink, R: Wait>(
+pub(crate) fn handle<S: Sink, R: Wait>(
     rt: &R,
     hands: &mut DrainerLeft<S>,
     leave: usize,
@@ -85,7 +85,7 @@ pub fn handle<S: Sink, R: Wait>(
 // Does what the letter asks that comes next, and waits while there is none; but where something waits in a sink no longer than
 // some milliseconds, so that it is looked after again. Where nothing does, and `looks` says so, it waits no longer than a
 // quarter of a second, and then looks after all sinks. `Err` where no letter comes any more.
-pub fn handle_first<S: Sink, R: Wait>(
+pub(crate) fn handle_first<S: Sink, R: Wait>(
     rt: &R,
     hands: &mut DrainerLeft<S>,
     leave: usize,
@@ -159,7 +159,7 @@ fn handle_none<S: Sink, R: Wait>(
 }
 
 // Does what the letters ask that are there, as long as there is no fault, and waits for none but within a burst.
-pub fn handle_more<S: Sink, R: Wait>(
+pub(crate) fn handle_more<S: Sink, R: Wait>(
     rt: &R,
     hands: &mut DrainerLeft<S>,
     bursts: &mut Bursts,
@@ -221,7 +221,7 @@ fn receive_more<S: Drop, R: Wait>(
 
 // Has go out what waits in the sinks, unless there is a fault, and what is held back for the subjects. Once the drainer has left
 // there are none.
-pub fn handle_rest<S: Sink, R: Wait>(
+pub(crate) fn handle_rest<S: Sink, R: Wait>(
     rt: &R,
     hands: &mut DrainerLeft<S>,
     leave: usize,

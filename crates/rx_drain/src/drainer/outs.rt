@@ -11,7 +11,7 @@ use rx_sink::{Asks, Kept, Places, Rests, Sink, attach, detach, give};
 
 // A sink, a note or the leaving of an observer comes from a subject. It answers what the subject is to be asked, and a sink that
 // is left unserved, as it came.
-pub fn serve_out<S: Sink>(
+pub(crate) fn serve_out<S: Sink>(
     kept: &mut Vec<Kept<S>, Heap>,
     away: &mut Rests<S::Rest>,
     places: &mut Places,
@@ -33,7 +33,7 @@ pub fn serve_out<S: Sink>(
 }
 
 // The sink that comes by a letter, if one does.
-pub fn into_sink<S: Drop>(out: Out<S>) -> Option<S>
+pub(crate) fn into_sink<S: Drop>(out: Out<S>) -> Option<S>
     ensures { result ≡ sink_in out }
 {
     match out {
@@ -43,7 +43,7 @@ pub fn into_sink<S: Drop>(out: Out<S>) -> Option<S>
 }
 
 // Finishes a sink that is left unserved, as it came. It answers what the sink left.
-pub fn finish_unserved<S: Sink>(unserved: Option<S>) -> Option<S::Rest>
+pub(crate) fn finish_unserved<S: Sink>(unserved: Option<S>) -> Option<S::Rest>
     ensures { Finishes S.acts unserved result }
 {
     match unserved {

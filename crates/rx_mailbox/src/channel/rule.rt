@@ -6,7 +6,7 @@ use crossbeam_channel::protocol::{Join, Lesson, Outcome, Protocol, Split};
 use std::collections::LinkedList;
 
 // What a pass of the channel knows. No value of it is made.
-pub enum View<B> {
+pub(crate) enum View<B> {
     // A port's pass: the port's number, and the letters that it put.
     Sends(u32, LinkedList<Letter<B>>),
     // The inbox's pass: how many ports were made, the letters that it took, and the number and the letters of each
@@ -17,7 +17,7 @@ pub enum View<B> {
 }
 
 // The rule of a box.
-pub struct MailboxRule;
+pub(crate) struct MailboxRule;
 
 impl<B> Protocol<Letter<B>, View<B>> for MailboxRule {
     ghost use Rattle.rx_mailbox.specs.Rule.{KeepsShares};
@@ -29,7 +29,7 @@ impl<B> Protocol<Letter<B>, View<B>> for MailboxRule {
 }
 
 // A port is made.
-pub struct SplitPort;
+pub(crate) struct SplitPort;
 
 impl<B> Split<View<B>> for SplitPort {
     ghost use Rattle.rx_mailbox.specs.Steps.{one_more, new_port};
@@ -40,7 +40,7 @@ impl<B> Split<View<B>> for SplitPort {
 }
 
 // A letter is put at the back.
-pub struct Put;
+pub(crate) struct Put;
 
 impl<B> Outcome<Letter<B>, View<B>> for Put {
     ghost use Rattle.rx_mailbox.specs.Steps.{PutsLetter};
@@ -53,7 +53,7 @@ impl<B> Lesson<Letter<B>, View<B>> for Put {
 }
 
 // The letter at the front is taken.
-pub struct Take;
+pub(crate) struct Take;
 
 impl<B> Outcome<Letter<B>, View<B>> for Take {
     ghost use Rattle.rx_mailbox.specs.Steps.{TakesLetter};
@@ -69,7 +69,7 @@ impl<B> Lesson<Letter<B>, View<B>> for Take {
 }
 
 // A port's pass is joined into the inbox's.
-pub struct JoinPort;
+pub(crate) struct JoinPort;
 
 impl<B> Join<View<B>> for JoinPort {
     ghost use Rattle.rx_mailbox.specs.declared.channel.rule.View.TheVariants.{Spent};
@@ -81,7 +81,7 @@ impl<B> Join<View<B>> for JoinPort {
 }
 
 // The inbox's pass reads the rule.
-pub struct Show;
+pub(crate) struct Show;
 
 impl<B> Lesson<Letter<B>, View<B>> for Show {
     ghost use Rattle.rx_mailbox.specs.Steps.{Shows};

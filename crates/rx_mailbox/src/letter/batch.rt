@@ -3,7 +3,7 @@ use std::collections::VecDeque;
 
 /// What a port puts into its box at once.
 #[derive(Drop)]
-pub enum Batch<B: Drop> {
+pub(crate) enum Batch<B: Drop> {
     /// A body.
     One(B),
     /// The bodies that it had held back, in their order.

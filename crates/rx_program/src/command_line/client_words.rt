@@ -60,7 +60,7 @@ The exit status is 0 once the subject is completed or as many items were told as
 says, 1 where it failed or after a fault, and 2 after a wrong command line.";
 
 /// The task of `pub`, by what it was given.
-pub fn publish_in<'a>(found: &ArgMatches<'a>) -> Option<Task<'a>>
+pub(crate) fn publish_in<'a>(found: &ArgMatches<'a>) -> Option<Task<'a>>
     ensures { MatchOption result (NamesNone (Some (codes "pub", rows_of (found_of found.now)))) (IsNamedBy (Some (codes "pub", rows_of (found_of found.now)))) }
 {
     let Some(socket) = word_in(found, SOCKET) else {
@@ -73,7 +73,7 @@ pub fn publish_in<'a>(found: &ArgMatches<'a>) -> Option<Task<'a>>
 }
 
 /// The task of `sub`, by what it was given.
-pub fn subscribe_in<'a>(found: &ArgMatches<'a>) -> Option<Task<'a>>
+pub(crate) fn subscribe_in<'a>(found: &ArgMatches<'a>) -> Option<Task<'a>>
     ensures { MatchOption result (NamesNone (Some (codes "sub", rows_of (found_of found.now)))) (IsNamedBy (Some (codes "sub", rows_of (found_of found.now)))) }
 {
     let Some(socket) = word_in(found, SOCKET) else {
@@ -101,7 +101,7 @@ fn word_in<'a>(found: &ArgMatches<'a>, argument: &str) -> Option<&'a str>
 }
 
 /// The command `pub`.
-pub fn publish_command<'a>(alloc: Global) -> Result<Command<'a>, AllocError>
+pub(crate) fn publish_command<'a>(alloc: Global) -> Result<Command<'a>, AllocError>
     ensures app { IfOk result (λ c. app_of c ≡ pub_app) }
     ensures local { IfOk result (λ c. (out-Command c).has_globals ≡ false) }
 {
@@ -115,7 +115,7 @@ pub fn publish_command<'a>(alloc: Global) -> Result<Command<'a>, AllocError>
 }
 
 /// The command `sub`.
-pub fn subscribe_command<'a>(alloc: Global) -> Result<Command<'a>, AllocError>
+pub(crate) fn subscribe_command<'a>(alloc: Global) -> Result<Command<'a>, AllocError>
     ensures app { IfOk result (λ c. app_of c ≡ sub_app) }
     ensures local { IfOk result (λ c. (out-Command c).has_globals ≡ false) }
 {

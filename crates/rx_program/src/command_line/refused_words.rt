@@ -22,7 +22,7 @@ const NO_POLICY: &str =
 const NO_NUMBER: &str = "--from and --count take a number, from 0 on";
 
 /// Why no server takes what a task names. None: nothing is known against it.
-pub fn refusal_of(heap: &Heap, task: Task<'_>) -> Option<&'static str>
+pub(crate) fn refusal_of(heap: &Heap, task: Task<'_>) -> Option<&'static str>
     ensures { IfSome result (λ _. IsBad task.entry) }
 {
     match task {

@@ -23,7 +23,7 @@ use std::io::{self, Read, Write};
 ///
 /// `NoConfig`, `Config`: it can't be had. `Memory`. `Write`: a front of it was written. Save for `Write`, nothing was. `Listen`: all
 /// was written, and something is in the way.
-pub fn check_at<F: Host, W: Write, E: Write>(
+pub(crate) fn check_at<F: Host, W: Write, E: Write>(
     rt: &F,
     path: &str,
     socket: Option<&str>,

@@ -15,7 +15,7 @@ use rx_proto::{Name, write_bytes};
 use std::io::{Read, Write};
 
 /// Emits a text, or each line of an input, as items of a subject at a server, and writes how many were accepted.
-pub fn publish_at<F: Host, R: Read, W: Write, E: Write>(
+pub(crate) fn publish_at<F: Host, R: Read, W: Write, E: Write>(
     rt: &F,
     socket: &str,
     subject: &str,
@@ -115,7 +115,7 @@ fn emit_fault(fault: PublishFault) -> ProgramFault {
 }
 
 /// Follows a subject at a server, and writes what a follower of it tells.
-pub fn subscribe_at<F: Host, W: Write, E: Write>(
+pub(crate) fn subscribe_at<F: Host, W: Write, E: Write>(
     rt: &F,
     socket: &str,
     subscription: Subscription<'_>,

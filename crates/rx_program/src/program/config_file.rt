@@ -14,7 +14,7 @@ use std::rt::Files;
 const MAX_CONFIG: u64 = 65_536;
 
 /// The configuration in the file of this path; None: the standard one.
-pub fn config_at<F: Files + AllocGlobal>(
+pub(crate) fn config_at<F: Files + AllocGlobal>(
     rt: &F,
     heap: &Heap,
     path: Option<&str>,
@@ -41,7 +41,11 @@ pub fn config_at<F: Files + AllocGlobal>(
 }
 
 /// The bytes of the file of this path.
-pub fn read_file<F: Files>(rt: &F, heap: &Heap, path: &str) -> Result<Vec<u8, Heap>, ProgramFault>
+pub(crate) fn read_file<F: Files>(
+    rt: &F,
+    heap: &Heap,
+    path: &str,
+) -> Result<Vec<u8, Heap>, ProgramFault>
     ensures within { IfOk result (λ bytes. length bytes.items ≤ 65536) }
     ensures fault { IfErr result (λ fault. (fault ≡ ProgramFault.NoConfig) ⊎ (fault ≡ ProgramFault.Memory)) }
 {

@@ -2,11 +2,11 @@ use rx_heap::Heap;
 use rx_server::{CloseFault, ServeFault, SubjectReport};
 
 /// How a server ended.
-pub struct Ended {
+pub(crate) struct Ended {
     /// What serving its connections did.
-    pub served: Result<(), ServeFault>,
+    pub(crate) served: Result<(), ServeFault>,
     /// What its close did: where it reports, what became of each subject.
-    pub closed: Result<Vec<SubjectReport, Heap>, CloseFault>,
+    pub(crate) closed: Result<Vec<SubjectReport, Heap>, CloseFault>,
 }
 
 // By hand: rx_heap says why.

@@ -4,7 +4,7 @@ use std::fmt;
 
 /// What is told of a fault behind its words.
 #[derive(Clone, Copy)]
-pub enum FaultCause {
+pub(crate) enum FaultCause {
     /// Why a configuration was refused.
     Config(ConfigError),
     /// The thread of this role and number.

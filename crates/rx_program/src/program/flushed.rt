@@ -6,7 +6,7 @@ use crate::program::program_fault::ProgramFault;
 use std::io::Write;
 
 /// Flushes the writer, which keeps what it holds.
-pub fn flushed<W: Write>(writer: &mut W) -> Result<(), ProgramFault>
+pub(crate) fn flushed<W: Write>(writer: &mut W) -> Result<(), ProgramFault>
     ensures shown { IsShown result }
     ensures kept { Keeps (W.contents writer.old) (W.contents writer.new) }
 {

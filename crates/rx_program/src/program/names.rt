@@ -8,7 +8,7 @@ use rx_proto::Name;
 use std::marker::Model;
 
 /// The names of the subjects of a configuration, in their order.
-pub struct Names {
+pub(crate) struct Names {
     names: Vec<Name, Heap>,
 }
 
@@ -31,7 +31,7 @@ impl Model for Names {
 
 impl Names {
     /// The names of this configuration.
-    pub fn of(heap: &Heap, config: &Config) -> Result<Names, Memory>
+    pub(crate) fn of(heap: &Heap, config: &Config) -> Result<Names, Memory>
         ensures { IfOk result (λ names. names ≡ names_of (settings_of config.now)) }
     {
         let mut names = Vec::new(heap.clone()?);
@@ -42,7 +42,7 @@ impl Names {
     }
 
     /// All of them.
-    pub fn as_slice(&self) -> &[Name]
+    pub(crate) fn as_slice(&self) -> &[Name]
         ensures { result.now ≡ self.now }
     {
         self.names.as_slice()

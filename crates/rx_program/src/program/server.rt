@@ -27,7 +27,7 @@ use std::io::Write;
 ///
 /// `Listen`: the socket can't be had. `Start`, `Memory`: the server did not start. `Accept`, `Serve`: it served fewer
 /// connections. `Close`: a thread ended by a fault, and there is no report. `Write`: the report was not written.
-pub fn serve_on<F: Host, W: Write, E: Write>(
+pub(crate) fn serve_on<F: Host, W: Write, E: Write>(
     rt: &F,
     heap: &Heap,
     config: Config,

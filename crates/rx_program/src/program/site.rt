@@ -22,7 +22,7 @@ use std::os::unix::net::UnixListener;
 
 /// What a server is served by: the socket that it listens on and the lock beside it, the terms of its peers, the memory for what waits for them, the
 /// clock of its moments, the memory for what its desks leave, and its own memory.
-pub struct Site<F: Host> {
+pub(crate) struct Site<F: Host> {
     listener: UnixListener,
     lock: File,
     host: F,
@@ -51,7 +51,12 @@ impl<F: Host> Drop for Site<F> {
 
 impl<F: Host> Site<F> {
     /// A new Unix socket of this path, by a configuration. Refused by `Memory` before `Listen`.
-    pub fn at(rt: &F, heap: &Heap, path: &str, config: &Config) -> Result<Site<F>, ProgramFault>
+    pub(crate) fn at(
+        rt: &F,
+        heap: &Heap,
+        path: &str,
+        config: &Config,
+    ) -> Result<Site<F>, ProgramFault>
         ensures { IfErr result LacksSocket }
     {
         let Ok(clock) = rt.clone() else {
@@ -88,7 +93,7 @@ impl<F: Host> Site<F> {
     /// and closes it. `Start`: it did not start.
     // All that a server of this sink does is done here: the types of its threads are looked through in each function that has
     // one.
-    pub fn serve<E: Write>(
+    pub(crate) fn serve<E: Write>(
         self,
         rt: &F,
         config: Config,

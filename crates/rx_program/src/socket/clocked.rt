@@ -3,7 +3,7 @@ use std::time::{Clock, Duration};
 
 /// The milliseconds since it was made, by the machine's monotonic clock. Where that can't be read, the last moment again.
 #[derive(Drop)]
-pub struct Clocked<C: Clock + Drop> {
+pub(crate) struct Clocked<C: Clock + Drop> {
     clock: C,
     start: Option<Duration>,
     last: u64,
@@ -11,7 +11,7 @@ pub struct Clocked<C: Clock + Drop> {
 
 impl<C: Clock + Drop> Clocked<C> {
     /// The moments of this clock, the present one first, which is 0.
-    pub fn new(clock: C) -> Clocked<C> {
+    pub(crate) fn new(clock: C) -> Clocked<C> {
         let start = clock.monotonic().ok();
         Clocked {
             clock,

@@ -2,7 +2,7 @@ use std::{fmt, io};
 
 /// What is in the way of a server at a path.
 #[derive(Drop)]
-pub enum Obstacle {
+pub(crate) enum Obstacle {
     /// The path has no byte.
     Empty,
     /// It has more than 107 bytes.

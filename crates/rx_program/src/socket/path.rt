@@ -27,7 +27,7 @@ const MAX_PATH: usize = 107;
 /// # Errors
 ///
 /// What is in the way; nothing was removed.
-pub fn listen<F: Host>(
+pub(crate) fn listen<F: Host>(
     rt: &F,
     path: &str,
     takeover: bool,
@@ -45,7 +45,7 @@ pub fn listen<F: Host>(
 }
 
 /// What is in the way of a server at this path. None: nothing is. The file of the lock is made where there is none, and stays.
-pub fn in_the_way<F: Host>(rt: &F, path: &str, takeover: bool) -> Option<Obstacle> {
+pub(crate) fn in_the_way<F: Host>(rt: &F, path: &str, takeover: bool) -> Option<Obstacle> {
     match lock_beside(rt, path) {
         Ok(_lock) => standing(rt, path).filter(|found| !(takeover && found.is_abandoned())),
         Err(obstacle) => Some(obstacle),

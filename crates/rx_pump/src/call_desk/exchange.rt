@@ -21,7 +21,7 @@ use std::time::Duration;
 const MOST_WAIT: u64 = 250;
 
 // Sends a call to a subject. `Err` has the sink of a call that was handed back.
-pub fn send_call<S: Drop, R: Wait>(
+pub(crate) fn send_call<S: Drop, R: Wait>(
     rt: &R,
     ports: &mut Vec<Port<Call<S>>, Heap>,
     subject: usize,
@@ -39,7 +39,7 @@ pub fn send_call<S: Drop, R: Wait>(
 }
 
 // Sends a call to a subject with others, behind which it waits to go. `Err` has the event of a call that was handed back.
-pub fn post_call<S: Drop, R: Wait>(
+pub(crate) fn post_call<S: Drop, R: Wait>(
     rt: &R,
     ports: &mut Vec<Port<Call<S>>, Heap>,
     subject: usize,
@@ -58,7 +58,7 @@ pub fn post_call<S: Drop, R: Wait>(
 
 // Waits for the reply of a subject, which is called by this port, to a ticket. Where the subject is gone nobody rings for that, so
 // it looks now and then: what the subject put was put before it went.
-pub fn receive<S: Drop, R: Wait>(
+pub(crate) fn receive<S: Drop, R: Wait>(
     rt: &R,
     inbox: &mut Inbox<Reply<S>>,
     port: &Port<Call<S>>,
@@ -100,7 +100,7 @@ fn read<S: Drop>(
 }
 
 // Whether this answer ends the desk.
-pub fn is_strange<S>(answered: &Result<Reply<S>, CallError<S>>) -> bool
+pub(crate) fn is_strange<S>(answered: &Result<Reply<S>, CallError<S>>) -> bool
     ensures { result ≡ desks.is_strange answered.now }
 {
     matches!(answered, Err(CallError::Strange { sink: _ }))

@@ -14,11 +14,11 @@ use rx_mailbox::Port;
 use rx_note::{Answer, Event, Given, Refusal};
 use std::sync::Wait;
 
-pub type Drainers<S> = Vec<Port<Out<S>>, Heap>;
+pub(crate) type Drainers<S> = Vec<Port<Out<S>>, Heap>;
 
 // Splits the sink of a call that was answered so: what goes to the drainer of the observer that it made, and what goes
 // back.
-pub fn part<S: Drop>(
+pub(crate) fn part<S: Drop>(
     answered: Result<Answer, Refusal>,
     sink: Option<S>,
 ) -> (Option<Out<S>>, Option<S>)
@@ -32,7 +32,7 @@ pub fn part<S: Drop>(
 }
 
 // The observer that an event asks to leave.
-pub fn leaver(event: &Event) -> Option<u32>
+pub(crate) fn leaver(event: &Event) -> Option<u32>
     ensures { result ≡ marks.leaver event.now }
 {
     match event {
@@ -42,7 +42,10 @@ pub fn leaver(event: &Event) -> Option<u32>
 }
 
 // What goes last to the drainer of an observer that was asked to leave, where that was answered so.
-pub fn detach<S: Drop>(leaver: Option<u32>, answered: Result<Answer, Refusal>) -> Option<Out<S>>
+pub(crate) fn detach<S: Drop>(
+    leaver: Option<u32>,
+    answered: Result<Answer, Refusal>,
+) -> Option<Out<S>>
     ensures { option_to_list result ≡ detach_of leaver answered }
 {
     match (leaver, answered) {
@@ -53,7 +56,7 @@ pub fn detach<S: Drop>(leaver: Option<u32>, answered: Result<Answer, Refusal>) -
 
 // Sends what a call sends: the sink of the observer that it made, the notes that it gave, and that an observer left. It
 // need not wake a drainer, and may hold some back. `Err` has the place of the drainer that is gone.
-pub fn send_all<S: Drop, R: Wait>(
+pub(crate) fn send_all<S: Drop, R: Wait>(
     rt: &R,
     drainers: &mut Drainers<S>,
     first: Option<Out<S>>,
@@ -84,7 +87,7 @@ fn send_any<S: Drop, R: Wait>(
 }
 
 // Sends the notes, in their order, as `send_all` does.
-pub fn give_all<S: Drop, R: Wait>(
+pub(crate) fn give_all<S: Drop, R: Wait>(
     rt: &R,
     drainers: &mut Drainers<S>,
     outs: &mut Vec<Given, Heap>,

@@ -19,7 +19,7 @@ const MOST_SEARCHED: u32 = 4096;
 const MOST_WAIT: u64 = 4;
 
 // Takes the letter that comes next, and waits while there is none. Before it waits, what is held back goes out.
-pub fn receive<S: Drop, R: Wait>(
+pub(crate) fn receive<S: Drop, R: Wait>(
     rt: &R,
     inbox: &mut Inbox<Call<S>>,
     drainers: &mut Drainers<S>,
@@ -66,7 +66,7 @@ fn receive_beside<S: Drop, R: Wait>(
 
 // Whether nothing waits for any observer, as far as it sees without a long search: of observers that are older than many others it
 // knows nothing, and says no.
-pub fn is_drained(hub: &Hub) -> bool {
+pub(crate) fn is_drained(hub: &Hub) -> bool {
     let mut left = hub.observers();
     let joins = hub.joins();
     for back in 1..=MOST_SEARCHED {

@@ -20,15 +20,15 @@ use std::sync::Wait;
 
 // What became of a call.
 #[derive(Clone, Copy)]
-pub struct Handled {
+pub(crate) struct Handled {
     // It was refused for want of memory.
-    pub refused: bool,
-    pub fault: Option<PumpFault>,
+    pub(crate) refused: bool,
+    pub(crate) fault: Option<PumpFault>,
 }
 
 // Hands a call from a port to the hub, and sends what comes of it. `outs` is but room.
 #[inline(always)] // once for each call, which is moved no further where it asks for items
-pub fn handle<S: Drop, R: Wait>(
+pub(crate) fn handle<S: Drop, R: Wait>(
     rt: &R,
     parts: &mut PumpParts<S>,
     outs: &mut Vec<Given, Heap>,

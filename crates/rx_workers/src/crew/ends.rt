@@ -26,7 +26,7 @@ use std::thread::Threads;
 // Tells each worker, from the last on, by the port at its place that no connection comes any more, waits until it has ended, and
 // puts its desk behind the others. A bell has to stay until its worker has ended. Answers the first place of a desk whose worker
 // did not have all that was sent to it.
-pub fn end_all<
+pub(crate) fn end_all<
     M: Moments + Drop,
     C: Read + Drop,
     W: Write + Drop,

@@ -25,7 +25,12 @@ use std::thread::Threads;
 
 /// A worker that serves in a thread of its own, and room for the port to its inbox once that has ended. Contracts see the worker
 /// that was handed in.
-pub struct Hired<M: Moments + Drop, C: Read + Drop, W: Write + Drop, P: Readiness<C> + Drop> {
+pub(crate) struct Hired<
+    M: Moments + Drop,
+    C: Read + Drop,
+    W: Write + Drop,
+    P: Readiness<C> + Drop,
+> {
     worker: RunningWorker<M, C, W, P>,
     room: Vec<EndedPort<(C, W)>, Heap>,
 }
@@ -52,16 +57,16 @@ impl<M: Moments + Drop, C: Read + Drop, W: Write + Drop, P: Readiness<C> + Drop>
 
 /// What comes back of a worker that has ended.
 #[derive(Drop)]
-pub struct ReturnedDesk<W: Write + Drop> {
+pub(crate) struct ReturnedDesk<W: Write + Drop> {
     /// Its desk, as its calls left it.
-    pub desk: CallDesk<LineSink<W>>,
+    pub(crate) desk: CallDesk<LineSink<W>>,
     /// Whether all that was sent to it came, and then its Bye.
-    pub has_all: bool,
+    pub(crate) has_all: bool,
 }
 
 impl<M: Moments + Drop, C: Read + Drop, W: Write + Drop, P: Readiness<C> + Drop> Hired<M, C, W, P> {
     /// A worker that serves, and room for one port.
-    pub fn new(
+    pub(crate) fn new(
         worker: RunningWorker<M, C, W, P>,
         room: Vec<EndedPort<(C, W)>, Heap>,
     ) -> Hired<M, C, W, P>
@@ -74,7 +79,7 @@ impl<M: Moments + Drop, C: Read + Drop, W: Write + Drop, P: Readiness<C> + Drop>
 
     /// Tells the worker by the port to its inbox that no connection comes any more, rings the bell at this place, and waits until it
     /// has ended. Then its box is settled.
-    pub fn end<B: Bell, R: Threads + Wait>(
+    pub(crate) fn end<B: Bell, R: Threads + Wait>(
         self,
         rt: &R,
         port: Port<(C, W)>,

@@ -24,7 +24,7 @@ use std::sync::{Arc, Mutex, Wait};
 use std::thread::Threads;
 
 /// How many connections wait for a worker at most.
-pub const WORKER_BOX: usize = 16;
+pub(crate) const WORKER_BOX: usize = 16;
 
 // What a worker has beside its desk, the port to its inbox, and room for that once it has ended.
 #[derive(Drop)]
@@ -131,7 +131,7 @@ fn hire<
 }
 
 // Hires a worker for each desk, the last one first, each with what it waits by.
-pub fn hire_all<
+pub(crate) fn hire_all<
     M: Moments + Drop + Send + 'static,
     C: Read + Drop + Send + 'static,
     W: Write + Drop + Send + 'static,

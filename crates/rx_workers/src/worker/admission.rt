@@ -15,7 +15,7 @@ const MAX_READS: u64 = 4_294_967_296;
 
 /// Gives a connection a place, where a session begins over it, and answers which. None where there is no memory for one, or
 /// it can't be watched: the connection is given up.
-pub fn admit<C: Drop, W: Drop, P: Readiness<C>>(
+pub(crate) fn admit<C: Drop, W: Drop, P: Readiness<C>>(
     heap: &Heap,
     clients: &mut Clients<C, W>,
     connection: (C, W),

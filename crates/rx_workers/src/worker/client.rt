@@ -6,7 +6,7 @@ use rx_session::OpenSession;
 /// A connection that a worker serves: by a session, or once that has handed its writer over, by watching whether its peer hung
 /// up.
 #[derive(Drop)]
-pub enum Client<C: Drop, W: Drop> {
+pub(crate) enum Client<C: Drop, W: Drop> {
     /// A session is under way.
     Talks(Talk<C, W>),
     /// An observer joined, to whom the writer was handed.
@@ -15,22 +15,22 @@ pub enum Client<C: Drop, W: Drop> {
 
 /// A session under way over the halves of its connection.
 #[derive(Drop)]
-pub struct Talk<C: Drop, W: Drop> {
+pub(crate) struct Talk<C: Drop, W: Drop> {
     /// The half that is read.
-    pub reader: C,
+    pub(crate) reader: C,
     /// The half that is written.
-    pub writer: W,
+    pub(crate) writer: W,
     /// The session.
-    pub session: Box<OpenSession, Heap>,
+    pub(crate) session: Box<OpenSession, Heap>,
     /// What its connection is watched for.
-    pub aim: Aim,
+    pub(crate) aim: Aim,
 }
 
 /// An observer, and the half of its connection that was read.
 #[derive(Drop)]
-pub struct Follower<C: Drop> {
+pub(crate) struct Follower<C: Drop> {
     /// The half that was read.
-    pub reader: C,
+    pub(crate) reader: C,
     /// Who joined.
-    pub observer: Joined,
+    pub(crate) observer: Joined,
 }

@@ -12,7 +12,7 @@ use std::mem;
 
 /// The clients of a worker, each at a place of its own, from 0. Contracts see the list of the places, each with its client or
 /// vacant.
-pub struct Clients<C: Drop, W: Drop> {
+pub(crate) struct Clients<C: Drop, W: Drop> {
     places: Vec<Option<Client<C, W>>, Heap>,
 }
 
@@ -34,7 +34,7 @@ impl<C: Drop, W: Drop> Model for Clients<C, W> {
 
 impl<C: Drop, W: Drop> Clients<C, W> {
     /// No clients.
-    pub fn new(alloc: Heap) -> Clients<C, W>
+    pub(crate) fn new(alloc: Heap) -> Clients<C, W>
         ensures { result ≡ [] }
     {
         Clients {
@@ -43,7 +43,7 @@ impl<C: Drop, W: Drop> Clients<C, W> {
     }
 
     /// A place that is vacant: one more, behind the others, where none of them is.
-    pub fn vacancy(&mut self) -> Result<usize, Memory>
+    pub(crate) fn vacancy(&mut self) -> Result<usize, Memory>
         ensures vacant { IfOk result (λ place. client_at place self.new ≡ None) }
         ensures within { IfOk result (λ place. place < length self.new) }
         ensures same { AreSameClients self.old self.new }
@@ -63,7 +63,7 @@ impl<C: Drop, W: Drop> Clients<C, W> {
     }
 
     /// Puts a client at a place, or leaves it vacant.
-    pub fn put(&mut self, place: usize, client: Option<Client<C, W>>)
+    pub(crate) fn put(&mut self, place: usize, client: Option<Client<C, W>>)
         requires { place < length self.old }
         ensures { Sets place self.old self.new (client_at place self.old) client }
     {
@@ -71,7 +71,7 @@ impl<C: Drop, W: Drop> Clients<C, W> {
     }
 
     /// Takes the session under way at this place. It is vacant then.
-    pub fn take_talk(&mut self, place: usize) -> Option<Talk<C, W>>
+    pub(crate) fn take_talk(&mut self, place: usize) -> Option<Talk<C, W>>
         ensures taken { MatchOption result (self.new ≡ self.old) (λ talk. Sets place self.old self.new (Some (Talks talk)) None) }
         ensures none { IfNone result (¬ IsTalk (client_at place self.old)) }
         ensures within { IfSome result (λ _. place < length self.new) }
@@ -87,7 +87,7 @@ impl<C: Drop, W: Drop> Clients<C, W> {
     }
 
     /// Takes the follower at this place. It is vacant then.
-    pub fn take_follower(&mut self, place: usize) -> Option<Follower<C>>
+    pub(crate) fn take_follower(&mut self, place: usize) -> Option<Follower<C>>
         ensures taken { MatchOption result (self.new ≡ self.old) (λ follower. Sets place self.old self.new (Some (Follows follower)) None) }
         ensures none { IfNone result (¬ IsFollower (client_at place self.old)) }
     {
@@ -102,7 +102,7 @@ impl<C: Drop, W: Drop> Clients<C, W> {
     }
 
     /// Whether no session is under way.
-    pub fn is_quiet(&self) -> bool
+    pub(crate) fn is_quiet(&self) -> bool
         ensures { IsTrue result ↔ IsQuiet self.now }
     {
         none_talks(&self.places)

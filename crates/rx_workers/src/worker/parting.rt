@@ -16,17 +16,17 @@ use rx_session::{OpenSession, SessionEnd, Turn};
 /// Where a session pauses, and for what its connection was watched: after the last turn for now one that would go on at once
 /// is told again by the next wait.
 #[derive(Clone, Copy)]
-pub struct Pause {
+pub(crate) struct Pause {
     /// The place of the session.
-    pub place: usize,
+    pub(crate) place: usize,
     /// Whether it has no further turn now.
-    pub is_last: bool,
+    pub(crate) is_last: bool,
     /// What its connection is watched for.
-    pub aim: Aim,
+    pub(crate) aim: Aim,
 }
 
 /// What is left by a turn that came to this: whether the session goes on at once, and who is at its place.
-pub fn leave<C: Drop, W: Drop, P: Readiness<C>>(
+pub(crate) fn leave<C: Drop, W: Drop, P: Readiness<C>>(
     turned: Turn<W>,
     reader: C,
     session: Box<OpenSession, Heap>,

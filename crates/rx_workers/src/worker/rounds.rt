@@ -14,11 +14,14 @@ use std::sync::Wait;
 const MOST_READY: u32 = 1_024;
 
 // Serves each connection that comes, until the Bye or until none comes any more, and then until no session is under way.
-pub fn serve_all<'a, R: Wait, M: Moments + Drop, C: Read + Drop, W: Write + Drop, P: Readiness<C>>(
-    rt: &R,
-    shift: &mut Shift<'a, R, M, C, W>,
-    readiness: &mut P,
-)
+pub(crate) fn serve_all<
+    'a,
+    R: Wait,
+    M: Moments + Drop,
+    C: Read + Drop,
+    W: Write + Drop,
+    P: Readiness<C>,
+>(rt: &R, shift: &mut Shift<'a, R, M, C, W>, readiness: &mut P)
     requires { AreWatched (P.watched readiness.old) shift.old.clients }
     ensures goes { DoesSome M.tells C.remaining W.contents shift.old shift.new }
     ensures closed { shift.new.is_open ≡ false }

@@ -16,7 +16,7 @@ use std::thread::{Promise, PromisedHandle, Threads};
 
 /// What the thread of a worker answers is what `serve` promises of that worker.
 #[derive(Drop)]
-pub struct Worked<M: Drop, C: Drop, W: Write + Drop, P: Readiness<C> + Drop>(
+pub(crate) struct Worked<M: Drop, C: Drop, W: Write + Drop, P: Readiness<C> + Drop>(
     Snapshot<Worker<M, C, W, P>>,
 );
 

@@ -16,7 +16,7 @@ use std::marker::Model;
 use std::sync::Wait;
 
 /// A worker at work: the desk of its sessions, the inbox of its connections, its clients, and how many sessions it began.
-pub struct Shift<'a, R, M: Drop, C: Drop, W: Write + Drop> {
+pub(crate) struct Shift<'a, R, M: Drop, C: Drop, W: Write + Drop> {
     heap: &'a Heap,
     desk: SessionDesk<'a, R, M, W>,
     inbox: Inbox<(C, W)>,
@@ -50,7 +50,7 @@ impl<'a, R, M: Drop, C: Drop, W: Write + Drop> Model for Shift<'a, R, M, C, W> {
 
 impl<'a, R, M: Drop, C: Drop, W: Write + Drop> Shift<'a, R, M, C, W> {
     /// Nothing came yet.
-    pub fn new(
+    pub(crate) fn new(
         heap: &'a Heap,
         clients: Heap,
         desk: SessionDesk<'a, R, M, W>,
@@ -69,14 +69,14 @@ impl<'a, R, M: Drop, C: Drop, W: Write + Drop> Shift<'a, R, M, C, W> {
     }
 
     /// Whether no connection comes any more, and no session is under way.
-    pub fn is_over(&self) -> bool
+    pub(crate) fn is_over(&self) -> bool
         ensures { IsTrue result ↔ IsFinished self.now }
     {
         !self.is_open && self.clients.is_quiet()
     }
 
     /// The desk, the inbox, and how many sessions there were. Who followed is watched no more.
-    pub fn into_parts(self) -> (SessionDesk<'a, R, M, W>, Inbox<(C, W)>, u64)
+    pub(crate) fn into_parts(self) -> (SessionDesk<'a, R, M, W>, Inbox<(C, W)>, u64)
         ensures desk { result.0 ≡ self.entry.session }
         ensures inbox { result.1 ≡ self.entry.inbox }
         ensures sessions { result.2 ≡ self.entry.sessions }
@@ -95,7 +95,7 @@ impl<'a, R, M: Drop, C: Drop, W: Write + Drop> Shift<'a, R, M, C, W> {
 
 impl<'a, R: Wait, M: Moments + Drop, C: Read + Drop, W: Write + Drop> Shift<'a, R, M, C, W> {
     /// Gives each connection that came by now a place, and waits for none.
-    pub fn admit_all<P: Readiness<C>>(&mut self, rt: &R, readiness: &mut P)
+    pub(crate) fn admit_all<P: Readiness<C>>(&mut self, rt: &R, readiness: &mut P)
         requires { AreWatched (P.watched readiness.old) self.old.clients }
         ensures arrivals { HasArrivals M.tells C.remaining W.contents self.old self.new }
         ensures watched { AreWatched (P.watched readiness.new) self.new.clients }
@@ -143,7 +143,7 @@ impl<'a, R: Wait, M: Moments + Drop, C: Read + Drop, W: Write + Drop> Shift<'a, 
     }
 
     /// Serves the client that is ready: a session has a turn or two, and a follower who hung up is parted with.
-    pub fn serve<P: Readiness<C>>(&mut self, ready: Ready, readiness: &mut P)
+    pub(crate) fn serve<P: Readiness<C>>(&mut self, ready: Ready, readiness: &mut P)
         requires { AreWatched (P.watched readiness.old) self.old.clients }
         ensures serves { ServesAt M.tells C.remaining W.contents ready.key ready.is_gone self.old self.new }
         ensures watched { AreWatched (P.watched readiness.new) self.new.clients }
