@@ -6,7 +6,7 @@ use Rattle.std.specs.Result.{IsErr}
 use Rattle.rx_proto.specs.Bytes.{AppendsPrefix, Writes}
 use Rattle.rx_http.specs.Events.{event_bytes}
 use Rattle.rx_http.specs.declared.stream_event.StreamEvent.{StreamEvent}
-use Rattle.rx_http.proofs.Writes.{Writes-as, Writes-fault, Writes-then}
+use Rattle.rx_proto.proofs.Writes.{Writes-as, Writes-fault, Writes-then}
 use Rattle.rx_note.specs.declared.item.Item.{Item}
 use Rattle.rx_http.specs.declared.stream_event.StreamEvent.TheVariants.{Missed, Next}
 use Rattle.rx_events.specs.Telling.{item_events, told_bytes}

@@ -7,7 +7,7 @@ use Rattle.rx_http.specs.Heads.{HasNoHead}
 use Rattle.rx_http.specs.declared.answer.Answer.{Answer}
 use Rattle.rx_http.specs.declared.request.asked.Asked.{Asked}
 use Rattle.rx_http.specs.declared.answer.refusal.Refusal.{Refusal}
-use Rattle.rx_http.proofs.Writes.{Prefix-behind}
+use Rattle.rx_proto.proofs.Writes.{Prefix-behind}
 use Rattle.rx_session.specs.declared.session_end.SessionEnd.{SessionEnd}
 use Rattle.rx_session.specs.declared.session_end.SessionEnd.TheVariants as ends
 use Rattle.rx_session.specs.declared.turn.Turn.{Turn}

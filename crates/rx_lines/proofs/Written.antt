@@ -4,6 +4,7 @@ use Rattle.std.proofs.KnownBytes.{Appends-trans, Appends-nil, Appends-kept}
 use Rattle.std.proofs.lemmas.Result.{MatchResult-from_err}
 use Rattle.std.specs.Result.{IsErr}
 use Rattle.std.specs.Io.KnownBytes.{Appends, Keeps}
+use Rattle.rx_proto.proofs.Writes.{Prefix-behind, Prefix-more}
 use Rattle.rx_proto.specs.Bytes.{AppendsPrefix, Writes}
 use Rattle.rx_lines.specs.Bytes.{Holds, Loses, Puts}
 
@@ -18,20 +19,6 @@ Prefix-kept old mid new bytes told kept = Prefix-all old new bytes (Appends-kept
 -- nothing is a front of any bytes
 pub Prefix-none : (old new : Option (List ℕ)) (done rest bytes : List ℕ) → bytes ≡ done ++ rest → Appends old new done → AppendsPrefix old new bytes
 Prefix-none old new done rest bytes parts told = record { front = done; back = rest; parts = sym parts; told = told }
-
--- a front of some bytes is a front of those and more
-pub Prefix-more : (old new : Option (List ℕ)) (xs ys : List ℕ) → AppendsPrefix old new xs → AppendsPrefix old new (xs ++ ys)
-Prefix-more old new xs ys p =
-    record { front = p.front; back = p.back ++ ys; parts = sym (append_assoc p.front p.back ys) ∙ ap (λ t. t ++ ys) p.parts; told = p.told }
-
--- a front of what comes behind written bytes
-pub Prefix-behind : (old mid new : Option (List ℕ)) (xs ys : List ℕ) → Appends old mid xs → AppendsPrefix mid new ys → AppendsPrefix old new (xs ++ ys)
-Prefix-behind old mid new xs ys told p = record {
-  front = xs ++ p.front;
-  back = p.back;
-  parts = append_assoc xs p.front p.back ∙ ap (λ t. xs ++ t) p.parts;
-  told = Appends-trans old mid new xs p.front told p.told;
-}
 
 -- bytes put into the room that there is
 pub Holds-here : (known : Option (List ℕ)) (held after bytes : List ℕ) → after ≡ held ++ bytes → Holds held after known known bytes

@@ -8,3 +8,4 @@ pub mod Named
 pub mod Numbers
 pub mod Printed
 pub mod Sound
+pub mod Writes

@@ -4,7 +4,7 @@ use std::marker::Model;
 
 /// A line that is to be written, of at most `N` bytes. It takes no memory. Contracts see the list of its bytes.
 #[derive(Drop)]
-pub(crate) struct LineBytes<const N: usize> {
+pub struct LineBytes<const N: usize> {
     bytes: [u8; N],
     len: usize,
 }
@@ -30,7 +30,7 @@ impl<const N: usize> LineBytes<N> {
     }
 
     /// Its bytes.
-    pub(crate) fn as_bytes(&self) -> &[u8]
+    pub fn as_bytes(&self) -> &[u8]
         ensures bytes { result.now ≡ self.now }
         ensures within { length self.now ≤ N }
     {

@@ -14,12 +14,6 @@ const REPLY_LINE: usize = 16;
 // The most bytes of the line that tells an observer its number.
 const JOINED_LINE: usize = 18;
 
-/// The most bytes of the line of a note in the first version.
-pub(crate) const NOTE_LINE: usize = 1040;
-
-/// The most bytes of the line of an item in the second.
-pub(crate) const PLACED_LINE: usize = 1062;
-
 /// The most bytes of the line of a note with a short text, in both versions. The array that a line is put together in is
 /// cleared and moved whole, so a short one has a small array.
 pub(crate) const SHORT_LINE: usize = 84;
@@ -85,7 +79,6 @@ pub(crate) fn joined_line(who: u32) -> LineBytes<JOINED_LINE>
 /// How many bytes the text of a note has.
 pub(crate) fn text_len(note: &Note) -> usize
     ensures line { length (note_line One note.now) ≤ result + 8 }
-    ensures within { length (note_line One note.now) ≤ NOTE_LINE }
 {
     match note {
         Note::Next(item) => item.text.as_bytes().len(),

@@ -1,14 +1,13 @@
 // Lines, written to a writer.
-ghost use Rattle.std.specs.Prelude.{◌≤◌, length};
+ghost use Rattle.std.specs.Prelude.{◌++◌};
 ghost use Rattle.rx_proto.specs.Bytes.{Writes};
-ghost use Rattle.rx_proto.specs.Printing.{reply_line, joined_line, note_line};
+ghost use Rattle.rx_proto.specs.Printing.{joined_line, line, note_line, reply_line};
 
 use crate::printing::{
-    NOTE_LINE, PLACED_LINE, SHORT_LINE, SHORT_TEXT, joined_line, note_line, placed_line,
-    reply_line, text_len,
+    SHORT_LINE, SHORT_TEXT, item_origin, joined_line, note_line, placed_line, reply_line, text_len,
 };
 use crate::{Response, Version};
-use rx_note::Note;
+use rx_note::{Item, Note, Text};
 use std::error::Error;
 use std::fmt;
 use std::io::Write;
@@ -60,13 +59,25 @@ fn write_plain<W: Write>(writer: &mut W, note: &Note) -> Result<(), WriteFault>
     }
 }
 
-// Writes the line of a note with a long text in the first version.
+// Writes the line of a note with a long text in the first version. Its bytes go to the writer from where they stand.
 #[inline(never)] // so that a short one makes no room for it
 fn write_long<W: Write>(writer: &mut W, note: &Note) -> Result<(), WriteFault>
-    requires { length (note_line Version.One note.now) ≤ NOTE_LINE }
     ensures { Writes result (W.contents writer.old) (W.contents writer.new) (note_line Version.One note.now) }
 {
-    write_bytes(writer, note_line::<NOTE_LINE>(note).as_bytes())
+    match note {
+        Note::Next(item) => write_text(writer, b"NEXT ", &item.text),
+        Note::Completed => write_bytes(writer, b"DONE\n"),
+        Note::Failed(text) => write_text(writer, b"FAILED ", text),
+    }
+}
+
+// Writes a text behind a word, and an LF.
+fn write_text<W: Write>(writer: &mut W, word: &[u8], text: &Text) -> Result<(), WriteFault>
+    ensures { Writes result (W.contents writer.old) (W.contents writer.new) (line (word.now ++ text.now)) }
+{
+    write_bytes(writer, word)?;
+    write_bytes(writer, text.as_bytes())?;
+    write_bytes(writer, b"\n")
 }
 
 // Writes the line of a note in the second version.
@@ -78,9 +89,17 @@ fn write_placed<W: Write>(writer: &mut W, note: &Note) -> Result<(), WriteFault>
         Note::Next(item) if item.text.as_bytes().len() <= SHORT_TEXT => {
             write_bytes(writer, placed_line::<SHORT_LINE>(item).as_bytes())
         }
-        Note::Next(item) => write_bytes(writer, placed_line::<PLACED_LINE>(item).as_bytes()),
+        Note::Next(item) => write_long_item(writer, item),
         _ => write_plain(writer, note),
     }
+}
+
+// Writes the line of an item with a long text in the second version.
+fn write_long_item<W: Write>(writer: &mut W, item: &Item) -> Result<(), WriteFault>
+    ensures { Writes result (W.contents writer.old) (W.contents writer.new) (note_line Version.Two (Note.Next item.now)) }
+{
+    write_bytes(writer, b"NEXT ")?;
+    write_text(writer, item_origin(item).as_bytes(), &item.text)
 }
 
 /// Writes all of the bytes. A write that fails or takes none is a fault.

@@ -15,7 +15,8 @@ use Rattle.rx_proto.specs.Reading.{script_read}
 use Rattle.rx_lines.specs.Steps.{unread, GoesOn}
 use Rattle.rx_script.specs.Transcripts.{Subject, State, new_state, has_end}
 use Rattle.rx_lines.proofs.LinesOf.{lines_of-first, lines_of-taken, lines_of-none}
-use Rattle.rx_lines.proofs.Written.{Prefix-behind, Prefix-none}
+use Rattle.rx_lines.proofs.Written.{Prefix-none}
+use Rattle.rx_proto.proofs.Writes.{Prefix-behind}
 
 -- ONE LINE
 

@@ -18,7 +18,7 @@ use Rattle.rx_script.specs.Tellings.{IsIn, Turns, TellsOn}
 use Rattle.rx_script.specs.Transcripts.{Subject, State, new_state, line_written, after_line, ends_script, transcript, has_end}
 use Rattle.rx_lines.proofs.LinesOf.{lines_of-first, lines_of-taken, lines_of-none}
 use Rattle.rx_proto.proofs.LineFeeds.{HasNoLf-front}
-use Rattle.rx_lines.proofs.Written.{Prefix-behind, Prefix-more}
+use Rattle.rx_proto.proofs.Writes.{Prefix-behind, Prefix-more}
 
 -- some bytes were read and some written; what was written and what is held is the transcript so far, which goes on from
 -- the state as it is now over the bytes that are unread

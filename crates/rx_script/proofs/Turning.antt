@@ -23,7 +23,7 @@ use Rattle.rx_lines.specs.Steps.{unread, GoesOn, Goes, Advances}
 use Rattle.rx_script.specs.Tellings.{IsIn, IsInHand, Quits, TellsOn, Turns, is_last}
 use Rattle.rx_script.specs.Transcripts.{State, line_written, after_line, ends_script}
 use Rattle.rx_lines.proofs.Stepping.{told-is_line}
-use Rattle.rx_lines.proofs.Written.{Prefix-behind}
+use Rattle.rx_proto.proofs.Writes.{Prefix-behind}
 
 -- what was held and then written is what was put
 appended : (old mid new : Option (List ℕ)) (held then bytes : List ℕ) → Holds held then old mid bytes → Appends mid new then → Appends old new (held ++ bytes)

@@ -7,17 +7,11 @@ ghost use Rattle.rx_server.specs.Starting.{CannotRun, NoMemoryFor, NoMemoryIn};
 ghost use Rattle.rx_server.specs.Wirings.{IsWired, Wiring, drainer_capacity, joined_parts, most_observers};
 
 pub(crate) mod makers;
- makers;
 pub(crate) mod opened;
- opened;
 pub(crate) mod port_row;
- port_row;
 pub(crate) mod running;
- running;
 pub(crate) mod running_pump;
- running_pump;
 pub(crate) mod start_fault;
- start_fault;
 
 use crate::close::rooms::Rooms;
 use crate::wired::makers::{make_desks, make_drainers, make_hubs, make_pumps};

@@ -33,7 +33,7 @@ use Rattle.rx_session.specs.declared.whole_session.Turned.TheVariants.{On, Over}
 use Rattle.rx_session.specs.declared.session_end.SessionEnd.{SessionEnd}
 use Rattle.rx_session.specs.declared.session_end.SessionEnd.TheVariants as ends
 use Rattle.rx_lines.specs.declared.step.Step.{Step}
-use Rattle.rx_lines.proofs.Written.{Prefix-behind}
+use Rattle.rx_proto.proofs.Writes.{Prefix-behind}
 
 -- two outcomes at a desk
 same_outcome : {D W : Type 0} (desk : D) (end end' : SessionEnd) (back back' : Option W) → end ≡ end' → back ≡ back'

@@ -31,7 +31,7 @@ use Rattle.rx_session.proofs.Answering.{told}
 use Rattle.rx_lines.proofs.Feeding.{IsRest-plain}
 use Rattle.rx_lines.proofs.LinesOf.{lines_of-first, lines_of-none, BeginsWithLine-more}
 use Rattle.rx_session.proofs.SoFar.{Serves-ends, Serves-fault}
-use Rattle.rx_lines.proofs.Written.{Prefix-behind}
+use Rattle.rx_proto.proofs.Writes.{Prefix-behind}
 use Rattle.rx_proto.specs.Bytes.{AppendsPrefix}
 
 -- known bytes that are the same are kept

@@ -20,7 +20,7 @@ use Rattle.rx_session.specs.declared.session_end.SessionEnd.{SessionEnd}
 use Rattle.rx_session.specs.declared.session_end.SessionEnd.TheVariants as ends
 use Rattle.rx_proto.proofs.LineFeeds.{HasNoLf-front}
 use Rattle.rx_lines.proofs.LinesOf.{lines_of-first, lines_of-taken, lines_of-none}
-use Rattle.rx_lines.proofs.Written.{Prefix-behind}
+use Rattle.rx_proto.proofs.Writes.{Prefix-behind}
 
 -- the outcome at a desk of a turn that ended the session
 abbrev pub outcome_of : {D W : Type 0} → Turned W → D → Outcome D W → Outcome D W

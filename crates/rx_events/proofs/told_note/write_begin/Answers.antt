@@ -2,7 +2,7 @@ use Rattle.rx_http.specs.Answers.{answer_bytes}
 use Rattle.rx_http.specs.Laws.{stream_of}
 use Rattle.rx_http.specs.Pieces.{retry_line}
 use Rattle.rx_http.specs.declared.answer.Answer.TheVariants.{Events}
-use Rattle.rx_http.proofs.Writes.{Writes-fault, Writes-then}
+use Rattle.rx_proto.proofs.Writes.{Writes-fault, Writes-then}
 use Rattle.rx_events.specs.Telling.{begin_events, begin_pieces, told_bytes}
 use Rattle.rx_events.proofs.told_note.write_begin.Goals as goal
 

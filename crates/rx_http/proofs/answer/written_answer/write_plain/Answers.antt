@@ -1,6 +1,6 @@
 use Rattle.std.proofs.Common.{[], length}
 use Rattle.rx_http.specs.Answers.{plain_kind, sized_head}
-use Rattle.rx_http.proofs.Writes.{Writes-fault, Writes-then}
+use Rattle.rx_proto.proofs.Writes.{Writes-fault, Writes-then}
 use Rattle.rx_http.proofs.answer.written_answer.write_plain.Goals as goal
 
 pub returns-in_err-write_head : goal.returns-in_err-write_head

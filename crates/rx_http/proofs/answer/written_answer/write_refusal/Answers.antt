@@ -1,6 +1,6 @@
 use Rattle.std.proofs.Common.{◌≡◌, ◌++◌, ℕ, List, codes, ap, ◌∙◌}
 use Rattle.rx_http.specs.Answers.{refusal_body, sized_head}
-use Rattle.rx_http.proofs.Writes.{Writes-as, Writes-fault, Writes-then}
+use Rattle.rx_proto.proofs.Writes.{Writes-as, Writes-fault, Writes-then}
 use Rattle.rx_http.proofs.answer.written_answer.write_refusal.Goals as goal
 
 head_same : (status status₁ fields fields₁ : List ℕ) (size size₁ : ℕ) → status ≡ status₁ → fields ≡ fields₁ → size ≡ size₁

@@ -1,7 +1,7 @@
 use Rattle.std.proofs.Common.{◌++◌, codes, append_assoc}
 use Rattle.rx_http.specs.Events.{saying_of}
 use Rattle.rx_http.specs.Pieces.{id_line, kind_line, text_lines}
-use Rattle.rx_http.proofs.Writes.{Writes-fault, Writes-then}
+use Rattle.rx_proto.proofs.Writes.{Writes-fault, Writes-then}
 use Rattle.rx_http.proofs.stream_event.written_event.write_event.Goals as goal
 
 pub returns-in_err-write_head : goal.returns-in_err-write_head

@@ -2,7 +2,7 @@ use Rattle.std.proofs.Common.{◌≡◌, ◌-◌, ◌++◌, codes, take, drop, �
 use Rattle.std.proofs.lemmas.List.{length-drop, take_all}
 use Rattle.rx_http.specs.Ids.{over_word, place_digits}
 use Rattle.rx_http.proofs.Plain.{id_lines}
-use Rattle.rx_http.proofs.Writes.{Writes-fault, Writes-then}
+use Rattle.rx_proto.proofs.Writes.{Writes-fault, Writes-then}
 use Rattle.rx_http.proofs.stream_event.written_event.write_id.Goals as goal
 
 pub returns-in_err-write_bytes-clause-plain : goal.returns-in_err-write_bytes-clause-plain

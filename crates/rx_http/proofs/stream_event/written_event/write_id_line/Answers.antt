@@ -1,6 +1,6 @@
 use Rattle.std.proofs.Common.{◌++◌, codes, append_assoc}
 use Rattle.rx_http.specs.Ids.{id_bytes}
-use Rattle.rx_http.proofs.Writes.{Writes-fault, Writes-then}
+use Rattle.rx_proto.proofs.Writes.{Writes-fault, Writes-then}
 use Rattle.rx_http.proofs.stream_event.written_event.write_id_line.Goals as goal
 
 pub returns-in_err-write_bytes : goal.returns-in_err-write_bytes

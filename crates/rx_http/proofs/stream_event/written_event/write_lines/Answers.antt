@@ -2,7 +2,7 @@
 use Rattle.std.proofs.Common.{◌+◌, ◌-◌, ◌++◌, codes, length, take, drop, sym, ap, ◌∙◌, append_assoc, arith}
 use Rattle.std.proofs.KnownBytes.{Appends-trans}
 use Rattle.rx_http.proofs.Lines.{to_come, to_come-line, to_come-byte, to_come-end}
-use Rattle.rx_http.proofs.Writes.{Writes-as, Writes-fault, Writes-then}
+use Rattle.rx_proto.proofs.Writes.{Writes-as, Writes-fault, Writes-then}
 use Rattle.rx_http.proofs.stream_event.written_event.write_lines.Goals as goal
 use Rattle.rx_http.proofs.stream_event.written_event.write_lines.Goals.{then-byte-eq13+in_ok-write_bytes+in_ok-write_bytes-2, else-byte-eq13}
 

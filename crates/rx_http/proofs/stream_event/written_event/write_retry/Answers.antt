@@ -1,5 +1,5 @@
 use Rattle.std.proofs.Common.{◌++◌, codes, decimal}
-use Rattle.rx_http.proofs.Writes.{Writes-fault, Writes-then}
+use Rattle.rx_proto.proofs.Writes.{Writes-fault, Writes-then}
 use Rattle.rx_http.proofs.stream_event.written_event.write_retry.Goals as goal
 
 pub returns-in_err-write_bytes : goal.returns-in_err-write_bytes

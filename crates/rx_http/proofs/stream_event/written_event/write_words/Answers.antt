@@ -5,7 +5,7 @@ use Rattle.base64.specs.GeneralPurpose.{encode_of}
 use Rattle.rx_http.specs.Events.{text_by}
 use Rattle.rx_http.specs.Pieces.{text_lines}
 use Rattle.rx_http.proofs.Plain.{coded_lines}
-use Rattle.rx_http.proofs.Writes.{Writes-as}
+use Rattle.rx_proto.proofs.Writes.{Writes-as}
 use Rattle.rx_http.proofs.stream_event.written_event.write_words.Goals as goal
 
 coded-told : (text : List ℕ) → is_utf8 text ≡ false → encode_of standard text ≡ text_lines (text_by text)

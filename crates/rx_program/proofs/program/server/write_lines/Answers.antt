@@ -6,7 +6,7 @@ use Rattle.std.specs.Io.KnownBytes.{Appends}
 use Rattle.rx_proto.specs.Bytes.{Writes}
 use Rattle.rx_program.specs.Reporting.{report_line}
 use Rattle.rx_program.proofs.Reports.{first_lines, lines-all, lines-next, lines-split}
-use Rattle.rx_program.proofs.Writes.{Writes-fault, Writes-then}
+use Rattle.rx_proto.proofs.Writes.{Writes-fault, Writes-then}
 use Rattle.rx_program.proofs.program.server.write_lines.Goals as goal
 
 pub loop-name-preserved : goal.loop-name-preserved

@@ -1,5 +1,5 @@
 use Rattle.std.proofs.Common.{◌∙◌, decimal}
-use Rattle.rx_program.proofs.Writes.{Writes-fault, Writes-then}
+use Rattle.rx_proto.proofs.Writes.{Writes-fault, Writes-then}
 use Rattle.rx_program.proofs.program.server.write_number.Goals as goal
 
 pub returns-in_err-write_bytes : goal.returns-in_err-write_bytes

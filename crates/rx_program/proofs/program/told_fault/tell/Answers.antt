@@ -1,6 +1,6 @@
 use Rattle.std.proofs.Common.{◌++◌, ◌∷◌, [], codes}
 use Rattle.rx_program.specs.Programs.{fault_text}
-use Rattle.rx_program.proofs.Writes.{Writes-fault, Writes-then}
+use Rattle.rx_proto.proofs.Writes.{Writes-fault, Writes-then}
 use Rattle.rx_program.proofs.program.told_fault.tell.Goals as goal
 
 pub returns-in_err-write_bytes : goal.returns-in_err-write_bytes

@@ -1,5 +1,5 @@
 use Rattle.std.proofs.Common.{◌∙◌}
-use Rattle.rx_program.proofs.Writes.{Writes-then}
+use Rattle.rx_proto.proofs.Writes.{Writes-then}
 use Rattle.rx_program.proofs.program.told_fault.write_fault.Goals as goal
 
 pub returns-in-Some : goal.returns-in-Some
