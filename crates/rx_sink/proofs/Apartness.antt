@@ -1,7 +1,7 @@
 -- No two attachments are of one observer, and so it stays.
 use Rattle.std.proofs.Common.{◌≡◌, ◌∙◌, sym, refl, ap, subst, ℕ, ◌==◌, ◌&&◌, ◌⊎◌, inl, inr, if◌then◌else◌, Bool, true, false, List, [], ◌∷◌, ◌++◌, Option, Some, None, eq-eqb}
 use Rattle.std.proofs.lemmas.Bool.{eqb-true, ne_eqb}
-use Rattle.rx_sink.specs.Attachments.{Attachment, Apart, is_of, kept_for, without, replaced}
+use Rattle.rx_sink.specs.Attachments.{Attachment, Apart, is_of, kept_for, of_others, replaced}
 
 pub bool_cases : (b : Bool) → (b ≡ true) ⊎ (b ≡ false)
 bool_cases true = inl refl
@@ -42,15 +42,15 @@ module _ {S : Type 0} where
       let parts = none_split (is_of a.subject a.who c) c (kept_for a.subject a.who kept) none in
       (none_push c.subject c.who kept a apart.0 (sym (turned a c) ∙ parts.0), apart_push kept a parts.1 apart.1)
 
-  pub none_without : (k l s w : ℕ) (kept : List (Attachment S)) → kept_for k l kept ≡ None → kept_for k l (without s w kept) ≡ None
-  none_without k l s w [] none = refl
-  none_without k l s w (a ∷ kept) none =
+  pub none_of_others : (k l s w : ℕ) (kept : List (Attachment S)) → kept_for k l kept ≡ None → kept_for k l (of_others s w kept) ≡ None
+  none_of_others k l s w [] none = refl
+  none_of_others k l s w (a ∷ kept) none =
       let parts = none_split (is_of k l a) a (kept_for k l kept) none in
-      let later = none_without k l s w kept parts.1 in
+      let later = none_of_others k l s w kept parts.1 in
       elim (bool_cases (is_of s w a)) [
-        | inl test ↦ subst (λ (t : Bool). kept_for k l (if t then kept else a ∷ without s w kept) ≡ None) (sym test) parts.1
-        | inr test ↦ subst (λ (t : Bool). kept_for k l (if t then kept else a ∷ without s w kept) ≡ None) (sym test)
-            (ap (λ t. if t then Some a else kept_for k l (without s w kept)) parts.0 ∙ later)
+        | inl test ↦ subst (λ (t : Bool). kept_for k l (if t then kept else a ∷ of_others s w kept) ≡ None) (sym test) parts.1
+        | inr test ↦ subst (λ (t : Bool). kept_for k l (if t then kept else a ∷ of_others s w kept) ≡ None) (sym test)
+            (ap (λ t. if t then Some a else kept_for k l (of_others s w kept)) parts.0 ∙ later)
       ]
 
   pub none_replaced : (k l s w : ℕ) (b : Attachment S) (kept : List (Attachment S)) → b.subject ≡ s → b.who ≡ w → kept_for k l kept ≡ None → kept_for k l (replaced s w b kept) ≡ None
@@ -68,12 +68,12 @@ module _ {S : Type 0} where
             (ap (λ t. if t then Some a else kept_for k l (replaced s w b kept)) parts.0 ∙ later)
       ]
 
-  pub apart_but : (s w : ℕ) (kept : List (Attachment S)) → Apart kept → Apart (without s w kept)
+  pub apart_but : (s w : ℕ) (kept : List (Attachment S)) → Apart kept → Apart (of_others s w kept)
   apart_but s w [] apart = tt
   apart_but s w (c ∷ kept) apart =
       elim (bool_cases (is_of s w c)) [
-        | inl test ↦ subst (λ (t : Bool). Apart (if t then kept else c ∷ without s w kept)) (sym test) apart.1
-        | inr test ↦ subst (λ (t : Bool). Apart (if t then kept else c ∷ without s w kept)) (sym test) (none_without c.subject c.who s w kept apart.0, apart_but s w kept apart.1)
+        | inl test ↦ subst (λ (t : Bool). Apart (if t then kept else c ∷ of_others s w kept)) (sym test) apart.1
+        | inr test ↦ subst (λ (t : Bool). Apart (if t then kept else c ∷ of_others s w kept)) (sym test) (none_of_others c.subject c.who s w kept apart.0, apart_but s w kept apart.1)
       ]
 
   pub apart_with : (s w : ℕ) (b : Attachment S) (kept : List (Attachment S)) → b.subject ≡ s → b.who ≡ w → Apart kept → Apart (replaced s w b kept)

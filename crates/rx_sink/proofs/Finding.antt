@@ -6,7 +6,7 @@ use Rattle.std.proofs.lemmas.Iterator.Adapters.{position_from-zero}
 use Rattle.std.specs.List.{AllZip, position, position_from, remove}
 use Rattle.rx_sink.specs.declared.kept.Kept.{Kept}
 use Rattle.rx_sink.specs.Acts.{Acts}
-use Rattle.rx_sink.specs.Attachments.{Attachment, Apart, is_for, is_of, kept_for, without, replaced}
+use Rattle.rx_sink.specs.Attachments.{Attachment, Apart, is_for, is_of, kept_for, of_others, replaced}
 use Rattle.rx_sink.specs.KeptSinks.{IsKept}
 use Rattle.rx_sink.proofs.Apartness.{bool_cases, both_true, key_is, none_split}
 
@@ -46,7 +46,7 @@ module _ {S Rest : Type 0} (acts : Acts S Rest) (subject who : ℕ) where
     pub key : (a.subject ≡ subject) × (a.who ≡ who)
     pub at : slice_get kept place ≡ Some one
     pub tie : IsKept acts a one
-    pub rest : AllZip (IsKept acts) (without subject who held) (remove kept place)
+    pub rest : AllZip (IsKept acts) (of_others subject who held) (remove kept place)
     pub with_other : (b : Attachment S) (other : Kept S) → IsKept acts b other → AllZip (IsKept acts) (replaced subject who b held) (set kept place other)
 
   same_key : (a : Attachment S) (one : Kept S) → IsKept acts a one → is_for subject who one ≡ is_of subject who a
@@ -63,7 +63,7 @@ module _ {S Rest : Type 0} (acts : Acts S Rest) (subject who : ℕ) where
         key = (eqb-true a.subject subject tests.0, eqb-true a.who who tests.1);
         at = refl;
         tie = tie;
-        rest = subst (λ b. AllZip (IsKept acts) (if b then held else a ∷ without subject who held) kept) (sym test) zip;
+        rest = subst (λ b. AllZip (IsKept acts) (if b then held else a ∷ of_others subject who held) kept) (sym test) zip;
         with_other = λ b other r. subst (λ t. AllZip (IsKept acts) (if t then b ∷ held else a ∷ replaced subject who b held) (other ∷ kept)) (sym test) (r, zip);
       }
 
@@ -76,7 +76,7 @@ module _ {S Rest : Type 0} (acts : Acts S Rest) (subject who : ℕ) where
     key = f.key;
     at = f.at;
     tie = f.tie;
-    rest = subst (λ b. AllZip (IsKept acts) (if b then held else a ∷ without subject who held) (one ∷ remove kept place)) (sym test) (tie, f.rest);
+    rest = subst (λ b. AllZip (IsKept acts) (if b then held else a ∷ of_others subject who held) (one ∷ remove kept place)) (sym test) (tie, f.rest);
     with_other = λ b other r. subst (λ t. AllZip (IsKept acts) (if t then b ∷ held else a ∷ replaced subject who b held) (one ∷ set kept place other)) (sym test) (tie, f.with_other b other r);
   }
 

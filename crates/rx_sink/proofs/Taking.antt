@@ -11,7 +11,7 @@ use Rattle.rx_sink.specs.declared.flow.Flow.{Flow}
 use Rattle.rx_sink.specs.Acts.{Acts, Step, Takes, Flushes, notes_by, Makes, Took, raised}
 use Rattle.rx_sink.specs.Attachments.{Attachment, Why, TookLast, Detached, Closed, FailedAtStart, FailedAt, FailedAtFlush}
 use Rattle.rx_sink.specs.KeptSinks.{Last}
-use Rattle.rx_sink.specs.Taken.{has_failed, lines_of, KeepsNotes, WritesLines, CountsNotes, TellsFaults}
+use Rattle.rx_sink.specs.Taken.{has_failed, lines_of, LeavesNotes, WritesLines, CountsNotes, TellsFaults}
 
 module _ {S Rest : Type 0} (acts : Acts S Rest) where
   -- NOTES THAT ARE KEPT
@@ -50,7 +50,7 @@ module _ {S Rest : Type 0} (acts : Acts S Rest) where
   last_keep notes items k a FailedAtFlush last none was =
       k.flush_faulted was.0 last was.2 ∙ took_keep notes items k a.sink a.who a.taken a.last was.0 none was.1
 
-  pub keeps_notes : (notes : S → List Note) (items : Rest → List Note) → Keeping notes items → KeepsNotes acts notes items
+  pub keeps_notes : (notes : S → List Note) (items : Rest → List Note) → Keeping notes items → LeavesNotes acts notes items
   keeps_notes notes items k a why last rest none was finished = k.finished last rest finished ∙ last_keep notes items k a why last none was
 
   -- LINES THAT ARE WRITTEN

@@ -1,5 +1,5 @@
 -- What the calls do to the sinks that are kept and put away.
-use Rattle.std.proofs.Common.{◌≡◌, ◌∙◌, sym, refl, ap, subst, if◌then◌else◌, ◌+◌, ◌&&◌, ℕ, zero, suc, Bool, true, false, List, [], ◌∷◌, ◌++◌, append-nil, append_assoc, get_or, reverse, map, replicate, Some, None, slice_get, Result, Ok, Err, is_ok, MatchResult, Option}
+use Rattle.std.proofs.Common.{◌≡◌, ◌∙◌, sym, refl, ap, subst, if◌then◌else◌, ◌+◌, ◌&&◌, ℕ, zero, suc, Bool, true, false, not, List, [], ◌∷◌, ◌++◌, append-nil, append_assoc, get_or, reverse, map, replicate, Some, None, slice_get, Result, Ok, Err, is_ok, MatchResult, Option}
 use Rattle.std.proofs.Math.ListN.{set}
 use Rattle.std.proofs.lemmas.Fn.{FoldsTo-push}
 use Rattle.std.proofs.lemmas.List.{map-append, reverse-append, reverse-reverse}
@@ -15,8 +15,8 @@ use Rattle.rx_sink.specs.declared.kept.Kept.{Kept}
 use Rattle.rx_sink.specs.declared.put_away.PutAway.{PutAway}
 use Rattle.rx_sink.specs.declared.sink.SinkFault.{SinkFault}
 use Rattle.rx_sink.specs.Acts.{Acts, Step, Takes, Flushes, notes_by, last_by, Makes, Took, raised}
-use Rattle.rx_sink.specs.Attachments.{Attachment, Why, TookLast, Detached, Closed, FailedAtStart, FailedAt, FailedAtFlush, Mark, Fine, Fault, NoMemory, Sent, Change, is_clear, is_held_back, is_last, may_wait, brought, kept_for, notified, settled, answered, serving, served_yet, flushed, written, attached, detached, let_go, unchanged, with_note, with_flush, paid, request, requests, dispose, parting, without, replaced, closed}
-use Rattle.rx_sink.specs.KeptSinks.{IsKept, Last, IsPutAway, Stand, Did, Pushes, Parts, MayPart, EndsAct, SettlesDue, TakesNote, FaultedAt, FaultedAtFlush, Flushed, addressed, tallied, events_of}
+use Rattle.rx_sink.specs.Attachments.{Attachment, Why, TookLast, Detached, Closed, FailedAtStart, FailedAt, FailedAtFlush, Mark, Fine, Fault, NoMemory, Sent, Change, Ruling, AsItWas, HoldsBack, PaysAll, LetsGo, PutsAway, is_clear, is_held_back, is_last, may_wait, brought, kept_for, by_answer, by_taking, by_note, has_taken, by_flush, by_leaving, carried_out, ruled, attached, unchanged, with_note, with_flush, paid, request, requests, dispose, parting, of_others, replaced, closed}
+use Rattle.rx_sink.specs.KeptSinks.{IsKept, Last, IsPutAway, Stand, Did, Pushes, PartsOne, MayPart, EndsAct, PaysDue, TakesNote, FaultedAt, FaultedAtFlush, IsFlushed, addressed, tallied, events_asked}
 use Rattle.rx_sink.proofs.Apartness.{apart_but, apart_push, apart_with}
 use Rattle.rx_sink.proofs.Finding.{AllZip-more, Found, remove-set, set-same, slice_get-set}
 
@@ -86,14 +86,14 @@ module _ {S Rest : Type 0} (acts : Acts S Rest) where
 
   -- all that is due
   sends_due : (subject who : ℕ) (a : Attachment S) → a.subject ≡ subject → a.who ≡ who
-      → map (λ event. (subject, event)) (events_of (record { who = who; items = a.due; leaves = false })) ≡ addressed (requests a)
+      → map (λ event. (subject, event)) (events_asked (record { who = who; items = a.due; leaves = false })) ≡ addressed (requests a)
   sends_due subject who a subject_is who_is =
       ap (map (λ event. (subject, event))) (append-nil (replicate a.due (Request who 1)))
       ∙ asked_are a.due subject who (request a) subject_is (ap (λ (n : ℕ). Request n 1) who_is)
 
   -- and that the observer be let go
   sends_parting : (subject who : ℕ) (a : Attachment S) → a.subject ≡ subject → a.who ≡ who
-      → map (λ event. (subject, event)) (events_of (record { who = who; items = a.due; leaves = true })) ≡ addressed (parting a)
+      → map (λ event. (subject, event)) (events_asked (record { who = who; items = a.due; leaves = true })) ≡ addressed (parting a)
   sends_parting subject who a subject_is who_is =
       map-append (λ (event : Event). (subject, event)) (replicate a.due (Request who 1)) (Dispose who ∷ [])
       ∙ ap (λ (l : List (ℕ × Event)). l ++ (subject, Dispose who) ∷ []) (asked_are a.due subject who (request a) subject_is (ap (λ (n : ℕ). Request n 1) who_is))
@@ -108,19 +108,17 @@ module _ {S Rest : Type 0} (acts : Acts S Rest) where
   clear_pays Stuck true due is = cc
   clear_pays Stuck false due is = cc
 
-  settled_counts : (leaves held_back : Bool) (n subject who : ℕ) (a : Attachment S) (kept : List (Attachment S))
-      → raised n ≡ tallied n (settled leaves held_back subject who a 1 kept).took
-  settled_counts true held_back n subject who a kept = refl
-  settled_counts false true n subject who a kept = refl
-  settled_counts false false n subject who a kept = refl
+  -- what an answer has done: it is put away, or what is due is held back, or asked for
+  abbrev answer_by : Bool → Bool → Attachment S → Ruling S
+  answer_by leaves held_back b = if leaves then PutsAway b TookLast else (if held_back then HoldsBack b else PaysAll b)
 
   -- ONE ATTACHMENT CHANGED
 
   module _ (subject who place : ℕ) (held : List (Attachment S)) (gone : List (Attachment S × Why)) (kept : List (Kept S)) (away : List (PutAway Rest))
       (stand : Stand acts held gone kept away) (f : Found acts subject who held kept place) where
     -- it goes on as another, with this sink
-    kept_on : (b : Attachment S) (now : Kept S) (sends : List Sent) (took : ℕ) (events : List (ℕ × Event)) → b.subject ≡ subject → b.who ≡ who → IsKept acts b now → events ≡ addressed sends
-        → Did acts (record { kept = replaced subject who b held; gone = []; sends = sends; missed = 0; took = took }) gone (set kept place now) away events
+    kept_on : (b : Attachment S) (now : Kept S) (sends : List Sent) (took : Bool) (events : List (ℕ × Event)) → b.subject ≡ subject → b.who ≡ who → IsKept acts b now → events ≡ addressed sends
+        → Did acts (record { kept = replaced subject who b held; gone = []; sends = sends; missed = false; took = took }) gone (set kept place now) away events
     kept_on b now sends took events of_subject of_who tie sent = record {
       stand = record {
         kept_are = f.with_other b now tie;
@@ -132,21 +130,21 @@ module _ {S Rest : Type 0} (acts : Acts S Rest) where
 
     -- what was put away is the sink that was written at the place
     parted_one : (kept_after : List (Kept S)) (away_after : List (PutAway Rest)) (now : Kept S) (leaves : Bool) (asks : Asks)
-        → (parts : Parts acts place leaves (set kept place now) kept_after away away_after asks) → parts.one ≡ now
+        → (parts : PartsOne acts place leaves (set kept place now) kept_after away away_after asks) → parts.one ≡ now
     parted_one kept_after away_after now leaves asks parts =
         let there : slice_get (set kept place now) place ≡ Some now = slice_get-set kept place f.one now f.at in
         let both : Some parts.one ≡ Some now = sym parts.stood ∙ there in cc
 
     -- the sink, which has come to another state, was put away
-    put_off : (kept_after : List (Kept S)) (away_after : List (PutAway Rest)) (now : Kept S) (b : Attachment S) (why : Why) (leaves : Bool) (asks : Asks) (sends : List Sent) (took : ℕ) (events : List (ℕ × Event))
+    put_off : (kept_after : List (Kept S)) (away_after : List (PutAway Rest)) (now : Kept S) (b : Attachment S) (why : Why) (leaves : Bool) (asks : Asks) (sends : List Sent) (took : Bool) (events : List (ℕ × Event))
         → now.subject ≡ b.subject → now.who ≡ b.who → Last acts b why now.sink
-        → Parts acts place leaves (set kept place now) kept_after away away_after asks → events ≡ addressed sends
-        → Did acts (record { kept = without subject who held; gone = (b, why) ∷ []; sends = sends; missed = 0; took = took }) gone kept_after away_after events
+        → PartsOne acts place leaves (set kept place now) kept_after away away_after asks → events ≡ addressed sends
+        → Did acts (record { kept = of_others subject who held; gone = (b, why) ∷ []; sends = sends; missed = false; took = took }) gone kept_after away_after events
     put_off kept_after away_after now b why leaves asks sends took events same_subject same_who was parts sent =
         let one_is = parted_one kept_after away_after now leaves asks parts in
         record {
           stand = record {
-            kept_are = subst (AllZip (IsKept acts) (without subject who held)) (sym (parts.removed ∙ remove-set kept place now)) f.rest;
+            kept_are = subst (AllZip (IsKept acts) (of_others subject who held)) (sym (parts.removed ∙ remove-set kept place now)) f.rest;
             away_are = away_more gone away away_after b why parts.one stand.away_are (ap (λ (k : Kept S). k.subject) one_is ∙ same_subject) (ap (λ (k : Kept S). k.who) one_is ∙ same_who)
                 (subst (λ (k : Kept S). Last acts b why k.sink) (sym one_is) was) parts.pushed;
             apart = apart_but subject who held stand.apart;
@@ -156,7 +154,7 @@ module _ {S Rest : Type 0} (acts : Acts S Rest) where
 
     -- what is asked at that
     parted_asks : (kept_after : List (Kept S)) (away_after : List (PutAway Rest)) (now : Kept S) (leaves : Bool) (asks : Asks) → now.who ≡ f.one.who → now.due ≡ f.one.due
-        → Parts acts place leaves (set kept place now) kept_after away away_after asks → asks ≡ record { who = who; items = f.a.due; leaves = leaves }
+        → PartsOne acts place leaves (set kept place now) kept_after away away_after asks → asks ≡ record { who = who; items = f.a.due; leaves = leaves }
     parted_asks kept_after away_after now leaves asks same_who same_due parts =
         let one_is = parted_one kept_after away_after now leaves asks parts in
         parts.asked
@@ -166,11 +164,11 @@ module _ {S Rest : Type 0} (acts : Acts S Rest) where
     -- it was put away, and all is asked for that is due, and that its observer be let go
     pub parted : (kept_after : List (Kept S)) (away_after : List (PutAway Rest)) (now : Kept S) (why : Why) (asks : Asks)
         → now.subject ≡ f.one.subject → now.who ≡ f.one.who → now.due ≡ f.one.due → Last acts (paid f.a) why now.sink
-        → Parts acts place true (set kept place now) kept_after away away_after asks
-        → Did acts (record { kept = without subject who held; gone = (paid f.a, why) ∷ []; sends = parting f.a; missed = 0; took = 0 }) gone kept_after away_after (map (λ event. (subject, event)) (events_of asks))
+        → PartsOne acts place true (set kept place now) kept_after away away_after asks
+        → Did acts (record { kept = of_others subject who held; gone = (paid f.a, why) ∷ []; sends = parting f.a; missed = false; took = false }) gone kept_after away_after (map (λ event. (subject, event)) (events_asked asks))
     parted kept_after away_after now why asks same_subject same_who same_due was parts =
-        put_off kept_after away_after now (paid f.a) why true asks (parting f.a) 0 _ (same_subject ∙ f.tie.subject) (same_who ∙ f.tie.who) was parts
-        (ap (λ (e : Asks). map (λ event. (subject, event)) (events_of e)) (parted_asks kept_after away_after now true asks same_who same_due parts)
+        put_off kept_after away_after now (paid f.a) why true asks (parting f.a) false _ (same_subject ∙ f.tie.subject) (same_who ∙ f.tie.who) was parts
+        (ap (λ (e : Asks). map (λ event. (subject, event)) (events_asked e)) (parted_asks kept_after away_after now true asks same_who same_due parts)
         ∙ sends_parting subject who f.a f.key.0 f.key.1)
 
     -- WHAT A SINK ANSWERED
@@ -184,68 +182,68 @@ module _ {S Rest : Type 0} (acts : Acts S Rest) where
       pub same_over : now.over ≡ b.over
       pub same_may_wait : now.may_wait ≡ may_wait b.last
       pub took : Took acts b.sink b.who b.taken b.last now.sink
-      pub settles : SettlesDue flow b.due now asks
+      pub pays : PaysDue flow b.due now asks
 
-    answered_asks : (flow : Flow) (b : Attachment S) (now : Kept S) (asks : Asks) (leaves held_back : Bool)
+    asks_are : (flow : Flow) (b : Attachment S) (now : Kept S) (asks : Asks) (leaves held_back : Bool)
         → Answers flow b now asks → (b.over && is_clear flow) ≡ leaves → is_held_back flow b.due ≡ held_back
         → asks ≡ record { who = who; items = if held_back then 0 else b.due; leaves = leaves }
-    answered_asks flow b now asks leaves held_back is leaves_is held_is =
-        is.settles.asked
+    asks_are flow b now asks leaves held_back is leaves_is held_is =
+        is.pays.asked
         ∙ ap (λ (n : ℕ). record { who = n; items = if is_held_back flow b.due then 0 else b.due; leaves = now.over && is_clear flow }) (is.same_who ∙ is.of_who)
         ∙ ap (λ (h : Bool). record { who = who; items = if h then 0 else b.due; leaves = now.over && is_clear flow }) held_is
         ∙ ap (λ (l : Bool). record { who = who; items = if held_back then 0 else b.due; leaves = l }) (ap (λ (o : Bool). o && is_clear flow) is.same_over ∙ leaves_is)
 
-    settled_did : (flow : Flow) (b : Attachment S) (now : Kept S) (asks : Asks) (leaves held_back : Bool) (took : ℕ) (kept_after : List (Kept S)) (away_after : List (PutAway Rest))
+    pays_did : (flow : Flow) (b : Attachment S) (now : Kept S) (asks : Asks) (leaves held_back : Bool) (took : Bool) (kept_after : List (Kept S)) (away_after : List (PutAway Rest))
         → Answers flow b now asks → (b.over && is_clear flow) ≡ leaves → is_held_back flow b.due ≡ held_back
         → MayPart acts leaves place (set kept place now) kept_after away away_after
-        → Did acts (settled leaves held_back subject who b took held) gone kept_after away_after (map (λ event. (subject, event)) (events_of asks))
-    settled_did flow b now asks true held_back took kept_after away_after is leaves_is held_is may =
-        let asks_is = answered_asks flow b now asks true false is leaves_is (clear_pays flow b.over b.due leaves_is) in
+        → Did acts (carried_out subject who (answer_by leaves held_back b) took held) gone kept_after away_after (map (λ event. (subject, event)) (events_asked asks))
+    pays_did flow b now asks true held_back took kept_after away_after is leaves_is held_is may =
+        let asks_is = asks_are flow b now asks true false is leaves_is (clear_pays flow b.over b.due leaves_is) in
         put_off kept_after away_after now (paid b) TookLast true may.0 (parting b) took _ is.same_subject is.same_who is.took may.1
-        (ap (λ (e : Asks). map (λ event. (subject, event)) (events_of e)) asks_is ∙ sends_parting subject who b is.of_subject is.of_who)
-    settled_did flow b now asks false true took kept_after away_after is leaves_is held_is may =
-        let asks_is = answered_asks flow b now asks false true is leaves_is held_is in
-        let P : List (Kept S) → List (PutAway Rest) → Type 0 = λ l m. Did acts (settled false true subject who b took held) gone l m (map (λ event. (subject, event)) (events_of asks)) in
+        (ap (λ (e : Asks). map (λ event. (subject, event)) (events_asked e)) asks_is ∙ sends_parting subject who b is.of_subject is.of_who)
+    pays_did flow b now asks false true took kept_after away_after is leaves_is held_is may =
+        let asks_is = asks_are flow b now asks false true is leaves_is held_is in
+        let P : List (Kept S) → List (PutAway Rest) → Type 0 = λ l m. Did acts (carried_out subject who (HoldsBack b) took held) gone l m (map (λ event. (subject, event)) (events_asked asks)) in
         subst (λ (l : List (Kept S)). P l away_after) (sym may.0) (subst (λ (m : List (PutAway Rest)). P (set kept place now) m) (sym may.1)
         (kept_on b now [] took _ is.of_subject is.of_who (record {
           subject = is.same_subject;
           who = is.same_who;
-          due = is.settles.due ∙ ap (λ (h : Bool). if h then b.due else 0) held_is;
+          due = is.pays.due ∙ ap (λ (h : Bool). if h then b.due else 0) held_is;
           over = is.same_over;
           waits = is.same_may_wait;
           took = is.took;
-        }) (ap (λ (e : Asks). map (λ event. (subject, event)) (events_of e)) asks_is)))
-    settled_did flow b now asks false false took kept_after away_after is leaves_is held_is may =
-        let asks_is = answered_asks flow b now asks false false is leaves_is held_is in
-        let P : List (Kept S) → List (PutAway Rest) → Type 0 = λ l m. Did acts (settled false false subject who b took held) gone l m (map (λ event. (subject, event)) (events_of asks)) in
+        }) (ap (λ (e : Asks). map (λ event. (subject, event)) (events_asked e)) asks_is)))
+    pays_did flow b now asks false false took kept_after away_after is leaves_is held_is may =
+        let asks_is = asks_are flow b now asks false false is leaves_is held_is in
+        let P : List (Kept S) → List (PutAway Rest) → Type 0 = λ l m. Did acts (carried_out subject who (PaysAll b) took held) gone l m (map (λ event. (subject, event)) (events_asked asks)) in
         subst (λ (l : List (Kept S)). P l away_after) (sym may.0) (subst (λ (m : List (PutAway Rest)). P (set kept place now) m) (sym may.1)
         (kept_on (paid b) now (requests b) took _ is.of_subject is.of_who (record {
           subject = is.same_subject;
           who = is.same_who;
-          due = is.settles.due ∙ ap (λ (h : Bool). if h then b.due else 0) held_is;
+          due = is.pays.due ∙ ap (λ (h : Bool). if h then b.due else 0) held_is;
           over = is.same_over;
           waits = is.same_may_wait;
           took = is.took;
-        }) (ap (λ (e : Asks). map (λ event. (subject, event)) (events_of e)) asks_is ∙ sends_due subject who b is.of_subject is.of_who)))
+        }) (ap (λ (e : Asks). map (λ event. (subject, event)) (events_asked e)) asks_is ∙ sends_due subject who b is.of_subject is.of_who)))
 
-    answered_did : (flow : Flow) (b : Attachment S) (now : Kept S) (said asks : Asks) (took : ℕ) (kept_after : List (Kept S)) (away_after : List (PutAway Rest))
+    answer_did : (flow : Flow) (b : Attachment S) (now : Kept S) (said asks : Asks) (took : Bool) (kept_after : List (Kept S)) (away_after : List (PutAway Rest))
         → Answers flow b now said → (asks ≡ said) × MayPart acts said.leaves place (set kept place now) kept_after away away_after
-        → Did acts (answered flow subject who b took held) gone kept_after away_after (map (λ event. (subject, event)) (events_of asks))
-    answered_did flow b now said asks took kept_after away_after is may =
-        let leaves_is : said.leaves ≡ (b.over && is_clear flow) = ap (λ (e : Asks). e.leaves) (answered_asks flow b now said (b.over && is_clear flow) (is_held_back flow b.due) is refl refl) in
-        subst (λ (e : Asks). Did acts (answered flow subject who b took held) gone kept_after away_after (map (λ event. (subject, event)) (events_of e))) (sym may.0)
-        (settled_did flow b now said (b.over && is_clear flow) (is_held_back flow b.due) took kept_after away_after is refl refl
+        → Did acts (carried_out subject who (by_answer flow b) took held) gone kept_after away_after (map (λ event. (subject, event)) (events_asked asks))
+    answer_did flow b now said asks took kept_after away_after is may =
+        let leaves_is : said.leaves ≡ (b.over && is_clear flow) = ap (λ (e : Asks). e.leaves) (asks_are flow b now said (b.over && is_clear flow) (is_held_back flow b.due) is refl refl) in
+        subst (λ (e : Asks). Did acts (carried_out subject who (by_answer flow b) took held) gone kept_after away_after (map (λ event. (subject, event)) (events_asked e))) (sym may.0)
+        (pays_did flow b now said (b.over && is_clear flow) (is_held_back flow b.due) took kept_after away_after is refl refl
         (subst (λ (l : Bool). MayPart acts l place (set kept place now) kept_after away away_after) leaves_is may.1))
 
     -- A NOTE
 
-    due_more : (flow : Flow) (m n : ℕ) (now : Kept S) (asks : Asks) → m ≡ n → SettlesDue flow m now asks → SettlesDue flow n now asks
-    due_more flow m n now asks is settles = subst (λ (k : ℕ). SettlesDue flow k now asks) is settles
+    due_more : (flow : Flow) (m n : ℕ) (now : Kept S) (asks : Asks) → m ≡ n → PaysDue flow m now asks → PaysDue flow n now asks
+    due_more flow m n now asks is pays = subst (λ (k : ℕ). PaysDue flow k now asks) is pays
 
-    noted : (l : Bool) (note : Note) (flow : Flow) (now : Kept S) (asks : Asks) → f.one.over ≡ false → acts.took f.one.sink note flow now.sink → acts.faults now.sink ≡ acts.faults f.one.sink
-        → now.subject ≡ f.one.subject → now.who ≡ f.one.who → now.over ≡ l → now.may_wait ≡ true → SettlesDue flow (if l then f.one.due else f.one.due + 1) now asks
-        → Answers flow (with_note l note flow f.a) now asks
-    noted true note flow now asks open_yet took faultless same_subject same_who over waits settles = record {
+    noted : (note : Note) (flow : Flow) (now : Kept S) (asks : Asks) → acts.took f.one.sink note flow now.sink → acts.faults now.sink ≡ acts.faults f.one.sink
+        → now.subject ≡ f.one.subject → now.who ≡ f.one.who → now.over ≡ is_last note → now.may_wait ≡ true → PaysDue flow (if is_last note then f.one.due else f.one.due + 1) now asks
+        → Answers flow (with_note note flow f.a) now asks
+    noted note flow now asks took faultless same_subject same_who over waits pays = record {
       of_subject = f.key.0;
       of_who = f.key.1;
       same_subject = same_subject ∙ f.tie.subject;
@@ -253,71 +251,63 @@ module _ {S Rest : Type 0} (acts : Acts S Rest) where
       same_over = over;
       same_may_wait = waits;
       took = Took-more f.a.sink f.a.who f.a.taken f.a.last f.one.sink now.sink note flow f.tie.took took faultless;
-      settles = due_more flow f.one.due f.a.due now asks f.tie.due settles;
-    }
-    noted false note flow now asks open_yet took faultless same_subject same_who over waits settles = record {
-      of_subject = f.key.0;
-      of_who = f.key.1;
-      same_subject = same_subject ∙ f.tie.subject;
-      same_who = same_who ∙ f.tie.who;
-      same_over = over ∙ sym open_yet ∙ f.tie.over;
-      same_may_wait = waits;
-      took = Took-more f.a.sink f.a.who f.a.taken f.a.last f.one.sink now.sink note flow f.tie.took took faultless;
-      settles = due_more flow (f.one.due + 1) (f.a.due + 1) now asks (ap (λ (n : ℕ). n + 1) f.tie.due) settles;
+      pays = due_more flow _ _ now asks (ap (λ (n : ℕ). if is_last note then n else n + 1) f.tie.due) pays;
     }
 
-    to_notified : (mark : Mark) (note : Note) → f.one.over ≡ false → serving mark subject who note f.a held ≡ notified mark subject who note (kept_for subject who held) held
-    to_notified mark note open_yet =
-        sym (ap (λ o. notified mark subject who note o held) f.found ∙ ap (λ b. served_yet b mark subject who note f.a held) (sym f.tie.over ∙ open_yet))
+    -- a rule about the attachment that was found
+    by_rule : (rule : Attachment S → Ruling S) (takes : Attachment S → Bool) → carried_out subject who (rule f.a) (takes f.a) held ≡ ruled subject who rule takes (kept_for subject who held) held
+    by_rule rule takes = sym (ap (λ o. ruled subject who rule takes o held) f.found)
+
+    -- it took no terminal yet
+    noted_open : (mark : Mark) (note : Note) → f.one.over ≡ false
+        → carried_out subject who (by_taking mark note f.a) (has_taken mark f.a) held ≡ ruled subject who (by_note mark note) (has_taken mark) (kept_for subject who held) held
+    noted_open mark note open_yet =
+        sym (ap (λ (b : Bool). carried_out subject who (if b then AsItWas else by_taking mark note f.a) (has_taken mark f.a) held) (sym f.tie.over ∙ open_yet)) ∙ by_rule (by_note mark note) (has_taken mark)
 
     -- the sink took it, or that was a fault
     pub notified_one : (r : Result Asks SinkFault) (n : ℕ) (note : Note) (now : Kept S) (asks : Asks) (kept_after : List (Kept S)) (away_after : List (PutAway Rest)) → f.one.over ≡ false
         → MatchResult r (λ said. TakesNote acts note f.one now said) (λ _. FaultedAt acts note f.one now)
         → now.subject ≡ f.one.subject → now.who ≡ f.one.who → EndsAct acts place r (set kept place now) kept_after away away_after asks
-        → (mark : Mark) × Did acts (notified mark subject who note (kept_for subject who held) held) gone kept_after away_after (map (λ event. (subject, event)) (events_of asks))
-        × ((if is_ok r then raised n else n) ≡ tallied n (notified mark subject who note (kept_for subject who held) held).took)
+        → (mark : Mark) × Did acts (ruled subject who (by_note mark note) (has_taken mark) (kept_for subject who held) held) gone kept_after away_after (map (λ event. (subject, event)) (events_asked asks))
+        × ((if is_ok r then raised n else n) ≡ tallied n (ruled subject who (by_note mark note) (has_taken mark) (kept_for subject who held) held).took)
     notified_one (Ok said) n note now asks kept_after away_after open_yet did same_subject same_who ends =
-        let is = noted (is_last note) note did.flow now said open_yet did.took did.faultless same_subject same_who did.over did.may_wait did.settles in
-        let same = to_notified (Fine did.flow) note open_yet in
-        let b = with_note (is_last note) note did.flow f.a in (
+        let is = noted note did.flow now said did.took did.faultless same_subject same_who did.over did.may_wait did.pays in
+        let same = noted_open (Fine did.flow) note open_yet in (
           Fine did.flow,
-          subst (λ (c : Change S). Did acts c gone kept_after away_after (map (λ event. (subject, event)) (events_of asks))) same
-              (answered_did did.flow b now said asks 1 kept_after away_after is ends),
-          subst (λ (c : Change S). raised n ≡ tallied n c.took) same (settled_counts (b.over && is_clear did.flow) (is_held_back did.flow b.due) n subject who b held),
+          subst (λ (c : Change S). Did acts c gone kept_after away_after (map (λ event. (subject, event)) (events_asked asks))) same
+              (answer_did did.flow (with_note note did.flow f.a) now said asks (not f.a.over) kept_after away_after is ends),
+          subst (λ (c : Change S). raised n ≡ tallied n c.took) same (ap (λ (b : Bool). tallied n (not b)) (sym (sym f.tie.over ∙ open_yet))),
         )
     notified_one (Err fault) n note now asks kept_after away_after open_yet did same_subject same_who ends =
-        let same = to_notified Fault note open_yet in (
+        let same = noted_open Fault note open_yet in (
           Fault,
-          subst (λ (c : Change S). Did acts c gone kept_after away_after (map (λ event. (subject, event)) (events_of asks))) same
+          subst (λ (c : Change S). Did acts c gone kept_after away_after (map (λ event. (subject, event)) (events_asked asks))) same
               (parted kept_after away_after now (FailedAt note) asks same_subject same_who did.due (f.one.sink, f.tie.took, did.faulted, did.rose) ends),
           subst (λ (c : Change S). n ≡ tallied n c.took) same refl,
         )
 
     -- it took a terminal before
     pub notified_over : (n : ℕ) (note : Note) (asks : Asks) → f.one.over ≡ true → asks ≡ record { who = who; items = 0; leaves = false }
-        → Did acts (notified Fault subject who note (kept_for subject who held) held) gone kept away (map (λ event. (subject, event)) (events_of asks))
-        × (n ≡ tallied n (notified Fault subject who note (kept_for subject who held) held).took)
+        → Did acts (ruled subject who (by_note Fault note) (has_taken Fault) (kept_for subject who held) held) gone kept away (map (λ event. (subject, event)) (events_asked asks))
+        × (n ≡ tallied n (ruled subject who (by_note Fault note) (has_taken Fault) (kept_for subject who held) held).took)
     notified_over n note asks over none =
-        let same : unchanged held ≡ notified Fault subject who note (kept_for subject who held) held =
-        sym (ap (λ o. notified Fault subject who note o held) f.found ∙ ap (λ b. served_yet b Fault subject who note f.a held) (sym f.tie.over ∙ over)) in (
-          subst (λ (e : Asks). Did acts (notified Fault subject who note (kept_for subject who held) held) gone kept away (map (λ event. (subject, event)) (events_of e))) (sym none)
+        let same : unchanged held ≡ ruled subject who (by_note Fault note) (has_taken Fault) (kept_for subject who held) held =
+        sym (ap (λ (b : Bool). carried_out subject who (if b then AsItWas else by_taking Fault note f.a) false held) (sym f.tie.over ∙ over)) ∙ by_rule (by_note Fault note) (has_taken Fault) in (
+          subst (λ (e : Asks). Did acts (ruled subject who (by_note Fault note) (has_taken Fault) (kept_for subject who held) held) gone kept away (map (λ event. (subject, event)) (events_asked e))) (sym none)
               (subst (λ (c : Change S). Did acts c gone kept away []) same (unchanged_stands held gone kept away stand)),
           subst (λ (c : Change S). n ≡ tallied n c.took) same refl,
         )
 
     -- A FLUSH
 
-    to_flushed : (mark : Mark) → written mark subject who f.a held ≡ flushed mark subject who (kept_for subject who held) held
-    to_flushed mark = sym (ap (λ o. flushed mark subject who o held) f.found)
-
     pub flushed_one : (r : Result Asks SinkFault) (now : Kept S) (asks : Asks) (kept_after : List (Kept S)) (away_after : List (PutAway Rest))
-        → MatchResult r (λ said. Flushed acts f.one now said) (λ _. FaultedAtFlush acts f.one now)
+        → MatchResult r (λ said. IsFlushed acts f.one now said) (λ _. FaultedAtFlush acts f.one now)
         → now.subject ≡ f.one.subject → now.who ≡ f.one.who → EndsAct acts place r (set kept place now) kept_after away away_after asks
-        → (mark : Mark) × Did acts (flushed mark subject who (kept_for subject who held) held) gone kept_after away_after (map (λ event. (subject, event)) (events_of asks))
+        → (mark : Mark) × Did acts (ruled subject who (by_flush mark) (λ a. false) (kept_for subject who held) held) gone kept_after away_after (map (λ event. (subject, event)) (events_asked asks))
     flushed_one (Ok said) now asks kept_after away_after did same_subject same_who ends = (
       Fine did.flow,
-      subst (λ (c : Change S). Did acts c gone kept_after away_after (map (λ event. (subject, event)) (events_of asks))) (to_flushed (Fine did.flow))
-          (answered_did did.flow (with_flush did.flow f.a) now said asks 0 kept_after away_after (record {
+      subst (λ (c : Change S). Did acts c gone kept_after away_after (map (λ event. (subject, event)) (events_asked asks))) (by_rule (by_flush (Fine did.flow)) (λ a. false))
+          (answer_did did.flow (with_flush did.flow f.a) now said asks false kept_after away_after (record {
             of_subject = f.key.0;
             of_who = f.key.1;
             same_subject = same_subject ∙ f.tie.subject;
@@ -325,65 +315,65 @@ module _ {S Rest : Type 0} (acts : Acts S Rest) where
             same_over = did.over ∙ f.tie.over;
             same_may_wait = did.may_wait;
             took = Took-flush f.a.sink f.a.who f.a.taken f.a.last f.one.sink now.sink did.flow f.tie.took did.did did.faultless;
-            settles = due_more did.flow f.one.due f.a.due now said f.tie.due did.settles;
+            pays = due_more did.flow f.one.due f.a.due now said f.tie.due did.pays;
           }) ends),
     )
     flushed_one (Err fault) now asks kept_after away_after did same_subject same_who ends = (
       Fault,
-      subst (λ (c : Change S). Did acts c gone kept_after away_after (map (λ event. (subject, event)) (events_of asks))) (to_flushed Fault)
+      subst (λ (c : Change S). Did acts c gone kept_after away_after (map (λ event. (subject, event)) (events_asked asks))) (by_rule (by_flush Fault) (λ a. false))
           (parted kept_after away_after now FailedAtFlush asks same_subject same_who did.due (f.one.sink, f.tie.took, did.faulted, did.rose) ends),
     )
 
     -- AN OBSERVER LEFT
 
-    let_go_one : (l : Bool) (kept_after : List (Kept S)) (away_after : List (PutAway Rest)) (asks : Asks) → Parts acts place l (set kept place f.one) kept_after away away_after asks
-        → Did acts (let_go l subject who f.a held) gone kept_after away_after (map (λ event. (subject, event)) (events_of asks))
+    let_go_one : (l : Bool) (kept_after : List (Kept S)) (away_after : List (PutAway Rest)) (asks : Asks) → PartsOne acts place l (set kept place f.one) kept_after away away_after asks
+        → Did acts (carried_out subject who (if l then PutsAway f.a TookLast else LetsGo f.a) false held) gone kept_after away_after (map (λ event. (subject, event)) (events_asked asks))
     let_go_one false kept_after away_after asks parts =
-        put_off kept_after away_after f.one (paid f.a) Detached false asks (requests f.a) 0 _ f.tie.subject f.tie.who f.tie.took parts
-        (ap (λ (e : Asks). map (λ event. (subject, event)) (events_of e)) (parted_asks kept_after away_after f.one false asks refl refl parts) ∙ sends_due subject who f.a f.key.0 f.key.1)
+        put_off kept_after away_after f.one (paid f.a) Detached false asks (requests f.a) false _ f.tie.subject f.tie.who f.tie.took parts
+        (ap (λ (e : Asks). map (λ event. (subject, event)) (events_asked e)) (parted_asks kept_after away_after f.one false asks refl refl parts) ∙ sends_due subject who f.a f.key.0 f.key.1)
     let_go_one true kept_after away_after asks parts = parted kept_after away_after f.one TookLast asks refl refl refl f.tie.took parts
 
-    pub detached_one : (kept_after : List (Kept S)) (away_after : List (PutAway Rest)) (asks : Asks) → Parts acts place f.one.over kept kept_after away away_after asks
-        → Did acts (detached subject who (kept_for subject who held) held) gone kept_after away_after (map (λ event. (subject, event)) (events_of asks))
+    pub detached_one : (kept_after : List (Kept S)) (away_after : List (PutAway Rest)) (asks : Asks) → PartsOne acts place f.one.over kept kept_after away away_after asks
+        → Did acts (ruled subject who by_leaving (λ a. false) (kept_for subject who held) held) gone kept_after away_after (map (λ event. (subject, event)) (events_asked asks))
     detached_one kept_after away_after asks parts =
-        subst (λ (c : Change S). Did acts c gone kept_after away_after (map (λ event. (subject, event)) (events_of asks)))
-        (ap (λ b. let_go b subject who f.a held) f.tie.over ∙ sym (ap (λ o. detached subject who o held) f.found))
+        subst (λ (c : Change S). Did acts c gone kept_after away_after (map (λ event. (subject, event)) (events_asked asks)))
+        (ap (λ (b : Bool). carried_out subject who (if b then PutsAway f.a TookLast else LetsGo f.a) false held) f.tie.over ∙ by_rule by_leaving (λ a. false))
         (let_go_one f.one.over kept_after away_after asks
-        (subst (λ (l : List (Kept S)). Parts acts place f.one.over l kept_after away away_after asks) (sym (set-same kept place f.one f.at)) parts))
+        (subst (λ (l : List (Kept S)). PartsOne acts place f.one.over l kept_after away away_after asks) (sym (set-same kept place f.one f.at)) parts))
 
   -- NOBODY IS KEPT FOR THE OBSERVER
 
   nothing_there : (held : List (Attachment S)) (gone : List (Attachment S × Why)) (kept : List (Kept S)) (away : List (PutAway Rest)) (subject who : ℕ) (asks : Asks) (c : Change S)
-      → Stand acts held gone kept away → asks ≡ record { who = who; items = 0; leaves = false } → c ≡ unchanged held → Did acts c gone kept away (map (λ event. (subject, event)) (events_of asks))
+      → Stand acts held gone kept away → asks ≡ record { who = who; items = 0; leaves = false } → c ≡ unchanged held → Did acts c gone kept away (map (λ event. (subject, event)) (events_asked asks))
   nothing_there held gone kept away subject who asks c stand none is =
-      subst (λ (e : Asks). Did acts c gone kept away (map (λ event. (subject, event)) (events_of e))) (sym none)
+      subst (λ (e : Asks). Did acts c gone kept away (map (λ event. (subject, event)) (events_asked e))) (sym none)
       (subst (λ (d : Change S). Did acts d gone kept away []) (sym is) (unchanged_stands held gone kept away stand))
 
   pub notified_nobody : (n subject who : ℕ) (held : List (Attachment S)) (gone : List (Attachment S × Why)) (kept : List (Kept S)) (away : List (PutAway Rest)) (note : Note) (asks : Asks)
       → Stand acts held gone kept away → kept_for subject who held ≡ None → asks ≡ record { who = who; items = 0; leaves = false }
-      → Did acts (notified Fault subject who note (kept_for subject who held) held) gone kept away (map (λ event. (subject, event)) (events_of asks))
-      × (n ≡ tallied n (notified Fault subject who note (kept_for subject who held) held).took)
+      → Did acts (ruled subject who (by_note Fault note) (has_taken Fault) (kept_for subject who held) held) gone kept away (map (λ event. (subject, event)) (events_asked asks))
+      × (n ≡ tallied n (ruled subject who (by_note Fault note) (has_taken Fault) (kept_for subject who held) held).took)
   notified_nobody n subject who held gone kept away note asks stand none empty = (
-    nothing_there held gone kept away subject who asks _ stand empty (ap (λ o. notified Fault subject who note o held) none),
-    sym (ap (λ o. tallied n (notified Fault subject who note o held).took) none),
+    nothing_there held gone kept away subject who asks _ stand empty (ap (λ o. ruled subject who (by_note Fault note) (has_taken Fault) o held) none),
+    sym (ap (λ o. tallied n (ruled subject who (by_note Fault note) (has_taken Fault) o held).took) none),
   )
 
   pub flushed_nobody : (subject who : ℕ) (held : List (Attachment S)) (gone : List (Attachment S × Why)) (kept : List (Kept S)) (away : List (PutAway Rest)) (asks : Asks)
       → Stand acts held gone kept away → kept_for subject who held ≡ None → asks ≡ record { who = who; items = 0; leaves = false }
-      → (mark : Mark) × Did acts (flushed mark subject who (kept_for subject who held) held) gone kept away (map (λ event. (subject, event)) (events_of asks))
+      → (mark : Mark) × Did acts (ruled subject who (by_flush mark) (λ a. false) (kept_for subject who held) held) gone kept away (map (λ event. (subject, event)) (events_asked asks))
   flushed_nobody subject who held gone kept away asks stand none empty =
-      (Fault, nothing_there held gone kept away subject who asks _ stand empty (ap (λ o. flushed Fault subject who o held) none))
+      (Fault, nothing_there held gone kept away subject who asks _ stand empty (ap (λ o. ruled subject who (by_flush Fault) (λ a. false) o held) none))
 
   pub detached_nobody : (subject who : ℕ) (held : List (Attachment S)) (gone : List (Attachment S × Why)) (kept : List (Kept S)) (away : List (PutAway Rest)) (asks : Asks)
       → Stand acts held gone kept away → kept_for subject who held ≡ None → asks ≡ record { who = who; items = 0; leaves = false }
-      → Did acts (detached subject who (kept_for subject who held) held) gone kept away (map (λ event. (subject, event)) (events_of asks))
+      → Did acts (ruled subject who by_leaving (λ a. false) (kept_for subject who held) held) gone kept away (map (λ event. (subject, event)) (events_asked asks))
   detached_nobody subject who held gone kept away asks stand none empty =
-      nothing_there held gone kept away subject who asks _ stand empty (ap (λ o. detached subject who o held) none)
+      nothing_there held gone kept away subject who asks _ stand empty (ap (λ o. ruled subject who by_leaving (λ a. false) o held) none)
 
   -- what was asked, said otherwise
   pub said_so : (c : Change S) (gone : List (Attachment S × Why)) (kept : List (Kept S)) (away : List (PutAway Rest)) (subject : ℕ) (asks same : Asks) → asks ≡ same
-      → Did acts c gone kept away (map (λ event. (subject, event)) (events_of same)) → Did acts c gone kept away (map (λ event. (subject, event)) (events_of asks))
-  said_so c gone kept away subject asks same is did = subst (λ (e : Asks). Did acts c gone kept away (map (λ event. (subject, event)) (events_of e))) (sym is) did
+      → Did acts c gone kept away (map (λ event. (subject, event)) (events_asked same)) → Did acts c gone kept away (map (λ event. (subject, event)) (events_asked asks))
+  said_so c gone kept away subject asks same is did = subst (λ (e : Asks). Did acts c gone kept away (map (λ event. (subject, event)) (events_asked e))) (sym is) did
 
   -- A SINK CAME
 

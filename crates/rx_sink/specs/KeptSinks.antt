@@ -5,7 +5,7 @@
 -- its `finish`. Whatever the kind, its own count of faults rose at that fault and stayed else. A sink that is left unserved,
 -- since one is kept for its observer or there was no memory for it, comes back from `attach` as it came, and is finished in
 -- one place (`finish_unserved` in `rx_drain`)
-use Rattle.std.specs.Prelude.{◌≡◌, ◌+◌, ◌&&◌, if◌then◌else◌, ℕ, zero, suc, Bool, true, false, not, List, [], ◌∷◌, ◌++◌, map, replicate, Option, Some, slice_get, Result, Ok, Err}
+use Rattle.std.specs.Prelude.{◌≡◌, ◌+◌, ◌&&◌, if◌then◌else◌, ℕ, Bool, true, false, not, List, [], ◌∷◌, ◌++◌, map, replicate, Option, Some, slice_get, Result, Ok, Err}
 use Rattle.std.specs.List.{AllZip, remove}
 use Rattle.rx_note.specs.declared.event.Event.{Event}
 use Rattle.rx_note.specs.declared.event.Event.TheVariants.{Request, Dispose}
@@ -26,6 +26,7 @@ pub record Sinks (S Rest : Type 0) : Type 0 where
   pub misses : ℕ
   pub taken : ℕ
 
+-- these sinks kept and put away, with so many misses and so many notes taken
 abbrev pub sinks : {S Rest : Type 0} → List (Kept S) → List (PutAway Rest) → ℕ → ℕ → Sinks S Rest
 sinks kept away misses taken = record { kept = kept; away = away; misses = misses; taken = taken }
 
@@ -33,14 +34,13 @@ sinks kept away misses taken = record { kept = kept; away = away; misses = misse
 abbrev pub addressed : List Sent → List (ℕ × Event)
 addressed sends = map (λ s. (s.subject, s.event)) sends
 
--- a count of misses, or of notes taken, with those of one letter or flush more
-abbrev pub tallied : ℕ → ℕ → ℕ
-tallied n zero = n
-tallied n (suc _) = raised n
+-- a count of misses, or of notes taken, with one more where there was one
+abbrev pub tallied : ℕ → Bool → ℕ
+tallied n more = if more then raised n else n
 
 -- what is asked for an observer: so many items, one by one, and then that it be let go
-abbrev pub events_of : Asks → List Event
-events_of asks = replicate asks.items (Request asks.who 1) ++ (if asks.leaves then Dispose asks.who ∷ [] else [])
+abbrev pub events_asked : Asks → List Event
+events_asked asks = replicate asks.items (Request asks.who 1) ++ (if asks.leaves then Dispose asks.who ∷ [] else [])
 
 module _ {S : Type 0} where
   -- the sink at this place is kept for this observer
@@ -48,7 +48,7 @@ module _ {S : Type 0} where
   IsKeptAt subject who place kept = (one : Kept S) × (slice_get kept place ≡ Some one) × (is_for subject who one ≡ true)
 
   -- a kept sink that answered so, when so many items were due, asks for them or holds them back
-  pub record SettlesDue (flow : Flow) (items : ℕ) (after : Kept S) (asks : Asks) : Type 0 where
+  pub record PaysDue (flow : Flow) (items : ℕ) (after : Kept S) (asks : Asks) : Type 0 where
     pub due : after.due ≡ (if is_held_back flow items then items else 0)
     pub asked : asks ≡ record { who = after.who; items = if is_held_back flow items then 0 else items; leaves = after.over && is_clear flow }
 
@@ -94,15 +94,23 @@ module _ {S Rest : Type 0} (acts : Acts S Rest) where
 
   -- WHAT THE CALLS DO
 
-  -- the sinks were served so: for all attachments for which they stood there is a mark, such that these were changed by it, the
-  -- counts rose by what it tells, these events are what their subject is to be sent, and a sink that is left unserved came back
-  abbrev pub Tends : Service S → ℕ → Sinks S Rest → Sinks S Rest → List Event → Option S → Type 0
-  Tends service subject before after events back =
-      (held : List (Attachment S)) (gone : List (Attachment S × Why)) → Stand held gone before.kept before.away
-      → (mark : Mark) × Did (service.changed mark held) gone after.kept after.away (map (λ event. (subject, event)) events)
-      × (after.misses ≡ tallied before.misses (service.changed mark held).missed)
-      × (after.taken ≡ tallied before.taken (service.changed mark held).took)
-      × (back ≡ service.unserved mark held)
+  -- the sinks, which stood for these attachments, were served so
+  pub record Tended (service : Service S) (before after : Sinks S Rest) (events : List Event) (back : Option S) (held : List (Attachment S)) (gone : List (Attachment S × Why)) : Type 0 where
+    -- it went so with it
+    pub mark : Mark
+    -- the attachments were changed as the rules say of this mark, and these events are what the subject is to be sent
+    pub did : Did (service.changed mark held) gone after.kept after.away (map (λ event. (service.subject, event)) events)
+    -- the misses rose by one where a sink found no memory
+    pub misses : after.misses ≡ tallied before.misses (service.changed mark held).missed
+    -- the notes taken rose by one where a sink took one
+    pub taken : after.taken ≡ tallied before.taken (service.changed mark held).took
+    -- the sink that is left unserved came back
+    pub came_back : back ≡ service.unserved mark held
+
+  -- the sinks were served so, whatever attachments they stood for
+  abbrev pub Tends : Service S → Sinks S Rest → Sinks S Rest → List Event → Option S → Type 0
+  Tends service before after events back =
+      (held : List (Attachment S)) (gone : List (Attachment S × Why)) → Stand held gone before.kept before.away → Tended service before after events back held gone
 
   -- ONE SINK
 
@@ -113,7 +121,7 @@ module _ {S Rest : Type 0} (acts : Acts S Rest) where
     pub faultless : acts.faults after.sink ≡ acts.faults before.sink
     pub over : after.over ≡ is_last note
     pub may_wait : after.may_wait ≡ true
-    pub settles : SettlesDue flow (if is_last note then before.due else before.due + 1) after asks
+    pub pays : PaysDue flow (if is_last note then before.due else before.due + 1) after asks
 
   -- a kept sink had a fault at a note
   pub record FaultedAt (note : Note) (before after : Kept S) : Type 0 where
@@ -128,13 +136,13 @@ module _ {S Rest : Type 0} (acts : Acts S Rest) where
     pub due : after.due ≡ before.due
 
   -- a kept sink was flushed
-  pub record Flushed (before after : Kept S) (asks : Asks) : Type 0 where
+  pub record IsFlushed (before after : Kept S) (asks : Asks) : Type 0 where
     pub flow : Flow
     pub did : acts.flushed before.sink flow after.sink
     pub faultless : acts.faults after.sink ≡ acts.faults before.sink
     pub over : after.over ≡ before.over
     pub may_wait : after.may_wait ≡ not (is_clear flow)
-    pub settles : SettlesDue flow before.due after asks
+    pub pays : PaysDue flow before.due after asks
 
   -- a kept sink was finished, and what it left is the last that was put away
   abbrev pub Pushes : Kept S → List (PutAway Rest) → List (PutAway Rest) → Type 0
@@ -142,7 +150,7 @@ module _ {S Rest : Type 0} (acts : Acts S Rest) where
       (rest : Rest) × acts.finished one.sink rest × (away_after ≡ away ++ record { subject = one.subject; who = one.who; rest = rest } ∷ [])
 
   -- the sink at this place was so put away, and all is asked for that is due
-  pub record Parts (place : ℕ) (leaves : Bool) (kept kept_after : List (Kept S)) (away away_after : List (PutAway Rest)) (asks : Asks) : Type 0 where
+  pub record PartsOne (place : ℕ) (leaves : Bool) (kept kept_after : List (Kept S)) (away away_after : List (PutAway Rest)) (asks : Asks) : Type 0 where
     pub one : Kept S
     pub stood : slice_get kept place ≡ Some one
     pub removed : kept_after ≡ remove kept place
@@ -151,10 +159,10 @@ module _ {S Rest : Type 0} (acts : Acts S Rest) where
 
   -- the sink at this place was put away where it is done, and else all stays
   abbrev pub MayPart : Bool → ℕ → List (Kept S) → List (Kept S) → List (PutAway Rest) → List (PutAway Rest) → Type 0
-  MayPart true place kept kept_after away away_after = (asks : Asks) × Parts place true kept kept_after away away_after asks
+  MayPart true place kept kept_after away away_after = (asks : Asks) × PartsOne place true kept kept_after away away_after asks
   MayPart false place kept kept_after away away_after = (kept_after ≡ kept) × (away_after ≡ away)
 
   -- what was done last with the sink at this place came to its end: where that was a fault, or the sink is done, it was put away
   abbrev pub EndsAct : ℕ → Result Asks SinkFault → List (Kept S) → List (Kept S) → List (PutAway Rest) → List (PutAway Rest) → Asks → Type 0
   EndsAct place (Ok said) kept kept_after away away_after asks = (asks ≡ said) × MayPart said.leaves place kept kept_after away away_after
-  EndsAct place (Err fault) kept kept_after away away_after asks = Parts place true kept kept_after away away_after asks
+  EndsAct place (Err fault) kept kept_after away away_after asks = PartsOne place true kept kept_after away away_after asks

@@ -25,9 +25,9 @@ use Rattle.rx_sink.specs.declared.memory_sink.MemorySink.{MemorySink}
 use Rattle.rx_sink.specs.Acts.{Acts, raised}
 
 -- a sink in memory that fails from a note on fails at the note of this number
-abbrev pub fails : Option ℕ → ℕ → Bool
-fails None number = false
-fails (Some first) number = nat_le first number
+abbrev pub fails_at : Option ℕ → ℕ → Bool
+fails_at None number = false
+fails_at (Some first) number = nat_le first number
 
 -- a sink in memory puts each note behind the others; it has a fault at a note at which it is to fail, and where its list was
 -- full, and then keeps its notes; nothing ever waits in it, and no flush of it is a fault
@@ -35,9 +35,9 @@ abbrev pub memory_acts : Acts MemorySink (Vec Note (Limited Global))
 memory_acts = record {
   started = λ s who t. t ≡ s;
   start_faulted = λ s who t. ⊥;
-  took = λ s note flow t. (flow ≡ Clear) × (t.notes.items ≡ s.notes.items ++ note ∷ []) × (t.fail_at ≡ s.fail_at) × (t.faults ≡ s.faults) × (fails s.fail_at (vec_len s.notes) ≡ false);
+  took = λ s note flow t. (flow ≡ Clear) × (t.notes.items ≡ s.notes.items ++ note ∷ []) × (t.fail_at ≡ s.fail_at) × (t.faults ≡ s.faults) × (fails_at s.fail_at (vec_len s.notes) ≡ false);
   take_faulted = λ s note t. (t.notes.items ≡ s.notes.items) × (t.fail_at ≡ s.fail_at) × (t.faults ≡ raised s.faults)
-      × ((fails s.fail_at (vec_len s.notes) ≡ true) ⊎ (vec_capacity s.notes ≤ vec_len s.notes));
+      × ((fails_at s.fail_at (vec_len s.notes) ≡ true) ⊎ (vec_capacity s.notes ≤ vec_len s.notes));
   flushed = λ s flow t. (flow ≡ Clear) × (t ≡ s);
   flush_faulted = λ s t. ⊥;
   finished = λ s rest. rest.items ≡ s.notes.items;

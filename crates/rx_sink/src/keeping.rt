@@ -3,7 +3,7 @@ ghost use Rattle.std.specs.Prelude.{◌≡◌, if◌then◌else◌, ◌+◌, ◌
 ghost use Rattle.std.specs.List.{position};
 ghost use Rattle.rx_sink.specs.Acts.{raised};
 ghost use Rattle.rx_sink.specs.Attachments.{Attachment, Why, attaching, closed, detaching, flushing, giving, is_for};
-ghost use Rattle.rx_sink.specs.KeptSinks.{EndsAct, IsKeptAt, Parts, Pushes, Stand, Tends, events_of, sinks};
+ghost use Rattle.rx_sink.specs.KeptSinks.{EndsAct, IsKeptAt, PartsOne, Pushes, Stand, Tends, events_asked, sinks};
 ghost use Rattle.rx_sink.specs.Rests.{HasRoomFor};
 
 use crate::{Asks, Kept, Places, PutAway, Rests, Sink, SinkFault};
@@ -25,8 +25,8 @@ pub fn attach<S: Sink>(
     requires room { HasRoomFor (vec_len kept.old) away.old }
     ensures room { HasRoomFor (vec_len kept.new) away.new }
     ensures keeps { away.new.keeps ≡ away.old.keeps }
-    ensures attaches { (place taken : ℕ) → Tends S.acts (attaching place subject who sink) subject
-        (sinks kept.old.items away.old.items places.old.misses taken) (sinks kept.new.items away.new.items places.new.misses taken) (events_of result.0) result.1 }
+    ensures attaches { (place taken : ℕ) → Tends S.acts (attaching place subject who sink)
+        (sinks kept.old.items away.old.items places.old.misses taken) (sinks kept.new.items away.new.items places.new.misses taken) (events_asked result.0) result.1 }
 {
     if let Some(_place) = look(kept.as_slice(), places, subject, who) {
         return (Asks::nothing(who), Some(sink));
@@ -73,8 +73,8 @@ pub fn give<S: Sink>(
     ensures room { HasRoomFor (vec_len kept.new) away.new }
     ensures keeps { away.new.keeps ≡ away.old.keeps }
     ensures misses { places.new.misses ≡ places.old.misses }
-    ensures gives { (misses : ℕ) → Tends S.acts (giving subject who note) subject
-        (sinks kept.old.items away.old.items misses taken.old) (sinks kept.new.items away.new.items misses taken.new) (events_of result) None }
+    ensures gives { (misses : ℕ) → Tends S.acts (giving subject who note)
+        (sinks kept.old.items away.old.items misses taken.old) (sinks kept.new.items away.new.items misses taken.new) (events_asked result) None }
 {
     let Some(place) = look(kept.as_slice(), places, subject, who) else {
         return Asks::nothing(who);
@@ -101,8 +101,8 @@ pub fn flush_one<S: Sink>(
     ensures room { HasRoomFor (vec_len kept.new) away.new }
     ensures keeps { away.new.keeps ≡ away.old.keeps }
     ensures len { vec_len kept.old ≤ vec_len kept.new + 1 }
-    ensures flushes { (misses taken : ℕ) → Tends S.acts (flushing subject who) subject
-        (sinks kept.old.items away.old.items misses taken) (sinks kept.new.items away.new.items misses taken) (events_of result) None }
+    ensures flushes { (misses taken : ℕ) → Tends S.acts (flushing subject who)
+        (sinks kept.old.items away.old.items misses taken) (sinks kept.new.items away.new.items misses taken) (events_asked result) None }
 {
     let Some(place) = find(kept.as_slice(), near, subject, who) else {
         return Asks::nothing(who);
@@ -124,8 +124,8 @@ pub fn detach<S: Sink>(
     ensures room { HasRoomFor (vec_len kept.new) away.new }
     ensures keeps { away.new.keeps ≡ away.old.keeps }
     ensures misses { places.new.misses ≡ places.old.misses }
-    ensures detaches { (misses taken : ℕ) → Tends S.acts (detaching subject who) subject
-        (sinks kept.old.items away.old.items misses taken) (sinks kept.new.items away.new.items misses taken) (events_of result) None }
+    ensures detaches { (misses taken : ℕ) → Tends S.acts (detaching subject who)
+        (sinks kept.old.items away.old.items misses taken) (sinks kept.new.items away.new.items misses taken) (events_asked result) None }
 {
     let Some(place) = look(kept.as_slice(), places, subject, who) else {
         return Asks::nothing(who);
@@ -186,7 +186,7 @@ fn part<S: Sink>(
     ensures room { HasRoomFor (vec_len kept.new) away.new }
     ensures keeps { away.new.keeps ≡ away.old.keeps }
     ensures len { vec_len kept.old ≤ vec_len kept.new + 1 }
-    ensures parts { Parts S.acts place leaves kept.old.items kept.new.items away.old.items away.new.items result }
+    ensures parts { PartsOne S.acts place leaves kept.old.items kept.new.items away.old.items away.new.items result }
 {
     let one = kept.remove(place);
     let asks = Asks {

@@ -1,6 +1,6 @@
 ghost use Rattle.std.specs.Prelude.{◌≡◌, ◌+◌, ◌≤◌, ◌^◌, if◌then◌else◌, true, false, MatchResult};
 ghost use Rattle.rx_sink.specs.Attachments.{is_clear, is_held_back, is_last};
-ghost use Rattle.rx_sink.specs.KeptSinks.{FaultedAt, FaultedAtFlush, Flushed, SettlesDue, TakesNote};
+ghost use Rattle.rx_sink.specs.KeptSinks.{FaultedAt, FaultedAtFlush, IsFlushed, PaysDue, TakesNote};
 
 use crate::{Asks, Flow, Sink, SinkFault};
 use rx_note::Note;
@@ -36,13 +36,13 @@ impl<S: Sink> Kept<S> {
         self.over = last;
         self.may_wait = true;
         let due = due_after(self.due, last);
-        Ok(self.settle(flow, due))
+        Ok(self.pay(flow, due))
     }
 
     // Has the sink write what waits in it. It answers what is to be asked, as `take` does.
     pub(crate) fn flush(&mut self) -> Result<Asks, SinkFault>
         ensures flushed { MatchResult result
-            (λ asks. Flushed S.acts self.old self.new asks)
+            (λ asks. IsFlushed S.acts self.old self.new asks)
             (λ _. FaultedAtFlush S.acts self.old self.new) }
         ensures subject { self.new.subject ≡ self.old.subject }
         ensures who { self.new.who ≡ self.old.who }
@@ -50,13 +50,13 @@ impl<S: Sink> Kept<S> {
         let flow = self.sink.flush()?;
         self.may_wait = !is_clear(flow);
         let due = u64::from(self.due);
-        Ok(self.settle(flow, due))
+        Ok(self.pay(flow, due))
     }
 
     // Asks for all that is due, or holds it back, once the sink answered how it stands.
-    fn settle(&mut self, flow: Flow, due: u64) -> Asks
+    fn pay(&mut self, flow: Flow, due: u64) -> Asks
         requires { due ≤ 2 ^ 32 }
-        ensures settles { SettlesDue flow due self.new result }
+        ensures pays { PaysDue flow due self.new result }
         ensures subject { self.new.subject ≡ self.old.subject }
         ensures who { self.new.who ≡ self.old.who }
         ensures sink { self.new.sink ≡ self.old.sink }

@@ -1,6 +1,6 @@
 //! What the sinks of this crate have taken once they are put away, and when something waits in them. The functions do nothing:
 //! their clauses are the laws.
-ghost use Rattle.rx_sink.specs.Taken.{CountsNotes, KeepsNotes, TellsFaults, WritesLines};
+ghost use Rattle.rx_sink.specs.Taken.{CountsNotes, LeavesNotes, TellsFaults, WritesLines};
 ghost use Rattle.rx_sink.specs.Waiting.{NeverWaits, WaitsOnlyWhere};
 
 use crate::{LineSink, MemorySink, Sink};
@@ -8,7 +8,7 @@ use std::io::Write;
 
 /// The rest of a memory sink is the list of the notes that it took.
 pub fn memory_sinks_keep()
-    ensures { KeepsNotes ⟦<MemorySink as Sink>⟧.acts (λ s. s.notes.items) (λ rest. rest.items) }
+    ensures { LeavesNotes ⟦<MemorySink as Sink>⟧.acts (λ s. s.notes.items) (λ rest. rest.items) }
 {}
 
 /// A line sink wrote the lines of its start and, in its version, of the notes that it took, and after a fault a front of the

@@ -1,5 +1,5 @@
 ghost use Rattle.std.specs.Prelude.{◌≡◌, ◌≤◌, [], ◌∷◌, ◌++◌, ◌⊎◌, true, false, vec_len, vec_capacity, MatchResult};
-ghost use Rattle.rx_sink.specs.Kinds.{fails};
+ghost use Rattle.rx_sink.specs.Kinds.{fails_at};
 
 use crate::{Flow, Sink, SinkFault};
 use rx_heap::Heap;
@@ -61,11 +61,11 @@ impl Sink for MemorySink {
 // Puts a note behind the others, unless it is one at which the sink fails.
 fn put(notes: &mut Vec<Note, Heap>, fail_at: Option<u32>, note: Note) -> Result<(), SinkFault>
     ensures { MatchResult result
-        (λ _. (notes.new.items ≡ notes.old.items ++ note ∷ []) × (fails fail_at (vec_len notes.old) ≡ false))
+        (λ _. (notes.new.items ≡ notes.old.items ++ note ∷ []) × (fails_at fail_at (vec_len notes.old) ≡ false))
         (λ _. (notes.new.items ≡ notes.old.items)
-        × ((fails fail_at (vec_len notes.old) ≡ true) ⊎ (vec_capacity notes.old ≤ vec_len notes.old))) }
+        × ((fails_at fail_at (vec_len notes.old) ≡ true) ⊎ (vec_capacity notes.old ≤ vec_len notes.old))) }
 {
-    if fails(fail_at, notes.len()) {
+    if fails_at(fail_at, notes.len()) {
         return Err(SinkFault);
     }
     match notes.push(note) {
@@ -75,8 +75,8 @@ fn put(notes: &mut Vec<Note, Heap>, fail_at: Option<u32>, note: Note) -> Result<
 }
 
 // Whether a sink that fails from that note on fails at the note of this number.
-fn fails(fail_at: Option<u32>, number: usize) -> bool
-    ensures { result ≡ fails fail_at number }
+fn fails_at(fail_at: Option<u32>, number: usize) -> bool
+    ensures { result ≡ fails_at fail_at number }
 {
     match fail_at {
         None => false,
