@@ -15,7 +15,7 @@ use Rattle.rx_pump.specs.declared.out.Out.{Out}
 use Rattle.rx_pump.specs.declared.pump.pump_fault.PumpFault.{PumpFault}
 use Rattle.rx_pump.specs.declared.pump.pump_fault.PumpFault.TheVariants.{InboxGone}
 use Rattle.rx_pump.specs.declared.reply.Reply.{Reply}
-use Rattle.rx_pump.specs.Marks.{Marked, NoLetters, Made, Refused, Ended, bodies_in, refused_in, AreAcceptable, history_of, outs_in, sent_by, reply_to}
+use Rattle.rx_pump.specs.Marks.{Marked, NoLetters, Made, Refused, Ended, body_count, refused_in, AreAcceptable, history_of, outs_in, sent_by, reply_to}
 use Rattle.rx_pump.specs.Turns.{Ports, Sends, IsMade, IsRefused, HandlesCall}
 use Rattle.rx_pump.specs.Pumps.{counted, PumpView, PutAll, HavePutUpTo, Pumps, IsPumped, AreFresh, fresh_pump, KeepsPump}
 use Rattle.rx_mailbox.proofs.Told.{told-fresh}
@@ -119,7 +119,7 @@ module _ {S : Type 0} where
           misses = did.misses ∙ p.accounts.misses ∙ ap (λ n. counted (n + refused_in B)) (sym took.misses_before);
           acceptable = subst (λ (r : Rules). AreAcceptable r B) (sym rules) p.accounts.acceptable;
         };
-        calls = took.calls ∙ ap (λ n. min (n + 1) (2 ^ 64 - 1)) p.calls ∙ counted-more (bodies_in B);
+        calls = took.calls ∙ ap (λ n. min (n + 1) (2 ^ 64 - 1)) p.calls ∙ counted-more (body_count B);
         refused = took.refused ∙ p.refused;
         put = subst (λ (r : Rules). HavePutUpTo after.fault r (Made B port call) after.drainers after.replies) (sym rules) sent_now.put;
       }
@@ -137,7 +137,7 @@ module _ {S : Type 0} where
               ∙ ap (λ n. counted (n + (refused_in B + 1))) (sym took.misses_before);
           acceptable = subst (λ (r : Rules). AreAcceptable r (Refused B port call)) (sym rules) (p.accounts.acceptable, did.acceptable);
         };
-        calls = took.calls ∙ ap (λ n. min (n + 1) (2 ^ 64 - 1)) p.calls ∙ counted-more (bodies_in B);
+        calls = took.calls ∙ ap (λ n. min (n + 1) (2 ^ 64 - 1)) p.calls ∙ counted-more (body_count B);
         refused = took.refused ∙ ap (λ n. min (n + 1) (2 ^ 64 - 1)) p.refused ∙ counted-more (refused_in B);
         put = subst (λ (r : Rules). HavePutUpTo after.fault r (Refused B port call) after.drainers after.replies) (sym rules) sent_now.put;
       }

@@ -52,11 +52,11 @@ module _ {S : Type 0} where
   letters_of (Ended B port) = letters_of B ++ letter port Bye ∷ []
 
   -- how many bodies there are
-  abbrev pub bodies_in : Marked S → ℕ
-  bodies_in NoLetters = 0
-  bodies_in (Made B port call) = bodies_in B + 1
-  bodies_in (Refused B port call) = bodies_in B + 1
-  bodies_in (Ended B port) = bodies_in B
+  abbrev pub body_count : Marked S → ℕ
+  body_count NoLetters = 0
+  body_count (Made B port call) = body_count B + 1
+  body_count (Refused B port call) = body_count B + 1
+  body_count (Ended B port) = body_count B
 
   -- how many bodies were refused
   abbrev pub refused_in : Marked S → ℕ

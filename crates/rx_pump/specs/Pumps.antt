@@ -26,7 +26,7 @@ use Rattle.rx_pump.specs.declared.pump.pump_fault.PumpFault.TheVariants.{InboxGo
 use Rattle.rx_pump.specs.declared.pump.pump_parts.PumpParts.{PumpParts}
 use Rattle.rx_pump.specs.declared.reply.Reply.{Reply}
 use Rattle.rx_note.specs.declared.rules.Rules.{Rules}
-use Rattle.rx_pump.specs.Marks.{Marked, NoLetters, Made, Refused, Ended, letters_of, bodies_in, refused_in, history_of, AreAcceptable, outs_in, who_of, for_drainer, route, replies}
+use Rattle.rx_pump.specs.Marks.{Marked, NoLetters, Made, Refused, Ended, letters_of, body_count, refused_in, history_of, AreAcceptable, outs_in, who_of, for_drainer, route, replies}
 
 -- a count of a pump, up to the greatest `u64`
 abbrev pub counted : ℕ → ℕ
@@ -115,7 +115,7 @@ module _ {S : Type 0} where
   -- what a pump did is what its marked letters mean, or at the fault of a port what comes before that
   pub record Pumps (pump : PumpView S) (B : Marked S) : Type 0 where
     pub accounts : Accounts pump.hub pump.inbox pump.misses_before B
-    pub calls : pump.calls ≡ counted (bodies_in B)
+    pub calls : pump.calls ≡ counted (body_count B)
     pub refused : pump.refused ≡ counted (refused_in B)
     pub put : HavePutUpTo pump.fault pump.hub.state.rules B pump.drainers pump.replies
 

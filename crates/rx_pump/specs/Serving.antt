@@ -7,7 +7,7 @@ use Rattle.rx_pump.specs.declared.pump.pump_end.PumpEnd.{PumpEnd}
 use Rattle.rx_pump.specs.declared.pump.pump_fault.PumpFault.{PumpFault}
 use Rattle.rx_pump.specs.declared.pump.pump_fault.PumpFault.TheVariants.{InboxGone, DrainerGone, CallerGone}
 use Rattle.rx_pump.specs.declared.pump.pump_stop.PumpStop.{PumpStop}
-use Rattle.rx_pump.specs.Marks.{Marked, bodies_in, refused_in, route, replies}
+use Rattle.rx_pump.specs.Marks.{Marked, body_count, refused_in, route, replies}
 use Rattle.rx_pump.specs.Pumps.{counted, HavePut, HavePutUpTo, AreSame, Accounts, PumpView}
 
 module _ {X : Type 0} where
@@ -28,7 +28,7 @@ module _ {S : Type 0} where
     pub each_bye : HasEachBye left.inbox
     -- where each Bye had come before, no letter was waited for
     pub over : HasEachBye pump.inbox → left.inbox ≡ pump.inbox
-    pub calls : left.calls ≡ counted (bodies_in B)
+    pub calls : left.calls ≡ counted (body_count B)
     pub refused : left.refused ≡ counted (refused_in B)
     pub routed : HaveEnded (λ d. route pump.hub.state.rules (length pump.drainers) d B) left.drainers.items
     pub replied : HaveEnded (λ p. replies pump.hub.state.rules p B) left.replies.items
