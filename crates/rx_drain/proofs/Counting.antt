@@ -1,20 +1,19 @@
 -- Each sink of a log that found its place is kept or was put away, once.
-use Rattle.std.proofs.Common.{◌≡◌, ◌≢◌, ◌∙◌, sym, refl, ap, subst, ℕ, ◌+◌, ◌≤◌, ◌==◌, ◌&&◌, ◌⊎◌, inl, inr, if◌then◌else◌, Bool, true, false, List, [], ◌∷◌, ◌++◌, length, length-append, map, Option, Some, None, arith}
+use Rattle.std.proofs.Common.{◌≡◌, ◌≢◌, ◌∙◌, sym, refl, ap, subst, ℕ, ◌+◌, ◌≤◌, ◌==◌, ◌⊎◌, inl, inr, if◌then◌else◌, Bool, true, false, List, [], ◌∷◌, ◌++◌, length, length-append, map, Option, Some, None, arith}
 use Rattle.std.proofs.lemmas.Bool.Decides.{eqb_tells}
 use Rattle.std.proofs.lemmas.List.{map-append}
 use Rattle.rx_mailbox.specs.declared.letter.Letter.{Letter}
 use Rattle.rx_mailbox.specs.declared.letter.Post.{Post}
 use Rattle.rx_mailbox.specs.declared.letter.Post.TheVariants.{Body, Bye}
-use Rattle.rx_note.specs.declared.note.Note.{Note}
 use Rattle.rx_pump.specs.declared.out.Out.{Out}
 use Rattle.rx_pump.specs.declared.out.Out.TheVariants.{Attach, Give, Detach}
-use Rattle.rx_sink.specs.declared.flow.Flow.{Flow}
-use Rattle.rx_sink.specs.Attachments.{Attachment, Why, Mark, Fine, Fault, NoMemory, Change, is_clear, is_held_back, is_last, is_of, kept_for, without, replaced, with_note, with_flush, paid, attached, notified, settled, serving, served_yet, flushed, written, detached, let_go, closed, brought}
-use Rattle.rx_drain.specs.Logs.{Log, NoLetters, Next, Flush, letters, has_left, letter_change, kept_in, change, flush_change, gone_in, missed_in}
+use Rattle.rx_sink.specs.Attachments.{Attachment, Why, Mark, Fine, Fault, NoMemory, Change, Ruling, AsItWas, HoldsBack, PaysAll, LetsGo, PutsAway, is_of, kept_for, of_others, replaced, paid, by_note, has_taken, by_flush, by_leaving, carried_out, ruled, attached, closed, brought}
+use Rattle.rx_drain.specs.Logs.{Log, NoLetters, Next, Flush, letters, has_left, letter_change, kept_in, change, flush_change, gone_in, one_if, missed_in}
 use Rattle.rx_drain.proofs.Changing.{post_change, post_by}
+use Rattle.rx_drain.proofs.Rulings.{About, about_note, about_flush, about_leaving}
 use Rattle.rx_drain.specs.Once.{times, found_by, missed_by, place_by, letter_by, places_by, found_in, missed_at, EachOnce}
 use Rattle.rx_drain.proofs.Taking.{some_split}
-use Rattle.rx_sink.proofs.Counts.{missed_notified, missed_flushed, missed_detached}
+use Rattle.rx_sink.proofs.Counts.{none_missed}
 
 pub times-append : (n : ℕ) (xs ys : List ℕ) → times n (xs ++ ys) ≡ times n xs + times n ys
 times-append n [] ys = (let e : times n ys ≡ 0 + times n ys = omega arith in e)
@@ -159,30 +158,30 @@ module _ {S : Type 0} where
 
   -- as many were missed as are counted
   place_misses : (mark : Mark) (place : ℕ) (a : Attachment S) (o : Option (Attachment S)) (kept : List (Attachment S))
-      → length (place_by missed_by mark place o) ≡ (attached mark a o kept).missed
+      → length (place_by missed_by mark place o) ≡ one_if (attached mark a o kept).missed
   place_misses mark place a (Some other) kept = refl
   place_misses (Fine flow) place a None kept = refl
   place_misses Fault place a None kept = refl
   place_misses NoMemory place a None kept = refl
 
   post_misses : (b : Bool) (place from : ℕ) (post : Post (Out S)) (mark : Mark) (kept : List (Attachment S))
-      → length (post_by missed_by b place from post mark kept) ≡ (post_change b place from post mark kept).missed
+      → length (post_by missed_by b place from post mark kept) ≡ one_if (post_change b place from post mark kept).missed
   post_misses true place from (Body out) mark kept = refl
   post_misses true place from Bye mark kept = refl
   post_misses false place from (Body (Attach who sink)) mark kept = place_misses mark place (brought place from who sink) (kept_for from who kept) kept
-  post_misses false place from (Body (Give who note)) mark kept = sym (missed_notified mark from who note (kept_for from who kept) kept)
-  post_misses false place from (Body (Detach who)) mark kept = sym (missed_detached from who (kept_for from who kept) kept)
+  post_misses false place from (Body (Give who note)) mark kept = sym (ap one_if (none_missed from who (by_note mark note) (has_taken mark) (kept_for from who kept) kept))
+  post_misses false place from (Body (Detach who)) mark kept = sym (ap one_if (none_missed from who by_leaving (λ a. false) (kept_for from who kept) kept))
   post_misses false place from Bye mark kept = refl
 
   letter_misses : (b : Bool) (leave place : ℕ) (x : Letter (Out S)) (mark : Mark) (kept : List (Attachment S))
-      → length (letter_by missed_by b leave place x mark kept) ≡ (letter_change b leave place x mark kept).missed
+      → length (letter_by missed_by b leave place x mark kept) ≡ one_if (letter_change b leave place x mark kept).missed
   letter_misses true leave place x mark kept = refl
   letter_misses false leave place x mark kept = post_misses (x.from == leave) place x.from x.post mark kept
 
   pub misses : (leave : ℕ) (log : Log S) → length (missed_at leave log) ≡ missed_in leave log
   misses leave NoLetters = refl
   misses leave (Flush log s w mark) =
-      let none = missed_flushed mark s w (kept_for s w (kept_in leave log)) (kept_in leave log) in
+      let none = ap one_if (none_missed s w (by_flush mark) (λ a. false) (kept_for s w (kept_in leave log)) (kept_in leave log)) in
       omega (arith, misses leave log, none)
   misses leave (Next log x mark) =
       let now = letter_by missed_by (has_left leave log) leave (length (letters log)) x mark (kept_in leave log) in
@@ -196,23 +195,23 @@ module _ {S : Type 0} where
   abbrev pub gone_places : List (Attachment S × Why) → List ℕ
   gone_places gone = map (λ end. end.0.place) gone
 
-  without_step : (n s w : ℕ) (c a : Attachment S) (kept : List (Attachment S)) → kept_for s w (c ∷ kept) ≡ Some a
-      → (kept_for s w kept ≡ Some a → times n (kept_places (without s w kept)) + times n (a.place ∷ []) ≡ times n (kept_places kept))
-      → times n (kept_places (without s w (c ∷ kept))) + times n (a.place ∷ []) ≡ times n (kept_places (c ∷ kept))
-  without_step n s w c a kept is next =
+  others_step : (n s w : ℕ) (c a : Attachment S) (kept : List (Attachment S)) → kept_for s w (c ∷ kept) ≡ Some a
+      → (kept_for s w kept ≡ Some a → times n (kept_places (of_others s w kept)) + times n (a.place ∷ []) ≡ times n (kept_places kept))
+      → times n (kept_places (of_others s w (c ∷ kept))) + times n (a.place ∷ []) ≡ times n (kept_places (c ∷ kept))
+  others_step n s w c a kept is next =
       elim (some_split (is_of s w c) c a (kept_for s w kept) is) [
         | inl (test, same) ↦
-            subst (λ (t : Bool). times n (kept_places (if t then kept else c ∷ without s w kept)) + times n (a.place ∷ []) ≡ times n (kept_places (c ∷ kept))) (sym test)
+            subst (λ (t : Bool). times n (kept_places (if t then kept else c ∷ of_others s w kept)) + times n (a.place ∷ []) ≡ times n (kept_places (c ∷ kept))) (sym test)
             (subst (λ (d : Attachment S). times n (kept_places kept) + times n (d.place ∷ []) ≡ times n (kept_places (c ∷ kept))) same (omega arith))
         | inr (test, later) ↦
-            subst (λ (t : Bool). times n (kept_places (if t then kept else c ∷ without s w kept)) + times n (a.place ∷ []) ≡ times n (kept_places (c ∷ kept))) (sym test)
+            subst (λ (t : Bool). times n (kept_places (if t then kept else c ∷ of_others s w kept)) + times n (a.place ∷ []) ≡ times n (kept_places (c ∷ kept))) (sym test)
             (let ih = next later in omega (arith, ih))
       ]
 
-  pub without_places : (n s w : ℕ) (a : Attachment S) (kept : List (Attachment S)) → kept_for s w kept ≡ Some a
-      → times n (kept_places (without s w kept)) + times n (a.place ∷ []) ≡ times n (kept_places kept)
-  without_places n s w a [] is = cc
-  without_places n s w a (c ∷ kept) is = without_step n s w c a kept is (without_places n s w a kept)
+  pub others_places : (n s w : ℕ) (a : Attachment S) (kept : List (Attachment S)) → kept_for s w kept ≡ Some a
+      → times n (kept_places (of_others s w kept)) + times n (a.place ∷ []) ≡ times n (kept_places kept)
+  others_places n s w a [] is = cc
+  others_places n s w a (c ∷ kept) is = others_step n s w c a kept is (others_places n s w a kept)
 
   replaced_step : (n s w : ℕ) (c a b : Attachment S) (kept : List (Attachment S)) → b.place ≡ a.place → kept_for s w (c ∷ kept) ≡ Some a
       → (kept_for s w kept ≡ Some a → times n (kept_places (replaced s w b kept)) ≡ times n (kept_places kept))
@@ -250,59 +249,28 @@ module _ {S : Type 0} where
   moves_attach n place Fault a None kept is = ap (λ (m : ℕ). times n (kept_places kept) + times n (m ∷ [])) is
   moves_attach n place NoMemory a None kept is = refl
 
-  -- an attachment with a note more is of the same place
-  note_place : (l : Bool) (note : Note) (flow : Flow) (a : Attachment S) → (with_note l note flow a).place ≡ a.place
-  note_place true note flow a = refl
-  note_place false note flow a = refl
+  moves_ruling : (n s w : ℕ) (ruling : Ruling S) (took : Bool) (a : Attachment S) (kept : List (Attachment S)) → kept_for s w kept ≡ Some a → About (λ b. b.place ≡ a.place) ruling
+      → Moves n kept [] (carried_out s w ruling took kept)
+  moves_ruling n s w AsItWas took a kept is place = refl
+  moves_ruling n s w (HoldsBack b) took a kept is place = ap (λ (m : ℕ). m + 0) (replaced_places n s w a b kept place is)
+  moves_ruling n s w (PaysAll b) took a kept is place = ap (λ (m : ℕ). m + 0) (replaced_places n s w a (paid b) kept place is)
+  moves_ruling n s w (LetsGo b) took a kept is place =
+      (let e = others_places n s w a kept is in let p : times n (b.place ∷ []) ≡ times n (a.place ∷ []) = ap (λ (m : ℕ). times n (m ∷ [])) place in omega (arith, e, p))
+  moves_ruling n s w (PutsAway b why) took a kept is place =
+      (let e = others_places n s w a kept is in let p : times n (b.place ∷ []) ≡ times n (a.place ∷ []) = ap (λ (m : ℕ). times n (m ∷ [])) place in omega (arith, e, p))
 
-  moves_settle : (n s w : ℕ) (leaves held_back : Bool) (a b : Attachment S) (took : ℕ) (kept : List (Attachment S)) → b.place ≡ a.place → kept_for s w kept ≡ Some a
-      → Moves n kept [] (settled leaves held_back s w b took kept)
-  moves_settle n s w true held_back a b took kept place is =
-      (let e = without_places n s w a kept is in let p : times n (b.place ∷ []) ≡ times n (a.place ∷ []) = ap (λ (m : ℕ). times n (m ∷ [])) place in omega (arith, e, p))
-  moves_settle n s w false true a b took kept place is = ap (λ (m : ℕ). m + 0) (replaced_places n s w a b kept place is)
-  moves_settle n s w false false a b took kept place is = ap (λ (m : ℕ). m + 0) (replaced_places n s w a (paid b) kept place is)
-
-  moves_serve : (n s w : ℕ) (note : Note) (mark : Mark) (a : Attachment S) (kept : List (Attachment S)) → kept_for s w kept ≡ Some a
-      → Moves n kept [] (serving mark s w note a kept)
-  moves_serve n s w note (Fine flow) a kept is =
-      (let b = with_note (is_last note) note flow a in
-      moves_settle n s w (b.over && is_clear flow) (is_held_back flow b.due) a b 1 kept (note_place (is_last note) note flow a) is)
-  moves_serve n s w note Fault a kept is = (let e = without_places n s w a kept is in omega (arith, e))
-  moves_serve n s w note NoMemory a kept is = (let e = without_places n s w a kept is in omega (arith, e))
-
-  moves_serve_yet : (n s w : ℕ) (note : Note) (mark : Mark) (o : Bool) (a : Attachment S) (kept : List (Attachment S)) → kept_for s w kept ≡ Some a
-      → Moves n kept [] (served_yet o mark s w note a kept)
-  moves_serve_yet n s w note mark true a kept is = refl
-  moves_serve_yet n s w note mark false a kept is = moves_serve n s w note mark a kept is
-
-  moves_give : (n s w : ℕ) (note : Note) (mark : Mark) (o : Option (Attachment S)) (kept : List (Attachment S)) → kept_for s w kept ≡ o → Moves n kept [] (notified mark s w note o kept)
-  moves_give n s w note mark None kept is = refl
-  moves_give n s w note mark (Some a) kept is = moves_serve_yet n s w note mark a.over a kept is
-
-  moves_write : (n s w : ℕ) (mark : Mark) (a : Attachment S) (kept : List (Attachment S)) → kept_for s w kept ≡ Some a → Moves n kept [] (written mark s w a kept)
-  moves_write n s w (Fine flow) a kept is = moves_settle n s w (a.over && is_clear flow) (is_held_back flow a.due) a (with_flush flow a) 0 kept refl is
-  moves_write n s w Fault a kept is = (let e = without_places n s w a kept is in omega (arith, e))
-  moves_write n s w NoMemory a kept is = (let e = without_places n s w a kept is in omega (arith, e))
-
-  moves_flush : (n s w : ℕ) (mark : Mark) (o : Option (Attachment S)) (kept : List (Attachment S)) → kept_for s w kept ≡ o → Moves n kept [] (flushed mark s w o kept)
-  moves_flush n s w mark None kept is = refl
-  moves_flush n s w mark (Some a) kept is = moves_write n s w mark a kept is
-
-  moves_let_go : (n s w : ℕ) (o : Bool) (a : Attachment S) (kept : List (Attachment S)) → kept_for s w kept ≡ Some a → Moves n kept [] (let_go o s w a kept)
-  moves_let_go n s w false a kept is = (let e = without_places n s w a kept is in omega (arith, e))
-  moves_let_go n s w true a kept is = (let e = without_places n s w a kept is in omega (arith, e))
-
-  moves_detach : (n s w : ℕ) (o : Option (Attachment S)) (kept : List (Attachment S)) → kept_for s w kept ≡ o → Moves n kept [] (detached s w o kept)
-  moves_detach n s w None kept is = refl
-  moves_detach n s w (Some a) kept is = moves_let_go n s w a.over a kept is
+  moves_ruled : (n s w : ℕ) (rule : Attachment S → Ruling S) (took : Attachment S → Bool) (o : Option (Attachment S)) (kept : List (Attachment S)) → kept_for s w kept ≡ o
+      → ((a : Attachment S) → About (λ b. b.place ≡ a.place) (rule a)) → Moves n kept [] (ruled s w rule took o kept)
+  moves_ruled n s w rule took None kept is place = refl
+  moves_ruled n s w rule took (Some a) kept is place = moves_ruling n s w (rule a) (took a) a kept is (place a)
 
   moves_post : (n : ℕ) (b : Bool) (place from : ℕ) (post : Post (Out S)) (mark : Mark) (kept : List (Attachment S))
       → Moves n kept (post_by found_by b place from post mark kept) (post_change b place from post mark kept)
   moves_post n true place from (Body out) mark kept = refl
   moves_post n true place from Bye mark kept = (let e : times n (gone_places (closed kept)) ≡ times n (kept_places kept) = ap (times n) (closed_places kept) in omega (arith, e))
   moves_post n false place from (Body (Attach who sink)) mark kept = moves_attach n place mark (brought place from who sink) (kept_for from who kept) kept refl
-  moves_post n false place from (Body (Give who note)) mark kept = moves_give n from who note mark (kept_for from who kept) kept refl
-  moves_post n false place from (Body (Detach who)) mark kept = moves_detach n from who (kept_for from who kept) kept refl
+  moves_post n false place from (Body (Give who note)) mark kept = moves_ruled n from who (by_note mark note) (has_taken mark) (kept_for from who kept) kept refl (λ a. about_note (λ b. b.place ≡ a.place) mark note a refl (λ flow. refl))
+  moves_post n false place from (Body (Detach who)) mark kept = moves_ruled n from who by_leaving (λ a. false) (kept_for from who kept) kept refl (λ a. about_leaving (λ b. b.place ≡ a.place) a refl)
   moves_post n false place from Bye mark kept = refl
 
   pub moves_letter : (n : ℕ) (b : Bool) (leave place : ℕ) (x : Letter (Out S)) (mark : Mark) (kept : List (Attachment S))
@@ -322,7 +290,7 @@ module _ {S : Type 0} where
   same leave (Flush log s w mark) n =
       let c = flush_change leave log s w mark in
       let before = same leave log n in
-      let step = moves_flush n s w mark (kept_for s w (kept_in leave log)) (kept_in leave log) refl in
+      let step = moves_ruled n s w (by_flush mark) (λ a. false) (kept_for s w (kept_in leave log)) (kept_in leave log) refl (λ a. about_flush (λ b. b.place ≡ a.place) mark a refl (λ flow. refl)) in
       let gone = ap (times n) (map-append (λ (end : Attachment S × Why). end.0.place) (gone_in leave log) c.gone) ∙ times-append n (gone_places (gone_in leave log)) (gone_places c.gone) in
       omega (arith, before, step, gone)
 

@@ -11,13 +11,14 @@ use Rattle.rx_sink.specs.declared.flow.Flow.{Flow}
 use Rattle.rx_sink.specs.declared.flow.Flow.TheVariants.{Clear, Ready, Stuck}
 use Rattle.rx_sink.specs.declared.kept.Kept.{Kept}
 use Rattle.rx_sink.specs.Acts.{Acts, Step, Takes, Flushes}
-use Rattle.rx_sink.specs.Attachments.{Attachment, Mark, Fine, Fault, NoMemory, Apart, is_clear, is_held_back, is_last, may_wait, is_of, kept_for, without, replaced, with_note, with_flush, paid, attached, notified, settled, serving, served_yet, flushed, written, detached, let_go, brought}
+use Rattle.rx_sink.specs.Attachments.{Attachment, Mark, Fine, Fault, NoMemory, Ruling, Apart, is_held_back, may_wait, is_of, kept_for, of_others, replaced, with_note, with_flush, paid, by_answer, by_note, by_flush, by_leaving, kept_by, ruled, attached, brought}
 use Rattle.rx_sink.specs.KeptSinks.{IsKept}
 use Rattle.rx_drain.specs.Credit.{IsPaid}
 use Rattle.rx_drain.specs.Logs.{Log, NoLetters, Next, Flush, letters, has_left, letter_change, kept_in}
 use Rattle.rx_drain.proofs.Changing.{post_change}
 use Rattle.rx_sink.proofs.Apartness.{key_is}
-use Rattle.rx_drain.proofs.Taking.{all_append, all_but, all_with, apart_in}
+use Rattle.rx_drain.proofs.Taking.{all_append, apart_in}
+use Rattle.rx_drain.proofs.Rulings.{GoesOnSo, answer_does, note_does, flush_does, leaving_does, all_ruled}
 
 bool_cases : (b : Bool) → (b ≡ true) ⊎ (b ≡ false)
 bool_cases true = inl refl
@@ -43,50 +44,20 @@ module _ {S : Type 0} where
   abbrev Withheld : Attachment S → Type 0
   Withheld a = (a.due ≡ 0) ⊎ (((note : Note) × (a.last ≡ Some (Takes note Stuck))) ⊎ (a.last ≡ Some (Flushes Stuck)))
 
-  withheld_note : (l : Bool) (note : Note) (flow : Flow) (a : Attachment S) → flow ≡ Stuck → Withheld (with_note l note flow a)
-  withheld_note true note flow a is = inr (inl (note, ap (λ (f : Flow). Some (Takes note f)) is))
-  withheld_note false note flow a is = inr (inl (note, ap (λ (f : Flow). Some (Takes note f)) is))
+  withheld_answer : (flow : Flow) (b : Attachment S) → (flow ≡ Stuck → Withheld b) → GoesOnSo Withheld (by_answer flow b)
+  withheld_answer flow b stuck = answer_does (GoesOnSo Withheld) flow b (λ leaves. tt) (λ held. stuck (held_stuck flow b.due held)) (inl refl)
 
-  withheld_settle : (s w : ℕ) (leaves held_back : Bool) (b : Attachment S) (took : ℕ) (kept : List (Attachment S)) → (held_back ≡ true → Withheld b)
-      → AllByRecursion Withheld kept → AllByRecursion Withheld (settled leaves held_back s w b took kept).kept
-  withheld_settle s w true held_back b took kept stuck all = all_but Withheld s w kept all
-  withheld_settle s w false true b took kept stuck all = all_with Withheld s w b kept (stuck refl) all
-  withheld_settle s w false false b took kept stuck all = all_with Withheld s w (paid b) kept (inl refl) all
+  withheld_note : (mark : Mark) (note : Note) (a : Attachment S) → GoesOnSo Withheld (by_note mark note a)
+  withheld_note mark note a =
+      note_does (GoesOnSo Withheld) mark note a (λ over. tt)
+      (λ flow yet. withheld_answer flow (with_note note flow a) (λ is. inr (inl (note, ap (λ (f : Flow). Some (Takes note f)) is)))) (λ yet. tt)
 
-  withheld_serve : (s w : ℕ) (note : Note) (mark : Mark) (a : Attachment S) (kept : List (Attachment S)) → AllByRecursion Withheld kept → AllByRecursion Withheld (serving mark s w note a kept).kept
-  withheld_serve s w note (Fine flow) a kept all =
-      (let b = with_note (is_last note) note flow a in
-      withheld_settle s w (b.over && is_clear flow) (is_held_back flow b.due) b 1 kept (λ held. withheld_note (is_last note) note flow a (held_stuck flow b.due held)) all)
-  withheld_serve s w note Fault a kept all = all_but Withheld s w kept all
-  withheld_serve s w note NoMemory a kept all = all_but Withheld s w kept all
+  withheld_flush : (mark : Mark) (a : Attachment S) → GoesOnSo Withheld (by_flush mark a)
+  withheld_flush mark a =
+      flush_does (GoesOnSo Withheld) mark a (λ flow. withheld_answer flow (with_flush flow a) (λ is. inr (inr (ap (λ (f : Flow). Some (Flushes f)) is)))) tt
 
-  withheld_serve_yet : (s w : ℕ) (note : Note) (mark : Mark) (o : Bool) (a : Attachment S) (kept : List (Attachment S)) → AllByRecursion Withheld kept
-      → AllByRecursion Withheld (served_yet o mark s w note a kept).kept
-  withheld_serve_yet s w note mark true a kept all = all
-  withheld_serve_yet s w note mark false a kept all = withheld_serve s w note mark a kept all
-
-  withheld_give : (s w : ℕ) (note : Note) (mark : Mark) (o : Option (Attachment S)) (kept : List (Attachment S)) → AllByRecursion Withheld kept → AllByRecursion Withheld (notified mark s w note o kept).kept
-  withheld_give s w note mark None kept all = all
-  withheld_give s w note mark (Some a) kept all = withheld_serve_yet s w note mark a.over a kept all
-
-  withheld_write : (s w : ℕ) (mark : Mark) (a : Attachment S) (kept : List (Attachment S)) → AllByRecursion Withheld kept → AllByRecursion Withheld (written mark s w a kept).kept
-  withheld_write s w (Fine flow) a kept all =
-      withheld_settle s w (a.over && is_clear flow) (is_held_back flow a.due) (with_flush flow a) 0 kept
-      (λ held. inr (inr (ap (λ (f : Flow). Some (Flushes f)) (held_stuck flow a.due held)))) all
-  withheld_write s w Fault a kept all = all_but Withheld s w kept all
-  withheld_write s w NoMemory a kept all = all_but Withheld s w kept all
-
-  withheld_flush : (s w : ℕ) (mark : Mark) (o : Option (Attachment S)) (kept : List (Attachment S)) → AllByRecursion Withheld kept → AllByRecursion Withheld (flushed mark s w o kept).kept
-  withheld_flush s w mark None kept all = all
-  withheld_flush s w mark (Some a) kept all = withheld_write s w mark a kept all
-
-  withheld_let_go : (s w : ℕ) (o : Bool) (a : Attachment S) (kept : List (Attachment S)) → AllByRecursion Withheld kept → AllByRecursion Withheld (let_go o s w a kept).kept
-  withheld_let_go s w true a kept all = all_but Withheld s w kept all
-  withheld_let_go s w false a kept all = all_but Withheld s w kept all
-
-  withheld_detach : (s w : ℕ) (o : Option (Attachment S)) (kept : List (Attachment S)) → AllByRecursion Withheld kept → AllByRecursion Withheld (detached s w o kept).kept
-  withheld_detach s w None kept all = all
-  withheld_detach s w (Some a) kept all = withheld_let_go s w a.over a kept all
+  withheld_leaving : (a : Attachment S) → GoesOnSo Withheld (by_leaving a)
+  withheld_leaving a = leaving_does (GoesOnSo Withheld) a (λ over. tt) (λ yet. tt)
 
   withheld_attach : (mark : Mark) (a : Attachment S) (o : Option (Attachment S)) (kept : List (Attachment S)) → a.due ≡ 0 → AllByRecursion Withheld kept → AllByRecursion Withheld (attached mark a o kept).kept
   withheld_attach mark a (Some other) kept none all = all
@@ -98,8 +69,8 @@ module _ {S : Type 0} where
   withheld_post true place from (Body out) mark kept all = all
   withheld_post true place from Bye mark kept all = tt
   withheld_post false place from (Body (Attach w sink)) mark kept all = withheld_attach mark (brought place from w sink) (kept_for from w kept) kept refl all
-  withheld_post false place from (Body (Give w note)) mark kept all = withheld_give from w note mark (kept_for from w kept) kept all
-  withheld_post false place from (Body (Detach w)) mark kept all = withheld_detach from w (kept_for from w kept) kept all
+  withheld_post false place from (Body (Give w note)) mark kept all = all_ruled Withheld from w (by_note mark note) _ (kept_for from w kept) kept (withheld_note mark note) all
+  withheld_post false place from (Body (Detach w)) mark kept all = all_ruled Withheld from w by_leaving _ (kept_for from w kept) kept withheld_leaving all
   withheld_post false place from Bye mark kept all = all
 
   withheld_letter : (b : Bool) (leave place : ℕ) (x : Letter (Out S)) (mark : Mark) (kept : List (Attachment S)) → AllByRecursion Withheld kept
@@ -111,7 +82,7 @@ module _ {S : Type 0} where
   withheld : (leave : ℕ) (log : Log S) → AllByRecursion Withheld (kept_in leave log)
   withheld leave NoLetters = tt
   withheld leave (Next log x mark) = withheld_letter (has_left leave log) leave (length (letters log)) x mark (kept_in leave log) (withheld leave log)
-  withheld leave (Flush log s w mark) = withheld_flush s w mark (kept_for s w (kept_in leave log)) (kept_in leave log) (withheld leave log)
+  withheld leave (Flush log s w mark) = all_ruled Withheld s w (by_flush mark) _ (kept_for s w (kept_in leave log)) (kept_in leave log) (withheld_flush mark) (withheld leave log)
 
   -- and nothing is due of it
   clear_paid : (a : Attachment S) → may_wait a.last ≡ false → Withheld a → IsPaid a
@@ -145,7 +116,7 @@ module _ {S : Type 0} (s w : ℕ) where
   -- one of the observer stands at the place, and none before it
   record First (kept : List (Attachment S)) (i : ℕ) (a : Attachment S) : Type 0 where
     pub found : kept_for s w kept ≡ Some a
-    pub left_out : drop i (without s w kept) ≡ drop (suc i) kept
+    pub left_out : drop i (of_others s w kept) ≡ drop (suc i) kept
     pub put_in : (b : Attachment S) → drop i (replaced s w b kept) ≡ b ∷ drop (suc i) kept
 
   none_there : (kept : List (Attachment S)) (i : ℕ) (a : Attachment S) → slice_get kept i ≡ Some a → is_of s w a ≡ true → kept_for s w kept ≡ None → ⊥
@@ -162,14 +133,14 @@ module _ {S : Type 0} (s w : ℕ) where
   first_here : (c : Attachment S) (kept : List (Attachment S)) → is_of s w c ≡ true → First (c ∷ kept) 0 c
   first_here c kept test = record {
     found = ap (λ b. if b then Some c else kept_for s w kept) test;
-    left_out = ap (λ (b : Bool). (if b then kept else c ∷ without s w kept)) test;
+    left_out = ap (λ (b : Bool). (if b then kept else c ∷ of_others s w kept)) test;
     put_in = λ b. ap (λ (t : Bool). (if t then b ∷ kept else c ∷ replaced s w b kept)) test;
   }
 
   first_later : (c a : Attachment S) (kept : List (Attachment S)) (i : ℕ) → is_of s w c ≡ false → First kept i a → First (c ∷ kept) (suc i) a
   first_later c a kept i test f = record {
     found = ap (λ b. if b then Some c else kept_for s w kept) test ∙ f.found;
-    left_out = ap (λ (b : Bool). drop (suc i) (if b then kept else c ∷ without s w kept)) test ∙ f.left_out;
+    left_out = ap (λ (b : Bool). drop (suc i) (if b then kept else c ∷ of_others s w kept)) test ∙ f.left_out;
     put_in = λ b. ap (λ (t : Bool). drop (suc i) (if t then b ∷ kept else c ∷ replaced s w b kept)) test ∙ f.put_in b;
   }
 
@@ -186,26 +157,24 @@ module _ {S : Type 0} (s w : ℕ) where
         | inr test ↦ first_later c a kept i test (first kept i a is key apart.1)
       ]
 
-  pays_settle : (kept : List (Attachment S)) (i : ℕ) (a b : Attachment S) (flow : Flow) (leaves held_back : Bool) (took : ℕ) → First kept i a
-      → b.last ≡ Some (Flushes flow) → (held_back ≡ true → flow ≡ Stuck)
-      → AllByRecursion IsPaid (drop (suc i) kept) → AllByRecursion IsPaid (drop i (settled leaves held_back s w b took kept).kept)
-  pays_settle kept i a b flow true held_back took f last stuck all = subst (AllByRecursion IsPaid) (sym f.left_out) all
-  pays_settle kept i a b flow false true took f last stuck all = subst (AllByRecursion IsPaid) (sym (f.put_in b)) ((flow, last, inr (stuck refl)), all)
-  pays_settle kept i a b flow false false took f last stuck all = subst (AllByRecursion IsPaid) (sym (f.put_in (paid b))) ((flow, last, inl refl), all)
+  -- those from the place on after a ruling about it
+  abbrev PaysFrom : List (Attachment S) → ℕ → Ruling S → Type 0
+  PaysFrom kept i ruling = AllByRecursion IsPaid (drop i (kept_by s w ruling kept))
 
-  pays_write : (kept : List (Attachment S)) (i : ℕ) (a : Attachment S) (mark : Mark) → First kept i a
-      → AllByRecursion IsPaid (drop (suc i) kept) → AllByRecursion IsPaid (drop i (written mark s w a kept).kept)
-  pays_write kept i a (Fine flow) f all =
-      pays_settle kept i a (with_flush flow a) flow (a.over && is_clear flow) (is_held_back flow a.due) 0 f refl (held_stuck flow a.due) all
-  pays_write kept i a Fault f all = subst (AllByRecursion IsPaid) (sym f.left_out) all
-  pays_write kept i a NoMemory f all = subst (AllByRecursion IsPaid) (sym f.left_out) all
+  pays_answer : (kept : List (Attachment S)) (i : ℕ) (a b : Attachment S) (flow : Flow) → First kept i a → b.last ≡ Some (Flushes flow)
+      → AllByRecursion IsPaid (drop (suc i) kept) → PaysFrom kept i (by_answer flow b)
+  pays_answer kept i a b flow f last all =
+      answer_does (PaysFrom kept i) flow b (λ leaves. subst (AllByRecursion IsPaid) (sym f.left_out) all)
+      (λ held. subst (AllByRecursion IsPaid) (sym (f.put_in b)) ((flow, last, inr (held_stuck flow b.due held)), all))
+      (subst (AllByRecursion IsPaid) (sym (f.put_in (paid b))) ((flow, last, inl refl), all))
 
   -- those from the place on are paid where those behind it were
   pub pays_flush : (kept : List (Attachment S)) (i : ℕ) (a : Attachment S) (mark : Mark) → slice_get kept i ≡ Some a → is_of s w a ≡ true → Apart kept
-      → AllByRecursion IsPaid (drop (suc i) kept) → AllByRecursion IsPaid (drop i (flushed mark s w (kept_for s w kept) kept).kept)
+      → AllByRecursion IsPaid (drop (suc i) kept) → AllByRecursion IsPaid (drop i (ruled s w (by_flush mark) (λ b. false) (kept_for s w kept) kept).kept)
   pays_flush kept i a mark is key apart all =
       let f = first kept i a is key apart in
-      subst (λ (o : Option (Attachment S)). AllByRecursion IsPaid (drop i (flushed mark s w o kept).kept)) (sym f.found) (pays_write kept i a mark f all)
+      subst (λ (o : Option (Attachment S)). AllByRecursion IsPaid (drop i (ruled s w (by_flush mark) (λ b. false) o kept).kept)) (sym f.found)
+      (flush_does (PaysFrom kept i) mark a (λ flow. pays_answer kept i a (with_flush flow a) flow f refl all) (subst (AllByRecursion IsPaid) (sym f.left_out) all))
 
 module _ {S Rest : Type 0} (acts : Acts S Rest) (leave : ℕ) (log : Log S) (kept : List (Kept S)) (zip : AllZip (IsKept acts) (kept_in leave log) kept) where
   -- a sink in which nothing waits needs no flush

@@ -8,7 +8,7 @@ use Rattle.rx_mailbox.specs.declared.letter.Letter.{Letter}
 use Rattle.rx_mailbox.specs.declared.letter.Post.{Post}
 use Rattle.rx_mailbox.specs.declared.letter.Post.TheVariants.{Body, Bye}
 use Rattle.rx_mailbox.specs.Letters.{share, ends, has_bye}
-use Rattle.rx_mailbox.specs.Boxes.{Outgoing, Incoming, HasEachBye, incoming, with_letter}
+use Rattle.rx_mailbox.specs.Boxes.{Outgoing, Incoming, HasEachBye, incoming, with_letter, with_letters}
 use Rattle.rx_pump.specs.declared.call.Call.{Call}
 use Rattle.rx_pump.specs.declared.out.Out.{Out}
 use Rattle.rx_pump.specs.Pumps.{AreSame, port_place}
@@ -17,7 +17,7 @@ use Rattle.rx_pump.proofs.Pumping.{HavePut-fresh, AreSame-length}
 use Rattle.rx_sink.specs.declared.kept.Kept.{Kept}
 use Rattle.rx_sink.specs.declared.put_away.PutAway.{PutAway}
 use Rattle.rx_sink.specs.Acts.{Acts}
-use Rattle.rx_sink.specs.Attachments.{Attachment, Mark, flushed, kept_for}
+use Rattle.rx_sink.specs.Attachments.{Attachment, Mark, flushing}
 use Rattle.rx_sink.specs.KeptSinks.{IsKept, IsPutAway, addressed}
 use Rattle.rx_drain.specs.declared.drainer.drain_end.DrainEnd.{DrainEnd}
 use Rattle.rx_drain.specs.declared.drainer.drain_fault.DrainFault.{DrainFault}
@@ -26,7 +26,7 @@ use Rattle.rx_drain.specs.declared.drainer.drain_stop.DrainStop.{DrainStop}
 use Rattle.rx_drain.specs.Logs.{Log, NoLetters, Next, Flush, letters, has_left, letter_change, kept_in, sent_in}
 use Rattle.rx_drain.proofs.Changing.{post_change}
 use Rattle.rx_drain.specs.Credit.{IsPaid, AreAllPaid}
-use Rattle.rx_drain.specs.Drainers.{DrainerView, HaveSent, SentUpTo, StandsForLog, Drains, IsDrained, HandlesLetter, FlushesAll, Goes, Pays, KeepsDrainer, TakesMore, TakesSome, forgetful, with_letters, view_of}
+use Rattle.rx_drain.specs.Drainers.{DrainerView, HaveSent, SentUpTo, StandsForLog, Drains, IsDrained, HandlesLetter, FlushesAll, HasGoneOn, Pays, KeepsDrainer, TakesMore, TakesSome, forgetful, view_of}
 use Rattle.rx_drain.specs.Serving.{HasDrained, DrainerHasStopped}
 
 pub bool_cases : (b : Bool) → (b ≡ true) ⊎ (b ≡ false)
@@ -63,7 +63,7 @@ module _ {S : Type 0} where
 
   pub kept_none : (leave : ℕ) (log : Log S) → has_left leave log ≡ true → kept_in leave log ≡ []
   kept_none leave NoLetters is = refl
-  kept_none leave (Flush log s w mark) is = ap (λ (k : List (Attachment S)). (flushed mark s w (kept_for s w k) k).kept) (kept_none leave log is)
+  kept_none leave (Flush log s w mark) is = ap (λ (k : List (Attachment S)). ((flushing s w).changed mark k).kept) (kept_none leave log is)
   kept_none leave (Next log x mark) is = kept_step leave log x mark (has_left leave log) refl is (kept_none leave log)
 
 module _ {S Rest : Type 0} (acts : Acts S Rest) where
@@ -126,7 +126,7 @@ module _ {S Rest : Type 0} (acts : Acts S Rest) where
   -- a letter came
   pub goes_letter : (before mid after : DrainerView S Rest) (x : Letter (Out S)) → before.fault ≡ None
       → mid ≡ record before { inbox = mid.inbox; fault = None } → mid.inbox ≡ with_letter before.inbox x → after.inbox ≡ mid.inbox
-      → AreSame mid.ports after.ports → HandlesLetter acts x mid after → Goes acts before after
+      → AreSame mid.ports after.ports → HandlesLetter acts x mid after → HasGoneOn acts before after
   goes_letter before mid after x whole mid_is received kept same handles log d =
       let P : DrainerView S Rest → Type 0 = λ v. StandsForLog acts (length v.ports) log v in
       let base : P (record before { inbox = mid.inbox; fault = None }) = record {
@@ -146,11 +146,11 @@ module _ {S Rest : Type 0} (acts : Acts S Rest) where
       )
 
   -- nothing came
-  pub goes_nowhere : (view : DrainerView S Rest) → Goes acts view view
+  pub goes_nowhere : (view : DrainerView S Rest) → HasGoneOn acts view view
   goes_nowhere view log d = (log, d)
 
   -- more came
-  pub goes_further : (first second third : DrainerView S Rest) → Goes acts first second → Goes acts second third → Goes acts first third
+  pub goes_further : (first second third : DrainerView S Rest) → HasGoneOn acts first second → HasGoneOn acts second third → HasGoneOn acts first third
   goes_further first second third a b log d = (let one = a log d in b one.0 one.1)
 
   -- sinks were flushed
@@ -210,7 +210,7 @@ module _ {S Rest : Type 0} (acts : Acts S Rest) where
   )
 
   -- a turn
-  pub drained_turn : (first second third : DrainerView S Rest) → Goes acts first second → Pays acts second third → IsDrained acts first → IsDrained acts third
+  pub drained_turn : (first second third : DrainerView S Rest) → HasGoneOn acts first second → Pays acts second third → IsDrained acts first → IsDrained acts third
   drained_turn first second third a b (log, d, paid) =
       let one = a log d in
       let two = b one.0 one.1 in (two.0, two.1, two.2)

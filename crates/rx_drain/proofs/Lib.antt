@@ -1,5 +1,6 @@
 pub mod Events
 pub mod Changing
+mod Rulings
 pub mod Standing
 pub mod Ending
 pub mod Taking

@@ -1,5 +1,5 @@
 -- What is sent for each attachment of a log.
-use Rattle.std.proofs.Common.{◌≡◌, ◌≢◌, ◌∙◌, sym, refl, ap, subst, ℕ, zero, suc, ◌+◌, ◌≤◌, ◌==◌, ◌&&◌, ◌⊎◌, inl, inr, if◌then◌else◌, Bool, true, false, List, [], ◌∷◌, ◌++◌, append_assoc, append-nil, length, replicate, Option, Some, None, slice_get, eq-eqb, arith}
+use Rattle.std.proofs.Common.{◌≡◌, ◌≢◌, ◌∙◌, sym, refl, ap, subst, ℕ, zero, suc, ◌+◌, ◌≤◌, ◌==◌, ◌⊎◌, inl, inr, if◌then◌else◌, Bool, true, false, List, [], ◌∷◌, ◌++◌, append_assoc, append-nil, length, replicate, Option, Some, None, slice_get, eq-eqb, arith}
 use Rattle.std.proofs.lemmas.Bool.Decides.{eqb_tells}
 use Rattle.std.proofs.lemmas.List.{map-append, replicate_more}
 use Rattle.std.specs.List.{AllByRecursion}
@@ -14,13 +14,14 @@ use Rattle.rx_pump.specs.declared.out.Out.{Out}
 use Rattle.rx_pump.specs.declared.out.Out.TheVariants.{Attach, Give, Detach}
 use Rattle.rx_pump.proofs.Placing.{slice_get-append_left, slice_get-append_right}
 use Rattle.rx_sink.specs.declared.flow.Flow.{Flow}
-use Rattle.rx_sink.specs.Attachments.{Attachment, Why, TookLast, Detached, FailedAtStart, FailedAt, FailedAtFlush, Mark, Fine, Fault, NoMemory, Sent, Change, is_clear, is_held_back, is_last, is_of, kept_for, without, replaced, with_note, with_flush, paid, request, requests, dispose, parting, partings, attached, notified, settled, serving, served_yet, flushed, written, detached, let_go, closed, brought}
+use Rattle.rx_sink.specs.Attachments.{Attachment, Why, Detached, FailedAtStart, Mark, Fine, Fault, NoMemory, Sent, Change, Ruling, AsItWas, HoldsBack, PaysAll, LetsGo, PutsAway, is_last, is_of, kept_for, of_others, replaced, with_note, with_flush, paid, request, requests, dispose, parting, partings, by_note, has_taken, by_flush, by_leaving, sends_by, carried_out, ruled, attached, closed, brought}
 use Rattle.rx_drain.specs.Logs.{Log, NoLetters, Next, Flush, letters, has_left, letter_change, kept_in, change, flush_change, gone_in, sent_in}
 use Rattle.rx_drain.proofs.Changing.{post_change, post_by}
+use Rattle.rx_drain.proofs.Rulings.{About, about_note, about_flush, about_leaving, all_but, answer_does, note_does, flush_does, leaving_does}
 use Rattle.rx_drain.specs.Once.{times, found_by, missed_by, place_by, letter_by, found_in, missed_at}
 use Rattle.rx_drain.specs.Served.{AttachCame}
 use Rattle.rx_drain.specs.Sent.{item_requests, at_end, sent_for, to_subject, asked, dues, asked_in_all, IsSentForEach}
-use Rattle.rx_drain.proofs.Counting.{times-append, kept_places, gone_places, below, without_places, same, once, once_in_all, misses}
+use Rattle.rx_drain.proofs.Counting.{times-append, kept_places, gone_places, below, others_places, same, once, once_in_all, misses}
 use Rattle.rx_drain.proofs.Taking.{all_append, some_split}
 
 -- EVENTS OF A PLACE
@@ -155,23 +156,14 @@ module _ {S : Type 0} where
   found_has P s w a [] is all = cc
   found_has P s w a (c ∷ kept) is all = found_step P s w c a kept is all.0 (λ later. found_has P s w a kept later all.1)
 
-  all_either : (P : Attachment S → Type 0) (b : Bool) (c : Attachment S) (kept rest : List (Attachment S)) → P c → AllByRecursion P kept → AllByRecursion P rest
-      → AllByRecursion P (if b then kept else c ∷ rest)
-  all_either P true c kept rest here all more = all
-  all_either P false c kept rest here all more = (here, more)
-
-  all_without : (P : Attachment S → Type 0) (s w : ℕ) (kept : List (Attachment S)) → AllByRecursion P kept → AllByRecursion P (without s w kept)
-  all_without P s w [] all = tt
-  all_without P s w (c ∷ kept) all = all_either P (is_of s w c) c kept (without s w kept) all.0 all.1 (all_without P s w kept all.1)
-
   -- it is left out, and events of its place are sent
-  asked_without : (s w : ℕ) (a : Attachment S) (kept : List (Attachment S)) (xs ys : List Sent) → kept_for s w kept ≡ Some a → times a.place (kept_places kept) ≤ 1
-      → Only a.place ys → Asked xs kept → Asked (xs ++ ys) (without s w kept)
-  asked_without s w a kept xs ys is few only all =
-      let count = without_places a.place s w a kept is in
-      let none : times a.place (kept_places (without s w kept)) ≡ 0 = omega (arith, count, times_self a.place, few) in
-      all_keep_due (λ (d : Attachment S). d.place) dues asked xs ys a.place (without s w kept) only (none_kept a.place (without s w kept) none)
-      (all_without (λ d. sent_for d.place xs ++ dues d ≡ asked d) s w kept all)
+  asked_others : (s w : ℕ) (a : Attachment S) (kept : List (Attachment S)) (xs ys : List Sent) → kept_for s w kept ≡ Some a → times a.place (kept_places kept) ≤ 1
+      → Only a.place ys → Asked xs kept → Asked (xs ++ ys) (of_others s w kept)
+  asked_others s w a kept xs ys is few only all =
+      let count = others_places a.place s w a kept is in
+      let none : times a.place (kept_places (of_others s w kept)) ≡ 0 = omega (arith, count, times_self a.place, few) in
+      all_keep_due (λ (d : Attachment S). d.place) dues asked xs ys a.place (of_others s w kept) only (none_kept a.place (of_others s w kept) none)
+      (all_but (λ d. sent_for d.place xs ++ dues d ≡ asked d) s w kept all)
 
   replaced_step : (s w : ℕ) (c a b : Attachment S) (kept : List (Attachment S)) (xs ys : List Sent) → kept_for s w (c ∷ kept) ≡ Some a
       → times a.place (kept_places (c ∷ kept)) ≤ 1 → Only a.place ys → Asked xs (c ∷ kept) → sent_for b.place (xs ++ ys) ++ dues b ≡ asked b
@@ -186,7 +178,7 @@ module _ {S : Type 0} where
             subst (λ (t : Bool). Asked (xs ++ ys) (if t then b ∷ kept else c ∷ replaced s w b kept)) (sym test)
             (now, all_keep_due (λ (d : Attachment S). d.place) dues asked xs ys a.place kept only (none_kept a.place kept none) all.1))
         | inr (test, next) ↦
-            (let count = without_places a.place s w a kept next in
+            (let count = others_places a.place s w a kept next in
             let tail : 1 ≤ times a.place (kept_places kept) = omega (arith, count, times_self a.place) in
             let apart : c.place ≢ a.place = λ same.
             (let e : times a.place (kept_places (c ∷ kept)) ≡ 1 + times a.place (kept_places kept) =
@@ -223,6 +215,23 @@ module _ {S : Type 0} where
   record Told (xs : List Sent) (gone : List (Attachment S × Why)) (c : Change S) : Type 0 where
     pub still : Asked (xs ++ c.sends) c.kept
     pub ended : AskedAll (xs ++ c.sends) (gone ++ c.gone)
+
+  -- by a ruling that puts it away its observer is disposed of
+  abbrev Disposes : Ruling S → Type 0
+  Disposes AsItWas = Unit {0}
+  Disposes (HoldsBack a) = Unit {0}
+  Disposes (PaysAll a) = Unit {0}
+  Disposes (LetsGo a) = Unit {0}
+  Disposes (PutsAway a why) = at_end a.who why ≡ Dispose a.who ∷ []
+
+  disposes_note : (mark : Mark) (note : Note) (a : Attachment S) → Disposes (by_note mark note a)
+  disposes_note mark note a = note_does Disposes mark note a (λ over. tt) (λ flow yet. answer_does Disposes flow (with_note note flow a) (λ leaves. refl) (λ held. tt) tt) (λ yet. refl)
+
+  disposes_flush : (mark : Mark) (a : Attachment S) → Disposes (by_flush mark a)
+  disposes_flush mark a = flush_does Disposes mark a (λ flow. answer_does Disposes flow (with_flush flow a) (λ leaves. refl) (λ held. tt) tt) refl
+
+  disposes_leaving : (a : Attachment S) → Disposes (by_leaving a)
+  disposes_leaving a = leaving_does Disposes a (λ over. refl) (λ yet. tt)
 
   -- DISPOSALS AT THE END
 
@@ -274,7 +283,7 @@ module _ {S : Type 0} where
       )
 
   module _ (xs : List Sent) (kept : List (Attachment S)) (gone : List (Attachment S × Why)) (few : Few kept gone) (kept_all : Asked xs kept) (gone_all : AskedAll xs gone) where
-    told_idle : Told xs gone (record { kept = kept; gone = []; sends = []; missed = 0; took = 0 })
+    told_idle : Told xs gone (record { kept = kept; gone = []; sends = []; missed = false; took = false })
     told_idle = record { still = idle_kept xs kept kept_all; ended = idle_gone xs gone gone_all }
 
     -- events of a place where none of those that have ended stands
@@ -317,29 +326,27 @@ module _ {S : Type 0} where
       few_here = omega (arith, few a.place)
 
       none_there : times a.place (gone_places gone) ≡ 0
-      none_there = (let count = without_places a.place s w a kept is in omega (arith, count, times_self a.place, few a.place))
+      none_there = (let count = others_places a.place s w a kept is in omega (arith, count, times_self a.place, few a.place))
 
       so_far : sent_for a.place xs ++ dues a ≡ asked a
       so_far = found_has (λ (d : Attachment S). sent_for d.place xs ++ dues d ≡ asked d) s w a kept is kept_all
 
       -- one item more, for which one more is due, or a terminal, for which nothing is due
-      note_due : (l : Bool) (note : Note) (flow : Flow) → is_last note ≡ l → sent_for a.place xs ++ dues (with_note l note flow a) ≡ asked (with_note l note flow a)
+      note_due : (l : Bool) (note : Note) (flow : Flow) → is_last note ≡ l → sent_for a.place xs ++ dues (with_note note flow a) ≡ asked (with_note note flow a)
       note_due false note flow last =
-          ap (λ l. sent_for a.place xs ++ to_subject a l) (sym (replicate_more a.due (Request a.who 1)))
+          ap (λ l. sent_for a.place xs ++ to_subject a (replicate (if l then a.due else a.due + 1) (Request a.who 1))) last
+          ∙ ap (λ l. sent_for a.place xs ++ to_subject a l) (sym (replicate_more a.due (Request a.who 1)))
           ∙ ap (λ l. sent_for a.place xs ++ l) (map-append (λ (event : Event). (a.subject, event)) (replicate a.due (Request a.who 1)) (Request a.who 1 ∷ []))
           ∙ sym (append_assoc (sent_for a.place xs) (dues a) (to_subject a (Request a.who 1 ∷ []))) ∙ ap (λ l. l ++ to_subject a (Request a.who 1 ∷ [])) so_far
           ∙ sym (map-append (λ (event : Event). (a.subject, event)) (item_requests a.who a.taken) (Request a.who 1 ∷ []))
           ∙ ap (to_subject a) (sym (item_requests_more a.who a.taken note ∙ ap (λ t. item_requests a.who a.taken ++ (if t then [] else Request a.who 1 ∷ [])) last))
       note_due true note flow last =
-          so_far ∙ ap (to_subject a) (sym (item_requests_more a.who a.taken note ∙ ap (λ t. item_requests a.who a.taken ++ (if t then [] else Request a.who 1 ∷ [])) last ∙ append-nil (item_requests a.who a.taken)))
-
-      note_place : (l : Bool) (note : Note) (flow : Flow) → (with_note l note flow a).place ≡ a.place
-      note_place true note flow = refl
-      note_place false note flow = refl
+          ap (λ l. sent_for a.place xs ++ to_subject a (replicate (if l then a.due else a.due + 1) (Request a.who 1))) last
+          ∙ so_far ∙ ap (to_subject a) (sym (item_requests_more a.who a.taken note ∙ ap (λ t. item_requests a.who a.taken ++ (if t then [] else Request a.who 1 ∷ [])) last ∙ append-nil (item_requests a.who a.taken)))
 
       -- it goes on, and is asked for all that is due
-      told_cleared : (b : Attachment S) (took : ℕ) → b.place ≡ a.place → sent_for b.place xs ++ dues b ≡ asked b
-          → Told xs gone (record { kept = replaced s w (paid b) kept; gone = []; sends = requests b; missed = 0; took = took })
+      told_cleared : (b : Attachment S) (took : Bool) → b.place ≡ a.place → sent_for b.place xs ++ dues b ≡ asked b
+          → Told xs gone (record { kept = replaced s w (paid b) kept; gone = []; sends = requests b; missed = false; took = took })
       told_cleared b took place now =
           let only : Only a.place (requests b) = λ n other. many_other b.due n b (λ same. other (same ∙ place)) in
           record {
@@ -349,69 +356,68 @@ module _ {S : Type 0} where
           }
 
       -- it goes on, and nothing is asked for
-      told_waits : (b : Attachment S) (took : ℕ) → sent_for b.place xs ++ dues b ≡ asked b
-          → Told xs gone (record { kept = replaced s w b kept; gone = []; sends = []; missed = 0; took = took })
+      told_waits : (b : Attachment S) (took : Bool) → sent_for b.place xs ++ dues b ≡ asked b
+          → Told xs gone (record { kept = replaced s w b kept; gone = []; sends = []; missed = false; took = took })
       told_waits b took now = record {
         still = asked_replaced s w a b kept xs [] is few_here (λ n other. refl) kept_all (keep_due b.place xs [] (dues b) (asked b) refl now);
         ended = gone_only [] (gone_stays [] a.place (λ n other. refl) none_there);
       }
 
       -- it has ended
-      told_ended : (b : Attachment S) (why : Why) (took : ℕ) → b.place ≡ a.place → at_end b.who why ≡ Dispose b.who ∷ [] → sent_for b.place xs ++ dues b ≡ asked b
-          → Told xs gone (record { kept = without s w kept; gone = (paid b, why) ∷ []; sends = parting b; missed = 0; took = took })
+      told_ended : (b : Attachment S) (why : Why) (took : Bool) → b.place ≡ a.place → at_end b.who why ≡ Dispose b.who ∷ [] → sent_for b.place xs ++ dues b ≡ asked b
+          → Told xs gone (record { kept = of_others s w kept; gone = (paid b, why) ∷ []; sends = parting b; missed = false; took = took })
       told_ended b why took place end now =
           let only : Only a.place (parting b) = λ n other. parting_other n b (λ same. other (same ∙ place)) in
           record {
-            still = asked_without s w a kept xs (parting b) is few_here only kept_all;
+            still = asked_others s w a kept xs (parting b) is few_here only kept_all;
             ended = gone_more (parting b) (paid b, why) (gone_stays (parting b) a.place only none_there)
                 (in_all xs (parting b) b (Dispose b.who ∷ []) now (parting_here b) ∙ ap (λ l. to_subject b (item_requests b.who b.taken ++ l)) (sym end));
           }
 
-      told_settle : (leaves held_back : Bool) (b : Attachment S) (took : ℕ) → b.place ≡ a.place → sent_for b.place xs ++ dues b ≡ asked b
-          → Told xs gone (settled leaves held_back s w b took kept)
-      told_settle true held_back b took place now = (let t = told_ended b TookLast took place refl now in record { still = t.still; ended = t.ended })
-      told_settle false true b took place now = (let t = told_waits b took now in record { still = t.still; ended = t.ended })
-      told_settle false false b took place now = (let t = told_cleared b took place now in record { still = t.still; ended = t.ended })
+      -- what is due of what the attachment has come to is still to be sent for its place
+      record Owes (b : Attachment S) : Type 0 where
+        pub place : b.place ≡ a.place
+        pub now : sent_for b.place xs ++ dues b ≡ asked b
 
-      told_serve : (mark : Mark) (note : Note) → Told xs gone (serving mark s w note a kept)
-      told_serve (Fine flow) note =
-          (let b = with_note (is_last note) note flow a in
-          let place = note_place (is_last note) note flow in
-          told_settle (b.over && is_clear flow) (is_held_back flow b.due) b 1 place
-          (ap (λ (n : ℕ). sent_for n xs ++ dues b) place ∙ note_due (is_last note) note flow refl))
-      told_serve Fault note = (let t = told_ended a (FailedAt note) 0 refl refl so_far in record { still = t.still; ended = t.ended })
-      told_serve NoMemory note = (let t = told_ended a (FailedAt note) 0 refl refl so_far in record { still = t.still; ended = t.ended })
+      owes_same : Owes a
+      owes_same = record { place = refl; now = so_far }
 
-      told_serve_yet : (mark : Mark) (o : Bool) (note : Note) → Told xs gone (served_yet o mark s w note a kept)
-      told_serve_yet mark true note = told_idle
-      told_serve_yet mark false note = told_serve mark note
+      owes_note : (note : Note) (flow : Flow) → Owes (with_note note flow a)
+      owes_note note flow = record { place = refl; now = note_due (is_last note) note flow refl }
 
-      told_write : (mark : Mark) → Told xs gone (written mark s w a kept)
-      told_write (Fine flow) = told_settle (a.over && is_clear flow) (is_held_back flow a.due) (with_flush flow a) 0 refl so_far
-      told_write Fault = (let t = told_ended a FailedAtFlush 0 refl refl so_far in record { still = t.still; ended = t.ended })
-      told_write NoMemory = (let t = told_ended a FailedAtFlush 0 refl refl so_far in record { still = t.still; ended = t.ended })
+      owes_flush : (flow : Flow) → Owes (with_flush flow a)
+      owes_flush flow = record { place = refl; now = so_far }
 
-      told_lets_go : (o : Bool) → Told xs gone (let_go o s w a kept)
-      told_lets_go false =
-          let only : Only a.place (requests a) = λ n other. many_other a.due n a other in
+      told_ruling : (ruling : Ruling S) (took : Bool) → About Owes ruling → Disposes ruling → Told xs gone (carried_out s w ruling took kept)
+      told_ruling AsItWas took owes ends = record { still = idle_kept xs kept kept_all; ended = idle_gone xs gone gone_all }
+      told_ruling (HoldsBack b) took owes ends = (let t = told_waits b took owes.now in record { still = t.still; ended = t.ended })
+      told_ruling (PaysAll b) took owes ends = (let t = told_cleared b took owes.place owes.now in record { still = t.still; ended = t.ended })
+      told_ruling (LetsGo b) took owes ends =
+          let only : Only a.place (requests b) = λ n other. many_other b.due n b (λ same. other (same ∙ owes.place)) in
           record {
-            still = asked_without s w a kept xs (requests a) is few_here only kept_all;
-            ended = gone_more (requests a) (paid a, Detached) (gone_stays (requests a) a.place only none_there)
-                (in_all xs (requests a) a [] so_far (many_here a.due a ∙ sym (append-nil (dues a))));
+            still = asked_others s w a kept xs (requests b) is few_here only kept_all;
+            ended = gone_more (requests b) (paid b, Detached) (gone_stays (requests b) a.place only none_there)
+                (in_all xs (requests b) b [] owes.now (many_here b.due b ∙ sym (append-nil (dues b))));
           }
-      told_lets_go true = (let t = told_ended a TookLast 0 refl refl so_far in record { still = t.still; ended = t.ended })
+      told_ruling (PutsAway b why) took owes ends = (let t = told_ended b why took owes.place ends owes.now in record { still = t.still; ended = t.ended })
 
-    told_give : (s w : ℕ) (note : Note) (mark : Mark) (o : Option (Attachment S)) → kept_for s w kept ≡ o → Told xs gone (notified mark s w note o kept)
-    told_give s w note mark None is = told_idle
-    told_give s w note mark (Some a) is = told_serve_yet s w a is mark a.over note
+    told_ruled : (s w : ℕ) (rule : Attachment S → Ruling S) (took : Attachment S → Bool) (o : Option (Attachment S)) → kept_for s w kept ≡ o
+        → ((a : Attachment S) (is : kept_for s w kept ≡ Some a) → About (Owes s w a is) (rule a)) → ((a : Attachment S) → Disposes (rule a)) → Told xs gone (ruled s w rule took o kept)
+    told_ruled s w rule took None is owes ends = told_idle
+    told_ruled s w rule took (Some a) is owes ends = told_ruling s w a is (rule a) (took a) (owes a is) (ends a)
 
-    told_flush : (s w : ℕ) (mark : Mark) (o : Option (Attachment S)) → kept_for s w kept ≡ o → Told xs gone (flushed mark s w o kept)
-    told_flush s w mark None is = told_idle
-    told_flush s w mark (Some a) is = told_write s w a is mark
+    told_give : (s w : ℕ) (note : Note) (mark : Mark) → Told xs gone (ruled s w (by_note mark note) (has_taken mark) (kept_for s w kept) kept)
+    told_give s w note mark =
+        told_ruled s w (by_note mark note) (has_taken mark) (kept_for s w kept) refl
+        (λ a is. about_note (Owes s w a is) mark note a (owes_same s w a is) (owes_note s w a is note)) (disposes_note mark note)
 
-    told_detach : (s w : ℕ) (o : Option (Attachment S)) → kept_for s w kept ≡ o → Told xs gone (detached s w o kept)
-    told_detach s w None is = told_idle
-    told_detach s w (Some a) is = told_lets_go s w a is a.over
+    told_flush : (s w : ℕ) (mark : Mark) → Told xs gone (ruled s w (by_flush mark) (λ a. false) (kept_for s w kept) kept)
+    told_flush s w mark =
+        told_ruled s w (by_flush mark) (λ a. false) (kept_for s w kept) refl
+        (λ a is. about_flush (Owes s w a is) mark a (owes_same s w a is) (owes_flush s w a is)) (disposes_flush mark)
+
+    told_detach : (s w : ℕ) → Told xs gone (ruled s w by_leaving (λ a. false) (kept_for s w kept) kept)
+    told_detach s w = told_ruled s w by_leaving (λ a. false) (kept_for s w kept) refl (λ a is. about_leaving (Owes s w a is) a (owes_same s w a is)) disposes_leaving
 
     told_post : (b : Bool) (place from : ℕ) (post : Post (Out S)) (mark : Mark) → sent_for place xs ≡ [] → times place (kept_places kept) ≡ 0 → times place (gone_places gone) ≡ 0
         → Told xs gone (post_change b place from post mark kept)
@@ -423,8 +429,8 @@ module _ {S : Type 0} where
     }
     told_post false place from Bye mark fresh unkept unended = told_idle
     told_post false place from (Body (Attach w sink)) mark fresh unkept unended = told_attach place from w sink mark (kept_for from w kept) fresh unkept unended
-    told_post false place from (Body (Give w note)) mark fresh unkept unended = told_give from w note mark (kept_for from w kept) refl
-    told_post false place from (Body (Detach w)) mark fresh unkept unended = told_detach from w (kept_for from w kept) refl
+    told_post false place from (Body (Give w note)) mark fresh unkept unended = told_give from w note mark
+    told_post false place from (Body (Detach w)) mark fresh unkept unended = told_detach from w
 
     told_letter : (b : Bool) (leave place : ℕ) (x : Letter (Out S)) (mark : Mark) → sent_for place xs ≡ [] → times place (kept_places kept) ≡ 0 → times place (gone_places gone) ≡ 0
         → Told xs gone (letter_change b leave place x mark kept)
@@ -461,46 +467,28 @@ module _ {S : Type 0} where
           | inr (test, other) ↦ inl (ap (λ t. (if t then 1 else 0) + 0) test, sent_other n (dispose (brought place from w sink)) (λ same. other (sym same)))
         ]
 
-    quiet_settle : (s w : ℕ) (leaves held_back : Bool) (b : Attachment S) (took : ℕ) → b.place ≢ n → sent_for n (settled leaves held_back s w b took kept).sends ≡ []
-    quiet_settle s w true held_back b took other = parting_other n b (λ same. other (sym same))
-    quiet_settle s w false true b took other = refl
-    quiet_settle s w false false b took other = many_other b.due n b (λ same. other (sym same))
+    quiet_ruling : (ruling : Ruling S) → About (λ (b : Attachment S). b.place ≢ n) ruling → sent_for n (sends_by ruling) ≡ []
+    quiet_ruling AsItWas other = refl
+    quiet_ruling (HoldsBack b) other = refl
+    quiet_ruling (PaysAll b) other = many_other b.due n b (λ same. other (sym same))
+    quiet_ruling (LetsGo b) other = many_other b.due n b (λ same. other (sym same))
+    quiet_ruling (PutsAway b why) other = parting_other n b (λ same. other (sym same))
 
-    note_elsewhere : (l : Bool) (note : Note) (flow : Flow) (a : Attachment S) → a.place ≢ n → (with_note l note flow a).place ≢ n
-    note_elsewhere true note flow a other = other
-    note_elsewhere false note flow a other = other
+    quiet_ruled : (s w : ℕ) (rule : Attachment S → Ruling S) (took : Attachment S → Bool) (o : Option (Attachment S)) → kept_for s w kept ≡ o
+        → ((a : Attachment S) → a.place ≢ n → About (λ (b : Attachment S). b.place ≢ n) (rule a)) → sent_for n (ruled s w rule took o kept).sends ≡ []
+    quiet_ruled s w rule took None is other = refl
+    quiet_ruled s w rule took (Some a) is other = quiet_ruling (rule a) (other a (found_has (λ (d : Attachment S). d.place ≢ n) s w a kept is apart))
 
-    quiet_serve : (s w : ℕ) (note : Note) (mark : Mark) (a : Attachment S) → a.place ≢ n → sent_for n (serving mark s w note a kept).sends ≡ []
-    quiet_serve s w note (Fine flow) a other =
-        (let b = with_note (is_last note) note flow a in
-        quiet_settle s w (b.over && is_clear flow) (is_held_back flow b.due) b 1 (note_elsewhere (is_last note) note flow a other))
-    quiet_serve s w note Fault a other = parting_other n a (λ same. other (sym same))
-    quiet_serve s w note NoMemory a other = parting_other n a (λ same. other (sym same))
+    quiet_give : (s w : ℕ) (note : Note) (mark : Mark) → sent_for n (ruled s w (by_note mark note) (has_taken mark) (kept_for s w kept) kept).sends ≡ []
+    quiet_give s w note mark =
+        quiet_ruled s w (by_note mark note) (has_taken mark) (kept_for s w kept) refl (λ a other. about_note (λ (b : Attachment S). b.place ≢ n) mark note a other (λ flow. other))
 
-    quiet_serve_yet : (s w : ℕ) (note : Note) (mark : Mark) (o : Bool) (a : Attachment S) → a.place ≢ n → sent_for n (served_yet o mark s w note a kept).sends ≡ []
-    quiet_serve_yet s w note mark true a other = refl
-    quiet_serve_yet s w note mark false a other = quiet_serve s w note mark a other
+    quiet_flush : (s w : ℕ) (mark : Mark) → sent_for n (ruled s w (by_flush mark) (λ a. false) (kept_for s w kept) kept).sends ≡ []
+    quiet_flush s w mark =
+        quiet_ruled s w (by_flush mark) (λ a. false) (kept_for s w kept) refl (λ a other. about_flush (λ (b : Attachment S). b.place ≢ n) mark a other (λ flow. other))
 
-    quiet_give : (s w : ℕ) (note : Note) (mark : Mark) (o : Option (Attachment S)) → kept_for s w kept ≡ o → sent_for n (notified mark s w note o kept).sends ≡ []
-    quiet_give s w note mark None is = refl
-    quiet_give s w note mark (Some a) is = quiet_serve_yet s w note mark a.over a (found_has (λ (d : Attachment S). d.place ≢ n) s w a kept is apart)
-
-    quiet_write : (s w : ℕ) (mark : Mark) (a : Attachment S) → a.place ≢ n → sent_for n (written mark s w a kept).sends ≡ []
-    quiet_write s w (Fine flow) a other = quiet_settle s w (a.over && is_clear flow) (is_held_back flow a.due) (with_flush flow a) 0 other
-    quiet_write s w Fault a other = parting_other n a (λ same. other (sym same))
-    quiet_write s w NoMemory a other = parting_other n a (λ same. other (sym same))
-
-    quiet_flush : (s w : ℕ) (mark : Mark) (o : Option (Attachment S)) → kept_for s w kept ≡ o → sent_for n (flushed mark s w o kept).sends ≡ []
-    quiet_flush s w mark None is = refl
-    quiet_flush s w mark (Some a) is = quiet_write s w mark a (found_has (λ (d : Attachment S). d.place ≢ n) s w a kept is apart)
-
-    quiet_let_go : (s w : ℕ) (o : Bool) (a : Attachment S) → a.place ≢ n → sent_for n (let_go o s w a kept).sends ≡ []
-    quiet_let_go s w false a other = many_other a.due n a (λ same. other (sym same))
-    quiet_let_go s w true a other = parting_other n a (λ same. other (sym same))
-
-    quiet_detach : (s w : ℕ) (o : Option (Attachment S)) → kept_for s w kept ≡ o → sent_for n (detached s w o kept).sends ≡ []
-    quiet_detach s w None is = refl
-    quiet_detach s w (Some a) is = quiet_let_go s w a.over a (found_has (λ (d : Attachment S). d.place ≢ n) s w a kept is apart)
+    quiet_detach : (s w : ℕ) → sent_for n (ruled s w by_leaving (λ a. false) (kept_for s w kept) kept).sends ≡ []
+    quiet_detach s w = quiet_ruled s w by_leaving (λ a. false) (kept_for s w kept) refl (λ a other. about_leaving (λ (b : Attachment S). b.place ≢ n) a other)
 
     quiet_post : (b : Bool) (place from : ℕ) (post : Post (Out S)) (mark : Mark) → times n (gone_places (post_change b place from post mark kept).gone) ≡ 0
         → Quiet n place (post_by missed_by b place from post mark kept) (letter from post) (post_change b place from post mark kept)
@@ -508,8 +496,8 @@ module _ {S : Type 0} where
     quiet_post true place from Bye mark none = inl (refl, none_sent n kept apart)
     quiet_post false place from Bye mark none = inl (refl, refl)
     quiet_post false place from (Body (Attach w sink)) mark none = quiet_attach place from w sink mark (kept_for from w kept) none
-    quiet_post false place from (Body (Give w note)) mark none = inl (refl, quiet_give from w note mark (kept_for from w kept) refl)
-    quiet_post false place from (Body (Detach w)) mark none = inl (refl, quiet_detach from w (kept_for from w kept) refl)
+    quiet_post false place from (Body (Give w note)) mark none = inl (refl, quiet_give from w note mark)
+    quiet_post false place from (Body (Detach w)) mark none = inl (refl, quiet_detach from w)
 
     quiet_letter : (b : Bool) (leave place : ℕ) (x : Letter (Out S)) (mark : Mark) → times n (gone_places (letter_change b leave place x mark kept).gone) ≡ 0
         → Quiet n place (letter_by missed_by b leave place x mark kept) x (letter_change b leave place x mark kept)
@@ -590,7 +578,7 @@ module _ {S : Type 0} (leave : ℕ) where
       let after = same leave (Flush log s w mark) n in
       let before = same leave log n in
       let was : times n (kept_places (kept_in leave log)) + times n (gone_places (gone_in leave log)) ≡ 0 = omega (arith, none, after, before) in
-      let quiet = quiet_flush n (kept_in leave log) (none_kept n (kept_in leave log) (omega (arith, was))) s w mark (kept_for s w (kept_in leave log)) refl in
+      let quiet = quiet_flush n (kept_in leave log) (none_kept n (kept_in leave log) (omega (arith, was))) s w mark in
       other_keeps (missed_at leave log) (sent_in leave log) c.sends (letters log) n quiet (h.others n was)
 
   holds : (log : Log S) → Holds log
@@ -604,7 +592,7 @@ module _ {S : Type 0} (leave : ℕ) where
       record { kept = t.still; gone = t.ended; others = holds_others log x mark h }
   holds (Flush log s w mark) =
       let h = holds log in
-      let t = told_flush (sent_in leave log) (kept_in leave log) (gone_in leave log) (few_in log) h.kept h.gone s w mark (kept_for s w (kept_in leave log)) refl in
+      let t = told_flush (sent_in leave log) (kept_in leave log) (gone_in leave log) (few_in log) h.kept h.gone s w mark in
       record { kept = t.still; gone = t.ended; others = other_flush log s w mark h }
 
 -- a place that was missed, or was not

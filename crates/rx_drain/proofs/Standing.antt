@@ -19,36 +19,27 @@ use Rattle.rx_pump.proofs.Pumping.{HavePut-puts, HavePut-same, AreSame-puts}
 use Rattle.rx_pump.proofs.Leaving.{AreSame-byes, HaveEnded-byes, HaveEndedSome-some, EndsSome-first}
 use Rattle.rx_sink.specs.declared.flow.Flow.TheVariants.{Clear}
 use Rattle.rx_sink.specs.declared.kept.Kept.{Kept}
-use Rattle.rx_sink.specs.Acts.{Acts, raised}
-use Rattle.rx_sink.specs.Attachments.{Attachment, Why, Mark, Fine, Change, brought, flushing, kept_for, unchanged, left, closed, dispose, requests, parting, partings, request}
+use Rattle.rx_sink.specs.Acts.{Acts}
+use Rattle.rx_sink.specs.Attachments.{Attachment, Why, Mark, Fine, Change, flushing, kept_for, unchanged, left, closed, dispose, requests, parting, partings, request, by_flush}
 use Rattle.rx_sink.specs.KeptSinks.{Stand, Tends, IsKept, IsPutAway, addressed, sinks, tallied}
-use Rattle.rx_sink.proofs.Counts.{missed_attached, missed_notified, missed_flushed, missed_detached, took_attached, took_notified, took_flushed, took_detached}
+use Rattle.rx_sink.proofs.Counts.{none_missed, none_taken}
 use Rattle.rx_drain.specs.declared.drainer.drain_fault.DrainFault.{DrainFault}
 use Rattle.rx_drain.specs.declared.drainer.drain_fault.DrainFault.TheVariants.{InboxGone, SubjectGone}
 use Rattle.rx_drain.specs.Calls.{calls_to, parting_of, partings_of, SendsEvents}
-use Rattle.rx_drain.specs.Logs.{Log, Next, Flush, letters, has_left, out_change, service_of, letter_change, kept_in, change, flush_change, gone_in, sent_in, missed_in, taken_in, put_by}
+use Rattle.rx_drain.specs.Logs.{Log, Next, Flush, letters, has_left, out_change, service_of, letter_change, kept_in, change, flush_change, gone_in, sent_in, missed_in, one_if, taken_in, put_by}
 use Rattle.rx_drain.proofs.Changing.{post_change}
 use Rattle.rx_drain.specs.Drainers.{DrainerView, IsOfSubject, HaveSent, SentUpTo, StandsForLog, HandlesLetter}
 use Rattle.rx_drain.proofs.Events.{calls_to-append}
 
-module _ {S : Type 0} where
-  -- a letter misses one sink at most
-  missed_out : (place subject : ℕ) (out : Out S) (mark : Mark) (kept : List (Attachment S))
-      → ((out_change place subject out mark kept).missed ≡ 0) ⊎ ((out_change place subject out mark kept).missed ≡ 1)
-  missed_out place subject (Attach who sink) mark kept = missed_attached mark (brought place subject who sink) (kept_for subject who kept) kept
-  missed_out place subject (Give who note) mark kept = inl (missed_notified mark subject who note (kept_for subject who kept) kept)
-  missed_out place subject (Detach who) mark kept = inl (missed_detached subject who (kept_for subject who kept) kept)
+tallied-more : (m n : ℕ) (more : Bool) → m ≡ min n (2 ^ 64 - 1) → tallied m more ≡ min (n + one_if more) (2 ^ 64 - 1)
+tallied-more m n false is = omega (arith, is)
+tallied-more m n true is = omega (arith, is)
 
-  -- by a letter one note is taken at most
-  took_out : (place subject : ℕ) (out : Out S) (mark : Mark) (kept : List (Attachment S))
-      → ((out_change place subject out mark kept).took ≡ 0) ⊎ ((out_change place subject out mark kept).took ≡ 1)
-  took_out place subject (Attach who sink) mark kept = inl (took_attached mark (brought place subject who sink) (kept_for subject who kept) kept)
-  took_out place subject (Give who note) mark kept = took_notified mark subject who note (kept_for subject who kept) kept
-  took_out place subject (Detach who) mark kept = inl (took_detached subject who (kept_for subject who kept) kept)
-
-tallied-more : (m n k : ℕ) → m ≡ min n (2 ^ 64 - 1) → (k ≡ 0) ⊎ (k ≡ 1) → tallied m k ≡ min (n + k) (2 ^ 64 - 1)
-tallied-more m n k is (inl none) = ap (tallied m) none ∙ (let e : m ≡ min (n + k) (2 ^ 64 - 1) = omega (arith, is, none) in e)
-tallied-more m n k is (inr one) = ap (tallied m) one ∙ (let e : raised m ≡ min (n + k) (2 ^ 64 - 1) = omega (arith, is, one) in e)
+-- what a subject sends comes to its own observers
+of_subject : {S : Type 0} (place subject : ℕ) (out : Out S) → (service_of place subject out).subject ≡ subject
+of_subject place subject (Attach who sink) = refl
+of_subject place subject (Give who note) = refl
+of_subject place subject (Detach who) = refl
 
 -- WHAT THE PORTS HAVE PUT
 
@@ -193,8 +184,8 @@ module _ {S Rest : Type 0} (acts : Acts S Rest) where
   record Changed (leave : ℕ) (log : Log S) (after : DrainerView S Rest) (c : Change S) : Type 0 where
     pub sent : SentUpTo after.fault after.left (addressed (sent_in leave log) ++ addressed c.sends) after.ports
     pub sinks : Stand acts c.kept (gone_in leave log ++ c.gone) after.kept after.away
-    pub missed : after.misses ≡ min (missed_in leave log + c.missed) (2 ^ 64 - 1)
-    pub took : after.taken ≡ min (taken_in leave log + c.took) (2 ^ 64 - 1)
+    pub missed : after.misses ≡ min (missed_in leave log + one_if c.missed) (2 ^ 64 - 1)
+    pub took : after.taken ≡ min (taken_in leave log + one_if c.took) (2 ^ 64 - 1)
 
   stands_next : (leave : ℕ) (log : Log S) (x : Letter (Out S)) (mark : Mark) (after : DrainerView S Rest) (c : Change S)
       → change leave log x mark ≡ c → after.left ≡ has_left leave (Next log x mark) → Changed leave log after c → StandsForLog acts leave (Next log x mark) after
@@ -251,20 +242,21 @@ module _ {S Rest : Type 0} (acts : Acts S Rest) where
   -- a letter of a subject before that
   pub stands_served : (leave : ℕ) (log : Log S) (from : ℕ) (out : Out S) (before after : DrainerView S Rest) (ended a b : List (Outgoing (Call S))) (events : List Event) (back : Option S)
       → ended ≡ [] → before.ports ≡ ended ++ a → after.ports ≡ ended ++ b → before.left ≡ false → after.left ≡ false → before.fault ≡ None → (from == leave) ≡ false
-      → ((place : ℕ) → Tends acts (service_of place from out) from (sinks before.kept before.away before.misses before.taken) (sinks after.kept after.away after.misses after.taken) events back)
+      → ((place : ℕ) → Tends acts (service_of place from out) (sinks before.kept before.away before.misses before.taken) (sinks after.kept after.away after.misses after.taken) events back)
       → SendsEvents after.fault (map (λ event. (from, event)) events) a b
       → StandsForLog acts leave log before → (mark : Mark) × StandsForLog acts leave (Next log (letter from (Body out)) mark) after
   stands_served leave log from out before after ended a b events back none before_ports after_ports left_is left_after whole test serves sends s =
       let was : has_left leave log ≡ false = sym s.left ∙ left_is in
       let place = length (letters log) in
       let did = serves place (kept_in leave log) (gone_in leave log) s.sinks in
-      let mark = did.0 in
+      let mark = did.mark in
       let c = out_change place from out mark (kept_in leave log) in
       let sent = addressed (sent_in leave log) in
       let have : HaveSent false (λ d. calls_to d sent) a =
       subst (HaveSent false (λ d. calls_to d sent)) (before_ports ∙ all_open ended a none) (sent_whole before.fault before.left sent before.ports whole left_is s.sent) in
+      let told : map (λ event. (from, event)) events ≡ addressed c.sends = ap (λ (n : ℕ). map (λ event. (n, event)) events) (sym (of_subject place from out)) ∙ did.did.sends in
       let have_now : SentUpTo after.fault false (sent ++ addressed c.sends) b =
-      sent_same after.fault false _ _ b (ap (λ (l : List (ℕ × Event)). sent ++ l) did.1.sends) (have_more after.fault sent _ a b have sends) in (
+      sent_same after.fault false _ _ b (ap (λ (l : List (ℕ × Event)). sent ++ l) told) (have_more after.fault sent _ a b have sends) in (
         mark,
         stands_next leave log (letter from (Body out)) mark after c
             (ap (λ k. letter_change k leave place (letter from (Body out)) mark (kept_in leave log)) was ∙ ap (λ k. post_change k place from (Body out) mark (kept_in leave log)) test)
@@ -272,9 +264,9 @@ module _ {S Rest : Type 0} (acts : Acts S Rest) where
             (record {
               sent = subst (λ (l : Bool). SentUpTo after.fault l (sent ++ addressed c.sends) after.ports) (sym left_after)
                   (subst (SentUpTo after.fault false (sent ++ addressed c.sends)) (sym (after_ports ∙ all_open ended b none)) have_now);
-              sinks = did.1.stand;
-              missed = did.2 ∙ tallied-more before.misses (missed_in leave log) c.missed s.missed (missed_out place from out mark (kept_in leave log));
-              took = did.3 ∙ tallied-more before.taken (taken_in leave log) c.took s.took (took_out place from out mark (kept_in leave log));
+              sinks = did.did.stand;
+              missed = did.misses ∙ tallied-more before.misses (missed_in leave log) c.missed s.missed;
+              took = did.taken ∙ tallied-more before.taken (taken_in leave log) c.took s.took;
             }),
       )
 
@@ -282,20 +274,20 @@ module _ {S Rest : Type 0} (acts : Acts S Rest) where
   pub stands_flushed : (leave : ℕ) (log : Log S) (subject who : ℕ) (before after : DrainerView S Rest) (ended a b : List (Outgoing (Call S))) (events : List Event)
       → ended ≡ [] → before.ports ≡ ended ++ a → after.ports ≡ ended ++ b → before.left ≡ false → after.left ≡ false → before.fault ≡ None
       → after.misses ≡ before.misses → after.taken ≡ before.taken
-      → ((misses taken : ℕ) → Tends acts (flushing subject who) subject (sinks before.kept before.away misses taken) (sinks after.kept after.away misses taken) events None)
+      → ((misses taken : ℕ) → Tends acts (flushing subject who) (sinks before.kept before.away misses taken) (sinks after.kept after.away misses taken) events None)
       → SendsEvents after.fault (map (λ event. (subject, event)) events) a b
       → StandsForLog acts leave log before → (mark : Mark) × StandsForLog acts leave (Flush log subject who mark) after
   stands_flushed leave log subject who before after ended a b events none before_ports after_ports left_is left_after whole same_misses same_taken flushes sends s =
       let did = flushes before.misses before.taken (kept_in leave log) (gone_in leave log) s.sinks in
-      let mark = did.0 in
+      let mark = did.mark in
       let c = flush_change leave log subject who mark in
-      let no_miss : c.missed ≡ 0 = missed_flushed mark subject who (kept_for subject who (kept_in leave log)) (kept_in leave log) in
-      let none_taken : c.took ≡ 0 = took_flushed mark subject who (kept_for subject who (kept_in leave log)) (kept_in leave log) in
+      let no_miss : one_if c.missed ≡ 0 = ap one_if (none_missed subject who (by_flush mark) (λ a. false) (kept_for subject who (kept_in leave log)) (kept_in leave log)) in
+      let no_note : one_if c.took ≡ 0 = ap one_if (none_taken subject who (by_flush mark) (kept_for subject who (kept_in leave log)) (kept_in leave log)) in
       let sent = addressed (sent_in leave log) in
       let have : HaveSent false (λ d. calls_to d sent) a =
       subst (HaveSent false (λ d. calls_to d sent)) (before_ports ∙ all_open ended a none) (sent_whole before.fault before.left sent before.ports whole left_is s.sent) in
       let have_now : SentUpTo after.fault false (sent ++ addressed c.sends) b =
-      sent_same after.fault false _ _ b (ap (λ (l : List (ℕ × Event)). sent ++ l) did.1.sends) (have_more after.fault sent _ a b have sends) in
+      sent_same after.fault false _ _ b (ap (λ (l : List (ℕ × Event)). sent ++ l) did.did.sends) (have_more after.fault sent _ a b have sends) in
       let sent_now : sent ++ addressed c.sends ≡ addressed (sent_in leave (Flush log subject who mark)) = sym (map-append _ (sent_in leave log) c.sends) in (
         mark,
         record {
@@ -303,9 +295,9 @@ module _ {S Rest : Type 0} (acts : Acts S Rest) where
           sent = sent_same after.fault after.left _ _ after.ports sent_now
               (subst (λ (l : Bool). SentUpTo after.fault l (sent ++ addressed c.sends) after.ports) (sym left_after)
               (subst (SentUpTo after.fault false (sent ++ addressed c.sends)) (sym (after_ports ∙ all_open ended b none)) have_now));
-          sinks = did.1.stand;
+          sinks = did.did.stand;
           missed = omega (arith, same_misses, s.missed, no_miss);
-          took = omega (arith, same_taken, s.took, none_taken);
+          took = omega (arith, same_taken, s.took, no_note);
         },
       )
 

@@ -11,12 +11,13 @@ use Rattle.rx_pump.specs.declared.out.Out.{Out}
 use Rattle.rx_pump.specs.declared.out.Out.TheVariants.{Attach, Give, Detach}
 use Rattle.rx_pump.proofs.Placing.{slice_get-append_left, slice_get-append_right}
 use Rattle.rx_sink.specs.declared.flow.Flow.{Flow}
-use Rattle.rx_sink.specs.Attachments.{Attachment, Why, TookLast, Detached, Closed, FailedAtStart, FailedAt, FailedAtFlush, Mark, Fine, Fault, NoMemory, Change, Apart, is_clear, is_held_back, is_last, is_of, kept_for, without, replaced, with_note, with_flush, paid, attached, notified, settled, serving as serve_note, served_yet, flushed, written, detached, let_go, closed, brought}
+use Rattle.rx_sink.specs.Attachments.{Attachment, Why, TookLast, Detached, Closed, FailedAtStart, FailedAt, FailedAtFlush, Mark, Fine, Fault, NoMemory, Change, Ruling, AsItWas, HoldsBack, PaysAll, LetsGo, PutsAway, Apart, is_clear, is_last, is_of, kept_for, of_others, replaced, with_note, with_flush, paid, by_answer, by_note, has_taken, by_flush, by_leaving, carried_out, ruled, attached, closed, brought}
 use Rattle.rx_drain.specs.Logs.{Log, NoLetters, Next, Flush, letters, has_left, letter_change, kept_in, change, flush_change, gone_in}
 use Rattle.rx_drain.proofs.Changing.{post_change}
+use Rattle.rx_drain.proofs.Rulings.{answer_does, note_does, flush_does, leaving_does, all_but, all_with}
 use Rattle.rx_drain.specs.Served.{Bearing, Bears, Stops, Passes, from_leave, from_subject, bearing, notes_in, TookOf, bearings, served, AttachCame, SinksTook}
-use Rattle.rx_sink.proofs.Apartness.{apart_but, apart_push, apart_with, both_true, key_is, none_replaced, none_split, none_without}
-use Rattle.rx_drain.proofs.Ending.{bool_cases, kept_none}
+use Rattle.rx_sink.proofs.Apartness.{apart_but, apart_push, apart_with, both_true, key_is, none_replaced, none_split, none_of_others}
+use Rattle.rx_drain.proofs.Ending.{kept_none}
 
 -- ONE BEARING MORE
 
@@ -92,6 +93,10 @@ none_either false = refl
 no_either : (b : Bool) → (if b then false else false) ≡ false
 no_either true = refl
 no_either false = refl
+
+turned : (b : Bool) → (if b then false else true) ≡ not b
+turned true = refl
+turned false = refl
 
 so_either : (b : Bool) → (if b then true else false) ≡ b
 so_either true = refl
@@ -170,19 +175,13 @@ module _ {S : Type 0} (leave : ℕ) where
   open_paid xs a o = record { at = o.at; within = o.within; taken = o.taken; still = o.still }
 
   -- it took a note more
-  open_note : (xs : List (Letter (Out S))) (x : Letter (Out S)) (a : Attachment S) (l : Bool) (note : Note) (flow : Flow) → Open xs a → a.over ≡ false → bearing leave a x ≡ Bears note
-      → is_last note ≡ l → Open (xs ++ x ∷ []) (with_note l note flow a)
-  open_note xs x a false note flow o yet is last = record {
+  open_note : (xs : List (Letter (Out S))) (x : Letter (Out S)) (a : Attachment S) (note : Note) (flow : Flow) → Open xs a → a.over ≡ false → bearing leave a x ≡ Bears note
+      → Open (xs ++ x ∷ []) (with_note note flow a)
+  open_note xs x a note flow o yet is = record {
     at = slice_get-append_left xs (x ∷ []) a.place _ o.at;
     within = longer xs x a.place o.within;
-    taken = ap (λ (l : List Note). l ++ note ∷ []) o.taken ∙ sym (served_by xs x a (Bears note) o yet is ∙ ap (λ t. served leave a xs ++ note ∷ (if t then [] else [])) last);
-    still = open_by xs x a (Bears note) o yet is ∙ ap (λ t. if t then false else true) last ∙ sym (ap not yet);
-  }
-  open_note xs x a true note flow o yet is last = record {
-    at = slice_get-append_left xs (x ∷ []) a.place _ o.at;
-    within = longer xs x a.place o.within;
-    taken = ap (λ (l : List Note). l ++ note ∷ []) o.taken ∙ sym (served_by xs x a (Bears note) o yet is ∙ ap (λ t. served leave a xs ++ note ∷ (if t then [] else [])) last);
-    still = open_by xs x a (Bears note) o yet is ∙ ap (λ t. if t then false else true) last;
+    taken = ap (λ (l : List Note). l ++ note ∷ []) o.taken ∙ sym (served_by xs x a (Bears note) o yet is ∙ ap (λ (l : List Note). served leave a xs ++ note ∷ l) (none_either (is_last note)));
+    still = open_by xs x a (Bears note) o yet is ∙ turned (is_last note);
   }
 
   -- it was flushed
@@ -308,10 +307,10 @@ module _ {S : Type 0} (leave s w : ℕ) (xs : List (Letter (Out S))) (x : Letter
   record FoundIn (kept : List (Attachment S)) (a : Attachment S) : Type 0 where
     pub is_open_yet : Open leave xs a
     pub key : is_of s w a ≡ true
-    pub rest : AllOpen leave (xs ++ x ∷ []) (without s w kept)
+    pub rest : AllOpen leave (xs ++ x ∷ []) (of_others s w kept)
     pub with_same : Open leave (xs ++ x ∷ []) a → AllOpen leave (xs ++ x ∷ []) kept
     pub with_other : (b : Attachment S) → Open leave (xs ++ x ∷ []) b → AllOpen leave (xs ++ x ∷ []) (replaced s w b kept)
-    pub apart_rest : Apart (without s w kept)
+    pub apart_rest : Apart (of_others s w kept)
     pub apart_other : (b : Attachment S) → b.subject ≡ s → b.who ≡ w → Apart (replaced s w b kept)
 
   found_here : (c a : Attachment S) (kept : List (Attachment S)) → PassesOthers → is_of s w c ≡ true → c ≡ a → Apart (c ∷ kept) → AllOpen leave xs (c ∷ kept) → FoundIn (c ∷ kept) a
@@ -322,10 +321,10 @@ module _ {S : Type 0} (leave s w : ℕ) (xs : List (Letter (Out S))) (x : Letter
       record {
         is_open_yet = subst (λ (d : Attachment S). Open leave xs d) same all.0;
         key = subst (λ (d : Attachment S). is_of s w d ≡ true) same test;
-        rest = subst (λ (t : Bool). AllOpen leave (xs ++ x ∷ []) (if t then kept else c ∷ without s w kept)) (sym test) passed;
+        rest = subst (λ (t : Bool). AllOpen leave (xs ++ x ∷ []) (if t then kept else c ∷ of_others s w kept)) (sym test) passed;
         with_same = λ o. (subst (λ (d : Attachment S). Open leave (xs ++ x ∷ []) d) (sym same) o, passed);
         with_other = λ b o. subst (λ (t : Bool). AllOpen leave (xs ++ x ∷ []) (if t then b ∷ kept else c ∷ replaced s w b kept)) (sym test) (o, passed);
-        apart_rest = subst (λ (t : Bool). Apart (if t then kept else c ∷ without s w kept)) (sym test) apart.1;
+        apart_rest = subst (λ (t : Bool). Apart (if t then kept else c ∷ of_others s w kept)) (sym test) apart.1;
         apart_other = λ b subject who. subst (λ (t : Bool). Apart (if t then b ∷ kept else c ∷ replaced s w b kept)) (sym test) (
           subst (λ (n : ℕ). kept_for n b.who kept ≡ None) (sym subject) (subst (λ (n : ℕ). kept_for s n kept ≡ None) (sym who) none),
           apart.1,
@@ -338,10 +337,10 @@ module _ {S : Type 0} (leave s w : ℕ) (xs : List (Letter (Out S))) (x : Letter
       record {
         is_open_yet = f.is_open_yet;
         key = f.key;
-        rest = subst (λ (t : Bool). AllOpen leave (xs ++ x ∷ []) (if t then kept else c ∷ without s w kept)) (sym test) (passed, f.rest);
+        rest = subst (λ (t : Bool). AllOpen leave (xs ++ x ∷ []) (if t then kept else c ∷ of_others s w kept)) (sym test) (passed, f.rest);
         with_same = λ o. (passed, f.with_same o);
         with_other = λ b o. subst (λ (t : Bool). AllOpen leave (xs ++ x ∷ []) (if t then b ∷ kept else c ∷ replaced s w b kept)) (sym test) (passed, f.with_other b o);
-        apart_rest = subst (λ (t : Bool). Apart (if t then kept else c ∷ without s w kept)) (sym test) (none_without c.subject c.who s w kept apart.0, f.apart_rest);
+        apart_rest = subst (λ (t : Bool). Apart (if t then kept else c ∷ of_others s w kept)) (sym test) (none_of_others c.subject c.who s w kept apart.0, f.apart_rest);
         apart_other = λ b subject who. subst (λ (t : Bool). Apart (if t then b ∷ kept else c ∷ replaced s w b kept)) (sym test) (
           none_replaced c.subject c.who s w b kept subject who apart.0,
           f.apart_other b subject who,
@@ -396,6 +395,30 @@ passes_bye S true ours who other = cc
 passes_bye S false true who other = refl
 passes_bye S false false who other = refl
 
+-- WHAT IS DONE ABOUT AN ATTACHMENT
+
+module _ {S : Type 0} (leave : ℕ) (xs : List (Letter (Out S))) (s w : ℕ) where
+  -- an open attachment of the observer
+  record OpenFor (b : Attachment S) : Type 0 where
+    pub subject : b.subject ≡ s
+    pub who : b.who ≡ w
+    pub is_open_yet : Open leave xs b
+
+  paid_for : (b : Attachment S) → OpenFor b → OpenFor (paid b)
+  paid_for b o = record { subject = o.subject; who = o.who; is_open_yet = open_paid leave xs b o.is_open_yet }
+
+  -- the ruling leaves the attachment as the letters say
+  abbrev Fits : Attachment S → Ruling S → Type 0
+  Fits a AsItWas = Open leave xs a
+  Fits a (HoldsBack b) = OpenFor b
+  Fits a (PaysAll b) = OpenFor (paid b)
+  Fits a (LetsGo b) = Shut leave xs (paid b, Detached)
+  Fits a (PutsAway b why) = Shut leave xs (paid b, why)
+
+  fits_answer : (flow : Flow) (a b : Attachment S) → OpenFor b → Fits a (by_answer flow b)
+  fits_answer flow a b o =
+      answer_does (Fits a) flow b (λ leaves. shut_last leave xs b o.is_open_yet (both_true b.over (is_clear flow) leaves).0) (λ held. o) (paid_for b o)
+
 -- ONE LETTER MORE
 
 module _ {S : Type 0} (leave : ℕ) (xs : List (Letter (Out S))) where
@@ -430,66 +453,39 @@ module _ {S : Type 0} (leave : ℕ) (xs : List (Letter (Out S))) where
       shut_ones = tt;
     }
 
-    goes_settle : (from w : ℕ) (x : Letter (Out S)) (leaves held_back : Bool) (flow : Flow) (a b : Attachment S) (took : ℕ) → b.subject ≡ from → b.who ≡ w → Open leave (xs ++ x ∷ []) b
-        → (b.over && is_clear flow) ≡ leaves → FoundIn leave from w xs x kept a → Goes x (settled leaves held_back from w b took kept)
-    goes_settle from w x true held_back flow a b took subject who o leaves_is f =
-        record { open_ones = f.rest; apart = f.apart_rest; shut_ones = (shut_last leave _ b o (both_true b.over (is_clear flow) leaves_is).0, tt) }
-    goes_settle from w x false true flow a b took subject who o leaves_is f = record { open_ones = f.with_other b o; apart = f.apart_other b subject who; shut_ones = tt }
-    goes_settle from w x false false flow a b took subject who o leaves_is f =
-        record { open_ones = f.with_other (paid b) (open_paid leave _ b o); apart = f.apart_other (paid b) subject who; shut_ones = tt }
+    goes_ruling : (from w : ℕ) (x : Letter (Out S)) (a : Attachment S) (ruling : Ruling S) (took : Bool) → FoundIn leave from w xs x kept a → Fits leave (xs ++ x ∷ []) from w a ruling
+        → Goes x (carried_out from w ruling took kept)
+    goes_ruling from w x a AsItWas took f fits = record { open_ones = f.with_same fits; apart = apart; shut_ones = tt }
+    goes_ruling from w x a (HoldsBack b) took f fits = record { open_ones = f.with_other b fits.is_open_yet; apart = f.apart_other b fits.subject fits.who; shut_ones = tt }
+    goes_ruling from w x a (PaysAll b) took f fits = record { open_ones = f.with_other (paid b) fits.is_open_yet; apart = f.apart_other (paid b) fits.subject fits.who; shut_ones = tt }
+    goes_ruling from w x a (LetsGo b) took f fits = record { open_ones = f.rest; apart = f.apart_rest; shut_ones = (fits, tt) }
+    goes_ruling from w x a (PutsAway b why) took f fits = record { open_ones = f.rest; apart = f.apart_rest; shut_ones = (fits, tt) }
 
-    note_subject : (l : Bool) (note : Note) (flow : Flow) (a : Attachment S) → (with_note l note flow a).subject ≡ a.subject
-    note_subject true note flow a = refl
-    note_subject false note flow a = refl
+    goes_ruled : (from w : ℕ) (x : Letter (Out S)) (rule : Attachment S → Ruling S) (took : Attachment S → Bool) (o : Option (Attachment S)) → PassesOthers leave from w xs x → kept_for from w kept ≡ o
+        → ((a : Attachment S) → FoundIn leave from w xs x kept a → Fits leave (xs ++ x ∷ []) from w a (rule a)) → Goes x (ruled from w rule took o kept)
+    goes_ruled from w x rule took None others is fits = record { open_ones = none_pass leave from w xs x kept others is all; apart = apart; shut_ones = tt }
+    goes_ruled from w x rule took (Some a) others is fits =
+        (let f = found_in leave from w xs x kept a others is apart all in
+        let g = goes_ruling from w x a (rule a) (took a) f (fits a f) in record { open_ones = g.open_ones; apart = g.apart; shut_ones = g.shut_ones })
 
-    note_who : (l : Bool) (note : Note) (flow : Flow) (a : Attachment S) → (with_note l note flow a).who ≡ a.who
-    note_who true note flow a = refl
-    note_who false note flow a = refl
+    goes_give : (from w : ℕ) (note : Note) (mark : Mark) → (from == leave) ≡ false
+        → Goes (letter from (Body (Give w note))) (ruled from w (by_note mark note) (has_taken mark) (kept_for from w kept) kept)
+    goes_give from w note mark test =
+        let x = letter from (Body (Give w note)) in
+        goes_ruled from w x (by_note mark note) (has_taken mark) (kept_for from w kept) (λ a other. passes_give S (from == leave) (a.subject == from) a.who w note test other) refl
+        (λ a f.
+        (let key = key_is from w a f.key in
+        let bears = bears_give S (from == leave) (a.subject == from) a.who w note test f.key in
+        note_does (Fits leave (xs ++ x ∷ []) from w a) mark note a (open_over leave xs x a f.is_open_yet)
+        (λ flow yet. fits_answer leave (xs ++ x ∷ []) from w flow a (with_note note flow a) (record { subject = key.0; who = key.1; is_open_yet = open_note leave xs x a note flow f.is_open_yet yet bears }))
+        (λ yet. shut_fault leave xs x a note f.is_open_yet yet bears)))
 
-    goes_serve : (from w : ℕ) (note : Note) (mark : Mark) (a : Attachment S) → (from == leave) ≡ false → a.over ≡ false
-        → FoundIn leave from w xs (letter from (Body (Give w note))) kept a → Goes (letter from (Body (Give w note))) (serve_note mark from w note a kept)
-    goes_serve from w note (Fine flow) a test yet f =
-        let key = key_is from w a f.key in
-        let b = with_note (is_last note) note flow a in
-        goes_settle from w _ (b.over && is_clear flow) (is_held_back flow b.due) flow a b 1 (note_subject (is_last note) note flow a ∙ key.0) (note_who (is_last note) note flow a ∙ key.1)
-        (open_note leave xs _ a (is_last note) note flow f.is_open_yet yet (bears_give S (from == leave) (a.subject == from) a.who w note test f.key) refl) refl f
-    goes_serve from w note Fault a test yet f =
-        record { open_ones = f.rest; apart = f.apart_rest; shut_ones = (shut_fault leave xs _ a note f.is_open_yet yet (bears_give S (from == leave) (a.subject == from) a.who w note test f.key), tt) }
-    goes_serve from w note NoMemory a test yet f =
-        record { open_ones = f.rest; apart = f.apart_rest; shut_ones = (shut_fault leave xs _ a note f.is_open_yet yet (bears_give S (from == leave) (a.subject == from) a.who w note test f.key), tt) }
-
-    goes_serve_yet : (from w : ℕ) (note : Note) (mark : Mark) (o : Bool) (a : Attachment S) → (from == leave) ≡ false → a.over ≡ o
-        → FoundIn leave from w xs (letter from (Body (Give w note))) kept a → Goes (letter from (Body (Give w note))) (served_yet o mark from w note a kept)
-    goes_serve_yet from w note mark true a test over f = record { open_ones = f.with_same (open_over leave xs _ a f.is_open_yet over); apart = apart; shut_ones = tt }
-    goes_serve_yet from w note mark false a test over f =
-        let g = goes_serve from w note mark a test over f in record { open_ones = g.open_ones; apart = g.apart; shut_ones = g.shut_ones }
-
-    goes_give : (from w : ℕ) (note : Note) (mark : Mark) (o : Option (Attachment S)) → (from == leave) ≡ false → kept_for from w kept ≡ o
-        → Goes (letter from (Body (Give w note))) (notified mark from w note o kept)
-    goes_give from w note mark None test is = record {
-      open_ones = none_pass leave from w xs _ kept (λ a other. passes_give S (from == leave) (a.subject == from) a.who w note test other) is all;
-      apart = apart;
-      shut_ones = tt;
-    }
-    goes_give from w note mark (Some a) test is =
-        goes_serve_yet from w note mark a.over a test refl
-        (found_in leave from w xs _ kept a (λ b other. passes_give S (from == leave) (b.subject == from) b.who w note test other) is apart all)
-
-    goes_let_go : (from w : ℕ) (o : Bool) (a : Attachment S) → (from == leave) ≡ false → a.over ≡ o
-        → FoundIn leave from w xs (letter from (Body (Detach w))) kept a → Goes (letter from (Body (Detach w))) (let_go o from w a kept)
-    goes_let_go from w false a test over f = record { open_ones = f.rest; apart = f.apart_rest; shut_ones = (shut_detached leave xs _ a f.is_open_yet over (stops_detach S (from == leave) (a.subject == from) a.who w test f.key), tt) }
-    goes_let_go from w true a test over f = record { open_ones = f.rest; apart = f.apart_rest; shut_ones = (shut_last leave _ a (open_over leave xs _ a f.is_open_yet over) over, tt) }
-
-    goes_detach : (from w : ℕ) (o : Option (Attachment S)) → (from == leave) ≡ false → kept_for from w kept ≡ o
-        → Goes (letter from (Body (Detach w))) (detached from w o kept)
-    goes_detach from w None test is = record {
-      open_ones = none_pass leave from w xs _ kept (λ a other. passes_detach S (from == leave) (a.subject == from) a.who w test other) is all;
-      apart = apart;
-      shut_ones = tt;
-    }
-    goes_detach from w (Some a) test is =
-        goes_let_go from w a.over a test refl
-        (found_in leave from w xs (letter from (Body (Detach w))) kept a (λ b other. passes_detach S (from == leave) (b.subject == from) b.who w test other) is apart all)
+    goes_detach : (from w : ℕ) → (from == leave) ≡ false → Goes (letter from (Body (Detach w))) (ruled from w by_leaving (λ a. false) (kept_for from w kept) kept)
+    goes_detach from w test =
+        let x = letter from (Body (Detach w)) in
+        goes_ruled from w x by_leaving (λ a. false) (kept_for from w kept) (λ a other. passes_detach S (from == leave) (a.subject == from) a.who w test other) refl
+        (λ a f. leaving_does (Fits leave (xs ++ x ∷ []) from w a) a (λ over. shut_last leave (xs ++ x ∷ []) a (open_over leave xs x a f.is_open_yet over) over)
+        (λ yet. shut_detached leave xs x a f.is_open_yet yet (stops_detach S (from == leave) (a.subject == from) a.who w test f.key)))
 
     goes_post : (b : Bool) (from : ℕ) (post : Post (Out S)) (mark : Mark) → (from == leave) ≡ b → Goes (letter from post) (post_change b (length xs) from post mark kept)
     goes_post true from (Body out) mark test = record {
@@ -508,8 +504,8 @@ module _ {S : Type 0} (leave : ℕ) (xs : List (Letter (Out S))) where
       shut_ones = tt;
     }
     goes_post false from (Body (Attach w sink)) mark test = goes_attach from w sink mark (kept_for from w kept) test refl
-    goes_post false from (Body (Give w note)) mark test = goes_give from w note mark (kept_for from w kept) test refl
-    goes_post false from (Body (Detach w)) mark test = goes_detach from w (kept_for from w kept) test refl
+    goes_post false from (Body (Give w note)) mark test = goes_give from w note mark test
+    goes_post false from (Body (Detach w)) mark test = goes_detach from w test
 
     goes_letter : (b : Bool) (x : Letter (Out S)) (mark : Mark) → (b ≡ true → kept ≡ []) → Goes x (letter_change b leave (length xs) x mark kept)
     goes_letter true x mark none = record {
@@ -530,22 +526,6 @@ module _ {S : Type 0} where
         | inr (test, next) ↦ has_found P s w a kept next all.1
       ]
 
-  pub all_but : (P : Attachment S → Type 0) (s w : ℕ) (kept : List (Attachment S)) → AllByRecursion P kept → AllByRecursion P (without s w kept)
-  all_but P s w [] all = tt
-  all_but P s w (c ∷ kept) all =
-      elim (bool_cases (is_of s w c)) [
-        | inl test ↦ subst (λ (t : Bool). AllByRecursion P (if t then kept else c ∷ without s w kept)) (sym test) all.1
-        | inr test ↦ subst (λ (t : Bool). AllByRecursion P (if t then kept else c ∷ without s w kept)) (sym test) (all.0, all_but P s w kept all.1)
-      ]
-
-  pub all_with : (P : Attachment S → Type 0) (s w : ℕ) (b : Attachment S) (kept : List (Attachment S)) → P b → AllByRecursion P kept → AllByRecursion P (replaced s w b kept)
-  all_with P s w b [] here all = tt
-  all_with P s w b (c ∷ kept) here all =
-      elim (bool_cases (is_of s w c)) [
-        | inl test ↦ subst (λ (t : Bool). AllByRecursion P (if t then b ∷ kept else c ∷ replaced s w b kept)) (sym test) (here, all.1)
-        | inr test ↦ subst (λ (t : Bool). AllByRecursion P (if t then b ∷ kept else c ∷ replaced s w b kept)) (sym test) (all.0, all_with P s w b kept here all.1)
-      ]
-
 module _ {S : Type 0} (leave : ℕ) (xs : List (Letter (Out S))) (kept : List (Attachment S)) (all : AllOpen leave xs kept) (apart : Apart kept) where
   -- after a flush
   record Flows (c : Change S) : Type 0 where
@@ -553,30 +533,22 @@ module _ {S : Type 0} (leave : ℕ) (xs : List (Letter (Out S))) (kept : List (A
     pub apart_still : Apart c.kept
     pub shut_ones : AllShut leave xs c.gone
 
-  flows_settle : (s w : ℕ) (leaves held_back : Bool) (flow : Flow) (a b : Attachment S) (took : ℕ) → b.subject ≡ s → b.who ≡ w → Open leave xs b → (b.over && is_clear flow) ≡ leaves
-      → kept_for s w kept ≡ Some a → Flows (settled leaves held_back s w b took kept)
-  flows_settle s w true held_back flow a b took subject who o leaves_is is =
-      record { open_ones = all_but (Open leave xs) s w kept all; apart_still = apart_but s w kept apart; shut_ones = (shut_last leave xs b o (both_true b.over (is_clear flow) leaves_is).0, tt) }
-  flows_settle s w false true flow a b took subject who o leaves_is is =
-      record { open_ones = all_with (Open leave xs) s w b kept o all; apart_still = apart_with s w b kept subject who apart; shut_ones = tt }
-  flows_settle s w false false flow a b took subject who o leaves_is is =
-      record { open_ones = all_with (Open leave xs) s w (paid b) kept (open_paid leave xs b o) all; apart_still = apart_with s w (paid b) kept subject who apart; shut_ones = tt }
+  flows_ruling : (s w : ℕ) (a : Attachment S) (ruling : Ruling S) (took : Bool) → Fits leave xs s w a ruling → Flows (carried_out s w ruling took kept)
+  flows_ruling s w a AsItWas took fits = record { open_ones = all; apart_still = apart; shut_ones = tt }
+  flows_ruling s w a (HoldsBack b) took fits = record { open_ones = all_with (Open leave xs) s w b kept fits.is_open_yet all; apart_still = apart_with s w b kept fits.subject fits.who apart; shut_ones = tt }
+  flows_ruling s w a (PaysAll b) took fits =
+      record { open_ones = all_with (Open leave xs) s w (paid b) kept fits.is_open_yet all; apart_still = apart_with s w (paid b) kept fits.subject fits.who apart; shut_ones = tt }
+  flows_ruling s w a (LetsGo b) took fits = record { open_ones = all_but (Open leave xs) s w kept all; apart_still = apart_but s w kept apart; shut_ones = (fits, tt) }
+  flows_ruling s w a (PutsAway b why) took fits = record { open_ones = all_but (Open leave xs) s w kept all; apart_still = apart_but s w kept apart; shut_ones = (fits, tt) }
 
-  flows_write : (s w : ℕ) (mark : Mark) (a : Attachment S) → kept_for s w kept ≡ Some a → Flows (written mark s w a kept)
-  flows_write s w (Fine flow) a is =
+  flows : (s w : ℕ) (mark : Mark) (o : Option (Attachment S)) → kept_for s w kept ≡ o → Flows (ruled s w (by_flush mark) (λ a. false) o kept)
+  flows s w mark None is = record { open_ones = all; apart_still = apart; shut_ones = tt }
+  flows s w mark (Some a) is =
       let f = has_found (Open leave xs) s w a kept is all in
       let key = key_is s w a f.1 in
-      flows_settle s w (a.over && is_clear flow) (is_held_back flow a.due) flow a (with_flush flow a) 0 key.0 key.1 (open_flush leave xs a flow f.0) refl is
-  flows_write s w Fault a is =
-      let f = has_found (Open leave xs) s w a kept is all in
-      record { open_ones = all_but (Open leave xs) s w kept all; apart_still = apart_but s w kept apart; shut_ones = (shut_flush leave xs a f.0, tt) }
-  flows_write s w NoMemory a is =
-      let f = has_found (Open leave xs) s w a kept is all in
-      record { open_ones = all_but (Open leave xs) s w kept all; apart_still = apart_but s w kept apart; shut_ones = (shut_flush leave xs a f.0, tt) }
-
-  flows : (s w : ℕ) (mark : Mark) (o : Option (Attachment S)) → kept_for s w kept ≡ o → Flows (flushed mark s w o kept)
-  flows s w mark None is = record { open_ones = all; apart_still = apart; shut_ones = tt }
-  flows s w mark (Some a) is = flows_write s w mark a is
+      let fits = flush_does (Fits leave xs s w a) mark a
+      (λ flow. fits_answer leave xs s w flow a (with_flush flow a) (record { subject = key.0; who = key.1; is_open_yet = open_flush leave xs a flow f.0 })) (shut_flush leave xs a f.0) in
+      let g = flows_ruling s w a (by_flush mark a) false fits in record { open_ones = g.open_ones; apart_still = g.apart_still; shut_ones = g.shut_ones }
 
 -- ALL LETTERS
 

@@ -1,5 +1,5 @@
 -- The notes of a log are counted.
-use Rattle.std.proofs.Common.{◌≡◌, sym, refl, ap, subst, ℕ, ◌+◌, ◌==◌, ◌&&◌, inl, inr, if◌then◌else◌, Bool, true, false, List, [], ◌∷◌, ◌++◌, length, length-append, Option, Some, None, arith}
+use Rattle.std.proofs.Common.{◌≡◌, sym, refl, ap, subst, ℕ, ◌+◌, ◌==◌, inl, inr, if◌then◌else◌, Bool, true, false, not, List, [], ◌∷◌, ◌++◌, length, length-append, Option, Some, None, arith}
 use Rattle.rx_mailbox.specs.declared.letter.Letter.{Letter}
 use Rattle.rx_mailbox.specs.declared.letter.Post.{Post}
 use Rattle.rx_mailbox.specs.declared.letter.Post.TheVariants.{Body, Bye}
@@ -7,9 +7,10 @@ use Rattle.rx_note.specs.declared.note.Note.{Note}
 use Rattle.rx_pump.specs.declared.out.Out.{Out}
 use Rattle.rx_pump.specs.declared.out.Out.TheVariants.{Attach, Give, Detach}
 use Rattle.rx_sink.specs.declared.flow.Flow.{Flow}
-use Rattle.rx_sink.specs.Attachments.{Attachment, Why, Mark, Fine, Fault, NoMemory, Change, is_clear, is_held_back, is_last, is_of, kept_for, without, replaced, with_note, with_flush, paid, attached, notified, settled, serving, served_yet, flushed, written, detached, let_go, closed, brought}
-use Rattle.rx_drain.specs.Logs.{Log, NoLetters, Next, Flush, letters, has_left, letter_change, kept_in, change, flush_change, gone_in, taken_in}
+use Rattle.rx_sink.specs.Attachments.{Attachment, Why, Mark, Fine, Fault, NoMemory, Change, Ruling, AsItWas, HoldsBack, PaysAll, LetsGo, PutsAway, is_of, kept_for, of_others, replaced, with_note, with_flush, paid, by_answer, by_taking, by_note, has_taken, by_flush, by_leaving, carried_out, ruled, attached, closed, brought}
+use Rattle.rx_drain.specs.Logs.{Log, NoLetters, Next, Flush, letters, has_left, letter_change, kept_in, change, flush_change, gone_in, one_if, taken_in}
 use Rattle.rx_drain.proofs.Changing.{post_change}
+use Rattle.rx_drain.proofs.Rulings.{one_of, answer_does, flush_does, leaving_does}
 use Rattle.rx_drain.specs.Tallies.{notes_taken, notes_of_ended}
 use Rattle.rx_drain.proofs.Taking.{some_split}
 
@@ -26,22 +27,22 @@ module _ {S : Type 0} where
   closed_notes [] = refl
   closed_notes (a ∷ kept) = ap (λ n. length a.taken + n) (closed_notes kept)
 
-  without_step : (s w : ℕ) (c a : Attachment S) (kept : List (Attachment S)) → kept_for s w (c ∷ kept) ≡ Some a
-      → (kept_for s w kept ≡ Some a → notes_taken (without s w kept) + length a.taken ≡ notes_taken kept)
-      → notes_taken (without s w (c ∷ kept)) + length a.taken ≡ notes_taken (c ∷ kept)
-  without_step s w c a kept is next =
+  others_step : (s w : ℕ) (c a : Attachment S) (kept : List (Attachment S)) → kept_for s w (c ∷ kept) ≡ Some a
+      → (kept_for s w kept ≡ Some a → notes_taken (of_others s w kept) + length a.taken ≡ notes_taken kept)
+      → notes_taken (of_others s w (c ∷ kept)) + length a.taken ≡ notes_taken (c ∷ kept)
+  others_step s w c a kept is next =
       elim (some_split (is_of s w c) c a (kept_for s w kept) is) [
         | inl (test, same) ↦
             (let e : length c.taken ≡ length a.taken = ap (λ (d : Attachment S). length d.taken) same in
-            subst (λ (t : Bool). notes_taken (if t then kept else c ∷ without s w kept) + length a.taken ≡ notes_taken (c ∷ kept)) (sym test) (omega (arith, e)))
+            subst (λ (t : Bool). notes_taken (if t then kept else c ∷ of_others s w kept) + length a.taken ≡ notes_taken (c ∷ kept)) (sym test) (omega (arith, e)))
         | inr (test, later) ↦
             (let ih = next later in
-            subst (λ (t : Bool). notes_taken (if t then kept else c ∷ without s w kept) + length a.taken ≡ notes_taken (c ∷ kept)) (sym test) (omega (arith, ih)))
+            subst (λ (t : Bool). notes_taken (if t then kept else c ∷ of_others s w kept) + length a.taken ≡ notes_taken (c ∷ kept)) (sym test) (omega (arith, ih)))
       ]
 
-  without_notes : (s w : ℕ) (a : Attachment S) (kept : List (Attachment S)) → kept_for s w kept ≡ Some a → notes_taken (without s w kept) + length a.taken ≡ notes_taken kept
-  without_notes s w a [] is = cc
-  without_notes s w a (c ∷ kept) is = without_step s w c a kept is (without_notes s w a kept)
+  others_notes : (s w : ℕ) (a : Attachment S) (kept : List (Attachment S)) → kept_for s w kept ≡ Some a → notes_taken (of_others s w kept) + length a.taken ≡ notes_taken kept
+  others_notes s w a [] is = cc
+  others_notes s w a (c ∷ kept) is = others_step s w c a kept is (others_notes s w a kept)
 
   replaced_step : (s w : ℕ) (c a b : Attachment S) (kept : List (Attachment S)) → kept_for s w (c ∷ kept) ≡ Some a
       → (kept_for s w kept ≡ Some a → notes_taken (replaced s w b kept) + length a.taken ≡ notes_taken kept + length b.taken)
@@ -63,7 +64,7 @@ module _ {S : Type 0} where
 
   -- what is kept or has ended after a letter took what was kept before took, and what was taken by the letter
   abbrev Adds : List (Attachment S) → Change S → Type 0
-  Adds kept c = notes_taken c.kept + notes_of_ended c.gone ≡ notes_taken kept + c.took
+  Adds kept c = notes_taken c.kept + notes_of_ended c.gone ≡ notes_taken kept + one_if c.took
 
   adds_attach : (place from w : ℕ) (sink : S) (mark : Mark) (o : Option (Attachment S)) (kept : List (Attachment S)) → Adds kept (attached mark (brought place from w sink) o kept)
   adds_attach place from w sink mark (Some other) kept = refl
@@ -71,56 +72,58 @@ module _ {S : Type 0} where
   adds_attach place from w sink Fault None kept = refl
   adds_attach place from w sink NoMemory None kept = refl
 
-  -- a note more was taken
-  note_counts : (l : Bool) (note : Note) (flow : Flow) (a : Attachment S) → length (with_note l note flow a).taken ≡ length a.taken + 1
-  note_counts true note flow a = length-append a.taken (note ∷ [])
-  note_counts false note flow a = length-append a.taken (note ∷ [])
+  -- what the attachment has come to took a note more, or none
+  abbrev Took : Attachment S → Bool → Ruling S → Type 0
+  Took a took AsItWas = one_if took ≡ 0
+  Took a took (HoldsBack b) = length b.taken ≡ length a.taken + one_if took
+  Took a took (PaysAll b) = length b.taken ≡ length a.taken + one_if took
+  Took a took (LetsGo b) = length b.taken ≡ length a.taken + one_if took
+  Took a took (PutsAway b why) = length b.taken ≡ length a.taken + one_if took
 
-  adds_settle : (s w : ℕ) (leaves held_back : Bool) (a b : Attachment S) (took : ℕ) (kept : List (Attachment S)) → length b.taken ≡ length a.taken + took → kept_for s w kept ≡ Some a
-      → Adds kept (settled leaves held_back s w b took kept)
-  adds_settle s w true held_back a b took kept more is = (let e = without_notes s w a kept is in omega (arith, e, more))
-  adds_settle s w false true a b took kept more is = (let e = replaced_notes s w a b kept is in omega (arith, e, more))
-  adds_settle s w false false a b took kept more is = (let e = replaced_notes s w a (paid b) kept is in omega (arith, e, more))
+  took_answer : (flow : Flow) (a b : Attachment S) (took : Bool) → length b.taken ≡ length a.taken + one_if took → Took a took (by_answer flow b)
+  took_answer flow a b took is = answer_does (Took a took) flow b (λ leaves. is) (λ held. is) is
 
-  adds_serve : (s w : ℕ) (note : Note) (mark : Mark) (a : Attachment S) (kept : List (Attachment S)) → kept_for s w kept ≡ Some a → Adds kept (serving mark s w note a kept)
-  adds_serve s w note (Fine flow) a kept is =
-      (let b = with_note (is_last note) note flow a in
-      adds_settle s w (b.over && is_clear flow) (is_held_back flow b.due) a b 1 kept (note_counts (is_last note) note flow a) is)
-  adds_serve s w note Fault a kept is = (let e = without_notes s w a kept is in omega (arith, e))
-  adds_serve s w note NoMemory a kept is = (let e = without_notes s w a kept is in omega (arith, e))
+  took_taking : (mark : Mark) (note : Note) (a : Attachment S) → a.over ≡ false → Took a (has_taken mark a) (by_taking mark note a)
+  took_taking (Fine flow) note a yet =
+      (let one : one_if (not a.over) ≡ 1 = ap (λ b. one_if (not b)) yet in
+      let more = length-append a.taken (note ∷ []) in
+      took_answer flow a (with_note note flow a) (not a.over) (omega (arith, one, more)))
+  took_taking Fault note a yet = omega arith
+  took_taking NoMemory note a yet = omega arith
 
-  adds_serve_yet : (s w : ℕ) (note : Note) (mark : Mark) (o : Bool) (a : Attachment S) (kept : List (Attachment S)) → kept_for s w kept ≡ Some a → Adds kept (served_yet o mark s w note a kept)
-  adds_serve_yet s w note mark true a kept is = refl
-  adds_serve_yet s w note mark false a kept is = adds_serve s w note mark a kept is
+  took_nothing : (mark : Mark) (a : Attachment S) → a.over ≡ true → one_if (has_taken mark a) ≡ 0
+  took_nothing (Fine flow) a over = ap (λ b. one_if (not b)) over
+  took_nothing Fault a over = refl
+  took_nothing NoMemory a over = refl
 
-  adds_give : (s w : ℕ) (note : Note) (mark : Mark) (o : Option (Attachment S)) (kept : List (Attachment S)) → kept_for s w kept ≡ o → Adds kept (notified mark s w note o kept)
-  adds_give s w note mark None kept is = refl
-  adds_give s w note mark (Some a) kept is = adds_serve_yet s w note mark a.over a kept is
+  took_note : (mark : Mark) (note : Note) (a : Attachment S) → Took a (has_taken mark a) (by_note mark note a)
+  took_note mark note a = one_of (Took a (has_taken mark a)) a.over AsItWas (by_taking mark note a) (took_nothing mark a) (took_taking mark note a)
 
-  adds_write : (s w : ℕ) (mark : Mark) (a : Attachment S) (kept : List (Attachment S)) → kept_for s w kept ≡ Some a → Adds kept (written mark s w a kept)
-  adds_write s w (Fine flow) a kept is = adds_settle s w (a.over && is_clear flow) (is_held_back flow a.due) a (with_flush flow a) 0 kept (omega arith) is
-  adds_write s w Fault a kept is = (let e = without_notes s w a kept is in omega (arith, e))
-  adds_write s w NoMemory a kept is = (let e = without_notes s w a kept is in omega (arith, e))
+  took_flush : (mark : Mark) (a : Attachment S) → Took a false (by_flush mark a)
+  took_flush mark a = flush_does (Took a false) mark a (λ flow. took_answer flow a (with_flush flow a) false (omega arith)) (omega arith)
 
-  adds_flush : (s w : ℕ) (mark : Mark) (o : Option (Attachment S)) (kept : List (Attachment S)) → kept_for s w kept ≡ o → Adds kept (flushed mark s w o kept)
-  adds_flush s w mark None kept is = refl
-  adds_flush s w mark (Some a) kept is = adds_write s w mark a kept is
+  took_leaving : (a : Attachment S) → Took a false (by_leaving a)
+  took_leaving a = leaving_does (Took a false) a (λ over. omega arith) (λ yet. omega arith)
 
-  adds_let_go : (s w : ℕ) (o : Bool) (a : Attachment S) (kept : List (Attachment S)) → kept_for s w kept ≡ Some a → Adds kept (let_go o s w a kept)
-  adds_let_go s w false a kept is = (let e = without_notes s w a kept is in omega (arith, e))
-  adds_let_go s w true a kept is = (let e = without_notes s w a kept is in omega (arith, e))
+  adds_ruling : (s w : ℕ) (ruling : Ruling S) (took : Bool) (a : Attachment S) (kept : List (Attachment S)) → kept_for s w kept ≡ Some a → Took a took ruling → Adds kept (carried_out s w ruling took kept)
+  adds_ruling s w AsItWas took a kept is more = omega (arith, more)
+  adds_ruling s w (HoldsBack b) took a kept is more = (let e = replaced_notes s w a b kept is in omega (arith, e, more))
+  adds_ruling s w (PaysAll b) took a kept is more = (let e = replaced_notes s w a (paid b) kept is in omega (arith, e, more))
+  adds_ruling s w (LetsGo b) took a kept is more = (let e = others_notes s w a kept is in omega (arith, e, more))
+  adds_ruling s w (PutsAway b why) took a kept is more = (let e = others_notes s w a kept is in omega (arith, e, more))
 
-  adds_detach : (s w : ℕ) (o : Option (Attachment S)) (kept : List (Attachment S)) → kept_for s w kept ≡ o → Adds kept (detached s w o kept)
-  adds_detach s w None kept is = refl
-  adds_detach s w (Some a) kept is = adds_let_go s w a.over a kept is
+  adds_ruled : (s w : ℕ) (rule : Attachment S → Ruling S) (took : Attachment S → Bool) (o : Option (Attachment S)) (kept : List (Attachment S)) → kept_for s w kept ≡ o
+      → ((a : Attachment S) → Took a (took a) (rule a)) → Adds kept (ruled s w rule took o kept)
+  adds_ruled s w rule took None kept is more = refl
+  adds_ruled s w rule took (Some a) kept is more = adds_ruling s w (rule a) (took a) a kept is (more a)
 
   adds_post : (b : Bool) (place from : ℕ) (post : Post (Out S)) (mark : Mark) (kept : List (Attachment S)) → Adds kept (post_change b place from post mark kept)
   adds_post true place from (Body out) mark kept = refl
   adds_post true place from Bye mark kept = (let e = closed_notes kept in omega (arith, e))
   adds_post false place from Bye mark kept = refl
   adds_post false place from (Body (Attach w sink)) mark kept = adds_attach place from w sink mark (kept_for from w kept) kept
-  adds_post false place from (Body (Give w note)) mark kept = adds_give from w note mark (kept_for from w kept) kept refl
-  adds_post false place from (Body (Detach w)) mark kept = adds_detach from w (kept_for from w kept) kept refl
+  adds_post false place from (Body (Give w note)) mark kept = adds_ruled from w (by_note mark note) (has_taken mark) (kept_for from w kept) kept refl (took_note mark note)
+  adds_post false place from (Body (Detach w)) mark kept = adds_ruled from w by_leaving (λ a. false) (kept_for from w kept) kept refl took_leaving
 
   adds_letter : (b : Bool) (leave place : ℕ) (x : Letter (Out S)) (mark : Mark) (kept : List (Attachment S)) → Adds kept (letter_change b leave place x mark kept)
   adds_letter true leave place x mark kept = refl
@@ -137,6 +140,6 @@ module _ {S : Type 0} where
   each_note_counts leave (Flush log s w mark) =
       let c = flush_change leave log s w mark in
       let before = each_note_counts leave log in
-      let step = adds_flush s w mark (kept_for s w (kept_in leave log)) (kept_in leave log) refl in
+      let step = adds_ruled s w (by_flush mark) (λ a. false) (kept_for s w (kept_in leave log)) (kept_in leave log) refl (took_flush mark) in
       let gone = ended_append (gone_in leave log) c.gone in
       omega (arith, before, step, gone)

@@ -15,7 +15,7 @@ use Rattle.std.specs.Prelude.{◌≡◌, ◌+◌, ◌<◌, ◌≤◌, ◌⊎◌,
 use Rattle.std.specs.List.{list_any}
 use Rattle.rx_mailbox.specs.declared.letter.Letter.{Letter}
 use Rattle.rx_mailbox.specs.declared.letter.Post.TheVariants.{Bye}
-use Rattle.rx_mailbox.specs.Boxes.{Outgoing, Incoming, all_told, incoming}
+use Rattle.rx_mailbox.specs.Boxes.{Outgoing, Incoming, all_told, with_letters}
 use Rattle.rx_mailbox.specs.Letters.{letter}
 use Rattle.rx_note.specs.declared.event.Event.{Event}
 use Rattle.rx_pump.specs.declared.call.Call.{Call}
@@ -107,10 +107,6 @@ module _ {S : Type 0} where
   SentUpTo (Some InboxGone) left events ports = HaveSent left (λ d. calls_to d events) ports
   SentUpTo (Some (SubjectGone place)) left events ports = StoppedAtEvent place events ports ⊎ StoppedAtBye place left events ports
 
-  -- these letters more were received
-  abbrev pub with_letters : Incoming (Out S) → List (Letter (Out S)) → Incoming (Out S)
-  with_letters before xs = incoming before.box before.ports (before.received ++ xs)
-
   -- some letters more were received, or none
   abbrev pub TakesMore : Incoming (Out S) → Incoming (Out S) → Type 0
   TakesMore before after = (xs : List (Letter (Out S))) × (after ≡ with_letters before xs)
@@ -171,8 +167,8 @@ module _ {S Rest : Type 0} (acts : Acts S Rest) where
       × (mark : Mark) × StandsForLog (length before.ports) (Next more (letter leave Bye) mark) after
 
   -- the drainer went on: from each list of marked letters whose meaning it did it came to another
-  abbrev pub Goes : DrainerView S Rest → DrainerView S Rest → Type 0
-  Goes before after = (log : Log S) → Drains before log → (more : Log S) × Drains after more
+  abbrev pub HasGoneOn : DrainerView S Rest → DrainerView S Rest → Type 0
+  HasGoneOn before after = (log : Log S) → Drains before log → (more : Log S) × Drains after more
 
   -- and without a fault only stuck sinks are left unpaid
   abbrev pub Pays : DrainerView S Rest → DrainerView S Rest → Type 0

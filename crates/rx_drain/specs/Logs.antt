@@ -23,13 +23,17 @@ use Rattle.rx_mailbox.specs.Letters.{letter, ends, posts}
 use Rattle.rx_pump.specs.declared.call.Call.{Call}
 use Rattle.rx_pump.specs.declared.out.Out.{Out}
 use Rattle.rx_pump.specs.declared.out.Out.TheVariants.{Attach, Give, Detach}
-use Rattle.rx_sink.specs.Attachments.{Attachment, Why, Mark, Sent, Change, Service, attaching, detaching, flushed, giving, kept_for, left, unchanged}
+use Rattle.rx_sink.specs.Attachments.{Attachment, Why, Mark, Sent, Change, Service, attaching, detaching, flushing, giving, left, unchanged}
 
 -- letters, and flushes of the sink of an observer of a subject, with their marks, the latest outermost
 pub data Log (S : Type 0) : Type 0 where
   NoLetters : Log S
   Next : Log S → Letter (Out S) → Mark → Log S
   Flush : Log S → ℕ → ℕ → Mark → Log S
+
+-- one where it is so, and else none
+abbrev pub one_if : Bool → ℕ
+one_if b = if b then 1 else 0
 
 module _ {S : Type 0} where
   -- the letters without their marks
@@ -83,7 +87,7 @@ module _ {S : Type 0} where
   abbrev pub kept_in : ℕ → Log S → List (Attachment S)
   kept_in leave NoLetters = []
   kept_in leave (Next log x mark) = (letter_change (has_left leave log) leave (length (letters log)) x mark (kept_in leave log)).kept
-  kept_in leave (Flush log subject who mark) = (flushed mark subject who (kept_for subject who (kept_in leave log)) (kept_in leave log)).kept
+  kept_in leave (Flush log subject who mark) = ((flushing subject who).changed mark (kept_in leave log)).kept
 
   -- what a letter that comes next changes
   abbrev pub change : ℕ → Log S → Letter (Out S) → Mark → Change S
@@ -91,7 +95,7 @@ module _ {S : Type 0} where
 
   -- what a flush that comes next changes
   abbrev pub flush_change : ℕ → Log S → ℕ → ℕ → Mark → Change S
-  flush_change leave log subject who mark = flushed mark subject who (kept_for subject who (kept_in leave log)) (kept_in leave log)
+  flush_change leave log subject who mark = (flushing subject who).changed mark (kept_in leave log)
 
   -- the attachments that have ended and why, in the order in which they did
   abbrev pub gone_in : ℕ → Log S → List (Attachment S × Why)
@@ -108,14 +112,14 @@ module _ {S : Type 0} where
   -- how many sinks found no memory
   abbrev pub missed_in : ℕ → Log S → ℕ
   missed_in leave NoLetters = 0
-  missed_in leave (Next log x mark) = missed_in leave log + (change leave log x mark).missed
-  missed_in leave (Flush log subject who mark) = missed_in leave log + (flush_change leave log subject who mark).missed
+  missed_in leave (Next log x mark) = missed_in leave log + one_if (change leave log x mark).missed
+  missed_in leave (Flush log subject who mark) = missed_in leave log + one_if (flush_change leave log subject who mark).missed
 
   -- how many notes the sinks took
   abbrev pub taken_in : ℕ → Log S → ℕ
   taken_in leave NoLetters = 0
-  taken_in leave (Next log x mark) = taken_in leave log + (change leave log x mark).took
-  taken_in leave (Flush log subject who mark) = taken_in leave log + (flush_change leave log subject who mark).took
+  taken_in leave (Next log x mark) = taken_in leave log + one_if (change leave log x mark).took
+  taken_in leave (Flush log subject who mark) = taken_in leave log + one_if (flush_change leave log subject who mark).took
 
   -- what a port has put that put these calls, and once the drainer left a Bye
   abbrev pub put_by : Bool → ℕ → List (Call S) → List (Letter (Call S))

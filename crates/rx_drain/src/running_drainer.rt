@@ -30,9 +30,9 @@ impl Error for NoThread {}
 /// What the thread of a drainer answers is what `serve` promises of that drainer, but that of what it left at a fault there is the
 /// fault alone.
 #[derive(Drop)]
-pub(crate) struct Served<S: Sink>(Snapshot<Drainer<S>>);
+pub(crate) struct DrainerPromise<S: Sink>(Snapshot<Drainer<S>>);
 
-impl<S: Sink> Promise<Result<DrainEnd<S>, DrainFault>> for Served<S> {
+impl<S: Sink> Promise<Result<DrainEnd<S>, DrainFault>> for DrainerPromise<S> {
     ghost use Rattle.std.specs.Prelude.{MatchResult};
     ghost use Rattle.rx_drain.specs.Serving.{HasDrained, DrainerHasFailed};
 
@@ -43,7 +43,7 @@ impl<S: Sink> Promise<Result<DrainEnd<S>, DrainFault>> for Served<S> {
 
 /// A drainer that serves in a thread of its own. One that is let go without a `join` is not waited for.
 pub struct RunningDrainer<S: Sink> {
-    handle: PromisedHandle<Result<DrainEnd<S>, DrainFault>, Served<S>>,
+    handle: PromisedHandle<Result<DrainEnd<S>, DrainFault>, DrainerPromise<S>>,
 }
 
 // By hand: rx_heap says why.
@@ -65,7 +65,7 @@ where
     let Ok(own) = rt.clone() else {
         return Err(NoThread);
     };
-    let promise = Served(Snapshot::of(&drainer));
+    let promise = DrainerPromise(Snapshot::of(&drainer));
     match thread::spawn_with(rt, promise, move || serve(&own, drainer)) {
         Ok(handle) => Ok(RunningDrainer { handle }),
         Err(_) => Err(NoThread),

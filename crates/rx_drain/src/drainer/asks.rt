@@ -3,7 +3,7 @@
 // What comes for a subject without a port is dropped: a drainer of a right box meets none.
 ghost use Rattle.std.specs.Prelude.{[], ◌∷◌, map};
 ghost use Rattle.rx_mailbox.specs.Boxes.{all_told};
-ghost use Rattle.rx_sink.specs.KeptSinks.{events_of};
+ghost use Rattle.rx_sink.specs.KeptSinks.{events_asked};
 ghost use Rattle.rx_drain.specs.Calls.{SendsEvents, partings_of};
 
 use crate::DrainFault;
@@ -22,7 +22,7 @@ pub(crate) fn send_asks<S: Drop, R: Wait>(
     subject: u32,
     asks: Asks,
 ) -> Option<DrainFault>
-    ensures { SendsEvents result (map (λ event. (subject, event)) (events_of asks)) (all_told subjects.old.items) (all_told subjects.new.items) }
+    ensures { SendsEvents result (map (λ event. (subject, event)) (events_asked asks)) (all_told subjects.old.items) (all_told subjects.new.items) }
 {
     let who = asks.who;
     for _ in 0..asks.items {

@@ -11,7 +11,7 @@ ghost use Rattle.rx_mailbox.specs.declared.letter.Post.TheVariants.{Bye};
 ghost use Rattle.rx_mailbox.specs.Boxes.{all_told, with_letter};
 ghost use Rattle.rx_mailbox.specs.Letters as letters;
 ghost use Rattle.rx_pump.specs.Pumps.{AreSame};
-ghost use Rattle.rx_drain.specs.Drainers.{Fits, Goes, HandlesLetter, HandlesNext, HearsBye, IsOfSubject, Pays, TakesMore, TakesSome, any_may_wait, view_of};
+ghost use Rattle.rx_drain.specs.Drainers.{Fits, HasGoneOn, HandlesLetter, HandlesNext, HearsBye, IsOfSubject, Pays, TakesMore, TakesSome, any_may_wait, view_of};
 
 use crate::drainer::asks::{holds_back, part_all, send_asks, would_wake};
 use crate::drainer::bursts::Bursts;
@@ -39,7 +39,7 @@ const MOST_IDLE: u64 = 250;
 
 // What became of a letter.
 #[derive(Clone, Copy)]
-pub(crate) struct Handled {
+pub(crate) struct AfterLetter {
     // The drainer was told to leave, now or before.
     pub(crate) left: bool,
     pub(crate) fault: Option<DrainFault>,
@@ -52,7 +52,7 @@ pub(crate) fn handle<S: Sink, R: Wait>(
     leave: usize,
     left: bool,
     letter: Letter<Out<S>>,
-) -> Handled
+) -> AfterLetter
     requires { Fits leave left None hands.old }
     ensures fits { Fits leave result.left result.fault hands.new }
     ensures inbox { hands.new.parts.inbox ≡ hands.old.parts.inbox }
@@ -67,7 +67,7 @@ pub(crate) fn handle<S: Sink, R: Wait>(
     };
     if left || from as usize == leave {
         let _rest = finish_unserved(into_sink(out));
-        return Handled { left, fault: None };
+        return AfterLetter { left, fault: None };
     }
     let (asks, unserved) = serve_out(
         &mut hands.kept,
@@ -79,7 +79,7 @@ pub(crate) fn handle<S: Sink, R: Wait>(
     );
     let _rest = finish_unserved(unserved);
     let fault = send_asks(rt, &mut hands.parts.subjects, from, asks);
-    Handled { left, fault }
+    AfterLetter { left, fault }
 }
 
 // Does what the letter asks that comes next, and waits while there is none; but where something waits in a sink no longer than
@@ -91,7 +91,7 @@ pub(crate) fn handle_first<S: Sink, R: Wait>(
     leave: usize,
     left: bool,
     looks: bool,
-) -> Result<Handled, Gone>
+) -> Result<AfterLetter, Gone>
     requires { Fits leave left None hands.old }
     ensures gone { OnErr result (hands.new ≡ hands.old) }
     ensures fits { IfOk result (λ now. Fits leave now.left now.fault hands.new) }
@@ -100,7 +100,7 @@ pub(crate) fn handle_first<S: Sink, R: Wait>(
     ensures takes_one { OnOk result (looks ≡ false → any_may_wait hands.old.kept.items ≡ false → TakesSome hands.old.parts.inbox hands.new.parts.inbox) }
     ensures ports { IfOk result (λ now. AreSame (view_of hands.old left None).ports (view_of hands.new now.left now.fault).ports) }
     ensures keeps { OnOk result (hands.new.put_away.keeps ≡ hands.old.put_away.keeps) }
-    ensures goes { IfOk result (λ now. Goes S.acts (view_of hands.old left None) (view_of hands.new now.left now.fault)) }
+    ensures goes { IfOk result (λ now. HasGoneOn S.acts (view_of hands.old left None) (view_of hands.new now.left now.fault)) }
 {
     let waits = may_wait(&hands.kept);
     if is_patient(left, waits, looks) {
@@ -138,7 +138,7 @@ fn handle_none<S: Sink, R: Wait>(
     hands: &mut DrainerLeft<S>,
     leave: usize,
     waits: bool,
-) -> Handled
+) -> AfterLetter
     requires { Fits leave false None hands.old }
     ensures left { result.left ≡ false }
     ensures of_subject { IsOfSubject result.fault }
@@ -146,16 +146,16 @@ fn handle_none<S: Sink, R: Wait>(
     ensures inbox { hands.new.parts.inbox ≡ hands.old.parts.inbox }
     ensures ports { AreSame (view_of hands.old false None).ports (view_of hands.new false result.fault).ports }
     ensures keeps { hands.new.put_away.keeps ≡ hands.old.put_away.keeps }
-    ensures goes { Goes S.acts (view_of hands.old false None) (view_of hands.new false result.fault) }
+    ensures goes { HasGoneOn S.acts (view_of hands.old false None) (view_of hands.new false result.fault) }
 {
     if waits {
-        return Handled {
+        return AfterLetter {
             left: false,
             fault: None,
         };
     }
     let fault = look_after(rt, hands, leave);
-    Handled { left: false, fault }
+    AfterLetter { left: false, fault }
 }
 
 // Does what the letters ask that are there, as long as there is no fault, and waits for none but within a burst.
@@ -164,8 +164,8 @@ pub(crate) fn handle_more<S: Sink, R: Wait>(
     hands: &mut DrainerLeft<S>,
     bursts: &mut Bursts,
     leave: usize,
-    handled: Handled,
-) -> Handled
+    handled: AfterLetter,
+) -> AfterLetter
     requires fits { Fits leave handled.left handled.fault hands.old }
     requires of_subject { IsOfSubject handled.fault }
     ensures fits { Fits leave result.left result.fault hands.new }
@@ -173,7 +173,7 @@ pub(crate) fn handle_more<S: Sink, R: Wait>(
     ensures inbox { TakesMore hands.old.parts.inbox hands.new.parts.inbox }
     ensures ports { AreSame (view_of hands.old handled.left handled.fault).ports (view_of hands.new result.left result.fault).ports }
     ensures keeps { hands.new.put_away.keeps ≡ hands.old.put_away.keeps }
-    ensures goes { Goes S.acts (view_of hands.old handled.left handled.fault) (view_of hands.new result.left result.fault) }
+    ensures goes { HasGoneOn S.acts (view_of hands.old handled.left handled.fault) (view_of hands.new result.left result.fault) }
 {
     let sinks = hands.kept.len();
     let mut now = handled;
@@ -225,8 +225,8 @@ pub(crate) fn handle_rest<S: Sink, R: Wait>(
     rt: &R,
     hands: &mut DrainerLeft<S>,
     leave: usize,
-    handled: Handled,
-) -> Handled
+    handled: AfterLetter,
+) -> AfterLetter
     requires fits { Fits leave handled.left handled.fault hands.old }
     requires of_subject { IsOfSubject handled.fault }
     ensures fits { Fits leave result.left result.fault hands.new }
@@ -241,7 +241,7 @@ pub(crate) fn handle_rest<S: Sink, R: Wait>(
         return handled;
     }
     let fault = flush_all(rt, hands, leave);
-    Handled { left: false, fault }
+    AfterLetter { left: false, fault }
 }
 
 // Does what a Bye asks: the first of the leave port has the drainer leave. What waits in the sinks goes out before that, as
@@ -252,7 +252,7 @@ fn hear_bye<S: Sink, R: Wait>(
     leave: usize,
     left: bool,
     from: u32,
-) -> Handled
+) -> AfterLetter
     requires { Fits leave left None hands.old }
     ensures fits { Fits leave result.left result.fault hands.new }
     ensures inbox { hands.new.parts.inbox ≡ hands.old.parts.inbox }
@@ -262,15 +262,15 @@ fn hear_bye<S: Sink, R: Wait>(
     ensures flushed { left ≡ false → from ≡ leave → result.fault ≡ None → HearsBye S.acts from (view_of hands.old left None) (view_of hands.new result.left None) }
 {
     if left || from as usize != leave {
-        return Handled { left, fault: None };
+        return AfterLetter { left, fault: None };
     }
     let fault = flush_last(rt, hands, leave);
     if fault.is_some() {
         put_all_away(&mut hands.kept, &mut hands.put_away);
-        return Handled { left: true, fault };
+        return AfterLetter { left: true, fault };
     }
     let fault = leave_all(rt, hands, from);
-    Handled { left: true, fault }
+    AfterLetter { left: true, fault }
 }
 
 // Asks for what is due of each sink that is kept, has its observer disposed of, puts all sinks away, and ends the ports.

@@ -1,6 +1,6 @@
 // What a letter of a subject does to the sinks.
 ghost use Rattle.std.specs.Prelude.{◌≡◌, ℕ, vec_len};
-ghost use Rattle.rx_sink.specs.KeptSinks.{Tends, events_of, sinks};
+ghost use Rattle.rx_sink.specs.KeptSinks.{Tends, events_asked, sinks};
 ghost use Rattle.rx_sink.specs.Rests.{HasRoomFor};
 ghost use Rattle.rx_drain.specs.Drainers.{Finishes};
 ghost use Rattle.rx_drain.specs.Logs.{service_of, sink_in};
@@ -22,8 +22,8 @@ pub(crate) fn serve_out<S: Sink>(
     requires room { HasRoomFor (vec_len kept.old) away.old }
     ensures room { HasRoomFor (vec_len kept.new) away.new }
     ensures keeps { away.new.keeps ≡ away.old.keeps }
-    ensures serves { (place : ℕ) → Tends S.acts (service_of place subject out) subject
-        (sinks kept.old.items away.old.items places.old.misses taken.old) (sinks kept.new.items away.new.items places.new.misses taken.new) (events_of result.0) result.1 }
+    ensures serves { (place : ℕ) → Tends S.acts (service_of place subject out)
+        (sinks kept.old.items away.old.items places.old.misses taken.old) (sinks kept.new.items away.new.items places.new.misses taken.new) (events_asked result.0) result.1 }
 {
     match out {
         Out::Attach { who, sink } => attach(kept, away, places, subject, who, sink),

@@ -4,7 +4,7 @@ use Rattle.rx_pump.specs.Pumps.{AreSame}
 use Rattle.rx_drain.specs.declared.drainer.drain_fault.DrainFault.{DrainFault}
 use Rattle.rx_drain.specs.declared.drainer.drain_fault.DrainFault.TheVariants.{InboxGone, SubjectGone}
 use Rattle.rx_drain.specs.declared.drainer.drainer_left.DrainerLeft.{DrainerLeft}
-use Rattle.rx_drain.specs.Drainers.{DrainerView, Fits, Goes, IsDrained, IsOfSubject, KeepsDrainer, TakesMore, TakesSome, any_may_wait, view_of}
+use Rattle.rx_drain.specs.Drainers.{DrainerView, Fits, HasGoneOn, IsDrained, IsOfSubject, KeepsDrainer, TakesMore, TakesSome, any_may_wait, view_of}
 use Rattle.rx_drain.proofs.Ending.{drained_gone, drained_turn, goes_further, takes_both, takes_one_and}
 use Rattle.rx_drain.proofs.drainer.Drainer.turn_by.Given as given
 use Rattle.rx_drain.proofs.drainer.Drainer.turn_by.Goals as goal
@@ -18,7 +18,7 @@ drained g c =
     let one = view_of c.handle_first.new.hands c.in-Ok.first.left c.in-Ok.first.fault in
     let more = view_of c.handle_more-more.new.hands c.handle_more-more.result.left c.handle_more-more.result.fault in
     let rest = view_of c.handle_rest-rest.new.hands c.handle_rest-rest.result.left c.handle_rest-rest.result.fault in
-    let goes = subst (λ (fault : Option DrainFault). Goes g.S.Sink.acts (view_of inside.hands inside.left fault) one) (sym c.in_default.is) c.in-Ok.ensures.goes in
+    let goes = subst (λ (fault : Option DrainFault). HasGoneOn g.S.Sink.acts (view_of inside.hands inside.left fault) one) (sym c.in_default.is) c.in-Ok.ensures.goes in
     drained_turn g.S.Sink.acts before more rest
     (goes_further g.S.Sink.acts before one more goes c.handle_more-more.ensures.goes) c.handle_rest-rest.ensures.pays c.self.invariant.0
 

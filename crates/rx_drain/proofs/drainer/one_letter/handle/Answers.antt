@@ -2,7 +2,7 @@ use Rattle.std.proofs.Common.{◌≡◌, ◌==◌, false, refl, length, length-a
 use Rattle.std.proofs.lemmas.Bool.{ne_eqb}
 use Rattle.rx_mailbox.specs.Boxes.{all_told}
 use Rattle.rx_mailbox.proofs.Told.{told-length}
-use Rattle.rx_sink.specs.KeptSinks.{events_of}
+use Rattle.rx_sink.specs.KeptSinks.{events_asked}
 use Rattle.rx_drain.proofs.Standing.{same_sent, of_sent, stands_served, stands_idle_left, stands_idle_leave, handles_body, handles_next}
 use Rattle.rx_drain.specs.Drainers.{view_of}
 use Rattle.rx_sink.specs.declared.flow.Flow.TheVariants.{Clear}
@@ -31,7 +31,7 @@ returns-then-left-clause-handles g c =
 
 pub returns-clause-ports : goal.returns-clause-ports
 returns-clause-ports g c =
-    same_sent c.send_asks-fault.result (map (λ event. (c.args.letter.from, event)) (events_of c.serve_out-unserved.result.0)) c.args.hands.now.ended.items (all_told c.args.hands.now.parts.subjects.items) (all_told c.send_asks-fault.new.subjects.items) c.send_asks-fault.ensures
+    same_sent c.send_asks-fault.result (map (λ event. (c.args.letter.from, event)) (events_asked c.serve_out-unserved.result.0)) c.args.hands.now.ended.items (all_told c.args.hands.now.parts.subjects.items) (all_told c.send_asks-fault.new.subjects.items) c.send_asks-fault.ensures
 
 pub returns-clause-handles : goal.returns-clause-handles
 returns-clause-handles g c =
@@ -40,7 +40,7 @@ returns-clause-handles g c =
     let leave_is : c.args.leave ≡ length (ended ++ a) = omega (arith, c.requires.leave_is, length-append ended a, told-length c.args.hands.now.parts.subjects.items) in
     let test : (c.args.letter.from == length (ended ++ a)) ≡ false = ne_eqb c.args.letter.from (length (ended ++ a)) (λ same. c.if-from-leave.false (omega (arith, same, leave_is))) in
     handles_body g.S.Sink.acts c.args.letter c.in-Body.out _ _ c.in-Body.is (handles_next g.S.Sink.acts _ _ _ (
-      of_sent c.send_asks-fault.result (map (λ event. (c.args.letter.from, event)) (events_of c.serve_out-unserved.result.0)) a (all_told c.send_asks-fault.new.subjects.items) c.send_asks-fault.ensures,
-      λ log s. stands_served g.S.Sink.acts (length (ended ++ a)) log c.args.letter.from c.in-Body.out _ _ ended a (all_told c.send_asks-fault.new.subjects.items) (events_of c.serve_out-unserved.result.0) c.serve_out-unserved.result.1
+      of_sent c.send_asks-fault.result (map (λ event. (c.args.letter.from, event)) (events_asked c.serve_out-unserved.result.0)) a (all_told c.send_asks-fault.new.subjects.items) c.send_asks-fault.ensures,
+      λ log s. stands_served g.S.Sink.acts (length (ended ++ a)) log c.args.letter.from c.in-Body.out _ _ ended a (all_told c.send_asks-fault.new.subjects.items) (events_asked c.serve_out-unserved.result.0) c.serve_out-unserved.result.1
           (c.requires.open_ports c.if-left.false) refl refl c.if-left.false c.if-left.false refl test c.serve_out-unserved.ensures.serves c.send_asks-fault.ensures s,
     ))

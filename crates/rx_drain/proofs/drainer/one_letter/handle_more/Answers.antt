@@ -4,7 +4,7 @@ use Rattle.rx_pump.specs.Pumps.{AreSame}
 use Rattle.rx_drain.specs.declared.drainer.drain_fault.DrainFault.{DrainFault}
 use Rattle.rx_drain.specs.declared.drainer.drainer_left.DrainerLeft.{DrainerLeft}
 use Rattle.rx_drain.specs.declared.drainer.drainer_parts.DrainerParts.{DrainerParts}
-use Rattle.rx_drain.specs.Drainers.{Fits, Goes, TakesMore, view_of}
+use Rattle.rx_drain.specs.Drainers.{Fits, HasGoneOn, TakesMore, view_of}
 use Rattle.rx_mailbox.proofs.Told.{told-count, told-nil}
 use Rattle.rx_drain.proofs.Ending.{goes_further, goes_letter, goes_nowhere, takes_none, takes_then}
 use Rattle.rx_drain.proofs.drainer.one_letter.handle_more.Goals as goal
@@ -54,8 +54,8 @@ returns-in_default-clause-goes g c =
     let hands = c.loop-count.hands in
     let view = view_of hands c.loop-count.now.left c.loop-count.now.fault in
     let first = view_of c.args.hands.now c.args.handled.left c.args.handled.fault in
-    let there = subst (λ l. Goes g.S.Sink.acts first (record view { ports = hands.ended.items ++ l })) (sym c.receive_more.ensures.subjects) c.loop-count.invariant.goes in
-    subst (λ (i : Incoming _). Goes g.S.Sink.acts first (record view { inbox = i; ports = hands.ended.items ++ all_told c.receive_more.new.parts.subjects.items }))
+    let there = subst (λ l. HasGoneOn g.S.Sink.acts first (record view { ports = hands.ended.items ++ l })) (sym c.receive_more.ensures.subjects) c.loop-count.invariant.goes in
+    subst (λ (i : Incoming _). HasGoneOn g.S.Sink.acts first (record view { inbox = i; ports = hands.ended.items ++ all_told c.receive_more.new.parts.subjects.items }))
     (sym c.in_default.ensures.received) there
 
 pub handle-now-requires : goal.handle-now-requires
@@ -74,7 +74,7 @@ loop-count-preserved g c =
     let second = record (view_of hands c.loop-count.now.left c.loop-count.now.fault) { ports = hands.ended.items ++ all_told parts.subjects.items } in
     let third = view_of c.handle-now.new.hands c.handle-now.result.left c.handle-now.result.fault in
     let whole = none_of c.loop-count.now.fault (sym c.is_some.ensures ∙ c.if-is_some.false) in
-    let there = subst (λ l. Goes g.S.Sink.acts first (record (view_of hands c.loop-count.now.left c.loop-count.now.fault) { ports = hands.ended.items ++ l }))
+    let there = subst (λ l. HasGoneOn g.S.Sink.acts first (record (view_of hands c.loop-count.now.left c.loop-count.now.fault) { ports = hands.ended.items ++ l }))
     (sym c.receive_more.ensures.subjects) inv.goes in
     record {
       fits = c.handle-now.ensures.fits;

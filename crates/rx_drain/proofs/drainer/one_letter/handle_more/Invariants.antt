@@ -1,6 +1,6 @@
 use Rattle.std.proofs.Common.{◌≡◌}
 use Rattle.rx_pump.specs.Pumps.{AreSame}
-use Rattle.rx_drain.specs.Drainers.{Fits, Goes, IsOfSubject, TakesMore, view_of}
+use Rattle.rx_drain.specs.Drainers.{Fits, HasGoneOn, IsOfSubject, TakesMore, view_of}
 use Rattle.rx_drain.proofs.drainer.one_letter.handle_more.Given as goal
 
 -- so far it went on by the letters that came
@@ -11,5 +11,5 @@ invariant-loop-count g l = record {
   inbox : TakesMore l.initial.hands.parts.inbox l.hands.parts.inbox;
   same : AreSame (view_of l.initial.hands l.fn.handled.left l.fn.handled.fault).ports (view_of l.hands l.now.left l.now.fault).ports;
   keeps : l.hands.put_away.keeps ≡ l.initial.hands.put_away.keeps;
-  goes : Goes g.S.Sink.acts (view_of l.initial.hands l.fn.handled.left l.fn.handled.fault) (view_of l.hands l.now.left l.now.fault);
+  goes : HasGoneOn g.S.Sink.acts (view_of l.initial.hands l.fn.handled.left l.fn.handled.fault) (view_of l.hands l.now.left l.now.fault);
 }
