@@ -18,7 +18,7 @@ use Rattle.rx_pump.specs.declared.call_desk.call_error.CallError.TheVariants.{Su
 use Rattle.rx_pump.specs.declared.reply.Reply.{Reply}
 use Rattle.rx_session.specs.Begun.{Asked, IsBehind, asked}
 use Rattle.rx_sink.specs.declared.line_sink.LineSink.{LineSink}
-use Rattle.rx_desk.specs.Queues.{GoesBehind, Posts, PostsEach, TellsEach, Waits, with_waiting}
+use Rattle.rx_desk.specs.Queues.{GoesBehind, PostsOne, PostsEach, TellsEach, Waits, with_waiting}
 use Rattle.rx_desk.specs.Responses.{response_of}
 use Rattle.rx_desk.specs.SessionDesks.{CallsOnce, EmitsAt, SessionView, emits, place_of}
 
@@ -47,8 +47,8 @@ module _ {S : Type 0} where
       omega (arith, ports, ended)
 
   -- what is kept of a call that was posted
-  pub Posts-posted : (before after : DeskView S) (subject : ℕ) (event : Event) → IsPosted before after subject event → KeepsDesk before after → Posts before after subject event
-  Posts-posted before after subject event p kept = record { goes = λ last. p.goes (inr last); sent = p.sent; kept = kept; inbox = p.inbox; is_over = p.is_over }
+  pub PostsOne-posted : (before after : DeskView S) (subject : ℕ) (event : Event) → IsPosted before after subject event → KeepsDesk before after → PostsOne before after subject event
+  PostsOne-posted before after subject event p kept = record { goes = λ last. p.goes (inr last); sent = p.sent; kept = kept; inbox = p.inbox; is_over = p.is_over }
 
   -- nothing was received meanwhile
   PostsEach-inbox : (subject : ℕ) (before : DeskView S) (events : List Event) (after : DeskView S) → PostsEach subject before events after → after.inbox ≡ before.inbox
@@ -70,8 +70,8 @@ module _ {S : Type 0} where
 
   -- one call more
   PostsEach-push : (subject : ℕ) (before : DeskView S) (events : List Event) (mid after : DeskView S) (event : Event)
-      → PostsEach subject before events mid → Posts mid after subject event → PostsEach subject before (events ++ event ∷ []) after
-  PostsEach-push subject before [] mid after event p one = (after, subst (λ (d : DeskView S). Posts d after subject event) p one, refl)
+      → PostsEach subject before events mid → PostsOne mid after subject event → PostsEach subject before (events ++ event ∷ []) after
+  PostsEach-push subject before [] mid after event p one = (after, subst (λ (d : DeskView S). PostsOne d after subject event) p one, refl)
   PostsEach-push subject before (first ∷ events) mid after event p one = (p.0, p.1, PostsEach-push subject p.0 events mid after event p.2 one)
 
   -- what a call put doesn't depend on what is received later
@@ -134,7 +134,7 @@ module _ {S : Type 0} where
 
   -- a desk that was over when it posted had no answer
   over_so : (base first now after : DeskView S) (subject ticket : ℕ) (event : Event) (answered : Result (Reply S) (CallError S))
-      → Posts base first subject event → now.is_over ≡ base.is_over → Awaits now after subject ticket answered → IsOver base → answered ≡ Err (SubjectGone None)
+      → PostsOne base first subject event → now.is_over ≡ base.is_over → Awaits now after subject ticket answered → IsOver base → answered ≡ Err (SubjectGone None)
   over_so base first now after subject ticket event answered p same_over a (inl over) = (a.over (same_over ∙ over)).0
   over_so base first now after subject ticket event answered p same_over a (inr last) = absurd (p.goes last)
 
@@ -248,7 +248,7 @@ module _ {M W : Type 0} (tells : M → ℕ → M → Type 0) where
 
   -- ONE MORE IS POSTED, the first that waited
   pub Waits-posted : (base old now : SessionView M (LineSink W)) (begun : List Asked) (event : Event)
-      → KeepsBegun old now → old.queue.events ≡ event ∷ now.queue.events → Posts old.calls now.calls old.queue.subject event → now.queue.sent ≡ old.queue.sent + 1
+      → KeepsBegun old now → old.queue.events ≡ event ∷ now.queue.events → PostsOne old.calls now.calls old.queue.subject event → now.queue.sent ≡ old.queue.sent + 1
       → Waits tells base begun old → Waits tells base begun now
   Waits-posted base old now begun event kept events one sent w =
       let all : w.posted ++ old.queue.events ≡ (w.posted ++ event ∷ []) ++ now.queue.events =

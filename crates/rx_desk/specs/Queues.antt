@@ -37,7 +37,7 @@ TellsEach {M = M} tells before (asked ∷ begun) (event ∷ events) after =
     (at : ℕ) × (then : M) × tells before at then × (event ≡ Emit asked.note at) × TellsEach tells then begun events after
 
 -- a desk posted its next call, to this subject. Whether it is over now is not said: an answer that came since may have made it so
-pub record Posts {S : Type 0} (before after : DeskView S) (subject : ℕ) (event : Event) : Type 0 where
+pub record PostsOne {S : Type 0} (before after : DeskView S) (subject : ℕ) (event : Event) : Type 0 where
   pub goes : before.tickets ≢ 2 ^ 64 - 1
   pub sent : IsSent before after subject event None
   pub kept : KeepsDesk before after
@@ -47,7 +47,7 @@ pub record Posts {S : Type 0} (before after : DeskView S) (subject : ℕ) (event
 -- calls of these events were posted to a subject, one after another
 abbrev pub PostsEach : {S : Type 0} → ℕ → DeskView S → List Event → DeskView S → Type 0
 PostsEach subject before [] after = after ≡ before
-PostsEach {S = S} subject before (event ∷ events) after = (then : DeskView S) × Posts before then subject event × PostsEach subject then events after
+PostsEach {S = S} subject before (event ∷ events) after = (then : DeskView S) × PostsOne before then subject event × PostsEach subject then events after
 
 -- a desk in whose queue nothing was came to have begun these notes: their moments were told, the calls of the first were posted, and
 -- those of the others wait

@@ -93,8 +93,8 @@ joined_by subject (Ok reply) = joined_in subject reply.result
 joined_by subject (Err error) = None
 
 -- the desk has a subject of this name
-abbrev pub knows : {M S : Type 0} → SessionView M S → List ℕ → Type 0
-knows desk name = (place : ℕ) × (place_of name desk.subjects ≡ Some place)
+abbrev pub has_subject : {M S : Type 0} → SessionView M S → List ℕ → Type 0
+has_subject desk name = (place : ℕ) × (place_of name desk.subjects ≡ Some place)
 
 module _ {M W : Type 0} (tells : M → ℕ → M → Type 0) where
   -- a moment was told, and one call made to a subject with the event at that moment; the rest is as it was

@@ -177,9 +177,9 @@ impl<'a, R: Wait, M: Moments + Drop, W: Write + Drop> SessionDesk<'a, R, M, W> {
 impl<'a, R: Wait, M: Moments + Drop, W: Write + Drop> Desk<W> for SessionDesk<'a, R, M, W> {
     ghost use Rattle.rx_pump.specs.Desks.{IsOver};
     ghost use Rattle.rx_desk.specs.Queues.{Waits};
-    ghost use Rattle.rx_desk.specs.SessionDesks.{emits, follows, knows};
+    ghost use Rattle.rx_desk.specs.SessionDesks.{emits, follows, has_subject};
 
-    ghost knows = { knows };
+    ghost knows = { has_subject };
 
     ghost emits = { emits M.tells };
 

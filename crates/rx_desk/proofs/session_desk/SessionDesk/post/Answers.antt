@@ -3,7 +3,7 @@ use Rattle.std.proofs.Common.{◌++◌, ◌∷◌, ◌∙◌, List, [], Option, 
 use Rattle.std.specs.Prelude.{option_to_list}
 use Rattle.rx_note.specs.declared.event.Event.{Event}
 use Rattle.rx_desk.specs.Queues.{with_waiting}
-use Rattle.rx_desk.proofs.Queues.{Posts-posted, Waits-posted, Waits-waiting}
+use Rattle.rx_desk.proofs.Queues.{PostsOne-posted, Waits-posted, Waits-waiting}
 use Rattle.rx_desk.proofs.session_desk.SessionDesk.post.Goals as goal
 
 pub returns-in-Ok : goal.returns-in-Ok
@@ -14,7 +14,7 @@ returns-in-Ok g c =
     Waits-posted g.M.Moments.tells base (with_waiting c.args.event _) _ begun c.args.event
     (record { subjects = refl; window = refl; moments = refl; joined = refl; subject = refl })
     (ap (λ (es : List Event). es ++ c.args.event ∷ []) none ∙ ap (λ (es : List Event). c.args.event ∷ es) (sym none))
-    (Posts-posted c.self.inside.calls c.post.new.self c.self.inside.subject c.args.event c.in-Ok.ensures.posted c.in-Ok.ensures.kept) refl w)
+    (PostsOne-posted c.self.inside.calls c.post.new.self c.self.inside.subject c.args.event c.in-Ok.ensures.posted c.in-Ok.ensures.kept) refl w)
 
 pub returns-in-Err : goal.returns-in-Err
 returns-in-Err g c =
