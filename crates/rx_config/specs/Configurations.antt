@@ -16,9 +16,9 @@ use Rattle.rx_proto.specs.Reading.{is_name_byte, same_word}
 use Rattle.rx_config.specs.declared.config.Config.{Config}
 use Rattle.rx_config.specs.declared.config_error.ConfigError.{ConfigError}
 use Rattle.rx_config.specs.declared.config_error.ConfigError.TheVariants.{Syntax, UnknownKey, BadPool, NoSubject, TooManySubjects, BadSubject, DuplicateName, Memory}
-use Rattle.rx_config.specs.declared.fault.Fault.{Fault}
-use Rattle.rx_config.specs.declared.fault.Fault.TheVariants as faults
-use Rattle.rx_config.specs.declared.pool.Pool.{Pool}
+use Rattle.rx_config.specs.declared.reader.fault.Fault.{Fault}
+use Rattle.rx_config.specs.declared.reader.fault.Fault.TheVariants as faults
+use Rattle.rx_config.specs.declared.reader.pool.Pool.{Pool}
 use Rattle.rx_config.specs.declared.subject_config.SubjectConfig.{SubjectConfig}
 use Rattle.toml.specs.Parse.{parse_document}
 use Rattle.toml.specs.Data.{Data, Items, no_items, item, Members, no_members, member, get_member, as_str, as_integer, as_bool, as_array, as_table}

@@ -17,7 +17,7 @@ use Rattle.rx_proto.specs.Bytes.{AppendsPrefix, Writes}
 use Rattle.rx_proto.specs.Printing.{line}
 use Rattle.rx_config.specs.Configurations.{IsRefused, Says, Settings, settings_of, standard_settings}
 use Rattle.rx_config.specs.declared.config.Config.{Config}
-use Rattle.rx_listing.specs.Listings.{config_lines}
+use Rattle.rx_config.specs.Listings.{config_lines}
 use Rattle.rx_session.specs.declared.session_end.SessionEnd.{SessionEnd}
 use Rattle.rx_session.specs.declared.session_end.SessionEnd.TheVariants as ends
 use Rattle.rx_script.specs.Audits.{Audits, BreaksOff}

@@ -3,7 +3,7 @@ use Rattle.std.specs.Prelude.{◌≡◌, ℕ, List, ◌++◌, codes, map, Option
 use Rattle.std.specs.List.{flat_map, zip}
 use Rattle.rx_config.specs.Configurations.{Settings}
 use Rattle.rx_config.specs.declared.config.Config.{Config}
-use Rattle.rx_listing.specs.Listings.{number_words}
+use Rattle.rx_config.specs.Listings.{number_words}
 use Rattle.rx_proto.specs.Bytes.{Writes}
 use Rattle.rx_proto.specs.Printing.{line}
 use Rattle.rx_pump.specs.declared.call_desk.ended_desk.EndedDesk.{EndedDesk}

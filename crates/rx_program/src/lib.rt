@@ -1,7 +1,7 @@
 //! The program `rxline` as a library: its command line, its faults, and a configuration served on a Unix socket.
 //!
 //! [`read_words`] says what a command line asks for (`specs/CommandLines.antt`), and [`run_words`] is the program over any
-//! streams (`specs/Programs.antt`). It runs and audits scripts by `rx_script`, tells a configuration by `rx_listing`, and serves by
+//! streams (`specs/Programs.antt`). It runs and audits scripts by `rx_script`, tells a configuration by `rx_config`, and serves by
 //! `rx_server`.
 //!
 //! Its tests stand in `crates/test_edge` and `tests/program`.

@@ -1,9 +1,8 @@
 //! A configuration, told: the lines of one that is accepted, and of one that is refused the key at fault.
 
 use crate::expecting::{expect_that, expect_told};
-use rx_config::{Config, ConfigError, read_config};
+use rx_config::{Config, ConfigError, advise, config_lines, read_config};
 use rx_heap::Heap;
-use rx_listing::{advise, config_lines};
 use std::alloc::Global;
 use std::io::Write;
 use std::process::Abort;

@@ -1,6 +1,6 @@
 //! The server: a configuration served on a Unix socket.
 ghost use Rattle.std.specs.Prelude.{◌≡◌};
-ghost use Rattle.rx_listing.specs.Listings.{number_words};
+ghost use Rattle.rx_config.specs.Listings.{number_words};
 ghost use Rattle.rx_proto.specs.Bytes.{Writes};
 ghost use Rattle.rx_program.specs.Programs.{IsReported, IsShown, ReportsServer, ending, serving_fault};
 ghost use Rattle.rx_program.specs.Reporting.{closed_as, report_line, report_lines};

@@ -1,5 +1,5 @@
 use Rattle.std.proofs.Common.{rules, ◌≡◌, ◌++◌, codes}
-use Rattle.rx_listing.specs.Listings.{number_words}
+use Rattle.rx_config.specs.Listings.{number_words}
 use Rattle.rx_proto.specs.Printing.{line}
 use Rattle.rx_proto.proofs.Writes.{Writes-fault, Writes-then}
 use Rattle.rx_program.proofs.program.server.write_line.Goals as goal
