@@ -1,15 +1,14 @@
--- Parts of a configuration: names, keys and the subjects that were read.
-use Rattle.std.proofs.Common.{◌≡◌, ◌<◌, ◌≤◌, ◌+◌, ◌++◌, ℕ, suc, arith, Bool, true, false, List, [], ◌∷◌, get_or, drop, Option, Some, None, Ok, Err, refl, ap, length, ◌&&◌, if◌then◌else◌, String, Global, string_bytes}
+-- Parts of a configuration: names, and the subjects that were read.
+use Rattle.std.proofs.Common.{◌≡◌, ◌<◌, ◌≤◌, ◌+◌, ◌++◌, ℕ, suc, arith, true, false, List, [], ◌∷◌, get_or, drop, Option, Some, None, Ok, Err, refl, ap, length, if◌then◌else◌}
 use Rattle.std.proofs.lemmas.Bool.Decides.{nat_tests}
 use Rattle.std.specs.Prelude.{SomeIff}
-use Rattle.std.specs.Map.{keys_of}
 use Rattle.rx_proto.proofs.NameTests.{is_name, is_name-decides}
 use Rattle.rx_proto.specs.Names.{IsName}
-use Rattle.rx_config.specs.Configurations.{Subject, count_of, entries_read, has_only, is_among, name_in, next_subject, subjects_from}
+use Rattle.rx_config.specs.Configurations.{Subject, count_of, entries_read, name_in, next_subject, subjects_from}
 use Rattle.rx_config.specs.declared.config_error.ConfigError.{ConfigError}
 use Rattle.rx_config.specs.declared.config_error.ConfigError.TheVariants.{TooManySubjects}
 use Rattle.toml.proofs.Views.{items_view-drop}
-use Rattle.toml.specs.View.{items_view, members_view, view}
+use Rattle.toml.specs.View.{items_view, view}
 use Rattle.toml.specs.declared.value.Value.{Value}
 
 -- a name is what passes its test
@@ -19,15 +18,6 @@ name_in-exact None bytes never = elim (is_name bytes) as (λ test. is_name bytes
   | true ↦ λ yes. absurd (never ((is_name-decides bytes).0 yes))
   | false ↦ λ _. refl
 ] refl
-
--- whether all keys of a map are among these
-abbrev pub all_among : List (List ℕ) → List (String Global) → Bool
-all_among known [] = true
-all_among known (key ∷ keys) = is_among (string_bytes key) known && all_among known keys
-
-pub members_among : (known : List (List ℕ)) (entries : List (String Global × Value)) → all_among known (keys_of entries) ≡ has_only known (members_view entries)
-members_among known [] = refl
-members_among known (entry ∷ entries) = ap (λ (rest : Bool). is_among (string_bytes entry.0) known && rest) (members_among known entries)
 
 -- an entry that is refused ends the reading of the entries
 pub subjects_from-refused : (before : List Subject) (values : List Value) (i : ℕ) (d : Value) (cause : ConfigError) → i < length values

@@ -1,3 +1,4 @@
+// The memory of one subject.
 ghost use Rattle.std.specs.Prelude.{◌≡◌, ◌^◌, min, Some};
 
 use rx_heap::{Heap, Memory};

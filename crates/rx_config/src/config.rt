@@ -1,8 +1,12 @@
+// What a run is made of.
 ghost use Rattle.std.specs.Prelude.{◌≡◌, ◌≤◌, IfOk, vec_len};
 
+use crate::keys::section::Section;
+use crate::reader::limits::limits_in;
+use crate::reader::pool::Pool;
 use crate::subject_config::SubjectConfig;
 use rx_heap::{Heap, Memory};
-use rx_note::{Kind, Limits, Rules};
+use rx_note::{Kind, Rules};
 use rx_proto::Name;
 
 /// What a run is made of. The limits are this project's own.
@@ -47,13 +51,12 @@ impl Config {
         let Some(name) = Name::new(b"s") else {
             unreachable!()
         };
+        let Some(limits) = limits_in(&Section::missing()) else {
+            unreachable!()
+        };
         let rules = Rules {
             kind: Kind::Publish,
-            limits: Limits {
-                observers: 64,
-                joins: u32::MAX,
-                items: u32::MAX,
-            },
+            limits,
         };
         let mut subjects = Vec::new(alloc);
         subjects.push(SubjectConfig {
@@ -61,15 +64,16 @@ impl Config {
             rules,
             budget: None,
         })?;
+        let pool = Pool::standard();
         Ok(Config {
             subjects,
-            drainers: 1,
-            workers: 4,
-            window: 16,
-            connections: u32::MAX,
-            stall: 60,
-            idle: None,
-            takeover: false,
+            drainers: pool.drainers,
+            workers: pool.workers,
+            window: pool.window,
+            connections: pool.connections,
+            stall: pool.stall,
+            idle: pool.idle,
+            takeover: pool.takeover,
         })
     }
 }

@@ -1,3 +1,4 @@
+// Why a configuration was refused.
 use thiserror::Error;
 
 /// Why a configuration was refused: the first of these that holds, in this order, where each entry of `subject` is looked

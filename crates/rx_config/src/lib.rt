@@ -15,6 +15,7 @@
 mod budget;
 mod config;
 mod config_error;
+mod keys;
 mod listing;
 mod reader;
 mod subject_config;

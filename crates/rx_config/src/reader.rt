@@ -1,20 +1,20 @@
-//! The settings that the bytes of a TOML text say: each part of them is read from its table by the keys that stand there.
+// The settings that the bytes of a TOML text say: each part of them is read from its table by the keys that stand there.
 ghost use Rattle.std.specs.Prelude.{◌≡◌, ◌≢◌, ◌⊎◌, IfErr, IfOk, MatchResult, Err, Ok};
 ghost use Rattle.toml.specs.View.{table_view};
 ghost use Rattle.rx_config.specs.Configurations.{IsRefused, Says, settings_in, settings_of};
 
 pub(crate) mod fault;
-pub(crate) mod flags;
-pub(crate) mod members;
-pub(crate) mod numbers;
+pub(crate) mod limits;
 pub(crate) mod pool;
 pub(crate) mod subject_entry;
+pub(crate) mod subject_kind;
 pub(crate) mod subject_list;
 pub(crate) mod texts;
 
 use crate::config::Config;
 use crate::config_error::ConfigError;
-use crate::reader::members::has_only;
+use crate::keys::TOP_KEYS;
+use crate::keys::section::Section;
 use crate::reader::pool::Pool;
 use crate::reader::subject_list::subjects_at;
 use rx_heap::Heap;
@@ -45,13 +45,14 @@ fn config_in(alloc: Heap, runtime: Global, table: &Table) -> Result<Config, Conf
     ensures refused { IfErr result (λ cause. (cause ≡ ConfigError.Memory) ⊎ (settings_in (table_view table.now) ≡ Err cause)) }
     ensures read { IfErr result (λ cause. cause ≢ ConfigError.Syntax) }
 {
-    if !has_only(table, &["subject", "pool"]) {
+    let section = Section::of(table);
+    if !section.has_only(&TOP_KEYS, None) {
         return Err(ConfigError::UnknownKey);
     }
-    let Some(pool) = Pool::at(table) else {
+    let Some(pool) = Pool::at(&section) else {
         return Err(ConfigError::BadPool);
     };
-    match subjects_at(&alloc, runtime, table) {
+    match subjects_at(&alloc, runtime, &section) {
         Err(cause) => Err(cause),
         Ok(subjects) => Ok(Config {
             subjects,

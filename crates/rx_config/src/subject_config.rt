@@ -1,5 +1,5 @@
-// The subjects' configurations carry their limits as a fact of the type, so a run over them has no condition and no refusal
-// for bad limits.
+// A subject to be made. It carries its limits as a fact of its type, so a run over it has no condition and no refusal for bad
+// limits.
 ghost use Rattle.std.specs.Prelude.{◌≡◌, ◌^◌, min, MatchOption, Ok, Some, true};
 ghost use Rattle.rx_hub.specs.Hubs.{are_in_range};
 ghost use Rattle.rx_note.specs.Kinds.{kind_checked};

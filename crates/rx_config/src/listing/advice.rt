@@ -1,42 +1,31 @@
+// What is wrong with a key of a configuration, and what would be right.
+
+use crate::keys::key::Key;
+use crate::listing::known_keys::KnownKeys;
+use crate::listing::place::Place;
+use crate::listing::right_value::RightValue;
 use crate::listing::shown::Shown;
 use std::fmt;
-
-/// Where in a configuration a key stands.
-#[derive(Clone, Copy)]
-pub(crate) enum Place {
-    Top,
-    Pool,
-    /// In the entry of this number, from 0.
-    Subject(usize),
-}
-
-impl fmt::Display for Place {
-    fn fmt<W: fmt::Write>(&self, f: &mut fmt::Formatter<W>) -> fmt::Result {
-        match self {
-            Place::Top => f.write_str("config"),
-            Place::Pool => f.write_str("pool"),
-            Place::Subject(index) => write!(f, "subject {index}"),
-        }
-    }
-}
 
 /// What is wrong with a key of a configuration, and what would be right.
 #[derive(Clone, Copy)]
 pub(crate) enum Advice<'a> {
     /// The key is missing.
-    Missing(&'a str, &'static str),
+    Missing(&'a Key),
     /// What stands at the key may not stand there.
-    Wrong(&'a str, &'static str),
-    /// There is no such key. The keys that there are.
-    Unknown(&'a str, &'static str),
+    Wrong(&'a Key),
+    /// There is no key of this name at this place.
+    Unknown(&'a str, Place),
 }
 
 impl fmt::Display for Advice<'_> {
     fn fmt<W: fmt::Write>(&self, f: &mut fmt::Formatter<W>) -> fmt::Result {
         match self {
-            Advice::Missing(key, wants) => write!(f, "{key} is missing: {wants}"),
-            Advice::Wrong(key, wants) => write!(f, "{key} is wrong: {wants}"),
-            Advice::Unknown(key, known) => write!(f, "{} is no key: {known}", Shown(key)),
+            Advice::Missing(key) => write!(f, "{} is missing: {}", key.name, RightValue(key)),
+            Advice::Wrong(key) => write!(f, "{} is wrong: {}", key.name, RightValue(key)),
+            Advice::Unknown(name, place) => {
+                write!(f, "{} is no key: {}", Shown(name), KnownKeys(*place))
+            }
         }
     }
 }

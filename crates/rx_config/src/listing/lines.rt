@@ -1,4 +1,4 @@
-//! The lines of a configuration that was accepted.
+// The lines of a configuration that was accepted.
 ghost use Rattle.std.specs.Prelude.{◌≡◌, ◌++◌, IfOk, OnOk, codes, decimal, map};
 ghost use Rattle.rx_config.specs.Configurations.{settings_of, subject_of_config};
 ghost use Rattle.rx_config.specs.Listings.{bound_words, config_lines, crew_words, flag_words, kind_words, limit_words, option_words, pool_line, seed_words, service_words, subject_line, subject_lines};

@@ -1,3 +1,4 @@
+// A text of somebody else's, as eyes may have it.
 use std::fmt;
 
 /// A text of somebody else's for eyes: a control character, by which a terminal is steered or a line ends, is shown as `\x` and

@@ -1,3 +1,4 @@
+// Why a part of a configuration is not there.
 use rx_heap::Memory;
 
 /// Why a part of a configuration is not there.

@@ -1,9 +1,8 @@
+// What `pool` says: how many threads there are, and what they take on.
 ghost use Rattle.std.specs.Prelude.{◌≡◌, IfSome};
 
-use crate::reader::flags::flag_at;
-use crate::reader::members::{has_only, value_at};
-use crate::reader::numbers::{bound_at, number_at};
-use toml::Table;
+use crate::keys::section::Section;
+use crate::keys::{CONNECTIONS, DRAINERS, IDLE, POOL, POOL_KEYS, STALL, TAKEOVER, WINDOW, WORKERS};
 
 /// What `pool` says: how many threads there are, and what they take on.
 #[derive(Clone, Copy, Debug)]
@@ -18,65 +17,49 @@ pub(crate) struct Pool {
 }
 
 impl Pool {
-    ghost use Rattle.toml.specs.View.{table_view};
     ghost use Rattle.rx_config.specs.Configurations.{IsInRange, pool_at, pool_in, standard_pool};
+    ghost use Rattle.rx_config.specs.KeyTables.{members_in};
 
     /// The pool of a configuration that has none.
     pub(crate) fn standard() -> Pool
         ensures pool { result ≡ standard_pool }
         ensures in_range { IsInRange result }
     {
-        Pool {
-            drainers: 1,
-            workers: 4,
-            window: 16,
-            connections: u32::MAX,
-            stall: 60,
-            idle: None,
-            takeover: false,
-        }
+        let Some(pool) = Pool::of(&Section::missing()) else {
+            unreachable!()
+        };
+        pool
     }
 
     /// The pool of a configuration's table, which may be missing. None: it is refused.
-    pub(crate) fn at(table: &Table) -> Option<Pool>
-        ensures pool { result ≡ pool_at (table_view table.now) }
+    pub(crate) fn at(section: &Section) -> Option<Pool>
+        ensures pool { result ≡ pool_at (members_in section.now) }
         ensures in_range { IfSome result IsInRange }
     {
-        match value_at(table, "pool") {
+        match POOL.value_in(section) {
             None => Some(Pool::standard()),
             Some(value) => match value.as_table() {
                 None => None,
-                Some(table) => Pool::of(table),
+                Some(table) => Pool::of(&Section::of(table)),
             },
         }
     }
 
     // The pool of a table.
-    fn of(table: &Table) -> Option<Pool>
-        ensures pool { result ≡ pool_in (table_view table.now) }
+    fn of(section: &Section) -> Option<Pool>
+        ensures pool { result ≡ pool_in (members_in section.now) }
         ensures in_range { IfSome result IsInRange }
     {
-        if !has_only(
-            table,
-            &[
-                "drainers",
-                "workers",
-                "window",
-                "connections",
-                "stall",
-                "idle",
-                "takeover",
-            ],
-        ) {
+        if !section.has_only(&POOL_KEYS, None) {
             return None;
         }
-        let drainers = number_at(table, "drainers", 8, 1)?;
-        let workers = number_at(table, "workers", 32, 4)?;
-        let window = number_at(table, "window", 16, 16)?;
-        let connections = number_at(table, "connections", u32::MAX, u32::MAX)?;
-        let stall = number_at(table, "stall", 3_600, 60)?;
-        let idle = bound_at(table, "idle", 86_400)?;
-        let takeover = flag_at(table, "takeover")?;
+        let drainers = DRAINERS.number_in(section)?;
+        let workers = WORKERS.number_in(section)?;
+        let window = WINDOW.number_in(section)?;
+        let connections = CONNECTIONS.number_in(section)?;
+        let stall = STALL.number_in(section)?;
+        let idle = IDLE.bound_in(section)?;
+        let takeover = TAKEOVER.flag_in(section)?;
         Some(Pool {
             drainers: drainers as u8,
             workers: workers as u8,

@@ -1,32 +1,35 @@
+// The subjects of a configuration, each with another name.
 ghost use Rattle.std.specs.Prelude.{◌≡◌, ◌≢◌, ◌≤◌, ◌⊎◌, map, vec_len, IfErr, IfOk, OnOk, Err, Ok, []};
-ghost use Rattle.toml.specs.View.{array_view, table_view, view};
+ghost use Rattle.toml.specs.View.{array_view, view};
 ghost use Rattle.rx_config.specs.Configurations.{has_name, named_anew, next_subject, entries_read, subject_of_config, subjects_from, subjects_at};
+ghost use Rattle.rx_config.specs.KeyTables.{members_in};
 
 use crate::config_error::ConfigError;
+use crate::keys::SUBJECT;
+use crate::keys::section::Section;
 use crate::reader::fault::Fault;
-use crate::reader::members::value_at;
 use crate::reader::subject_entry::subject_of;
 use crate::subject_config::SubjectConfig;
 use rx_heap::Heap;
 use rx_proto::Name;
 use std::alloc::Global;
-use toml::{Table, Value};
+use toml::Value;
 
 /// The most subjects of a configuration.
-const MAX_SUBJECTS: usize = 16;
+pub(crate) const MAX_SUBJECTS: usize = 16;
 
 /// The subjects of a configuration's table: an array of 1 to 16 entries.
 pub(crate) fn subjects_at(
     heap: &Heap,
     runtime: Global,
-    table: &Table,
+    section: &Section,
 ) -> Result<Vec<SubjectConfig, Heap>, ConfigError>
-    ensures ok { IfOk result (λ subjects. subjects_at (table_view table.now) ≡ Ok (map subject_of_config subjects.items)) }
-    ensures refused { IfErr result (λ cause. (cause ≡ ConfigError.Memory) ⊎ (subjects_at (table_view table.now) ≡ Err cause)) }
+    ensures ok { IfOk result (λ subjects. subjects_at (members_in section.now) ≡ Ok (map subject_of_config subjects.items)) }
+    ensures refused { IfErr result (λ cause. (cause ≡ ConfigError.Memory) ⊎ (subjects_at (members_in section.now) ≡ Err cause)) }
     ensures read { IfErr result (λ cause. cause ≢ ConfigError.Syntax) }
     ensures count { IfOk result (λ subjects. (1 ≤ vec_len subjects) × (vec_len subjects ≤ 16)) }
 {
-    let Some(value) = value_at(table, "subject") else {
+    let Some(value) = SUBJECT.value_in(section) else {
         return Err(ConfigError::NoSubject);
     };
     match value.as_array() {

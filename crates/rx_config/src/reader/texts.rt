@@ -1,23 +1,14 @@
-ghost use Rattle.std.specs.Prelude.{◌≡◌, option_map};
-ghost use Rattle.toml.specs.View.{table_view};
-ghost use Rattle.rx_config.specs.Configurations.{Reads, line_in, name_in, seed_in, text_at};
+// The texts of a subject: its name, and the seed of a Behavior.
+ghost use Rattle.std.specs.Prelude.{◌≡◌};
+ghost use Rattle.rx_config.specs.Configurations.{Reads, line_in, name_in, seed_in};
+ghost use Rattle.rx_config.specs.KeyTables.{members_in};
 
+use crate::keys::SEED;
+use crate::keys::section::Section;
 use crate::reader::fault::Fault;
-use crate::reader::members::value_at;
 use rx_heap::Heap;
 use rx_note::{Text, TextError};
 use rx_proto::Name;
-use toml::Table;
-
-/// The text at a key.
-pub(crate) fn text_at<'a>(table: &'a Table, key: &str) -> Option<&'a str>
-    ensures { option_map (λ s. s.now) result ≡ text_at key.now (table_view table.now) }
-{
-    match value_at(table, key) {
-        None => None,
-        Some(value) => value.as_str(),
-    }
-}
 
 /// The name of these bytes.
 pub(crate) fn name_in(bytes: &[u8]) -> Option<Name>
@@ -27,10 +18,10 @@ pub(crate) fn name_in(bytes: &[u8]) -> Option<Name>
 }
 
 /// The seed of a table, which may be missing.
-pub(crate) fn seed_in(heap: &Heap, table: &Table) -> Result<Option<Text>, Fault>
-    ensures { Reads (seed_in (table_view table.now)) result }
+pub(crate) fn seed_in(heap: &Heap, section: &Section) -> Result<Option<Text>, Fault>
+    ensures { Reads (seed_in (members_in section.now)) result }
 {
-    let Some(value) = value_at(table, "seed") else {
+    let Some(value) = SEED.value_in(section) else {
         return Ok(None);
     };
     match value.as_str() {
