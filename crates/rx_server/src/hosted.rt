@@ -15,7 +15,8 @@ use std::vec::IntoIter;
 impl<W: Write + Drop + Send + 'static> Server<LineSink<W>> {
     ghost use Rattle.rx_pump.specs.Desks.{DeskView};
     ghost use Rattle.rx_sink.specs.declared.line_sink.LineSink.{LineSink};
-    ghost use Rattle.rx_workers.specs.Service.{ServesUntil};
+    ghost use Rattle.rx_workers.specs.Service.{ServesUntil, reception, surroundings};
+    ghost use Rattle.rx_workers.specs.Workers.{peers};
     ghost use Rattle.rx_server.specs.Servers.{RunsOn};
 
     /// Serves each connection that comes by a session, until as many have ended as the configuration says. A worker serves for
@@ -37,7 +38,8 @@ impl<W: Write + Drop + Send + 'static> Server<LineSink<W>> {
         ensures taken { OnOk result (self.new.desks ≡ []) }
 
         // By its desks, which were left so.
-        ensures served { (after : List (DeskView (LineSink W))) × ServesUntil L.accepts L.fails M.tells L.Reader.remaining W.contents self.old.config result listener.old listener.new self.old.desks after }
+        ensures served { (after : List (DeskView (LineSink W))) × ServesUntil (surroundings L.accepts L.fails (peers M.tells L.Reader.remaining W.contents)) self.old.config result
+            (reception listener.old self.old.desks) (reception listener.new after) }
         ensures same { RunsOn self.old self.new }
     {
         let count = self.desks.len();

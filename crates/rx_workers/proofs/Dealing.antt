@@ -10,7 +10,7 @@ use Rattle.rx_mailbox.specs.Boxes.{Outgoing, with_post, with_more}
 use Rattle.rx_pump.specs.Marks.{to_port}
 use Rattle.rx_mailbox.specs.PortRows.{Puts}
 use Rattle.rx_pump.proofs.Putting.{Puts-at, Puts-none, Puts-same, Puts-then}
-use Rattle.rx_workers.specs.Accepting.{dealt, Deals, Accepts, AcceptsAll, AcceptsNext, HoldsNothing}
+use Rattle.rx_workers.specs.Accepting.{dealt_to, Deals, Accepts, AcceptsAll, AcceptsNext, HoldsNothing}
 use Rattle.rx_workers.specs.declared.crew.acceptor.AcceptStop.{AcceptStop}
 use Rattle.rx_workers.specs.declared.crew.acceptor.AcceptStop.TheVariants.{NoConnection, WorkerGone}
 
@@ -44,12 +44,12 @@ module _ {X : Type 0} where
   held_at ports place port within port_is nothing = ap (λ (p : Outgoing X). p.held) port_is ∙ nothing place port within
 
   -- one connection more is dealt
-  dealt-more : (n d first : ℕ) (xs : List X) (x : X) → dealt n d first (xs ++ x ∷ []) ≡ dealt n d first xs ++ to_port ((first + length xs) % n) d x
+  dealt-more : (n d first : ℕ) (xs : List X) (x : X) → dealt_to n d first (xs ++ x ∷ []) ≡ dealt_to n d first xs ++ to_port ((first + length xs) % n) d x
   dealt-more n d first [] x = append-nil (to_port (first % n) d x) ∙ ap (λ k. to_port (k % n) d x) (omega arith)
   dealt-more n d first (y ∷ xs) x =
       let index : (first + 1) + length xs ≡ first + length (y ∷ xs) = omega arith in
-      ap (λ zs. to_port (first % n) d y ++ zs) (dealt-more n d (first + 1) xs x ∙ ap (λ k. dealt n d (first + 1) xs ++ to_port (k % n) d x) index)
-      ∙ sym (append_assoc (to_port (first % n) d y) (dealt n d (first + 1) xs) (to_port ((first + length (y ∷ xs)) % n) d x))
+      ap (λ zs. to_port (first % n) d y ++ zs) (dealt-more n d (first + 1) xs x ∙ ap (λ k. dealt_to n d (first + 1) xs ++ to_port (k % n) d x) index)
+      ∙ sym (append_assoc (to_port (first % n) d y) (dealt_to n d (first + 1) xs) (to_port ((first + length (y ∷ xs)) % n) d x))
 
   -- the connections so far were dealt, and one more is sent to its worker
   Deals-more : (xs : List X) (x : X) (number : ℕ) (before now after : List (Outgoing X)) → length xs ≡ number → Deals xs before now
@@ -57,9 +57,9 @@ module _ {X : Type 0} where
   Deals-more xs x number before now after count so one =
       let n = length before in
       let index : number % length now ≡ (0 + length xs) % n = ap (λ k. number % k) so.count ∙ ap (λ k. k % n) (omega (arith, count)) in
-      Puts-same (λ d. dealt n d 0 xs ++ to_port (number % length now) d x) (λ d. dealt n d 0 (xs ++ x ∷ [])) before after
-      (λ d. ap (λ k. dealt n d 0 xs ++ to_port k d x) index ∙ sym (dealt-more n d 0 xs x))
-      (Puts-then (λ d. dealt n d 0 xs) (λ d. to_port (number % length now) d x) before now after so one)
+      Puts-same (λ d. dealt_to n d 0 xs ++ to_port (number % length now) d x) (λ d. dealt_to n d 0 (xs ++ x ∷ [])) before after
+      (λ d. ap (λ k. dealt_to n d 0 xs ++ to_port k d x) index ∙ sym (dealt-more n d 0 xs x))
+      (Puts-then (λ d. dealt_to n d 0 xs) (λ d. to_port (number % length now) d x) before now after so one)
 
 module _ {L X : Type 0} (accepts : L → X → L → Type 0) where
   -- one connection more

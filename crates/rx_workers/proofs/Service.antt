@@ -15,12 +15,12 @@ use Rattle.rx_mailbox.specs.declared.letter.Post.TheVariants.{Bye}
 use Rattle.rx_pump.specs.Desks.{DeskView, KeepsDesk}
 use Rattle.rx_mailbox.specs.PortRows.{with_bye}
 use Rattle.rx_sink.specs.declared.line_sink.LineSink.{LineSink}
-use Rattle.rx_workers.specs.Accepting.{dealt, Deals, AcceptsAll}
+use Rattle.rx_workers.specs.Accepting.{dealt_to, Deals, AcceptsAll}
 use Rattle.rx_workers.specs.Crews.{AreOut, IsPortOf, NamesLast, worker_desk, first_lost}
-use Rattle.rx_workers.specs.Service.{DealsUntil, EndsEarly, FirstEndsEarly, HasServedJust, HaveServedFrom, HaveServedAll, IsNewOver, ServesUntil, fault_in, port_to, session_over, with_lost}
+use Rattle.rx_workers.specs.Service.{DealsUntil, NotHired, AllHired, EndsEarly, FirstEndsEarly, HasServedJust, HaveServedFrom, HaveServedAll, IsNewOver, Reception, Surroundings, NeverBegan, GoneBefore, EarlyOfAll, EarlyOfFewer, ServesUntil, fault_in, port_to, reception, session_over, with_lost}
 use Rattle.rx_desk.specs.SessionDesks.{SessionView, no_queue}
 use Rattle.rx_workers.specs.Telling.{IsTold}
-use Rattle.rx_workers.specs.Workers.{HasEnded, worker_at_end}
+use Rattle.rx_workers.specs.Workers.{Peers, HasServed, HasEnded, worker_at_end}
 use Rattle.rx_workers.specs.Working.{WorkerView, worker, HasWorked, state, came}
 use Rattle.rx_workers.specs.declared.crew.acceptor.AcceptStop.{AcceptStop}
 use Rattle.rx_workers.specs.declared.crew.acceptor.AcceptStop.TheVariants.{NoConnection, WorkerGone}
@@ -66,20 +66,20 @@ module _ {C W : Type 0} where
       ∙ ap (λ (n : ℕ). incoming box n inbox.received) ports_are
       ∙ ap (λ (l : List (Letter (C × W))). incoming box 1 l) (sym (share-all inbox.received from) ∙ got)
 
-module _ {M C W : Type 0} (tells : M → ℕ → M → Type 0) (remaining : C → Option (List ℕ)) (contents : W → Option (List ℕ)) where
+module _ {M C W : Type 0} (around : Peers M C W) where
   -- the box of a worker that has ended is the one that it had
-  pub ended_box : (one : WorkerView (Unit {0}) C W) (end : WorkerEnd C W) → HasEnded tells remaining contents one end → end.inbox.box ≡ one.inbox.box
+  pub ended_box : (one : WorkerView (Unit {0}) C W) (end : WorkerEnd C W) → HasEnded around one end → end.inbox.box ≡ one.inbox.box
   ended_box one end ended =
-      (works_came (λ _ moment _. IsTold tells moment) remaining contents ended.2.deeds (state one.session one.inbox [] 0 true)
+      (works_came (λ _ moment _. IsTold around.tells moment) around.remaining around.contents ended.2.deeds (state one.session one.inbox [] 0 true)
       (state (worker_at_end one ended.0 ended.1 end).session end.inbox ended.2.clients end.sessions false) ended.2.works).box
 
-module _ {M C W : Type 0} (tells : M → ℕ → M → Type 0) (remaining : C → Option (List ℕ)) (contents : W → Option (List ℕ)) (config : Config) where
+module _ {M C W : Type 0} (around : Peers M C W) (config : Config) where
   -- what an inbox of a new worker has received
-  received_new : (desk : DeskView (LineSink W)) (one : WorkerView (Unit {0}) C W) (end : WorkerEnd C W) (xs : List (C × W)) (port : Outgoing (C × W)) (ended : HasEnded tells remaining contents one end)
+  received_new : (desk : DeskView (LineSink W)) (one : WorkerView (Unit {0}) C W) (end : WorkerEnd C W) (xs : List (C × W)) (port : Outgoing (C × W)) (ended : HasEnded around one end)
       → IsNewOver config desk one → port ≡ outgoing one.inbox.box 0 (posts 0 xs) → GotAll end.inbox (with_bye port)
       → (end.inbox ≡ incoming one.inbox.box 1 (posts 0 xs ++ letter 0 Bye ∷ [])) × (came ended.2.deeds ≡ xs)
   received_new desk one end xs port ended new port_is got =
-      let h = works_came (λ _ moment _. IsTold tells moment) remaining contents ended.2.deeds
+      let h = works_came (λ _ moment _. IsTold around.tells moment) around.remaining around.contents ended.2.deeds
       (state one.session one.inbox [] 0 true)
       (state (worker_at_end one ended.0 ended.1 end).session end.inbox ended.2.clients end.sessions false) ended.2.works in
       let ports_are : one.inbox.ports ≡ 1 = ap (λ (i : Incoming (C × W)). i.ports) new.inbox in
@@ -92,12 +92,11 @@ module _ {M C W : Type 0} (tells : M → ℕ → M → Type 0) (remaining : C �
       (inbox, sym bodies_are ∙ ap (λ (i : Incoming (C × W)). bodies i.received) inbox ∙ bodies-posts xs)
 
   -- THE WORKER OF A DESK that ended, and whose box settled
-  pub served_just : (desk : DeskView (LineSink W)) (one : WorkerView (Unit {0}) C W) (end : WorkerEnd C W) (xs : List (C × W)) (port : Outgoing (C × W)) → HasEnded tells remaining contents one end
+  pub served_just : (desk : DeskView (LineSink W)) (one : WorkerView (Unit {0}) C W) (end : WorkerEnd C W) (xs : List (C × W)) (port : Outgoing (C × W)) → HasEnded around one end
       → IsNewOver config desk one → port ≡ outgoing one.inbox.box 0 (posts 0 xs) → GotAll end.inbox (with_bye port)
-      → HasServedJust tells remaining contents config xs desk end.desk
+      → HasServedJust around config xs desk end.desk
   served_just desk one end xs port ended new port_is got =
-      let T : ℕ → Type 0 = IsTold tells in
-      let H : WorkerView (Unit {0}) C W → Type 0 = λ w. (h : HasWorked (λ _ moment _. IsTold tells moment) remaining contents one w end.sessions) × (came h.deeds ≡ xs) in
+      let H : WorkerView (Unit {0}) C W → Type 0 = λ w. (h : HasServed around one w end.sessions) × (came h.deeds ≡ xs) in
       let inbox = received_new desk one end xs port ended new port_is got in
       let session : (worker_at_end one ended.0 ended.1 end).session ≡ session_over config end.desk ended.0 ended.1 =
       ap (λ (s : SessionView (Unit {0}) (LineSink W)). record { subjects = s.subjects; window = s.window; moments = tt; calls = end.desk; joined = ended.0; queue = ended.1 }) new.session in
@@ -111,9 +110,9 @@ module _ {M C W : Type 0} (tells : M → ℕ → M → Type 0) (remaining : C �
 
   -- one more desk, behind others
   served_from_push : (n d k : ℕ) (xs : List (C × W)) (desks backs : List (DeskView (LineSink W))) (desk back : DeskView (LineSink W)) → k ≡ d + length desks
-      → HaveServedFrom tells remaining contents config n d xs desks backs → HasServedJust tells remaining contents config (dealt n k 0 xs) desk back
-      → HaveServedFrom tells remaining contents config n d xs (desks ++ desk ∷ []) (backs ++ back ∷ [])
-  served_from_push n d k xs [] [] desk back is so one = (subst (λ (m : ℕ). HasServedJust tells remaining contents config (dealt n m 0 xs) desk back) (omega (arith, is)) one, tt)
+      → HaveServedFrom around config n d xs desks backs → HasServedJust around config (dealt_to n k 0 xs) desk back
+      → HaveServedFrom around config n d xs (desks ++ desk ∷ []) (backs ++ back ∷ [])
+  served_from_push n d k xs [] [] desk back is so one = (subst (λ (m : ℕ). HasServedJust around config (dealt_to n m 0 xs) desk back) (omega (arith, is)) one, tt)
   served_from_push n d k xs [] (b ∷ backs) desk back is so one = absurd so
   served_from_push n d k xs (e ∷ desks) [] desk back is so one = absurd so
   served_from_push n d k xs (e ∷ desks) (b ∷ backs) desk back is so one =
@@ -123,32 +122,32 @@ module _ {C W : Type 0} where
   -- ports, of which the first is that at place d of n, by which what was dealt was sent
   abbrev pub dealt_by : ℕ → ℕ → List (C × W) → List (Outgoing (C × W)) → List (Outgoing (C × W))
   dealt_by n d xs [] = []
-  dealt_by n d xs (port ∷ ports) = with_more (dealt n d 0 xs) port ∷ dealt_by n (d + 1) xs ports
+  dealt_by n d xs (port ∷ ports) = with_more (dealt_to n d 0 xs) port ∷ dealt_by n (d + 1) xs ports
 
   -- what each put, told place by place, is what was dealt
   puts_dealt : (n d : ℕ) (xs : List (C × W)) (before after : List (Outgoing (C × W))) → length after ≡ length before
-      → ((i : ℕ) → slice_get after i ≡ option_map (with_more (dealt n (d + i) 0 xs)) (slice_get before i)) → after ≡ dealt_by n d xs before
+      → ((i : ℕ) → slice_get after i ≡ option_map (with_more (dealt_to n (d + i) 0 xs)) (slice_get before i)) → after ≡ dealt_by n d xs before
   puts_dealt n d xs [] [] count at = refl
   puts_dealt n d xs [] (a ∷ after) count at = absurd (omega (arith, count))
   puts_dealt n d xs (p ∷ before) [] count at = absurd (omega (arith, count))
   puts_dealt n d xs (p ∷ before) (a ∷ after) count at =
       let place : d + 0 ≡ d = omega arith in
-      let first : a ≡ with_more (dealt n d 0 xs) p = same_Some a (with_more (dealt n (d + 0) 0 xs) p) (at 0) ∙ ap (λ (k : ℕ). with_more (dealt n k 0 xs) p) place in
+      let first : a ≡ with_more (dealt_to n d 0 xs) p = same_Some a (with_more (dealt_to n (d + 0) 0 xs) p) (at 0) ∙ ap (λ (k : ℕ). with_more (dealt_to n k 0 xs) p) place in
       ap (λ (q : Outgoing (C × W)). q ∷ after) first
-      ∙ ap (λ (l : List (Outgoing (C × W))). with_more (dealt n d 0 xs) p ∷ l)
-      (puts_dealt n (d + 1) xs before after (omega (arith, count)) (λ i. at (suc i) ∙ ap (λ (k : ℕ). option_map (with_more (dealt n k 0 xs)) (slice_get before i)) (omega arith)))
+      ∙ ap (λ (l : List (Outgoing (C × W))). with_more (dealt_to n d 0 xs) p ∷ l)
+      (puts_dealt n (d + 1) xs before after (omega (arith, count)) (λ i. at (suc i) ∙ ap (λ (k : ℕ). option_map (with_more (dealt_to n k 0 xs)) (slice_get before i)) (omega arith)))
 
   -- so what an acceptor dealt
   pub deals_dealt : (xs : List (C × W)) (before after : List (Outgoing (C × W))) → Deals xs before after → after ≡ dealt_by (length before) 0 xs before
   deals_dealt xs before after deals =
-      puts_dealt (length before) 0 xs before after deals.count (λ i. deals.at i ∙ ap (λ (k : ℕ). option_map (with_more (dealt (length before) k 0 xs)) (slice_get before i)) (omega arith))
+      puts_dealt (length before) 0 xs before after deals.count (λ i. deals.at i ∙ ap (λ (k : ℕ). option_map (with_more (dealt_to (length before) k 0 xs)) (slice_get before i)) (omega arith))
 
-module _ {M C W : Type 0} (tells : M → ℕ → M → Type 0) (remaining : C → Option (List ℕ)) (contents : W → Option (List ℕ)) (config : Config) where
+module _ {M C W : Type 0} (around : Peers M C W) (config : Config) where
   -- the workers of the first desks have ended, and served what was dealt to them; those that are left hold what was dealt to them
   pub record HaveServedSome (n : ℕ) (xs : List (C × W)) (all here : List (DeskView (LineSink W))) (workers : List (WorkerView (Unit {0}) C W)) (ports : List (Outgoing (C × W))) : Type 0 where
     pub kept : List (DeskView (LineSink W))
     pub parts : kept ++ map worker_desk (reverse workers) ≡ all
-    pub served : HaveServedFrom tells remaining contents config n 0 xs kept here
+    pub served : HaveServedFrom around config n 0 xs kept here
     pub new : All (λ one. IsNewOver config (worker_desk one) one) workers
     pub waits : reverse ports ≡ dealt_by n (length kept) xs (map port_to (reverse workers))
 
@@ -159,7 +158,7 @@ module _ {M C W : Type 0} (tells : M → ℕ → M → Type 0) (remaining : C �
   some-none xs here workers ports none new deals = record {
     kept = [];
     parts = refl;
-    served = subst (λ (l : List (DeskView (LineSink W))). HaveServedFrom tells remaining contents config (length workers) 0 xs [] l) (sym none) tt;
+    served = subst (λ (l : List (DeskView (LineSink W))). HaveServedFrom around config (length workers) 0 xs [] l) (sym none) tt;
     new = new;
     waits =
         let n : length (reverse (map port_to workers)) ≡ length workers = length-reverse (map port_to workers) ∙ length-map workers port_to in
@@ -171,26 +170,26 @@ module _ {M C W : Type 0} (tells : M → ℕ → M → Type 0) (remaining : C �
   -- the last worker's port holds what was dealt to it
   pub some-port : (n : ℕ) (xs : List (C × W)) (all here : List (DeskView (LineSink W))) (workers left : List (WorkerView (Unit {0}) C W)) (ports rest : List (Outgoing (C × W)))
       → (one : WorkerView (Unit {0}) C W) (port : Outgoing (C × W)) → workers ≡ left ++ one ∷ [] → ports ≡ rest ++ port ∷ []
-      → (so : HaveServedSome n xs all here workers ports) → (port ≡ outgoing one.inbox.box 0 (posts 0 (dealt n (length so.kept) 0 xs))) × (reverse rest ≡ dealt_by n (length so.kept + 1) xs (map port_to (reverse left)))
+      → (so : HaveServedSome n xs all here workers ports) → (port ≡ outgoing one.inbox.box 0 (posts 0 (dealt_to n (length so.kept) 0 xs))) × (reverse rest ≡ dealt_by n (length so.kept + 1) xs (map port_to (reverse left)))
   some-port n xs all here workers left ports rest one port took took_port so =
       let k = length so.kept in
-      let whole : port ∷ reverse rest ≡ with_more (dealt n k 0 xs) (port_to one) ∷ dealt_by n (k + 1) xs (map port_to (reverse left)) =
+      let whole : port ∷ reverse rest ≡ with_more (dealt_to n k 0 xs) (port_to one) ∷ dealt_by n (k + 1) xs (map port_to (reverse left)) =
       sym (last_first ports rest port took_port) ∙ so.waits ∙ ap (λ (ws : List (WorkerView (Unit {0}) C W)). dealt_by n k xs (map port_to ws)) (last_first workers left one took) in (
-        same_head port (with_more (dealt n k 0 xs) (port_to one)) (reverse rest) (dealt_by n (k + 1) xs (map port_to (reverse left))) whole,
-        same_tail port (with_more (dealt n k 0 xs) (port_to one)) (reverse rest) (dealt_by n (k + 1) xs (map port_to (reverse left))) whole,
+        same_head port (with_more (dealt_to n k 0 xs) (port_to one)) (reverse rest) (dealt_by n (k + 1) xs (map port_to (reverse left))) whole,
+        same_tail port (with_more (dealt_to n k 0 xs) (port_to one)) (reverse rest) (dealt_by n (k + 1) xs (map port_to (reverse left))) whole,
       )
 
   -- one more has ended, and its box settled
   pub some-one : (n : ℕ) (xs : List (C × W)) (all here after : List (DeskView (LineSink W))) (workers left : List (WorkerView (Unit {0}) C W)) (ports rest : List (Outgoing (C × W)))
       → (one : WorkerView (Unit {0}) C W) (port : Outgoing (C × W)) (back : DeskView (LineSink W)) → workers ≡ left ++ one ∷ [] → ports ≡ rest ++ port ∷ [] → after ≡ here ++ back ∷ []
-      → ((ys : List (C × W)) → IsNewOver config (worker_desk one) one → port ≡ outgoing one.inbox.box 0 (posts 0 ys) → HasServedJust tells remaining contents config ys (worker_desk one) back)
+      → ((ys : List (C × W)) → IsNewOver config (worker_desk one) one → port ≡ outgoing one.inbox.box 0 (posts 0 ys) → HasServedJust around config ys (worker_desk one) back)
       → HaveServedSome n xs all here workers ports → HaveServedSome n xs all after left rest
   some-one n xs all here after workers left ports rest one port back took took_port put served so =
       let P : WorkerView (Unit {0}) C W → Type 0 = λ one. IsNewOver config (worker_desk one) one in
       let news = All-pop P workers left (Some one) took so.new in
       let p = some-port n xs all here workers left ports rest one port took took_port so in
       let k = length so.kept in
-      let just : HasServedJust tells remaining contents config (dealt n k 0 xs) (worker_desk one) back = served (dealt n k 0 xs) news.1 p.0 in
+      let just : HasServedJust around config (dealt_to n k 0 xs) (worker_desk one) back = served (dealt_to n k 0 xs) news.1 p.0 in
       let count : length (so.kept ++ worker_desk one ∷ []) ≡ k + 1 = length-append so.kept (worker_desk one ∷ []) in
       record {
         kept = so.kept ++ worker_desk one ∷ [];
@@ -199,22 +198,22 @@ module _ {M C W : Type 0} (tells : M → ℕ → M → Type 0) (remaining : C �
             ∙ ap (λ (ws : List (WorkerView (Unit {0}) C W)). so.kept ++ map worker_desk ws) (sym (last_first workers left one took))
             ∙ so.parts;
         served =
-            subst (λ (l : List (DeskView (LineSink W))). HaveServedFrom tells remaining contents config n 0 xs (so.kept ++ worker_desk one ∷ []) l) (sym put)
-            (served_from_push tells remaining contents config n 0 k xs so.kept here (worker_desk one) back (omega arith) so.served just);
+            subst (λ (l : List (DeskView (LineSink W))). HaveServedFrom around config n 0 xs (so.kept ++ worker_desk one ∷ []) l) (sym put)
+            (served_from_push around config n 0 k xs so.kept here (worker_desk one) back (omega arith) so.served just);
         new = news.0;
         waits = p.1 ∙ ap (λ (m : ℕ). dealt_by n m xs (map port_to (reverse left))) (sym count);
       }
 
   -- all have ended
   pub some-all : (n : ℕ) (xs : List (C × W)) (all here : List (DeskView (LineSink W))) (workers : List (WorkerView (Unit {0}) C W)) (ports : List (Outgoing (C × W))) → workers ≡ [] → n ≡ length all
-      → HaveServedSome n xs all here workers ports → HaveServedAll tells remaining contents config xs all here
+      → HaveServedSome n xs all here workers ports → HaveServedAll around config xs all here
   some-all n xs all here workers ports none count so =
       let whole : so.kept ≡ all = sym (append-nil so.kept) ∙ ap (λ (ws : List (WorkerView (Unit {0}) C W)). so.kept ++ map worker_desk (reverse ws)) (sym none) ∙ so.parts in
-      subst (λ (m : ℕ). HaveServedFrom tells remaining contents config m 0 xs all here) count
-      (subst (λ (l : List (DeskView (LineSink W))). HaveServedFrom tells remaining contents config n 0 xs l here) whole so.served)
+      subst (λ (m : ℕ). HaveServedFrom around config m 0 xs all here) count
+      (subst (λ (l : List (DeskView (LineSink W))). HaveServedFrom around config n 0 xs l here) whole so.served)
 
   -- as many desks came back as served
-  served_from-long : (n d : ℕ) (xs : List (C × W)) (desks backs : List (DeskView (LineSink W))) → HaveServedFrom tells remaining contents config n d xs desks backs → length backs ≡ length desks
+  served_from-long : (n d : ℕ) (xs : List (C × W)) (desks backs : List (DeskView (LineSink W))) → HaveServedFrom around config n d xs desks backs → length backs ≡ length desks
   served_from-long n d xs [] [] so = refl
   served_from-long n d xs [] (back ∷ backs) so = absurd so
   served_from-long n d xs (desk ∷ desks) [] so = absurd so
@@ -224,8 +223,8 @@ module _ {M C W : Type 0} (tells : M → ℕ → M → Type 0) (remaining : C �
   pub first-early : (n : ℕ) (xs : List (C × W)) (all here after : List (DeskView (LineSink W))) (workers left : List (WorkerView (Unit {0}) C W)) (ports rest : List (Outgoing (C × W)))
       → (one : WorkerView (Unit {0}) C W) (port : Outgoing (C × W)) (back : DeskView (LineSink W)) (place : ℕ) → n ≡ length all → place ≡ length here
       → workers ≡ left ++ one ∷ [] → ports ≡ rest ++ port ∷ [] → after ≡ here ++ back ∷ []
-      → ((ys : List (C × W)) → IsNewOver config (worker_desk one) one → port ≡ outgoing one.inbox.box 0 (posts 0 ys) → EndsEarly tells remaining contents config ys (worker_desk one) back)
-      → HaveServedSome n xs all here workers ports → FirstEndsEarly tells remaining contents config xs place all after
+      → ((ys : List (C × W)) → IsNewOver config (worker_desk one) one → port ≡ outgoing one.inbox.box 0 (posts 0 ys) → EndsEarly around config ys (worker_desk one) back)
+      → HaveServedSome n xs all here workers ports → FirstEndsEarly around config xs place all after
   first-early n xs all here after workers left ports rest one port back place count place_is took took_port put early so =
       let P : WorkerView (Unit {0}) C W → Type 0 = λ one. IsNewOver config (worker_desk one) one in
       let new = (All-pop P workers left (Some one) took so.new).1 in
@@ -241,13 +240,13 @@ module _ {M C W : Type 0} (tells : M → ℕ → M → Type 0) (remaining : C �
         back = back;
         later = [];
         parts_after = sym put;
-        served = subst (λ (m : ℕ). HaveServedFrom tells remaining contents config m 0 xs so.kept here) count so.served;
-        early = subst (λ (m : ℕ). EndsEarly tells remaining contents config (dealt m k 0 xs) (worker_desk one) back) count (early (dealt n k 0 xs) new p.0);
+        served = subst (λ (m : ℕ). HaveServedFrom around config m 0 xs so.kept here) count so.served;
+        early = subst (λ (m : ℕ). EndsEarly around config (dealt_to m k 0 xs) (worker_desk one) back) count (early (dealt_to n k 0 xs) new p.0);
       }
 
   -- and others end behind it
   pub first-push : (xs : List (C × W)) (place : ℕ) (all here after : List (DeskView (LineSink W))) (back : DeskView (LineSink W)) → after ≡ here ++ back ∷ []
-      → FirstEndsEarly tells remaining contents config xs place all here → FirstEndsEarly tells remaining contents config xs place all after
+      → FirstEndsEarly around config xs place all here → FirstEndsEarly around config xs place all after
   first-push xs place all here after back put first = record {
     before = first.before;
     desk = first.desk;
@@ -365,70 +364,74 @@ module _ {C W : Type 0} where
       let all : length out.kept + length (map worker_desk (reverse workers)) ≡ length desks = sym (length-append out.kept (map worker_desk (reverse workers))) ∙ ap length out.parts in
       omega (arith, same, all)
 
-module _ {L M C W : Type 0} (accepts : L → C × W → L → Type 0) (fails : L → L → Type 0) (tells : M → ℕ → M → Type 0)
-    (remaining : C → Option (List ℕ)) (contents : W → Option (List ℕ)) (config : Config) where
+module _ {L M C W : Type 0} (around : Surroundings L M C W) (config : Config) where
   -- what is known of the desks that came back, where no worker was lost
   abbrev pub ServedUnlessLost : Option ℕ → List (DeskView (LineSink W)) → List (DeskView (LineSink W)) → List (DeskView (LineSink W)) → List (WorkerView (Unit {0}) C W) → List (Outgoing (C × W)) → Type 0
   ServedUnlessLost lost desks here after workers ports =
-      lost ≡ None → here ≡ [] → (xs : List (C × W)) → Deals xs (reverse (map port_to workers)) (reverse ports) → HaveServedAll tells remaining contents config xs desks after
+      lost ≡ None → here ≡ [] → (xs : List (C × W)) → Deals xs (reverse (map port_to workers)) (reverse ports) → HaveServedAll around.workers config xs desks after
 
   -- and where one was
   abbrev pub FirstIfLost : Option ℕ → List (DeskView (LineSink W)) → List (DeskView (LineSink W)) → List (DeskView (LineSink W)) → List (WorkerView (Unit {0}) C W) → List (Outgoing (C × W)) → Type 0
   FirstIfLost lost desks here after workers ports =
-      (place : ℕ) → lost ≡ Some place → here ≡ [] → (xs : List (C × W)) → Deals xs (reverse (map port_to workers)) (reverse ports) → FirstEndsEarly tells remaining contents config xs place desks after
+      (place : ℕ) → lost ≡ Some place → here ≡ [] → (xs : List (C × W)) → Deals xs (reverse (map port_to workers)) (reverse ports) → FirstEndsEarly around.workers config xs place desks after
 
   -- the next connection was for a worker that is gone
-  gone_so : (place : ℕ) (listener listener_after : L) (desks after : List (DeskView (LineSink W))) (workers : List (WorkerView (Unit {0}) C W)) (ports : List (Outgoing (C × W)))
-      → 0 < length desks → length (reverse (map port_to workers)) ≡ length desks
-      → AcceptsAll accepts fails config.connections (Err (WorkerGone place)) listener listener_after (reverse (map port_to workers)) (reverse ports)
-      → ServesUntil accepts fails tells remaining contents config (Err (Thread place)) listener listener_after desks after
-  gone_so place listener listener_after desks after workers ports some count all =
-      let place_is : place ≡ length all.0 % length desks = all.4 ∙ ap (λ (n : ℕ). length all.0 % n) count in
-      let within : length all.0 % length desks < length desks = omega arith in
-      (subst (λ (n : ℕ). n < length desks) (sym place_is) within, inr (inl (all.0, all.1, all.2, all.3, place_is)))
+  gone_so : (place : ℕ) (before after : Reception L W) (workers : List (WorkerView (Unit {0}) C W)) (ports : List (Outgoing (C × W)))
+      → 0 < length before.desks → length (reverse (map port_to workers)) ≡ length before.desks
+      → AcceptsAll around.accepts around.fails config.connections (Err (WorkerGone place)) before.listener after.listener (reverse (map port_to workers)) (reverse ports)
+      → ServesUntil around config (Err (Thread place)) before after
+  gone_so place before after workers ports some count all =
+      let place_is : place ≡ length all.0 % length before.desks = all.4 ∙ ap (λ (n : ℕ). length all.0 % n) count in
+      let within : length all.0 % length before.desks < length before.desks = omega arith in
+      record {
+        within = subst (λ (n : ℕ). n < length before.desks) (sym place_is) within;
+        how = GoneBefore (record { connections = all.0; lost = all.1; fewer = all.2; accepted = all.3; worker = place_is });
+      }
 
   -- no worker was hired for one of the desks
-  hired_so : (fault : ServeFault) (lost : Option ℕ) (listener listener_after : L) (desks here after : List (DeskView (LineSink W)))
-      → 0 < length desks → length here ≤ length desks → NamesLast (length here) fault → listener_after ≡ listener
-      → ServesUntil accepts fails tells remaining contents config (with_lost (Err fault) lost) listener listener_after desks after
-  hired_so NoDesk lost listener listener_after desks here after some most names same = absurd names
-  hired_so Accept lost listener listener_after desks here after some most names same = absurd names
-  hired_so (Thread place) None listener listener_after desks here after some most names same = (omega (arith, names, most), inl same)
-  hired_so (Thread place) (Some first) listener listener_after desks here after some most names same = (omega (arith, names, most), inl same)
-  hired_so Memory None listener listener_after desks here after some most names same = (some, same)
-  hired_so Memory (Some first) listener listener_after desks here after some most names same = (some, same)
+  hired_so : (fault : ServeFault) (lost : Option ℕ) (before after : Reception L W) (here : List (DeskView (LineSink W)))
+      → 0 < length before.desks → length here ≤ length before.desks → NamesLast (length here) fault → after.listener ≡ before.listener
+      → ServesUntil around config (with_lost (Err fault) lost) before after
+  hired_so NoDesk lost before after here some most names same = absurd names
+  hired_so Accept lost before after here some most names same = absurd names
+  hired_so (Thread place) None before after here some most names same = record { within = omega (arith, names, most); how = NeverBegan same }
+  hired_so (Thread place) (Some first) before after here some most names same = record { within = omega (arith, names, most); how = NeverBegan same }
+  hired_so Memory None before after here some most names same = record { some_desk = some; untouched = same }
+  hired_so Memory (Some first) before after here some most names same = record { some_desk = some; untouched = same }
 
   -- by how the acceptor stopped
-  stopped_so : (stop : Result (Unit {0}) AcceptStop) (lost : Option ℕ) (listener listener_after : L) (desks here after : List (DeskView (LineSink W))) (workers : List (WorkerView (Unit {0}) C W)) (ports : List (Outgoing (C × W)))
-      → 0 < length desks → here ≡ [] → length (reverse (map port_to workers)) ≡ length desks → IfSome lost (λ place. place < length desks)
-      → AcceptsAll accepts fails config.connections stop listener listener_after (reverse (map port_to workers)) (reverse ports) → ServedUnlessLost lost desks here after workers ports
-      → FirstIfLost lost desks here after workers ports
-      → ServesUntil accepts fails tells remaining contents config (with_lost (fault_in stop) lost) listener listener_after desks after
-  stopped_so (Ok _) None listener listener_after desks here after workers ports some none count within all so first = (all.0, (all.1, all.2), so refl none all.0 all.3)
-  stopped_so (Ok _) (Some place) listener listener_after desks here after workers ports some none count within all so first = (within, inr (inr (inl (all.0, (all.1, all.2), first place refl none all.0 all.3))))
-  stopped_so (Err NoConnection) None listener listener_after desks here after workers ports some none count within all so first =
-      (all.0, (all.1, all.2, all.3, all.4), so refl none all.0 all.5)
-  stopped_so (Err NoConnection) (Some place) listener listener_after desks here after workers ports some none count within all so first =
-      (within, inr (inr (inr (all.0, (all.1, all.2, all.3, all.4), first place refl none all.0 all.5))))
-  stopped_so (Err (WorkerGone place)) None listener listener_after desks here after workers ports some none count within all so first = gone_so place listener listener_after desks after workers ports some count all
-  stopped_so (Err (WorkerGone place)) (Some lost) listener listener_after desks here after workers ports some none count within all so first = gone_so place listener listener_after desks after workers ports some count all
+  stopped_so : (stop : Result (Unit {0}) AcceptStop) (lost : Option ℕ) (before after : Reception L W) (here : List (DeskView (LineSink W))) (workers : List (WorkerView (Unit {0}) C W)) (ports : List (Outgoing (C × W)))
+      → 0 < length before.desks → here ≡ [] → length (reverse (map port_to workers)) ≡ length before.desks → IfSome lost (λ place. place < length before.desks)
+      → AcceptsAll around.accepts around.fails config.connections stop before.listener after.listener (reverse (map port_to workers)) (reverse ports)
+      → ServedUnlessLost lost before.desks here after.desks workers ports → FirstIfLost lost before.desks here after.desks workers ports
+      → ServesUntil around config (with_lost (fault_in stop) lost) before after
+  stopped_so (Ok _) None before after here workers ports some none count within all so first =
+      record { connections = all.0; accepted = record { all = all.1; accepted = all.2 }; served = so refl none all.0 all.3 }
+  stopped_so (Ok _) (Some place) before after here workers ports some none count within all so first =
+      record { within = within; how = EarlyOfAll all.0 (record { all = all.1; accepted = all.2 }) (first place refl none all.0 all.3) }
+  stopped_so (Err NoConnection) None before after here workers ports some none count within all so first =
+      record { connections = all.0; accepted = record { fewer = all.2; last = all.1; accepted = all.3; failed = all.4 }; served = so refl none all.0 all.5 }
+  stopped_so (Err NoConnection) (Some place) before after here workers ports some none count within all so first =
+      record { within = within; how = EarlyOfFewer all.0 (record { fewer = all.2; last = all.1; accepted = all.3; failed = all.4 }) (first place refl none all.0 all.5) }
+  stopped_so (Err (WorkerGone place)) None before after here workers ports some none count within all so first = gone_so place before after workers ports some count all
+  stopped_so (Err (WorkerGone place)) (Some lost) before after here workers ports some none count within all so first = gone_so place before after workers ports some count all
 
   -- by how dealing ended
   pub ended_so : (dealt result : Result (Unit {0}) ServeFault) (lost : Option ℕ) (listener listener_after : L) (desks here after : List (DeskView (LineSink W))) (workers : List (WorkerView (Unit {0}) C W)) (ports : List (Outgoing (C × W)))
       → 0 < length desks → length after ≡ length desks → AreOut desks here workers → IfSome lost (λ place. place < length after)
-      → DealsUntil accepts fails config.connections dealt listener listener_after desks here workers ports
+      → DealsUntil around.accepts around.fails config.connections dealt listener listener_after here workers ports
       → ServedUnlessLost lost (map worker_desk (reverse workers)) here after workers ports → FirstIfLost lost (map worker_desk (reverse workers)) here after workers ports
-      → result ≡ with_lost dealt lost → ServesUntil accepts fails tells remaining contents config result listener listener_after desks after
-  ended_so dealt result lost listener listener_after desks here after workers ports some count out within (inl hired) so first result_is =
-      let is : with_lost (Err hired.0) lost ≡ result = ap (λ (d : Result (Unit {0}) ServeFault). with_lost d lost) (sym hired.1) ∙ sym result_is in
-      subst (λ (r : Result (Unit {0}) ServeFault). ServesUntil accepts fails tells remaining contents config r listener listener_after desks after) is
-      (hired_so hired.0 lost listener listener_after desks here after some (here_some desks here workers out) hired.2 hired.3)
-  ended_so dealt result lost listener listener_after desks here after workers ports some count out within (inr stopped) so first result_is =
-      let is : with_lost (fault_in stopped.0) lost ≡ result = ap (λ (d : Result (Unit {0}) ServeFault). with_lost d lost) (sym stopped.1) ∙ sym result_is in
-      let all : map worker_desk (reverse workers) ≡ desks = handed_all desks here workers stopped.2 out in
+      → result ≡ with_lost dealt lost → ServesUntil around config result (reception listener desks) (reception listener_after after)
+  ended_so dealt result lost listener listener_after desks here after workers ports some count out within (NotHired fault dealt_is names same) so first result_is =
+      let is : with_lost (Err fault) lost ≡ result = ap (λ (d : Result (Unit {0}) ServeFault). with_lost d lost) (sym dealt_is) ∙ sym result_is in
+      subst (λ (r : Result (Unit {0}) ServeFault). ServesUntil around config r (reception listener desks) (reception listener_after after)) is
+      (hired_so fault lost (reception listener desks) (reception listener_after after) here some (here_some desks here workers out) names same)
+  ended_so dealt result lost listener listener_after desks here after workers ports some count out within (AllHired stop dealt_is none accepted) so first result_is =
+      let is : with_lost (fault_in stop) lost ≡ result = ap (λ (d : Result (Unit {0}) ServeFault). with_lost d lost) (sym dealt_is) ∙ sym result_is in
+      let all : map worker_desk (reverse workers) ≡ desks = handed_all desks here workers none out in
       let crew : length (reverse (map port_to workers)) ≡ length desks = length-reverse (map port_to workers) ∙ length-map workers port_to ∙ workers_count desks workers all in
       let places : IfSome lost (λ place. place < length desks) = subst (λ (n : ℕ). IfSome lost (λ place. place < n)) count within in
       let served : ServedUnlessLost lost desks here after workers ports = subst (λ (ds : List (DeskView (LineSink W))). ServedUnlessLost lost ds here after workers ports) all so in
       let firsts : FirstIfLost lost desks here after workers ports = subst (λ (ds : List (DeskView (LineSink W))). FirstIfLost lost ds here after workers ports) all first in
-      subst (λ (r : Result (Unit {0}) ServeFault). ServesUntil accepts fails tells remaining contents config r listener listener_after desks after) is
-      (stopped_so stopped.0 lost listener listener_after desks here after workers ports some stopped.2 crew places stopped.3 served firsts)
+      subst (λ (r : Result (Unit {0}) ServeFault). ServesUntil around config r (reception listener desks) (reception listener_after after)) is
+      (stopped_so stop lost (reception listener desks) (reception listener_after after) here workers ports some none crew places accepted served firsts)

@@ -25,7 +25,7 @@ use Rattle.rx_workers.specs.declared.worker.client.Talk.{Talk}
 use Rattle.rx_desk.specs.declared.joined.Joined.{Joined}
 use Rattle.rx_workers.specs.declared.worker.worker_end.WorkerEnd.{WorkerEnd}
 use Rattle.rx_workers.specs.Workers.{worker_at_end}
-use Rattle.rx_workers.specs.Working.{WorkerView, worker, State, state, Deed, Admitted, GivenUp, Dismissed, Abandoned, Turned, Parted, admitted, Begins, IsTalkOf, Leaves, HasArrivals, HasConnection, HasNoConnection, HasTurn, HasTurnBehind, HasTurnTo, HasTurns, IsConnection, PartsAt, ServesAt, Does, Works, DoesSome, IsServed, HasWorked, calls, goes_on}
+use Rattle.rx_workers.specs.Working.{WorkerView, worker, State, state, Deed, Admitted, GivenUp, Dismissed, Abandoned, Turned, Parted, admitted, Begins, IsTalkOf, Leaves, HasArrivals, HasConnection, HasNoConnection, HasTurn, HasTurnBehind, HasTurnTo, HasTurns, IsConnection, PartsAt, ServesAt, Does, Works, DoesSome, IsServed, HasWorked, calls, goes_at_once}
 use Rattle.rx_workers.proofs.Sessions.{keeps-equal, keeps-then, turn_keeps}
 
 module _ {C W : Type 0} where
@@ -46,7 +46,7 @@ module _ {C W : Type 0} where
   talks_or_not (Some (Follows follower)) = inr (λ no. no)
 
   -- where it goes on at once it still is
-  pub talk_left : (result : Turn W) (reader : C) (session : OpenSession) (joined : Option Joined) (left : Option (Client C W)) → goes_on result ≡ true
+  pub talk_left : (result : Turn W) (reader : C) (session : OpenSession) (joined : Option Joined) (left : Option (Client C W)) → goes_at_once result ≡ true
       → Leaves result reader session joined left → IsTalk left
   talk_left (Again writer) reader session joined left at_once leaves = subst (λ (c : Option (Client C W)). IsTalk c) (sym leaves.1) tt
   talk_left (Waits writer) reader session joined left at_once leaves = absurd (true≢false (sym at_once))
@@ -127,7 +127,7 @@ module _ {M C W : Type 0} (tells : M → ℕ → M → Type 0) (remaining : C �
 
   turns-goes : (place : ℕ) (before after : State M C W) → HasTurns tells remaining contents place before after → DoesSome tells remaining contents before after
   turns-goes place before after (inl had) =
-      DoesSome-then before had.0 after (DoesSome-one (Turned place) before had.0 had.1) (behind-goes (goes_on had.1.result) place had.0 after had.2)
+      DoesSome-then before had.0 after (DoesSome-one (Turned place) before had.0 had.1) (behind-goes (goes_at_once had.1.result) place had.0 after had.2)
   turns-goes place before after (inr (none, same)) = ([], same)
 
   parts-goes : (place : ℕ) (before after : State M C W) → PartsAt tells remaining contents place before after → DoesSome tells remaining contents before after

@@ -14,13 +14,13 @@ module _ {X : Type 0} where
   HoldsNothing port = port.held ≡ 0
 
   -- of connections that are counted from `first`, those that go to worker d of n
-  abbrev pub dealt : ℕ → ℕ → ℕ → List X → List X
-  dealt n d first [] = []
-  dealt n d first (x ∷ xs) = to_port (first % n) d x ++ dealt n d (first + 1) xs
+  abbrev pub dealt_to : ℕ → ℕ → ℕ → List X → List X
+  dealt_to n d first [] = []
+  dealt_to n d first (x ∷ xs) = to_port (first % n) d x ++ dealt_to n d (first + 1) xs
 
   -- each connection was sent to its worker
   abbrev pub Deals : List X → List (Outgoing X) → List (Outgoing X) → Type 0
-  Deals xs before after = Puts (λ d. dealt (length before) d 0 xs) before after
+  Deals xs before after = Puts (λ d. dealt_to (length before) d 0 xs) before after
 
 module _ {L X : Type 0} (accepts : L → X → L → Type 0) where
   -- these connections were accepted, one after another

@@ -12,7 +12,7 @@
 -- That a fault of a worker was met by a real want, of a thread, of a watch or of memory, no contract can say, nor that a box
 -- which did not settle had a worker that was gone. That the server waits for each of its threads, and the order in which it
 -- closes, is read off the code.
-use Rattle.std.specs.Prelude.{◌≡◌, ◌⊎◌, ◌+◌, ◌<◌, ◌%◌, ℕ, List, [], ◌∷◌, ◌++◌, length, map, reverse, Option, None, Some, IfSome, IsSomeAnd, Result, Ok, Err}
+use Rattle.std.specs.Prelude.{◌≡◌, ◌+◌, ◌<◌, ◌%◌, ℕ, List, [], ◌∷◌, ◌++◌, length, map, reverse, Option, None, Some, IfSome, IsSomeAnd, Result, Ok, Err}
 use Rattle.rx_config.specs.declared.config.Config.{Config}
 use Rattle.rx_mailbox.specs.declared.letter.Post.TheVariants.{Bye}
 use Rattle.rx_mailbox.specs.Boxes.{Outgoing, capacity_of, incoming, outgoing}
@@ -20,12 +20,11 @@ use Rattle.rx_mailbox.specs.Letters.{letter, posts}
 use Rattle.rx_pump.specs.Desks.{DeskView}
 use Rattle.rx_mailbox.specs.PortRows.{with_bye}
 use Rattle.rx_sink.specs.declared.line_sink.LineSink.{LineSink}
-use Rattle.rx_workers.specs.Accepting.{Accepts, AcceptsAll, dealt}
+use Rattle.rx_workers.specs.Accepting.{Accepts, AcceptsAll, dealt_to}
 use Rattle.rx_workers.specs.Crews.{NamesLast, SettlesWith}
 use Rattle.rx_desk.specs.SessionDesks.{Queue, SessionView, no_queue}
-use Rattle.rx_workers.specs.Telling.{IsTold}
-use Rattle.rx_workers.specs.Workers.{HasEnded}
-use Rattle.rx_workers.specs.Working.{WorkerView, worker, HasWorked, came}
+use Rattle.rx_workers.specs.Workers.{HasEnded, Peers, HasServed}
+use Rattle.rx_workers.specs.Working.{WorkerView, worker, came}
 use Rattle.rx_workers.specs.declared.crew.acceptor.AcceptStop.{AcceptStop}
 use Rattle.rx_workers.specs.declared.crew.acceptor.AcceptStop.TheVariants.{NoConnection, WorkerGone}
 use Rattle.rx_desk.specs.declared.joined.Joined.{Joined}
@@ -48,7 +47,7 @@ module _ {C W : Type 0} where
     pub inbox : one.inbox ≡ incoming one.inbox.box 1 []
     pub room : capacity_of one.inbox.box ≡ 16
 
-module _ {M C W : Type 0} (tells : M → ℕ → M → Type 0) (remaining : C → Option (List ℕ)) (contents : W → Option (List ℕ)) (config : Config) where
+module _ {M C W : Type 0} (around : Peers M C W) (config : Config) where
   -- THE WORKER OF A DESK received just these connections, in their order, and then its Bye, and served each to its end by a session
   -- of its own, but those that it gave up; the desk is left as the calls of these sessions left it
   pub record HasServedJust (connections : List (C × W)) (desk after : DeskView (LineSink W)) : Type 0 where
@@ -57,9 +56,7 @@ module _ {M C W : Type 0} (tells : M → ℕ → M → Type 0) (remaining : C �
     pub queue : Queue
     pub sessions : ℕ
     pub is_new : IsNewOver config desk one
-    pub worked :
-        HasWorked (λ _ moment _. IsTold tells moment) remaining contents one
-        (worker (session_over config after joined queue) (incoming one.inbox.box 1 (posts 0 connections ++ letter 0 Bye ∷ []))) sessions
+    pub worked : HasServed around one (worker (session_over config after joined queue) (incoming one.inbox.box 1 (posts 0 connections ++ letter 0 Bye ∷ []))) sessions
     pub came_are : came worked.deeds ≡ connections
 
   -- the workers of these desks, of which the first is worker d of n, each served the connections that were dealt to it
@@ -67,7 +64,7 @@ module _ {M C W : Type 0} (tells : M → ℕ → M → Type 0) (remaining : C �
   HaveServedFrom n d xs [] [] = Unit {0}
   HaveServedFrom n d xs [] (back ∷ backs) = ⊥
   HaveServedFrom n d xs (desk ∷ desks) [] = ⊥
-  HaveServedFrom n d xs (desk ∷ desks) (back ∷ backs) = HasServedJust (dealt n d 0 xs) desk back × HaveServedFrom n (d + 1) xs desks backs
+  HaveServedFrom n d xs (desk ∷ desks) (back ∷ backs) = HasServedJust (dealt_to n d 0 xs) desk back × HaveServedFrom n (d + 1) xs desks backs
 
   -- connection i, from 0, was served by the worker of desk i modulo their number, those of a worker in their order
   abbrev pub HaveServedAll : List (C × W) → List (DeskView (LineSink W)) → List (DeskView (LineSink W)) → Type 0
@@ -79,7 +76,7 @@ module _ {M C W : Type 0} (tells : M → ℕ → M → Type 0) (remaining : C �
     pub one : WorkerView (Unit {0}) C W
     pub is_new : IsNewOver config desk one
     pub end : WorkerEnd C W
-    pub ended : HasEnded tells remaining contents one end
+    pub ended : HasEnded around one end
     pub desk_is : after ≡ end.desk
     pub told : Option (Outgoing (C × W))
     pub by_port : IfSome told (λ port. port ≡ with_bye (outgoing one.inbox.box 0 (posts 0 connections)))
@@ -97,44 +94,90 @@ module _ {M C W : Type 0} (tells : M → ℕ → M → Type 0) (remaining : C �
     pub later : List (DeskView (LineSink W))
     pub parts_after : backs ++ back ∷ later ≡ after
     pub served : HaveServedFrom (length desks) 0 connections before backs
-    pub early : EndsEarly (dealt (length desks) (length before) 0 connections) desk back
+    pub early : EndsEarly (dealt_to (length desks) (length before) 0 connections) desk back
 
-module _ {L X : Type 0} (accepts : L → X → L → Type 0) (fails : L → L → Type 0) where
-  -- so many connections were accepted, and these are all
-  abbrev pub AcceptsJust : ℕ → List X → L → L → Type 0
-  AcceptsJust count xs listener after = (length xs ≡ count) × Accepts accepts listener xs after
+-- a listener, and the desks for the connections that it accepts
+pub record Reception (L W : Type 0) : Type 0 where
+  pub listener : L
+  pub desks : List (DeskView (LineSink W))
 
-  -- fewer were, and then the listener failed
-  abbrev pub FailsBehind : ℕ → List X → L → L → Type 0
-  FailsBehind count xs listener after = (last : L) × (length xs < count) × Accepts accepts listener xs last × fails last after
+-- this listener, with these desks
+abbrev pub reception : {L W : Type 0} → L → List (DeskView (LineSink W)) → Reception L W
+reception listener desks = record { listener = listener; desks = desks }
 
-  -- fewer were, and the next one is given up, since its worker is gone, that of the desk at this place of n
-  abbrev pub LosesNext : ℕ → ℕ → ℕ → L → L → Type 0
-  LosesNext count n place listener after =
-      (xs : List X) × (x : X) × (length xs < count) × Accepts accepts listener (xs ++ x ∷ []) after × (place ≡ length xs % n)
+-- what is around a crew: how a listener accepts a connection and how it fails, and what is around its workers
+pub record Surroundings (L M C W : Type 0) : Type 1 where
+  pub accepts : L → C × W → L → Type 0
+  pub fails : L → L → Type 0
+  pub workers : Peers M C W
 
-module _ {L M C W : Type 0} (accepts : L → C × W → L → Type 0) (fails : L → L → Type 0) (tells : M → ℕ → M → Type 0)
-    (remaining : C → Option (List ℕ)) (contents : W → Option (List ℕ)) (config : Config) where
-  -- WHAT BECAME of the connections that were to be served
-  abbrev pub ServesUntil : Result (Unit {0}) ServeFault → L → L → List (DeskView (LineSink W)) → List (DeskView (LineSink W)) → Type 0
-  -- as many as the configuration says were accepted, and each was served
-  ServesUntil (Ok _) listener listener_after desks after =
-      (xs : List (C × W)) × AcceptsJust accepts fails config.connections xs listener listener_after × HaveServedAll tells remaining contents config xs desks after
+-- a listener of which this is known, and what is around the workers
+abbrev pub surroundings : {L M C W : Type 0} → (L → C × W → L → Type 0) → (L → L → Type 0) → Peers M C W → Surroundings L M C W
+surroundings accepts fails workers = record { accepts = accepts; fails = fails; workers = workers }
+
+module _ {L M C W : Type 0} (around : Surroundings L M C W) (config : Config) where
+  -- these connections were accepted, as many as the configuration says
+  pub record AcceptsJust (connections : List (C × W)) (before after : Reception L W) : Type 0 where
+    pub all : length connections ≡ config.connections
+    pub accepted : Accepts around.accepts before.listener connections after.listener
+
+  -- these are fewer, and then the listener failed
+  pub record FailsBehind (connections : List (C × W)) (before after : Reception L W) : Type 0 where
+    pub fewer : length connections < config.connections
+    pub last : L
+    pub accepted : Accepts around.accepts before.listener connections last
+    pub failed : around.fails last after.listener
+
+  -- fewer were accepted, and one more, which is given up since its worker is gone, that of the desk at this place
+  pub record LosesNext (place : ℕ) (before after : Reception L W) : Type 0 where
+    pub connections : List (C × W)
+    pub lost : C × W
+    pub fewer : length connections < config.connections
+    pub accepted : Accepts around.accepts before.listener (connections ++ lost ∷ []) after.listener
+    pub worker : place ≡ length connections % length before.desks
+
+  -- as many connections as the configuration says were accepted, and each was served
+  pub record ServesAll (before after : Reception L W) : Type 0 where
+    pub connections : List (C × W)
+    pub accepted : AcceptsJust connections before after
+    pub served : HaveServedAll around.workers config connections before.desks after.desks
+
   -- fewer were, and each of them was served; then the listener failed
-  ServesUntil (Err Accept) listener listener_after desks after =
-      (xs : List (C × W)) × FailsBehind accepts fails config.connections xs listener listener_after × HaveServedAll tells remaining contents config xs desks after
-  -- there was no desk, and none was accepted
-  ServesUntil (Err NoDesk) listener listener_after desks after = (desks ≡ []) × (listener_after ≡ listener)
-  -- there was no memory for the workers, and none was accepted
-  ServesUntil (Err Memory) listener listener_after desks after = (0 < length desks) × (listener_after ≡ listener)
-  -- the worker of the desk at this place did not begin, and none was accepted; or the one for which the next connection was is gone;
-  -- or all were accepted, or the listener failed, and this one is the first that ended early
-  ServesUntil (Err (Thread place)) listener listener_after desks after =
-      (place < length desks)
-      × ((listener_after ≡ listener)
-      ⊎ LosesNext accepts fails config.connections (length desks) place listener listener_after
-      ⊎ ((xs : List (C × W)) × AcceptsJust accepts fails config.connections xs listener listener_after × FirstEndsEarly tells remaining contents config xs place desks after)
-      ⊎ ((xs : List (C × W)) × FailsBehind accepts fails config.connections xs listener listener_after × FirstEndsEarly tells remaining contents config xs place desks after))
+  pub record ServesFewer (before after : Reception L W) : Type 0 where
+    pub connections : List (C × W)
+    pub accepted : FailsBehind connections before after
+    pub served : HaveServedAll around.workers config connections before.desks after.desks
+
+  -- there was no desk, and no connection was accepted
+  pub record HasNoDesk (before after : Reception L W) : Type 0 where
+    pub no_desk : before.desks ≡ []
+    pub untouched : after.listener ≡ before.listener
+
+  -- there was no memory for the workers of the desks, and no connection was accepted
+  pub record HasNoMemory (before after : Reception L W) : Type 0 where
+    pub some_desk : 0 < length before.desks
+    pub untouched : after.listener ≡ before.listener
+
+  -- how the worker of the desk at this place was lost: it did not begin, and no connection was accepted; the next connection was for it,
+  -- and it was gone; or all were accepted, or fewer and then the listener failed, and it is the first that ended early
+  pub data Loss (place : ℕ) (before after : Reception L W) : Type 0 where
+    NeverBegan : after.listener ≡ before.listener → Loss place before after
+    GoneBefore : LosesNext place before after → Loss place before after
+    EarlyOfAll : (connections : List (C × W)) → AcceptsJust connections before after → FirstEndsEarly around.workers config connections place before.desks after.desks → Loss place before after
+    EarlyOfFewer : (connections : List (C × W)) → FailsBehind connections before after → FirstEndsEarly around.workers config connections place before.desks after.desks → Loss place before after
+
+  -- the worker of the desk at this place was lost
+  pub record LosesWorker (place : ℕ) (before after : Reception L W) : Type 0 where
+    pub within : place < length before.desks
+    pub how : Loss place before after
+
+  -- WHAT BECAME of the connections that were to be served, by what was answered
+  abbrev pub ServesUntil : Result (Unit {0}) ServeFault → Reception L W → Reception L W → Type 0
+  ServesUntil (Ok _) before after = ServesAll before after
+  ServesUntil (Err Accept) before after = ServesFewer before after
+  ServesUntil (Err NoDesk) before after = HasNoDesk before after
+  ServesUntil (Err Memory) before after = HasNoMemory before after
+  ServesUntil (Err (Thread place)) before after = LosesWorker place before after
 
 -- HOW IT COMES TO THAT
 
@@ -155,10 +198,9 @@ with_lost (Err (Thread first)) (Some place) = Err (Thread first)
 with_lost (Err Memory) (Some place) = Err Memory
 
 module _ {L C W : Type 0} (accepts : L → C × W → L → Type 0) (fails : L → L → Type 0) where
-  -- a worker was not hired, and nothing was accepted; or each was, and the connections were dealt to them until the acceptor stopped.
-  -- The last of the workers was hired for the first desk
-  abbrev pub DealsUntil : ℕ → Result (Unit {0}) ServeFault → L → L → List (DeskView (LineSink W)) → List (DeskView (LineSink W)) → List (WorkerView (Unit {0}) C W) → List (Outgoing (C × W)) → Type 0
-  DealsUntil count dealt listener listener_after desks here workers ports =
-      ((fault : ServeFault) × (dealt ≡ Err fault) × NamesLast (length here) fault × (listener_after ≡ listener))
-      ⊎ ((stop : Result (Unit {0}) AcceptStop) × (dealt ≡ fault_in stop) × (here ≡ [])
-      × AcceptsAll accepts fails count stop listener listener_after (reverse (map port_to workers)) (reverse ports))
+  -- how dealing ended: a worker was not hired, and nothing was accepted; or each was, and the connections were dealt to them until the
+  -- acceptor stopped. The last of the workers was hired for the first desk
+  pub data DealsUntil (count : ℕ) (ended : Result (Unit {0}) ServeFault) (listener listener_after : L) (here : List (DeskView (LineSink W))) (workers : List (WorkerView (Unit {0}) C W)) (ports : List (Outgoing (C × W))) : Type 0 where
+    NotHired : (fault : ServeFault) → ended ≡ Err fault → NamesLast (length here) fault → listener_after ≡ listener → DealsUntil count ended listener listener_after here workers ports
+    AllHired : (stop : Result (Unit {0}) AcceptStop) → ended ≡ fault_in stop → here ≡ []
+        → AcceptsAll accepts fails count stop listener listener_after (reverse (map port_to workers)) (reverse ports) → DealsUntil count ended listener listener_after here workers ports

@@ -33,7 +33,7 @@ use Rattle.rx_session.specs.declared.turn.Turn.TheVariants.{Again, Waits, Stuck,
 use Rattle.rx_sink.specs.Acts.{raised}
 use Rattle.rx_sink.specs.declared.line_sink.LineSink.{LineSink}
 use Rattle.rx_workers.specs.Clients.{AreSameClients, IsFollower, IsQuiet, IsTalk, Sets, client_at}
-use Rattle.rx_desk.specs.SessionDesks.{SessionView, KeepsSession, Disposes, emits, follows, knows}
+use Rattle.rx_desk.specs.SessionDesks.{SessionView, KeepsSession, Disposes, emits, follows, has_subject}
 use Rattle.rx_workers.specs.declared.worker.client.Client.{Client}
 use Rattle.rx_workers.specs.declared.worker.client.Client.TheVariants.{Talks, Follows}
 use Rattle.rx_workers.specs.declared.worker.client.Follower.{Follower}
@@ -47,7 +47,7 @@ pub record WorkerView (M C W : Type 0) : Type 0 where
   pub session : SessionView M (LineSink W)
   pub inbox : Incoming (C × W)
 
--- these two
+-- the worker over this session's desk, with this inbox
 abbrev pub worker : {M C W : Type 0} → SessionView M (LineSink W) → Incoming (C × W) → WorkerView M C W
 worker session inbox = record { session = session; inbox = inbox }
 
@@ -60,7 +60,7 @@ pub record State (M C W : Type 0) : Type 0 where
   pub sessions : ℕ
   pub is_open : Bool
 
--- these five
+-- the worker at work with this desk, this inbox and these clients, that began so many sessions, and may still be sent a connection or not
 abbrev pub state : {M C W : Type 0} → SessionView M (LineSink W) → Incoming (C × W) → List (Option (Client C W)) → ℕ → Bool → State M C W
 state session inbox clients sessions is_open = record { session = session; inbox = inbox; clients = clients; sessions = sessions; is_open = is_open }
 
@@ -110,11 +110,11 @@ module _ {X : Type 0} where
   IsConnection (Parted place) = ⊥
 
 -- whether a session goes on at once, by what its turn came to
-abbrev pub goes_on : {W : Type 0} → Turn W → Bool
-goes_on (Again writer) = true
-goes_on (Waits writer) = false
-goes_on (Stuck writer) = false
-goes_on (Over end back) = false
+abbrev pub goes_at_once : {W : Type 0} → Turn W → Bool
+goes_at_once (Again writer) = true
+goes_at_once (Waits writer) = false
+goes_at_once (Stuck writer) = false
+goes_at_once (Over end back) = false
 
 module _ {C W : Type 0} where
   -- a session that began with its connection, which is watched for bytes
@@ -163,7 +163,7 @@ module _ {C W : Type 0} where
 module _ {M C W : Type 0} (tells : M → ℕ → M → Type 0) (remaining : C → Option (List ℕ)) (contents : W → Option (List ℕ)) where
   -- the desk of the sessions, and their writers
   abbrev pub calls : Parties (SessionView M (LineSink W)) W
-  calls = parties knows (emits tells) (follows tells) contents
+  calls = parties has_subject (emits tells) (follows tells) contents
 
   -- THE TURN of a session, from wherever it stood; one that had read QUIT asks nothing of the desk any more
   pub record TakesTurn (result : Turn W) (talk : Talk C W) (reader : C) (session : OpenSession) (before after : SessionView M (LineSink W)) : Type 0 where
@@ -190,7 +190,7 @@ module _ {M C W : Type 0} (tells : M → ℕ → M → Type 0) (remaining : C �
 
   -- it had one, which came to this: whether it goes on at once
   abbrev pub HasTurnTo : ℕ → Bool → State M C W → State M C W → Type 0
-  HasTurnTo place at_once before after = (had : HasTurn place before after) × (at_once ≡ goes_on had.result)
+  HasTurnTo place at_once before after = (had : HasTurn place before after) × (at_once ≡ goes_at_once had.result)
 
   -- a letter came by a port of the box, and the desk made no call
   pub record Receives (post : Post (C × W)) (before after : State M C W) : Type 0 where
@@ -251,7 +251,7 @@ module _ {M C W : Type 0} (tells : M → ℕ → M → Type 0) (remaining : C �
   -- the session at this place had a turn, and a second one where it went on at once; where none is under way nothing was done
   abbrev pub HasTurns : ℕ → State M C W → State M C W → Type 0
   HasTurns place before after =
-      ((mid : State M C W) × (first : HasTurn place before mid) × HasTurnBehind (goes_on first.result) place mid after)
+      ((mid : State M C W) × (first : HasTurn place before mid) × HasTurnBehind (goes_at_once first.result) place mid after)
       ⊎ ((¬ IsTalk (client_at place before.clients)) × (after ≡ before))
 
   -- the follower at this place was parted with; where there is none nothing was done

@@ -7,7 +7,8 @@ ghost use Rattle.std.specs.List.{All, AllZip};
 ghost use Rattle.rx_pump.specs.Desks.{KeepsDesk};
 ghost use Rattle.rx_workers.specs.Accepting.{AcceptsAll, HoldsNothing};
 ghost use Rattle.rx_workers.specs.Crews.{AreOut, IsFor, IsPortOf, worker_desk};
-ghost use Rattle.rx_workers.specs.Service.{DealsUntil, IsNewOver, ServesUntil, fault_in, port_to, with_lost};
+ghost use Rattle.rx_workers.specs.Service.{DealsUntil, IsNewOver, ServesUntil, fault_in, port_to, reception, surroundings, with_lost};
+ghost use Rattle.rx_workers.specs.Workers.{peers};
 
 pub(crate) mod acceptor;
 pub(crate) mod ends;
@@ -54,7 +55,8 @@ pub fn serve_connections<
 ) -> Result<(), ServeFault>
     requires { All (IsFor (arc_value config.now)) desks.old.items }
     ensures no_desk { (result ≡ Err ServeFault.NoDesk) ↔ (desks.old.items ≡ []) }
-    ensures served { ServesUntil L.accepts L.fails M.tells L.Reader.remaining L.Writer.contents (arc_value config.now) result listener.old listener.new desks.old.items desks.new.items }
+    ensures served { ServesUntil (surroundings L.accepts L.fails (peers M.tells L.Reader.remaining L.Writer.contents)) (arc_value config.now) result
+        (reception listener.old desks.old.items) (reception listener.new desks.new.items) }
     ensures desks { AllZip KeepsDesk desks.old.items desks.new.items }
 {
     if desks.is_empty() {
@@ -174,7 +176,7 @@ fn deal_all<
     ensures room { vec_len desks.new + vec_len workers.new ≤ vec_capacity desks.new }
     ensures new { All (λ one. IsNewOver (arc_value config.now) (worker_desk one) one) workers.new.items }
     ensures ports { AllZip IsPortOf (reverse workers.new.items) (reverse ports.new.items) }
-    ensures dealt { DealsUntil L.accepts L.fails (arc_value config.now).connections result listener.old listener.new desks.old.items desks.new.items workers.new.items ports.new.items }
+    ensures dealt { DealsUntil L.accepts L.fails (arc_value config.now).connections result listener.old listener.new desks.new.items workers.new.items ports.new.items }
 {
     hire_all(rt, heap, config, moments, readiness, desks, workers, ports)?;
     fault_in(accept(rt, listener, ports, bells, config.connections))

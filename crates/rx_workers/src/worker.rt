@@ -77,7 +77,7 @@ impl<M: Moments + Drop, C: Read + Drop, W: Write + Drop, P: Readiness<C> + Drop>
     P,
 > {
     ghost use Rattle.rx_workers.specs.Working.{worker};
-    ghost use Rattle.rx_workers.specs.Workers.{HasEnded};
+    ghost use Rattle.rx_workers.specs.Workers.{HasEnded, peers};
 
     /// A worker over a desk that has a port for each subject, in the order of the configuration. It waits for its inbox and its
     /// connections by `readiness`, and the list of its clients takes the memory `own`.
@@ -106,7 +106,7 @@ impl<M: Moments + Drop, C: Read + Drop, W: Write + Drop, P: Readiness<C> + Drop>
 
     /// Serves each connection that comes, until the Bye or until none comes any more, and then until each session has ended.
     pub fn serve<R: Wait>(self, rt: &R) -> WorkerEnd<C, W>
-        ensures { HasEnded M.tells C.remaining W.contents self result }
+        ensures { HasEnded (peers M.tells C.remaining W.contents) self result }
     {
         let Worker {
             heap,
@@ -135,9 +135,9 @@ impl<M: Moments + Drop, C: Read + Drop, W: Write + Drop, P: Readiness<C> + Drop>
     for Worker<M, C, W, P> {
     type End = WorkerEnd<C, W>;
 
-    ghost use Rattle.rx_workers.specs.Workers.{HasEnded};
+    ghost use Rattle.rx_workers.specs.Workers.{HasEnded, peers};
 
-    ghost ends = { λ w end. HasEnded M.tells C.remaining W.contents w end };
+    ghost ends = { λ w end. HasEnded (peers M.tells C.remaining W.contents) w end };
 
     fn run<R: Wait>(self, rt: &R) -> WorkerEnd<C, W> {
         self.serve(rt)

@@ -11,6 +11,7 @@ ghost use Rattle.rx_sink.specs.declared.line_sink.LineSink.{LineSink};
 ghost use Rattle.rx_workers.specs.Accepting.{Deals};
 ghost use Rattle.rx_workers.specs.Crews.{AreOut, IsPortOf, worker_desk, first_lost};
 ghost use Rattle.rx_workers.specs.Service.{FirstEndsEarly, HaveServedAll, IsNewOver, port_to};
+ghost use Rattle.rx_workers.specs.Workers.{peers};
 
 use crate::crew::hired::{Hired, ReturnedDesk};
 use crate::readiness::{Bell, Readiness};
@@ -43,9 +44,9 @@ pub(crate) fn end_all<
     requires room { vec_len desks.old + vec_len workers ≤ vec_capacity desks.old }
     requires ports { AllZip IsPortOf (reverse workers.items) (reverse ports.items) }
     ensures desks { (all : List (DeskView (LineSink W))) → AreOut all desks.old.items workers.items → AllZip KeepsDesk all desks.new.items }
-    ensures served { result ≡ None → desks.old.items ≡ [] → (config : Config) → (xs : List (C × W)) → All (λ one. IsNewOver config (worker_desk one) one) workers.items → Deals xs (reverse (map port_to workers.items)) (reverse ports.items) → HaveServedAll M.tells C.remaining W.contents config xs (map worker_desk (reverse workers.items)) desks.new.items }
+    ensures served { result ≡ None → desks.old.items ≡ [] → (config : Config) → (xs : List (C × W)) → All (λ one. IsNewOver config (worker_desk one) one) workers.items → Deals xs (reverse (map port_to workers.items)) (reverse ports.items) → HaveServedAll (peers M.tells C.remaining W.contents) config xs (map worker_desk (reverse workers.items)) desks.new.items }
     ensures lost { IfSome result (λ place. place < vec_len desks.new) }
-    ensures first { (place : ℕ) → result ≡ Some place → desks.old.items ≡ [] → (config : Config) → (xs : List (C × W)) → All (λ one. IsNewOver config (worker_desk one) one) workers.items → Deals xs (reverse (map port_to workers.items)) (reverse ports.items) → FirstEndsEarly M.tells C.remaining W.contents config xs place (map worker_desk (reverse workers.items)) desks.new.items }
+    ensures first { (place : ℕ) → result ≡ Some place → desks.old.items ≡ [] → (config : Config) → (xs : List (C × W)) → All (λ one. IsNewOver config (worker_desk one) one) workers.items → Deals xs (reverse (map port_to workers.items)) (reverse ports.items) → FirstEndsEarly (peers M.tells C.remaining W.contents) config xs place (map worker_desk (reverse workers.items)) desks.new.items }
 {
     let mut workers = workers;
     let mut ports = ports;

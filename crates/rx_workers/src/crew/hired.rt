@@ -7,6 +7,7 @@ ghost use Rattle.rx_mailbox.specs.Letters.{posts};
 ghost use Rattle.rx_pump.specs.Desks.{KeepsDesk};
 ghost use Rattle.rx_workers.specs.Crews.{SettlesWith, worker_desk};
 ghost use Rattle.rx_workers.specs.Service.{EndsEarly, HasServedJust, IsNewOver};
+ghost use Rattle.rx_workers.specs.Workers.{peers};
 
 use crate::crew::acceptor::ring_at;
 use crate::readiness::{Bell, Readiness};
@@ -88,8 +89,8 @@ impl<M: Moments + Drop, C: Read + Drop, W: Write + Drop, P: Readiness<C> + Drop>
     ) -> ReturnedDesk<W>
         requires { port.box ≡ self.inbox.box }
         ensures desk { KeepsDesk (worker_desk self) result.desk }
-        ensures served { IsTrue result.has_all → (config : Config) → (xs : List (C × W)) → IsNewOver config (worker_desk self) self → port ≡ outgoing self.inbox.box 0 (posts 0 xs) → HasServedJust M.tells C.remaining W.contents config xs (worker_desk self) result.desk }
-        ensures early { IsFalse result.has_all → (config : Config) → (xs : List (C × W)) → IsNewOver config (worker_desk self) self → port ≡ outgoing self.inbox.box 0 (posts 0 xs) → EndsEarly M.tells C.remaining W.contents config xs (worker_desk self) result.desk }
+        ensures served { IsTrue result.has_all → (config : Config) → (xs : List (C × W)) → IsNewOver config (worker_desk self) self → port ≡ outgoing self.inbox.box 0 (posts 0 xs) → HasServedJust (peers M.tells C.remaining W.contents) config xs (worker_desk self) result.desk }
+        ensures early { IsFalse result.has_all → (config : Config) → (xs : List (C × W)) → IsNewOver config (worker_desk self) self → port ≡ outgoing self.inbox.box 0 (posts 0 xs) → EndsEarly (peers M.tells C.remaining W.contents) config xs (worker_desk self) result.desk }
     {
         let Hired { worker, room } = self;
         let dismissed = dismiss(rt, port);

@@ -5,7 +5,7 @@
 // though the worker still watches. That an observer has left by then is an answer like any other.
 ghost use Rattle.std.specs.Prelude.{◌≡◌, Some};
 ghost use Rattle.rx_workers.specs.Watching.{IsAimed, Watches, WatchesSame, aim_of};
-ghost use Rattle.rx_workers.specs.Working.{GoesOn, Leaves, goes_on, left_by};
+ghost use Rattle.rx_workers.specs.Working.{GoesOn, Leaves, goes_at_once, left_by};
 
 use crate::readiness::{Aim, Readiness};
 use crate::worker::client::{Client, Follower, Talk};
@@ -35,7 +35,7 @@ pub(crate) fn leave<C: Drop, W: Drop, P: Readiness<C>>(
     readiness: &mut P,
 ) -> (bool, Option<Client<C, W>>)
     requires { P.watched readiness.old pause.place ≡ Some pause.aim }
-    ensures goes_on { result.0 ≡ goes_on turned }
+    ensures goes_on { result.0 ≡ goes_at_once turned }
     ensures leaves { Leaves turned reader session.value joined result.1 }
     ensures aimed { IsAimed turned pause.aim result.1 }
     ensures watched { Watches pause.place (aim_of result.1) (P.watched readiness.old) (P.watched readiness.new) }

@@ -1,6 +1,6 @@
 //! Workers in threads of their own.
 ghost use Rattle.std.specs.Prelude.{◌≡◌, MatchResult};
-ghost use Rattle.rx_workers.specs.Workers.{HasEnded};
+ghost use Rattle.rx_workers.specs.Workers.{HasEnded, peers};
 
 use crate::readiness::Readiness;
 use crate::worker::Worker;
@@ -23,9 +23,9 @@ pub(crate) struct Worked<M: Drop, C: Drop, W: Write + Drop, P: Readiness<C> + Dr
 impl<M: Moments + Drop, C: Read + Drop, W: Write + Drop, P: Readiness<C> + Drop> Promise<
     WorkerEnd<C, W>,
 > for Worked<M, C, W, P> {
-    ghost use Rattle.rx_workers.specs.Workers.{HasEnded};
+    ghost use Rattle.rx_workers.specs.Workers.{HasEnded, peers};
 
-    ghost kept_by = { λ p end. HasEnded M.tells C.remaining W.contents p.0.value end };
+    ghost kept_by = { λ p end. HasEnded (peers M.tells C.remaining W.contents) p.0.value end };
 }
 
 /// A worker that serves in a thread of its own. One that is let go without a `join` is not waited for. Contracts see the worker
@@ -62,7 +62,7 @@ pub fn start_worker<
 ) -> Result<(RunningWorker<M, C, W, P>, Port<(C, W)>), WorkerEnd<C, W>>
     ensures { MatchResult result
         (λ started. (started.0 ≡ worker) × (started.1 ≡ port))
-        (λ end. HasEnded M.tells C.remaining W.contents worker end) }
+        (λ end. HasEnded (peers M.tells C.remaining W.contents) worker end) }
 {
     let Ok(own) = rt.clone() else {
         drop(dismiss(rt, port));
@@ -90,11 +90,11 @@ impl<M: Moments + Drop, C: Read + Drop, W: Write + Drop, P: Readiness<C> + Drop>
     W,
     P,
 > {
-    ghost use Rattle.rx_workers.specs.Workers.{HasEnded};
+    ghost use Rattle.rx_workers.specs.Workers.{HasEnded, peers};
 
     /// Waits until the thread has ended. It answers what the worker left.
     pub fn join<R: Threads>(self, rt: &R) -> WorkerEnd<C, W>
-        ensures { HasEnded M.tells C.remaining W.contents self result }
+        ensures { HasEnded (peers M.tells C.remaining W.contents) self result }
     {
         let RunningWorker { handle } = self;
         handle.join(rt)

@@ -1,17 +1,27 @@
 -- The workers have their ports, by which the connections were dealt.
-use Rattle.std.proofs.Common.{◌≡◌, ◌∙◌, sym, refl, ap, subst, List, inr, length, reverse, arith}
+use Rattle.std.proofs.Common.{◌≡◌, ◌∙◌, sym, refl, ap, subst, ℕ, List, length, reverse, vec_len, arith}
 use Rattle.std.proofs.lemmas.List.{length-map}
 use Rattle.std.proofs.lemmas.List.Elements.{All-map}
+use Rattle.std.proofs.lemmas.Result.{err_from_is_err_and}
 use Rattle.std.specs.Arc.{arc_value}
 use Rattle.std.specs.List.{All}
 use Rattle.rx_mailbox.specs.Boxes.{Outgoing}
 use Rattle.rx_workers.specs.Accepting.{AcceptsAll, HoldsNothing}
-use Rattle.rx_workers.specs.Service.{port_to}
+use Rattle.rx_workers.specs.Crews.{NamesLast}
+use Rattle.rx_workers.specs.Service.{AllHired, NotHired, port_to}
 use Rattle.rx_workers.proofs.Service.{accepts_ports, handed_all, ports_new, workers_count}
 use Rattle.rx_workers.proofs.crew.deal_all.Goals as goal
 
 pub returns-in_err-hire_all-clause-ports : goal.returns-in_err-hire_all-clause-ports
 returns-in_err-hire_all-clause-ports g c = ports_new c.hire_all.new.workers.items c.hire_all.new.ports.items c.hire_all.ensures.ports
+
+pub returns-in_err-hire_all-clause-dealt : goal.returns-in_err-hire_all-clause-dealt
+returns-in_err-hire_all-clause-dealt g c =
+    let fault = c.in_err-hire_all.field-0.0 in
+    let desks = c.hire_all.new.desks in
+    let same : vec_len desks ≡ length desks.items = omega (arith, desks.ok.0) in
+    let p = err_from_is_err_and c.from_residual.result c.from_residual.ensures.1 in
+    rw (p.1, p.2) (NotHired fault refl (subst (λ (n : ℕ). NamesLast n fault) same c.in_err-hire_all.ensures.fault) refl)
 
 -- there is a worker
 pub accept-requires-clause-some : goal.accept-requires-clause-some
@@ -39,10 +49,6 @@ returns-clause-ports g c =
 
 pub returns-clause-dealt : goal.returns-clause-dealt
 returns-clause-dealt g c =
-    inr (
-      c.accept.result,
-      c.fault_in.ensures,
-      c.in_ok-hire_all.ensures.all,
-      subst (λ (ps : List (Outgoing _)). AcceptsAll g.L.Listener.accepts g.L.Listener.fails (arc_value c.args.config.now).connections c.accept.result c.args.listener.now c.accept.new.listener (reverse ps) (reverse c.accept.new.ports.items))
-          c.in_ok-hire_all.ensures.ports (rw c.deref.ensures at c.accept.ensures),
-    )
+    AllHired c.accept.result c.fault_in.ensures c.in_ok-hire_all.ensures.all
+    (subst (λ (ps : List (Outgoing _)). AcceptsAll g.L.Listener.accepts g.L.Listener.fails (arc_value c.args.config.now).connections c.accept.result c.args.listener.now c.accept.new.listener (reverse ps) (reverse c.accept.new.ports.items))
+    c.in_ok-hire_all.ensures.ports (rw c.deref.ensures at c.accept.ensures))

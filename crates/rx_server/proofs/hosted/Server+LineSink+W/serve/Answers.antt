@@ -9,7 +9,8 @@ use Rattle.rx_workers.specs.Crews.{IsFor}
 use Rattle.rx_server.specs.Servers.{IsDeskOf, IsWhole, server_of}
 use Rattle.rx_server.proofs.Desks.{desks-went}
 use Rattle.rx_server.proofs.Whole.{desks-for, desks-own, rooms-kept, runs-still, whole-after}
-use Rattle.rx_workers.specs.Service.{ServesUntil}
+use Rattle.rx_workers.specs.Workers.{peers}
+use Rattle.rx_workers.specs.Service.{ServesUntil, reception, surroundings}
 use Rattle.rx_server.proofs.hosted.Server+LineSink+W.serve.Goals as goal
 
 pub returns-clause-served : goal.returns-clause-served
@@ -19,8 +20,8 @@ returns-clause-served g c =
     c.take_all.ensures.taken ∙ ap (λ (ds : List (DeskView _)). ds ++ into_iter_items c.self.inside.desks) c.in-Ok.ensures.items in
     rw (← c.self.view_is) (
       crew.new.desks.items,
-      subst (λ (ds : List (DeskView _)). ServesUntil g.L.Listener.accepts g.L.Listener.fails g.M.Moments.tells g.L.Reader.Read.remaining g.W.Write.contents
-          (arc_value c.self.inside.config) crew.result c.args.listener.now crew.new.listener ds crew.new.desks.items) taken crew.ensures.served,
+      subst (λ (ds : List (DeskView _)). ServesUntil (surroundings g.L.Listener.accepts g.L.Listener.fails (peers g.M.Moments.tells g.L.Reader.Read.remaining g.W.Write.contents))
+          (arc_value c.self.inside.config) crew.result (reception c.args.listener.now ds) (reception crew.new.listener crew.new.desks.items)) taken crew.ensures.served,
     )
 
 -- the desks are there, and the workers have theirs by them

@@ -5,6 +5,7 @@ use Rattle.rx_pump.specs.Desks.{DeskView}
 use Rattle.rx_workers.specs.Accepting.{Deals}
 use Rattle.rx_workers.specs.Crews.{AreOut, IsPortOf, worker_desk}
 use Rattle.rx_workers.specs.Service.{FirstEndsEarly, IsNewOver, port_to}
+use Rattle.rx_workers.specs.Workers.{peers}
 use Rattle.rx_workers.proofs.Service.{HaveServedSome}
 use Rattle.rx_workers.proofs.crew.ends.end_all.Given as goal
 
@@ -18,10 +19,10 @@ invariant-loop-worker g l = record {
   out : (all : List (DeskView _)) → AreOut all l.initial.desks.items l.initial.workers.items → AreOut all l.desks.items l.workers.items;
   served : l.lost ≡ None → l.initial.desks.items ≡ [] → (config : Config) → (xs : List _) → All (λ one. IsNewOver config (worker_desk one) one) l.initial.workers.items
       → Deals xs (reverse (map port_to l.initial.workers.items)) (reverse l.initial.ports.items)
-      → HaveServedSome g.M.Moments.tells g.C.Read.remaining g.W.Write.contents config (length l.initial.workers.items) xs (map worker_desk (reverse l.initial.workers.items)) l.desks.items l.workers.items l.ports.items;
+      → HaveServedSome (peers g.M.Moments.tells g.C.Read.remaining g.W.Write.contents) config (length l.initial.workers.items) xs (map worker_desk (reverse l.initial.workers.items)) l.desks.items l.workers.items l.ports.items;
   first : (place : ℕ) → l.lost ≡ Some place → l.initial.desks.items ≡ [] → (config : Config) → (xs : List _) → All (λ one. IsNewOver config (worker_desk one) one) l.initial.workers.items
       → Deals xs (reverse (map port_to l.initial.workers.items)) (reverse l.initial.ports.items)
-      → FirstEndsEarly g.M.Moments.tells g.C.Read.remaining g.W.Write.contents config xs place (map worker_desk (reverse l.initial.workers.items)) l.desks.items;
+      → FirstEndsEarly (peers g.M.Moments.tells g.C.Read.remaining g.W.Write.contents) config xs place (map worker_desk (reverse l.initial.workers.items)) l.desks.items;
   lost : IfSome l.lost (λ place. place < vec_len l.desks);
 }
 

@@ -5,7 +5,7 @@ use Rattle.rx_mailbox.specs.Settling.{GotAll}
 use Rattle.rx_mailbox.specs.PortRows.{with_bye}
 use Rattle.rx_workers.specs.Crews.{worker_desk}
 use Rattle.rx_workers.specs.Working.{WorkerView}
-use Rattle.rx_workers.specs.Workers.{HasEnded}
+use Rattle.rx_workers.specs.Workers.{HasEnded, peers}
 use Rattle.rx_workers.proofs.Service.{ended_box, served_just}
 use Rattle.rx_workers.proofs.crew.hired.Hired.end.Goals as goal
 
@@ -26,15 +26,15 @@ module _ {B : Type 0} where
 pub ended_and_settled-has_all-requires-clause-of_box : goal.ended_and_settled-has_all-requires-clause-of_box
 ended_and_settled-has_all-requires-clause-of_box g c =
     let same = c.requires ∙ ap (λ (w : WorkerView _ _ _). w.inbox.box) (sym c.self.view_is)
-    ∙ sym (ended_box g.M.Moments.tells g.C.Read.remaining g.W.Write.contents c.self.inside.worker c.join-desk.result c.join-desk.ensures) in
+    ∙ sym (ended_box (peers g.M.Moments.tells g.C.Read.remaining g.W.Write.contents) c.self.inside.worker c.join-desk.result c.join-desk.ensures) in
     of_box c.dismiss-dismissed.result c.args.port c.join-desk.result.inbox same c.dismiss-dismissed.ensures
 
 -- where the box settled
 pub returns-clause-served : goal.returns-clause-served
 returns-clause-served g c = λ yes config xs new port_is.
     let got = got_all c.dismiss-dismissed.result c.args.port c.join-desk.result.inbox c.dismiss-dismissed.ensures (c.ended_and_settled-has_all.ensures.came yes) in
-    let ended = subst (λ (v : WorkerView _ _ _). HasEnded g.M.Moments.tells g.C.Read.remaining g.W.Write.contents v c.join-desk.result) c.self.view_is c.join-desk.ensures in
-    served_just g.M.Moments.tells g.C.Read.remaining g.W.Write.contents config (worker_desk c.args.self) c.args.self c.join-desk.result xs c.args.port ended new port_is got
+    let ended = subst (λ (v : WorkerView _ _ _). HasEnded (peers g.M.Moments.tells g.C.Read.remaining g.W.Write.contents) v c.join-desk.result) c.self.view_is c.join-desk.ensures in
+    served_just (peers g.M.Moments.tells g.C.Read.remaining g.W.Write.contents) config (worker_desk c.args.self) c.args.self c.join-desk.result xs c.args.port ended new port_is got
 
 -- where it did not
 pub returns-clause-early : goal.returns-clause-early
@@ -42,7 +42,7 @@ returns-clause-early g c = λ no config xs new port_is. record {
   one = c.args.self;
   is_new = new;
   end = c.join-desk.result;
-  ended = subst (λ (v : WorkerView _ _ _). HasEnded g.M.Moments.tells g.C.Read.remaining g.W.Write.contents v c.join-desk.result) c.self.view_is c.join-desk.ensures;
+  ended = subst (λ (v : WorkerView _ _ _). HasEnded (peers g.M.Moments.tells g.C.Read.remaining g.W.Write.contents) v c.join-desk.result) c.self.view_is c.join-desk.ensures;
   desk_is = refl;
   told = c.dismiss-dismissed.result;
   by_port = subst (λ (p : Outgoing _). IfSome c.dismiss-dismissed.result (λ ended. ended ≡ with_bye p)) port_is c.dismiss-dismissed.ensures;
