@@ -26,7 +26,8 @@ use Rattle.rx_sink.specs.Acts.{Acts}
 use Rattle.rx_workers.specs.declared.crew.serve_fault.ServeFault.{ServeFault}
 use Rattle.rx_workers.specs.declared.crew.serve_fault.ServeFault.TheVariants as serves
 use Rattle.rx_program.specs.CommandLines.{Asks, IsAgainst, IsHelp}
-use Rattle.rx_program.specs.Reporting.{Closed, ClosesWith, names_of, report_lines}
+use Rattle.rx_program.specs.Reporting.{Closed, ClosesWith, names_of}
+use Rattle.rx_server.specs.ReportLines.{report_lines}
 use Rattle.rx_script.specs.Scripts.{Runs, new_subjects}
 use Rattle.rx_script.specs.Transcripts.{Subject}
 use Rattle.rx_program.specs.declared.program.program_fault.ProgramFault.{ProgramFault}

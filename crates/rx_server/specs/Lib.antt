@@ -8,3 +8,4 @@ pub mod Rooms
 pub mod Servers
 pub mod Starting
 pub mod Wirings
+pub mod ReportLines

@@ -19,6 +19,7 @@ ghost use Rattle.rx_server.specs.Servers.{EndsMore, EndsEach, IsDeskOf};
 
 pub(crate) mod close_fault;
 pub(crate) mod report;
+pub(crate) mod report_lines;
 pub(crate) mod returned;
 pub(crate) mod rooms;
 pub(crate) mod settled_boxes;

@@ -23,6 +23,7 @@ pub(crate) mod wired;
 
 pub use close::close_fault::{CloseCause, CloseFault};
 pub use close::report::{Report, SubjectReport};
+pub use close::report_lines::write_report_lines;
 pub use rx_config::{Budget, Config, ConfigError, SubjectConfig, read_config};
 pub use rx_session::response_to;
 pub use rx_workers::{

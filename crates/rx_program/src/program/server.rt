@@ -1,9 +1,9 @@
 //! The server: a configuration served on a Unix socket.
 ghost use Rattle.std.specs.Prelude.{◌≡◌};
-ghost use Rattle.rx_config.specs.Listings.{number_words};
 ghost use Rattle.rx_proto.specs.Bytes.{Writes};
 ghost use Rattle.rx_program.specs.Programs.{IsReported, IsShown, ReportsServer, ending, serving_fault};
-ghost use Rattle.rx_program.specs.Reporting.{closed_as, report_line, report_lines};
+ghost use Rattle.rx_program.specs.Reporting.{closed_as};
+ghost use Rattle.rx_server.specs.ReportLines.{report_lines};
 
 use crate::program::flushed::flushed;
 use crate::program::host::Host;
@@ -12,11 +12,10 @@ use crate::program::program_fault::ProgramFault;
 use crate::program::site::Site;
 use crate::program::told_fault::tell;
 use crate::socket::outgoing::Outgoing;
-use itoa::Buffer;
 use rx_config::Config;
 use rx_heap::Heap;
-use rx_proto::{Name, WriteFault, write_bytes};
-use rx_server::{CloseFault, ServeFault, SubjectReport};
+use rx_proto::{Name, WriteFault};
+use rx_server::{CloseFault, ServeFault, SubjectReport, write_report_lines};
 use rx_sink::{LineSink, Sink};
 use std::io::Write;
 
@@ -98,44 +97,8 @@ fn write_report<W: Write>(
     ensures shown { IsShown result }
     ensures written { Writes result (W.contents writer.old) (W.contents writer.new) (report_lines names.now subjects.now) }
 {
-    match write_lines(names, subjects, writer) {
+    match write_report_lines(names, subjects, writer) {
         Ok(()) => flushed(writer),
         Err(WriteFault) => Err(ProgramFault::Write),
     }
-}
-
-// Writes the lines of all subjects.
-fn write_lines<W: Write>(
-    names: &[Name],
-    subjects: &[SubjectReport],
-    writer: &mut W,
-) -> Result<(), WriteFault>
-    ensures { Writes result (W.contents writer.old) (W.contents writer.new) (report_lines names.now subjects.now) }
-{
-    for (name, subject) in names.iter().zip(subjects.iter()) {
-        write_line(name, subject, writer)?;
-    }
-    Ok(())
-}
-
-// Writes the line of a subject.
-fn write_line<W: Write>(
-    name: &Name,
-    subject: &SubjectReport,
-    writer: &mut W,
-) -> Result<(), WriteFault>
-    ensures { Writes result (W.contents writer.old) (W.contents writer.new) (report_line (name.now, subject.now)) }
-{
-    write_bytes(writer, name.as_bytes())?;
-    write_number(b" joins ", u64::from(subject.joins), writer)?;
-    write_number(b" refused ", subject.refused, writer)?;
-    write_bytes(writer, b"\n")
-}
-
-// Writes the words of a key and its number.
-fn write_number<W: Write>(key: &[u8], number: u64, writer: &mut W) -> Result<(), WriteFault>
-    ensures { Writes result (W.contents writer.old) (W.contents writer.new) (number_words key.now number) }
-{
-    write_bytes(writer, key)?;
-    write_bytes(writer, Buffer::new().format(number).as_bytes())
 }

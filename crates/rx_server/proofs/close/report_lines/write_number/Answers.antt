@@ -1,6 +1,6 @@
 use Rattle.std.proofs.Common.{◌∙◌, decimal}
 use Rattle.rx_proto.proofs.Writes.{Writes-fault, Writes-then}
-use Rattle.rx_program.proofs.program.server.write_number.Goals as goal
+use Rattle.rx_server.proofs.close.report_lines.write_number.Goals as goal
 
 pub returns-in_err-write_bytes : goal.returns-in_err-write_bytes
 returns-in_err-write_bytes g c = Writes-fault c.from_residual.result _ _ c.args.key.now (decimal c.args.number) c.from_residual.ensures.0 c.in_err-write_bytes.ensures

@@ -4,10 +4,10 @@ use Rattle.std.proofs.lemmas.List.{length_push}
 use Rattle.std.proofs.lemmas.Slice.Zip.{zip_end, zip_turn}
 use Rattle.std.specs.Io.KnownBytes.{Appends}
 use Rattle.rx_proto.specs.Bytes.{Writes}
-use Rattle.rx_program.specs.Reporting.{report_line}
-use Rattle.rx_program.proofs.Reports.{first_lines, lines-all, lines-next, lines-split}
+use Rattle.rx_server.specs.ReportLines.{report_line}
+use Rattle.rx_server.proofs.ReportLines.{first_lines, lines-all, lines-next, lines-split}
 use Rattle.rx_proto.proofs.Writes.{Writes-fault, Writes-then}
-use Rattle.rx_program.proofs.program.server.write_lines.Goals as goal
+use Rattle.rx_server.proofs.close.report_lines.write_report_lines.Goals as goal
 
 pub loop-name-preserved : goal.loop-name-preserved
 loop-name-preserved g c =

@@ -1,7 +1,7 @@
 use Rattle.std.proofs.Common.{length}
 use Rattle.std.specs.Io.KnownBytes.{Appends}
-use Rattle.rx_program.proofs.Reports.{first_lines}
-use Rattle.rx_program.proofs.program.server.write_lines.Given as goal
+use Rattle.rx_server.proofs.ReportLines.{first_lines}
+use Rattle.rx_server.proofs.close.report_lines.write_report_lines.Given as goal
 
 -- the lines so far were written
 abbrev pub invariant-loop-name : goal.invariant-loop-name

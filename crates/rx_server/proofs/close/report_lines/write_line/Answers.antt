@@ -2,7 +2,7 @@ use Rattle.std.proofs.Common.{rules, ◌≡◌, ◌++◌, codes}
 use Rattle.rx_config.specs.Listings.{number_words}
 use Rattle.rx_proto.specs.Printing.{line}
 use Rattle.rx_proto.proofs.Writes.{Writes-fault, Writes-then}
-use Rattle.rx_program.proofs.program.server.write_line.Goals as goal
+use Rattle.rx_server.proofs.close.report_lines.write_line.Goals as goal
 
 pub returns-in_err-write_bytes : goal.returns-in_err-write_bytes
 returns-in_err-write_bytes g c =
