@@ -16,7 +16,7 @@ use Rattle.rx_drain.specs.Serving as drainer_serving
 use Rattle.rx_server.specs.declared.close.close_fault.CloseFault.{CloseFault}
 use Rattle.rx_server.specs.declared.close.report.Report.{Report}
 use Rattle.rx_server.specs.Returning.{HaveSettledSo, Unsettles}
-use Rattle.rx_server.specs.Servers.{Closes, Fails, HaveSettled, IsEndOf, IsWhole, Reports, ServerView}
+use Rattle.rx_server.specs.Servers.{Closes, Fails, HaveSettled, IsEndOf, IsWhole, Reports, ServerView, EndsEach}
 use Rattle.rx_server.proofs.Complete.{came-each, lacks-one}
 use Rattle.rx_server.proofs.Ending.{desks-many}
 
@@ -47,12 +47,12 @@ module _ {S Rest : Type 0} (acts : Acts S Rest) (server : ServerView S Rest) (wh
   lists-keep (drainer ∷ drainers) (end ∷ ends) all = (all.0.1.places.keeps, lists-keep drainers ends all.1)
 
   -- all boxes settled, or not each desk came back once
-  pub settled-or-not : (r : Result (Report S Rest) CloseFault) (desks : ℕ) → All (IsEndOf server.made) finished → desks ≡ length whole.wiring.replies
+  pub settled-or-not : (r : Result (Report S Rest) CloseFault) (desks : ℕ) → All (IsEndOf server.made) finished → EndsEach server.desks server.kept (server.kept ++ finished) → desks ≡ length whole.wiring.replies
       → IfOk r (λ report. HaveSettled report.boxes (map with_bye server.leaves) all_desks pump_ends drain_ends)
       → IfOk r (λ report. HaveSettledSo desks (map with_bye server.leaves) all_desks pump_ends drain_ends report.boxes.subjects.items)
       → IfOk r (λ report. Reports report pump_ends drain_ends) → IfErr r (Unsettles desks (map with_bye server.leaves) all_desks pump_ends drain_ends)
       → MatchResult r (Closes acts server ended) (Fails acts server ended)
-  settled-or-not (Ok report) desks own k settled so reports fault =
+  settled-or-not (Ok report) desks own by k settled so reports fault =
       let marks = choose-marks server.pumps pump_ends pumped in
       let of_made = subst (λ n. HaveSettledSo n (map with_bye server.leaves) all_desks pump_ends drain_ends report.boxes.subjects.items) (k ∙ sym (desks-many acts server whole)) so in
       record {
@@ -60,6 +60,7 @@ module _ {S Rest : Type 0} (acts : Acts S Rest) (server : ServerView S Rest) (wh
         pump_ends = pump_ends;
         drain_ends = drain_ends;
         finished = finished;
+        each_ended = by;
         pumped = marks.2;
         each_marked = marks.1;
         drained = drained;
@@ -69,13 +70,14 @@ module _ {S Rest : Type 0} (acts : Acts S Rest) (server : ServerView S Rest) (wh
         reports = reports;
         keeps = subst (AllZip (λ (drainer : DrainerView S Rest) (list : RestsView Rest). list.keeps ≡ drainer.keeps) server.drainers) (sym reports.put_away) (lists-keep server.drainers drain_ends drained);
       }
-  settled-or-not (Err fault) desks own k settled so reports why =
+  settled-or-not (Err fault) desks own by k settled so reports why =
       let of_made = subst (λ n. Unsettles n (map with_bye server.leaves) all_desks pump_ends drain_ends fault) (k ∙ sym (desks-many acts server whole)) why in
       let wanting = lacks-one acts server whole pump_ends drain_ends all_desks pumped drained (all-own own) fault of_made in
       inr (record {
         pump_ends = pump_ends;
         drain_ends = drain_ends;
         finished = finished;
+        each_ended = by;
         pumped = pumped;
         drained = drained;
         of_server = own;

@@ -32,7 +32,7 @@ use Rattle.rx_server.specs.declared.close.returned.Returned.{Returned}
 use Rattle.rx_server.specs.declared.wired.start_fault.Role.{Role}
 use Rattle.rx_server.specs.declared.wired.start_fault.Role.TheVariants.{Drainer, Pump, Worker}
 use Rattle.rx_server.specs.Leaving.{HasItsBoxes}
-use Rattle.rx_server.specs.Returning.{AreEmpty, CameTwice, EachDeskOnce, HaveComeBack, HaveSettledSo, StopsAt, Unsettles, number_of}
+use Rattle.rx_server.specs.Returning.{AreEmpty, CameTwice, EachDeskOnce, HaveComeBack, HaveSettledSo, IsUnsettledAt, Unsettles, number_of}
 use Rattle.rx_server.specs.Servers.{IsEndOf, IsWhole, ServerView}
 use Rattle.rx_server.specs.Wirings.{Wiring, desk_of, drainer_of, ports_at, pump_of}
 use Rattle.rx_server.proofs.Arriving.{all-at}
@@ -318,7 +318,7 @@ module _ {S Rest : Type 0} (acts : Acts S Rest) (server : ServerView S Rest) (wh
     -- ALL BOXES
 
     -- only the first box cannot settle, and then a desk is wanting
-    stops-wanting : (role : Role) (place : ℕ) → StopsAt role place calls outs answers → (role ≡ Pump) × (place ≡ 0) × ¬ EachDeskOnce (length server.made) desks
+    stops-wanting : (role : Role) (place : ℕ) → IsUnsettledAt role place calls outs answers → (role ≡ Pump) × (place ≡ 0) × ¬ EachDeskOnce (length server.made) desks
     stops-wanting Pump place stops = let first = calls-unsettled stops.0 place stops.1 in (refl, first.0, first.1)
     stops-wanting Drainer place stops = absurd (outs-settle stops.1.0 place stops.1.1)
     stops-wanting Worker place stops = absurd (answers-settle (calls-settled stops.0.0 stops.0.1) stops.2.0 place stops.2.1)

@@ -15,7 +15,7 @@ use Rattle.rx_server.specs.declared.close.close_fault.CloseFault.{CloseFault}
 use Rattle.rx_server.specs.declared.close.rooms.Rooms.{Rooms}
 use Rattle.rx_server.specs.declared.wired.start_fault.Role.TheVariants.{Drainer, Pump, Worker}
 use Rattle.rx_server.specs.Leaving.{HasLeft}
-use Rattle.rx_server.specs.Returning.{AreEmpty, CameTwice, HaveSettledSo, StopsAt, Unsettles}
+use Rattle.rx_server.specs.Returning.{AreEmpty, CameTwice, HaveSettledSo, IsUnsettledAt, Unsettles}
 use Rattle.rx_server.specs.Wirings.{Wiring}
 use Rattle.rx_server.proofs.Settled.{CameBack, ends-count}
 
@@ -51,7 +51,7 @@ settled-so w rooms ended left subjects drainers replies came settled settle = re
 -- the box that is named is the first that cannot settle
 pub first-box : {S Rest : Type 0} (w : Wiring S) (rooms : Rooms S Rest) (ended : List (EndedDesk S)) (left : HasLeft w rooms ended)
     (subjects : List (PartsView (Call S))) (drainers : List (PartsView (Out S))) (replies : List (PartsView (Reply S))) → CameBack w rooms ended left subjects drainers replies
-    → (fault : CloseFault) → (fault.cause ≡ Unsettled) × StopsAt fault.thread fault.index subjects drainers replies
+    → (fault : CloseFault) → (fault.cause ≡ Unsettled) × IsUnsettledAt fault.thread fault.index subjects drainers replies
     → Unsettles (length rooms.returned.replies.items) rooms.leaves.items (ended ++ rooms.desks.items) rooms.pumps.items rooms.drainers.items fault
 first-box w rooms ended left subjects drainers replies came fault (cause, stops) = (
   cause,
@@ -69,7 +69,7 @@ first-box w rooms ended left subjects drainers replies came fault (cause, stops)
 -- the box at this place is the first that did not settle, of the pumps, the drainers or the workers
 module _ {S : Type 0} (calls : List (PartsView (Call S))) (outs : List (PartsView (Out S))) (answers : List (PartsView (Reply S))) (fault : CloseFault) where
   abbrev pub Stops : CloseFault → Type 0
-  Stops f = (f.cause ≡ Unsettled) × StopsAt f.thread f.index calls outs answers
+  Stops f = (f.cause ≡ Unsettled) × IsUnsettledAt f.thread f.index calls outs answers
 
   pub stops-pump : (place : ℕ) (settled : List (SettledView (Call S))) → fault ≡ record { thread = Pump; index = place; cause = Unsettled } → FirstUnsettled calls settled place → Stops fault
   stops-pump place settled is first = subst Stops (sym is) (refl, (settled, first))

@@ -81,12 +81,12 @@ module _ {S : Type 0} where
   EachDeskOnce made desks = (number : ℕ) → number < made → count_by (λ desk. number_of desk.ports.items == number) desks ≡ 1
 
   -- the box that counts as this thread is the first that cannot settle, pumps before drainers before workers: those before it did
-  abbrev pub StopsAt : Role → ℕ → List (PartsView (Call S)) → List (PartsView (Out S)) → List (PartsView (Reply S)) → Type 0
-  StopsAt Pump place calls outs answers = (settled : List (SettledView (Call S))) × FirstUnsettled calls settled place
-  StopsAt Drainer place calls outs answers =
+  abbrev pub IsUnsettledAt : Role → ℕ → List (PartsView (Call S)) → List (PartsView (Out S)) → List (PartsView (Reply S)) → Type 0
+  IsUnsettledAt Pump place calls outs answers = (settled : List (SettledView (Call S))) × FirstUnsettled calls settled place
+  IsUnsettledAt Drainer place calls outs answers =
       ((settled : List (SettledView (Call S))) × AllZip Settles calls settled)
       × ((settled : List (SettledView (Out S))) × FirstUnsettled outs settled place)
-  StopsAt Worker place calls outs answers =
+  IsUnsettledAt Worker place calls outs answers =
       ((settled : List (SettledView (Call S))) × AllZip Settles calls settled)
       × ((settled : List (SettledView (Out S))) × AllZip Settles outs settled)
       × ((settled : List (SettledView (Reply S))) × FirstUnsettled answers settled place)
@@ -110,7 +110,7 @@ module _ {S Rest : Type 0} where
     pub outs : List (PartsView (Out S))
     pub answers : List (PartsView (Reply S))
     pub came : HaveComeBack start leaves desks pumps drainers calls outs answers
-    pub stops : StopsAt role place calls outs answers
+    pub stops : IsUnsettledAt role place calls outs answers
 
   -- a box of a server of so many workers did not settle: a desk came back twice, and with it a port of each subject's box, of which
   -- the first is named; or the one that is named is the first that cannot settle

@@ -188,8 +188,9 @@ module _ {S Rest : Type 0} (acts : Acts S Rest) where
     pub marks : List (Marked S)
     pub pump_ends : List (PumpEnd S)
     pub drain_ends : List (DrainEnd S Rest)
-    -- what the desks left that were not handed out
+    -- what the desks left that were not handed out, each of which was to end, in their order behind what was kept
     pub finished : List (EndedDesk S)
+    pub each_ended : EndsEach server.desks server.kept (server.kept ++ finished)
     pub pumped : AllZip (λ pump x. pump_serving.PumpServes pump x.0 x.1) server.pumps (zip pump_ends marks)
     pub each_marked : length marks ≡ length pump_ends
     pub drained : AllZip (drainer_serving.HasDrained acts) server.drainers drain_ends
@@ -221,6 +222,7 @@ module _ {S Rest : Type 0} (acts : Acts S Rest) where
     pub pump_ends : List (PumpEnd S)
     pub drain_ends : List (DrainEnd S Rest)
     pub finished : List (EndedDesk S)
+    pub each_ended : EndsEach server.desks server.kept (server.kept ++ finished)
     pub pumped : AllZip pump_serving.HasPumped server.pumps pump_ends
     pub drained : AllZip (drainer_serving.HasDrained acts) server.drainers drain_ends
     pub of_server : All (IsEndOf server.made) finished

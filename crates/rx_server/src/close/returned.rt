@@ -2,7 +2,7 @@
 ghost use Rattle.std.specs.Prelude.{◌≡◌, ◌+◌, ◌^◌, ◌<◌, ◌≤◌, [], length, map, vec_capacity, vec_len, IfErr, IfOk, MatchResult, None, OnOk};
 ghost use Rattle.std.specs.List.{All, AllZip, sum_by};
 ghost use Rattle.rx_pump.specs.Pumps.{counted};
-ghost use Rattle.rx_server.specs.Returning.{ComesAgain, HaveReturned, StopsAt, number_of};
+ghost use Rattle.rx_server.specs.Returning.{ComesAgain, HaveReturned, IsUnsettledAt, number_of};
 ghost use Rattle.rx_server.specs.Servers.{report_of};
 ghost use Rattle.rx_mailbox.specs.Parts.{AreOfOneBox, HasRoom, Settles, dealt_each, with_inboxes, missing};
 
@@ -70,7 +70,7 @@ impl<S: Drop> Returned<S> {
         ensures subjects { IfOk result (λ boxes. AllZip Settles self.subjects.items boxes.subjects.items) }
         ensures drainers { IfOk result (λ boxes. AllZip Settles self.drainers.items boxes.drainers.items) }
         ensures replies { IfOk result (λ boxes. AllZip Settles self.replies.items boxes.replies.items) }
-        ensures fault { IfErr result (λ fault. (fault.cause ≡ CloseCause.Unsettled) × StopsAt fault.thread fault.index self.subjects.items self.drainers.items self.replies.items) }
+        ensures fault { IfErr result (λ fault. (fault.cause ≡ CloseCause.Unsettled) × IsUnsettledAt fault.thread fault.index self.subjects.items self.drainers.items self.replies.items) }
     {
         let Returned {
             subjects,

@@ -11,14 +11,14 @@ use std::thread::{Promise, PromisedHandle, Threads};
 
 // A pump has no thread: the system made none, or there was no memory for it. The pump was given up.
 #[derive(Drop)]
-pub(crate) struct NoThread;
+pub(crate) struct NoPumpThread;
 
 // What the thread of a pump answers is what `serve` promises of that pump, but that of what it left at a fault there is the fault
 // alone.
 #[derive(Drop)]
-pub(crate) struct Served<S: Drop>(Snapshot<Pump<S>>);
+pub(crate) struct PumpPromise<S: Drop>(Snapshot<Pump<S>>);
 
-impl<S: Drop> Promise<Result<PumpEnd<S>, PumpFault>> for Served<S> {
+impl<S: Drop> Promise<Result<PumpEnd<S>, PumpFault>> for PumpPromise<S> {
     ghost use Rattle.std.specs.Prelude.{MatchResult};
     ghost use Rattle.rx_pump.specs.Serving.{HasPumped, PumpHasFailed};
 
@@ -30,7 +30,7 @@ impl<S: Drop> Promise<Result<PumpEnd<S>, PumpFault>> for Served<S> {
 // A pump that serves in a thread of its own. Contracts see the pump that was handed in. One that is let go without a `join`
 // is not waited for.
 pub(crate) struct RunningPump<S: Drop> {
-    handle: PromisedHandle<Result<PumpEnd<S>, PumpFault>, Served<S>>,
+    handle: PromisedHandle<Result<PumpEnd<S>, PumpFault>, PumpPromise<S>>,
     heard: SharedHeard,
 }
 
@@ -56,19 +56,19 @@ impl<S: Drop> Model for RunningPump<S> {
 pub(crate) fn start_pump<
     S: Drop + Send + 'static,
     R: Threads + Wait + Clone + Drop + Send + 'static,
->(rt: &R, pump: Pump<S>) -> Result<RunningPump<S>, NoThread>
+>(rt: &R, pump: Pump<S>) -> Result<RunningPump<S>, NoPumpThread>
     ensures { IfOk result (λ running. running ≡ pump) }
 {
     let Ok(own) = rt.clone() else {
-        return Err(NoThread);
+        return Err(NoPumpThread);
     };
     let Some(heard) = pump.heard() else {
-        return Err(NoThread);
+        return Err(NoPumpThread);
     };
-    let promise = Served(Snapshot::of(&pump));
+    let promise = PumpPromise(Snapshot::of(&pump));
     match thread::spawn_with(rt, promise, move || serve(&own, pump)) {
         Ok(handle) => Ok(RunningPump { handle, heard }),
-        Err(_) => Err(NoThread),
+        Err(_) => Err(NoPumpThread),
     }
 }
 

@@ -4,7 +4,9 @@ use Rattle.std.proofs.lemmas.Result.{err_from_is_err_and}
 use Rattle.std.proofs.lemmas.Slice.Zip.{AllZip-long}
 use Rattle.std.specs.List.{All, AllZip}
 use Rattle.rx_mailbox.specs.Boxes.{all_told}
+use Rattle.rx_pump.specs.Desks.{DeskView}
 use Rattle.rx_pump.specs.Pumps.{PumpView}
+use Rattle.rx_pump.specs.declared.call_desk.ended_desk.EndedDesk.{EndedDesk}
 use Rattle.rx_mailbox.specs.PortRows.{with_bye}
 use Rattle.rx_pump.specs.Serving as pump_serving
 use Rattle.rx_mailbox.proofs.Told.{told-byes, told-length}
@@ -13,7 +15,7 @@ use Rattle.rx_drain.specs.Serving as drainer_serving
 use Rattle.rx_server.specs.declared.close.returned.Returned.{Returned}
 use Rattle.rx_server.specs.declared.close.close_fault.CloseFault.{CloseFault}
 use Rattle.rx_server.specs.Returning.{HaveSettledSo, Unsettles}
-use Rattle.rx_server.specs.Servers.{HaveSettled, IsDeskOf, IsFirst}
+use Rattle.rx_server.specs.Servers.{EndsEach, HaveSettled, IsDeskOf, IsFirst}
 use Rattle.rx_server.proofs.Closed.{settled-or-not}
 use Rattle.rx_server.proofs.Ending.{desks-many, has-left}
 use Rattle.rx_server.proofs.Joining.{leaves-fit}
@@ -62,10 +64,14 @@ returns g c =
     ∙ ap (λ (l : List _). parts.result.3.leaves.items ++ l) (told-byes parts.result.1.items)
     ∙ ap (λ (l : List _). l ++ map with_bye parts.result.1.items) parts.ensures.rooms.no_leaves ∙ ap (map with_bye) parts.ensures.leaves in
     let desks = ap (λ (list : Vec _ _). list.items) others.desks ∙ more.1 ∙ ap (λ (l : List _). l ++ more.0) parts.ensures.kept in
+    let by_desks =
+    subst (λ (ds : List (DeskView _)). EndsEach ds self.kept (self.kept ++ more.0)) parts.ensures.desks
+    (subst (λ (l : List (EndedDesk _)). EndsEach _ self.kept l) (more.1 ∙ ap (λ (l : List _). l ++ more.0) parts.ensures.kept)
+    (subst (λ (l : List (EndedDesk _)). EndsEach _ l c.finish_desks.new.ended.items) parts.ensures.kept c.finish_desks.ensures.each)) in
     settled-or-not g.S.Sink.acts self whole left.pumps.items left.drainers.items c.args.ended.items more.0 c.requires
     (subst (λ (pumps : List (PumpView _)). AllZip pump_serving.HasPumped pumps left.pumps.items) parts.ensures.pumps c.in_ok-join.ensures.pumped)
     (subst (λ (drainers : List (DrainerView _ _)). AllZip (drainer_serving.HasDrained g.S.Sink.acts) drainers left.drainers.items) parts.ensures.drainers c.in_ok-join.ensures.drained)
-    c.settle.result (length left.returned.replies.items) more.2
+    c.settle.result (length left.returned.replies.items) more.2 by_desks
     (ap (λ (r : Returned _). length r.replies.items) others.returned ∙ empty.reply_count ∙ desks-many g.S.Sink.acts self whole)
     (subst (λ (l : List _). IfOk c.settle.result (λ report. HaveSettled report.boxes l (c.args.ended.items ++ (self.kept ++ more.0)) left.pumps.items left.drainers.items)) leaves
     (subst (λ (l : List _). IfOk c.settle.result (λ report. HaveSettled report.boxes left.leaves.items (c.args.ended.items ++ l) left.pumps.items left.drainers.items)) desks c.settle.ensures.settled))
