@@ -3,21 +3,24 @@ ghost use Rattle.rx_note.specs.declared.event.Event.TheVariants.{Emit, Join, Req
 ghost use Rattle.rx_note.specs.declared.note.Note.TheVariants.{Completed, Failed, Next};
 ghost use Rattle.rx_caller.specs.Calling.{answer_of, sink_of};
 
+use crate::origin::Origin;
 use crate::{CallerError, EndedCaller, NotJoined};
 use rx_note::{Answer, Event, Item, Note, Policy, Text};
 use rx_pump::{CallDesk, CallError, Reply};
 use rx_server::Server;
 use rx_sink::Sink;
 use std::marker::Model;
-use std::snapshot::Snapshot;
 use std::sync::Wait;
 
-/// Calls the subjects of a server by a desk, one call at a time, and waits for each answer. A subject is named by its place in
-/// the configuration, from 0. One that is let go without `finish` stops nobody, but the server won't settle at its close.
+/// Calls the subjects of a server, one call at a time, and waits for each answer. A subject is named by its place in the
+/// configuration, from 0. A caller that is let go without `finish` stops nobody, but the close of the server answers `Unsettled`.
+///
+/// Each call is refused in the order `NoSubject`, `Gone`, `Refused`: [`CallerError`] says when, and what it leaves. All but `call`
+/// emit and join at the moment 0; a Replay that goes by age wants others, in milliseconds, in the event of a `call`.
 pub struct Caller<S: Sink> {
     pub(crate) desk: CallDesk<S>,
     // Its server: contracts alone see it.
-    pub(crate) server: Snapshot<Server<S>>,
+    pub(crate) server: Origin<Server<S>>,
 }
 
 // It stands here, and isn't derived, so that what lets go of it is one call that is proved once.
@@ -48,8 +51,8 @@ impl<S: Sink> Caller<S> {
         self.desk.subjects()
     }
 
-    /// Makes a call of this event, at a moment of its own, with a sink where it joins an observer. The sink comes back where it
-    /// did not go to a drainer. Refused in the order `NoSubject`, `Gone`, `Refused`.
+    /// Makes a call of this event, with a sink where it joins an observer. Its answer, or why there is none; and the sink, where
+    /// it did not go to a drainer.
     pub fn call<R: Wait>(
         &mut self,
         rt: &R,
@@ -66,7 +69,7 @@ impl<S: Sink> Caller<S> {
         told(self.desk.call(rt, subject, event, sink))
     }
 
-    /// Emits a note at the moment 0. Refused as `call` is.
+    /// Emits a note.
     pub fn emit<R: Wait>(&mut self, rt: &R, subject: usize, note: Note) -> Result<(), CallerError>
         ensures answers { Answers self.old self.new subject (Emit note 0) result }
         ensures made { self.new.made ≡ self.old.made }
@@ -74,7 +77,7 @@ impl<S: Sink> Caller<S> {
         self.answer(rt, subject, Event::Emit { note, at: 0 })
     }
 
-    /// Emits an item of this text at the moment 0. Refused as `call` is.
+    /// Emits an item of this text.
     pub fn publish<R: Wait>(
         &mut self,
         rt: &R,
@@ -87,7 +90,7 @@ impl<S: Sink> Caller<S> {
         self.emit(rt, subject, Note::Next(Item::new(text)))
     }
 
-    /// Completes a subject, for good. Refused as `call` is.
+    /// Completes a subject, for good.
     pub fn complete<R: Wait>(&mut self, rt: &R, subject: usize) -> Result<(), CallerError>
         ensures answers { Answers self.old self.new subject (Emit Completed 0) result }
         ensures made { self.new.made ≡ self.old.made }
@@ -95,7 +98,7 @@ impl<S: Sink> Caller<S> {
         self.emit(rt, subject, Note::Completed)
     }
 
-    /// Ends a subject by an error of this text, for good. Refused as `call` is.
+    /// Ends a subject by an error of this text, for good.
     pub fn fail<R: Wait>(&mut self, rt: &R, subject: usize, text: Text) -> Result<(), CallerError>
         ensures answers { Answers self.old self.new subject (Emit (Failed text) 0) result }
         ensures made { self.new.made ≡ self.old.made }
@@ -103,8 +106,9 @@ impl<S: Sink> Caller<S> {
         self.emit(rt, subject, Note::Failed(text))
     }
 
-    /// Joins an observer by this policy, whose notes the sink takes, and requests so many items for it at once: as many may be on
-    /// their way to the sink. Its number, from 0. Refused as `call` is, with the sink where it came back.
+    /// Joins an observer by this policy, whose notes the sink takes, and requests the `first` items for it: so many may be on their
+    /// way to the sink, since one more is requested for each that it took. Its number, from 0; or why there is none, and the sink,
+    /// where it came back.
     pub fn join<R: Wait>(
         &mut self,
         rt: &R,
@@ -131,8 +135,7 @@ impl<S: Sink> Caller<S> {
         }
     }
 
-    /// Requests so many items more for an observer: beside those that its drainer requests, one for each that its sink took.
-    /// Refused as `call` is.
+    /// Requests `n` items more for the observer `who`, beside those that are requested for each that its sink took.
     pub fn request<R: Wait>(
         &mut self,
         rt: &R,
@@ -146,7 +149,7 @@ impl<S: Sink> Caller<S> {
         self.answer(rt, subject, Event::Request { who, n })
     }
 
-    /// Has an observer leave. Refused as `call` is.
+    /// Has the observer `who` leave: it is given nothing more, and what waits for it is discarded.
     pub fn dispose<R: Wait>(&mut self, rt: &R, subject: usize, who: u32) -> Result<(), CallerError>
         ensures answers { Answers self.old self.new subject (Dispose who) result }
         ensures made { self.new.made ≡ self.old.made }
@@ -154,7 +157,11 @@ impl<S: Sink> Caller<S> {
         self.answer(rt, subject, Event::Dispose { who })
     }
 
-    /// Ends it: a server that is closed waits for that. `Gone`, where a subject is, and it has ended as if it was let go.
+    /// Ends it: a server that is closed waits for that. What it left goes back by [`crate::Callers::take`].
+    ///
+    /// # Errors
+    ///
+    /// `Gone`: a subject is, and the caller has ended as if it was let go.
     pub fn finish<R: Wait>(self, rt: &R) -> Result<EndedCaller<S>, CallerError>
         ensures made { IfOk result (λ ended. ended.made ≡ self.made) }
     {

@@ -1,18 +1,19 @@
-ghost use Rattle.std.specs.Prelude.{◌≡◌, ◌∷◌, [], ◌++◌, IfErr, MatchResult, OnErr};
+ghost use Rattle.std.specs.Prelude.{◌≡◌, ◌∷◌, [], ◌++◌, IfOk, MatchResult};
 ghost use Rattle.std.specs.List.{All};
 ghost use Rattle.rx_caller.specs.declared.caller_error.CallerError.TheVariants.{NoDesk};
 
+use crate::origin::Origin;
 use crate::{Caller, CallerError, EndedCaller};
 use rx_heap::{Heap, Memory};
 use rx_pump::EndedDesk;
 use rx_server::{CloseFault, Report, Server};
 use rx_sink::Sink;
 use std::marker::Model;
-use std::snapshot::Snapshot;
 use std::sync::Wait;
 use std::thread::Threads;
 
-/// A server whose desks callers have, and what those left that came back.
+/// A server whose desks callers have: it hands them out, takes back what they left, and is closed. One that is let go without
+/// `close` waits for nobody, as a server.
 pub struct Callers<S: Sink> {
     server: Server<S>,
     ended: Vec<EndedDesk<S>, Heap>,
@@ -43,7 +44,8 @@ impl<S: Sink> Model for Callers<S> {
 impl<S: Sink> Callers<S> {
     ghost use Rattle.rx_server.specs.Servers.{Closes, Fails, with_desk};
 
-    /// The callers of a server that was started. What they leave takes memory of this heap.
+    /// The callers of a server that was started: of the desks that it didn't hand out yet, since one that it did is missing at the
+    /// close. What callers leave takes memory of this heap.
     pub fn of(server: Server<S>, heap: Heap) -> Callers<S>
         ensures server { result.server ≡ server }
         ensures none { result.ended ≡ [] }
@@ -54,27 +56,33 @@ impl<S: Sink> Callers<S> {
         }
     }
 
-    /// The caller of the next desk, in their order, each once: `NoDesk` where all were handed out. There are as many as the
-    /// configuration has workers.
+    /// The caller of the next desk, in their order, each once. There are as many as the configuration has workers.
+    ///
+    /// # Errors
+    ///
+    /// `NoDesk`: all were handed out.
     pub fn next(&mut self) -> Result<Caller<S>, CallerError>
         ensures next { MatchResult result
             (λ caller. self.old.server ≡ with_desk caller.desk self.new.server)
             (λ error. (error ≡ NoDesk) × (self.old.server.desks ≡ []) × (self.new.server ≡ self.old.server)) }
-        ensures own { MatchResult result (λ caller. caller.made ≡ self.old.server.made) (λ _. Unit {0}) }
+        ensures own { IfOk result (λ caller. caller.made ≡ self.old.server.made) }
         ensures made { self.new.server.made ≡ self.old.server.made }
         ensures ended { self.new.ended ≡ self.old.ended }
     {
         match self.server.desk() {
             Some(desk) => Ok(Caller {
                 desk,
-                server: Snapshot::of(&self.server),
+                server: Origin::of(&self.server),
             }),
             None => Err(CallerError::NoDesk),
         }
     }
 
-    /// Takes back what a caller of this server left. `Memory`: there was none for it, and it is gone, so that the server won't
-    /// settle at its close.
+    /// Takes back what a caller of this server left.
+    ///
+    /// # Errors
+    ///
+    /// `Memory`: there was none for it, and it is gone, so that the close answers `Unsettled`.
     pub fn take(&mut self, caller: EndedCaller<S>) -> Result<(), Memory>
         requires { caller.made ≡ self.old.server.made }
         ensures server { self.new.server ≡ self.old.server }
@@ -88,11 +96,12 @@ impl<S: Sink> Callers<S> {
         }
     }
 
-    /// Closes the server, as [`Server::close`] does: each caller that it had is to have come back.
+    /// Closes the server, as [`Server::close`] does, and reports. It waits until each caller that was handed out has finished or
+    /// is let go.
     ///
     /// # Errors
     ///
-    /// Those of [`Server::close`].
+    /// `Ended`: a thread of the server ended by a fault. `Unsettled`: not each caller came back.
     pub fn close<R: Threads + Wait>(self, rt: &R) -> Result<Report<S>, CloseFault>
         ensures { MatchResult result (Closes S.acts self.server self.ended) (Fails S.acts self.server self.ended) }
     {

@@ -1,8 +1,8 @@
 use rx_note::Note;
 use rx_sink::{Flow, Sink, SinkFault};
 
-/// One of two kinds of sink. A server has one type of sinks, so two are made one by it, and more by one within the other. What is
-/// left of it is what is left of the one that it is.
+/// One of two kinds of sink. A server has one type of sinks: this makes one of two, and one within another makes one of three. What
+/// is left of it is what is left of the sink that it is.
 #[derive(Drop, Clone, Copy, Debug, PartialEq, Eq)]
 pub enum Either<A, B> {
     First(A),

@@ -1,16 +1,16 @@
 ghost use Rattle.std.specs.Prelude.{◌≡◌};
 
+use crate::origin::Origin;
 use rx_pump::EndedDesk;
 use rx_server::Server;
 use rx_sink::Sink;
 use std::marker::Model;
-use std::snapshot::Snapshot;
 
-/// What a caller left that has ended: [`crate::Callers::take`] has it back.
+/// What a caller left that has ended, for [`crate::Callers::take`].
 pub struct EndedCaller<S: Sink> {
     pub(crate) desk: EndedDesk<S>,
     // Its server: contracts alone see it.
-    pub(crate) server: Snapshot<Server<S>>,
+    pub(crate) server: Origin<Server<S>>,
 }
 
 // It stands here, and isn't derived, so that what lets go of it is one call that is proved once.

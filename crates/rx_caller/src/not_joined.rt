@@ -2,10 +2,12 @@ use crate::CallerError;
 use std::error::Error;
 use std::fmt;
 
-/// Why an observer did not join, and its sink, where it came back.
+/// An observer did not join.
 #[derive(Drop)]
 pub struct NotJoined<S> {
+    /// Why.
     pub cause: CallerError,
+    /// Its sink. None: it was sent, and is gone with the thread of the subject.
     pub sink: Option<S>,
 }
 
