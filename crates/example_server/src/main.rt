@@ -1,42 +1,42 @@
-//! A first program. One thread emits words into a subject, and another joins two observers to it: what one of them is given
-//! is kept, what the other is given is written. The subject is a Replay, which gives all to whoever joins late, so a run is
-//! the same whatever the threads do.
+//! A first program over the server. One thread emits words into a subject, and another joins two observers to it: what one of
+//! them is given is kept, what the other is given is written. The subject is a Replay, which gives all to whoever joins late, so
+//! a run is the same whatever the threads do.
 #![tactic(auto)]
 
-ghost use Rattle.std.specs.Prelude.{◌≡◌, IfOk, List};
-ghost use Rattle.std.specs.List.{All};
-ghost use Rattle.rx_pump.specs.Desks.{DeskView};
-ghost use Rattle.rx_server.specs.Servers.{IsDeskOf, IsEndOf};
-ghost use Rattle.example_server.specs.declared.shelf.Shelf.{Shelf};
+ghost use Rattle.std.specs.Prelude.{◌≡◌, IfOk};
 
-mod caller;
-mod shelf;
-
-use anyhow::{Result, bail};
-use caller::Caller;
+use anyhow::Result;
+use rx_caller::{Caller, Callers, Either, EndedCaller};
 use rx_heap::{Heap, Memory};
-use rx_note::{Item, Kind, Note, Text};
+use rx_note::{Errors, Kind, Note, Policy, Strategy, Text};
 use rx_proto::{Version, write_note};
-use rx_pump::EndedDesk;
-use rx_server::{Config, Report, Server, start};
-use rx_sink::{LineSink, MemorySink, PutAway};
-use shelf::Shelf;
+use rx_server::{Config, Report, start};
+use rx_sink::{LineSink, MemorySink};
 use std::io::{Stdout, Write};
 use std::sync::Wait;
-use std::thread::{Threads, join};
+use std::thread::join;
 
-const WORDS: [&str; 3] = ["one", "two", "three"];
+// What an observer is given is kept, or written.
+type Shelf = Either<MemorySink, LineSink<Stdout>>;
 
 fn main(rt: HostRuntime) -> Result<()> {
     let heap = Heap::unlimited(rt.alloc());
-    let mut server = start(&rt, heap.clone()?, replaying(&heap)?)?;
-    let ended = talk(&rt, &heap, &mut server, rt.stdout())?;
-    let report = server.close(&rt, ended)?;
-    write_report(&report, &mut rt.stdout())?;
-    Ok(())
+    let server = start(&rt, heap.clone()?, replaying(&heap)?)?;
+    let mut callers = Callers::of(server, heap.clone()?);
+    let speaker = callers.next()?;
+    let listener = callers.next()?;
+    let (spoke, listened) = join(
+        &rt,
+        || speak(&rt, &heap, speaker),
+        || listen(&rt, &heap, listener, rt.stdout()),
+    );
+    callers.take(spoke?)?;
+    callers.take(listened?)?;
+    let report = callers.close(&rt)?;
+    write_report(&report, &mut rt.stdout())
 }
 
-// One subject, a Replay without bounds, and a desk for each of two threads.
+// One subject, a Replay without bounds, and a caller for each of two threads.
 fn replaying(heap: &Heap) -> Result<Config, Memory> {
     let mut config = Config::standard(heap.clone()?)?;
     config.subjects[0].rules.kind = Kind::Replay {
@@ -47,68 +47,44 @@ fn replaying(heap: &Heap) -> Result<Config, Memory> {
     Ok(config)
 }
 
-// Two threads, each with a desk of its own. Answers the desks, ended.
-fn talk<R: Threads + Wait + Sync>(
+fn speak<R: Wait>(rt: &R, heap: &Heap, caller: Caller<Shelf>) -> Result<EndedCaller<Shelf>>
+    ensures { IfOk result (λ ended. ended.made ≡ caller.made) }
+{
+    let mut caller = caller;
+    caller.publish(rt, 0, Text::new(heap.clone()?, b"one")?)?;
+    caller.publish(rt, 0, Text::new(heap.clone()?, b"two")?)?;
+    caller.publish(rt, 0, Text::new(heap.clone()?, b"three")?)?;
+    caller.complete(rt, 0)?;
+    Ok(caller.finish(rt)?)
+}
+
+// All three items are requested at once, so that they are on their way to the sinks before the server is closed.
+fn listen<R: Wait>(
     rt: &R,
     heap: &Heap,
-    server: &mut Server<Shelf>,
+    caller: Caller<Shelf>,
     out: Stdout,
-) -> Result<Vec<EndedDesk<Shelf>, Heap>>
-    ensures own { IfOk result (λ ended. All (IsEndOf server.old.made) ended.items) }
-    ensures same { server.new.made ≡ server.old.made }
-{
-    let speaker = Caller::at(server)?;
-    let listener = Caller::at(server)?;
-    let (spoke, listened) = join(
-        rt,
-        || speak(rt, heap, speaker),
-        || listen(rt, heap, listener, out),
-    );
-    let mut ended = Vec::new(heap.clone()?);
-    ended.push(spoke?)?;
-    ended.push(listened?)?;
-    Ok(ended)
-}
-
-fn speak<R: Wait>(rt: &R, heap: &Heap, caller: Caller) -> Result<EndedDesk<Shelf>>
-    ensures { IfOk result (λ ended. (made : List (DeskView Shelf)) → IsDeskOf made caller.desk → IsEndOf made ended) }
+) -> Result<EndedCaller<Shelf>>
+    ensures { IfOk result (λ ended. ended.made ≡ caller.made) }
 {
     let mut caller = caller;
-    for word in WORDS {
-        let Ok(text) = Text::new(heap.clone()?, word.as_bytes()) else {
-            bail!("no text for {word}");
-        };
-        caller.emit(rt, Note::Next(Item::new(text)))?;
-    }
-    caller.emit(rt, Note::Completed)?;
-    caller.finish(rt)
-}
-
-// All items are requested at once, so that they are on their way to the sinks before the server is closed.
-fn listen<R: Wait>(rt: &R, heap: &Heap, caller: Caller, out: Stdout) -> Result<EndedDesk<Shelf>>
-    ensures { IfOk result (λ ended. (made : List (DeskView Shelf)) → IsDeskOf made caller.desk → IsEndOf made ended) }
-{
-    let mut caller = caller;
-    let items = WORDS.len() as u32;
-    caller.join(rt, Shelf::Kept(MemorySink::new(heap.clone()?, None)), items)?;
-    caller.join(rt, Shelf::Written(LineSink::new(out, Version::One)), items)?;
-    caller.finish(rt)
+    let policy = Policy::new(Strategy::Buffer, Errors::Delay)?;
+    let kept = MemorySink::new(heap.clone()?, None);
+    let written = LineSink::new(out, Version::One);
+    caller.join(rt, 0, policy, 3, Either::First(kept))?;
+    caller.join(rt, 0, policy, 3, Either::Second(written))?;
+    Ok(caller.finish(rt)?)
 }
 
 fn write_report(report: &Report<Shelf>, out: &mut Stdout) -> Result<()> {
     for rests in &report.put_away {
-        write_rests(rests.as_slice(), out)?;
-    }
-    writeln!(out, "{} notes were taken", report.taken)?;
-    Ok(())
-}
-
-fn write_rests(rests: &[PutAway<Option<Vec<Note, Heap>>>], out: &mut Stdout) -> Result<()> {
-    for away in rests {
-        if let Some(notes) = &away.rest {
-            write_kept(away.who, notes.as_slice(), out)?;
+        for away in rests.as_slice() {
+            if let Either::First(notes) = &away.rest {
+                write_kept(away.who, notes.as_slice(), out)?;
+            }
         }
     }
+    writeln!(out, "{} notes were taken", report.taken)?;
     Ok(())
 }
 
