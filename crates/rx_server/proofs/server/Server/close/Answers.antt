@@ -3,6 +3,7 @@ use Rattle.std.proofs.lemmas.List.{length-map}
 use Rattle.std.proofs.lemmas.Result.{err_from_is_err_and}
 use Rattle.std.proofs.lemmas.Slice.Zip.{AllZip-long}
 use Rattle.std.specs.List.{All, AllZip}
+use Rattle.std.specs.Vec.Iter.{into_iter_items}
 use Rattle.rx_mailbox.specs.Boxes.{all_told}
 use Rattle.rx_pump.specs.Desks.{DeskView}
 use Rattle.rx_pump.specs.Pumps.{PumpView}
@@ -66,8 +67,8 @@ returns g c =
     let desks = ap (λ (list : Vec _ _). list.items) others.desks ∙ more.1 ∙ ap (λ (l : List _). l ++ more.0) parts.ensures.kept in
     let by_desks =
     subst (λ (ds : List (DeskView _)). EndsEach ds self.kept (self.kept ++ more.0)) parts.ensures.desks
-    (subst (λ (l : List (EndedDesk _)). EndsEach _ self.kept l) (more.1 ∙ ap (λ (l : List _). l ++ more.0) parts.ensures.kept)
-    (subst (λ (l : List (EndedDesk _)). EndsEach _ l c.finish_desks.new.ended.items) parts.ensures.kept c.finish_desks.ensures.each)) in
+    (subst (λ (l : List (EndedDesk _)). EndsEach (into_iter_items parts.result.2) self.kept l) (more.1 ∙ ap (λ (l : List _). l ++ more.0) parts.ensures.kept)
+    (subst (λ (l : List (EndedDesk _)). EndsEach (into_iter_items parts.result.2) l c.finish_desks.new.ended.items) parts.ensures.kept c.finish_desks.ensures.each)) in
     settled-or-not g.S.Sink.acts self whole left.pumps.items left.drainers.items c.args.ended.items more.0 c.requires
     (subst (λ (pumps : List (PumpView _)). AllZip pump_serving.HasPumped pumps left.pumps.items) parts.ensures.pumps c.in_ok-join.ensures.pumped)
     (subst (λ (drainers : List (DrainerView _ _)). AllZip (drainer_serving.HasDrained g.S.Sink.acts) drainers left.drainers.items) parts.ensures.drainers c.in_ok-join.ensures.drained)
