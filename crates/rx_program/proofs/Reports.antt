@@ -1,5 +1,5 @@
 -- What the close of a server of a configuration answered.
-use Rattle.std.proofs.Common.{◌≡◌, refl, subst, sym, Result, Ok, Err, MatchResult}
+use Rattle.std.proofs.Common.{◌≡◌, List, refl, subst, sym, Result, Ok, Err, MatchResult}
 use Rattle.rx_config.specs.declared.config.Config.{Config}
 use Rattle.rx_pump.specs.declared.call_desk.ended_desk.EndedDesk.{EndedDesk}
 use Rattle.rx_server.specs.declared.close.close_fault.CloseFault.{CloseFault}
