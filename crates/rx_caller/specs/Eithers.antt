@@ -1,8 +1,6 @@
 -- What a sink does that is one of two kinds: what that kind does, and it stays of that kind (this project's own rule).
 use Rattle.std.specs.Prelude.{ℕ}
-use Rattle.rx_note.specs.declared.note.Note.{Note}
 use Rattle.rx_sink.specs.Acts.{Acts}
-use Rattle.rx_sink.specs.declared.flow.Flow.{Flow}
 use Rattle.rx_caller.specs.declared.either.Either.{Either}
 use Rattle.rx_caller.specs.declared.either.Either.TheVariants.{First, Second}
 

@@ -1,4 +1,4 @@
-use Rattle.std.proofs.Common.{◌≡◌, List, sym, subst}
+use Rattle.std.proofs.Common.{List, sym, subst}
 use Rattle.std.specs.List.{All}
 use Rattle.rx_pump.specs.Desks.{DeskView}
 use Rattle.rx_server.specs.Servers.{IsEndOf}
