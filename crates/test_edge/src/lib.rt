@@ -12,8 +12,6 @@ mod crews;
 #[cfg(test)]
 mod expecting;
 #[cfg(test)]
-mod flushes;
-#[cfg(test)]
 mod going_on;
 #[cfg(test)]
 mod order;
