@@ -7,7 +7,7 @@ use Rattle.rx_lines.specs.Feeds.{IsRest, Comes, Tells, IsWhole}
 use Rattle.rx_lines.specs.Lines.{BeginsWithLine, TakesLine, without_cr}
 use Rattle.rx_lines.specs.Reads.{ReadsOn, IsEnd}
 use Rattle.rx_lines.specs.Reads.{IsLeft}
-use Rattle.rx_lines.specs.Steps.{unread, Goes, IsTold, Knows}
+use Rattle.rx_lines.specs.Steps.{unread, TakesStep, IsTold, LooksInHand}
 use Rattle.rx_lines.specs.declared.came.Came.{Came}
 use Rattle.rx_lines.specs.declared.came.Came.TheVariants.{Bytes, Nothing, End}
 use Rattle.rx_lines.specs.declared.input_end.InputEnd.{InputEnd}
@@ -42,10 +42,10 @@ pub IsRest-plain : (window : List ℕ) → IsRest false window window
 IsRest-plain window = record { gone = []; kind = refl; passed = tt; parts = refl }
 
 -- a line in hand is told
-pub tells_line : (step : Step) (before after : LineState) (rest : List ℕ) → Knows (Some step) before after → IsRest false (unread before) rest
+pub tells_line : (step : Step) (before after : LineState) (rest : List ℕ) → LooksInHand (Some step) before after → IsRest false (unread before) rest
     → Tells (Some step) rest after.window false (unread after)
 tells_line step before after rest knows is =
-    elim step as (λ s. Goes s (Some []) (Some []) before after → Tells (Some s) rest after.window false (unread after)) [
+    elim step as (λ s. TakesStep s (Some []) (Some []) before after → Tells (Some s) rest after.window false (unread after)) [
       | steps.Line len ↦ λ g.
           let b = begins_by (unread before) (unread after) (λ line. IsTold line len after.window) g.0 in
           record { line = b.0; left = unread after; begins = subst (λ (bytes : List ℕ). BeginsWithLine bytes b.0 (unread after)) (sym (unread_is (unread before) rest is)) b.1; said = b.2; is_rest = IsRest-plain (unread after) }
@@ -65,7 +65,7 @@ behind_gone gone before line after passed begins = record {
 }
 
 -- it is too long
-pub tells_long : (step : Step) (before after : LineState) (rest : List ℕ) → Knows (Some step) before after → IsRest true (unread before) rest
+pub tells_long : (step : Step) (before after : LineState) (rest : List ℕ) → LooksInHand (Some step) before after → IsRest true (unread before) rest
     → Tells (Some steps.Long) rest after.window false (unread after)
 tells_long step before after rest knows is =
     let make : (line : List ℕ) → BeginsWithLine (unread before) line (unread after) → Tells (Some steps.Long) rest after.window false (unread after) =
@@ -76,7 +76,7 @@ tells_long step before after rest knows is =
       said = omega (arith, length-without_cr (is.gone ++ line), length-append is.gone line, is.kind);
       is_rest = IsRest-plain (unread after);
     } in
-    elim step as (λ s. Goes s (Some []) (Some []) before after → Tells (Some steps.Long) rest after.window false (unread after)) [
+    elim step as (λ s. TakesStep s (Some []) (Some []) before after → Tells (Some steps.Long) rest after.window false (unread after)) [
       | steps.Line len ↦ λ g. let b = begins_by (unread before) (unread after) (λ line. IsTold line len after.window) g.0 in make b.0 b.1
       | steps.Long ↦ λ g. let b = begins_by (unread before) (unread after) (λ line. 1100 < length line) g.0 in make b.0 b.1
       | steps.EndOfInput ↦ λ g. absurd (knows.1 (HasNoLf-front (unread before) g.0.read g.0.none))
@@ -85,7 +85,7 @@ tells_long step before after rest knows is =
     ] (knows.2 (Some []))
 
 -- no line is in hand
-pub tells_none : (skips : Bool) (before after : LineState) (rest : List ℕ) → before.end ≡ None → Knows None before after → IsRest skips (unread before) rest
+pub tells_none : (skips : Bool) (before after : LineState) (rest : List ℕ) → before.end ≡ None → LooksInHand None before after → IsRest skips (unread before) rest
     → Tells None rest after.window skips (unread after)
 tells_none skips before after rest still_open knows is = (
   subst HasNoLf (sym is.parts) (HasNoLf-append is.gone (unread before) is.passed (knows.0 still_open)),
@@ -126,9 +126,9 @@ IsRest-skipped skips window rest none long is = record {
 }
 
 -- the bytes of a line that is told stand in the window
-pub is_whole : (step : Step) (before after : LineState) → Knows (Some step) before after → IsWhole (Some step) after.window
+pub is_whole : (step : Step) (before after : LineState) → LooksInHand (Some step) before after → IsWhole (Some step) after.window
 is_whole step before after knows =
-    elim step as (λ s. Goes s (Some []) (Some []) before after → IsWhole (Some s) after.window) [
+    elim step as (λ s. TakesStep s (Some []) (Some []) before after → IsWhole (Some s) after.window) [
       | steps.Line len ↦ λ g. let is = told-is_line (Some []) (Some []) (unread before) (unread after) after.window len g.0 in (g.0.said.within, is.0, is.1)
       | steps.Long ↦ λ g. tt
       | steps.EndOfInput ↦ λ g. absurd (knows.1 (HasNoLf-front (unread before) g.0.read g.0.none))
@@ -141,9 +141,9 @@ pub comes_none : (old : Option (List ℕ)) (skips : Bool) (window rest : List �
 comes_none old skips window rest is = ([], Consumes-nil old, subst (λ (r : List ℕ). IsRest skips window r) (sym (append-nil rest)) is)
 
 -- a line in hand was taken without a read: fewer bytes are unread
-pub fewer_unread : (step : Step) (before after : LineState) → Knows (Some step) before after → after.reads ≡ before.reads → length (unread after) < length (unread before)
+pub fewer_unread : (step : Step) (before after : LineState) → LooksInHand (Some step) before after → after.reads ≡ before.reads → length (unread after) < length (unread before)
 fewer_unread step before after knows same =
-    elim step as (λ s. Goes s (Some []) (Some []) before after → length (unread after) < length (unread before)) [
+    elim step as (λ s. TakesStep s (Some []) (Some []) before after → length (unread after) < length (unread before)) [
       | steps.Line len ↦ λ g. omega (arith, g.1.fewer, same)
       | steps.Long ↦ λ g. omega (arith, g.1.fewer, same)
       | steps.EndOfInput ↦ λ g. absurd (knows.1 (HasNoLf-front (unread before) g.0.read g.0.none))

@@ -9,7 +9,7 @@ use Rattle.rx_proto.specs.LineFeeds.{HasLf, HasNoLf}
 use Rattle.rx_lines.specs.Lines.{BeginsWithLine, TakesLine, TakesNoLine, without_cr}
 use Rattle.rx_lines.specs.Reads.{Sheds, IsEnd, ahead}
 use Rattle.rx_lines.specs.Windows.{HasLfAt, FindsLf}
-use Rattle.rx_lines.specs.Steps.{Advances, Goes, GoesOn, IsStepAt, IsTold, Knows, told, unread}
+use Rattle.rx_lines.specs.Steps.{Advances, TakesStep, GoesOn, IsStepAt, IsTold, LooksInHand, told, unread}
 use Rattle.rx_lines.specs.declared.input_end.InputEnd.{InputEnd}
 use Rattle.rx_lines.specs.declared.input_end.InputEnd.TheVariants.{EndOfInput, ReadFault, TooManyReads}
 use Rattle.rx_lines.specs.declared.line_state.LineState.{LineState}
@@ -58,12 +58,12 @@ taken-front old new before after len says shed at taken said =
     }
 
 -- a line of which nothing was let go
-pub Goes-line : (step : Step) (old new : Option (List ℕ)) (before after : LineState) (len : ℕ) → Sheds old new (unread before) after.window [] → HasLfAt after.window len
+pub TakesStep-line : (step : Step) (old new : Option (List ℕ)) (before after : LineState) (len : ℕ) → Sheds old new (unread before) after.window [] → HasLfAt after.window len
     → IsStepAt step len after.window → after.taken ≡ len + 1 → after.end ≡ None → ahead after.reads after.window ≤ ahead before.reads (unread before)
-    → Goes step old new before after
-Goes-line step old new before after len shed at is taken none few =
+    → TakesStep step old new before after
+TakesStep-line step old new before after len shed at is taken none few =
     let goes_on : GoesOn before after = record { no_end = none; fewer = omega (arith, few, at.within, taken, length-drop after.taken after.window) } in
-    elim step as (λ s. IsStepAt s len after.window → Goes s old new before after) [
+    elim step as (λ s. IsStepAt s len after.window → TakesStep s old new before after) [
       | steps.Line short ↦ λ said. (taken-front old new before after len (λ line. IsTold line short after.window) shed at taken said, goes_on)
       | steps.Long ↦ λ said. (taken-front old new before after len (λ line. 1100 < length line) shed at taken said, goes_on)
       | steps.EndOfInput ↦ λ said. absurd said
@@ -72,9 +72,9 @@ Goes-line step old new before after len shed at is taken none few =
     ] is
 
 -- so it is told where no end was
-pub Advances-line : (step : Step) (old new : Option (List ℕ)) (before after : LineState) → before.end ≡ None → Goes step old new before after → Advances step old new before after
+pub Advances-line : (step : Step) (old new : Option (List ℕ)) (before after : LineState) → before.end ≡ None → TakesStep step old new before after → Advances step old new before after
 Advances-line step old new before after none goes =
-    subst (λ (o : Option InputEnd). MatchOption o (Goes step old new before after) (λ end. (step ≡ told end) × (after ≡ before) × Keeps old new)) (sym none) goes
+    subst (λ (o : Option InputEnd). MatchOption o (TakesStep step old new before after) (λ end. (step ≡ told end) × (after ≡ before) × Keeps old new)) (sym none) goes
 
 -- no line before an end
 pub TakesNoLine-shed : (old new : Option (List ℕ)) (window after gone : List ℕ) → Sheds old new window after gone → HasNoLf after → TakesNoLine old new window
@@ -82,10 +82,10 @@ TakesNoLine-shed old new window after gone shed none =
     record { read = shed.read; told = shed.told; none = subst HasNoLf (sym shed.parts) (HasNoLf-append gone after shed.passed none) }
 
 -- the step that tells an end
-pub Goes-end : (end : InputEnd) (old new : Option (List ℕ)) (before after : LineState) → TakesNoLine old new (unread before) → after.end ≡ Some end → IsEnd end new after.reads → Goes (told end) old new before after
-Goes-end EndOfInput old new before after none is at = (none, is, at)
-Goes-end ReadFault old new before after none is at = (none, is)
-Goes-end TooManyReads old new before after none is at = (none, is, at)
+pub TakesStep-end : (end : InputEnd) (old new : Option (List ℕ)) (before after : LineState) → TakesNoLine old new (unread before) → after.end ≡ Some end → IsEnd end new after.reads → TakesStep (told end) old new before after
+TakesStep-end EndOfInput old new before after none is at = (none, is, at)
+TakesStep-end ReadFault old new before after none is at = (none, is)
+TakesStep-end TooManyReads old new before after none is at = (none, is, at)
 
 -- an LF is among bytes that have one
 not_none : (bytes : List ℕ) (len : ℕ) → HasLfAt bytes len → HasNoLf bytes → ⊥
@@ -93,14 +93,14 @@ not_none bytes len at none =
     (HasNoLf-back (take len bytes) (10 ∷ drop (len + 1) bytes) (subst HasNoLf at.line.parts none)).0 refl
 
 -- a line in hand is told
-pub Knows-line : (step : Step) (before after : LineState) (len : ℕ) → before.end ≡ None → after.window ≡ unread before → HasLfAt after.window len
-    → IsStepAt step len after.window → after.taken ≡ len + 1 → after.end ≡ before.end → after.reads ≡ before.reads → Knows (Some step) before after
-Knows-line step before after len none same at is taken end reads = (
+pub LooksInHand-line : (step : Step) (before after : LineState) (len : ℕ) → before.end ≡ None → after.window ≡ unread before → HasLfAt after.window len
+    → IsStepAt step len after.window → after.taken ≡ len + 1 → after.end ≡ before.end → after.reads ≡ before.reads → LooksInHand (Some step) before after
+LooksInHand-line step before after len none same at is taken end reads = (
   none,
   subst HasLf same (not_none after.window len at),
   λ left.
       let shed : Sheds left left (unread before) after.window [] = subst (λ (w : List ℕ). Sheds left left w after.window []) same (Sheds-none left after.window) in
-      Goes-line step left left before after len shed at is taken (end ∙ none) (omega (arith, reads, ap length same)),
+      TakesStep-line step left left before after len shed at is taken (end ∙ none) (omega (arith, reads, ap length same)),
 )
 
 -- no LF is unread exactly where none was found

@@ -40,20 +40,20 @@ IsStepAt ReadFault before_lf window = ⊥
 IsStepAt TooManyReads before_lf window = ⊥
 
 -- what a step does that begins with no end: it takes the next line, or reads to an end and finds none
-abbrev pub Goes : Step → Option (List ℕ) → Option (List ℕ) → LineState → LineState → Type 0
-Goes (Line len) old new before after =
+abbrev pub TakesStep : Step → Option (List ℕ) → Option (List ℕ) → LineState → LineState → Type 0
+TakesStep (Line len) old new before after =
     TakesLine old new (unread before) (unread after) (λ line. IsTold line len after.window) × GoesOn before after
-Goes Long old new before after = TakesLine old new (unread before) (unread after) (λ line. 1100 < length line) × GoesOn before after
-Goes EndOfInput old new before after = TakesNoLine old new (unread before) × (after.end ≡ Some ends.EndOfInput) × IsAtEnd new
-Goes ReadFault old new before after = TakesNoLine old new (unread before) × (after.end ≡ Some ends.ReadFault)
-Goes TooManyReads old new before after = TakesNoLine old new (unread before) × (after.end ≡ Some ends.TooManyReads) × (after.reads ≡ 0)
+TakesStep Long old new before after = TakesLine old new (unread before) (unread after) (λ line. 1100 < length line) × GoesOn before after
+TakesStep EndOfInput old new before after = TakesNoLine old new (unread before) × (after.end ≡ Some ends.EndOfInput) × IsAtEnd new
+TakesStep ReadFault old new before after = TakesNoLine old new (unread before) × (after.end ≡ Some ends.ReadFault)
+TakesStep TooManyReads old new before after = TakesNoLine old new (unread before) × (after.end ≡ Some ends.TooManyReads) × (after.reads ≡ 0)
 
 -- what a step does: after an end it tells that end again, and changes and reads nothing
 abbrev pub Advances : Step → Option (List ℕ) → Option (List ℕ) → LineState → LineState → Type 0
-Advances step old new before after = MatchOption before.end (Goes step old new before after) (λ end. (step ≡ told end) × (after ≡ before) × Keeps old new)
+Advances step old new before after = MatchOption before.end (TakesStep step old new before after) (λ end. (step ≡ told end) × (after ≡ before) × Keeps old new)
 
 -- what looking for a line in hand does: where there is an LF, and no end was told, it takes the next line, whatever the reader
 -- has; else it leaves what is unread
-abbrev pub Knows : Option Step → LineState → LineState → Type 0
-Knows (Some step) before after = (before.end ≡ None) × HasLf (unread before) × ((left : Option (List ℕ)) → Goes step left left before after)
-Knows None before after = (before.end ≡ None → HasNoLf (unread before)) × (unread after ≡ unread before)
+abbrev pub LooksInHand : Option Step → LineState → LineState → Type 0
+LooksInHand (Some step) before after = (before.end ≡ None) × HasLf (unread before) × ((left : Option (List ℕ)) → TakesStep step left left before after)
+LooksInHand None before after = (before.end ≡ None → HasNoLf (unread before)) × (unread after ≡ unread before)

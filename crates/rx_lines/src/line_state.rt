@@ -24,7 +24,7 @@ impl LineState {
     ghost use Rattle.std.specs.Prelude.{◌↔◌, IsTrue, cond, false, take, [], None};
     ghost use Rattle.rx_proto.specs.LineFeeds.{HasLf, HasNoLf};
     ghost use Rattle.rx_lines.specs.Reads.{ReadsOn};
-    ghost use Rattle.rx_lines.specs.Steps.{unread, Advances, IsStepAt, Knows};
+    ghost use Rattle.rx_lines.specs.Steps.{unread, Advances, IsStepAt, LooksInHand};
 
     /// No line was read yet, and at most `max_reads` reads may be made.
     #[inline(always)] // so that its block is made where it stays
@@ -58,7 +58,7 @@ impl LineState {
     /// read or tells an end. Lets go of the line last told.
     #[inline] // once for each line that a script has in hand
     pub fn known(&mut self) -> Option<Step>
-        ensures knows { Knows result self.old self.new }
+        ensures knows { LooksInHand result self.old self.new }
         ensures reads { self.new.reads ≡ self.old.reads }
         ensures end { self.new.end ≡ self.old.end }
     {

@@ -4,7 +4,7 @@
 //! streams (`specs/Programs.antt`). It runs and audits scripts by `rx_script`, tells a configuration by `rx_config`, and serves by
 //! `rx_server`.
 //!
-//! Its tests stand in `crates/test_edge` and `tests/program`.
+//! Its tests stand in `crates/test_program`, `crates/test_edge` and `tests/program`.
 #![tactic(auto)]
 
 pub(crate) mod command_line;

@@ -19,7 +19,7 @@ use Rattle.rx_lines.specs.Bytes.{Holds}
 use Rattle.rx_lines.specs.Lines.{TakesLine, without_cr}
 use Rattle.rx_proto.specs.Reading.{script_read}
 use Rattle.rx_proto.proofs.Exact.{script_exact}
-use Rattle.rx_lines.specs.Steps.{unread, GoesOn, Goes, Advances}
+use Rattle.rx_lines.specs.Steps.{unread, GoesOn, TakesStep, Advances}
 use Rattle.rx_script.specs.Tellings.{IsIn, IsInHand, Quits, TellsOn, Turns, is_last}
 use Rattle.rx_script.specs.Transcripts.{State, line_written, after_line, ends_script}
 use Rattle.rx_lines.proofs.Stepping.{told-is_line}
@@ -51,11 +51,11 @@ none_match None P Q e m = m
 none_match (Some x) P Q e m = cc
 
 -- a step that begins with no end
-pub goes_by : (step : Step) (old new : Option (List ℕ)) (before after : LineState) → before.end ≡ None → Advances step old new before after → Goes step old new before after
+pub goes_by : (step : Step) (old new : Option (List ℕ)) (before after : LineState) → before.end ≡ None → Advances step old new before after → TakesStep step old new before after
 goes_by step old new before after none advances = none_match before.end _ _ none advances
 
 -- the line that a step took may be told
-pub in_hand : (step : Step) (old new : Option (List ℕ)) (before after : LineState) → Goes step old new before after → IsInHand step after
+pub in_hand : (step : Step) (old new : Option (List ℕ)) (before after : LineState) → TakesStep step old new before after → IsInHand step after
 in_hand (steps.Line len) old new before after goes =
     let line = told-is_line _ _ _ _ after.window len goes.0 in (goes.0.said.within, line.0, line.1)
 in_hand steps.Long old new before after goes = tt

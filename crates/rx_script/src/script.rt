@@ -82,7 +82,7 @@ impl Script {
     ghost use Rattle.std.specs.Prelude.{List, Option, ℕ};
     ghost use Rattle.rx_script.specs.Scripts.{StandForSubjects};
     ghost use Rattle.rx_lines.specs.declared.line_state.LineState.{LineState};
-    ghost use Rattle.rx_lines.specs.Steps.{unread, Goes};
+    ghost use Rattle.rx_lines.specs.Steps.{unread, TakesStep};
     ghost use Rattle.rx_script.specs.Tellings.{CarriesOut, IsIn, IsInHand, MayBeTold, Quits, Tells, TellsOn, Turns, reading_of};
     ghost use Rattle.rx_script.specs.Transcripts.{Subject, new_state};
 
@@ -116,7 +116,7 @@ impl Script {
         ensures topics { self.new.topics.items ≡ self.old.topics.items }
         ensures moment { self.new.moment ≡ self.old.moment }
         ensures version { self.new.version ≡ self.old.version }
-        ensures goes { IfOk result (λ step. Goes step (R.remaining reader.old) (R.remaining reader.new) lines.old lines.new) }
+        ensures goes { IfOk result (λ step. TakesStep step (R.remaining reader.old) (R.remaining reader.new) lines.old lines.new) }
         ensures no_read { OnErr result (R.remaining reader.new ≡ R.remaining reader.old) }
     {
         if let Some(step) = lines.known() {
@@ -137,7 +137,7 @@ impl Script {
         step: Step,
     ) -> Option<SessionEnd>
         requires { IsInHand step lines.now }
-        ensures { (read_old read_new : Option (List ℕ)) (before : LineState) → Goes step read_old read_new before lines.now
+        ensures { (read_old read_new : Option (List ℕ)) (before : LineState) → TakesStep step read_old read_new before lines.now
             → Turns result self.old self.new (W.contents writer.old) (W.contents writer.new) read_old read_new before lines.now }
     {
         match step {

@@ -22,7 +22,7 @@ use Rattle.rx_proto.specs.declared.version.Version.{Version}
 use Rattle.rx_proto.specs.declared.word.Word.{Word}
 use Rattle.rx_lines.specs.Lines.{TakesLine, without_cr}
 use Rattle.rx_session.specs.Sessions.{Parties, Place, Outcome, answered, Emits, Goes, Lacks}
-use Rattle.rx_lines.specs.Steps.{Advances, Goes as Steps}
+use Rattle.rx_lines.specs.Steps.{Advances, TakesStep as Steps}
 use Rattle.rx_session.specs.Turns.{asked_by, hands, Tells, Quits, IsAt, HasNoText, Comes, Carries}
 use Rattle.rx_session.specs.declared.follow.Follow.{Follow}
 use Rattle.rx_session.specs.declared.follow.Follow.TheVariants.{Taken, Back}

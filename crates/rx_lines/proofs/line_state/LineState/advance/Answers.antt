@@ -2,7 +2,7 @@ use Rattle.std.proofs.Common.{[], length, ◌∙◌, refl, arith, length-drop, �
 use Rattle.rx_lines.specs.Reads.{Sheds}
 use Rattle.rx_lines.specs.Steps.{unread}
 use Rattle.rx_lines.specs.Windows.{HasLfAt}
-use Rattle.rx_lines.proofs.Stepping.{none_from, TakesLine-long, TakesNoLine-shed, Goes-end, Goes-line, Advances-line}
+use Rattle.rx_lines.proofs.Stepping.{none_from, TakesLine-long, TakesNoLine-shed, TakesStep-end, TakesStep-line, Advances-line}
 use Rattle.rx_lines.proofs.line_state.LineState.advance.Goals as goal
 
 pub returns-in-Lf-clause-advances : goal.returns-in-Lf-clause-advances
@@ -14,7 +14,7 @@ returns-in-Lf-clause-advances g c =
     rw (same, ← c.let_go.ensures.window) f.0 in
     let at : HasLfAt c.step_at.new.self.window c.in-Lf.len = rw same f.1 in
     Advances-line c.step_at.result _ _ c.args.self.now c.step_at.new.self still_open
-    (Goes-line c.step_at.result _ _ c.args.self.now c.step_at.new.self c.in-Lf.len shed at c.step_at.ensures.step c.step_at.ensures.taken
+    (TakesStep-line c.step_at.result _ _ c.args.self.now c.step_at.new.self c.in-Lf.len shed at c.step_at.ensures.step c.step_at.ensures.taken
     (c.step_at.ensures.end ∙ c.let_go.ensures.end ∙ still_open)
     (omega (arith, f.2, ap length same, ap length c.let_go.ensures.window, c.step_at.ensures.reads, c.let_go.ensures.reads)))
 
@@ -35,4 +35,4 @@ pub returns-in-End-clause-advances : goal.returns-in-End-clause-advances
 returns-in-End-clause-advances g c =
     let f = c.in-End.ensures.found in
     let none = TakesNoLine-shed _ _ _ _ f.0 f.1 f.2 in
-    rw (none_from _ c.in_default.not-Some, c.told_end-in-End.ensures) (Goes-end c.in-End.end _ _ _ _ (rw c.let_go.ensures.window at none) refl f.3)
+    rw (none_from _ c.in_default.not-Some, c.told_end-in-End.ensures) (TakesStep-end c.in-End.end _ _ _ _ (rw c.let_go.ensures.window at none) refl f.3)
