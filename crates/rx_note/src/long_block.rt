@@ -4,8 +4,9 @@ use crate::block::Block;
 use rx_heap::{Heap, Memory};
 use std::sync::Arc;
 
-/// The block of a long text, which its copies share: the smallest that has room for the bytes, so that a third of it is left
-/// over at most. What is done with one is kept out of line, so that the way of shorter texts stays short.
+/// The block of a long text, which its copies share: the smallest that has room for the bytes, so that about half of it is left
+/// over at most, and of one with more than 120 bytes about a third. What is done with one is kept out of line, so that the way of
+/// shorter texts stays short.
 pub(crate) enum LongBlock {
     UpTo120(Arc<Block<120>, Heap>),
     UpTo184(Arc<Block<184>, Heap>),
