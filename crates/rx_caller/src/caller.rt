@@ -194,6 +194,7 @@ fn told<S: Drop>(called: Result<Reply<S>, CallError<S>>) -> (Result<Answer, Call
                 ticket: _,
                 result,
                 sink,
+                items: _,
             },
         ) => match result {
             Ok(answer) => (Ok(answer), sink),

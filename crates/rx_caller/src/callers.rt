@@ -90,10 +90,11 @@ impl<S: Sink> Callers<S> {
             (λ _. self.new.ended ≡ self.old.ended ++ caller.end ∷ [])
             (λ _. self.new.ended ≡ self.old.ended) }
     {
-        match self.ended.push(caller.into_desk()) {
-            Ok(()) => Ok(()),
-            Err(_) => Err(Memory),
+        if self.ended.reserve(1).is_err() {
+            return Err(Memory);
         }
+        self.ended.push_reserved(caller.into_desk());
+        Ok(())
     }
 
     /// Closes the server, as [`Server::close`] does, and reports. It waits until each caller that was handed out has finished or

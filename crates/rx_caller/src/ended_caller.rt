@@ -13,10 +13,12 @@ pub struct EndedCaller<S: Sink> {
     pub(crate) server: Origin<Server<S>>,
 }
 
-// It stands here, and isn't derived, so that what lets go of it is one call that is proved once.
+// One that nobody takes back stops no subject either: what is still told to it goes nowhere.
 impl<S: Sink> Drop for EndedCaller<S> {
     fn drop(self) {
-        let EndedCaller { desk: _, server: _ } = self;
+        let EndedCaller { desk, server: _ } = self;
+        let EndedDesk { ports: _, inbox } = desk;
+        inbox.let_go();
     }
 }
 

@@ -8,6 +8,8 @@
 //! What a call did is told by the relation that a desk's call has (`specs/Calling.antt`). That a caller is of its server is a fact
 //! that it carries with it, so [`Callers::close`] asks for nothing, and [`Callers::take`] for that fact alone. What is let go of a
 //! caller, or of what it left, is missing at the close.
+//!
+//! Its tests stand in `crates/test_client`.
 #![tactic(auto)]
 
 mod caller;

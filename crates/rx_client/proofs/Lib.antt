@@ -1,4 +1,5 @@
 pub mod Among
+pub mod Answered
 pub mod Bytewise
 pub mod Digits
 pub mod Lines

@@ -6,7 +6,7 @@ use Rattle.std.specs.Io.KnownBytes.{Appends}
 use Rattle.rx_proto.specs.Bytes.{AppendsPrefix, Writes}
 use Rattle.rx_client.specs.Following.{Event, after, after_all, tells, tells_all}
 use Rattle.rx_client.specs.Printed.{Prints}
-use Rattle.rx_client.specs.Running.{Breaks, Broke, Follows, Goes, Shows, Wrote, joined}
+use Rattle.rx_client.specs.Running.{Breaks, Broke, Follows, StepsOn, Shows, Wrote, joined}
 use Rattle.rx_client.specs.declared.follower.Follower.{Follower}
 use Rattle.rx_client.specs.declared.format.Format.{Format}
 use Rattle.rx_client.specs.declared.told.Told.{Told}
@@ -121,14 +121,14 @@ module _ (format : Format) where
   after-then f [] ys = refl
   after-then f (x ∷ xs) ys = after-then (after f x) xs ys
 
-  pub goes-none : (f : Follower) (known : Option (List ℕ)) → Goes format f f known known
+  pub goes-none : (f : Follower) (known : Option (List ℕ)) → StepsOn format f f known known
   goes-none f known = record { events = []; behind = refl; wrote = wrote-none known }
 
   pub breaks-none : (f : Follower) (known : Option (List ℕ)) → Breaks format f known known
   breaks-none f known = record { events = []; broke = broke-none [] known }
 
   -- one event
-  pub goes-one : (f g : Follower) (event : Event) (old new : Option (List ℕ)) → g ≡ after f event → Wrote format (tells f event) old new → Goes format f g old new
+  pub goes-one : (f g : Follower) (event : Event) (old new : Option (List ℕ)) → g ≡ after f event → Wrote format (tells f event) old new → StepsOn format f g old new
   goes-one f g event old new is wrote = record {
     events = event ∷ [];
     behind = is;
@@ -139,7 +139,7 @@ module _ (format : Format) where
   breaks-one f event old new broke =
       record { events = event ∷ []; broke = subst (λ (l : List Told). Broke format l old new) (sym (append-nil (tells f event))) broke }
 
-  pub goes-then : (f g h : Follower) (old mid new : Option (List ℕ)) → Goes format f g old mid → Goes format g h mid new → Goes format f h old new
+  pub goes-then : (f g h : Follower) (old mid new : Option (List ℕ)) → StepsOn format f g old mid → StepsOn format g h mid new → StepsOn format f h old new
   goes-then f g h old mid new p q =
       let later : tells_all g q.events ≡ tells_all (after_all f p.events) q.events = ap (λ (k : Follower). tells_all k q.events) p.behind in
       record {
@@ -150,7 +150,7 @@ module _ (format : Format) where
             (wrote-then (tells_all f p.events) (tells_all g q.events) old mid new p.wrote q.wrote);
       }
 
-  pub breaks-then : (f g : Follower) (old mid new : Option (List ℕ)) → Goes format f g old mid → Breaks format g mid new → Breaks format f old new
+  pub breaks-then : (f g : Follower) (old mid new : Option (List ℕ)) → StepsOn format f g old mid → Breaks format g mid new → Breaks format f old new
   breaks-then f g old mid new p q =
       let later : tells_all g q.events ≡ tells_all (after_all f p.events) q.events = ap (λ (k : Follower). tells_all k q.events) p.behind in
       record {
@@ -161,10 +161,10 @@ module _ (format : Format) where
       }
 
   -- what was written is a front of it
-  pub goes-front : (f g : Follower) (old new : Option (List ℕ)) → Goes format f g old new → Breaks format f old new
+  pub goes-front : (f g : Follower) (old new : Option (List ℕ)) → StepsOn format f g old new → Breaks format f old new
   goes-front f g old new p = record { events = p.events; broke = wrote-front (tells_all f p.events) old new p.wrote }
 
-  pub follows-then : {T E : Type 0} (result : Result T E) (f g h : Follower) (old mid new : Option (List ℕ)) → Goes format f g old mid → Follows format g h result mid new
+  pub follows-then : {T E : Type 0} (result : Result T E) (f g h : Follower) (old mid new : Option (List ℕ)) → StepsOn format f g old mid → Follows format g h result mid new
       → Follows format f h result old new
   follows-then (Ok x) f g h old mid new first later = goes-then f g h old mid new first later
   follows-then (Err e) f g h old mid new first later = breaks-then f g old mid new first later
@@ -176,15 +176,15 @@ module _ (format : Format) where
   follows-one (Err e) f g event old new is shows = breaks-one f event old new shows
 
   -- whatever comes behind what was told
-  pub goes-so : {T E : Type 0} (result : Result T E) (f g : Follower) (old new : Option (List ℕ)) → Goes format f g old new → Follows format f g result old new
+  pub goes-so : {T E : Type 0} (result : Result T E) (f g : Follower) (old new : Option (List ℕ)) → StepsOn format f g old new → Follows format f g result old new
   goes-so (Ok x) f g old new goes = goes
   goes-so (Err e) f g old new goes = goes-front f g old new goes
 
   -- the same of one that prints so, as another fact says
-  pub goes-on : (other : Format) (f g h : Follower) (old mid new : Option (List ℕ)) → Goes format f g old mid → other ≡ format → Goes other g h mid new → Goes format f h old new
-  goes-on other f g h old mid new first same later = goes-then f g h old mid new first (subst (λ (k : Format). Goes k g h mid new) same later)
+  pub goes-on : (other : Format) (f g h : Follower) (old mid new : Option (List ℕ)) → StepsOn format f g old mid → other ≡ format → StepsOn other g h mid new → StepsOn format f h old new
+  goes-on other f g h old mid new first same later = goes-then f g h old mid new first (subst (λ (k : Format). StepsOn k g h mid new) same later)
 
-  pub breaks-on : (other : Format) (f g : Follower) (old mid new : Option (List ℕ)) → Goes format f g old mid → other ≡ format → Breaks other g mid new → Breaks format f old new
+  pub breaks-on : (other : Format) (f g : Follower) (old mid new : Option (List ℕ)) → StepsOn format f g old mid → other ≡ format → Breaks other g mid new → Breaks format f old new
   breaks-on other f g old mid new first same later = breaks-then f g old mid new first (subst (λ (k : Format). Breaks k g mid new) same later)
 
   pub shows-so : {T E : Type 0} (other : Format) (told : List Told) (result : Result T E) (old new : Option (List ℕ)) → other ≡ format → Shows other told result old new

@@ -4,3 +4,4 @@ pub mod Tiling
 pub mod Printed
 pub mod Requests
 pub mod Running
+pub mod Looking

@@ -35,7 +35,7 @@ module _ (format : Format) where
   Shows told result old new = MatchResult result (λ _. Wrote told old new) (λ _. Broke told old new)
 
   -- a follower became another one by some events, and what it told of them was written
-  pub record Goes (f g : Follower) (old new : Option (List ℕ)) : Type 0 where
+  pub record StepsOn (f g : Follower) (old new : Option (List ℕ)) : Type 0 where
     pub events : List Event
     pub behind : g ≡ after_all f events
     pub wrote : Wrote (tells_all f events) old new
@@ -47,9 +47,9 @@ module _ (format : Format) where
 
   -- the one at Ok, the other at Err
   abbrev pub Follows : {T E : Type 0} → Follower → Follower → Result T E → Option (List ℕ) → Option (List ℕ) → Type 0
-  Follows f g result old new = MatchResult result (λ _. Goes f g old new) (λ _. Breaks f old new)
+  Follows f g result old new = MatchResult result (λ _. StepsOn f g old new) (λ _. Breaks f old new)
 
   -- a subscription from a place on: all that its follower told was written, or, where it gave up, a front of that
   abbrev pub Subscribes : {T E : Type 0} → Option ℕ → Bool → Result T E → Option (List ℕ) → Option (List ℕ) → Type 0
   Subscribes from may_overflow result old new =
-      MatchResult result (λ _. (g : Follower) × Goes (new_follower from may_overflow) g old new) (λ _. Breaks (new_follower from may_overflow) old new)
+      MatchResult result (λ _. (g : Follower) × StepsOn (new_follower from may_overflow) g old new) (λ _. Breaks (new_follower from may_overflow) old new)

@@ -36,7 +36,7 @@ fn cut_at_space(bytes: &[u8]) -> Option<(&[u8], &[u8])>
 }
 
 // The number that these bytes are as a server prints it.
-fn decimal_of(word: &[u8]) -> Option<u32>
+pub(crate) fn decimal_of(word: &[u8]) -> Option<u32>
     ensures some { IfSome result (λ n. decimal n ≡ word.now) }
     ensures none { IfNone result ((n : ℕ) → n < 2 ^ 32 → decimal n ≢ word.now) }
 {

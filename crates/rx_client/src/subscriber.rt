@@ -1,15 +1,14 @@
 ghost use Rattle.std.specs.Prelude.{◌≡◌, ◌∷◌, []};
-ghost use Rattle.rx_proto.specs.Bytes.{Writes};
 ghost use Rattle.rx_client.specs.Following.{listed};
 ghost use Rattle.rx_client.specs.Running.{Follows, Shows, Subscribes};
 
 use crate::connection::Connection;
+use crate::flushing::write_out;
 use crate::output::put_told;
 use crate::pause::Pause;
 use crate::plain::Plain;
 use crate::{Ending, Epoch, Follower, Format, Heard, Telling, Told, read_note};
 use rx_heap::{Heap, Memory};
-use rx_proto::write_bytes;
 use std::io::{self, ErrorKind, Write};
 use std::net::Net;
 use std::rt::Files;
@@ -196,6 +195,9 @@ impl Subscriber {
         ensures format { self.new.format ≡ self.old.format }
     {
         for _ in 0..u64::MAX {
+            if self.left == Some(0) {
+                return Ok(true);
+            }
             let Ok(line) = connection.line() else {
                 return Ok(false);
             };
@@ -230,9 +232,6 @@ impl Subscriber {
 
     // What comes behind what was heard.
     fn next(&self) -> Result<Next, SubscribeFault> {
-        if self.left == Some(0) {
-            return Ok(Next::Over);
-        }
         match self.follower.ending() {
             Ending::Open => Ok(Next::More),
             Ending::Again => Ok(Next::Again),
@@ -293,20 +292,7 @@ impl Subscriber {
         if let Format::Plain = self.format {
             tell_aside(told, faults);
         }
-        write_out(writer, self.block.as_slice())
-    }
-}
-
-// Writes bytes, and flushes them.
-fn write_out<W: Write>(writer: &mut W, bytes: &[u8]) -> Result<(), SubscribeFault>
-    ensures { Writes result (W.contents writer.old) (W.contents writer.new) bytes.now }
-{
-    if write_bytes(writer, bytes).is_err() {
-        return Err(SubscribeFault::Write);
-    }
-    match writer.flush() {
-        Ok(()) => Ok(()),
-        Err(_) => Err(SubscribeFault::Write),
+        write_out(writer, self.block.as_slice(), SubscribeFault::Write)
     }
 }
 

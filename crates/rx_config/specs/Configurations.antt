@@ -15,7 +15,9 @@ use Rattle.rx_note.specs.declared.rules.Rules.{Rules}
 use Rattle.rx_proto.specs.Reading.{is_name_byte, same_word}
 use Rattle.rx_config.specs.declared.config.Config.{Config}
 use Rattle.rx_config.specs.declared.config_error.ConfigError.{ConfigError}
-use Rattle.rx_config.specs.declared.config_error.ConfigError.TheVariants.{Syntax, UnknownKey, BadPool, NoSubject, TooManySubjects, BadSubject, DuplicateName, Memory}
+use Rattle.rx_config.specs.declared.config_error.ConfigError.TheVariants.{Syntax, UnknownKey, BadPool, BadHttp, NoSubject, TooManySubjects, BadSubject, DuplicateName, Memory}
+use Rattle.rx_config.specs.declared.http.Http.{Http}
+use Rattle.rx_config.specs.declared.reader.crew.Crew.{Crew}
 use Rattle.rx_config.specs.declared.reader.fault.Fault.{Fault}
 use Rattle.rx_config.specs.declared.reader.fault.Fault.TheVariants as faults
 use Rattle.rx_config.specs.declared.reader.pool.Pool.{Pool}
@@ -31,23 +33,35 @@ pub record Subject : Type 0 where
   pub rules : Rules
   pub budget : Option ℕ
 
+-- what is served over HTTP: the path of the socket, how long a reader hears nothing before a beat, how many readers, and whether notes may
+-- be emitted
+pub record Events : Type 0 where
+  pub socket : List ℕ
+  pub heartbeat : ℕ
+  pub readers : ℕ
+  pub emit : Bool
+
 -- what a configuration says
 pub record Settings : Type 0 where
   pub subjects : List Subject
   pub pool : Pool
+  pub http : Option Events
 
 abbrev pub subject_of_config : SubjectConfig → Subject
 subject_of_config config = record { name = config.name; rules = config.rules; budget = config.budget }
 
+abbrev pub events_of_config : Http → Events
+events_of_config http = record { socket = http.socket; heartbeat = http.heartbeat; readers = http.readers; emit = http.emit }
+
 abbrev pub settings_of : Config → Settings
-settings_of config = record { subjects = map subject_of_config config.subjects.items; pool = record { drainers = config.drainers; workers = config.workers; window = config.window; connections = config.connections; stall = config.stall; idle = config.idle; takeover = config.takeover } }
+settings_of config = record { subjects = map subject_of_config config.subjects.items; pool = record { crew = record { drainers = config.drainers; workers = config.workers; window = config.window }; connections = config.connections; stall = config.stall; idle = config.idle; takeover = config.takeover }; http = option_map events_of_config config.http }
 
 abbrev pub standard_pool : Pool
-standard_pool = record { drainers = 1; workers = 4; window = 16; connections = 4294967295; stall = 60; idle = None; takeover = false }
+standard_pool = record { crew = record { drainers = 1; workers = 4; window = 16 }; connections = 4294967295; stall = 60; idle = None; takeover = false }
 
 -- one Publish subject `s`, with the greatest limits
 abbrev pub standard_settings : Settings
-standard_settings = record { subjects = record { name = codes "s"; rules = record { kind = Publish; limits = record { observers = 64; joins = 4294967295; items = 4294967295 } }; budget = None } ∷ []; pool = standard_pool }
+standard_settings = record { subjects = record { name = codes "s"; rules = record { kind = Publish; limits = record { observers = 64; joins = 4294967295; items = 4294967295 } }; budget = None } ∷ []; pool = standard_pool; http = None }
 
 -- KEYS
 
@@ -93,38 +107,46 @@ bound_at key most members = bound_or most (get_member key members)
 
 -- FLAGS
 
--- the flag that a key may have
-abbrev pub flag_or : Option Data → Option Bool
-flag_or None = Some false
-flag_or (Some value) = as_bool value
+-- the flag that a key may have, else the standard one
+abbrev pub flag_or : Bool → Option Data → Option Bool
+flag_or standard None = Some standard
+flag_or standard (Some value) = as_bool value
 
-abbrev pub flag_at : List ℕ → Members → Option Bool
-flag_at key members = flag_or (get_member key members)
+abbrev pub flag_at : List ℕ → Bool → Members → Option Bool
+flag_at key standard members = flag_or standard (get_member key members)
 
 -- THE POOL
 
-abbrev pub pool_with : Option ℕ → Option ℕ → Option ℕ → Option ℕ → Option ℕ → Option (Option ℕ) → Option Bool → Option Pool
-pool_with (Some drainers) (Some workers) (Some window) (Some connections) (Some stall) (Some idle) (Some takeover) =
-    Some (record { drainers = drainers; workers = workers; window = window; connections = connections; stall = stall; idle = idle; takeover = takeover })
-pool_with _ _ _ _ _ _ _ = None
-
 -- the numbers are in their ranges
 pub record IsInRange (pool : Pool) : Type 0 where
-  pub drainers : (1 ≤ pool.drainers) × (pool.drainers ≤ 8)
-  pub workers : (1 ≤ pool.workers) × (pool.workers ≤ 32)
-  pub window : (1 ≤ pool.window) × (pool.window ≤ 16)
+  pub drainers : (1 ≤ pool.crew.drainers) × (pool.crew.drainers ≤ 8)
+  pub workers : (1 ≤ pool.crew.workers) × (pool.crew.workers ≤ 32)
+  pub window : (1 ≤ pool.crew.window) × (pool.crew.window ≤ 16)
   pub connections : 1 ≤ pool.connections
   pub stall : (1 ≤ pool.stall) × (pool.stall ≤ 3600)
+
+-- how many threads there are, and how far a sink is ahead
+abbrev pub crew_with : Option ℕ → Option ℕ → Option ℕ → Option Crew
+crew_with (Some drainers) (Some workers) (Some window) = Some (record { drainers = drainers; workers = workers; window = window })
+crew_with _ _ _ = None
+
+abbrev pub crew_in : Members → Option Crew
+crew_in members = crew_with (number_at (codes "drainers") 8 1 members) (number_at (codes "workers") 32 4 members) (number_at (codes "window") 16 16 members)
+
+-- the pool of a crew: what it takes on
+abbrev pub pool_with : Crew → Option ℕ → Option ℕ → Option (Option ℕ) → Option Bool → Option Pool
+pool_with crew (Some connections) (Some stall) (Some idle) (Some takeover) = Some (record { crew = crew; connections = connections; stall = stall; idle = idle; takeover = takeover })
+pool_with crew _ _ _ _ = None
+
+abbrev pub pool_of_crew : Members → Crew → Option Pool
+pool_of_crew members crew =
+    pool_with crew (number_at (codes "connections") 4294967295 4294967295 members) (number_at (codes "stall") 3600 60 members) (bound_at (codes "idle") 86400 members) (flag_at (codes "takeover") false members)
 
 abbrev pub pool_keys : List (List ℕ)
 pool_keys = codes "drainers" ∷ codes "workers" ∷ codes "window" ∷ codes "connections" ∷ codes "stall" ∷ codes "idle" ∷ codes "takeover" ∷ []
 
 abbrev pub pool_in : Members → Option Pool
-pool_in members =
-    if has_only pool_keys members
-    then pool_with (number_at (codes "drainers") 8 1 members) (number_at (codes "workers") 32 4 members) (number_at (codes "window") 16 16 members) (number_at (codes "connections") 4294967295 4294967295 members)
-    (number_at (codes "stall") 3600 60 members) (bound_at (codes "idle") 86400 members) (flag_at (codes "takeover") members)
-    else None
+pool_in members = if has_only pool_keys members then option_and_then (pool_of_crew members) (crew_in members) else None
 
 -- the pool, which may be missing
 abbrev pub pool_of : Option Data → Option Pool
@@ -134,19 +156,51 @@ pool_of (Some value) = option_and_then pool_in (as_table value)
 abbrev pub pool_at : Members → Option Pool
 pool_at members = pool_of (get_member (codes "pool") members)
 
--- A SUBJECT
+-- TEXTS
 
 -- the text at a key
 abbrev pub text_at : List ℕ → Members → Option (List ℕ)
 text_at key members = option_and_then as_str (get_member key members)
 
--- a name: 1 to 32 bytes of a to z, 0 to 9 and -
-abbrev pub name_in : List ℕ → Option (List ℕ)
-name_in bytes = if nat_le 1 (length bytes) && nat_le (length bytes) 32 && list_all is_name_byte bytes then Some bytes else None
-
 -- a text: at most 1,024 bytes, none of them LF
 abbrev pub line_in : List ℕ → Option (List ℕ)
 line_in bytes = if nat_le (length bytes) 1024 && not (list_any (λ b. nat_eq b 10) bytes) then Some bytes else None
+
+-- EVENTS OVER HTTP
+
+-- the path of a socket: a text of 1 to 107 bytes
+abbrev pub path_in : List ℕ → Option (List ℕ)
+path_in bytes = if nat_le 1 (length bytes) && nat_le (length bytes) 107 then line_in bytes else None
+
+abbrev pub socket_in : Members → Option (List ℕ)
+socket_in members = option_and_then path_in (text_at (codes "socket") members)
+
+abbrev pub events_with : Option (List ℕ) → Option ℕ → Option ℕ → Option Bool → Option Events
+events_with (Some socket) (Some heartbeat) (Some readers) (Some emit) = Some (record { socket = socket; heartbeat = heartbeat; readers = readers; emit = emit })
+events_with _ _ _ _ = None
+
+abbrev pub http_keys : List (List ℕ)
+http_keys = codes "socket" ∷ codes "heartbeat" ∷ codes "readers" ∷ codes "emit" ∷ []
+
+abbrev pub http_in : Members → Option Events
+http_in members =
+    if has_only http_keys members
+    then events_with (socket_in members) (number_at (codes "heartbeat") 3600 15 members) (number_at (codes "readers") 4096 256 members) (flag_at (codes "emit") true members)
+    else None
+
+-- the section, which may be missing
+abbrev pub http_of : Option Data → Option (Option Events)
+http_of None = Some None
+http_of (Some value) = option_map Some (option_and_then http_in (as_table value))
+
+abbrev pub http_at : Members → Option (Option Events)
+http_at members = http_of (get_member (codes "http") members)
+
+-- A SUBJECT
+
+-- a name: 1 to 32 bytes of a to z, 0 to 9 and -
+abbrev pub name_in : List ℕ → Option (List ℕ)
+name_in bytes = if nat_le 1 (length bytes) && nat_le (length bytes) 32 && list_all is_name_byte bytes then Some bytes else None
 
 -- the seed, which may be missing
 abbrev pub seed_of : Option Data → Option (Option (List ℕ))
@@ -264,15 +318,19 @@ subjects_at members = subjects_of (get_member (codes "subject") members)
 -- THE CONFIGURATION: what a table says, or the first cause that holds
 
 abbrev pub top_keys : List (List ℕ)
-top_keys = codes "subject" ∷ codes "pool" ∷ []
+top_keys = codes "subject" ∷ codes "pool" ∷ codes "http" ∷ []
 
-abbrev pub with_subjects : Pool → List Subject → Result Settings ConfigError
-with_subjects pool subjects = Ok (record { subjects = subjects; pool = pool })
+abbrev pub with_subjects : Pool → Option Events → List Subject → Result Settings ConfigError
+with_subjects pool http subjects = Ok (record { subjects = subjects; pool = pool; http = http })
+
+-- what stands behind the pool: where events are told over HTTP, and the subjects
+abbrev pub behind_pool : Members → Pool → Result Settings ConfigError
+behind_pool members pool = and_then (λ http. and_then (with_subjects pool http) (subjects_at members)) (or_cause BadHttp (http_at members))
 
 abbrev pub settings_in : Members → Result Settings ConfigError
 settings_in members =
     if has_only top_keys members
-    then and_then (λ pool. and_then (with_subjects pool) (subjects_at members)) (or_cause BadPool (pool_at members))
+    then and_then (behind_pool members) (or_cause BadPool (pool_at members))
     else Err UnknownKey
 
 -- what the table of a TOML text says: settings, or the cause for which it is refused
@@ -292,8 +350,8 @@ Reads defined (Ok x) = defined ≡ Some x
 Reads defined (Err faults.Refused) = defined ≡ None
 Reads defined (Err faults.Memory) = Unit {0}
 
--- the same of a subject
-abbrev pub ReadsSubject : Option Subject → Result SubjectConfig Fault → Type 0
-ReadsSubject defined (Ok config) = defined ≡ Some (subject_of_config config)
-ReadsSubject defined (Err faults.Refused) = defined ≡ None
-ReadsSubject defined (Err faults.Memory) = Unit {0}
+-- the same of a part that is seen otherwise than it is read
+abbrev pub ReadsAs : {A B : Type 0} → (B → A) → Option A → Result B Fault → Type 0
+ReadsAs seen defined (Ok x) = defined ≡ Some (seen x)
+ReadsAs seen defined (Err faults.Refused) = defined ≡ None
+ReadsAs seen defined (Err faults.Memory) = Unit {0}

@@ -72,7 +72,7 @@ bound_of (Bound least most) value = number_or_none least most value
 bound_of _ value = None
 
 abbrev pub flag_of : Form → Option Data → Option Bool
-flag_of Flag value = flag_or value
+flag_of (Flag standard) value = flag_or standard value
 flag_of _ value = None
 
 -- whether the standard of a form, if it has one, is in its range

@@ -1,15 +1,15 @@
--- What is printed for a configuration that was accepted: a line for each subject, and one for the pool. The words are this
--- project's own, mostly the keys of the configuration.
+-- What is printed for a configuration that was accepted: a line for each subject, one for the pool, and one for the events over
+-- HTTP, where they are told. The words are this project's own, mostly the keys of the configuration.
 --
 -- The lines of a configuration: of a configuration that was accepted exactly the lines are told: each subject in its order,
--- with its name, kind, bounds, limits, budget and seed, and then the pool; or `Memory`.
+-- with its name, kind, bounds, limits, budget and seed, then the pool, and then where events are told over HTTP; or `Memory`.
 use Rattle.std.specs.Prelude.{ℕ, Bool, true, false, List, [], ◌++◌, codes, decimal, Option, None, Some}
 use Rattle.std.specs.List.{flat_map}
 use Rattle.rx_note.specs.declared.kind.Kind.{Kind}
 use Rattle.rx_note.specs.declared.kind.Kind.TheVariants.{Publish, Behavior, Async, Replay}
 use Rattle.rx_note.specs.declared.limits.Limits.{Limits}
 use Rattle.rx_proto.specs.Printing.{line}
-use Rattle.rx_config.specs.Configurations.{Settings, Subject}
+use Rattle.rx_config.specs.Configurations.{Events, Settings, Subject}
 
 -- the words of a key and its number
 abbrev pub number_words : List ℕ → ℕ → List ℕ
@@ -53,8 +53,8 @@ subject_lines subjects = flat_map subject_line subjects
 -- how many threads there are, and how far a sink is ahead
 abbrev pub crew_words : Settings → List ℕ
 crew_words settings =
-    number_words (codes " drainers ") settings.pool.drainers
-    ++ (number_words (codes " workers ") settings.pool.workers ++ number_words (codes " window ") settings.pool.window)
+    number_words (codes " drainers ") settings.pool.crew.drainers
+    ++ (number_words (codes " workers ") settings.pool.crew.workers ++ number_words (codes " window ") settings.pool.crew.window)
 
 -- the word of a flag, where it is set
 abbrev pub flag_words : List ℕ → Bool → List ℕ
@@ -76,6 +76,20 @@ pool_words settings = codes "pool" ++ (crew_words settings ++ (service_words set
 abbrev pub pool_line : Settings → List ℕ
 pool_line settings = line (pool_words settings)
 
+-- how long a reader of events hears nothing, how many there are, and whether notes may be emitted
+abbrev pub reader_words : Events → List ℕ
+reader_words events =
+    number_words (codes " heartbeat ") events.heartbeat ++ (number_words (codes " readers ") events.readers ++ flag_words (codes " emit") events.emit)
+
+-- what is said of events over HTTP; the path goes to the end of its line
+abbrev pub events_words : Events → List ℕ
+events_words events = codes "http" ++ (reader_words events ++ (codes " socket " ++ events.socket))
+
+-- its line, where they are told
+abbrev pub http_line : Option Events → List ℕ
+http_line None = []
+http_line (Some events) = line (events_words events)
+
 -- THE LINES OF A CONFIGURATION
 abbrev pub config_lines : Settings → List ℕ
-config_lines settings = subject_lines settings.subjects ++ pool_line settings
+config_lines settings = subject_lines settings.subjects ++ (pool_line settings ++ http_line settings.http)

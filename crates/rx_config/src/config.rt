@@ -1,6 +1,7 @@
 // What a run is made of.
 ghost use Rattle.std.specs.Prelude.{◌≡◌, ◌≤◌, IfOk, vec_len};
 
+use crate::http::Http;
 use crate::keys::section::Section;
 use crate::reader::limits::limits_in;
 use crate::reader::pool::Pool;
@@ -29,6 +30,8 @@ pub struct Config {
     pub idle: Option<u64>,
     /// Whether a socket at the path of the server on which nobody listens any more is removed.
     pub takeover: bool,
+    /// Where events are told over HTTP, if they are.
+    pub http: Option<Http>,
     ghost subjects_in_range: { (1 ≤ vec_len subjects) × (vec_len subjects ≤ 16) },
     ghost drainers_in_range: { (1 ≤ drainers) × (drainers ≤ 8) },
     ghost workers_in_range: { (1 ≤ workers) × (workers ≤ 32) },
@@ -67,13 +70,14 @@ impl Config {
         let pool = Pool::standard();
         Ok(Config {
             subjects,
-            drainers: pool.drainers,
-            workers: pool.workers,
-            window: pool.window,
+            drainers: pool.crew.drainers,
+            workers: pool.crew.workers,
+            window: pool.crew.window,
             connections: pool.connections,
             stall: pool.stall,
             idle: pool.idle,
             takeover: pool.takeover,
+            http: None,
         })
     }
 }

@@ -8,12 +8,15 @@ pub enum ConfigError {
     /// The bytes are no TOML.
     #[error("config is not TOML")]
     Syntax,
-    /// A key at the top is neither `subject` nor `pool`.
+    /// A key at the top is none of `subject`, `pool` and `http`.
     #[error("config has an unknown key")]
     UnknownKey,
     /// `pool` is no table, has another key, or a value of another type or range.
     #[error("pool is refused")]
     BadPool,
+    /// `http` is no table, lacks its socket, has another key, or a value of another type or range.
+    #[error("http is refused")]
+    BadHttp,
     /// `subject` is missing, no array, or empty.
     #[error("no subject")]
     NoSubject,

@@ -11,7 +11,7 @@ use crate::keys::form::Form;
 use crate::keys::key::Key;
 
 /// The keys at the top, in the order in which they are told.
-pub(crate) static TOP_KEYS: [Key; 2] = [SUBJECT, POOL];
+pub(crate) static TOP_KEYS: [Key; 3] = [SUBJECT, POOL, HTTP];
 
 /// The list of subjects.
 pub(crate) const SUBJECT: Key = Key {
@@ -29,6 +29,15 @@ pub(crate) const POOL: Key = Key {
     kind: None,
     wants: "a table",
     example: "[pool]",
+};
+
+/// Where events are told over HTTP, and to how many at a time.
+pub(crate) const HTTP: Key = Key {
+    name: "http",
+    form: Form::Table,
+    kind: None,
+    wants: "a table",
+    example: "[http]",
 };
 
 /// The keys of the pool, in the order in which they are looked at.
@@ -115,10 +124,53 @@ pub(crate) const IDLE: Key = Key {
 
 pub(crate) const TAKEOVER: Key = Key {
     name: "takeover",
-    form: Form::Flag,
+    form: Form::Flag { standard: false },
     kind: None,
     wants: "true or false",
     example: "true",
+};
+
+/// The keys of what is served over HTTP, in the order in which they are looked at.
+pub(crate) static HTTP_KEYS: [Key; 4] = [SOCKET, HEARTBEAT, READERS, EMIT];
+
+pub(crate) const SOCKET: Key = Key {
+    name: "socket",
+    form: Form::Path,
+    kind: None,
+    wants: "1 to 107 bytes without a line feed",
+    example: "\"/run/events.sock\"",
+};
+
+pub(crate) const HEARTBEAT: Key = Key {
+    name: "heartbeat",
+    form: Form::Number {
+        least: 1,
+        most: 3_600,
+        standard: 15,
+    },
+    kind: None,
+    wants: "seconds",
+    example: "15",
+};
+
+pub(crate) const READERS: Key = Key {
+    name: "readers",
+    form: Form::Number {
+        least: 1,
+        most: 4_096,
+        standard: 256,
+    },
+    kind: None,
+    wants: "a number",
+    example: "256",
+};
+
+pub(crate) const EMIT: Key = Key {
+    name: "emit",
+    form: Form::Flag { standard: true },
+    kind: None,
+    wants: "true or false",
+    example: "false",
 };
 
 /// The keys of a subject, in the order in which they are looked at.

@@ -1,5 +1,5 @@
-//! The configuration of a server: its subjects, and how many threads and connections it has; and how it is told to whoever
-//! wrote it.
+//! The configuration of a server: its subjects, how many threads and connections it has, and where it tells events over HTTP;
+//! and how it is told to whoever wrote it.
 //!
 //! [`read_config`] reads it from the bytes of a TOML text, [`config_lines`] tells one that was accepted, and [`advise`] which
 //! keys of one that was refused are at fault. Nothing here opens a file, and nothing is made of a configuration but the
@@ -15,6 +15,7 @@
 mod budget;
 mod config;
 mod config_error;
+mod http;
 mod keys;
 mod listing;
 mod reader;
@@ -23,6 +24,7 @@ mod subject_config;
 pub use budget::Budget;
 pub use config::Config;
 pub use config_error::ConfigError;
+pub use http::Http;
 pub use listing::lines::config_lines;
 pub use listing::refusal::advise;
 pub use listing::shown::Shown;

@@ -3,7 +3,9 @@ ghost use Rattle.std.specs.Prelude.{◌≡◌, ◌≢◌, ◌⊎◌, IfErr, IfOk
 ghost use Rattle.toml.specs.View.{table_view};
 ghost use Rattle.rx_config.specs.Configurations.{IsRefused, Says, settings_in, settings_of};
 
+pub(crate) mod crew;
 pub(crate) mod fault;
+pub(crate) mod http_section;
 pub(crate) mod limits;
 pub(crate) mod pool;
 pub(crate) mod subject_entry;
@@ -15,6 +17,8 @@ use crate::config::Config;
 use crate::config_error::ConfigError;
 use crate::keys::TOP_KEYS;
 use crate::keys::section::Section;
+use crate::reader::fault::Fault;
+use crate::reader::http_section::http_at;
 use crate::reader::pool::Pool;
 use crate::reader::subject_list::subjects_at;
 use rx_heap::Heap;
@@ -52,17 +56,23 @@ fn config_in(alloc: Heap, runtime: Global, table: &Table) -> Result<Config, Conf
     let Some(pool) = Pool::at(&section) else {
         return Err(ConfigError::BadPool);
     };
+    let http = match http_at(&alloc, &section) {
+        Ok(http) => http,
+        Err(Fault::Refused) => return Err(ConfigError::BadHttp),
+        Err(Fault::Memory) => return Err(ConfigError::Memory),
+    };
     match subjects_at(&alloc, runtime, &section) {
         Err(cause) => Err(cause),
         Ok(subjects) => Ok(Config {
             subjects,
-            drainers: pool.drainers,
-            workers: pool.workers,
-            window: pool.window,
+            drainers: pool.crew.drainers,
+            workers: pool.crew.workers,
+            window: pool.crew.window,
             connections: pool.connections,
             stall: pool.stall,
             idle: pool.idle,
             takeover: pool.takeover,
+            http,
         }),
     }
 }

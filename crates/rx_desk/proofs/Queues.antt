@@ -17,7 +17,7 @@ use Rattle.rx_pump.specs.declared.call_desk.call_error.CallError.{CallError}
 use Rattle.rx_pump.specs.declared.call_desk.call_error.CallError.TheVariants.{SubjectGone, Strange}
 use Rattle.rx_pump.specs.declared.reply.Reply.{Reply}
 use Rattle.rx_session.specs.Begun.{Asked, IsBehind, asked}
-use Rattle.rx_sink.specs.declared.line_sink.LineSink.{LineSink}
+use Rattle.rx_desk.specs.declared.client_sink.ClientSink.{ClientSink}
 use Rattle.rx_desk.specs.Queues.{GoesBehind, PostsOne, PostsEach, TellsEach, Waits, with_waiting}
 use Rattle.rx_desk.specs.Responses.{response_of}
 use Rattle.rx_desk.specs.SessionDesks.{CallsOnce, EmitsAt, SessionView, emits, place_of}
@@ -151,7 +151,7 @@ TellsEach-push tells before (first ∷ begun) (event ∷ events) mid after next 
 
 module _ {M W : Type 0} where
   -- what a desk keeps of what it began, whatever it posts or has answered
-  pub record KeepsBegun (before after : SessionView M (LineSink W)) : Type 0 where
+  pub record KeepsBegun (before after : SessionView M (ClientSink W)) : Type 0 where
     pub subjects : after.subjects ≡ before.subjects
     pub window : after.window ≡ before.window
     pub moments : after.moments ≡ before.moments
@@ -159,7 +159,7 @@ module _ {M W : Type 0} where
     pub subject : after.queue.subject ≡ before.queue.subject
 
   -- a note more was begun for the subject at this place
-  pub record BeginsOne (before after : SessionView M (LineSink W)) (tells : M → ℕ → M → Type 0) (name : List ℕ) (note : Note) (place : ℕ) : Type 0 where
+  pub record BeginsOne (before after : SessionView M (ClientSink W)) (tells : M → ℕ → M → Type 0) (name : List ℕ) (note : Note) (place : ℕ) : Type 0 where
     pub at : ℕ
     pub told : tells before.moments at after.moments
     pub named : place_of name before.subjects ≡ Some place
@@ -172,35 +172,35 @@ module _ {M W : Type 0} where
     pub sent : after.queue.sent ≡ before.queue.sent
 
   -- these names are of the subject of what is begun
-  abbrev AreNamed : SessionView M (LineSink W) → List Asked → Type 0
+  abbrev AreNamed : SessionView M (ClientSink W) → List Asked → Type 0
   AreNamed now begun = All (λ asked. place_of asked.name now.subjects ≡ Some now.queue.subject) begun
 
   -- they stay so
-  named_kept : (before after : SessionView M (LineSink W)) (begun : List Asked) → after.subjects ≡ before.subjects → after.queue.subject ≡ before.queue.subject → AreNamed before begun → AreNamed after begun
+  named_kept : (before after : SessionView M (ClientSink W)) (begun : List Asked) → after.subjects ≡ before.subjects → after.queue.subject ≡ before.queue.subject → AreNamed before begun → AreNamed after begun
   named_kept before after begun subjects subject named =
       subst (λ (n : ℕ). All (λ asked. place_of asked.name after.subjects ≡ Some n) begun) (sym subject)
       (subst (λ s. All (λ asked. place_of asked.name s ≡ Some before.queue.subject) begun) (sym subjects) named)
 
   -- a desk with these moments and calls, in whose queue nothing is
-  abbrev freed : SessionView M (LineSink W) → M → DeskView (LineSink W) → SessionView M (LineSink W)
+  abbrev freed : SessionView M (ClientSink W) → M → DeskView (ClientSink W) → SessionView M (ClientSink W)
   freed now moments calls =
       record { subjects = now.subjects; window = now.window; moments = moments; calls = calls; joined = now.joined; queue = record { subject = now.queue.subject; events = []; sent = 0 } }
 
-  freed_is : (now : SessionView M (LineSink W)) (moments : M) (calls : DeskView (LineSink W)) → now.moments ≡ moments → now.calls ≡ calls → now.queue.events ≡ [] → now.queue.sent ≡ 0
+  freed_is : (now : SessionView M (ClientSink W)) (moments : M) (calls : DeskView (ClientSink W)) → now.moments ≡ moments → now.calls ≡ calls → now.queue.events ≡ [] → now.queue.sent ≡ 0
       → now ≡ freed now moments calls
   freed_is now moments calls moments_are calls_are none_waits none_sent =
       ap (λ (m : M). record { subjects = now.subjects; window = now.window; moments = m; calls = now.calls; joined = now.joined; queue = now.queue }) moments_are
-      ∙ ap (λ (c : DeskView (LineSink W)). record { subjects = now.subjects; window = now.window; moments = moments; calls = c; joined = now.joined; queue = now.queue }) calls_are
+      ∙ ap (λ (c : DeskView (ClientSink W)). record { subjects = now.subjects; window = now.window; moments = moments; calls = c; joined = now.joined; queue = now.queue }) calls_are
       ∙ ap (λ (es : List Event). record { subjects = now.subjects; window = now.window; moments = moments; calls = calls; joined = now.joined; queue = record { subject = now.queue.subject; events = es; sent = now.queue.sent } }) none_waits
       ∙ ap (λ (n : ℕ). record { subjects = now.subjects; window = now.window; moments = moments; calls = calls; joined = now.joined; queue = record { subject = now.queue.subject; events = []; sent = n } }) none_sent
 
 module _ {M W : Type 0} (tells : M → ℕ → M → Type 0) where
   -- the subject of what is begun is there
-  pub Waits-within : (base now : SessionView M (LineSink W)) (first : Asked) (rest : List Asked) → Waits tells base (first ∷ rest) now → now.queue.subject < length now.subjects
+  pub Waits-within : (base now : SessionView M (ClientSink W)) (first : Asked) (rest : List Asked) → Waits tells base (first ∷ rest) now → now.queue.subject < length now.subjects
   Waits-within base now first rest w = position-within _ now.subjects now.queue.subject (All-head (λ asked. place_of asked.name now.subjects ≡ Some now.queue.subject) first rest w.named)
 
   -- ONE MORE IS BEGUN
-  pub Waits-begun : (base old now : SessionView M (LineSink W)) (begun : List Asked) (name : List ℕ) (note : Note) (behind place : ℕ)
+  pub Waits-begun : (base old now : SessionView M (ClientSink W)) (begun : List Asked) (name : List ℕ) (note : Note) (behind place : ℕ)
       → GoesBehind old place behind → BeginsOne old now tells name note place
       → length begun ≡ behind → IsBehind (Waits tells) base begun old → Waits tells base (begun ++ asked name note ∷ []) now
   Waits-begun base old now [] name note behind place goes one count is =
@@ -208,7 +208,7 @@ module _ {M W : Type 0} (tells : M → ℕ → M → Type 0) where
       let none_sent : old.queue.sent ≡ 0 = omega (arith, goes.count, count) in
       let events : now.queue.events ≡ Emit note one.at ∷ [] = one.events ∙ ap (λ (es : List Event). es ++ Emit note one.at ∷ []) none_waits in
       let named : place_of name now.subjects ≡ Some now.queue.subject = ap (place_of name) one.subjects ∙ one.named ∙ ap (λ (n : ℕ). Some n) (sym one.subject) in
-      subst (λ (b : SessionView M (LineSink W)). Waits tells b (asked name note ∷ []) now) is
+      subst (λ (b : SessionView M (ClientSink W)). Waits tells b (asked name note ∷ []) now) is
       (record {
         none_waits = none_waits;
         none_sent = none_sent;
@@ -236,7 +236,7 @@ module _ {M W : Type 0} (tells : M → ℕ → M → Type 0) where
             (TellsEach-push tells base.moments (first ∷ rest) (w.posted ++ old.queue.events) old.moments now.moments (asked name note) one.at w.told one.told);
         calls =
             subst (λ (n : ℕ). PostsEach n base.calls w.posted now.calls) (sym subject)
-            (subst (λ (d : DeskView (LineSink W)). PostsEach old.queue.subject base.calls w.posted d) (sym one.calls) w.calls);
+            (subst (λ (d : DeskView (ClientSink W)). PostsEach old.queue.subject base.calls w.posted d) (sym one.calls) w.calls);
         sent = one.sent ∙ w.sent;
         named =
             All-push (λ asked. place_of asked.name now.subjects ≡ Some now.queue.subject) (first ∷ rest) (asked name note)
@@ -247,7 +247,7 @@ module _ {M W : Type 0} (tells : M → ℕ → M → Type 0) where
       }
 
   -- ONE MORE IS POSTED, the first that waited
-  pub Waits-posted : (base old now : SessionView M (LineSink W)) (begun : List Asked) (event : Event)
+  pub Waits-posted : (base old now : SessionView M (ClientSink W)) (begun : List Asked) (event : Event)
       → KeepsBegun old now → old.queue.events ≡ event ∷ now.queue.events → PostsOne old.calls now.calls old.queue.subject event → now.queue.sent ≡ old.queue.sent + 1
       → Waits tells base begun old → Waits tells base begun now
   Waits-posted base old now begun event kept events one sent w =
@@ -273,7 +273,7 @@ module _ {M W : Type 0} (tells : M → ℕ → M → Type 0) where
       }
 
   -- ITS CALL WAITS, and nothing else changed
-  pub Waits-waiting : (base old now : SessionView M (LineSink W)) (begun : List Asked) (event : Event)
+  pub Waits-waiting : (base old now : SessionView M (ClientSink W)) (begun : List Asked) (event : Event)
       → KeepsBegun old now → now.calls ≡ old.calls → now.queue.events ≡ old.queue.events ++ event ∷ [] → now.queue.sent ≡ old.queue.sent
       → Waits tells base begun (with_waiting event old) → Waits tells base begun now
   Waits-waiting base old now begun event kept calls events sent w = record {
@@ -285,7 +285,7 @@ module _ {M W : Type 0} (tells : M → ℕ → M → Type 0) where
         (subst (λ (es : List Event). TellsEach tells base.moments begun (w.posted ++ es) old.moments) (sym events) w.told);
     calls =
         subst (λ (n : ℕ). PostsEach n base.calls w.posted now.calls) (sym kept.subject)
-        (subst (λ (d : DeskView (LineSink W)). PostsEach old.queue.subject base.calls w.posted d) (sym calls) w.calls);
+        (subst (λ (d : DeskView (ClientSink W)). PostsEach old.queue.subject base.calls w.posted d) (sym calls) w.calls);
     sent = sent ∙ w.sent;
     named = named_kept old now begun kept.subjects kept.subject w.named;
     subjects = kept.subjects ∙ w.subjects;
@@ -296,7 +296,7 @@ module _ {M W : Type 0} (tells : M → ℕ → M → Type 0) where
   -- THE FIRST IS ANSWERED
 
   -- what the others wait behind then
-  behind : (now : SessionView M (LineSink W)) (moments : M) (calls : DeskView (LineSink W)) (rest : List Asked) (posted events : List Event) → now.queue.events ≡ events
+  behind : (now : SessionView M (ClientSink W)) (moments : M) (calls : DeskView (ClientSink W)) (rest : List Asked) (posted events : List Event) → now.queue.events ≡ events
       → TellsEach tells moments rest (posted ++ events) now.moments → PostsEach now.queue.subject calls posted now.calls → now.queue.sent ≡ length posted → AreNamed now rest
       → IsBehind (Waits tells) (freed now moments calls) rest now
   behind now moments calls [] [] [] events_are told posts sent named = freed_is now moments calls told posts events_are sent
@@ -316,25 +316,25 @@ module _ {M W : Type 0} (tells : M → ℕ → M → Type 0) where
   }
 
   -- a note was emitted at the subject of its name
-  emits_at : (base after : SessionView M (LineSink W)) (name : List ℕ) (note : Note) (response : Response) (subject : ℕ) → place_of name base.subjects ≡ Some subject
+  emits_at : (base after : SessionView M (ClientSink W)) (name : List ℕ) (note : Note) (response : Response) (subject : ℕ) → place_of name base.subjects ≡ Some subject
       → EmitsAt tells base note response after subject → emits tells base name note response after
   emits_at base after name note response subject named at =
       subst (λ (o : Option ℕ). MatchOption o ((response ≡ Refused words.Subject) × (after ≡ base)) (EmitsAt tells base note response after)) (sym named) at
 
   -- the name of the first is that of its subject, in the desk behind which it waits
-  first_named : (base old : SessionView M (LineSink W)) (first : Asked) (rest : List Asked) → Waits tells base (first ∷ rest) old → place_of first.name base.subjects ≡ Some old.queue.subject
+  first_named : (base old : SessionView M (ClientSink W)) (first : Asked) (rest : List Asked) → Waits tells base (first ∷ rest) old → place_of first.name base.subjects ≡ Some old.queue.subject
   first_named base old first rest w = sym (ap (place_of first.name) w.subjects) ∙ All-head (λ asked. place_of asked.name old.subjects ≡ Some old.queue.subject) first rest w.named
 
-  others_named : (base old now : SessionView M (LineSink W)) (first : Asked) (rest : List Asked) → Waits tells base (first ∷ rest) old → KeepsBegun old now → AreNamed now rest
+  others_named : (base old now : SessionView M (ClientSink W)) (first : Asked) (rest : List Asked) → Waits tells base (first ∷ rest) old → KeepsBegun old now → AreNamed now rest
   others_named base old now first rest w kept =
       named_kept old now rest kept.subjects kept.subject (All-tail (λ asked. place_of asked.name old.subjects ≡ Some old.queue.subject) first rest w.named)
 
   -- one that was posted
-  pub Waits-answered : (base old now : SessionView M (LineSink W)) (first : Asked) (rest : List Asked) (ticket : ℕ) (answered : Result (Reply (LineSink W)) (CallError (LineSink W))) (response : Response)
+  pub Waits-answered : (base old now : SessionView M (ClientSink W)) (first : Asked) (rest : List Asked) (ticket : ℕ) (answered : Result (Reply (ClientSink W)) (CallError (ClientSink W))) (response : Response)
       → KeepsBegun old now → now.queue.events ≡ old.queue.events → old.queue.sent ≡ now.queue.sent + 1 → ticket ≡ old.calls.tickets - old.queue.sent + 1
       → Awaits old.calls now.calls old.queue.subject ticket answered → KeepsDesk old.calls now.calls → response ≡ response_of answered
       → Waits tells base (first ∷ rest) old
-      → (after : SessionView M (LineSink W)) × emits tells base first.name first.note response after × IsBehind (Waits tells) after rest now
+      → (after : SessionView M (ClientSink W)) × emits tells base first.name first.note response after × IsBehind (Waits tells) after rest now
   Waits-answered base old now first rest ticket answered response kept events sent ticket_is awaits keeps response_is w =
       let before : old.queue.sent ≡ length w.posted = w.sent in
       let p = has_first w.posted (omega (arith, before, sent)) in
@@ -346,7 +346,7 @@ module _ {M W : Type 0} (tells : M → ℕ → M → Type 0) where
       let same_inbox : old.calls.inbox ≡ base.calls.inbox = PostsEach-inbox old.queue.subject base.calls (p.0 ∷ p.1) old.calls posts in
       let same_over : old.calls.is_over ≡ base.calls.is_over = PostsEach-is_over old.queue.subject base.calls (p.0 ∷ p.1) old.calls posts in
       let its : ticket ≡ base.calls.tickets + 1 = omega (arith, ticket_is, tickets, count) in
-      let then : DeskView (LineSink W) = with_inbox posts.0 now.calls.inbox now.calls.is_over in
+      let then : DeskView (ClientSink W) = with_inbox posts.0 now.calls.inbox now.calls.is_over in
       let called = Called-posted base.calls posts.0 old.calls now.calls old.queue.subject ticket p.0 answered posts.1.sent same_inbox same_over its awaits in
       let once : CallsOnce tells base (freed now told.1 then) old.queue.subject (λ at. Emit first.note at) None answered = record {
         at = told.0;
@@ -358,8 +358,8 @@ module _ {M W : Type 0} (tells : M → ℕ → M → Type 0) where
           window = kept.window ∙ w.window;
           calls = record {
             ports = posts.1.kept.ports;
-            box = keeps.box ∙ ap (λ (i : Incoming (Reply (LineSink W))). i.box) same_inbox;
-            count = keeps.count ∙ ap (λ (i : Incoming (Reply (LineSink W))). i.ports) same_inbox;
+            box = keeps.box ∙ ap (λ (i : Incoming (Reply (ClientSink W))). i.box) same_inbox;
+            count = keeps.count ∙ ap (λ (i : Incoming (Reply (ClientSink W))). i.ports) same_inbox;
             ended = posts.1.kept.ended;
           };
         };
@@ -368,7 +368,7 @@ module _ {M W : Type 0} (tells : M → ℕ → M → Type 0) where
       subst (λ (m : M). TellsEach tells told.1 rest (p.1 ++ old.queue.events) m) (sym kept.moments) told.4 in
       let left : PostsEach now.queue.subject then p.1 now.calls =
       subst (λ (n : ℕ). PostsEach n then p.1 now.calls) (sym kept.subject)
-      (subst (λ (d : DeskView (LineSink W)). PostsEach old.queue.subject then p.1 d) (sym (Awaits-inbox old.calls now.calls old.queue.subject ticket answered awaits))
+      (subst (λ (d : DeskView (ClientSink W)). PostsEach old.queue.subject then p.1 d) (sym (Awaits-inbox old.calls now.calls old.queue.subject ticket answered awaits))
       (PostsEach-received old.queue.subject posts.0 p.1 old.calls now.calls.inbox now.calls.is_over posts.2)) in (
         freed now told.1 then,
         emits_at base (freed now told.1 then) first.name first.note response old.queue.subject (first_named base old first rest w)
@@ -377,11 +377,11 @@ module _ {M W : Type 0} (tells : M → ℕ → M → Type 0) where
       )
 
   -- one that waited, where none was posted: its call is made alone
-  pub Waits-called : (base old now : SessionView M (LineSink W)) (first : Asked) (rest : List Asked) (event : Event) (answered : Result (Reply (LineSink W)) (CallError (LineSink W))) (response : Response)
+  pub Waits-called : (base old now : SessionView M (ClientSink W)) (first : Asked) (rest : List Asked) (event : Event) (answered : Result (Reply (ClientSink W)) (CallError (ClientSink W))) (response : Response)
       → KeepsBegun old now → old.queue.events ≡ event ∷ now.queue.events → old.queue.sent ≡ 0 → now.queue.sent ≡ old.queue.sent
       → Called old.calls now.calls old.queue.subject event None answered → KeepsDesk old.calls now.calls → (IsOver old.calls → answered ≡ Err (SubjectGone None)) → response ≡ response_of answered
       → Waits tells base (first ∷ rest) old
-      → (after : SessionView M (LineSink W)) × emits tells base first.name first.note response after × IsBehind (Waits tells) after rest now
+      → (after : SessionView M (ClientSink W)) × emits tells base first.name first.note response after × IsBehind (Waits tells) after rest now
   Waits-called base old now first rest event answered response kept events none sent called keeps over response_is w =
       let nothing : w.posted ≡ [] = nil_from_length w.posted (sym w.sent ∙ none) in
       let told : TellsEach tells base.moments (first ∷ rest) (event ∷ now.queue.events) old.moments =
@@ -393,12 +393,12 @@ module _ {M W : Type 0} (tells : M → ℕ → M → Type 0) where
         told = told.2;
         called =
             subst (λ (e : Event). Called base.calls now.calls old.queue.subject e None answered) told.3
-            (subst (λ (d : DeskView (LineSink W)). Called d now.calls old.queue.subject event None answered) same called);
-        over = subst (λ (d : DeskView (LineSink W)). IsOver d → answered ≡ Err (SubjectGone None)) same over;
+            (subst (λ (d : DeskView (ClientSink W)). Called d now.calls old.queue.subject event None answered) same called);
+        over = subst (λ (d : DeskView (ClientSink W)). IsOver d → answered ≡ Err (SubjectGone None)) same over;
         kept = record {
           subjects = kept.subjects ∙ w.subjects;
           window = kept.window ∙ w.window;
-          calls = subst (λ (d : DeskView (LineSink W)). KeepsDesk d now.calls) same keeps;
+          calls = subst (λ (d : DeskView (ClientSink W)). KeepsDesk d now.calls) same keeps;
         };
       } in
       let others : TellsEach tells told.1 rest now.queue.events now.moments = subst (λ (m : M). TellsEach tells told.1 rest now.queue.events m) (sym kept.moments) told.4 in (
@@ -409,7 +409,7 @@ module _ {M W : Type 0} (tells : M → ℕ → M → Type 0) where
       )
 
   -- where nothing waits and nothing was posted no note was begun
-  pub Waits-none : (base old : SessionView M (LineSink W)) (first : Asked) (rest : List Asked) → old.queue.events ≡ [] → old.queue.sent ≡ 0 → ¬ Waits tells base (first ∷ rest) old
+  pub Waits-none : (base old : SessionView M (ClientSink W)) (first : Asked) (rest : List Asked) → old.queue.events ≡ [] → old.queue.sent ≡ 0 → ¬ Waits tells base (first ∷ rest) old
   Waits-none base old first rest none_waits none_sent w =
       let nothing : w.posted ≡ [] = nil_from_length w.posted (sym w.sent ∙ none_sent) in
       subst (λ (es : List Event). TellsEach tells base.moments (first ∷ rest) es old.moments) none_waits

@@ -1,3 +1,7 @@
+pub mod Askers
+pub mod ClientSinks
+pub mod EmittedNotes
+pub mod EventDesks
 pub mod Responses
 pub mod SessionDesks
 pub mod Queues

@@ -6,7 +6,7 @@ use Rattle.rx_note.specs.declared.event.Event.{Event}
 use Rattle.rx_note.specs.declared.event.Event.TheVariants.{Emit}
 use Rattle.rx_pump.specs.Desks.{DeskView, IsSent, KeepsDesk}
 use Rattle.rx_session.specs.Begun.{Asked}
-use Rattle.rx_sink.specs.declared.line_sink.LineSink.{LineSink}
+use Rattle.rx_desk.specs.declared.client_sink.ClientSink.{ClientSink}
 use Rattle.rx_desk.specs.SessionDesks.{SessionView, place_of}
 
 -- a note for the subject at this place may be begun behind so many: these are just what is begun, no call of theirs waits, and they are
@@ -51,7 +51,7 @@ PostsEach {S = S} subject before (event ∷ events) after = (then : DeskView S) 
 
 -- a desk in whose queue nothing was came to have begun these notes: their moments were told, the calls of the first were posted, and
 -- those of the others wait
-pub record Waits {M W : Type 0} (tells : M → ℕ → M → Type 0) (base : SessionView M (LineSink W)) (begun : List Asked) (now : SessionView M (LineSink W)) : Type 0 where
+pub record Waits {M W : Type 0} (tells : M → ℕ → M → Type 0) (base : SessionView M (ClientSink W)) (begun : List Asked) (now : SessionView M (ClientSink W)) : Type 0 where
   pub none_waits : base.queue.events ≡ []
   pub none_sent : base.queue.sent ≡ 0
   pub posted : List Event

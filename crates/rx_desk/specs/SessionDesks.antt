@@ -9,12 +9,12 @@
 -- begun is the same: each note a moment and a call of its own, in their order, and each `answer` that of the oldest; so a
 -- session is as if each line had been carried out before the next. Of a desk that makes no call any more each emission is
 -- answered `GONE`, and `emit` and `dispose` put nothing; what was begun with an earlier one may have been put before that.
-use Rattle.std.specs.Prelude.{◌≡◌, ◌<◌, ◌≤◌, ℕ, true, false, List, [], length, Option, None, Some, MatchOption, Result, Ok, Err, position, if◌then◌else◌}
+use Rattle.std.specs.Prelude.{◌≡◌, ◌⊎◌, ◌<◌, ◌≤◌, ℕ, zero, suc, true, false, List, [], length, Option, None, Some, MatchOption, Result, Ok, Err, position, if◌then◌else◌}
 use Rattle.rx_note.specs.Choices.{Choice}
 use Rattle.rx_note.specs.declared.answer.Answer.{Answer}
 use Rattle.rx_note.specs.declared.answer.Answer.TheVariants as answers
 use Rattle.rx_note.specs.declared.event.Event.{Event}
-use Rattle.rx_note.specs.declared.event.Event.TheVariants.{Emit, Join, Dispose}
+use Rattle.rx_note.specs.declared.event.Event.TheVariants.{Emit, Join, Request, Dispose}
 use Rattle.rx_note.specs.declared.note.Note.{Note}
 use Rattle.rx_note.specs.declared.refusal.Refusal.{Refusal}
 use Rattle.rx_proto.specs.Reading.{same_word}
@@ -29,6 +29,9 @@ use Rattle.rx_pump.specs.declared.reply.Reply.{Reply}
 use Rattle.rx_session.specs.declared.follow.Follow.{Follow}
 use Rattle.rx_session.specs.declared.follow.Follow.TheVariants.{Taken, Back}
 use Rattle.rx_sink.specs.declared.line_sink.LineSink.{LineSink}
+use Rattle.rx_desk.specs.ClientSinks.{writer_of}
+use Rattle.rx_desk.specs.declared.client_sink.ClientSink.{ClientSink}
+use Rattle.rx_desk.specs.declared.client_sink.ClientSink.TheVariants.{Lines}
 use Rattle.rx_desk.specs.Responses.{response_of, has_joined, sink_back}
 use Rattle.rx_desk.specs.declared.joined.Joined.{Joined}
 use Rattle.rx_config.specs.declared.subject_config.SubjectConfig.{SubjectConfig}
@@ -70,13 +73,13 @@ module _ {W : Type 0} where
   line_sink version writer = record { writer = writer; version = version; notes = 0; faults = 0; gathers = true; ahead = 0; stuck = false }
 
   -- the writer of the sink that came back, with a response; without one it is taken
-  abbrev pub back_with : Response → Option (LineSink W) → Follow W
+  abbrev pub back_with : Response → Option (ClientSink W) → Follow W
   back_with response None = Taken
-  back_with response (Some sink) = Back response sink.writer
+  back_with response (Some sink) = Back response (writer_of sink)
 
   -- what becomes of a writer by the answer to its call: it is taken by the observer that was made, else its sink came back or
   -- was lost
-  abbrev pub followed : Result (Reply (LineSink W)) (CallError (LineSink W)) → Follow W
+  abbrev pub followed : Result (Reply (ClientSink W)) (CallError (ClientSink W)) → Follow W
   followed answered = if has_joined answered then Taken else back_with (response_of answered) (sink_back answered)
 
 -- whom an answer of the subject at this place made
@@ -98,45 +101,84 @@ has_subject desk name = (place : ℕ) × (place_of name desk.subjects ≡ Some p
 
 module _ {M W : Type 0} (tells : M → ℕ → M → Type 0) where
   -- a moment was told, and one call made to a subject with the event at that moment; the rest is as it was
-  pub record CallsOnce (before after : SessionView M (LineSink W)) (subject : ℕ) (event : ℕ → Event) (sink : Option (LineSink W)) (answered : Result (Reply (LineSink W)) (CallError (LineSink W))) : Type 0 where
+  pub record CallsOnce (before after : SessionView M (ClientSink W)) (subject : ℕ) (event : ℕ → Event) (sink : Option (ClientSink W)) (answered : Result (Reply (ClientSink W)) (CallError (ClientSink W))) : Type 0 where
     pub at : ℕ
     pub told : tells before.moments at after.moments
     pub called : Called before.calls after.calls subject (event at) sink answered
     pub over : IsOver before.calls → answered ≡ Err (SubjectGone sink)
     pub kept : KeepsSession before after
 
-  -- a note was emitted at the subject at this place, and the response is that of the answer. (Of a desk that makes no call any more
-  -- the call may have been put together with an earlier one, before that.)
-  abbrev pub EmitsAt : SessionView M (LineSink W) → Note → Response → SessionView M (LineSink W) → ℕ → Type 0
+  -- a note was emitted at the subject at this place, and so it was answered. (Of a desk that makes no call any more the call may have been
+  -- put together with an earlier one, before that.)
+  pub record AsksEmit (before : SessionView M (ClientSink W)) (subject : ℕ) (note : Note) (answered : Result (Reply (ClientSink W)) (CallError (ClientSink W))) (after : SessionView M (ClientSink W)) : Type 0 where
+    pub once : CallsOnce before after subject (λ at. Emit note at) None answered
+    pub over : IsOver before.calls → after.calls ≡ before.calls
+    pub joined : after.joined ≡ before.joined
+    pub queue : after.queue ≡ before.queue
+
+  -- a note was emitted at the subject at this place, and the response is that of the answer
+  abbrev pub EmitsAt : SessionView M (ClientSink W) → Note → Response → SessionView M (ClientSink W) → ℕ → Type 0
   EmitsAt before note response after subject =
-      (answered : Result (Reply (LineSink W)) (CallError (LineSink W))) × CallsOnce before after subject (λ at. Emit note at) None answered
+      (answered : Result (Reply (ClientSink W)) (CallError (ClientSink W))) × CallsOnce before after subject (λ at. Emit note at) None answered
       × (response ≡ response_of answered) × (after.joined ≡ before.joined) × (after.queue.events ≡ before.queue.events) × (after.queue.sent ≡ before.queue.sent)
 
   -- an Emit at the subject of a name; without such a subject no call is made
-  abbrev pub emits : SessionView M (LineSink W) → List ℕ → Note → Response → SessionView M (LineSink W) → Type 0
+  abbrev pub emits : SessionView M (ClientSink W) → List ℕ → Note → Response → SessionView M (ClientSink W) → Type 0
   emits before name note response after =
       MatchOption (place_of name before.subjects) ((response ≡ Refused words.Subject) × (after ≡ before)) (EmitsAt before note response after)
 
+  -- an observer was asked for at the subject at this place, by one call with so many items as its first request and with this sink
+  pub record AsksJoin (before : SessionView M (ClientSink W)) (subject : ℕ) (policy : Choice) (first : ℕ) (sink : ClientSink W) (answered : Result (Reply (ClientSink W)) (CallError (ClientSink W))) (after : SessionView M (ClientSink W)) : Type 0 where
+    pub once : CallsOnce before after subject (λ at. Join policy first at) (Some sink) answered
+    pub over : IsOver before.calls → after.calls ≡ before.calls
+    pub queue : after.queue ≡ before.queue
+    pub joined : after.joined ≡ joined_by subject answered
+
   -- an observer joined at the subject at this place, with the window as its first request and a sink of the version over the
   -- writer
-  abbrev pub FollowsAt : SessionView M (LineSink W) → Choice → Version → W → Follow W → SessionView M (LineSink W) → ℕ → Type 0
+  abbrev pub FollowsAt : SessionView M (ClientSink W) → Choice → Version → W → Follow W → SessionView M (ClientSink W) → ℕ → Type 0
   FollowsAt before policy version writer result after subject =
-      (answered : Result (Reply (LineSink W)) (CallError (LineSink W)))
-      × CallsOnce before after subject (λ at. Join policy before.window at) (Some (line_sink version writer)) answered × (result ≡ followed answered)
+      (answered : Result (Reply (ClientSink W)) (CallError (ClientSink W)))
+      × CallsOnce before after subject (λ at. Join policy before.window at) (Some (Lines (line_sink version writer))) answered × (result ≡ followed answered)
       × (IsOver before.calls → after.calls ≡ before.calls) × (after.queue ≡ before.queue)
       × (after.joined ≡ joined_by subject answered)
 
   -- a Join at the subject of a name; without such a subject no call is made, and the writer comes back
-  abbrev pub follows : SessionView M (LineSink W) → List ℕ → Choice → Version → W → Follow W → SessionView M (LineSink W) → Type 0
+  abbrev pub follows : SessionView M (ClientSink W) → List ℕ → Choice → Version → W → Follow W → SessionView M (ClientSink W) → Type 0
   follows before name policy version writer result after =
       MatchOption (place_of name before.subjects) ((result ≡ Back (Refused words.Subject) writer) × (after ≡ before))
       (FollowsAt before policy version writer result after)
 
 module _ {M W : Type 0} where
+  -- the subject at this place was asked for nothing, so that it was looked at
+  pub record AsksNothing (before : SessionView M (ClientSink W)) (subject : ℕ) (after : SessionView M (ClientSink W)) : Type 0 where
+    pub answered : Result (Reply (ClientSink W)) (CallError (ClientSink W))
+    pub called : Called before.calls after.calls subject (Request 4294967295 0) None answered
+    pub kept : KeepsSession before after
+    pub joined : after.joined ≡ before.joined
+    pub queue : after.queue ≡ before.queue
+
+  -- so many items more were asked for, for an observer of the subject at this place, and so it was answered
+  pub record AsksItems (before : SessionView M (ClientSink W)) (subject who items : ℕ) (answered : Result (Reply (ClientSink W)) (CallError (ClientSink W))) (after : SessionView M (ClientSink W)) : Type 0 where
+    pub called : Called before.calls after.calls subject (Request who items) None answered
+    pub over : IsOver before.calls → after.calls ≡ before.calls
+    pub kept : KeepsSession before after
+    pub joined : after.joined ≡ before.joined
+    pub queue : after.queue ≡ before.queue
+
+  -- a subject was looked at, or there was no memory for that, and no call was made
+  abbrev pub LooksAt : SessionView M (ClientSink W) → ℕ → SessionView M (ClientSink W) → Type 0
+  LooksAt before subject after = (after ≡ before) ⊎ AsksNothing before subject after
+
+  -- so many subjects were looked at, in their order
+  abbrev pub Looks : ℕ → SessionView M (ClientSink W) → SessionView M (ClientSink W) → Type 0
+  Looks zero before after = after ≡ before
+  Looks (suc count) before after = (mid : SessionView M (ClientSink W)) × Looks count before mid × LooksAt mid count after
+
   -- the observer was disposed of, by a call to its subject; without such a subject no call is made, nor by a desk that makes none any
   -- more
-  pub record Disposes (before : SessionView M (LineSink W)) (observer : Joined) (after : SessionView M (LineSink W)) : Type 0 where
-    pub called : observer.subject < length before.subjects → (answered : Result (Reply (LineSink W)) (CallError (LineSink W))) × Called before.calls after.calls observer.subject (Dispose observer.who) None answered
+  pub record Disposes (before : SessionView M (ClientSink W)) (observer : Joined) (after : SessionView M (ClientSink W)) : Type 0 where
+    pub called : observer.subject < length before.subjects → (answered : Result (Reply (ClientSink W)) (CallError (ClientSink W))) × Called before.calls after.calls observer.subject (Dispose observer.who) None answered
     pub none : length before.subjects ≤ observer.subject → after ≡ before
     pub over : IsOver before.calls → after.calls ≡ before.calls
     pub kept : KeepsSession before after

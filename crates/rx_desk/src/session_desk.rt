@@ -2,14 +2,16 @@ ghost use Rattle.std.specs.Prelude.{◌≡◌, ◌+◌, ◌-◌, ◌^◌, ◌<�
 ghost use Rattle.rx_proto.specs.Reading.{same_word};
 ghost use Rattle.rx_desk.specs.SessionDesks.{followed, joined_by, no_queue, place_of};
 
+use crate::client_sink::ClientSink;
 use crate::joined::Joined;
 use crate::moments::Moments;
 use crate::responses::{has_joined, response_of, sink_back};
 use rx_config::{Config, SubjectConfig};
 use rx_heap::Heap;
+use rx_hub::SubjectLook;
 use rx_note::{Answer, Event, Note, Policy};
 use rx_proto::{Name, Response, Version, Word};
-use rx_pump::{CallDesk, CallError, Reply};
+use rx_pump::{CallDesk, CallError, Reply, SharedLook};
 use rx_session::{Desk, Follow};
 use rx_sink::LineSink;
 use std::io::Write;
@@ -25,7 +27,7 @@ pub struct SessionDesk<'a, R, M: Drop, W: Write + Drop> {
     heap: &'a Heap,
     config: &'a Config,
     moments: M,
-    calls: CallDesk<LineSink<W>>,
+    calls: CallDesk<ClientSink<W>>,
     // Whom the last Join made.
     joined: Option<Joined>,
     // The place of the subject of what was begun.
@@ -38,10 +40,10 @@ pub struct SessionDesk<'a, R, M: Drop, W: Write + Drop> {
 
 impl<'a, R, M: Drop, W: Write + Drop> Model for SessionDesk<'a, R, M, W> {
     ghost use Rattle.std.specs.Prelude.{◌+◌, ◌≡◌, length, option_to_list, vec_len};
-    ghost use Rattle.rx_sink.specs.declared.line_sink.LineSink.{LineSink};
+    ghost use Rattle.rx_desk.specs.declared.client_sink.ClientSink.{ClientSink};
     ghost use Rattle.rx_desk.specs.SessionDesks.{SessionView};
 
-    ghost Value = { SessionView M (LineSink W) };
+    ghost Value = { SessionView M (ClientSink W) };
 
     ghost view = { λ d. record { subjects = d.config.now.subjects.items; window = d.config.now.window; moments = d.moments; calls = d.calls; joined = d.joined; queue = record { subject = d.subject; events = option_to_list d.waiting; sent = d.sent } } };
 
@@ -56,7 +58,7 @@ impl<'a, R, M: Drop, W: Write + Drop> SessionDesk<'a, R, M, W> {
     pub fn new(
         rt: &'a R,
         heap: &'a Heap,
-        calls: CallDesk<LineSink<W>>,
+        calls: CallDesk<ClientSink<W>>,
         config: &'a Config,
         moments: M,
     ) -> SessionDesk<'a, R, M, W>
@@ -77,7 +79,7 @@ impl<'a, R, M: Drop, W: Write + Drop> SessionDesk<'a, R, M, W> {
     }
 
     /// The desk that made the calls, as they left it.
-    pub fn into_desk(self) -> CallDesk<LineSink<W>>
+    pub fn into_desk(self) -> CallDesk<ClientSink<W>>
         ensures calls { result ≡ self.entry.calls }
         ensures ports { length result.ports + length result.ended ≡ length self.entry.subjects }
     {
@@ -91,16 +93,100 @@ impl<'a, R, M: Drop, W: Write + Drop> SessionDesk<'a, R, M, W> {
         self.joined
     }
 
-    // The place of the first subject of this name.
-    fn place_of(&self, name: &Name) -> Option<usize>
+    /// The first request of an observer.
+    pub(crate) fn window(&self) -> u32
+        ensures { result ≡ self.now.window }
+    {
+        u32::from(self.config.window)
+    }
+
+    /// The subjects of the configuration.
+    pub(crate) fn subjects(&self) -> &[SubjectConfig]
+        ensures { length result.now ≡ length self.now.subjects }
+    {
+        self.config.subjects.as_slice()
+    }
+
+    /// The place of the first subject of this name.
+    pub(crate) fn place_of(&self, name: &Name) -> Option<usize>
         ensures { result ≡ place_of name.now self.now.subjects }
     {
         place_in(&self.config.subjects, name)
     }
+
+    /// The memory for the texts of the subject at this place.
+    pub(crate) fn memory_at(&self, place: usize) -> &Heap
+        requires { place < length self.now.subjects }
+    {
+        self.config.subjects[place].memory(self.heap)
+    }
 }
 
 impl<'a, R: Wait, M: Moments + Drop, W: Write + Drop> SessionDesk<'a, R, M, W> {
-    ghost use Rattle.rx_desk.specs.SessionDesks.{Disposes};
+    ghost use Rattle.rx_desk.specs.SessionDesks.{AsksEmit, AsksItems, AsksJoin, Disposes, LooksAt};
+
+    /// Joins an observer at the subject at this place, by one call with this sink and its first request.
+    pub(crate) fn join(
+        &mut self,
+        place: usize,
+        policy: Policy,
+        first: u32,
+        sink: ClientSink<W>,
+    ) -> Result<Reply<ClientSink<W>>, CallError<ClientSink<W>>>
+        requires { place < length self.old.subjects }
+        ensures { AsksJoin M.tells self.old place policy first sink result self.new }
+    {
+        let at = self.moments.now();
+        let event = Event::Join { policy, first, at };
+        let answered = self.calls.call(self.rt, place, event, Some(sink));
+        self.joined = joined_by(place, &answered);
+        answered
+    }
+
+    /// Emits a note at the subject at this place, by one call.
+    pub(crate) fn emit_at(
+        &mut self,
+        place: usize,
+        note: Note,
+    ) -> Result<Reply<ClientSink<W>>, CallError<ClientSink<W>>>
+        requires { place < length self.old.subjects }
+        ensures { AsksEmit M.tells self.old place note result self.new }
+    {
+        let at = self.moments.now();
+        self.calls
+            .call(self.rt, place, Event::Emit { note, at }, None)
+    }
+
+    /// Asks for so many items more for an observer of the subject at this place, by one call.
+    pub(crate) fn request(
+        &mut self,
+        place: usize,
+        who: u32,
+        items: u32,
+    ) -> Result<Reply<ClientSink<W>>, CallError<ClientSink<W>>>
+        requires { place < length self.old.subjects }
+        ensures { AsksItems self.old place who items result self.new }
+    {
+        self.calls
+            .call(self.rt, place, Event::Request { who, n: items }, None)
+    }
+
+    /// What is seen of the subject at this place, by one call that it refuses and that changes nothing. None where there was no memory
+    /// for it, and no call was made, or where the thread of the subject is gone.
+    pub(crate) fn look(&mut self, place: usize, shown: &SharedLook) -> Option<SubjectLook>
+        requires { place < length self.old.subjects }
+        ensures { LooksAt self.old place self.new }
+    {
+        if shown.want(self.rt).is_err() {
+            return None;
+        }
+        let event = Event::Request {
+            who: u32::MAX,
+            n: 0,
+        };
+        drop(self.calls.call(self.rt, place, event, None));
+        shown.take(self.rt)
+    }
 
     /// Disposes of an observer, by one call to its subject; one that has left by then is refused there. Nothing is done where
     /// the configuration has no such subject.
@@ -137,7 +223,7 @@ impl<'a, R: Wait, M: Moments + Drop, W: Write + Drop> SessionDesk<'a, R, M, W> {
         requires subject { self.old.queue.subject < length self.old.subjects }
         requires none { self.old.queue.events ≡ [] }
         requires room { self.old.queue.sent < 2 ^ 32 - 1 }
-        ensures { (base : SessionView M (LineSink W)) (begun : List Asked) → Waits M.tells base begun (with_waiting event self.old) → Waits M.tells base begun self.new }
+        ensures { (base : SessionView M (ClientSink W)) (begun : List Asked) → Waits M.tells base begun (with_waiting event self.old) → Waits M.tells base begun self.new }
     {
         match self.calls.post(self.rt, self.subject, event) {
             Ok(()) => self.sent += 1,
@@ -149,8 +235,8 @@ impl<'a, R: Wait, M: Moments + Drop, W: Write + Drop> SessionDesk<'a, R, M, W> {
     fn next_answer(&mut self) -> Response
         requires subject { self.old.queue.subject < length self.old.subjects }
         requires some { 0 < self.old.queue.sent }
-        ensures { (base : SessionView M (LineSink W)) (first : Asked) (rest : List Asked) → Waits M.tells base (first ∷ rest) self.old
-            → (after : SessionView M (LineSink W)) × emits M.tells base first.name first.note result after × IsBehind (Waits M.tells) after rest self.new }
+        ensures { (base : SessionView M (ClientSink W)) (first : Asked) (rest : List Asked) → Waits M.tells base (first ∷ rest) self.old
+            → (after : SessionView M (ClientSink W)) × emits M.tells base first.name first.note result after × IsBehind (Waits M.tells) after rest self.new }
     {
         let before = self.calls.tickets().saturating_sub(u64::from(self.sent));
         self.sent -= 1;
@@ -163,8 +249,8 @@ impl<'a, R: Wait, M: Moments + Drop, W: Write + Drop> SessionDesk<'a, R, M, W> {
     fn call_waiting(&mut self) -> Response
         requires subject { self.old.queue.subject < length self.old.subjects }
         requires none { self.old.queue.sent ≡ 0 }
-        ensures { (base : SessionView M (LineSink W)) (first : Asked) (rest : List Asked) → Waits M.tells base (first ∷ rest) self.old
-            → (after : SessionView M (LineSink W)) × emits M.tells base first.name first.note result after × IsBehind (Waits M.tells) after rest self.new }
+        ensures { (base : SessionView M (ClientSink W)) (first : Asked) (rest : List Asked) → Waits M.tells base (first ∷ rest) self.old
+            → (after : SessionView M (ClientSink W)) × emits M.tells base first.name first.note result after × IsBehind (Waits M.tells) after rest self.new }
     {
         let Some(event) = self.waiting.take() else {
             return Response::Done;
@@ -191,7 +277,7 @@ impl<'a, R: Wait, M: Moments + Drop, W: Write + Drop> Desk<W> for SessionDesk<'a
         let Some(place) = self.place_of(name) else {
             return None;
         };
-        Some(self.config.subjects[place].memory(self.heap))
+        Some(self.memory_at(place))
     }
 
     fn emit(&mut self, name: &Name, note: Note) -> Response
@@ -203,9 +289,7 @@ impl<'a, R: Wait, M: Moments + Drop, W: Write + Drop> Desk<W> for SessionDesk<'a
         let Some(place) = self.place_of(name) else {
             return Response::Refused(Word::Subject);
         };
-        let at = self.moments.now();
-        let event = Event::Emit { note, at };
-        let answered = self.calls.call(self.rt, place, event, None);
+        let answered = self.emit_at(place, note);
         response_of(&answered)
     }
 
@@ -243,13 +327,9 @@ impl<'a, R: Wait, M: Moments + Drop, W: Write + Drop> Desk<W> for SessionDesk<'a
         let Some(place) = self.place_of(name) else {
             return Follow::Back(Response::Refused(Word::Subject), writer);
         };
-        let at = self.moments.now();
-        let first = u32::from(self.config.window);
-        let event = Event::Join { policy, first, at };
-        let sink = LineSink::gathering(writer, version);
-        let answered = self.calls.call(self.rt, place, event, Some(sink));
-        self.joined = joined_by(place, &answered);
-        followed(answered)
+        let first = self.window();
+        let sink = ClientSink::Lines(LineSink::gathering(writer, version));
+        followed(self.join(place, policy, first, sink))
     }
 }
 
@@ -269,7 +349,7 @@ fn is_named(subject: &SubjectConfig, name: &Name) -> bool
 // Whom a call to the subject at this place made.
 fn joined_by<W: Write + Drop>(
     subject: usize,
-    answered: &Result<Reply<LineSink<W>>, CallError<LineSink<W>>>,
+    answered: &Result<Reply<ClientSink<W>>, CallError<ClientSink<W>>>,
 ) -> Option<Joined>
     ensures { result ≡ joined_by subject answered.now }
 {
@@ -284,7 +364,7 @@ fn joined_by<W: Write + Drop>(
 
 // What becomes of the writer, by the answer to the call of its sink.
 fn followed<W: Write + Drop>(
-    answered: Result<Reply<LineSink<W>>, CallError<LineSink<W>>>,
+    answered: Result<Reply<ClientSink<W>>, CallError<ClientSink<W>>>,
 ) -> Follow<W>
     ensures { result ≡ followed answered }
 {

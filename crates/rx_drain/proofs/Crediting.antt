@@ -8,12 +8,12 @@ use Rattle.rx_note.specs.declared.note.Note.{Note}
 use Rattle.rx_pump.specs.declared.out.Out.{Out}
 use Rattle.rx_pump.specs.declared.out.Out.TheVariants.{Attach, Give, Detach}
 use Rattle.rx_sink.specs.declared.flow.Flow.{Flow}
-use Rattle.rx_sink.specs.declared.flow.Flow.TheVariants.{Clear, Ready, Stuck}
+use Rattle.rx_sink.specs.declared.flow.Flow.TheVariants.{Clear, Ready, Stuck, Held}
 use Rattle.rx_sink.specs.declared.kept.Kept.{Kept}
 use Rattle.rx_sink.specs.Acts.{Acts, Step, Takes, Flushes}
 use Rattle.rx_sink.specs.Attachments.{Attachment, Mark, Fine, Fault, NoMemory, Ruling, Apart, is_held_back, may_wait, is_of, kept_for, of_others, replaced, with_note, with_flush, paid, by_answer, by_note, by_flush, by_leaving, kept_by, ruled, attached, brought}
 use Rattle.rx_sink.specs.KeptSinks.{IsKept}
-use Rattle.rx_drain.specs.Credit.{IsPaid}
+use Rattle.rx_drain.specs.Credit.{IsPaid, MayOwe}
 use Rattle.rx_drain.specs.Logs.{Log, NoLetters, Next, Flush, letters, has_left, letter_change, kept_in}
 use Rattle.rx_drain.proofs.Changing.{post_change}
 use Rattle.rx_sink.proofs.Apartness.{key_is}
@@ -26,35 +26,34 @@ bool_cases false = inr refl
 
 -- WHAT IS HELD BACK
 
-held_stuck : (flow : Flow) (due : ℕ) → is_held_back flow due ≡ true → flow ≡ Stuck
-held_stuck Clear due is = cc
-held_stuck Ready due is = cc
-held_stuck Stuck due is = refl
+held_owes : (flow : Flow) (due : ℕ) → is_held_back flow due ≡ true → MayOwe flow
+held_owes Clear due is = cc
+held_owes Ready due is = cc
+held_owes Stuck due is = tt
+held_owes Held due is = tt
 
 -- where nothing waits in a sink, it was flushed last
-clear_last : (last : Option Step) → may_wait last ≡ false → last ≡ Some (Flushes Clear)
-clear_last None is = cc
-clear_last (Some (Takes note flow)) is = cc
-clear_last (Some (Flushes Clear)) is = refl
-clear_last (Some (Flushes Ready)) is = cc
-clear_last (Some (Flushes Stuck)) is = cc
+flushed_last : (last : Option Step) → may_wait last ≡ false → (flow : Flow) × (last ≡ Some (Flushes flow))
+flushed_last None is = cc
+flushed_last (Some (Takes note flow)) is = cc
+flushed_last (Some (Flushes flow)) is = (flow, refl)
 
 module _ {S : Type 0} where
-  -- nothing is due, or the sink was stuck when it last took a note or was flushed
+  -- nothing is due, or the sink stood so that it may be when it last took a note or was flushed
   abbrev Withheld : Attachment S → Type 0
-  Withheld a = (a.due ≡ 0) ⊎ (((note : Note) × (a.last ≡ Some (Takes note Stuck))) ⊎ (a.last ≡ Some (Flushes Stuck)))
+  Withheld a = (a.due ≡ 0) ⊎ (((note : Note) × (flow : Flow) × (a.last ≡ Some (Takes note flow))) ⊎ ((flow : Flow) × MayOwe flow × (a.last ≡ Some (Flushes flow))))
 
-  withheld_answer : (flow : Flow) (b : Attachment S) → (flow ≡ Stuck → Withheld b) → GoesOnSo Withheld (by_answer flow b)
-  withheld_answer flow b stuck = answer_does (GoesOnSo Withheld) flow b (λ leaves. tt) (λ held. stuck (held_stuck flow b.due held)) (inl refl)
+  withheld_answer : (flow : Flow) (b : Attachment S) → (MayOwe flow → Withheld b) → GoesOnSo Withheld (by_answer flow b)
+  withheld_answer flow b owes = answer_does (GoesOnSo Withheld) flow b (λ leaves. tt) (λ held. owes (held_owes flow b.due held)) (inl refl)
 
   withheld_note : (mark : Mark) (note : Note) (a : Attachment S) → GoesOnSo Withheld (by_note mark note a)
   withheld_note mark note a =
       note_does (GoesOnSo Withheld) mark note a (λ over. tt)
-      (λ flow yet. withheld_answer flow (with_note note flow a) (λ is. inr (inl (note, ap (λ (f : Flow). Some (Takes note f)) is)))) (λ yet. tt)
+      (λ flow yet. withheld_answer flow (with_note note flow a) (λ owes. inr (inl (note, flow, refl)))) (λ yet. tt)
 
   withheld_flush : (mark : Mark) (a : Attachment S) → GoesOnSo Withheld (by_flush mark a)
   withheld_flush mark a =
-      flush_does (GoesOnSo Withheld) mark a (λ flow. withheld_answer flow (with_flush flow a) (λ is. inr (inr (ap (λ (f : Flow). Some (Flushes f)) is)))) tt
+      flush_does (GoesOnSo Withheld) mark a (λ flow. withheld_answer flow (with_flush flow a) (λ owes. inr (inr (flow, owes, refl)))) tt
 
   withheld_leaving : (a : Attachment S) → GoesOnSo Withheld (by_leaving a)
   withheld_leaving a = leaving_does (GoesOnSo Withheld) a (λ over. tt) (λ yet. tt)
@@ -86,9 +85,9 @@ module _ {S : Type 0} where
 
   -- and nothing is due of it
   clear_paid : (a : Attachment S) → may_wait a.last ≡ false → Withheld a → IsPaid a
-  clear_paid a clear (inl none) = (Clear, clear_last a.last clear, inl none)
-  clear_paid a clear (inr (inl (note, is))) = (let no : true ≡ false = sym (ap may_wait is) ∙ clear in cc)
-  clear_paid a clear (inr (inr is)) = (Stuck, is, inr refl)
+  clear_paid a clear (inl none) = (let last = flushed_last a.last clear in (last.0, last.1, inl none))
+  clear_paid a clear (inr (inl (note, flow, is))) = (let no : true ≡ false = sym (ap may_wait is) ∙ clear in cc)
+  clear_paid a clear (inr (inr (flow, owes, is))) = (flow, is, inr owes)
 
 -- ONE PLACE
 
@@ -165,7 +164,7 @@ module _ {S : Type 0} (s w : ℕ) where
       → AllByRecursion IsPaid (drop (suc i) kept) → PaysFrom kept i (by_answer flow b)
   pays_answer kept i a b flow f last all =
       answer_does (PaysFrom kept i) flow b (λ leaves. subst (AllByRecursion IsPaid) (sym f.left_out) all)
-      (λ held. subst (AllByRecursion IsPaid) (sym (f.put_in b)) ((flow, last, inr (held_stuck flow b.due held)), all))
+      (λ held. subst (AllByRecursion IsPaid) (sym (f.put_in b)) ((flow, last, inr (held_owes flow b.due held)), all))
       (subst (AllByRecursion IsPaid) (sym (f.put_in (paid b))) ((flow, last, inl refl), all))
 
   -- those from the place on are paid where those behind it were

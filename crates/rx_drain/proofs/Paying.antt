@@ -1,14 +1,14 @@
 -- Where nothing ever waits in a sink nothing is due of it, and once it was flushed nothing may wait in it.
-use Rattle.std.proofs.Common.{◌≡◌, ◌∙◌, sym, refl, ap, ◌⊎◌, ◌||◌, inl, inr, Bool, false, not, List, [], ◌∷◌, Option, Some, None}
+use Rattle.std.proofs.Common.{◌≡◌, ◌∙◌, sym, refl, ap, subst, ◌⊎◌, ◌||◌, inl, inr, Bool, false, not, List, [], ◌∷◌, Option, Some, None}
 use Rattle.std.specs.List.{AllByRecursion, AllZip, FoldsTo}
 use Rattle.rx_sink.specs.declared.flow.Flow.{Flow}
-use Rattle.rx_sink.specs.declared.flow.Flow.TheVariants.{Clear, Stuck}
+use Rattle.rx_sink.specs.declared.flow.Flow.TheVariants.{Clear}
 use Rattle.rx_sink.specs.declared.kept.Kept.{Kept}
 use Rattle.rx_sink.specs.Acts.{Acts, Step, Takes, Flushes, last_by, Makes}
-use Rattle.rx_sink.specs.Attachments.{Attachment, is_clear, may_wait}
+use Rattle.rx_sink.specs.Attachments.{Attachment, is_idle, may_wait}
 use Rattle.rx_sink.specs.KeptSinks.{IsKept}
 use Rattle.rx_sink.specs.Waiting.{NeverWaits}
-use Rattle.rx_drain.specs.Credit.{IsPaid}
+use Rattle.rx_drain.specs.Credit.{IsPaid, MayOwe}
 use Rattle.rx_drain.specs.Drainers.{any_may_wait}
 use Rattle.rx_drain.specs.Paying.{NothingWaits, OwesNothing}
 
@@ -37,10 +37,10 @@ module _ {S Rest : Type 0} (acts : Acts S Rest) (never : NeverWaits acts) where
 
   nothing_due : (a : Attachment S) (one : Kept S) → IsKept acts a one → IsPaid a → one.due ≡ 0
   nothing_due a one tie (flow, last, inl none) = tie.due ∙ none
-  nothing_due a one tie (flow, last, inr stuck) = (let no : Stuck ≡ Clear = sym stuck ∙ flushed_clear a one flow tie last in cc)
+  nothing_due a one tie (flow, last, inr owes) = absurd (subst MayOwe (flushed_clear a one flow tie last) owes)
 
   nothing_waits : (a : Attachment S) (one : Kept S) → IsKept acts a one → IsPaid a → one.may_wait ≡ false
-  nothing_waits a one tie (flow, last, owed) = tie.waits ∙ ap may_wait last ∙ ap (λ (f : Flow). not (is_clear f)) (flushed_clear a one flow tie last)
+  nothing_waits a one tie (flow, last, owed) = tie.waits ∙ ap may_wait last ∙ ap (λ (f : Flow). not (is_idle f)) (flushed_clear a one flow tie last)
 
   none_due : (held : List (Attachment S)) (kept : List (Kept S)) → AllZip (IsKept acts) held kept → AllByRecursion IsPaid held → AllByRecursion (λ one. one.due ≡ 0) kept
   none_due [] [] zip paid = tt

@@ -4,15 +4,17 @@
 -- by which that is told to a reader that was told those before: none of an item that it knows, which is taken like any other;
 -- how many are missed before an item that isn't the next; an overflow without an id, where its observer may end by one. After
 -- a fault it has written a front of that. Its rest tells how many notes it took, and whether it had a fault. Something waits
--- in it only where its writer gathers, and what it passed over isn't counted there.
+-- in it only where its writer gathers, and what it passed over isn't counted there. Where its reader asks for items itself it tells
+-- that what is due is held back, from the first item on that it told to it up to an end.
 use Rattle.std.specs.Prelude.{◌≡◌, ◌<◌, ◌↔◌, IsTrue, ℕ, Bool, true, false, if◌then◌else◌, List, [], Option}
 use Rattle.std.specs.Io.KnownBytes.{Appends}
 use Rattle.rx_proto.specs.Bytes.{AppendsPrefix}
 use Rattle.rx_sink.specs.declared.flow.Flow.{Flow}
-use Rattle.rx_sink.specs.declared.flow.Flow.TheVariants.{Clear, Ready, Stuck}
+use Rattle.rx_sink.specs.declared.flow.Flow.TheVariants.{Clear, Ready, Stuck, Held}
 use Rattle.rx_sink.specs.declared.line_rest.LineRest.{LineRest}
 use Rattle.rx_sink.specs.Acts.{Acts, raised}
 use Rattle.rx_sink.specs.Kinds.{ahead_with_one, flow_behind}
+use Rattle.rx_events.specs.Asking.{asker_after, held_by, holds}
 use Rattle.rx_events.specs.Telling.{begin_bytes, is_told, note_events, standing_after, told_bytes}
 use Rattle.rx_events.specs.declared.event_sink.EventSink.{EventSink}
 
@@ -20,10 +22,11 @@ use Rattle.rx_events.specs.declared.event_sink.EventSink.{EventSink}
 abbrev pub ahead_after : Bool → Bool → ℕ → ℕ
 ahead_after told gathers ahead = if told then ahead_with_one gathers ahead else ahead
 
--- what a flush leaves: where nothing waits any more, the notes are counted anew; only over a writer that gathers it finds the sink
--- stuck, which then stays so until a flush finds that nothing waits
+-- what a flush leaves: where nothing waits any more, the notes are counted anew, and what is due is held back where the reader asks for
+-- it; only over a writer that gathers it finds the sink stuck, which then stays so until a flush finds that nothing waits
 abbrev pub FlushLeaves : {W : Type 0} → Flow → EventSink W → EventSink W → Type 0
-FlushLeaves Clear s t = (t.ahead ≡ 0) × (t.stuck ≡ false)
+FlushLeaves Clear s t = (holds s.asker ≡ false) × (t.ahead ≡ 0) × (t.stuck ≡ false)
+FlushLeaves Held s t = (holds s.asker ≡ true) × (t.ahead ≡ 0) × (t.stuck ≡ false)
 FlushLeaves Ready s t = ⊥
 FlushLeaves Stuck s t = (s.gathers ≡ true) × (t.ahead ≡ s.ahead) × (t.stuck ≡ true)
 
@@ -38,16 +41,16 @@ pub record Stays {W : Type 0} (s t : EventSink W) : Type 0 where
 abbrev pub event_acts : {W : Type 0} → (W → Option (List ℕ)) → Acts (EventSink W) LineRest
 event_acts contents = record {
   started = λ s who t. Appends (contents s.writer) (contents t.writer) (begin_bytes s.epoch s.begin s.standing.known who) × Stays s t × (t.standing ≡ s.standing)
-      × (t.notes ≡ s.notes) × (t.faults ≡ s.faults) × (t.ahead ≡ s.ahead) × (t.stuck ≡ s.stuck);
+      × (t.notes ≡ s.notes) × (t.faults ≡ s.faults) × (t.ahead ≡ s.ahead) × (t.stuck ≡ s.stuck) × (t.asker ≡ s.asker);
   start_faulted = λ s who t. AppendsPrefix (contents s.writer) (contents t.writer) (begin_bytes s.epoch s.begin s.standing.known who)
       × (t.notes ≡ s.notes) × (t.faults ≡ raised s.faults);
-  took = λ s note flow t. (flow ≡ flow_behind s.gathers s.stuck t.ahead) × Appends (contents s.writer) (contents t.writer) (told_bytes s.epoch (note_events s.standing note))
+  took = λ s note flow t. (flow ≡ held_by (holds t.asker) (flow_behind s.gathers s.stuck t.ahead)) × Appends (contents s.writer) (contents t.writer) (told_bytes s.epoch (note_events s.standing note))
       × Stays s t × (t.standing ≡ standing_after s.standing note) × (t.notes ≡ raised s.notes) × (t.faults ≡ s.faults)
-      × (t.ahead ≡ ahead_after (is_told s.standing note) s.gathers s.ahead) × (t.stuck ≡ s.stuck);
+      × (t.ahead ≡ ahead_after (is_told s.standing note) s.gathers s.ahead) × (t.stuck ≡ s.stuck) × (t.asker ≡ asker_after s.asker note (is_told s.standing note));
   take_faulted = λ s note t. AppendsPrefix (contents s.writer) (contents t.writer) (told_bytes s.epoch (note_events s.standing note))
       × (t.notes ≡ s.notes) × (t.faults ≡ raised s.faults);
   flushed = λ s flow t. FlushLeaves flow s t × Appends (contents s.writer) (contents t.writer) [] × Stays s t × (t.standing ≡ s.standing)
-      × (t.notes ≡ s.notes) × (t.faults ≡ s.faults);
+      × (t.notes ≡ s.notes) × (t.faults ≡ s.faults) × (t.asker ≡ s.asker);
   flush_faulted = λ s t. Appends (contents s.writer) (contents t.writer) [] × (t.notes ≡ s.notes) × (t.faults ≡ raised s.faults);
   finished = λ s rest. (rest.notes ≡ s.notes) × (IsTrue rest.failed ↔ (0 < s.faults));
   faults = λ s. s.faults;

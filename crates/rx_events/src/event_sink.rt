@@ -5,11 +5,13 @@
 // told whether its observer may overflow; to others that error is the end of the subject.
 ghost use Rattle.std.specs.Prelude.{◌≡◌, true, false};
 ghost use Rattle.rx_sink.specs.Kinds.{flow_behind};
+ghost use Rattle.rx_events.specs.Asking.{held_by, holds};
+ghost use Rattle.rx_events.specs.declared.asker.Asker.TheVariants.{Drainer, Reader};
 ghost use Rattle.rx_events.specs.Sinks.{ahead_after};
 ghost use Rattle.rx_events.specs.Telling.{standing_after, standing_at};
 
-use crate::Standing;
 use crate::told_note::{write_begin, write_note};
+use crate::{Asker, Standing};
 use rx_http::{Begin, Epoch};
 use rx_note::Note;
 use rx_sink::{Flow, LineRest, Sink, SinkFault};
@@ -40,12 +42,14 @@ pub struct EventSink<W: Write + Drop> {
     gathers: bool,
     // A flush found that something waits which can't go out.
     stuck: bool,
+    // Who asks for items in the place of those that it took.
+    asker: Asker,
 }
 
 impl<W: Write + Drop> EventSink<W> {
     /// A sink that wrote nothing yet, to a reader that begins there; `bounded` where its observer may end by an overflow.
     pub fn new(writer: W, epoch: Epoch, begin: Begin, bounded: bool) -> EventSink<W>
-        ensures { result ≡ record { writer = writer; epoch = epoch; begin = begin; standing = standing_at begin bounded; notes = 0; faults = 0; ahead = 0; gathers = false; stuck = false } }
+        ensures { result ≡ record { writer = writer; epoch = epoch; begin = begin; standing = standing_at begin bounded; notes = 0; faults = 0; ahead = 0; gathers = false; stuck = false; asker = Drainer } }
     {
         let standing = Standing::at(&begin, bounded);
         EventSink {
@@ -58,20 +62,31 @@ impl<W: Write + Drop> EventSink<W> {
             ahead: 0,
             gathers: false,
             stuck: false,
+            asker: Asker::Drainer,
         }
     }
 
     /// The same over a writer that may gather what it is given, and waits for nobody: what can't go out yet waits in it, and its
     /// flush is then `WouldBlock`, or Ok where nothing waits.
     pub fn gathering(writer: W, epoch: Epoch, begin: Begin, bounded: bool) -> EventSink<W>
-        ensures { result ≡ record { writer = writer; epoch = epoch; begin = begin; standing = standing_at begin bounded; notes = 0; faults = 0; ahead = 0; gathers = true; stuck = false } }
+        ensures { result ≡ record { writer = writer; epoch = epoch; begin = begin; standing = standing_at begin bounded; notes = 0; faults = 0; ahead = 0; gathers = true; stuck = false; asker = Drainer } }
     {
         let mut sink = EventSink::new(writer, epoch, begin, bounded);
         sink.gathers = true;
         sink
     }
 
-    // How it stands once a note was told, or passed over: that isn't counted.
+    /// The same for a reader that asks for its items itself, from the first one on that is told to it. Its sink then answers that what is
+    /// due is held back, also where nothing waits.
+    pub fn asked(self) -> EventSink<W>
+        ensures { result ≡ record self { asker = Reader false } }
+    {
+        let mut sink = self;
+        sink.asker = Asker::Reader { told: false };
+        sink
+    }
+
+    // How it stands once a note was told, or passed over, by which what is due isn't held back: what was passed over isn't counted.
     fn flow(&mut self, told: bool) -> Flow
         ensures answer { result ≡ flow_behind self.old.gathers self.old.stuck self.new.ahead }
         ensures rest { self.new ≡ record self.old { ahead = ahead_after told self.old.gathers self.old.ahead } }
@@ -121,7 +136,9 @@ impl<W: Write + Drop> Sink for EventSink<W> {
         self.notes = self.notes.saturating_add(1);
         let told = self.standing.is_told(&note);
         self.standing = self.standing.after(&note);
-        Ok(self.flow(told))
+        self.asker = self.asker.after(&note, told);
+        let flow = self.flow(told);
+        Ok(held_by(self.asker, flow))
     }
 
     fn flush(&mut self) -> Result<Flow, SinkFault> {
@@ -129,7 +146,7 @@ impl<W: Write + Drop> Sink for EventSink<W> {
             Ok(()) => {
                 self.ahead = 0;
                 self.stuck = false;
-                Ok(Flow::Clear)
+                Ok(held_by(self.asker, Flow::Clear))
             }
             Err(fault) if self.gathers && fault.kind() == ErrorKind::WouldBlock => {
                 self.stuck = true;
@@ -147,5 +164,16 @@ impl<W: Write + Drop> Sink for EventSink<W> {
             notes: self.notes,
             failed: self.faults > 0,
         }
+    }
+}
+
+// How a sink stands, where who asks may be the reader.
+fn held_by(asker: Asker, flow: Flow) -> Flow
+    ensures { result ≡ held_by (holds asker) flow }
+{
+    match flow {
+        Flow::Clear if asker.holds() => Flow::Held,
+        Flow::Ready if asker.holds() => Flow::Stuck,
+        other => other,
     }
 }

@@ -1,7 +1,9 @@
 //! What the event sinks have written once they are put away, and when something waits in them. The functions do nothing: their
 //! clauses are the laws.
+ghost use Rattle.std.specs.Prelude.{◌||◌};
 ghost use Rattle.rx_sink.specs.Taken.{CountsNotes};
 ghost use Rattle.rx_sink.specs.Waiting.{WaitsOnlyWhere};
+ghost use Rattle.rx_events.specs.Asking.{is_reader};
 ghost use Rattle.rx_events.specs.Hearing.{NotesAreHeard, StreamIsAccount};
 ghost use Rattle.rx_events.specs.Written.{WritesEvents};
 
@@ -20,9 +22,9 @@ pub fn event_sinks_count<W: Write + Drop>()
     ensures { CountsNotes ⟦<EventSink<W> as Sink>⟧.acts (λ s. s.notes) (λ s. s.faults) (λ rest. rest.notes) (λ rest. rest.failed) }
 {}
 
-/// Something waits in an event sink only where its writer gathers what it is given.
+/// Something waits in an event sink, or is held back, only where its writer gathers what it is given, or its reader asks for items itself.
 pub fn event_sinks_wait_by_their_writer<W: Write + Drop>()
-    ensures { WaitsOnlyWhere ⟦<EventSink<W> as Sink>⟧.acts (λ s. s.gathers) }
+    ensures { WaitsOnlyWhere ⟦<EventSink<W> as Sink>⟧.acts (λ s. s.gathers || is_reader s.asker) }
 {}
 
 /// What the reader of an event sink hears is just what is told of its subject's notes to a reader that knows what this one does.

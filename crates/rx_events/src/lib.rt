@@ -11,10 +11,12 @@
 //! Its tests stand in `crates/test_http`.
 #![tactic(auto)]
 
+mod asker;
 mod event_sink;
 pub mod laws;
 mod standing;
 mod told_note;
 
+pub use asker::Asker;
 pub use event_sink::EventSink;
 pub use standing::Standing;

@@ -9,6 +9,7 @@ use Rattle.rx_http.specs.declared.answer.Answer.{Answer}
 use Rattle.rx_http.specs.declared.request.asked.Asked.{Asked}
 use Rattle.rx_http.specs.declared.request.asked.Asked.TheVariants as asks
 use Rattle.rx_http.specs.declared.request.begin.Begin.{Begin}
+use Rattle.rx_http.specs.declared.request.credit.Credit.{Credit}
 use Rattle.rx_http.specs.declared.answer.refusal.Refusal.{Refusal}
 use Rattle.rx_session.specs.declared.session_end.SessionEnd.{SessionEnd}
 use Rattle.rx_session.specs.declared.session_end.SessionEnd.TheVariants as ends
@@ -22,31 +23,36 @@ use Rattle.rx_exchange.proofs.Turning.{sits-told, tells-sent}
 
 module _ {D W : Type 0} (p : Parties D W) where
   -- a Join
-  joins-among : (desk after start : D) (subject : List ℕ) (policy : Choice) (window : ℕ) (begin : Option Begin) (writer : W) (met : Option (Answer × W))
-      → JoinsAt p desk subject policy window begin writer met after → (now : D) × JoinsAt (among p) start subject policy window begin writer met now
-  joins-among desk after start subject policy window None writer met (same, is) = (start, (refl, is))
-  joins-among desk after start subject policy window (Some begin) writer met (joining, joins, is) = (after, (joining, (desk, joins), is))
+  joins-among : (desk after start : D) (subject : List ℕ) (policy : Choice) (credit : Credit) (begin : Option Begin) (writer : W) (met : Option (Answer × W))
+      → JoinsAt p desk subject policy credit begin writer met after → (now : D) × JoinsAt (among p) start subject policy credit begin writer met now
+  joins-among desk after start subject policy credit None writer met (same, is) = (start, (refl, is))
+  joins-among desk after start subject policy credit (Some begin) writer met (joining, joins, is) = (after, (joining, (desk, joins), is))
 
   -- what was asked for
-  meets-among : (desk after start : D) (writer : W) (asked : Result Asked Refusal) (met : Option (Answer × W)) → Meets p desk writer asked met after
-      → (now : D) × Meets (among p) start writer asked met now
-  meets-among desk after start writer (Ok (asks.Events subject policy window known)) met (epoch, since, joins) =
-      let other = joins-among desk after start subject policy window (begin_by epoch known) writer met joins in
+  meets-among : (desk after start : D) (writer : W) (asked : Result Asked Refusal) (text : List ℕ) (met : Option (Answer × W)) → Meets p desk writer asked text met after
+      → (now : D) × Meets (among p) start writer asked text met now
+  meets-among desk after start writer (Ok (asks.Events subject policy credit known)) text met (epoch, since, joins) =
+      let other = joins-among desk after start subject policy credit (begin_by epoch known) writer met joins in
       (other.0, (epoch, (desk, since), other.1))
-  meets-among desk after start writer (Ok asks.Health) met (same, well, looks, is) = (start, (refl, well, (desk, looks), is))
-  meets-among desk after start writer (Err cause) met (same, is) = (start, (refl, is))
+  meets-among desk after start writer (Ok (asks.Emission subject kind size)) text met (emitted, emits, epoch, since, is) =
+      (after, (emitted, (desk, emits), epoch, (after, since), is))
+  meets-among desk after start writer (Ok (asks.Request subject observer items)) text met (asked, requests, is) = (after, (asked, (desk, requests), is))
+  meets-among desk after start writer (Ok (asks.Look form)) text met (shown, shows, is) = (after, (shown, (desk, shows), is))
+  meets-among desk after start writer (Ok asks.Health) text met (same, well, looks, is) = (start, (refl, well, (desk, looks), is))
+  meets-among desk after start writer (Err cause) text met (same, is) = (start, (refl, is))
 
   module _ (start : D) (first : W) (read_old read_new : Option (List ℕ)) (desk : D) (writer : W) (same : writer ≡ first) where
     met-among : (after : D) (met : Option (Answer × W)) → HasMet p desk writer read_old read_new after met → (now : D) × HasMet (among p) start first read_old read_new now met
     met-among after met has =
-        let other = meets-among desk after start writer has.asked met has.meets in (
+        let other = meets-among desk after start writer has.asked has.text met has.meets in (
           other.0,
           record {
             came = has.came;
             consumed = has.consumed;
             asked = has.asked;
+            text = has.text;
             asks = has.asks;
-            meets = subst (λ (w : W). Meets (among p) start w has.asked met other.0) same other.1;
+            meets = subst (λ (w : W). Meets (among p) start w has.asked has.text met other.0) same other.1;
           },
         )
 
@@ -58,7 +64,7 @@ module _ {D W : Type 0} (p : Parties D W) where
 
     listens-among : (after : D) (now_writer : W) (came : List ℕ) → Listens p desk writer read_old read_new after now_writer came
         → Listens (among p) start first read_old read_new start now_writer came
-    listens-among after now_writer came is = record { consumed = is.consumed; none = is.none; desk_is = refl; writer_is = is.writer_is ∙ same }
+    listens-among after now_writer came is = record { consumed = is.consumed; partly = is.partly; desk_is = refl; writer_is = is.writer_is ∙ same }
 
     open-among : (after : D) (now_writer : W) (answered : Bool) (came : List ℕ) → IsOpen p desk writer read_old read_new after now_writer answered came
         → (now : D) × IsOpen (among p) start first read_old read_new now now_writer answered came
@@ -94,7 +100,7 @@ module _ {D W : Type 0} (p : Parties D W) where
   joins false start first read_old read_now read_new then desk desk_after writer exchange exchange_after result is listens sends turns =
       let here : IsOpen p desk writer read_old read_now desk writer exchange.answered exchange.head =
       subst (λ (b : Bool). IsOpen p desk writer read_old read_now desk writer b exchange.head) (sym is)
-      (record { consumed = listens.consumed; none = listens.none; desk_is = refl; writer_is = refl }) in
+      (record { consumed = listens.consumed; partly = listens.partly; desk_is = refl; writer_is = refl }) in
       sits-among start first read_old read_new desk writer listens.writer_is result desk_after exchange_after (turns desk writer read_old here)
   joins true start first read_old read_now read_new then desk desk_after writer exchange exchange_after result is told sends turns =
       let only = sends is in

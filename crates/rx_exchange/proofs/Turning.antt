@@ -1,7 +1,7 @@
 -- An exchange turn by turn.
 use Rattle.std.proofs.Common.{◌≡◌, ℕ, zero, suc, Bool, true, inl, inr, List, [], ◌++◌, Option, Some, Result, refl, sym, subst, append-nil}
-use Rattle.std.proofs.KnownBytes.{Appends-trans, Consumes-nil, Consumes-trans}
-use Rattle.std.specs.Io.KnownBytes.{Appends, Consumes}
+use Rattle.std.proofs.KnownBytes.{Appends-trans, Consumes-kept, Consumes-nil, Consumes-trans}
+use Rattle.std.specs.Io.KnownBytes.{Appends, Consumes, Keeps}
 use Rattle.rx_http.specs.Answers.{answer_bytes}
 use Rattle.rx_http.specs.Heads.{HasNoHead}
 use Rattle.rx_http.specs.declared.answer.Answer.{Answer}
@@ -12,7 +12,7 @@ use Rattle.rx_session.specs.declared.session_end.SessionEnd.{SessionEnd}
 use Rattle.rx_session.specs.declared.session_end.SessionEnd.TheVariants as ends
 use Rattle.rx_session.specs.declared.turn.Turn.{Turn}
 use Rattle.rx_session.specs.declared.turn.Turn.TheVariants.{Again, Waits, Stuck, Over}
-use Rattle.rx_exchange.specs.Coming.{AsksFor, Brings, IsEnd}
+use Rattle.rx_exchange.specs.Coming.{AsksFor, Brings, IsEnd, IsPartly}
 use Rattle.rx_exchange.specs.Exchanges.{Begins, HasMet, IsOpen, IsOver, Listens, Sits}
 use Rattle.rx_exchange.specs.Meetings.{Meets, Parties, Tells}
 use Rattle.rx_exchange.specs.declared.exchange.Exchange.{Exchange}
@@ -37,10 +37,20 @@ module _ {W : Type 0} (contents : W → Option (List ℕ)) where
 module _ {D W : Type 0} (p : Parties D W) (start : D) (first : W) (read_old : Option (List ℕ)) where
   -- an exchange goes on behind a read that brought no head
   pub listens-more : (read_now read_new : Option (List ℕ)) (desk : D) (writer : W) (came after : List ℕ) {says : Type 0} → Listens p start first read_old read_now desk writer came
-      → Brings read_now read_new came after says → HasNoHead after → Listens p start first read_old read_new desk writer after
-  listens-more read_now read_new desk writer came after listens brings none = record {
+      → Brings read_now read_new came after says → IsPartly after → Listens p start first read_old read_new desk writer after
+  listens-more read_now read_new desk writer came after listens brings partly = record {
     consumed = subst (λ (l : List ℕ). Consumes read_old read_new l) (sym brings.after_is) (Consumes-trans read_old read_now read_new came brings.read listens.consumed brings.consumed);
-    none = none;
+    partly = partly;
+    desk_is = listens.desk_is;
+    writer_is = listens.writer_is;
+  }
+
+  -- it stays where it was behind a read that brought nothing
+  pub listens-kept : (read_now read_new : Option (List ℕ)) (desk : D) (writer : W) (came after : List ℕ) → Listens p start first read_old read_now desk writer came
+      → Keeps read_now read_new → after ≡ came → Listens p start first read_old read_new desk writer after
+  listens-kept read_now read_new desk writer came after listens keeps same = record {
+    consumed = subst (λ (l : List ℕ). Consumes read_old read_new l) (sym same) (Consumes-kept read_old read_now read_new came listens.consumed keeps);
+    partly = subst IsPartly (sym same) listens.partly;
     desk_is = listens.desk_is;
     writer_is = listens.writer_is;
   }
@@ -56,17 +66,18 @@ module _ {D W : Type 0} (p : Parties D W) (start : D) (first : W) (read_old : Op
   ends-so ends.TooManyReads read_new desk writer came listens is = absurd is
 
   -- what a read brought was met
-  pub has-met : (read_now read_new : Option (List ℕ)) (desk after_desk : D) (writer : W) (came after : List ℕ) (asked : Result Asked Refusal) (met : Option (Answer × W))
-      → Listens p start first read_old read_now desk writer came → Brings read_now read_new came after (AsksFor after asked) → Meets p desk writer asked met after_desk
+  pub has-met : (read_now read_new : Option (List ℕ)) (desk after_desk : D) (writer : W) (came after : List ℕ) (asked : Result Asked Refusal) (text : List ℕ) (met : Option (Answer × W)) {says : Type 0}
+      → Listens p start first read_old read_now desk writer came → Brings read_now read_new came after says → AsksFor after asked text → Meets p desk writer asked text met after_desk
       → HasMet p start first read_old read_new after_desk met
-  has-met read_now read_new desk after_desk writer came after asked met listens brings meets = record {
+  has-met read_now read_new desk after_desk writer came after asked text met listens brings asks meets = record {
     came = after;
     consumed = subst (λ (l : List ℕ). Consumes read_old read_new l) (sym brings.after_is) (Consumes-trans read_old read_now read_new came brings.read listens.consumed brings.consumed);
     asked = asked;
-    asks = brings.said;
+    text = text;
+    asks = asks;
     meets =
-        subst (λ (d : D). Meets p d first asked met after_desk) listens.desk_is
-        (subst (λ (w : W). Meets p desk w asked met after_desk) listens.writer_is meets);
+        subst (λ (d : D). Meets p d first asked text met after_desk) listens.desk_is
+        (subst (λ (w : W). Meets p desk w asked text met after_desk) listens.writer_is meets);
   }
 
   -- the answer is told, or the writer faulted
@@ -93,7 +104,7 @@ module _ {D W : Type 0} (p : Parties D W) where
   begins desk writer known exchange new =
       subst (λ (b : Bool). IsOpen p desk writer known known desk writer b exchange.head) (sym new.answered_is) (record {
         consumed = subst (λ (l : List ℕ). Consumes known known l) (sym new.head_is) (Consumes-nil known);
-        none = subst HasNoHead (sym new.head_is) none-empty;
+        partly = inl (subst HasNoHead (sym new.head_is) none-empty);
         desk_is = refl;
         writer_is = refl;
       })

@@ -1,8 +1,7 @@
-// Each answer is the last of its connection. A head is read and nothing behind it: a body that is never read would be taken
-// for the next request, and so could be one that a proxy forwards for somebody else. A connection to a Unix socket costs next
-// to nothing, and a stream of events goes to the end of its own in any case.
+// Each answer is the last of its connection. Nothing is read behind a request: what a proxy forwards for somebody else is never taken
+// for its body. A connection to a Unix socket costs next to nothing, and a stream of events goes to the end of its own in any
+// case.
 ghost use Rattle.std.specs.Prelude.{◌≡◌, ◌<◌, List, ℕ, Option, [], false, true, length};
-ghost use Rattle.rx_http.specs.Heads.{HasNoHead};
 ghost use Rattle.rx_exchange.specs.Meetings.{parties};
 
 use crate::Front;
@@ -18,13 +17,13 @@ use std::io::{Read, Write};
 pub struct Exchange {
     head: HeadReader,
     reads: u64,
-    // The head was answered, and nothing more is read.
+    // The request was answered, and nothing more is read.
     answered: bool,
-    ghost open: { answered ≡ false → HasNoHead head × (length head < 8192) },
+    ghost open: { answered ≡ false → length head < 8192 },
 }
 
 impl Exchange {
-    ghost use Rattle.rx_exchange.specs.Exchanges.{HasGotOn, IsNew, OnlySends, Sits, Sitting};
+    ghost use Rattle.rx_exchange.specs.Exchanges.{AsksOnce, HasGotOn, IsNew, OnlySends, Sits, Sitting};
 
     /// Nothing was read or answered yet, and at most `max_reads` reads may be made. One that would block counts too.
     pub fn new(max_reads: u64) -> Exchange
@@ -38,9 +37,9 @@ impl Exchange {
         }
     }
 
-    /// One turn. It makes one read. Once the head is whole, or longer than a head may be, what it asks for is met, and the answer
-    /// goes to the writer, of which it goes out what can now; the rest does in later turns. Where an observer joined, the server has the
-    /// writer, and the exchange is over.
+    /// One turn. It makes one read. Once the head and its body are whole, or longer than they may be, what they ask for is met, and the
+    /// answer goes to the writer, of which it goes out what can now; the rest does in later turns. Where an observer joined, the server
+    /// has the writer, and the exchange is over.
     ///
     /// A read that would block does nothing. An exchange whose answer is out is over as a session is that quit. There is no turn after
     /// one that is over.
@@ -51,10 +50,11 @@ impl Exchange {
         desk: &mut D,
     ) -> Turn<W>
         ensures sits { (start : D) (first : W) (read_old : Option (List ℕ))
-            → Sitting (parties D.since D.looks D.joins W.contents) start first read_old (R.remaining reader.old) desk.old writer self.old
-            → Sits (parties D.since D.looks D.joins W.contents) result start first read_old (R.remaining reader.new) desk.new self.new }
+            → Sitting (parties D.since D.looks D.joins D.emits D.requests D.shows W.contents) start first read_old (R.remaining reader.old) desk.old writer self.old
+            → Sits (parties D.since D.looks D.joins D.emits D.requests D.shows W.contents) result start first read_old (R.remaining reader.new) desk.new self.new }
         ensures answered { self.old.answered ≡ true → desk.new ≡ desk.old }
         ensures sends { self.old.answered ≡ true → OnlySends W.contents result (R.remaining reader.old) (R.remaining reader.new) writer self.new }
+        ensures asks_once { AsksOnce (parties D.since D.looks D.joins D.emits D.requests D.shows W.contents) desk.old writer desk.new }
         ensures got_on { HasGotOn result self.old self.new }
     {
         if self.answered {
@@ -64,14 +64,15 @@ impl Exchange {
             return Turn::Over(SessionEnd::TooManyReads, Some(writer));
         }
         self.reads -= 1;
-        let asked = match come(&mut self.head, reader) {
-            Came::Asks(asked) => asked,
+        let (asked, from, size) = match come(&mut self.head, reader) {
+            Came::Asks { asked, from, size } => (asked, from, size),
             Came::Partly => return Turn::Again(writer),
             Came::Nothing => return Turn::Waits(writer),
             Came::End(end) => return Turn::Over(end, Some(writer)),
         };
         self.answered = true;
-        match meet(asked, writer, desk) {
+        let text = &self.head.behind(from)[..size];
+        match meet(asked, text, writer, desk) {
             Some((answer, writer)) => tell(answer, writer),
             None => Turn::Over(SessionEnd::HandedOver, None),
         }

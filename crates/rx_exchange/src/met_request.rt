@@ -1,41 +1,99 @@
 // What is done with what a connection asks for.
-ghost use Rattle.std.specs.Prelude.{[]};
+ghost use Rattle.std.specs.Prelude.{◌≡◌, []};
 ghost use Rattle.rx_http.specs.Answers.{answer_bytes};
-ghost use Rattle.rx_exchange.specs.Meetings.{Meets, Tells, parties};
+ghost use Rattle.rx_exchange.specs.Meetings.{Meets, Tells, emission_answer, look_answer, parties, request_answer};
 
 use crate::{Front, Joining};
-use rx_http::{Answer, Asked, Begin, Refusal, write_answer};
+use rx_http::{Answer, Asked, Begin, Document, Epoch, LookForm, Refusal, write_answer};
 use rx_session::{SessionEnd, Turn};
 use std::io::{ErrorKind, Write};
 
-/// Has what was asked for met. It answers what is to be told to the writer; None where the server has that.
+/// Has what was asked for with this text met. It answers what is to be told to the writer; None where the server has that.
 pub(crate) fn meet<W: Write + Drop, D: Front<W>>(
     asked: Result<Asked, Refusal>,
+    text: &[u8],
     writer: W,
     desk: &mut D,
 ) -> Option<(Answer, W)>
-    ensures { Meets (parties D.since D.looks D.joins W.contents) desk.old writer asked result desk.new }
+    ensures { Meets (parties D.since D.looks D.joins D.emits D.requests D.shows W.contents) desk.old writer asked text.now result desk.new }
 {
     match asked {
         Ok(
             Asked::Events {
                 subject,
                 policy,
-                window,
+                credit,
                 known,
             },
         ) => {
             let Some(begin) = Begin::by(desk.epoch(), known) else {
                 return Some((Answer::Over, writer));
             };
-            match desk.join(&subject, policy, window, begin, writer) {
+            match desk.join(&subject, policy, credit, begin, writer) {
                 Joining::Taken => None,
                 Joining::Back(cause, back) => Some((Answer::Refused(cause), back)),
             }
         }
+        Ok(
+            Asked::Emission {
+                subject,
+                kind,
+                size: _,
+            },
+        ) => {
+            let emitted = desk.emit(&subject, kind, text);
+            Some((emission_answer(emitted, desk.epoch()), writer))
+        }
+        Ok(
+            Asked::Request {
+                subject,
+                observer,
+                items,
+            },
+        ) => {
+            let asked = desk.request(&subject, observer, items);
+            Some((request_answer(asked), writer))
+        }
+        Ok(Asked::Look(form)) => {
+            let shown = desk.show(form);
+            Some((look_answer(form, shown), writer))
+        }
         Ok(Asked::Health) if desk.is_well() => Some((Answer::Well, writer)),
         Ok(Asked::Health) => Some((Answer::Unwell, writer)),
         Err(cause) => Some((Answer::Refused(cause), writer)),
+    }
+}
+
+// What an emission is answered by the server of this epoch.
+fn emission_answer(emitted: Result<Option<u32>, Refusal>, epoch: &Epoch) -> Answer
+    ensures { result ≡ emission_answer epoch.now emitted }
+{
+    match emitted {
+        Ok(place) => Answer::Accepted {
+            epoch: epoch.copy(),
+            place,
+        },
+        Err(cause) => Answer::Refused(cause),
+    }
+}
+
+// What a request of items is answered.
+fn request_answer(asked: Result<(), Refusal>) -> Answer
+    ensures { result ≡ request_answer asked }
+{
+    match asked {
+        Ok(()) => Answer::Requested,
+        Err(cause) => Answer::Refused(cause),
+    }
+}
+
+// What is answered to who looks.
+fn look_answer(form: LookForm, shown: Result<Document, Refusal>) -> Answer
+    ensures { result ≡ look_answer form shown }
+{
+    match shown {
+        Ok(body) => Answer::Shown { form, body },
+        Err(cause) => Answer::Refused(cause),
     }
 }
 

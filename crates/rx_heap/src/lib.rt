@@ -10,16 +10,16 @@
 #![tactic(auto)]
 
 mod budget;
-mod giving_back;
 mod limit;
 mod limited;
 mod refused;
 mod rooms;
+mod spare;
 
-pub use giving_back::give_back;
 pub use limited::Limited;
 pub use refused::Memory;
 pub use rooms::room;
+pub use spare::give_back;
 
 /// The memory handle: the allocator of the runtime under a limit. Nothing above relies on its being `Copy`: a second owner
 /// clones it, and shares its limit.

@@ -37,6 +37,18 @@ plain-lines [] plain = refl
 plain-lines (byte ∷ bytes) plain =
     ap (λ cr. cond cr (codes "\ndata: ") (byte ∷ []) ++ text_lines bytes) plain.1 ∙ ap (λ l. byte ∷ l) (plain-lines bytes plain.2)
 
+-- neither is so
+or_none : (a b : Bool) → (a || b) ≡ false → (a ≡ false) × (b ≡ false)
+or_none true b none = cc
+or_none false b none = (refl, none)
+
+-- a text without a CR is told as it is
+pub no_cr-lines : (bytes : List ℕ) → list_any (λ byte. byte == 13) bytes ≡ false → text_lines bytes ≡ bytes
+no_cr-lines [] none = refl
+no_cr-lines (byte ∷ bytes) none =
+    let both = or_none (byte == 13) (list_any (λ b. b == 13) bytes) none in
+    ap (λ cr. cond cr (codes "\ndata: ") (byte ∷ []) ++ text_lines bytes) both.0 ∙ ap (λ l. byte ∷ l) (no_cr-lines bytes both.1)
+
 plain-append : (xs ys : List ℕ) → IsPlain xs → IsPlain ys → IsPlain (xs ++ ys)
 plain-append [] ys p q = q
 plain-append (byte ∷ xs) ys p q = (p.0, p.1, plain-append xs ys p.2 q)

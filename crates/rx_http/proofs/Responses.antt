@@ -1,6 +1,7 @@
 -- Each answer is one of the grammar: its parts are tested, and its bytes are those that the grammar prints.
-use Rattle.std.proofs.Common.{◌≡◌, Bool, true, false, ◌&&◌, List, [], ◌∷◌, length, nat_eq, refl}
-use Rattle.std.proofs.lemmas.Bool.{eqb-true, ltb-true, leb-true}
+use Rattle.std.proofs.Common.{◌≡◌, ◌≤◌, ◌<◌, ◌+◌, ◌%◌, ◌^◌, ◌==◌, ℕ, Bool, true, false, not, ◌&&◌, ◌||◌, List, [], ◌∷◌, ◌++◌, codes, decimal, length, length-append, nat_eq, Option, None, Some, refl, sym, ap, ◌∙◌, append_assoc, arith}
+use Rattle.std.proofs.lemmas.Bool.{eqb-true, le-leb, leb-true, ltb-true, ne_eqb}
+use Rattle.std.proofs.lemmas.Fmt.{decimal_by_steps, length-decimal-le}
 use Rattle.std.proofs.lemmas.List.Elements.{All-cons, All-nil}
 use Rattle.std.proofs.lemmas.List.Sums.{AllPass-from_list_all}
 use Rattle.std.specs.Char.{is_ascii_digit}
@@ -9,11 +10,14 @@ use Rattle.std.specs.List.{All, list_all}
 use Rattle.std.specs.Prelude.{nat_le}
 use Rattle.httparse.proofs.OnLiterals.{httparse_on_literals}
 use Rattle.httparse.specs.Grammar.{Field, IsField, IsResponseHead, ReadsResponse, ResponseHead, is_token, is_value_byte, reason_phrase}
-use Rattle.rx_http.specs.Answers.{answer_bytes}
+use Rattle.rx_http.specs.Answers.{accepted_body, answer_bytes}
+use Rattle.rx_http.specs.Epochs.{IsEpoch}
+use Rattle.rx_http.specs.Laws.{IsPlace}
 use Rattle.rx_http.specs.Responses.{AnswersAreRead, body_of, head_of}
-use Rattle.rx_http.specs.declared.answer.Answer.TheVariants.{Events, Over, Well, Unwell, Refused}
+use Rattle.rx_http.specs.declared.answer.Answer.TheVariants.{Events, Over, Well, Unwell, Accepted, Requested, Shown, Refused}
+use Rattle.rx_http.specs.declared.request.look_form.LookForm.TheVariants.{Stats, Metrics, Lines, Page}
 use Rattle.rx_http.specs.declared.answer.refusal.Refusal.{Refusal}
-use Rattle.rx_http.specs.declared.answer.refusal.Refusal.TheVariants.{Head, Word, LastEventId, Subject, Path, Method, Spent, LongHead, Gone, Full, Stopping, Memory}
+use Rattle.rx_http.specs.declared.answer.refusal.Refusal.TheVariants.{Head, Word, LastEventId, Lf, Items, Origin, ReadOnly, Subject, Path, Observer, Method, OnlyGet, Length, Long, Ended, Spent, LongHead, Gone, Full, Stopping, Memory}
 
 both : {P : Type 0} (a b : Bool) → (a && b) ≡ true → (a ≡ true → b ≡ true → P) → P
 both true true is then = then refl refl
@@ -53,20 +57,121 @@ unfolding httparse_on_literals digits
 refusals_are_read Head = (head-is _ refl, refl)
 refusals_are_read Word = (head-is _ refl, refl)
 refusals_are_read LastEventId = (head-is _ refl, refl)
+refusals_are_read Lf = (head-is _ refl, refl)
+refusals_are_read Items = (head-is _ refl, refl)
+refusals_are_read Origin = (head-is _ refl, refl)
+refusals_are_read ReadOnly = (head-is _ refl, refl)
 refusals_are_read Subject = (head-is _ refl, refl)
 refusals_are_read Path = (head-is _ refl, refl)
+refusals_are_read Observer = (head-is _ refl, refl)
 refusals_are_read Method = (head-is _ refl, refl)
+refusals_are_read OnlyGet = (head-is _ refl, refl)
+refusals_are_read Length = (head-is _ refl, refl)
+refusals_are_read Long = (head-is _ refl, refl)
 refusals_are_read Spent = (head-is _ refl, refl)
 refusals_are_read LongHead = (head-is _ refl, refl)
+refusals_are_read Ended = (head-is _ refl, refl)
 refusals_are_read Gone = (head-is _ refl, refl)
 refusals_are_read Full = (head-is _ refl, refl)
 refusals_are_read Stopping = (head-is _ refl, refl)
 refusals_are_read Memory = (head-is _ refl, refl)
 
+-- a number is a value
+value-byte : (byte : ℕ) → 33 ≤ byte → byte < 127 → is_value_byte byte ≡ true
+value-byte byte low high =
+    ap (λ b. b || (nat_le 32 byte && not (byte == 127))) (ne_eqb byte 9 (λ same. omega arith))
+    ∙ ap (λ b. b && not (byte == 127)) (le-leb 32 byte (omega arith))
+    ∙ ap (λ b. not b) (ne_eqb byte 127 (λ same. omega arith))
+
+values-append : (xs ys : List ℕ) → list_all is_value_byte xs ≡ true → list_all is_value_byte ys ≡ true → list_all is_value_byte (xs ++ ys) ≡ true
+values-append [] ys p q = q
+values-append (x ∷ xs) ys p q =
+    both (is_value_byte x) (list_all is_value_byte xs) p (λ this more. ap (λ b. b && list_all is_value_byte (xs ++ ys)) this ∙ values-append xs ys more q)
+
+digit-value : (n : ℕ) → n < 10 → list_all is_value_byte ((48 + n) ∷ []) ≡ true
+digit-value n one = ap (λ b. b && true) (value-byte (48 + n) (omega arith) (omega arith))
+
+decimal-values : (n : ℕ) → n < 2 ^ 64 → list_all is_value_byte (decimal n) ≡ true
+decimal-values n fits =
+    decimal_by_steps (λ n digits. list_all is_value_byte digits ≡ true) digit-value
+    (λ n digits more before. values-append digits ((48 + n % 10) ∷ []) before (digit-value (n % 10) (omega arith)))
+    n fits
+
+-- the answer to an emission: its length is a number
+
+accepted-few : (epoch : List ℕ) (place : Option ℕ) → IsEpoch epoch → IsPlace place → length (accepted_body epoch place) < 2 ^ 64
+accepted-few epoch None is fits = let few = is.few in omega (arith, length-append epoch (codes "\"}\n"))
+accepted-few epoch (Some place) is fits =
+    let few = is.few in
+    omega (
+      arith,
+      length-append epoch (codes "\"" ++ ((codes ",\"place\":" ++ decimal place) ++ codes "}\n")),
+      length-append (decimal place) (codes "}\n"),
+      length-decimal-le 10 place (omega arith) (omega arith) (omega arith),
+    )
+
+-- what stands behind a length
+behind : (digits end others last : List ℕ) → ((digits ++ end) ++ others) ++ last ≡ digits ++ (end ++ (others ++ last))
+behind digits end others last = append_assoc (digits ++ end) others last ∙ append_assoc digits end (others ++ last)
+
+-- an answer in JSON with this length and body
+abbrev with_length : List ℕ → List ℕ → List ℕ
+with_length rest body = (codes "HTTP/1.1 200 OK\r\nContent-Type: application/json\r\nContent-Length: " ++ rest) ++ body
+
+-- one in numbers, one in words and one for a browser
+abbrev in_numbers : List ℕ → List ℕ → List ℕ
+in_numbers rest body = (codes "HTTP/1.1 200 OK\r\nContent-Type: text/plain; version=0.0.4\r\nContent-Length: " ++ rest) ++ body
+
+abbrev in_words : List ℕ → List ℕ → List ℕ
+in_words rest body = (codes "HTTP/1.1 200 OK\r\nContent-Type: text/plain; charset=utf-8\r\nContent-Length: " ++ rest) ++ body
+
+abbrev as_page : List ℕ → List ℕ → List ℕ
+as_page rest body = (codes "HTTP/1.1 200 OK\r\nContent-Type: text/html; charset=utf-8\r\nContent-Length: " ++ rest) ++ body
+
+abbrev framed : List ℕ
+framed = codes "Content-Security-Policy: frame-ancestors 'none'\r\n"
+
+abbrev others : List ℕ
+others = codes "Cache-Control: no-store\r\nX-Content-Type-Options: nosniff\r\nConnection: close\r\n"
+
+stats_are_read : (body : List ℕ) → length body < 2 ^ 32 → ReadsResponse (answer_bytes (Shown Stats body)) (head_of (Shown Stats body)) body
+unfolding httparse_on_literals
+stats_are_read body few =
+    (head-is _ (ap (λ b. b && true) (decimal-values (length body) (omega arith))), ap (λ l. with_length l body) (sym (behind (decimal (length body)) (codes "\r\n") others (codes "\r\n"))))
+
+metrics_are_read : (body : List ℕ) → length body < 2 ^ 32 → ReadsResponse (answer_bytes (Shown Metrics body)) (head_of (Shown Metrics body)) body
+unfolding httparse_on_literals
+metrics_are_read body few =
+    (head-is _ (ap (λ b. b && true) (decimal-values (length body) (omega arith))), ap (λ l. in_numbers l body) (sym (behind (decimal (length body)) (codes "\r\n") others (codes "\r\n"))))
+
+lines_are_read : (body : List ℕ) → length body < 2 ^ 32 → ReadsResponse (answer_bytes (Shown Lines body)) (head_of (Shown Lines body)) body
+unfolding httparse_on_literals
+lines_are_read body few =
+    (head-is _ (ap (λ b. b && true) (decimal-values (length body) (omega arith))), ap (λ l. in_words l body) (sym (behind (decimal (length body)) (codes "\r\n") others (codes "\r\n"))))
+
+page_is_read : (body : List ℕ) → length body < 2 ^ 32 → ReadsResponse (answer_bytes (Shown Page body)) (head_of (Shown Page body)) body
+unfolding httparse_on_literals
+page_is_read body few =
+    (head-is _ (ap (λ b. b && true) (decimal-values (length body) (omega arith))), ap (λ l. as_page l body) (sym (behind (decimal (length body)) (codes "\r\n") (others ++ framed) (codes "\r\n"))))
+
+accepted_are_read : (epoch : List ℕ) (place : Option ℕ) → IsEpoch epoch → IsPlace place
+    → ReadsResponse (answer_bytes (Accepted epoch place)) (head_of (Accepted epoch place)) (body_of (Accepted epoch place))
+unfolding httparse_on_literals
+accepted_are_read epoch place is fits =
+    let body = accepted_body epoch place in
+    let few = accepted-few epoch place is fits in
+    (head-is _ (ap (λ b. b && true) (decimal-values (length body) few)), ap (λ l. with_length l body) (sym (behind (decimal (length body)) (codes "\r\n") others (codes "\r\n"))))
+
 pub answers_are_read : AnswersAreRead
 unfolding httparse_on_literals digits
-answers_are_read Events = (head-is _ refl, refl)
-answers_are_read Over = (head-is _ refl, refl)
-answers_are_read Well = (head-is _ refl, refl)
-answers_are_read Unwell = (head-is _ refl, refl)
-answers_are_read (Refused refusal) = refusals_are_read refusal
+answers_are_read Events is = (head-is _ refl, refl)
+answers_are_read Over is = (head-is _ refl, refl)
+answers_are_read Well is = (head-is _ refl, refl)
+answers_are_read Unwell is = (head-is _ refl, refl)
+answers_are_read (Accepted epoch place) is = accepted_are_read epoch place is.0 is.1
+answers_are_read Requested is = (head-is _ refl, refl)
+answers_are_read (Shown Stats body) is = stats_are_read body is
+answers_are_read (Shown Metrics body) is = metrics_are_read body is
+answers_are_read (Shown Lines body) is = lines_are_read body is
+answers_are_read (Shown Page body) is = page_is_read body is
+answers_are_read (Refused refusal) is = refusals_are_read refusal

@@ -1,18 +1,22 @@
 -- A head asks for one thing, or is refused for one cause.
-use Rattle.std.proofs.Common.{◌≡◌, ℕ, Bool, true, false, List, [], ◌∷◌, ◌++◌, length, length-append, codes, Option, None, Some, Result, Ok, Err, refl, sym, ap, ◌∙◌, append-nil, arith}
+use Rattle.std.proofs.Common.{◌≡◌, ◌⊎◌, ℕ, Bool, true, false, inl, inr, List, [], ◌∷◌, ◌++◌, length, length-append, codes, Option, None, Some, Result, Ok, Err, refl, sym, subst, ap, ◌∙◌, append-nil, arith}
 use Rattle.std.proofs.lemmas.Fmt.{decimal_injective, decimal_nonempty}
 use Rattle.rx_note.specs.Choices.{Choice, choice}
 use Rattle.rx_note.specs.declared.errors.Errors.{Errors}
 use Rattle.rx_note.specs.declared.errors.Errors.TheVariants.{Ahead, Delay}
 use Rattle.rx_proto.specs.Names.{IsName}
-use Rattle.rx_http.specs.Asking.{AsksAt, AsksForEvents, HasWords, HeadAsksForOne, Nowhere, Route, SaysSome, ToEvents, ToHealth, known_word}
+use Rattle.rx_http.specs.Asking.{AsksAt, AsksForEmission, AsksForEvents, AsksForItems, AsksForRequest, HasWords, HeadAsksForOne, NamesSubject, Nowhere, Route, SaysItems, SaysObserver, SaysSome, ToEmission, ToEvents, ToHealth, ToLook, ToRequest, known_word}
+use Rattle.rx_http.specs.Bodies.{HasSize}
 use Rattle.rx_http.specs.Ids.{id_of, over_word, place_digits}
 use Rattle.rx_http.specs.Laws.{IsPlace}
-use Rattle.rx_http.specs.Words.{HasPolicy, HasWindow, IsId, SaysKnown, errors_word}
+use Rattle.rx_http.specs.Words.{HasCredit, HasPolicy, HasWindow, IsId, SaysKnown, credit_word, errors_word, observer_id}
 use Rattle.rx_http.specs.declared.request.asked.Asked.{Asked}
-use Rattle.rx_http.specs.declared.request.asked.Asked.TheVariants.{Events, Health}
+use Rattle.rx_http.specs.declared.request.asked.Asked.TheVariants.{Emission, Events, Health, Look, Request}
+use Rattle.rx_http.specs.declared.request.credit.Credit.{Credit}
+use Rattle.rx_http.specs.declared.request.note_kind.NoteKind.{NoteKind}
+use Rattle.rx_http.specs.declared.request.observer_id.ObserverId.{ObserverId}
 use Rattle.rx_http.specs.declared.answer.refusal.Refusal.{Refusal}
-use Rattle.rx_http.specs.declared.answer.refusal.Refusal.TheVariants.{Head, Word, LastEventId, Subject, Path, Method, Spent, LongHead, Gone, Full, Stopping, Memory}
+use Rattle.rx_http.specs.declared.answer.refusal.Refusal.TheVariants.{Head, Word, LastEventId, Lf, Items, Origin, ReadOnly, Subject, Path, Observer, Method, OnlyGet, Length, Long, Ended, Spent, LongHead, Gone, Full, Stopping, Memory}
 use Rattle.rx_http.specs.declared.id.Id.{Id}
 use Rattle.rx_http.proofs.Cuts.{parted-one}
 use Rattle.rx_http.proofs.Spelled.{apart, limits-room, strategy-one}
@@ -34,6 +38,21 @@ policy-one query a b p q =
 window-one : (query : List ℕ) (a b : ℕ) → HasWindow query a → HasWindow query b → a ≡ b
 window-one query a b p q = decimal_injective a b (omega (arith, p.limits)) (omega (arith, q.limits)) (sym p.word ∙ q.word)
 
+asked-one : (a b : Bool) → credit_word a ≡ credit_word b → a ≡ b
+asked-one true true same = refl
+asked-one true false same = apart _ _ same refl
+asked-one false true same = apart _ _ same refl
+asked-one false false same = refl
+
+credit_with : ℕ → Bool → Credit
+credit_with window asked = record { window = window; asked = asked }
+
+credit-one : (query : List ℕ) (a b : Credit) → HasCredit query a → HasCredit query b → a ≡ b
+unfolding credit_with
+credit-one query a b p q =
+    ap (λ w. credit_with w a.asked) (window-one query a.window b.window p.window q.window)
+    ∙ ap (λ x. credit_with b.window x) (asked-one a.asked b.asked (sym p.asked ∙ q.asked))
+
 place-one : (a b : Option ℕ) → IsPlace a → IsPlace b → place_digits a ≡ place_digits b → a ≡ b
 place-one None None p q same = refl
 place-one None (Some b) p q same = absurd (omega (arith, ap length same, decimal_nonempty b (omega (arith, q))))
@@ -51,7 +70,7 @@ known-one a b false false p q same =
 id_with : List ℕ → Option ℕ → Bool → Id
 id_with epoch place over = record { epoch = epoch; place = place; over = over }
 
-id-one : (a b : Id) → IsId a → IsId b → id_of a ≡ id_of b → a ≡ b
+pub id-one : (a b : Id) → IsId a → IsId b → id_of a ≡ id_of b → a ≡ b
 unfolding id_with
 id-one a b p q same =
     let parts = parted-one 45 a.epoch (place_digits a.place ++ over_word a.over) b.epoch (place_digits b.place ++ over_word b.over) (id_of a)
@@ -63,6 +82,13 @@ id-some : (id : Id) → IsId id → id_of id ≡ [] → ⊥
 id-some id is none =
     omega (arith, ap length none, length-append id.epoch (45 ∷ (place_digits id.place ++ over_word id.over)))
 
+observer_with : List ℕ → ℕ → ObserverId
+observer_with epoch who = record { epoch = epoch; who = who }
+
+who_in : Option ℕ → ℕ
+who_in None = 0
+who_in (Some who) = who
+
 said-one : (word : List ℕ) (a b : Option Id) → SaysKnown word a → SaysKnown word b → a ≡ b
 said-one word None None p q = refl
 said-one word None (Some b) p q = absurd (id-some b q.0 (sym q.1 ∙ p))
@@ -73,31 +99,41 @@ said-one word (Some a) (Some b) p q = ap Some (id-one a b p.0 q.0 (sym p.1 ∙ q
 
 -- what is made of a request for events
 data Verdict : Type 0 where
-  Served : (policy : Choice) (window : ℕ) (known : Option Id) → Verdict
+  Served : (policy : Choice) (credit : Credit) (known : Option Id) → Verdict
   NoWords NoId NoName : Verdict
 
 result_of : List ℕ → Verdict → Result Asked Refusal
-result_of name (Served policy window known) = Ok (Events name policy window known)
+result_of name (Served policy credit known) = Ok (Events name policy credit known)
 result_of name NoWords = Err Word
 result_of name NoId = Err LastEventId
 result_of name NoName = Err Subject
 
 Holds : List ℕ → List ℕ → List ℕ → Verdict → Type 0
-Holds name query word (Served policy window known) = HasPolicy query policy × HasWindow query window × SaysKnown word known × IsName name
-Holds name query word NoWords = (policy : Choice) (window : ℕ) → HasPolicy query policy → HasWindow query window → ⊥
+Holds name query word (Served policy credit known) = HasPolicy query policy × HasCredit query credit × SaysKnown word known × IsName name
+Holds name query word NoWords = (policy : Choice) (credit : Credit) → HasPolicy query policy → HasCredit query credit → ⊥
 Holds name query word NoId = HasWords query × (SaysSome word → ⊥)
 Holds name query word NoName = HasWords query × SaysSome word × (IsName name → ⊥)
 
 verdict : (name query : List ℕ) (field : Option (List ℕ)) (result : Result Asked Refusal) → AsksForEvents name query field result
     → (v : Verdict) × (result ≡ result_of name v) × Holds name query (known_word field query) v
 unfolding result_of Holds
-verdict name query field (Ok (Events subject policy window known)) asks =
-    (Served policy window known, ap (λ s. Ok (Events s policy window known)) asks.4, (asks.0, asks.1, asks.2, asks.3))
+verdict name query field (Ok (Events subject policy credit known)) asks =
+    (Served policy credit known, ap (λ s. Ok (Events s policy credit known)) asks.4, (asks.0, asks.1, asks.2, asks.3))
+verdict name query field (Ok (Emission subject kind size)) asks = absurd asks
+verdict name query field (Ok (Request subject observer items)) asks = absurd asks
 verdict name query field (Ok Health) asks = absurd asks
+verdict name query field (Ok (Look form)) asks = absurd asks
 verdict name query field (Err Word) asks = (NoWords, refl, asks)
 verdict name query field (Err LastEventId) asks = (NoId, refl, asks)
 verdict name query field (Err Subject) asks = (NoName, refl, asks)
 verdict name query field (Err Head) asks = absurd asks
+verdict name query field (Err Ended) asks = absurd asks
+verdict name query field (Err Long) asks = absurd asks
+verdict name query field (Err Length) asks = absurd asks
+verdict name query field (Err OnlyGet) asks = absurd asks
+verdict name query field (Err Origin) asks = absurd asks
+verdict name query field (Err ReadOnly) asks = absurd asks
+verdict name query field (Err Lf) asks = absurd asks
 verdict name query field (Err Path) asks = absurd asks
 verdict name query field (Err Method) asks = absurd asks
 verdict name query field (Err Spent) asks = absurd asks
@@ -106,14 +142,16 @@ verdict name query field (Err Gone) asks = absurd asks
 verdict name query field (Err Full) asks = absurd asks
 verdict name query field (Err Stopping) asks = absurd asks
 verdict name query field (Err Memory) asks = absurd asks
+verdict name query field (Err Items) asks = absurd asks
+verdict name query field (Err Observer) asks = absurd asks
 
-no_words : {P : Type 0} (query : List ℕ) → ((policy : Choice) (window : ℕ) → HasPolicy query policy → HasWindow query window → ⊥) → HasWords query → P
+no_words : {P : Type 0} (query : List ℕ) → ((policy : Choice) (credit : Credit) → HasPolicy query policy → HasCredit query credit → ⊥) → HasWords query → P
 no_words query none has = absurd (none has.0.0 has.1.0 has.0.1 has.1.1)
 
 verdict-one : (name query word : List ℕ) (v w : Verdict) → Holds name query word v → Holds name query word w → v ≡ w
 unfolding Holds
 verdict-one name query word (Served a m x) (Served b n y) p q =
-    ap (λ c. Served c m x) (policy-one query a b p.0 q.0) ∙ ap (λ l. Served b l x) (window-one query m n p.1 q.1) ∙ ap (λ z. Served b n z) (said-one word x y p.2 q.2)
+    ap (λ c. Served c m x) (policy-one query a b p.0 q.0) ∙ ap (λ l. Served b l x) (credit-one query m n p.1 q.1) ∙ ap (λ z. Served b n z) (said-one word x y p.2 q.2)
 verdict-one name query word (Served a m x) NoWords p q = no_words query q ((a, p.0), (m, p.1))
 verdict-one name query word (Served a m x) NoId p q = absurd (q.1 (x, p.2))
 verdict-one name query word (Served a m x) NoName p q = absurd (q.2 p.3)
@@ -130,13 +168,168 @@ verdict-one name query word NoName NoWords p q = no_words query q p.0
 verdict-one name query word NoName NoId p q = absurd (q.1 p.1)
 verdict-one name query word NoName NoName p q = refl
 
-at-one : (route : Route) (query : List ℕ) (field : Option (List ℕ)) (a b : Result Asked Refusal) → AsksAt route query field a → AsksAt route query field b → a ≡ b
-at-one (ToEvents name) query field a b p q =
+-- SO DOES AN EMISSION
+
+-- an emission names its subject, or nothing that is one
+named : (name : List ℕ) (kind : NoteKind) (size : ℕ) (result : Result Asked Refusal) → NamesSubject name kind size result
+    → (IsName name × (result ≡ Ok (Emission name kind size))) ⊎ ((IsName name → ⊥) × (result ≡ Err Subject))
+named name kind size (Ok (Emission subject said bytes)) names =
+    inl (
+      names.0,
+      ap (λ s. Ok (Emission s said bytes)) names.1 ∙ ap (λ k. Ok (Emission name k bytes)) names.2 ∙ ap (λ n. Ok (Emission name kind n)) names.3,
+    )
+named name kind size (Ok (Events subject policy credit known)) names = absurd names
+named name kind size (Ok (Request subject observer items)) names = absurd names
+named name kind size (Ok Health) names = absurd names
+named name kind size (Ok (Look form)) names = absurd names
+named name kind size (Err Subject) names = inr (names, refl)
+named name kind size (Err Head) names = absurd names
+named name kind size (Err Word) names = absurd names
+named name kind size (Err LastEventId) names = absurd names
+named name kind size (Err Lf) names = absurd names
+named name kind size (Err Origin) names = absurd names
+named name kind size (Err ReadOnly) names = absurd names
+named name kind size (Err Path) names = absurd names
+named name kind size (Err Method) names = absurd names
+named name kind size (Err OnlyGet) names = absurd names
+named name kind size (Err Length) names = absurd names
+named name kind size (Err Long) names = absurd names
+named name kind size (Err LongHead) names = absurd names
+named name kind size (Err Ended) names = absurd names
+named name kind size (Err Spent) names = absurd names
+named name kind size (Err Gone) names = absurd names
+named name kind size (Err Full) names = absurd names
+named name kind size (Err Stopping) names = absurd names
+named name kind size (Err Memory) names = absurd names
+named name kind size (Err Items) names = absurd names
+named name kind size (Err Observer) names = absurd names
+
+names-one : (name : List ℕ) (a b one other : Result Asked Refusal) → (IsName name × (a ≡ one)) ⊎ ((IsName name → ⊥) × (a ≡ other))
+    → (IsName name × (b ≡ one)) ⊎ ((IsName name → ⊥) × (b ≡ other)) → a ≡ b
+names-one name a b one other (inl p) (inl q) = p.1 ∙ sym q.1
+names-one name a b one other (inl p) (inr q) = absurd (q.0 p.0)
+names-one name a b one other (inr p) (inl q) = absurd (p.0 q.0)
+names-one name a b one other (inr p) (inr q) = p.1 ∙ sym q.1
+
+emission-one : (name : List ℕ) (kind : NoteKind) (foreign : Bool) (size : Option ℕ) (a b : Result Asked Refusal) → AsksForEmission name kind foreign size a
+    → AsksForEmission name kind foreign size b → a ≡ b
+emission-one name kind true size a b p q = p ∙ sym q
+emission-one name kind false None a b p q = p ∙ sym q
+emission-one name kind false (Some n) a b (inl p) (inl q) = p.1 ∙ sym q.1
+emission-one name kind false (Some n) a b (inl p) (inr q) = absurd (omega (arith, p.0, q.0))
+emission-one name kind false (Some n) a b (inr p) (inl q) = absurd (omega (arith, p.0, q.0))
+emission-one name kind false (Some n) a b (inr p) (inr q) = names-one name a b _ _ (named name kind n a p.1) (named name kind n b q.1)
+
+-- SO DOES WHO ASKS FOR ITEMS
+
+observer-one : (word : List ℕ) (a b : ObserverId) → SaysObserver word a → SaysObserver word b → a ≡ b
+unfolding observer_with who_in
+observer-one word a b p q =
+    let same = id-one (observer_id a) (observer_id b) p.0 q.0 (sym p.1 ∙ q.1) in
+    ap (λ (i : Id). observer_with i.epoch a.who) same ∙ ap (λ (o : Option ℕ). observer_with b.epoch (who_in o)) (ap (λ (i : Id). i.place) same)
+
+items-one : (query : List ℕ) (a b : ℕ) → SaysItems query a → SaysItems query b → a ≡ b
+items-one query a b p q = decimal_injective a b (omega (arith, p.0)) (omega (arith, q.0)) (sym p.1 ∙ q.1)
+
+-- what is made of it
+data Grant : Type 0 where
+  Granted : (observer : ObserverId) (items : ℕ) → Grant
+  NoObserver NoItems NoSuch : Grant
+
+granted_by : List ℕ → Grant → Result Asked Refusal
+granted_by name (Granted observer items) = Ok (Request name observer items)
+granted_by name NoObserver = Err Observer
+granted_by name NoItems = Err Items
+granted_by name NoSuch = Err Subject
+
+Grants : List ℕ → List ℕ → List ℕ → Grant → Type 0
+Grants name word query (Granted observer items) = SaysObserver word observer × SaysItems query items × IsName name
+Grants name word query NoObserver = (observer : ObserverId) → SaysObserver word observer → ⊥
+Grants name word query NoItems = ((observer : ObserverId) × SaysObserver word observer) × ((items : ℕ) → SaysItems query items → ⊥)
+Grants name word query NoSuch = ((observer : ObserverId) × SaysObserver word observer) × ((items : ℕ) × SaysItems query items) × (IsName name → ⊥)
+
+granted : (name word query : List ℕ) (result : Result Asked Refusal) → AsksForItems name word query result → (g : Grant) × (result ≡ granted_by name g) × Grants name word query g
+unfolding granted_by Grants
+granted name word query (Ok (Request subject observer items)) asks =
+    (Granted observer items, ap (λ s. Ok (Request s observer items)) asks.3, (asks.0, asks.1, asks.2))
+granted name word query (Ok (Events subject policy credit known)) asks = absurd asks
+granted name word query (Ok (Emission subject kind size)) asks = absurd asks
+granted name word query (Ok Health) asks = absurd asks
+granted name word query (Ok (Look form)) asks = absurd asks
+granted name word query (Err Observer) asks = (NoObserver, refl, asks)
+granted name word query (Err Items) asks = (NoItems, refl, asks)
+granted name word query (Err Subject) asks = (NoSuch, refl, asks)
+granted name word query (Err Head) asks = absurd asks
+granted name word query (Err Word) asks = absurd asks
+granted name word query (Err LastEventId) asks = absurd asks
+granted name word query (Err Lf) asks = absurd asks
+granted name word query (Err Origin) asks = absurd asks
+granted name word query (Err ReadOnly) asks = absurd asks
+granted name word query (Err Path) asks = absurd asks
+granted name word query (Err Method) asks = absurd asks
+granted name word query (Err OnlyGet) asks = absurd asks
+granted name word query (Err Length) asks = absurd asks
+granted name word query (Err Long) asks = absurd asks
+granted name word query (Err LongHead) asks = absurd asks
+granted name word query (Err Ended) asks = absurd asks
+granted name word query (Err Spent) asks = absurd asks
+granted name word query (Err Gone) asks = absurd asks
+granted name word query (Err Full) asks = absurd asks
+granted name word query (Err Stopping) asks = absurd asks
+granted name word query (Err Memory) asks = absurd asks
+
+grant-one : (name word query : List ℕ) (g h : Grant) → Grants name word query g → Grants name word query h → g ≡ h
+unfolding Grants
+grant-one name word query (Granted a m) (Granted b n) p q =
+    ap (λ o. Granted o m) (observer-one word a b p.0 q.0) ∙ ap (λ k. Granted b k) (items-one query m n p.1 q.1)
+grant-one name word query (Granted a m) NoObserver p q = absurd (q a p.0)
+grant-one name word query (Granted a m) NoItems p q = absurd (q.1 m p.1)
+grant-one name word query (Granted a m) NoSuch p q = absurd (q.2 p.2)
+grant-one name word query NoObserver (Granted b n) p q = absurd (p b q.0)
+grant-one name word query NoObserver NoObserver p q = refl
+grant-one name word query NoObserver NoItems p q = absurd (p q.0.0 q.0.1)
+grant-one name word query NoObserver NoSuch p q = absurd (p q.0.0 q.0.1)
+grant-one name word query NoItems (Granted b n) p q = absurd (p.1 n q.1)
+grant-one name word query NoItems NoObserver p q = absurd (q p.0.0 p.0.1)
+grant-one name word query NoItems NoItems p q = refl
+grant-one name word query NoItems NoSuch p q = absurd (p.1 q.1.0 q.1.1)
+grant-one name word query NoSuch (Granted b n) p q = absurd (p.2 q.2)
+grant-one name word query NoSuch NoObserver p q = absurd (q p.0.0 p.0.1)
+grant-one name word query NoSuch NoItems p q = absurd (q.1 p.1.0 p.1.1)
+grant-one name word query NoSuch NoSuch p q = refl
+
+request-one : (name word query : List ℕ) (foreign : Bool) (a b : Result Asked Refusal) → AsksForRequest name word query foreign a → AsksForRequest name word query foreign b → a ≡ b
+request-one name word query true a b p q = p ∙ sym q
+request-one name word query false a b p q =
+    let g = granted name word query a p in
+    let h = granted name word query b q in
+    g.1 ∙ ap (granted_by name) (grant-one name word query g.0 h.0 g.2 h.2) ∙ sym h.1
+
+-- the size of a body is told once
+size-one : (coding length : Option (List ℕ)) (a b : Option ℕ) → HasSize coding length a → HasSize coding length b → a ≡ b
+size-one (Some coding) length a b p q = p ∙ sym q
+size-one None None a b p q = p ∙ sym q
+size-one None (Some word) None None p q = refl
+size-one None (Some word) None (Some n) p q = absurd (p n q.0 q.1)
+size-one None (Some word) (Some n) None p q = absurd (q n p.0 p.1)
+size-one None (Some word) (Some n) (Some m) p q = ap Some (decimal_injective n m (omega (arith, p.0)) (omega (arith, q.0)) (sym p.1 ∙ q.1))
+
+at-one : (route : Route) (query : List ℕ) (field : Option (List ℕ)) (foreign : Bool) (size : Option ℕ) (a b : Result Asked Refusal) → AsksAt route query field foreign size a
+    → AsksAt route query field foreign size b → a ≡ b
+at-one (ToEvents name) query field foreign size a b p q =
     let v = verdict name query field a p in
     let w = verdict name query field b q in
     v.1 ∙ ap (result_of name) (verdict-one name query (known_word field query) v.0 w.0 v.2 w.2) ∙ sym w.1
-at-one ToHealth query field a b p q = p ∙ sym q
-at-one (Nowhere cause) query field a b p q = p ∙ sym q
+at-one (ToEmission name kind) query field foreign size a b p q = emission-one name kind foreign size a b p q
+at-one (ToRequest name word) query field foreign size a b p q = request-one name word query foreign a b p q
+at-one ToHealth query field foreign size a b p q = p ∙ sym q
+at-one (ToLook form) query field foreign size a b p q = p ∙ sym q
+at-one (Nowhere cause) query field foreign size a b p q = p ∙ sym q
+
+sized-one : (route : Route) (query : List ℕ) (field coding length : Option (List ℕ)) (foreign : Bool) (n m : Option ℕ) (a b : Result Asked Refusal) → HasSize coding length n
+    → AsksAt route query field foreign n a → HasSize coding length m → AsksAt route query field foreign m b → a ≡ b
+sized-one route query field coding length foreign n m a b s p t q =
+    at-one route query field foreign n a b p (subst (λ size. AsksAt route query field foreign size b) (size-one coding length m n t s) q)
 
 pub asks-one : HeadAsksForOne
-asks-one head a b p q = at-one _ _ _ a b p q
+asks-one head a b (n, s, p) (m, t, q) = sized-one _ _ _ _ _ _ n m a b s p t q

@@ -8,7 +8,7 @@ use Rattle.rx_note.specs.Choices.{is_in_limits}
 use Rattle.rx_note.specs.declared.strategy.Strategy.{Strategy}
 use Rattle.rx_note.specs.declared.strategy.Strategy.TheVariants.{Buffer, Drop, Latest, Bounded}
 use Rattle.rx_proto.specs.Reading.{same_word}
-use Rattle.rx_http.specs.Words.{HasRoom, strategy_word}
+use Rattle.rx_http.specs.Words.{HasShortRoom, strategy_word}
 use lib.Pointwise.{bytes_decides}
 
 -- behind a front with which it begins stands the rest of a word
@@ -21,7 +21,7 @@ pub apart : {P : Type 0} (v w : List ℕ) → v ≡ w → (get_or v 1 0 == get_o
 apart v w same other = cc (ap (λ (l : List ℕ). get_or l 1 0 == get_or w 1 0) same, eq-eqb (get_or w 1 0) (get_or w 1 0) refl)
 
 -- two strategies written alike are equal
-pub strategy-one : (a b : Strategy) → HasRoom a → HasRoom b → strategy_word a ≡ strategy_word b → a ≡ b
+pub strategy-one : (a b : Strategy) → HasShortRoom a → HasShortRoom b → strategy_word a ≡ strategy_word b → a ≡ b
 strategy-one Buffer Buffer p q same = refl
 strategy-one Buffer (Drop s) p q same = apart _ _ same refl
 strategy-one Buffer (Latest s) p q same = apart _ _ same refl
@@ -42,7 +42,7 @@ strategy-one (Bounded r) (Bounded s) p q same = ap Bounded (decimal_injective r 
 pub number-short : (n : ℕ) → n < 2 ^ 32 → length (decimal n) ≤ 10
 number-short n fits = length-decimal-le 10 n (omega arith) (omega arith) (omega arith)
 
-pub strategy-short : (strategy : Strategy) → HasRoom strategy → length (strategy_word strategy) ≤ 64
+pub strategy-short : (strategy : Strategy) → HasShortRoom strategy → length (strategy_word strategy) ≤ 64
 strategy-short Buffer room = omega arith
 strategy-short (Drop n) room = let short = number-short n (omega arith) in omega arith
 strategy-short (Latest n) room = let short = number-short n (omega arith) in omega arith
@@ -53,7 +53,7 @@ and-both true b is = is
 and-both false b is = cc
 
 -- a room in its limits has 16 bits
-pub limits-room : (strategy : Strategy) → is_in_limits strategy ≡ true → HasRoom strategy
+pub limits-room : (strategy : Strategy) → is_in_limits strategy ≡ true → HasShortRoom strategy
 limits-room Buffer limits = tt
 limits-room (Drop n) limits = let most = leb-true n 1024 limits in omega arith
 limits-room (Latest n) limits = let most = leb-true n 1024 (and-both (nat_le 1 n) (nat_le n 1024) limits) in omega arith

@@ -2,11 +2,15 @@
 -- httparse (RFC 9112).
 --
 -- The exact requests: a head of at most 8,192 bytes and 32 fields that is one of the grammar of HTTP/1.0 and HTTP/1.1 asks
--- for the events of a subject, by GET of `/subjects/NAME`, or for whether all is well, by GET of `/healthz`; or it is refused
--- for the first of these causes: its path, its method, a word of its query, what its reader says to know, the name of the
--- subject. Other bytes are refused as too long, where they are more or begin with more fields, or as no head. It asks for one
--- thing, or is refused for one cause. No memory is taken.
-use Rattle.std.specs.Prelude.{◌≡◌, ◌<◌, ◌≤◌, ◌⊎◌, ℕ, List, [], ◌∷◌, length, map, if◌then◌else◌, Option, None, Some, Result, Ok, Err, codes}
+-- for the events of a subject, by GET of `/subjects/NAME`, for the emission of a note there, by POST of it or of `end` or
+-- `fail` behind it, for items for an observer, by POST of it with `observers/` and its word behind it, for whether all is well, by GET of `/healthz`, or for what is seen of the server, by GET of `/`, `/stats`,
+-- `/stats.txt` or `/metrics`; or it is refused for the first of these causes: its path,
+-- its method; of events a word of its query, what its reader says to know, the name of the subject; of an emission that a page
+-- of another site sends it, that the size of its body isn't told, or is above 1,024 bytes, the name; of items that a page of
+-- another site asks for them, the word of the observer, how many they are, the name. Other bytes are refused as
+-- too long, where they are more or begin with more fields, or as no head. It asks for one thing, or is refused for one cause.
+-- No memory is taken.
+use Rattle.std.specs.Prelude.{◌≡◌, ◌<◌, ◌≤◌, ◌⊎◌, ℕ, Bool, List, [], ◌∷◌, length, map, if◌then◌else◌, Option, None, Some, Result, Ok, Err, MatchBool, MatchOption, codes, decimal}
 use Rattle.std.specs.Option.{unwrap_or}
 use Rattle.std.specs.Str.{str_to_ascii_lowercase}
 use Rattle.httparse.specs.Grammar.{RequestHead, ReadsRequest}
@@ -14,10 +18,17 @@ use Rattle.httparse.specs.Spans.{RequestExceeds, name_and_value}
 use Rattle.rx_note.specs.Choices.{Choice}
 use Rattle.rx_proto.specs.Names.{IsName}
 use Rattle.rx_proto.specs.Reading.{begins_with, rest_behind, same_word}
-use Rattle.rx_http.specs.Queries.{path_of, query_of, word_in}
-use Rattle.rx_http.specs.Words.{HasPolicy, HasWindow, SaysKnown}
+use Rattle.rx_http.specs.Bodies.{HasSize, is_foreign}
+use Rattle.rx_http.specs.Queries.{cut_at, path_of, query_of, word_in}
+use Rattle.rx_http.specs.Words.{HasCredit, HasPolicy, IsNumber, IsObserver, SaysKnown, items_word, observer_word}
 use Rattle.rx_http.specs.declared.request.asked.Asked.{Asked}
-use Rattle.rx_http.specs.declared.request.asked.Asked.TheVariants.{Events, Health}
+use Rattle.rx_http.specs.declared.request.asked.Asked.TheVariants.{Emission, Events, Health, Look, Request}
+use Rattle.rx_http.specs.declared.request.credit.Credit.{Credit}
+use Rattle.rx_http.specs.declared.request.look_form.LookForm.{LookForm}
+use Rattle.rx_http.specs.declared.request.look_form.LookForm.TheVariants.{Stats, Metrics, Lines, Page}
+use Rattle.rx_http.specs.declared.request.note_kind.NoteKind.{NoteKind}
+use Rattle.rx_http.specs.declared.request.note_kind.NoteKind.TheVariants.{Next, Completed, Failed}
+use Rattle.rx_http.specs.declared.request.observer_id.ObserverId.{ObserverId}
 use Rattle.rx_http.specs.declared.answer.refusal.Refusal.{Refusal}
 use Rattle.rx_http.specs.declared.answer.refusal.Refusal.TheVariants as causes
 use Rattle.rx_http.specs.declared.id.Id.{Id}
@@ -33,7 +44,7 @@ known_word field query = unwrap_or field (word_in (codes "last-event-id=") [] qu
 
 -- each word of the query is one that is read
 abbrev pub HasWords : List ℕ → Type 0
-HasWords query = ((policy : Choice) × HasPolicy query policy) × ((window : ℕ) × HasWindow query window)
+HasWords query = ((policy : Choice) × HasPolicy query policy) × ((credit : Credit) × HasCredit query credit)
 
 -- a reader says what it knows, as it is told
 abbrev pub SaysSome : List ℕ → Type 0
@@ -42,43 +53,118 @@ SaysSome word = (known : Option Id) × SaysKnown word known
 -- what a query and a field ask for of the events of the subject of this name, or the first cause for which they are refused: a word
 -- of the query, what the reader says to know, the name
 abbrev pub AsksForEvents : List ℕ → List ℕ → Option (List ℕ) → Result Asked Refusal → Type 0
-AsksForEvents name query field (Ok (Events subject policy window known)) =
-    HasPolicy query policy × HasWindow query window × SaysKnown (known_word field query) known × IsName name × (subject ≡ name)
-AsksForEvents name query field (Err causes.Word) = (policy : Choice) (window : ℕ) → HasPolicy query policy → HasWindow query window → ⊥
+AsksForEvents name query field (Ok (Events subject policy credit known)) =
+    HasPolicy query policy × HasCredit query credit × SaysKnown (known_word field query) known × IsName name × (subject ≡ name)
+AsksForEvents name query field (Err causes.Word) = (policy : Choice) (credit : Credit) → HasPolicy query policy → HasCredit query credit → ⊥
 AsksForEvents name query field (Err causes.LastEventId) = HasWords query × (SaysSome (known_word field query) → ⊥)
 AsksForEvents name query field (Err causes.Subject) = HasWords query × SaysSome (known_word field query) × (IsName name → ⊥)
 AsksForEvents name query field other = ⊥
 
--- where a method and a path lead: to the events of the subject of a name, to whether all is well, or nowhere
+-- what is asked for by an emission with a body of that size, by the name of its subject
+abbrev pub NamesSubject : List ℕ → NoteKind → ℕ → Result Asked Refusal → Type 0
+NamesSubject name kind size (Ok (Emission subject said bytes)) = IsName name × (subject ≡ name) × (said ≡ kind) × (bytes ≡ size)
+NamesSubject name kind size (Err causes.Subject) = IsName name → ⊥
+NamesSubject name kind size other = ⊥
+
+-- what is asked for by an emission, or the first cause for which it is refused: a page of another site sends it, its size isn't told, its
+-- text is too long, the name
+abbrev pub AsksForEmission : List ℕ → NoteKind → Bool → Option ℕ → Result Asked Refusal → Type 0
+AsksForEmission name kind foreign size result =
+    MatchBool foreign (result ≡ Err causes.Origin)
+    (MatchOption size (result ≡ Err causes.Length) (λ n. ((1024 < n) × (result ≡ Err causes.Long)) ⊎ ((n ≤ 1024) × NamesSubject name kind n result)))
+
+-- a word says this observer
+abbrev pub SaysObserver : List ℕ → ObserverId → Type 0
+SaysObserver word observer = IsObserver observer × (word ≡ observer_word observer)
+
+-- a query says so many items
+abbrev pub SaysItems : List ℕ → ℕ → Type 0
+SaysItems query items = IsNumber items × (items_word query ≡ decimal items)
+
+-- what is asked for of the observer of this word at the subject of this name, or the first cause for which it is refused: the word of the
+-- observer, how many items, the name
+abbrev pub AsksForItems : List ℕ → List ℕ → List ℕ → Result Asked Refusal → Type 0
+AsksForItems name word query (Ok (Request subject observer items)) = SaysObserver word observer × SaysItems query items × IsName name × (subject ≡ name)
+AsksForItems name word query (Err causes.Observer) = (observer : ObserverId) → SaysObserver word observer → ⊥
+AsksForItems name word query (Err causes.Items) = ((observer : ObserverId) × SaysObserver word observer) × ((items : ℕ) → SaysItems query items → ⊥)
+AsksForItems name word query (Err causes.Subject) =
+    ((observer : ObserverId) × SaysObserver word observer) × ((items : ℕ) × SaysItems query items) × (IsName name → ⊥)
+AsksForItems name word query other = ⊥
+
+-- the same, where it may be that a page of another site asks for it
+abbrev pub AsksForRequest : List ℕ → List ℕ → List ℕ → Bool → Result Asked Refusal → Type 0
+AsksForRequest name word query foreign result = MatchBool foreign (result ≡ Err causes.Origin) (AsksForItems name word query result)
+
+-- where a method and a path lead: to the events of the subject of a name, to the emission of a note there, to items for the observer of a
+-- word there, to whether all is well, to what is seen of the server, or nowhere
 pub data Route : Type 0 where
   ToEvents : (name : List ℕ) → Route
+  ToEmission : (name : List ℕ) (kind : NoteKind) → Route
+  ToRequest : (name word : List ℕ) → Route
   ToHealth : Route
+  ToLook : (form : LookForm) → Route
   Nowhere : (cause : Refusal) → Route
+
+-- the route of a POST, by what stands behind the path of the subjects: the subject's name, and what is said to it, or an observer
+abbrev pub post_route : List ℕ → Route
+post_route rest =
+    if same_word (cut_at 47 rest).1 (codes "end") then ToEmission (cut_at 47 rest).0 Completed
+    else if same_word (cut_at 47 rest).1 (codes "fail") then ToEmission (cut_at 47 rest).0 Failed
+    else if begins_with (cut_at 47 rest).1 (codes "observers/") then ToRequest (cut_at 47 rest).0 (rest_behind (cut_at 47 rest).1 (codes "observers/"))
+    else ToEmission rest Next
+
+-- the route to a subject, by its methods
+abbrev pub subject_route : List ℕ → List ℕ → Route
+subject_route method rest =
+    if same_word method (codes "GET") then ToEvents rest else if same_word method (codes "POST") then post_route rest else Nowhere causes.Method
 
 -- a route that GET alone takes
 abbrev pub by_get : List ℕ → Route → Route
-by_get method route = if same_word method (codes "GET") then route else Nowhere causes.Method
+by_get method route = if same_word method (codes "GET") then route else Nowhere causes.OnlyGet
+
+-- how who looks by this path is told what is seen; nobody looks by another
+abbrev pub form_of : List ℕ → Option LookForm
+form_of path =
+    if same_word path (codes "/stats") then Some Stats
+    else if same_word path (codes "/metrics") then Some Metrics
+    else if same_word path (codes "/stats.txt") then Some Lines
+    else if same_word path (codes "/") then Some Page
+    else None
+
+-- the route of who looks, or another one
+abbrev pub look_route : List ℕ → Option LookForm → Route → Route
+look_route method None other = other
+look_route method (Some form) other = by_get method (ToLook form)
 
 -- the route of a method and a path; a path leads nowhere before a method does
 abbrev pub route_of : List ℕ → List ℕ → Route
 route_of method path =
     if same_word path (codes "/healthz") then by_get method ToHealth
-    else if begins_with path (codes "/subjects/") then by_get method (ToEvents (rest_behind path (codes "/subjects/")))
-    else Nowhere causes.Path
+    else look_route method (form_of path)
+    (if begins_with path (codes "/subjects/") then subject_route method (rest_behind path (codes "/subjects/")) else Nowhere causes.Path)
 
 -- what is asked for at the end of a route, or the cause for which it is refused
-abbrev pub AsksAt : Route → List ℕ → Option (List ℕ) → Result Asked Refusal → Type 0
-AsksAt (ToEvents name) query field result = AsksForEvents name query field result
-AsksAt ToHealth query field result = result ≡ Ok Health
-AsksAt (Nowhere cause) query field result = result ≡ Err cause
+abbrev pub AsksAt : Route → List ℕ → Option (List ℕ) → Bool → Option ℕ → Result Asked Refusal → Type 0
+AsksAt (ToEvents name) query field foreign size result = AsksForEvents name query field result
+AsksAt (ToEmission name kind) query field foreign size result = AsksForEmission name kind foreign size result
+AsksAt (ToRequest name word) query field foreign size result = AsksForRequest name word query foreign result
+AsksAt ToHealth query field foreign size result = result ≡ Ok Health
+AsksAt (ToLook form) query field foreign size result = result ≡ Ok (Look form)
+AsksAt (Nowhere cause) query field foreign size result = result ≡ Err cause
 
--- what a method, a target and a field ask for
-abbrev pub AsksFor : List ℕ → List ℕ → Option (List ℕ) → Result Asked Refusal → Type 0
-AsksFor method target field result = AsksAt (route_of method (path_of target)) (query_of target) field result
+-- what a method, a target and a field ask for, by whether a page of another site sent them and by the size of their body
+abbrev pub AsksFor : List ℕ → List ℕ → Option (List ℕ) → Bool → Option ℕ → Result Asked Refusal → Type 0
+AsksFor method target field foreign size result = AsksAt (route_of method (path_of target)) (query_of target) field foreign size result
+
+-- the value of the first field of this name, in a head
+abbrev pub said_in : RequestHead → List ℕ → Option (List ℕ)
+said_in head name = field_in name (map name_and_value head.fields)
 
 -- what a head asks for
 abbrev pub HeadAsksFor : RequestHead → Result Asked Refusal → Type 0
-HeadAsksFor head result = AsksFor head.method head.target (field_in (codes "last-event-id") (map name_and_value head.fields)) result
+HeadAsksFor head result =
+    (size : Option ℕ) × HasSize (said_in head (codes "transfer-encoding")) (said_in head (codes "content-length")) size
+    × AsksFor head.method head.target (said_in head (codes "last-event-id")) (is_foreign (said_in head (codes "origin")) (said_in head (codes "host"))) size result
 
 -- a head that is too long: it has more than 8,192 bytes, or more than 32 fields
 abbrev pub IsLongHead : List ℕ → Type 0

@@ -3,6 +3,7 @@ use Rattle.std.specs.Prelude.{ℕ, List, [], ◌++◌, ◌==◌, true, false, if
 use Rattle.std.specs.Str.{is_utf8}
 use Rattle.base64.specs.Engines.{standard}
 use Rattle.base64.specs.GeneralPurpose.{encode_of}
+use Rattle.rx_note.specs.declared.item.Item.{Item}
 use Rattle.rx_http.specs.Ids.{id_bytes, id_of}
 use Rattle.rx_http.specs.Pieces.{Saying, saying_bytes}
 use Rattle.rx_http.specs.declared.stream_event.StreamEvent.{StreamEvent}
@@ -20,10 +21,18 @@ text_by text = if is_utf8 text then text else encode_of standard text
 abbrev pub item_id : List ℕ → ℕ → Option (List ℕ)
 item_id epoch place = if place == 4294967295 then None else Some (id_bytes epoch (Some place) false)
 
+-- what an item says in an epoch
+abbrev pub item_saying : List ℕ → Item → Saying
+item_saying epoch item = record { id = item_id epoch item.place; kind = kind_by (codes "next") item.text; text = text_by item.text }
+
+-- the bytes of the event of an item
+abbrev pub item_bytes : List ℕ → Item → List ℕ
+item_bytes epoch item = saying_bytes (item_saying epoch item)
+
 -- what an event says in an epoch
 abbrev pub saying_of : List ℕ → StreamEvent → Saying
 saying_of epoch (Joined who known) = record { id = Some (id_bytes epoch known false); kind = codes "joined"; text = id_bytes epoch (Some who) false }
-saying_of epoch (Next item) = record { id = item_id epoch item.now.place; kind = kind_by (codes "next") item.now.text; text = text_by item.now.text }
+saying_of epoch (Next item) = item_saying epoch item.now
 saying_of epoch (Missed count last) = record { id = Some (id_bytes epoch (Some last) false); kind = codes "missed"; text = decimal count }
 saying_of epoch (Restarted sent) = record { id = Some (id_bytes epoch None false); kind = codes "restarted"; text = id_of sent.now }
 saying_of epoch (Completed known) = record { id = Some (id_bytes epoch known true); kind = codes "done"; text = [] }

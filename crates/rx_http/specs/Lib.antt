@@ -2,6 +2,7 @@ pub mod Accounts
 pub mod Answers
 pub mod Asking
 pub mod Begins
+pub mod Bodies
 pub mod Epochs
 pub mod Events
 pub mod Examples

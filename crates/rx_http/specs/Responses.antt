@@ -2,13 +2,17 @@
 --
 -- Answers are read: by the grammar of heads each answer is a head with just its status and its fields, behind which stands
 -- its body; an answer with a body tells its length.
-use Rattle.std.specs.Prelude.{ℕ, List, [], ◌∷◌, length, Some, codes, decimal}
+use Rattle.std.specs.Prelude.{◌^◌, ◌<◌, ℕ, List, [], ◌∷◌, length, Some, codes, decimal}
 use Rattle.httparse.specs.Grammar.{Field, ResponseHead, ReadsResponse, crlf}
-use Rattle.rx_http.specs.Answers.{answer_bytes, plain_kind, refusal_body}
+use Rattle.rx_http.specs.Epochs.{IsEpoch}
+use Rattle.rx_http.specs.Laws.{IsPlace}
+use Rattle.rx_http.specs.Answers.{accepted_body, answer_bytes, look_kind, plain_kind, refusal_body}
 use Rattle.rx_http.specs.declared.answer.Answer.{Answer}
-use Rattle.rx_http.specs.declared.answer.Answer.TheVariants.{Events, Over, Well, Unwell, Refused}
+use Rattle.rx_http.specs.declared.answer.Answer.TheVariants.{Events, Over, Well, Unwell, Accepted, Requested, Shown, Refused}
+use Rattle.rx_http.specs.declared.request.look_form.LookForm.{LookForm}
+use Rattle.rx_http.specs.declared.request.look_form.LookForm.TheVariants.{Stats, Metrics, Lines, Page}
 use Rattle.rx_http.specs.declared.answer.refusal.Refusal.{Refusal}
-use Rattle.rx_http.specs.declared.answer.refusal.Refusal.TheVariants.{Head, Word, LastEventId, Subject, Path, Method, Spent, LongHead, Gone, Full, Stopping, Memory}
+use Rattle.rx_http.specs.declared.answer.refusal.Refusal.TheVariants.{Head, Word, LastEventId, Lf, Items, Origin, ReadOnly, Subject, Path, Observer, Method, OnlyGet, Length, Long, Ended, Spent, LongHead, Gone, Full, Stopping, Memory}
 
 -- a field of an answer
 abbrev pub field : List ℕ → List ℕ → Field
@@ -36,15 +40,31 @@ abbrev pub refusal_head : Refusal → ResponseHead
 refusal_head Head = refused (codes "400") (codes "Bad Request") [] Head
 refusal_head Word = refused (codes "400") (codes "Bad Request") [] Word
 refusal_head LastEventId = refused (codes "400") (codes "Bad Request") [] LastEventId
+refusal_head Lf = refused (codes "400") (codes "Bad Request") [] Lf
+refusal_head Items = refused (codes "400") (codes "Bad Request") [] Items
+refusal_head Origin = refused (codes "403") (codes "Forbidden") [] Origin
+refusal_head ReadOnly = refused (codes "403") (codes "Forbidden") [] ReadOnly
 refusal_head Subject = refused (codes "404") (codes "Not Found") [] Subject
 refusal_head Path = refused (codes "404") (codes "Not Found") [] Path
-refusal_head Method = refused (codes "405") (codes "Method Not Allowed") (field (codes "Allow") (codes "GET") ∷ []) Method
+refusal_head Observer = refused (codes "404") (codes "Not Found") [] Observer
+refusal_head Method = refused (codes "405") (codes "Method Not Allowed") (field (codes "Allow") (codes "GET, POST") ∷ []) Method
+refusal_head OnlyGet = refused (codes "405") (codes "Method Not Allowed") (field (codes "Allow") (codes "GET") ∷ []) OnlyGet
+refusal_head Length = refused (codes "411") (codes "Length Required") [] Length
+refusal_head Long = refused (codes "413") (codes "Content Too Large") [] Long
 refusal_head LongHead = refused (codes "431") (codes "Request Header Fields Too Large") [] LongHead
+refusal_head Ended = refused (codes "409") (codes "Conflict") [] Ended
 refusal_head Spent = refused (codes "409") (codes "Conflict") [] Spent
 refusal_head Gone = refused (codes "500") (codes "Internal Server Error") [] Gone
 refusal_head Full = refused (codes "503") (codes "Service Unavailable") (field (codes "Retry-After") (codes "5") ∷ []) Full
 refusal_head Stopping = refused (codes "503") (codes "Service Unavailable") (field (codes "Retry-After") (codes "2") ∷ []) Stopping
 refusal_head Memory = refused (codes "507") (codes "Insufficient Storage") [] Memory
+
+-- the fields that the answer to who looks has besides
+abbrev pub shown_fields : LookForm → List Field
+shown_fields Stats = []
+shown_fields Metrics = []
+shown_fields Lines = []
+shown_fields Page = field (codes "Content-Security-Policy") (codes "frame-ancestors 'none'") ∷ []
 
 -- the fields before a stream of events
 abbrev pub events_fields : List Field
@@ -59,6 +79,9 @@ head_of Events = head (codes "200") (codes "OK") events_fields
 head_of Over = head (codes "204") (codes "No Content") (kept_nowhere [])
 head_of Well = head_with (codes "200") (codes "OK") plain_kind [] (codes "ok\n")
 head_of Unwell = head_with (codes "503") (codes "Service Unavailable") plain_kind [] (codes "unwell\n")
+head_of (Accepted epoch place) = head_with (codes "200") (codes "OK") (codes "application/json") [] (accepted_body epoch place)
+head_of Requested = head (codes "204") (codes "No Content") (kept_nowhere [])
+head_of (Shown form body) = head_with (codes "200") (codes "OK") (look_kind form) (shown_fields form) body
 head_of (Refused refusal) = refusal_head refusal
 
 -- its body, where that does not go on to the end of the connection
@@ -67,8 +90,22 @@ body_of Events = []
 body_of Over = []
 body_of Well = codes "ok\n"
 body_of Unwell = codes "unwell\n"
+body_of (Accepted epoch place) = accepted_body epoch place
+body_of Requested = []
+body_of (Shown form body) = body
 body_of (Refused refusal) = refusal_body refusal
+
+-- an answer that there is: its epoch is one, its place has 32 bits, and its body less than 4 GiB
+abbrev pub IsAnswer : Answer → Type 0
+IsAnswer Events = Unit {0}
+IsAnswer Over = Unit {0}
+IsAnswer Well = Unit {0}
+IsAnswer Unwell = Unit {0}
+IsAnswer (Accepted epoch place) = IsEpoch epoch × IsPlace place
+IsAnswer Requested = Unit {0}
+IsAnswer (Shown form body) = length body < 2 ^ 32
+IsAnswer (Refused refusal) = Unit {0}
 
 -- THE LAW: by the grammar each answer is read as this head, and behind it stands this body
 abbrev pub AnswersAreRead : Type 0
-AnswersAreRead = (answer : Answer) → ReadsResponse (answer_bytes answer) (head_of answer) (body_of answer)
+AnswersAreRead = (answer : Answer) → IsAnswer answer → ReadsResponse (answer_bytes answer) (head_of answer) (body_of answer)

@@ -1,5 +1,5 @@
 -- The words of a query, each as it is written. The rules are this project's own.
-use Rattle.std.specs.Prelude.{◌≡◌, ◌<◌, ◌≤◌, ◌^◌, ℕ, List, [], ◌++◌, true, Option, None, Some, codes, decimal}
+use Rattle.std.specs.Prelude.{◌≡◌, ◌<◌, ◌≤◌, ◌^◌, ℕ, List, [], ◌++◌, Bool, true, false, Option, None, Some, codes, decimal}
 use Rattle.rx_note.specs.Choices.{Choice, is_in_limits}
 use Rattle.rx_note.specs.declared.strategy.Strategy.{Strategy}
 use Rattle.rx_note.specs.declared.strategy.Strategy.TheVariants.{Buffer, Drop, Latest, Bounded}
@@ -10,6 +10,8 @@ use Rattle.rx_http.specs.Ids.{id_of}
 use Rattle.rx_http.specs.Laws.{IsPlace}
 use Rattle.rx_http.specs.Queries.{word_in}
 use Rattle.rx_http.specs.declared.id.Id.{Id}
+use Rattle.rx_http.specs.declared.request.credit.Credit.{Credit}
+use Rattle.rx_http.specs.declared.request.observer_id.ObserverId.{ObserverId}
 
 -- what was read of some bytes: the one that is written so, or that none is
 abbrev pub IsReadOf : {T : Type 0} → (T → Type 0) → (T → List ℕ) → List ℕ → Option T → Type 0
@@ -25,11 +27,11 @@ abbrev pub IsRoom : ℕ → Type 0
 IsRoom n = n < 2 ^ 16
 
 -- a strategy with such a room
-abbrev pub HasRoom : Strategy → Type 0
-HasRoom Buffer = Unit {0}
-HasRoom (Drop room) = IsRoom room
-HasRoom (Latest room) = IsRoom room
-HasRoom (Bounded room) = IsRoom room
+abbrev pub HasShortRoom : Strategy → Type 0
+HasShortRoom Buffer = Unit {0}
+HasShortRoom (Drop room) = IsRoom room
+HasShortRoom (Latest room) = IsRoom room
+HasShortRoom (Bounded room) = IsRoom room
 
 -- a strategy: its name, directly followed by its room
 abbrev pub strategy_word : Strategy → List ℕ
@@ -62,6 +64,24 @@ pub record HasWindow (query : List ℕ) (window : ℕ) : Type 0 where
   pub limits : IsWindow window
   pub word : word_in (codes "window=") (codes "16") query ≡ decimal window
 
+-- who asks for the items of a reader: it does itself, or its socket does as it takes them
+abbrev pub credit_word : Bool → List ℕ
+credit_word true = codes "asked"
+credit_word false = codes "socket"
+
+-- any of the two
+abbrev pub IsAsking : Bool → Type 0
+IsAsking asked = Unit {0}
+
+-- a credit that the words of a query say: by the socket where it has none
+pub record HasCredit (query : List ℕ) (credit : Credit) : Type 0 where
+  pub window : HasWindow query credit.window
+  pub asked : word_in (codes "credit=") (codes "socket") query ≡ credit_word credit.asked
+
+-- how many items a query asks for: one where it says nothing
+abbrev pub items_word : List ℕ → List ℕ
+items_word query = word_in (codes "request=") (codes "1") query
+
 -- what was found: one of these, or that there is none
 abbrev pub IsFound : {T : Type 0} → (T → Type 0) → Option T → Type 0
 IsFound Is None = (x : _) → Is x → ⊥
@@ -70,6 +90,16 @@ IsFound Is (Some x) = Is x
 -- an id that a server tells: its epoch is one, and its place has 32 bits
 abbrev pub IsId : Id → Type 0
 IsId id = IsEpoch id.epoch × IsPlace id.place
+
+-- an observer, by its epoch and its number: it is written as the id is whose place is that number
+abbrev pub observer_id : ObserverId → Id
+observer_id observer = record { epoch = observer.epoch; place = Some observer.who; over = false }
+
+abbrev pub IsObserver : ObserverId → Type 0
+IsObserver observer = IsId (observer_id observer)
+
+abbrev pub observer_word : ObserverId → List ℕ
+observer_word observer = id_of (observer_id observer)
 
 -- what a reader says that it knows: nothing, where its word is empty, or by an id
 abbrev pub SaysKnown : List ℕ → Option Id → Type 0

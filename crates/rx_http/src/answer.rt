@@ -1,10 +1,11 @@
+pub(crate) mod document;
 pub(crate) mod refusal;
 pub(crate) mod written_answer;
 
-use crate::Refusal;
+use crate::{Document, Epoch, LookForm, Refusal};
 
 /// What a request is answered.
-#[derive(Clone, Copy, Debug, PartialEq, Eq)]
+#[derive(Drop)]
 pub enum Answer {
     /// The events of a subject follow, to the end of the connection.
     Events,
@@ -14,6 +15,20 @@ pub enum Answer {
     Well,
     /// The server stops, or a thread of it is gone.
     Unwell,
+    /// An emission was accepted.
+    Accepted {
+        /// The epoch of this start of the server.
+        epoch: Epoch,
+        /// The place of the item; none where its subject ended by it.
+        place: Option<u32>,
+    },
+    /// The observer is owed the items that were asked for.
+    Requested,
+    /// What is seen of the server.
+    Shown {
+        form: LookForm,
+        body: Document,
+    },
     /// It is refused.
     Refused(Refusal),
 }

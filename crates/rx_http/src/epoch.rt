@@ -41,6 +41,16 @@ impl Epoch {
         Some(Epoch { bytes: held, len })
     }
 
+    /// The same.
+    pub fn copy(&self) -> Epoch
+        ensures { result ≡ self.now }
+    {
+        Epoch {
+            bytes: self.bytes,
+            len: self.len,
+        }
+    }
+
     /// Its bytes.
     pub fn as_bytes(&self) -> &[u8]
         ensures bytes { result.now ≡ self.now }

@@ -8,9 +8,9 @@ ghost use Rattle.rx_http.specs.Heads.{HeadIsTheSame};
 ghost use Rattle.rx_http.specs.Examples.{AreReadAsTold};
 ghost use Rattle.rx_http.specs.Laws.{CutStreamIsAFront, IsEvent, IsPlace, StreamIsReadBack, StreamIsUtf8};
 ghost use Rattle.rx_http.specs.Resuming.{HeardAreItems, ReaderGoesOn};
-ghost use Rattle.rx_http.specs.Responses.{AnswersAreRead};
+ghost use Rattle.rx_http.specs.Responses.{AnswersAreRead, IsAnswer};
 
-use crate::{Epoch, StreamEvent};
+use crate::{Answer, Epoch, StreamEvent};
 
 /// The standard's own examples are read as it says.
 pub fn examples_are_read_as_told()
@@ -94,6 +94,27 @@ pub fn event_can_be_told(epoch: &Epoch, event: StreamEvent<'_>)
             let _ = text.as_bytes();
             look(known);
         }
+    }
+}
+
+/// The law of answers speaks of each answer that there is.
+pub fn answer_can_be_told(answer: &Answer)
+    ensures { IsAnswer answer.now }
+{
+    match answer {
+        Answer::Accepted { epoch, place } => {
+            let _ = epoch.as_bytes();
+            look(*place);
+        }
+        Answer::Shown { form: _, body } => {
+            let _ = body.as_bytes();
+        }
+        Answer::Events
+        | Answer::Over
+        | Answer::Well
+        | Answer::Unwell
+        | Answer::Requested
+        | Answer::Refused(_) => {}
     }
 }
 

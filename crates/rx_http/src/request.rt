@@ -1,33 +1,43 @@
 // What a head asks for, or the first cause for which it is refused.
-ghost use Rattle.std.specs.Prelude.{◌≡◌, All, length, map, option_map};
+ghost use Rattle.std.specs.Prelude.{◌≡◌, All, Err, List, MatchBool, Ok, Option, ℕ, length, map, option_map};
 ghost use Rattle.std.specs.Str.{str_to_ascii_lowercase};
 ghost use Rattle.httparse.specs.Grammar.{RequestHead};
 ghost use Rattle.httparse.specs.Spans.{IsHeaderWithin, header_bytes};
-ghost use Rattle.rx_http.specs.Asking.{AsksFor, AsksForEvents, HeadAsksFor, IsHead, IsReadOfHead, field_in, known_word};
+ghost use Rattle.rx_http.specs.Asking.{AsksAt, AsksFor, AsksForEmission, AsksForEvents, AsksForRequest, HeadAsksFor, IsHead, IsReadOfHead, field_in, form_of, known_word, post_route, subject_route};
 ghost use Rattle.rx_http.specs.Words.{IsFound, SaysKnown};
 
 pub(crate) mod asked;
 pub(crate) mod begin;
+pub(crate) mod body;
+pub(crate) mod credit;
+pub(crate) mod look_form;
+pub(crate) mod note_kind;
+pub(crate) mod observer_id;
 pub(crate) mod policy_words;
 pub(crate) mod query;
 pub(crate) mod word;
 
 use crate::parts::cut;
-use crate::request::policy_words::{policy_of, window_of};
+use crate::request::body::{is_foreign, size_of_body};
+use crate::request::policy_words::{credit_of, items_of, policy_of};
 use crate::request::query::word_of;
-use crate::{Asked, Id, Refusal};
+use crate::{Asked, Id, LookForm, NoteKind, ObserverId, Refusal};
 use httparse::spans::{EMPTY_HEADER_SPAN, HeaderSpan, parse_request};
 use httparse::{Error, Status};
 use rx_proto::Name;
 
-/// The most bytes that a head has.
+/// The most bytes that a head has, and a head with its body.
 pub const MAX_HEAD: usize = 8192;
 
 // The most fields that a head has.
 const MAX_FIELDS: usize = 32;
 
+// The most bytes that a text has.
+const MAX_TEXT: u32 = 1024;
+
 /// What a head asks for: all bytes of a request up to and with its first empty line. It takes no memory. Refused in the order
-/// `LongHead`, `Head`, `Path`, `Method`, `Word`, `LastEventId`, `Subject`.
+/// `LongHead`, `Head`, `Path`, `OnlyGet` or `Method`; then for events `Word`, `LastEventId`, `Subject`, for an emission `Origin`,
+/// `Length`, `Long`, `Subject`, and for items of an observer `Origin`, `Observer`, `Items`, `Subject`.
 pub fn read_request(head: &[u8]) -> Result<Asked, Refusal>
     ensures read { IsReadOfHead head.now result }
     ensures whole { (request : RequestHead) → IsHead head.now request → HeadAsksFor request result }
@@ -41,8 +51,18 @@ pub fn read_request(head: &[u8]) -> Result<Asked, Refusal>
             if parts.len < head.len() {
                 return Err(Refusal::Head);
             }
-            let known = field_in(head, &fields[..parts.headers], b"last-event-id");
-            asked_for(parts.method.of(head), parts.path.of(head), known)
+            let fields = &fields[..parts.headers];
+            let known = field_in(head, fields, b"last-event-id");
+            let is_foreign = is_foreign(
+                field_in(head, fields, b"origin"),
+                field_in(head, fields, b"host"),
+            );
+            let size = size_of_body(
+                field_in(head, fields, b"transfer-encoding"),
+                field_in(head, fields, b"content-length"),
+            );
+            let target = parts.path.of(head);
+            asked_for(parts.method.of(head), target, known, is_foreign, size)
         }
         Ok(Status::Partial) => Err(Refusal::Head),
         Err(Error::TooManyHeaders) => Err(Refusal::LongHead),
@@ -64,23 +84,151 @@ fn field_in<'a>(head: &'a [u8], fields: &[HeaderSpan], name: &[u8]) -> Option<&'
     None
 }
 
-// What a method, a target and the field of an id ask for.
-fn asked_for(method: &[u8], target: &[u8], known: Option<&[u8]>) -> Result<Asked, Refusal>
-    ensures { AsksFor method.now target.now (option_map (λ word. word.now) known.entry) result }
+// What a method, a target and the field of an id ask for, and what is said of who sent them and of the size of their body.
+fn asked_for(
+    method: &[u8],
+    target: &[u8],
+    known: Option<&[u8]>,
+    is_foreign: bool,
+    size: Option<u32>,
+) -> Result<Asked, Refusal>
+    ensures { AsksFor method.now target.now (option_map (λ word. word.now) known.entry) is_foreign size result }
 {
     let (path, query) = cut(target, b'?');
     let is_get = method == b"GET".as_slice();
     if path == b"/healthz".as_slice() {
-        return if is_get {
-            Ok(Asked::Health)
-        } else {
-            Err(Refusal::Method)
-        };
+        return by_get(is_get, Asked::Health);
+    }
+    if let Some(form) = form_of(path) {
+        return by_get(is_get, Asked::Look(form));
     }
     match path.strip_prefix(b"/subjects/".as_slice()) {
-        Some(name) if is_get => events_asked_for(name, query, known),
-        Some(_) => Err(Refusal::Method),
+        Some(rest) => subject_asked_for(method, rest, query, known, is_foreign, size),
         None => Err(Refusal::Path),
+    }
+}
+
+// What a method asks for at this path below the subjects.
+fn subject_asked_for(
+    method: &[u8],
+    rest: &[u8],
+    query: &[u8],
+    known: Option<&[u8]>,
+    is_foreign: bool,
+    size: Option<u32>,
+) -> Result<Asked, Refusal>
+    ensures { AsksAt (subject_route method.now rest.now) query.now (option_map (λ word. word.now) known.entry) is_foreign size result }
+{
+    if method == b"GET".as_slice() {
+        events_asked_for(rest, query, known)
+    } else if method == b"POST".as_slice() {
+        post_asked_for(rest, query, is_foreign, size)
+    } else {
+        Err(Refusal::Method)
+    }
+}
+
+// How who looks by this path is told what is seen; None where nobody looks by it.
+fn form_of(path: &[u8]) -> Option<LookForm>
+    ensures { result ≡ form_of path.now }
+{
+    if path == b"/stats".as_slice() {
+        Some(LookForm::Stats)
+    } else if path == b"/metrics".as_slice() {
+        Some(LookForm::Metrics)
+    } else if path == b"/stats.txt".as_slice() {
+        Some(LookForm::Lines)
+    } else if path == b"/".as_slice() {
+        Some(LookForm::Page)
+    } else {
+        None
+    }
+}
+
+// What is asked for where GET alone is served.
+fn by_get(is_get: bool, asked: Asked) -> Result<Asked, Refusal>
+    ensures { MatchBool is_get (result ≡ Ok asked) (result ≡ Err Refusal.OnlyGet) }
+{
+    if is_get {
+        Ok(asked)
+    } else {
+        Err(Refusal::OnlyGet)
+    }
+}
+
+// What is asked for by a POST at this path below the subjects: items for an observer, or an emission.
+fn post_asked_for(
+    rest: &[u8],
+    query: &[u8],
+    is_foreign: bool,
+    size: Option<u32>,
+) -> Result<Asked, Refusal>
+    ensures { (field : Option (List ℕ)) → AsksAt (post_route rest.now) query.now field is_foreign size result }
+{
+    let (name, end) = cut(rest, b'/');
+    if end == b"end".as_slice() {
+        emission_of(name, NoteKind::Completed, is_foreign, size)
+    } else if end == b"fail".as_slice() {
+        emission_of(name, NoteKind::Failed, is_foreign, size)
+    } else if let Some(word) = end.strip_prefix(b"observers/".as_slice()) {
+        request_of(name, word, query, is_foreign)
+    } else {
+        emission_of(rest, NoteKind::Next, is_foreign, size)
+    }
+}
+
+// The emission of a note at the subject of this name, with a body of this size.
+fn emission_of(
+    name: &[u8],
+    kind: NoteKind,
+    is_foreign: bool,
+    size: Option<u32>,
+) -> Result<Asked, Refusal>
+    ensures { AsksForEmission name.now kind is_foreign size result }
+{
+    if is_foreign {
+        return Err(Refusal::Origin);
+    }
+    let Some(size) = size else {
+        return Err(Refusal::Length);
+    };
+    if size > MAX_TEXT {
+        return Err(Refusal::Long);
+    }
+    match Name::new(name) {
+        Some(subject) => {
+            Ok(Asked::Emission {
+                subject,
+                kind,
+                size,
+            })
+        }
+        None => Err(Refusal::Subject),
+    }
+}
+
+// The request of items for the observer of this word at the subject of this name.
+fn request_of(name: &[u8], word: &[u8], query: &[u8], is_foreign: bool) -> Result<Asked, Refusal>
+    ensures { AsksForRequest name.now word.now query.now is_foreign result }
+{
+    if is_foreign {
+        return Err(Refusal::Origin);
+    }
+    let Some(observer) = ObserverId::read(word) else {
+        return Err(Refusal::Observer);
+    };
+    let Some(items) = items_of(query) else {
+        return Err(Refusal::Items);
+    };
+    match Name::new(name) {
+        Some(subject) => {
+            Ok(Asked::Request {
+                subject,
+                observer,
+                items,
+            })
+        }
+        None => Err(Refusal::Subject),
     }
 }
 
@@ -88,7 +236,7 @@ fn asked_for(method: &[u8], target: &[u8], known: Option<&[u8]>) -> Result<Asked
 fn events_asked_for(name: &[u8], query: &[u8], known: Option<&[u8]>) -> Result<Asked, Refusal>
     ensures { AsksForEvents name.now query.now (option_map (λ word. word.now) known.entry) result }
 {
-    let (Some(policy), Some(window)) = (policy_of(query), window_of(query)) else {
+    let (Some(policy), Some(credit)) = (policy_of(query), credit_of(query)) else {
         return Err(Refusal::Word);
     };
     let Some(known) = known_in(query, known) else {
@@ -99,7 +247,7 @@ fn events_asked_for(name: &[u8], query: &[u8], known: Option<&[u8]>) -> Result<A
             Ok(Asked::Events {
                 subject,
                 policy,
-                window,
+                credit,
                 known,
             })
         }

@@ -7,6 +7,7 @@ pub mod Feeding
 pub mod Idle
 pub mod Joining
 pub mod Leaving
+pub mod Looking
 pub mod Outcomes
 pub mod Places
 pub mod Positions

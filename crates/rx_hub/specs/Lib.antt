@@ -2,6 +2,7 @@ pub mod Audiences
 pub mod Counts
 pub mod Emissions
 pub mod Hubs
+pub mod Looks
 pub mod Multicasts
 pub mod Runs
 pub mod Seats

@@ -14,7 +14,8 @@ ghost use Rattle.rx_hub.specs.declared.subscription.Subscription.{Subscription};
 ghost use Rattle.rx_hub.specs.Subscriptions.{Observer, IsAt, AsksAt, JoinsInto};
 ghost use Rattle.rx_hub.specs.Audiences.{places_of, observers_on, AllOn, Apart, Owned, most_waiting, audience_at_first};
 
-mod emitting;
+mod emitted;
+mod shown;
 
 use crate::seat::Seat;
 use crate::subscription::{Subscription, end_by, put};

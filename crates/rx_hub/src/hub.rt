@@ -1,14 +1,16 @@
 // `Hub::new` reserves the list of observers, so that its `Memory` is met where the list can't be had, and a join grows
 // little.
-ghost use Rattle.std.specs.Prelude.{◌≡◌, ◌≢◌, ◌+◌, ◌-◌, ◌^◌, ◌↔◌, min, Err, false, IfOk, OnErr, if◌then◌else◌, length};
+ghost use Rattle.std.specs.Prelude.{◌≡◌, ◌≢◌, ◌+◌, ◌-◌, ◌≤◌, ◌^◌, ◌↔◌, min, Err, false, IfOk, IsOk, OnErr, OnOk, if◌then◌else◌, length, vec_capacity};
 ghost use Rattle.rx_hub.specs.Counts.{waiting_count};
 ghost use Rattle.rx_hub.specs.Hubs.{is_miss};
-ghost use Rattle.rx_history.specs.Histories.{History, NoEvents, held, joins};
+ghost use Rattle.rx_hub.specs.Looks.{IsSeen};
+ghost use Rattle.rx_history.specs.Histories.{History, NoEvents, held, item_count, joins};
 
 use crate::multicast::Multicast;
 use crate::no_observer::NoObserver;
 use crate::run::Run;
 use crate::step::Step;
+use crate::subject_look::SubjectLook;
 use rx_heap::{Heap, Memory};
 use rx_note::{Answer, Event, Given, Kind, Limits, Refusal};
 use std::error::Error;
@@ -150,12 +152,32 @@ impl Hub {
         self.multicast.joins
     }
 
+    /// How many items were accepted: the place of the next. It takes no memory.
+    #[inline] // asked for every call
+    pub fn items(&self) -> u32
+        ensures count { result ≡ self.now.state.subject.count }
+        ensures items { (H : History) → StandsFor self.now.state H → result ≡ item_count self.now.state.rules H }
+    {
+        self.multicast.subject.items()
+    }
+
     /// How many notes wait for the observer `who`, the terminal included. Refused as `NoObserver` where no observer of
     /// that number is held.
     pub fn waiting_of(&self, who: u32) -> Result<usize, NoObserver>
         ensures { (H : History) → StandsFor self.now.state H → result ≡ waiting_count self.now.state.rules H who }
     {
         self.multicast.waiting_of(who)
+    }
+
+    /// Writes what is seen of the subject and its observers at this moment in place of what was seen before. It takes no memory
+    /// where that has room for a row of each observer. `Memory` where it has not, and there was none: then nothing is seen.
+    pub fn look(&self, seen: &mut SubjectLook) -> Result<(), Memory>
+        ensures seen { OnOk result ((H : History) → StandsFor self.now.state H → IsSeen self.now.state.rules H seen.new) }
+        ensures misses { seen.new.misses ≡ self.now.misses }
+        ensures room { length self.now.state.observers ≤ vec_capacity seen.old.observers → IsOk result }
+    {
+        seen.misses = self.misses;
+        self.multicast.look(seen)
     }
 
     /// How many of its steps were answered Memory; it stays at its greatest value.

@@ -1,18 +1,21 @@
 // A hub's tape has no more items than the most that wait for one observer, or are kept for joiners. That is a fact of the
 // private type `Multicast`, after each step; it rests on every cursor of the tape being that of a seat.
-ghost use Rattle.std.specs.Prelude.{◌≡◌, ◌<◌, ◌≤◌, ◌^◌, ℕ, List, true, max, length, IfOk};
+ghost use Rattle.std.specs.Prelude.{◌≡◌, ◌<◌, ◌≤◌, ◌^◌, ℕ, List, true, max, length, vec_capacity, IfOk, IsOk, OnOk};
 ghost use Rattle.rx_note.specs.declared.event.Event.TheVariants.{Emit, Join, Request, Dispose};
 ghost use Rattle.rx_note.specs.declared.given.Given.{Given};
 ghost use Rattle.rx_history.specs.Histories.{History, has_room};
 ghost use Rattle.rx_subject.specs.Subjects.{HasPlace};
 ghost use Rattle.rx_hub.specs.Hubs.{StandsFor, Takes};
 ghost use Rattle.rx_hub.specs.Counts.{waiting_count};
+ghost use Rattle.rx_hub.specs.Looks.{IsSeen};
 ghost use Rattle.rx_hub.specs.Audiences.{most_waiting};
 ghost use Rattle.rx_hub.specs.States.{state_by, IsOfHistory};
 
 use crate::audience::Audience;
 use crate::emission::Emission;
 use crate::no_observer::NoObserver;
+use crate::subject_end::SubjectEnd;
+use crate::subject_look::SubjectLook;
 use rx_heap::{Heap, Memory};
 use rx_lane::{AskError, Joiner};
 use rx_note::{Answer, Event, Given, Kind, Limits, Note, Policy, Refusal};
@@ -97,6 +100,21 @@ impl Multicast {
             return Err(NoObserver);
         };
         Ok(self.audience.waiting_notes(place))
+    }
+
+    /// Writes what is seen of it in place of what was seen before. It counts no Memory answers. `Memory` where there was none for
+    /// the rows.
+    pub(crate) fn look(&self, seen: &mut SubjectLook) -> Result<(), Memory>
+        ensures seen { OnOk result ((H : History) → StandsFor (state_of self.now) H → IsSeen (state_of self.now).rules H seen.new) }
+        ensures room { length self.now.audience.observers ≤ vec_capacity seen.old.observers → IsOk result }
+        ensures misses { seen.new.misses ≡ seen.old.misses }
+    {
+        self.audience.show(&mut seen.observers)?;
+        seen.items = self.subject.items();
+        seen.end = SubjectEnd::of(self.subject.end());
+        seen.joins = self.joins;
+        seen.bytes = self.audience.bytes();
+        Ok(())
     }
 
     // A note is emitted from a port.

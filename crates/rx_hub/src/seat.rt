@@ -9,7 +9,7 @@ ghost use Rattle.rx_note.specs.Signals.{Signals, Offered, Ended, waiting};
 ghost use Rattle.rx_history.specs.Histories.{addressed};
 ghost use Rattle.rx_tape.specs.Tapes.{TapeState, place_of, waits};
 ghost use Rattle.rx_lane.specs.Lanes.{StandsFor, HasRoomFor};
-ghost use Rattle.rx_lane.specs.Queues.{HasRoom};
+ghost use Rattle.rx_lane.specs.Queues.{NeedsNoMemory};
 ghost use Rattle.rx_lane.specs.TapeLanes.{HoldsSame};
 ghost use Rattle.rx_hub.specs.declared.seat.Seat.TheVariants.{Own};
 ghost use Rattle.rx_hub.specs.Seats.{HoldsCopy, given_now, overflows_at};
@@ -18,7 +18,7 @@ ghost use Rattle.rx_hub.specs.Subscriptions.{Serves, BeginsInto};
 use crate::subscription::put;
 use rx_heap::{Heap, Memory};
 use rx_lane::{Joiner, Lane, TapeLane};
-use rx_note::{Given, Item, Note, Strategy};
+use rx_note::{Errors, Given, Item, Note, Strategy};
 use rx_tape::Tape;
 
 /// Where what waits for an observer stands.
@@ -65,6 +65,36 @@ impl Seat {
         }
     }
 
+    /// By which strategy its observer joined.
+    pub(crate) fn strategy(&self) -> Strategy
+        ensures { (items : List Item) → result ≡ (lane_of items self.now).policy.strategy }
+    {
+        match self {
+            Seat::Shared(lane) => lane.strategy(),
+            Seat::Own(lane) => lane.strategy(),
+        }
+    }
+
+    /// By which error mode.
+    pub(crate) fn errors(&self) -> Errors
+        ensures { (items : List Item) → result ≡ (lane_of items self.now).policy.errors }
+    {
+        match self {
+            Seat::Shared(lane) => lane.errors(),
+            Seat::Own(lane) => lane.errors(),
+        }
+    }
+
+    /// How many items its observer may be given before it requests more, whether or not it has ended.
+    pub(crate) fn owing(&self) -> u32
+        ensures { (items : List Item) → result ≡ (lane_of items self.now).owing }
+    {
+        match self {
+            Seat::Shared(lane) => lane.owed(),
+            Seat::Own(lane) => lane.owed(),
+        }
+    }
+
     /// How many items are given at once that are offered: as many as are owed, and none once it has ended.
     pub(crate) fn owed(&self) -> u32
         ensures { result ≡ owing_of self.now }
@@ -90,7 +120,8 @@ impl Seat {
 
     /// How many notes wait: the items, and the terminal where one waits behind them.
     pub(crate) fn waiting_notes(&self) -> usize
-        ensures { (tape : TapeState) (s : Signals) → Stands tape false self.now → StandsFor (lane_of tape.items self.now) s → result ≡ length (waiting s) }
+        ensures state { (tape : TapeState) → Stands tape false self.now → result ≡ length (lane_of tape.items self.now).items + length (lane_of tape.items self.now).last }
+        ensures waiting { (tape : TapeState) (s : Signals) → Stands tape false self.now → StandsFor (lane_of tape.items self.now) s → result ≡ length (waiting s) }
     {
         match self {
             Seat::Shared(lane) => lane.waiting_notes(),
@@ -211,7 +242,7 @@ fn own_lane(
     outs: &mut Vec<Given, Heap>,
 ) -> Result<Lane, Memory>
     requires there { back ≤ length tape.now.items }
-    requires needs_no_room { (count spare : ℕ) → HasRoom joiner.policy.strategy count spare }
+    requires needs_no_room { (count spare : ℕ) → NeedsNoMemory joiner.policy.strategy count spare }
     ensures err { OnErr result (outs.new.items ≡ outs.old.items) }
     ensures begins { IfOk result (λ lane. BeginsInto lane.state joiner (map Offered (waits lead tape.now.items back)) outs.old.items outs.new.items) }
     ensures room { IfOk result (λ lane. (count : ℕ) → HasRoomFor lane count) }

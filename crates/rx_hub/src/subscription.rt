@@ -7,8 +7,10 @@ ghost use Rattle.rx_lane.specs.Lanes.{RefusesRequest};
 ghost use Rattle.rx_subject.specs.Offers.{offer_signals, most_given};
 ghost use Rattle.rx_hub.specs.declared.seat.Seat.TheVariants.{Own};
 ghost use Rattle.rx_hub.specs.Seats.{lane_of, cursor_of, Stands, Leaves, IsAlone, TakesMore, HoldsCopy, copy_needed, given_now, needed, owing_of, overflows_at, IsReady, IsIdle, HoldsAside};
+ghost use Rattle.rx_hub.specs.Looks.{row_at};
 ghost use Rattle.rx_hub.specs.Subscriptions.{Serves, Feeds, FeedsInto, AsksInto};
 
+use crate::observer_look::ObserverLook;
 use crate::seat::Seat;
 use rx_heap::{Heap, Memory};
 use rx_lane::{AskError, Lane};
@@ -40,6 +42,19 @@ impl Subscription {
                 item: None,
                 end: None,
             },
+        }
+    }
+
+    /// What is seen of it.
+    pub(crate) fn look(&self) -> ObserverLook
+        ensures { (tape : TapeState) → Stands tape false self.now.seat → result ≡ row_at (observer_on tape.items (place_of self.now)) }
+    {
+        ObserverLook {
+            who: self.who,
+            strategy: self.seat.strategy(),
+            errors: self.seat.errors(),
+            waiting: self.seat.waiting_notes(),
+            owed: self.seat.owing(),
         }
     }
 

@@ -3,22 +3,22 @@ use Rattle.std.proofs.Common.{◌≡◌, ℕ, ◌+◌, ◌-◌, ◌≤◌, List,
 use Rattle.std.specs.Prelude.{slice_get}
 use Rattle.std.proofs.lemmas.List.{length-drop, drop-drop}
 use Rattle.rx_note.specs.declared.item.Item.{Item}
-use Rattle.rx_tape.specs.Tapes.{TapeState, without, HavePassed, last_items, waits}
+use Rattle.rx_tape.specs.Tapes.{TapeState, with_fewer, HavePassed, last_items, waits}
 use Rattle.rx_lane.proofs.Moving.{taken-more}
 
 -- items more
-pub taken_off : (tape : TapeState) (n m : ℕ) → without (without tape n) m ≡ without tape (n + m)
+pub taken_off : (tape : TapeState) (n m : ℕ) → with_fewer (with_fewer tape n) m ≡ with_fewer tape (n + m)
 taken_off tape n m =
     let front : tape.front + n + m ≡ tape.front + (n + m) = omega arith in
     ap (λ (at : ℕ). record { front = at; items = drop m (drop n tape.items); places = tape.places }) front
     ∙ ap (λ (items : List Item). record { front = tape.front + (n + m); items = items; places = tape.places }) (drop-drop m n tape.items)
 
 -- the others have been passed still
-pub passed_still : (tape : TapeState) (n m count : ℕ) → n + m ≤ count → HavePassed tape count → HavePassed (without tape n) m
+pub passed_still : (tape : TapeState) (n m count : ℕ) → n + m ≤ count → HavePassed tape count → HavePassed (with_fewer tape n) m
 passed_still tape n m count h passed = λ cursor place is. let past = passed cursor place is in omega (arith, h, past)
 
 -- none taken off
-pub none_off : (tape : TapeState) → tape ≡ without tape 0
+pub none_off : (tape : TapeState) → tape ≡ with_fewer tape 0
 none_off tape = let front : tape.front ≡ tape.front + 0 = omega arith in ap (λ (at : ℕ). record { front = at; items = tape.items; places = tape.places }) front
 
 -- the first of the rest is the next one

@@ -18,7 +18,7 @@ use Rattle.rx_note.specs.Choices.{Choice}
 use Rattle.rx_note.specs.Signals.{Signal, Signals, policy_of, demand, terminal_of, may_overflow, overflow, sent, line_items, waiting_items, waiting_end, owed, given}
 use Rattle.rx_lane.specs.declared.ask_error.AskError.{AskError}
 use Rattle.rx_lane.specs.declared.ask_error.AskError.TheVariants.{ZeroRequest, TooMuch}
-use Rattle.rx_lane.specs.Queues.{HasRoom, is_full, overfills}
+use Rattle.rx_lane.specs.Queues.{NeedsNoMemory, is_full, overfills}
 
 -- what waits in a lane, and what it owes
 pub record LaneState : Type 0 where
@@ -43,7 +43,7 @@ pub record StandsFor (lane : LaneState) (s : Signals) : Type 0 where
 
 -- the lane has room for so many offers; under Drop and Latest it always has
 abbrev pub HasRoomFor : LaneView → ℕ → Type 0
-HasRoomFor lane count = HasRoom lane.state.policy.strategy count lane.spare
+HasRoomFor lane count = NeedsNoMemory lane.state.policy.strategy count lane.spare
 
 -- the lane that was has room for so many offers more than the one that is now
 abbrev pub KeepsRoom : LaneView → LaneView → ℕ → Type 0

@@ -32,11 +32,11 @@ spare_of (Replacing ring) = 0
 spare_of (Bounding ring) = 0
 
 -- so many items more need no memory: a queue of a bounded strategy never needs any
-abbrev pub HasRoom : Strategy → ℕ → ℕ → Type 0
-HasRoom Buffer count spare = count ≤ spare
-HasRoom (Drop room) count spare = Unit {0}
-HasRoom (Latest room) count spare = Unit {0}
-HasRoom (Bounded room) count spare = Unit {0}
+abbrev pub NeedsNoMemory : Strategy → ℕ → ℕ → Type 0
+NeedsNoMemory Buffer count spare = count ≤ spare
+NeedsNoMemory (Drop room) count spare = Unit {0}
+NeedsNoMemory (Latest room) count spare = Unit {0}
+NeedsNoMemory (Bounded room) count spare = Unit {0}
 
 -- whether a strategy that loses what comes has its room full
 abbrev pub is_full : Strategy → ℕ → Bool

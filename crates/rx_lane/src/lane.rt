@@ -68,10 +68,11 @@ impl Model for Lane {
       spare = spare_of l.queue;
     } };
 
-    ghost use Rattle.std.specs.Prelude.{◌≡◌, false};
+    ghost use Rattle.std.specs.Prelude.{◌≡◌, false, true};
+    ghost use Rattle.rx_note.specs.Choices.{is_in_limits};
     ghost use Rattle.rx_lane.specs.Lanes.{KeepsOverflow};
 
-    ghost invariant = { λ l. l.ended ≡ false → KeepsOverflow (strategy_of l.queue) l.overflow };
+    ghost invariant = { λ l. (l.ended ≡ false → KeepsOverflow (strategy_of l.queue) l.overflow) × (is_in_limits (strategy_of l.queue) ≡ true) };
 }
 
 impl Lane {
@@ -117,6 +118,20 @@ impl Lane {
         ensures refused { OnErr result ((self.old.state.policy.strategy ≡ Buffer) × (self.old.spare < items)) }
     {
         self.queue.reserve(items)
+    }
+
+    /// Its strategy.
+    pub fn strategy(&self) -> Strategy
+        ensures { result ≡ self.now.state.policy.strategy }
+    {
+        self.queue.strategy()
+    }
+
+    /// Its error mode.
+    pub fn errors(&self) -> Errors
+        ensures { result ≡ self.now.state.policy.errors }
+    {
+        self.errors
     }
 
     /// How many more items may be given before the observer requests more.

@@ -7,10 +7,11 @@
 // The variant of a queue is its strategy, and the capacity of a ring its room, so that no field can disagree with them. Drop
 // with no room has a variant of its own and keeps no ring. A ring has all its memory from the beginning; Buffer grows by what
 // `reserve` asks.
-ghost use Rattle.std.specs.Prelude.{◌≡◌, ◌<◌, ◌≤◌, ◌+◌, ◌^◌, [], false, length, drop, slice_get, IfOk, OnOk, OnErr};
+ghost use Rattle.std.specs.Prelude.{◌≡◌, ◌<◌, ◌≤◌, ◌+◌, ◌^◌, [], true, false, length, drop, slice_get, IfOk, OnOk, OnErr};
+ghost use Rattle.rx_note.specs.Choices.{is_in_limits};
 ghost use Rattle.rx_note.specs.Queues.{queued};
 ghost use Rattle.rx_note.specs.declared.strategy.Strategy.TheVariants.{Buffer};
-ghost use Rattle.rx_lane.specs.Queues.{HasRoom, is_full, overfills, items_of, strategy_of, spare_of};
+ghost use Rattle.rx_lane.specs.Queues.{NeedsNoMemory, is_full, overfills, items_of, strategy_of, spare_of};
 
 use circular_buffer::HeapCircularBuffer;
 use rx_heap::{Heap, Memory};
@@ -55,6 +56,20 @@ impl Queue {
         }
     }
 
+    /// Its strategy.
+    pub(crate) fn strategy(&self) -> Strategy
+        requires { is_in_limits (strategy_of self.now) ≡ true }
+        ensures { result ≡ strategy_of self.now }
+    {
+        match self {
+            Queue::Growing(_) => Strategy::Buffer,
+            Queue::Empty => Strategy::Drop(0),
+            Queue::Dropping(ring) => Strategy::Drop(ring.capacity() as u16),
+            Queue::Replacing(ring) => Strategy::Latest(ring.capacity() as u16),
+            Queue::Bounding(ring) => Strategy::Bounded(ring.capacity() as u16),
+        }
+    }
+
     /// How many items wait.
     pub(crate) fn len(&self) -> usize
         ensures len { result ≡ length (items_of self.now) }
@@ -94,7 +109,7 @@ impl Queue {
     pub(crate) fn reserve(&mut self, count: usize) -> Result<(), Memory>
         ensures items { items_of self.new ≡ items_of self.old }
         ensures strategy { strategy_of self.new ≡ strategy_of self.old }
-        ensures room { OnOk result (HasRoom (strategy_of self.new) count (spare_of self.new)) }
+        ensures room { OnOk result (NeedsNoMemory (strategy_of self.new) count (spare_of self.new)) }
         ensures spare { spare_of self.old ≤ spare_of self.new }
         ensures refused { OnErr result ((strategy_of self.old ≡ Buffer) × (spare_of self.old < count)) }
     {
@@ -106,7 +121,7 @@ impl Queue {
 
     /// Queues an item by the strategy.
     pub(crate) fn push(&mut self, item: Item)
-        requires room { HasRoom (strategy_of self.old) 1 (spare_of self.old) }
+        requires room { NeedsNoMemory (strategy_of self.old) 1 (spare_of self.old) }
         requires fits { overfills (strategy_of self.old) (length (items_of self.old)) ≡ false }
         ensures items { items_of self.new ≡ queued (strategy_of self.old) (items_of self.old) item }
         ensures strategy { strategy_of self.new ≡ strategy_of self.old }

@@ -13,13 +13,13 @@ ghost use Rattle.rx_tape.specs.Tapes.{waits, Spares, MovesOn};
 ghost use Rattle.rx_lane.specs.Lanes.{StandsFor, MayBeSent, Gives, GoesOn, GivesInto, GivesTo, RefusesRequest, addressed, is_over};
 ghost use Rattle.rx_lane.specs.TapeLanes.{lane_on, StandsBack, StandsWhereSome, IsAlone, IsShared, Offers, Passes};
 
-mod joining;
+mod entry;
 
 use crate::ask_error::{AskError, owed_with};
 use crate::last::put_last;
 use crate::waiting::{Waiting, copy_lead, move_passed};
 use rx_heap::{Heap, Memory};
-use rx_note::{Given, Item, Note, Policy};
+use rx_note::{Errors, Given, Item, Note, Policy, Strategy};
 use rx_tape::Tape;
 use std::marker::Model;
 
@@ -70,6 +70,20 @@ impl Model for TapeLane {
 }
 
 impl TapeLane {
+    /// Its strategy.
+    pub fn strategy(&self) -> Strategy
+        ensures { result ≡ self.now.policy.strategy }
+    {
+        self.policy.strategy()
+    }
+
+    /// Its error mode.
+    pub fn errors(&self) -> Errors
+        ensures { result ≡ self.now.policy.errors }
+    {
+        self.policy.errors()
+    }
+
     /// How many more items may be given before the observer requests more.
     pub fn owed(&self) -> u32
         ensures state { result ≡ self.now.owing }

@@ -1,6 +1,6 @@
 ghost use Rattle.std.specs.Prelude.{◌≡◌, ◌+◌, ◌-◌, ◌<◌, ◌≤◌, ◌^◌, ◌++◌, [], None, map, take, drop, length, min, slice_get, option_copied, option_to_list, IfOk, OnOk, OnErr, vec_len, vec_capacity};
 ghost use Rattle.rx_note.specs.declared.note.Note.TheVariants.{Next};
-ghost use Rattle.rx_tape.specs.Tapes.{last_items, waits, without, HavePassed, Spares};
+ghost use Rattle.rx_tape.specs.Tapes.{last_items, waits, with_fewer, HavePassed, Spares};
 ghost use Rattle.rx_lane.specs.Lanes.{addressed};
 ghost use Rattle.rx_lane.specs.TapeLanes.{StandsBack, StandsWhereSome, IsShared, within_room};
 
@@ -218,7 +218,7 @@ pub(crate) fn move_passed(who: u32, count: usize, tape: &mut Tape, outs: &mut Ve
     requires passed { HavePassed tape.old count }
     requires room { vec_len outs.old + count ≤ vec_capacity outs.old }
     ensures put { outs.new.items ≡ outs.old.items ++ addressed who (map Next (take count tape.old.items)) }
-    ensures left { tape.new ≡ without tape.old count }
+    ensures left { tape.new ≡ with_fewer tape.old count }
     ensures capacity { vec_capacity outs.new ≡ vec_capacity outs.old }
 {
     let half = count / 2;
@@ -243,7 +243,7 @@ fn move_first(who: u32, count: usize, tape: &mut Tape, outs: &mut Vec<Given, Hea
     requires passed { HavePassed tape.old count }
     requires room { vec_len outs.old + count ≤ vec_capacity outs.old }
     ensures put { outs.new.items ≡ outs.old.items ++ addressed who (map Next (take count tape.old.items)) }
-    ensures left { tape.new ≡ without tape.old count }
+    ensures left { tape.new ≡ with_fewer tape.old count }
     ensures capacity { vec_capacity outs.new ≡ vec_capacity outs.old }
 {
     for _ in 0..count {

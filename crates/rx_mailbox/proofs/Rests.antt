@@ -10,7 +10,7 @@ use Rattle.rx_mailbox.specs.declared.channel.rule.View.{View}
 use Rattle.rx_mailbox.specs.Letters.{letter, posts, share, has_bye}
 use Rattle.rx_mailbox.specs.Batches.{unpacked}
 use Rattle.rx_mailbox.specs.Boxes.{Incoming, Outgoing, HasBye, HasEachBye, incoming, with_letters}
-use Rattle.rx_mailbox.specs.Hands.{without, IsHand}
+use Rattle.rx_mailbox.specs.Hands.{so_far, IsHand}
 use Rattle.rx_mailbox.specs.Passes.{own_of, taken_of, notes_of, IsNoted, IsPort, IsReader, KeepsNotes}
 use Rattle.rx_mailbox.specs.Rests.{IsJoined, ReceivesMore}
 use Rattle.rx_mailbox.specs.Settling.{IsEachOnce, letter_count}
@@ -53,7 +53,7 @@ module _ {B : Type 0} where
   received-more before after from came is below open_yet = record { more = came; received = is; only_missing = λ byes. absurd (open_yet (byes from below)) }
 
   -- and what is in hand
-  pub received-hand : (inlet : Incoming B) (from : ℕ) (hand : List B) → IsHand inlet from hand → ReceivesMore (without inlet (length hand)) inlet
+  pub received-hand : (inlet : Incoming B) (from : ℕ) (hand : List B) → IsHand inlet from hand → ReceivesMore (so_far inlet (length hand)) inlet
   received-hand inlet from hand is = record {
     more = posts from hand;
     received = ap (incoming inlet.box inlet.ports) is.whole;
@@ -61,11 +61,11 @@ module _ {B : Type 0} where
   }
 
   -- the count with what is in hand
-  pub counted-hand : (letters : ℕ) (inlet : Incoming B) (from : ℕ) (hand : List B) → IsHand inlet from hand → letters ≡ letter_count (without inlet (length hand)).received
+  pub counted-hand : (letters : ℕ) (inlet : Incoming B) (from : ℕ) (hand : List B) → IsHand inlet from hand → letters ≡ letter_count (so_far inlet (length hand)).received
       → min (letters + length hand) (2 ^ 64 - 1) ≡ letter_count inlet.received
   counted-hand letters inlet from hand is count =
       let many : length (posts from hand) ≡ length hand = length-map hand (λ body. letter from (Body body)) in
-      ap (λ n. min (letters + n) (2 ^ 64 - 1)) (sym many) ∙ counted_all letters (without inlet (length hand)).received (posts from hand) count ∙ ap letter_count (sym is.whole)
+      ap (λ n. min (letters + n) (2 ^ 64 - 1)) (sym many) ∙ counted_all letters (so_far inlet (length hand)).received (posts from hand) count ∙ ap letter_count (sym is.whole)
 
   -- JOINING
 

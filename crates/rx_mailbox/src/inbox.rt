@@ -76,14 +76,14 @@ impl<B: Drop> Drop for Inbox<B> {
 impl<B: Drop> Model for Inbox<B> {
     ghost use Rattle.std.specs.Prelude.{◌≡◌, length};
     ghost use Rattle.rx_mailbox.specs.Boxes.{Incoming};
-    ghost use Rattle.rx_mailbox.specs.Hands.{without, IsHand};
+    ghost use Rattle.rx_mailbox.specs.Hands.{so_far, IsHand};
     ghost use Rattle.rx_mailbox.specs.Settling.{letter_count};
 
     ghost Value = { Incoming B };
 
-    ghost view = { λ i. without i.inlet (length i.hand.items) };
+    ghost view = { λ i. so_far i.inlet (length i.hand.items) };
 
-    ghost invariant = { λ i. IsHand i.inlet i.from i.hand.items × (i.letters ≡ letter_count (without i.inlet (length i.hand.items)).received) };
+    ghost invariant = { λ i. IsHand i.inlet i.from i.hand.items × (i.letters ≡ letter_count (so_far i.inlet (length i.hand.items)).received) };
 }
 
 impl<B: Drop> Inbox<B> {

@@ -1,11 +1,13 @@
 -- What the program does as a client of a server (this project's own rule).
-use Rattle.std.specs.Prelude.{◌≡◌, ◌≢◌, ◌++◌, ◌⊎◌, ◌<◌, ◌^◌, ℕ, Bool, true, false, List, codes, decimal, Option, None, Some, Result, Ok, Err, MatchOption, MatchResult}
+use Rattle.std.specs.Prelude.{◌≡◌, ◌≢◌, ◌++◌, ◌⊎◌, ◌<◌, ◌^◌, ℕ, Bool, true, false, List, codes, decimal, Option, None, Some, Result, Ok, MatchResult}
 use Rattle.std.specs.Borrow.{Bor}
 use Rattle.std.specs.Str.Parse.{IsNumeral, digits_value, without_leading_plus}
 use Rattle.rx_client.specs.Requests.{IsNoSub}
 use Rattle.rx_client.specs.Running.{Subscribes}
 use Rattle.rx_client.specs.declared.format.Format.{Format}
 use Rattle.rx_client.specs.declared.format.Format.TheVariants.{Plain, Json}
+use Rattle.rx_client.specs.declared.looking.LookFault.{LookFault}
+use Rattle.rx_client.specs.declared.looking.LookFault.TheVariants as looks
 use Rattle.rx_client.specs.declared.subscriber.SubscribeFault.{SubscribeFault}
 use Rattle.rx_client.specs.declared.subscriber.SubscribeFault.TheVariants as follows
 use Rattle.rx_proto.specs.Bytes.{Writes}
@@ -49,6 +51,17 @@ follow_fault follows.Memory = faults.Memory
 -- what a follower told was written, from some place on
 abbrev pub FollowsSubject : Bool → Result (Unit {0}) ProgramFault → Option (List ℕ) → Option (List ℕ) → Type 0
 FollowsSubject is_json done old new = (from : Option ℕ) × (may_overflow : Bool) × Subscribes (format_of is_json) from may_overflow done old new
+
+-- LOOKING
+
+-- a fault of looking, as the program tells it
+abbrev pub look_fault : LookFault → ProgramFault
+look_fault looks.NoServer = faults.Connect
+look_fault (looks.Refused status) = faults.Refused
+look_fault looks.Lost = faults.Lost
+look_fault looks.Strange = faults.NoHttp
+look_fault looks.Write = faults.Write
+look_fault looks.Memory = faults.Memory
 
 -- WHAT NO SERVER TAKES
 

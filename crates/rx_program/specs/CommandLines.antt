@@ -2,18 +2,18 @@
 --
 -- What words ask for: a task that is answered is the one of the command that the words name, with the path that stands behind
 -- it: a script over the standard configuration where they name none, a script, an audit, a check or a server over that file
--- else, with the path of a socket for a server, and for a check where there is one; what is to be published, or whom to
--- subscribe to, at a socket; words that `clap` states a fault of, for
+-- else, with the path of a socket for a server, and for a check where there is one; what is to be published, whom to
+-- subscribe to, or how to show what is seen, at a socket; words that `clap` states a fault of, for
 -- the declared command line, are refused by a fault of just these, or for want of memory; where it states none, also by that
 -- they name no task.
-use Rattle.std.specs.Prelude.{◌≡◌, ◌⊎◌, ◌↔◌, ℕ, List, [], Option, None, Some, codes, option_map, true, unwrap_or}
+use Rattle.std.specs.Prelude.{◌≡◌, ◌⊎◌, ◌↔◌, ℕ, Bool, List, [], Option, None, Some, codes, option_map, true, unwrap_or}
 use Rattle.clap.specs.Simple.{on_top}
 use Rattle.clap.specs.declared.builder.action.ArgAction.TheVariants.{SetTrue}
 use Rattle.clap.specs.Words.{App, IsAmong, Row, Rule, Text, fault_of, first_of, new_app, new_rule, subcommand_of, with_rule, with_subcommand}
 use Rattle.clap.specs.declared.error.kind.ErrorKind.{ErrorKind}
 use Rattle.clap.specs.declared.error.kind.ErrorKind.TheVariants.{DisplayHelp, DisplayVersion, InvalidSubcommand}
 use Rattle.rx_program.specs.declared.command_line.task.Task.{Task}
-use Rattle.rx_program.specs.declared.command_line.task.Task.TheVariants.{Script, Audit, Check, Serve, Publish, Subscribe}
+use Rattle.rx_program.specs.declared.command_line.task.Task.TheVariants.{Script, Audit, Check, Serve, Publish, Subscribe, Stats}
 use Rattle.rx_program.specs.declared.command_line.subscription.Subscription.{Subscription}
 
 -- the path of a configuration, which a command needs
@@ -74,6 +74,9 @@ pub_app = with_rule (with_rule (with_rule (new_app (codes "pub")) socket) subjec
 abbrev pub sub_app : App
 sub_app = with_rule (with_rule (with_rule (with_rule (with_rule (with_rule (with_rule (new_app (codes "sub")) socket) subject) strategy) errors) from) count) json
 
+abbrev pub stats_app : App
+stats_app = with_rule (with_rule (new_app (codes "stats")) socket) json
+
 -- the program, whose words come without its name, and which tells its version
 abbrev pub top_app : App
 top_app = on_top (λ s. record s { no_binary_name = true; has_version = true }) (new_app (codes "rxline"))
@@ -82,8 +85,10 @@ top_app = on_top (λ s. record s { no_binary_name = true; has_version = true }) 
 abbrev pub line_app : App
 line_app =
     with_subcommand
+    (with_subcommand
     (with_subcommand (with_subcommand (with_subcommand (with_subcommand (with_subcommand top_app script_app.top) audit_app.top) check_app.top) serve_app.top) pub_app.top)
-    sub_app.top
+    sub_app.top)
+    stats_app.top
 
 -- a command of this name was named, with this path
 abbrev pub Named : List ℕ → List ℕ → Option (Text × List Row) → Type 0
@@ -118,6 +123,12 @@ pub record AreWords (s : Subscription) (rows : List Row) : Type 0 where
 abbrev pub NamedSubscribe : List ℕ → Subscription → Option (Text × List Row) → Type 0
 NamedSubscribe place s named = (rows : List Row) × (named ≡ Some (codes "sub", rows)) × (first_of (codes "socket") rows ≡ Some place) × AreWords s rows
 
+-- the command that shows what is seen was named, with the path of a socket, and with --json or without
+abbrev pub NamedStats : List ℕ → Bool → Option (Text × List Row) → Type 0
+NamedStats place is_json named =
+    (rows : List Row) × (named ≡ Some (codes "stats", rows)) × (first_of (codes "socket") rows ≡ Some place)
+    × (is_json ≡ true ↔ (first_of (codes "json") rows ≡ Some (codes "true")))
+
 -- the task is that of the command that was named, with its paths as they were read; without a command it is a script over the
 -- standard configuration
 abbrev pub IsNamedBy : Option (Text × List Row) → Task → Type 0
@@ -128,6 +139,7 @@ IsNamedBy named (Check file place) = NamedCheck file.now (option_map (λ s. s.no
 IsNamedBy named (Serve file place) = NamedServe file.now place.now named
 IsNamedBy named (Publish place name text) = NamedPublish place.now name.now (option_map (λ t. t.now) text) named
 IsNamedBy named (Subscribe place s) = NamedSubscribe place.now s named
+IsNamedBy named (Stats place is_json) = NamedStats place.now is_json named
 
 -- the words ask for a task: `clap` states no fault of them, and they name its command
 abbrev pub Asks : List Text → Task → Type 0

@@ -3,3 +3,5 @@ pub mod Programs
 pub mod Reporting
 pub mod WatchLogs
 pub mod Clients
+pub mod Notices
+pub mod Unbounded

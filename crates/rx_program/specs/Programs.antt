@@ -33,7 +33,8 @@ use Rattle.rx_script.specs.Transcripts.{Subject}
 use Rattle.rx_program.specs.declared.program.program_fault.ProgramFault.{ProgramFault}
 use Rattle.rx_program.specs.declared.program.program_fault.ProgramFault.TheVariants as faults
 use Rattle.rx_program.specs.declared.command_line.task.Task.{Task}
-use Rattle.rx_program.specs.declared.command_line.task.Task.TheVariants.{Script, Audit, Check, Serve, Publish, Subscribe}
+use Rattle.rx_program.specs.declared.command_line.task.Task.TheVariants.{Script, Audit, Check, Serve, Publish, Subscribe, Stats}
+use Rattle.rx_client.specs.Looking.{ShowsAnswer}
 use Rattle.rx_program.specs.Clients.{Emits, FollowsSubject, IsBad}
 
 -- the bytes that the reader has left and those that the writer has, where they are known
@@ -65,6 +66,7 @@ fault_text faults.Refused words = codes "refused"
 fault_text faults.Lost words = codes "connection lost"
 fault_text faults.Failed words = codes "subject failed"
 fault_text faults.Strange words = codes "no line of a server"
+fault_text faults.NoHttp words = codes "no answer by HTTP"
 
 -- the words of a cause stand behind those of its fault; one without a cause has no more words
 abbrev pub HasCause : {C : Type 0} → Option C → ProgramFault → Type 0
@@ -126,6 +128,7 @@ LacksConfig path faults.Refused = ⊥
 LacksConfig path faults.Lost = ⊥
 LacksConfig path faults.Failed = ⊥
 LacksConfig path faults.Strange = ⊥
+LacksConfig path faults.NoHttp = ⊥
 
 -- THE TASK
 
@@ -220,7 +223,7 @@ Checks path socket done written_old written_new =
     ((config : Config) × Configures path (settings_of config) × ListsAndLooks (settings_of config) socket done written_old written_new)
     ⊎ ((fault : ProgramFault) × (done ≡ Err fault) × LacksConfig path fault × (written_new ≡ written_old))
 
--- a task was done; for a script and an audit nothing was told meanwhile, and to check, to serve or to follow nothing was read
+-- a task was done; for a script and an audit nothing was told meanwhile, and to check, to serve, to follow or to look nothing was read
 abbrev pub Does : Task → Done → Streams → Streams → Option (List ℕ) → Option (List ℕ) → Type 0
 Does (Script path) done old new told_old told = Over (option_map (λ s. s.now) path) RunsScript done old new × (told ≡ told_old)
 Does (Audit path) done old new told_old told = Over (Some path.now) RunsAudit done old new × (told ≡ told_old)
@@ -228,6 +231,7 @@ Does (Check path socket) done old new told_old told = Checks (Some path.now) (op
 Does (Serve path socket) done old new told_old told = Serves (Some path.now) done old.written new.written × (new.left ≡ old.left)
 Does (Publish socket subject text) done old new told_old told = Emits done old.written new.written
 Does (Subscribe socket subscription) done old new told_old told = FollowsSubject subscription.is_json done old.written new.written × (new.left ≡ old.left)
+Does (Stats socket is_json) done old new told_old told = ShowsAnswer done old.written new.written × (new.left ≡ old.left)
 
 -- THE PROGRAM
 

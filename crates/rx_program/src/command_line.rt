@@ -3,7 +3,7 @@ ghost use Rattle.std.specs.Prelude.{◌≡◌, ◌⊎◌, IfOk, MatchOption, Mat
 ghost use Rattle.clap.specs.Words.{app_of, first_of, found_of, kind_of, new_app, rows_of, rule_of, subcommand_rows_of, with_rule, with_subcommand};
 ghost use Rattle.clap.specs.declared.Command.{out-Command};
 ghost use Rattle.clap.specs.declared.error.kind.ErrorKind.TheVariants.{OutOfMemory};
-ghost use Rattle.rx_program.specs.CommandLines.{Asks, IsAgainst, IsNamedBy, NamesNone, audit_app, check_app, line_app, path, place, pub_app, script_app, serve_app, socket, sub_app, top_app};
+ghost use Rattle.rx_program.specs.CommandLines.{Asks, IsAgainst, IsNamedBy, NamesNone, audit_app, check_app, line_app, path, place, pub_app, script_app, serve_app, socket, stats_app, sub_app, top_app};
 
 pub(crate) mod client_words;
 pub(crate) mod refused_words;
@@ -11,7 +11,7 @@ pub(crate) mod subscription;
 pub(crate) mod task;
 
 use crate::command_line::client_words::{
-    publish_command, publish_in, subscribe_command, subscribe_in,
+    publish_command, publish_in, stats_command, stats_in, subscribe_command, subscribe_in,
 };
 use crate::command_line::task::Task;
 use clap::error::ErrorKind;
@@ -26,7 +26,7 @@ const VERSION: &str = "0.1.0";
 
 // The commands that there are, as the usage line of the program names them.
 const COMMANDS: &str =
-    "script <config> | audit <config> | check <config> [socket] | serve <config> <socket> | pub <socket> <subject> [text] | sub <socket> <subject>";
+    "script <config> | audit <config> | check <config> [socket] | serve <config> <socket> | pub <socket> <subject> [text] | sub <socket> <subject> | stats <socket>";
 
 const ABOUT: &str = "Multicasts items to observers by the lines of a script.";
 
@@ -53,8 +53,8 @@ prints
 A session on the socket of 'rxline serve' takes PUB, END, FAIL, HELLO and QUIT too, and
   SUB s BUFFER DELAY        makes the connection an observer's, to which notes are sent
 A server ends once as many connections have ended as its configuration says, or by a
-signal. 'rxline serve --help' says more, with an example. 'rxline pub' emits to it, and
-'rxline sub' follows one of its subjects.
+signal. 'rxline serve --help' says more, with an example. 'rxline pub' emits to it,
+'rxline sub' follows one of its subjects, and 'rxline stats' shows what is seen of them.
 
 The exit status is 0 after a finished run, 1 after a fault, and 2 after a wrong command line.";
 
@@ -89,13 +89,15 @@ then it is removed, if nobody listens on it. So has this configuration:
   [pool]
   takeover = true
 'rxline check server.toml hazoxe.sock' tells what is in the way of a server there. As
-long as it runs, a server holds a lock on the file hazoxe.sock.lock beside its socket.";
+long as it runs, a server holds a lock on the file hazoxe.sock.lock beside its socket,
+and tells on standard error whom it gave up and why, and that connections wait.";
 
 const CHECK_EXAMPLE: &str = "\
 What a configuration leaves out is told as it will be served. Of one that is refused
 each key at fault is told on standard error, and what would be right there; of a file
-that can't be read, why. With a socket, what is in the way of 'rxline serve' at its path is
-told there too, and the status is 1 where something is.";
+that can't be read, why; and of one that is accepted, which subjects keep all that they
+take. With a socket, what is in the way of 'rxline serve' at its path, and at that of [http],
+is told there too, and the status is 1 where something is.";
 
 /// What these words ask for: those behind the program's name.
 ///
@@ -131,6 +133,9 @@ fn named<'a>(name: &'a str, found: &ArgMatches<'a>) -> Option<Task<'a>>
     }
     if name == "sub" {
         return subscribe_in(found);
+    }
+    if name == "stats" {
+        return stats_in(found);
     }
     let path = path_in(found)?;
     if name == "script" {
@@ -176,7 +181,8 @@ fn line<'a>(alloc: Global) -> Result<Command<'a>, AllocError>
 {
     let command = with_audit(alloc, with_script(alloc, top(alloc))?)?;
     let command = with_serve(alloc, with_check(alloc, command)?)?;
-    with_subscribe(alloc, with_publish(alloc, command)?)
+    let command = with_subscribe(alloc, with_publish(alloc, command)?)?;
+    with_stats(alloc, command)
 }
 
 fn with_publish<'a>(alloc: Global, command: Command<'a>) -> Result<Command<'a>, AllocError>
@@ -189,6 +195,12 @@ fn with_subscribe<'a>(alloc: Global, command: Command<'a>) -> Result<Command<'a>
     ensures app { IfOk result (λ c. app_of c ≡ with_subcommand (app_of command.entry) sub_app.top) }
 {
     command.subcommand(subscribe_command(alloc)?)
+}
+
+fn with_stats<'a>(alloc: Global, command: Command<'a>) -> Result<Command<'a>, AllocError>
+    ensures app { IfOk result (λ c. app_of c ≡ with_subcommand (app_of command.entry) stats_app.top) }
+{
+    command.subcommand(stats_command(alloc)?)
 }
 
 fn with_script<'a>(alloc: Global, command: Command<'a>) -> Result<Command<'a>, AllocError>

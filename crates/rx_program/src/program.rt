@@ -11,16 +11,18 @@ pub(crate) mod fault_cause;
 pub(crate) mod flushed;
 pub(crate) mod host;
 pub(crate) mod names;
+pub(crate) mod porch;
 pub(crate) mod program_fault;
 pub(crate) mod server;
 pub(crate) mod site;
 pub(crate) mod told_fault;
+pub(crate) mod unbounded;
 
 use crate::command_line::read_words;
 use crate::command_line::refused_words::refusal_of;
 use crate::command_line::task::Task;
 use crate::program::check::check_at;
-use crate::program::client::{publish_at, subscribe_at};
+use crate::program::client::{publish_at, stats_at, subscribe_at};
 use crate::program::config_file::config_at;
 use crate::program::host::Host;
 use crate::program::program_fault::ProgramFault;
@@ -45,16 +47,17 @@ const FAULT: u8 = 1;
 const WRONG_WORDS: u8 = 2;
 
 /// The program with its streams handed in: it does what the words behind its name ask for, tells faults on `faults`, and
-/// answers the exit status.
+/// answers the exit status. A server tells on `log` what it decides of its peers, by a thread of its own.
 ///
 /// 0: the run was finished, or help or the version was asked for, which goes to `writer`. 1: a fault, told in one line. 2: the words are
 /// no command line, which is told with what would be one.
-pub fn run_words<'a, F: Host, R: Read, W: Write, E: Write>(
+pub fn run_words<'a, F: Host, R: Read, W: Write, E: Write, L: Write + Drop + Send + 'static>(
     rt: &F,
     words: &'a [&'a str],
     reader: &mut R,
     writer: &mut W,
     faults: &mut E,
+    log: L,
 ) -> u8
     ensures { Program (map (λ s. s.now) words.entry.now) result (record { left = R.remaining reader.old; written = W.contents writer.old }) (record { left = R.remaining reader.new; written = W.contents writer.new }) (E.contents faults.old) (E.contents faults.new) }
 {
@@ -65,7 +68,7 @@ pub fn run_words<'a, F: Host, R: Read, W: Write, E: Write>(
                 WRONG_WORDS
             }
             None => {
-                let done = run_task(rt, task, reader, writer, faults);
+                let done = run_task(rt, task, reader, writer, faults, log);
                 status_of(done, faults)
             }
         },
@@ -114,12 +117,13 @@ fn show_help<W: Write>(error: &Error, writer: &mut W) -> Result<(), ProgramFault
 }
 
 // Does a task.
-fn run_task<F: Host, R: Read, W: Write, E: Write>(
+fn run_task<F: Host, R: Read, W: Write, E: Write, L: Write + Drop + Send + 'static>(
     rt: &F,
     task: Task<'_>,
     reader: &mut R,
     writer: &mut W,
     faults: &mut E,
+    log: L,
 ) -> Result<(), ProgramFault>
     ensures { Does task.entry result (record { left = R.remaining reader.old; written = W.contents writer.old }) (record { left = R.remaining reader.new; written = W.contents writer.new }) (E.contents faults.old) (E.contents faults.new) }
 {
@@ -127,13 +131,14 @@ fn run_task<F: Host, R: Read, W: Write, E: Write>(
         Task::Script(path) => run_script_at(rt, path, reader, writer),
         Task::Audit(path) => run_audit_at(rt, path, reader, writer),
         Task::Check(path, socket) => check_at(rt, path, socket, writer, faults),
-        Task::Serve(path, socket) => serve_at(rt, path, socket, writer, faults),
+        Task::Serve(path, socket) => serve_at(rt, path, socket, writer, faults, log),
         Task::Publish(socket, subject, text) => {
             publish_at(rt, socket, subject, text, reader, writer, faults)
         }
         Task::Subscribe(socket, subscription) => {
             subscribe_at(rt, socket, subscription, writer, faults)
         }
+        Task::Stats(socket, is_json) => stats_at(rt, socket, is_json, writer, faults),
     }
 }
 
@@ -170,18 +175,19 @@ fn run_audit_at<F: Files + AllocGlobal, R: Read, W: Write>(
 }
 
 // Serves the configuration of a path on a new socket.
-fn serve_at<F: Host, W: Write, E: Write>(
+fn serve_at<F: Host, W: Write, E: Write, L: Write + Drop + Send + 'static>(
     rt: &F,
     path: &str,
     socket: &str,
     writer: &mut W,
     faults: &mut E,
+    log: L,
 ) -> Result<(), ProgramFault>
     ensures { Serves (Some path.now) result (W.contents writer.old) (W.contents writer.new) }
 {
     let heap = Heap::unlimited(rt.alloc());
     match config_at(rt, &heap, Some(path)) {
-        Ok(config) => serve_on(rt, &heap, config, socket, writer, faults),
+        Ok(config) => serve_on(rt, &heap, config, socket, writer, faults, log),
         Err(fault) => Err(fault),
     }
 }

@@ -1,102 +1,104 @@
-// Where there is no descriptor or no memory for a connection, the acceptor pauses and tries again, and tells so once. Only a
-// broken listener ends serving.
+// Where there is no descriptor or no memory for a connection, the acceptor pauses and tries again. Only a broken listener ends serving.
 ghost use Rattle.std.specs.Prelude.{◌≡◌, ◌↔◌, ◌⊎◌, IsTrue};
 
 pub(crate) mod clocked;
+pub(crate) mod face_closer;
+pub(crate) mod face_socket;
 pub(crate) mod gathering;
 pub(crate) mod incoming;
 pub(crate) mod link;
 pub(crate) mod obstacle;
 pub(crate) mod outgoing;
 pub(crate) mod path;
+pub(crate) mod poll_waker;
 pub(crate) mod polling;
-pub(crate) mod ring;
 pub(crate) mod system_events;
 pub(crate) mod terms;
 pub(crate) mod watch_log;
 pub(crate) mod wire;
 
+use crate::notices::cause::Cause;
+use crate::notices::counted::SharedNotices;
 use crate::socket::incoming::Incoming;
 use crate::socket::outgoing::Outgoing;
+use crate::socket::poll_waker::PollWaker;
 use crate::socket::polling::Polling;
-use crate::socket::ring::Ring;
 use crate::socket::terms::Terms;
 use rx_heap::Heap;
 use rx_server::{AcceptFault, Idle, Listener, Watch, WatchFault};
-use std::io::{ErrorKind, Write};
+use std::io::ErrorKind;
 use std::net::Net;
 use std::os::unix::net::{UnixListener, UnixStream};
 use std::sync::{Arc, Wait};
 use std::time::{Clock, Duration};
 use std::{io, thread};
 
-// How long it pauses where there is no descriptor or no memory for a connection, in milliseconds.
-const PAUSE: u64 = 10;
+/// How long it pauses where there is no descriptor or no memory for a connection, in milliseconds.
+pub(crate) const PAUSE: u64 = 10;
 
 /// The connections of a Unix socket. What is written to one waits for its peer in this memory. A connection that can't be had
-/// is given up alone; where there are no descriptors or no memory for one, the first time is told on `faults`, and it waits for
-/// some.
-pub struct Socket<'a, F: Clock + Drop, E: Write> {
+/// is given up alone; where there are no descriptors or no memory for one, it waits for some. Both are counted among the notices.
+pub struct Socket<F: Clock + Drop> {
     listener: UnixListener,
     host: F,
     heap: Heap,
     terms: Terms,
-    faults: &'a mut E,
-    is_told: bool,
+    notices: SharedNotices,
 }
 
 // By hand: rx_heap says why.
-impl<'a, F: Clock + Drop, E: Write> Drop for Socket<'a, F, E> {
+impl<F: Clock + Drop> Drop for Socket<F> {
     fn drop(self) {
         let Socket {
             listener: _,
             host: _,
             heap: _,
             terms: _,
-            faults: _,
-            is_told: _,
+            notices: _,
         } = self;
     }
 }
 
-impl<'a, F: Clock + Drop, E: Write> Socket<'a, F, E> {
-    /// The connections that come to this listener, each on these terms.
+impl<F: Clock + Drop> Socket<F> {
+    /// The connections that come to this listener, each on these terms. What is decided of them is counted among the notices.
     pub fn new(
         listener: UnixListener,
         host: F,
         heap: Heap,
         terms: Terms,
-        faults: &'a mut E,
-    ) -> Socket<'a, F, E> {
+        notices: SharedNotices,
+    ) -> Socket<F> {
         Socket {
             listener,
             host,
             heap,
             terms,
-            faults,
-            is_told: false,
+            notices,
         }
     }
 
-    // Pauses, and tells why the first time.
-    fn pause(&mut self, fault: &io::Error) {
-        if !self.is_told {
-            self.is_told = true;
-            let _ = writeln!(self.faults, "rxline: connections wait: {fault}");
+    // Waits a while for what a connection lacks; the first time it is counted that it waits. `Err`: that does not pass.
+    fn pause(&self, fault: &io::Error, is_first: bool) -> Result<(), AcceptFault> {
+        let Some(cause) = trouble_of(fault) else {
+            self.notices.count(Cause::Broken);
+            return Err(AcceptFault);
+        };
+        if is_first {
+            self.notices.count(cause);
         }
         thread::sleep(&self.host, Duration::from_millis(PAUSE));
+        Ok(())
     }
 }
 
-impl<'a, F: AllocGlobal + Net + Clock + Wait + Clone + Drop + Send + 'static, E: Write> Listener
-    for Socket<'a, F, E> {
+impl<F: AllocGlobal + Net + Clock + Wait + Clone + Drop + Send + 'static> Listener for Socket<F> {
     type Reader = Incoming<F>;
 
     type Writer = Outgoing<F>;
 
     type Readiness = Polling<F>;
 
-    type Bell = Ring;
+    type Waker = PollWaker;
 
     // What a socket did no contract tells.
     ghost accepts = { λ _ _ _. Unit {0} };
@@ -107,23 +109,27 @@ impl<'a, F: AllocGlobal + Net + Clock + Wait + Clone + Drop + Send + 'static, E:
         let Ok(host) = self.host.clone() else {
             return Err(AcceptFault);
         };
+        let mut is_first = true;
         for _ in host.forever() {
             match self.listener.accept() {
                 Ok((stream, _)) => {
-                    if let Ok(halves) = halves(stream, &self.host, &self.heap, self.terms) {
-                        return Ok(halves);
+                    match halves(stream, &self.host, &self.heap, self.terms, &self.notices) {
+                        Ok(halves) => return Ok(halves),
+                        Err(fault) => self.notices.count(refusal_of(&fault)),
                     }
                 }
                 Err(fault) if is_passing(fault.kind()) => {}
-                Err(fault) if is_shortage(&fault) => self.pause(&fault),
-                Err(_) => return Err(AcceptFault),
+                Err(fault) => {
+                    self.pause(&fault, is_first)?;
+                    is_first = false;
+                }
             }
         }
         Err(AcceptFault)
     }
 
-    fn watch(&self) -> Result<Watch<Incoming<F>, Polling<F>, Ring>, WatchFault> {
-        match polled(&self.host, &self.heap, self.terms) {
+    fn watch(&self) -> Result<Watch<Incoming<F>, Polling<F>, PollWaker>, WatchFault> {
+        match polled(&self.host, &self.heap, self.terms, &self.notices) {
             Ok(watch) => Ok(watch),
             Err(_) => Err(WatchFault),
         }
@@ -135,41 +141,60 @@ fn polled<F: AllocGlobal + Net + Clock + Clone + Drop>(
     host: &F,
     heap: &Heap,
     terms: Terms,
-) -> io::Result<Watch<Incoming<F>, Polling<F>, Ring>> {
-    let readiness = Polling::new(host, host.alloc(), host.clone()?, heap, terms.idle)?;
-    let bell = readiness.bell()?;
+    notices: &SharedNotices,
+) -> io::Result<Watch<Incoming<F>, Polling<F>, PollWaker>> {
+    let notices = Arc::try_clone(notices)?;
+    let readiness = Polling::new(host, host.alloc(), host.clone()?, heap, terms.idle, notices)?;
+    let waker = readiness.waker()?;
     Ok(Watch {
         readiness: Idle::new(readiness),
-        bell,
+        waker,
     })
 }
 
-// The half of a connection that is read, and the half that is written. Neither waits.
-fn halves<C: Clock + Clone + Drop>(
+/// The half of a connection that is read, and the half that is written. Neither waits.
+pub(crate) fn halves<C: Clock + Clone + Drop>(
     stream: UnixStream,
     clock: &C,
     heap: &Heap,
     terms: Terms,
+    notices: &SharedNotices,
 ) -> io::Result<(Incoming<C>, Outgoing<C>)> {
     stream.set_nonblocking(true)?;
+    let counted = Arc::try_clone(notices)?;
+    let notices = Arc::try_clone(notices)?;
     let reading = clock.clone()?;
     let writing = clock.clone()?;
     let link = Arc::new(heap.clone()?, stream)?;
     let other = Arc::try_clone(&link)?;
-    let Ok(outgoing) = Outgoing::new(other, writing, heap, terms.stall) else {
+    let Ok(outgoing) = Outgoing::new(other, writing, heap, terms.stall, counted) else {
         return Err(io::Error::from(ErrorKind::OutOfMemory));
     };
-    Ok((Incoming::new(link, reading, terms.idle), outgoing))
+    Ok((Incoming::new(link, reading, terms.idle, notices), outgoing))
 }
 
-// Whether the next accept may do better: the call was interrupted, or the connection is gone.
-fn is_passing(kind: ErrorKind) -> bool
+/// Whether the next accept may do better: the call was interrupted, or the connection is gone.
+pub(crate) fn is_passing(kind: ErrorKind) -> bool
     ensures { IsTrue result ↔ ((kind ≡ ErrorKind.Interrupted) ⊎ (kind ≡ ErrorKind.ConnectionAborted)) }
 {
     matches!(kind, ErrorKind::Interrupted | ErrorKind::ConnectionAborted)
 }
 
-// Whether it failed for want of memory (12, 105) or of descriptors (23, 24), as Linux numbers its errors.
-fn is_shortage(fault: &io::Error) -> bool {
-    matches!(fault.raw_os_error(), Some(12 | 23 | 24 | 105))
+/// For what a connection waits that can't be accepted now: descriptors (23, 24) or memory (12, 105), as Linux numbers its errors. None:
+/// that does not pass.
+pub(crate) fn trouble_of(fault: &io::Error) -> Option<Cause> {
+    match fault.raw_os_error() {
+        Some(23 | 24) => Some(Cause::NoDescriptor),
+        Some(12 | 105) => Some(Cause::NoMemory),
+        _ => None,
+    }
+}
+
+/// Why a connection that was accepted is given up.
+pub(crate) fn refusal_of(fault: &io::Error) -> Cause {
+    if fault.kind() == ErrorKind::OutOfMemory {
+        Cause::Unserved
+    } else {
+        Cause::Unwatched
+    }
 }

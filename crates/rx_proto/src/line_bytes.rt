@@ -20,7 +20,8 @@ impl<const N: usize> Model for LineBytes<N> {
 }
 
 impl<const N: usize> LineBytes<N> {
-    pub(crate) fn new() -> LineBytes<N>
+    /// No byte.
+    pub fn new() -> LineBytes<N>
         ensures { result ≡ [] }
     {
         LineBytes {
@@ -37,9 +38,9 @@ impl<const N: usize> LineBytes<N> {
         &self.bytes[..self.len]
     }
 
-    // Puts these bytes behind those that it has.
+    /// Puts these bytes behind those that it has.
     #[inline] // so that a piece of fixed size is copied by that
-    pub(crate) fn put(&mut self, bytes: &[u8])
+    pub fn put(&mut self, bytes: &[u8])
         requires { length self.old + length bytes.now ≤ N }
         ensures { self.new ≡ self.old ++ bytes.now }
     {

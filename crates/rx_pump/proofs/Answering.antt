@@ -1,5 +1,5 @@
 -- The reply with the ticket of a call is the reply to that call.
-use Rattle.std.proofs.Common.{◌≡◌, ◌∙◌, sym, refl, ap, subst, ℕ, ◌+◌, ◌<◌, ◌==◌, ◌⊎◌, List, [], ◌∷◌, ◌++◌, append-nil, length, length-append, map, get_or, Option, None, Some, Ok, Err, false, slice_get, inl, inr, arith}
+use Rattle.std.proofs.Common.{◌≡◌, ◌∙◌, sym, refl, ap, subst, ℕ, ◌+◌, ◌<◌, ◌==◌, ◌⊎◌, List, [], ◌∷◌, ◌++◌, append-nil, length, length-append, map, get_or, Option, None, Some, Ok, false, slice_get, inl, inr, arith}
 use Rattle.std.specs.List.{All, Contains}
 use Rattle.std.specs.Option.{option_map}
 use Rattle.std.proofs.Math.Seq.{get_or-append_seam}
@@ -8,9 +8,7 @@ use Rattle.std.proofs.lemmas.List.{get_or-map, get_or_append_left, length-map}
 use Rattle.std.proofs.lemmas.List.Elements.{All-cons, All-contains, All-nil, All-tail, Contains-append_left, Contains-push, Contains-push_cases, filter-append}
 use Rattle.std.proofs.lemmas.List.Quantifiers.{all_pairs_push}
 use Rattle.rx_note.specs.declared.event.Event.{Event}
-use Rattle.rx_note.specs.declared.refusal.Refusal.TheVariants.{Memory}
 use Rattle.rx_note.specs.declared.rules.Rules.{Rules}
-use Rattle.rx_history.specs.Histories.{answer}
 use Rattle.rx_mailbox.specs.declared.letter.Letter.{Letter}
 use Rattle.rx_mailbox.specs.declared.letter.Post.{Post}
 use Rattle.rx_mailbox.specs.declared.letter.Post.TheVariants.{Body, Bye}
@@ -18,7 +16,7 @@ use Rattle.rx_mailbox.specs.Letters.{letter, share, posts}
 use Rattle.rx_mailbox.specs.Boxes.{Outgoing, Incoming, with_letter, with_more}
 use Rattle.rx_pump.specs.declared.call.Call.{Call}
 use Rattle.rx_pump.specs.declared.reply.Reply.{Reply}
-use Rattle.rx_pump.specs.Marks.{Marked, NoLetters, Made, Refused, Ended, letters_of, history_of, replies, reply_to, to_port}
+use Rattle.rx_pump.specs.Marks.{Marked, NoLetters, Made, Refused, Ended, letters_of, history_of, replies, reply_made, reply_refused, to_port}
 use Rattle.rx_pump.specs.Desks.{DeskView, Awaits, Called, IsPosted, next_call, ticket_in, tickets_in, Rise}
 use Rattle.rx_pump.specs.Replying.{IsReplyTo, Meets, PutsMore}
 use Rattle.rx_pump.proofs.Pumping.{option_map_some}
@@ -201,10 +199,10 @@ module _ {S : Type 0} where
       → Contains (share p (letters_of B)) (letter p (Body call)) → Contains (replies rules p B) reply → reply.ticket ≡ call.ticket → IsReplyTo rules p B call reply
   each_reply_is_to_its_call rules p NoLetters call reply rise stands replied same = absurd (let within = stands.1 in omega (arith, within))
   each_reply_is_to_its_call rules p (Made B port made) call reply rise stands replied same =
-      one_more p port made call (reply_to made (answer rules (history_of B) made.event)) reply (letters_of B) (replies rules p B) _ refl (each_call_is_replied rules p B) rise stands replied same
+      one_more p port made call (reply_made rules (history_of B) port made) reply (letters_of B) (replies rules p B) _ refl (each_call_is_replied rules p B) rise stands replied same
       (λ rise_before stood had. each_reply_is_to_its_call rules p B call reply rise_before stood had same)
   each_reply_is_to_its_call rules p (Refused B port made) call reply rise stands replied same =
-      one_more p port made call (reply_to made (Err Memory)) reply (letters_of B) (replies rules p B) _ refl (each_call_is_replied rules p B) rise stands replied same
+      one_more p port made call (reply_refused rules (history_of B) made) reply (letters_of B) (replies rules p B) _ refl (each_call_is_replied rules p B) rise stands replied same
       (λ rise_before stood had. each_reply_is_to_its_call rules p B call reply rise_before stood had same)
   each_reply_is_to_its_call rules p (Ended B port) call reply rise stands replied same =
       each_reply_is_to_its_call rules p B call reply (subst Rise (bye_tickets p port (letters_of B)) rise) (bye_more p port call (letters_of B) stands) replied same

@@ -6,7 +6,7 @@ use Rattle.rx_note.specs.declared.event.Event.TheVariants.{Request}
 use Rattle.rx_note.specs.declared.given.Given.{Given}
 use Rattle.rx_note.specs.declared.refusal.Refusal.{Refusal}
 use Rattle.rx_note.specs.declared.refusal.Refusal.TheVariants as refusals
-use Rattle.rx_history.specs.Histories.{History, answer}
+use Rattle.rx_history.specs.Histories.{History, ◌▹◌, item_count, answer}
 use Rattle.rx_hub.specs.Hubs.{HubView, StandsFor, Steps, MayMiss, is_miss}
 use Rattle.rx_pump.specs.declared.call.Call.{Call}
 use Rattle.rx_pump.specs.declared.out.Out.{Out}
@@ -14,7 +14,7 @@ use Rattle.rx_pump.specs.declared.pump.pump_fault.PumpFault.{PumpFault}
 use Rattle.rx_pump.specs.declared.pump.pump_fault.PumpFault.TheVariants.{DrainerGone}
 use Rattle.rx_pump.specs.declared.reply.Reply.{Reply}
 use Rattle.rx_mailbox.specs.Boxes.{Outgoing}
-use Rattle.rx_pump.specs.Marks.{attach_of, detach_of, leaver, give, sent_by, sent_back, reply_to, to_port}
+use Rattle.rx_pump.specs.Marks.{attach_of, detach_of, leaver, give, sent_by, sent_back, reply_to, reply_made, reply_refused, to_port}
 use Rattle.rx_pump.specs.Sends.{SendsOuts}
 use Rattle.rx_mailbox.specs.PortRows.{Puts}
 use Rattle.rx_pump.proofs.Putting.{Puts-no_place}
@@ -31,6 +31,10 @@ miss_or_not (Err refusals.ZeroRequest) = inr ((λ same. cc), refl)
 miss_or_not (Err refusals.NoObserver) = inr ((λ same. cc), refl)
 miss_or_not (Err refusals.TooMuch) = inr ((λ same. cc), refl)
 miss_or_not (Err refusals.Memory) = inl (refl, refl)
+
+-- a hub has counted the items of each history that it stands for
+count_for : (hub after : HubView) (H : History) → after.state.rules ≡ hub.state.rules → StandsFor after.state H → after.state.subject.count ≡ item_count hub.state.rules H
+count_for hub after H same stands = stands.subject_stands.count_is ∙ ap (λ rules. item_count rules H) same
 
 module _ {S : Type 0} where
   -- what the hub did with a call's event
@@ -56,13 +60,14 @@ module _ {S : Type 0} where
   refused_sends given leaving sink answered memory none =
       ap (λ a. attach_of a sink ++ map give given ++ detach_of leaving a) memory ∙ ap (λ l. map give l ++ detach_of leaving (Err refusals.Memory)) none ∙ no_detach leaving
 
-  made : (hub after : HubView) (before then : Ports S) (answered : Result Answer Refusal) (given : List Given) (fault : Option PumpFault) (port : ℕ) (call : Call S) (H : History)
+  made : (hub after : HubView) (before then : Ports S) (answered : Result Answer Refusal) (given : List Given) (items : ℕ) (fault : Option PumpFault) (port : ℕ) (call : Call S) (H : History)
       → Stepped hub after answered given port call → answered ≢ Err refusals.Memory → StandsFor hub.state H
-      → Sends fault (outs_for answered given call) port (reply_to call answered) before then
+      → items ≡ after.state.subject.count → Sends fault (outs_for answered given call) port (reply_to call answered items) before then
       → IsMade hub after before then fault port call H
-  made hub after before then answered given fault port call H stepped other stands sends =
+  made hub after before then answered given items fault port call H stepped other stands items_are sends =
       let step = stepped.step other H stands in
       let told = answer hub.state.rules H call.event in
+      let counted : items ≡ item_count hub.state.rules (H ▹ (port, call.event)) = items_are ∙ count_for hub after (H ▹ (port, call.event)) stepped.rules step.goes_on in
       let sent : outs_for answered given call ≡ sent_by hub.state.rules H port call =
       ap (λ a. attach_of a call.sink ++ map give given ++ detach_of (leaver call.event) a) step.answers
       ∙ ap (λ l. attach_of told call.sink ++ map give l ++ detach_of (leaver call.event) told) step.gives in
@@ -70,54 +75,58 @@ module _ {S : Type 0} where
         goes_on = step.goes_on;
         misses = stepped.kept other;
         sends =
-            subst (λ (l : List (Out S)). Sends fault l port (reply_to call (answer hub.state.rules H call.event)) before then) sent
-            (subst (λ (a : Result Answer Refusal). Sends fault (outs_for answered given call) port (reply_to call a) before then) step.answers sends);
+            subst (λ (l : List (Out S)). Sends fault l port (reply_made hub.state.rules H port call) before then) sent
+            (subst (λ (n : ℕ). Sends fault (outs_for answered given call) port (reply_to call told n) before then) counted
+            (subst (λ (a : Result Answer Refusal). Sends fault (outs_for answered given call) port (reply_to call a items) before then) step.answers sends));
       }
 
-  refused : (hub after : HubView) (before then : Ports S) (answered : Result Answer Refusal) (given : List Given) (fault : Option PumpFault) (port : ℕ) (call : Call S) (H : History)
+  refused : (hub after : HubView) (before then : Ports S) (answered : Result Answer Refusal) (given : List Given) (items : ℕ) (fault : Option PumpFault) (port : ℕ) (call : Call S) (H : History)
       → Stepped hub after answered given port call → answered ≡ Err refusals.Memory → StandsFor hub.state H
-      → Sends fault (outs_for answered given call) port (reply_to call answered) before then
+      → items ≡ after.state.subject.count → Sends fault (outs_for answered given call) port (reply_to call answered items) before then
       → IsRefused hub after before then fault port call H
-  refused hub after before then answered given fault port call H stepped memory stands sends =
+  refused hub after before then answered given items fault port call H stepped memory stands items_are sends =
       let missed = stepped.missed memory in
       let nothing : outs_for answered given call ≡ [] = refused_sends given (leaver call.event) call.sink answered memory missed.1 in
+      let stays : StandsFor after.state H = subst (λ (hub_after : HubView). StandsFor hub_after.state H) (sym missed.0) stands in
+      let counted : items ≡ item_count hub.state.rules H = items_are ∙ count_for hub after H stepped.rules stays in
       record {
-        stays = subst (λ (hub_after : HubView). StandsFor hub_after.state H) (sym missed.0) stands;
+        stays = stays;
         misses = ap (λ (hub_after : HubView). hub_after.misses) missed.0;
         acceptable = stepped.accepted memory H stands;
         sends =
-            subst (λ (l : List (Out S)). Sends fault l port (reply_to call (Err refusals.Memory)) before then) nothing
-            (subst (λ (a : Result Answer Refusal). Sends fault (outs_for answered given call) port (reply_to call a) before then) memory sends);
+            subst (λ (l : List (Out S)). Sends fault l port (reply_refused hub.state.rules H call) before then) nothing
+            (subst (λ (n : ℕ). Sends fault (outs_for answered given call) port (reply_to call (Err refusals.Memory) n) before then) counted
+            (subst (λ (a : Result Answer Refusal). Sends fault (outs_for answered given call) port (reply_to call a items) before then) memory sends));
       }
 
-  handled : (hub after : HubView) (before then : Ports S) (answered : Result Answer Refusal) (given : List Given) (fault : Option PumpFault) (port : ℕ) (call : Call S)
+  handled : (hub after : HubView) (before then : Ports S) (answered : Result Answer Refusal) (given : List Given) (items : ℕ) (fault : Option PumpFault) (port : ℕ) (call : Call S)
       → Stepped hub after answered given port call
-      → Sends fault (outs_for answered given call) port (reply_to call answered) before then
+      → items ≡ after.state.subject.count → Sends fault (outs_for answered given call) port (reply_to call answered items) before then
       → HandlesCall hub after before then (is_miss answered) fault port call
-  handled hub after before then answered given fault port call stepped sends = record {
+  handled hub after before then answered given items fault port call stepped items_are sends = record {
     rules = stepped.rules;
     took = λ H stands. elim (miss_or_not answered) [
-      | inl (memory, test) ↦ rw test (refused hub after before then answered given fault port call H stepped memory stands sends)
-      | inr (other, test) ↦ rw test (made hub after before then answered given fault port call H stepped other stands sends)
+      | inl (memory, test) ↦ rw test (refused hub after before then answered given items fault port call H stepped memory stands items_are sends)
+      | inr (other, test) ↦ rw test (made hub after before then answered given items fault port call H stepped other stands items_are sends)
     ];
   }
 
   -- a call was handled, and its sink went either way
   pub handled_with : (hub after : HubView) (before then : Ports S) (answered : Result Answer Refusal) (given : List Given) (first last : Option (Out S)) (back : Option S) (leaving : Option ℕ)
-      (was_refused : Bool) (fault : Option PumpFault) (port : ℕ) (call : Call S)
+      (items : ℕ) (was_refused : Bool) (fault : Option PumpFault) (port : ℕ) (call : Call S)
       → was_refused ≡ is_miss answered → option_to_list first ≡ attach_of answered call.sink → back ≡ sent_back answered call.sink
       → leaving ≡ leaver call.event → option_to_list last ≡ detach_of leaving answered
-      → Stepped hub after answered given port call
-      → Sends fault (option_to_list first ++ map give given ++ option_to_list last) port (record { ticket = call.ticket; result = answered; sink = back }) before then
+      → Stepped hub after answered given port call → items ≡ after.state.subject.count
+      → Sends fault (option_to_list first ++ map give given ++ option_to_list last) port (record { ticket = call.ticket; result = answered; sink = back; items = items }) before then
       → HandlesCall hub after before then was_refused fault port call
-  handled_with hub after before then answered given first last back leaving was_refused fault port call refused_is first_is back_is leaving_is last_is stepped sends =
+  handled_with hub after before then answered given first last back leaving items was_refused fault port call refused_is first_is back_is leaving_is last_is stepped items_are sends =
       let last_of : option_to_list last ≡ detach_of (leaver call.event) answered = last_is ∙ ap (λ o. detach_of o answered) leaving_is in
       let outs : option_to_list first ++ map give given ++ option_to_list last ≡ outs_for answered given call =
       ap (λ l. l ++ map give given ++ option_to_list last) first_is ∙ ap (λ l. attach_of answered call.sink ++ map give given ++ l) last_of in
       subst (λ (b : Bool). HandlesCall hub after before then b fault port call) (sym refused_is)
-      (handled hub after before then answered given fault port call stepped
-      (subst (λ (l : List (Out S)). Sends fault l port (reply_to call answered) before then) outs
-      (subst (λ (sink : Option S). Sends fault (option_to_list first ++ map give given ++ option_to_list last) port (record { ticket = call.ticket; result = answered; sink = sink }) before then) back_is
+      (handled hub after before then answered given items fault port call stepped items_are
+      (subst (λ (l : List (Out S)). Sends fault l port (reply_to call answered items) before then) outs
+      (subst (λ (sink : Option S). Sends fault (option_to_list first ++ map give given ++ option_to_list last) port (record { ticket = call.ticket; result = answered; sink = sink; items = items }) before then) back_is
       sends)))
 
   -- a call that brings no sink has none attached, and none goes back
@@ -146,12 +155,12 @@ module _ {S : Type 0} where
       subst (λ (f : Option PumpFault). Sends f notes port reply before then) (sym is) (stops, same)
 
   -- a request that brings no sink was handled
-  pub handled_request : (hub after : HubView) (before then : Ports S) (answered : Result Answer Refusal) (given : List Given) (was_refused : Bool) (fault : Option PumpFault) (port who n ticket : ℕ)
+  pub handled_request : (hub after : HubView) (before then : Ports S) (answered : Result Answer Refusal) (given : List Given) (items : ℕ) (was_refused : Bool) (fault : Option PumpFault) (port who n ticket : ℕ)
       → was_refused ≡ is_miss answered
-      → Stepped hub after answered given port (record { ticket = ticket; event = Request who n; sink = None })
-      → Sends fault (map give given) port (record { ticket = ticket; result = answered; sink = None }) before then
+      → Stepped hub after answered given port (record { ticket = ticket; event = Request who n; sink = None }) → items ≡ after.state.subject.count
+      → Sends fault (map give given) port (record { ticket = ticket; result = answered; sink = None; items = items }) before then
       → HandlesCall hub after before then was_refused fault port (record { ticket = ticket; event = Request who n; sink = None })
-  handled_request hub after before then answered given was_refused fault port who n ticket refused_is stepped sends =
-      handled_with hub after before then answered given None None None None was_refused fault port (record { ticket = ticket; event = Request who n; sink = None })
-      refused_is (no_attach answered) (no_back answered) refl refl stepped
-      (subst (λ (l : List (Out S)). Sends fault l port (record { ticket = ticket; result = answered; sink = None }) before then) (sym (append-nil (map give given))) sends)
+  handled_request hub after before then answered given items was_refused fault port who n ticket refused_is stepped items_are sends =
+      handled_with hub after before then answered given None None None None items was_refused fault port (record { ticket = ticket; event = Request who n; sink = None })
+      refused_is (no_attach answered) (no_back answered) refl refl stepped items_are
+      (subst (λ (l : List (Out S)). Sends fault l port (record { ticket = ticket; result = answered; sink = None; items = items }) before then) (sym (append-nil (map give given))) sends)

@@ -1,10 +1,6 @@
 -- One turn of a pump.
-use Rattle.std.proofs.Common.{◌≡◌, ◌∙◌, sym, refl, ap, subst, ℕ, ◌+◌, ◌-◌, ◌^◌, ◌<◌, min, Bool, true, false, List, [], ◌∷◌, ◌++◌, append-nil, length, Option, Some, None, Result, Err, arith, if◌then◌else◌}
-use Rattle.rx_note.specs.declared.answer.Answer.{Answer}
-use Rattle.rx_note.specs.declared.refusal.Refusal.{Refusal}
-use Rattle.rx_note.specs.declared.refusal.Refusal.TheVariants.{Memory}
+use Rattle.std.proofs.Common.{◌≡◌, ◌∙◌, sym, refl, ap, subst, ℕ, ◌+◌, ◌-◌, ◌^◌, ◌<◌, min, Bool, true, false, List, [], ◌∷◌, ◌++◌, append-nil, length, Option, Some, None, arith, if◌then◌else◌}
 use Rattle.rx_note.specs.declared.rules.Rules.{Rules}
-use Rattle.rx_history.specs.Histories.{answer}
 use Rattle.rx_hub.specs.Hubs.{HubView}
 use Rattle.rx_mailbox.specs.declared.letter.Letter.{Letter}
 use Rattle.rx_mailbox.specs.declared.letter.Post.TheVariants.{Body, Bye}
@@ -15,7 +11,7 @@ use Rattle.rx_pump.specs.declared.out.Out.{Out}
 use Rattle.rx_pump.specs.declared.pump.pump_fault.PumpFault.{PumpFault}
 use Rattle.rx_pump.specs.declared.pump.pump_fault.PumpFault.TheVariants.{InboxGone}
 use Rattle.rx_pump.specs.declared.reply.Reply.{Reply}
-use Rattle.rx_pump.specs.Marks.{Marked, NoLetters, Made, Refused, Ended, body_count, refused_in, AreAcceptable, history_of, outs_in, sent_by, reply_to}
+use Rattle.rx_pump.specs.Marks.{Marked, NoLetters, Made, Refused, Ended, body_count, refused_in, AreAcceptable, history_of, outs_in, sent_by, reply_made, reply_refused}
 use Rattle.rx_pump.specs.Turns.{Ports, Sends, IsMade, IsRefused, HandlesCall}
 use Rattle.rx_pump.specs.Pumps.{counted, PumpView, PutAll, HavePutUpTo, Pumps, IsPumped, AreFresh, fresh_pump, KeepsPump}
 use Rattle.rx_mailbox.proofs.Told.{told-fresh}
@@ -92,19 +88,19 @@ module _ {S : Type 0} where
     pub handles : HandlesCall before.hub after.hub (ports_in before) (ports_in after) was_refused after.fault port call
 
   -- what the ports have put with a call
-  sent_more : (before after : PumpView S) (was_refused : Bool) (port : ℕ) (call : Call S) (B more : Marked S) (outs : List (Out S)) (result : Result Answer Refusal)
-      → IsMore before.hub.state.rules B more outs port (reply_to call result) → TakesCall before after was_refused port call → Pumps before B
-      → Sends after.fault outs port (reply_to call result) (ports_in before) (ports_in after)
+  sent_more : (before after : PumpView S) (was_refused : Bool) (port : ℕ) (call : Call S) (B more : Marked S) (outs : List (Out S)) (reply : Reply S)
+      → IsMore before.hub.state.rules B more outs port reply → TakesCall before after was_refused port call → Pumps before B
+      → Sends after.fault outs port reply (ports_in before) (ports_in after)
       → HaveSent after.fault before.hub.state.rules more (ports_in before) (ports_in after)
-  sent_more before after was_refused port call B more outs result is took p sends =
-      HaveSent-of after.fault before.hub.state.rules B more outs port (reply_to call result) (ports_in before) (ports_in after) took.some is (PutAll-whole before B took.whole p) sends
+  sent_more before after was_refused port call B more outs reply is took p sends =
+      HaveSent-of after.fault before.hub.state.rules B more outs port reply (ports_in before) (ports_in after) took.some is (PutAll-whole before B took.whole p) sends
 
   -- what a call sends that was made, and one that was refused
   more_made : (rules : Rules) (B : Marked S) (port : ℕ) (call : Call S)
-      → IsMore rules B (Made B port call) (sent_by rules (history_of B) port call) port (reply_to call (answer rules (history_of B) call.event))
+      → IsMore rules B (Made B port call) (sent_by rules (history_of B) port call) port (reply_made rules (history_of B) port call)
   more_made rules B port call = record { before = refl; sends = refl; replies_are = λ p. refl }
 
-  more_refused : (rules : Rules) (B : Marked S) (port : ℕ) (call : Call S) → IsMore rules B (Refused B port call) [] port (reply_to call (Err Memory))
+  more_refused : (rules : Rules) (B : Marked S) (port : ℕ) (call : Call S) → IsMore rules B (Refused B port call) [] port (reply_refused rules (history_of B) call)
   more_refused rules B port call = record { before = refl; sends = append-nil (outs_in rules B); replies_are = λ p. refl }
 
   made : (before after : PumpView S) (port : ℕ) (call : Call S) (B : Marked S) → TakesCall before after false port call → Pumps before B

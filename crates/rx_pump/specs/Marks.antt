@@ -6,7 +6,9 @@
 -- the bodies made is their events, each with its port. The route of drainer d of n has, for each body made in its order, the
 -- `Attach` with the sink of an accepted Join, what the hub gives by exact delivery, and the `Detach` of an accepted Dispose;
 -- of these what concerns observers whose number modulo n is d. The replies to port p have, for each body of p in its order,
--- its ticket, its answer (Memory where it was refused), and its sink unless that was attached.
+-- its ticket, its answer (Memory where it was refused), its sink unless that was attached, and how many items were accepted
+-- up to and with that body: behind an accepted item its place is one less, and an observer that joined hears of no place
+-- below.
 use Rattle.std.specs.Prelude.{ℕ, ◌+◌, ◌%◌, ◌==◌, if◌then◌else◌, List, [], ◌∷◌, ◌++◌, map, Option, None, Some, Result, Ok, Err}
 use Rattle.std.specs.List.{filter}
 use Rattle.rx_note.specs.declared.answer.Answer.{Answer}
@@ -17,7 +19,7 @@ use Rattle.rx_note.specs.declared.given.Given.{Given}
 use Rattle.rx_note.specs.declared.refusal.Refusal.{Refusal}
 use Rattle.rx_note.specs.declared.refusal.Refusal.TheVariants.{Memory}
 use Rattle.rx_note.specs.declared.rules.Rules.{Rules}
-use Rattle.rx_history.specs.Histories.{History, NoEvents, ◌▹◌, answer, outs}
+use Rattle.rx_history.specs.Histories.{History, NoEvents, ◌▹◌, item_count, answer, outs}
 use Rattle.rx_hub.specs.Hubs.{MayMiss}
 use Rattle.rx_mailbox.specs.declared.letter.Letter.{Letter}
 use Rattle.rx_mailbox.specs.declared.letter.Post.TheVariants.{Body, Bye}
@@ -139,9 +141,17 @@ module _ {S : Type 0} where
   sent_back (Ok Left) sink = sink
   sent_back (Err refusal) sink = sink
 
-  -- the reply to a call that was answered so
-  abbrev pub reply_to : Call S → Result Answer Refusal → Reply S
-  reply_to call result = record { ticket = call.ticket; result = result; sink = sent_back result call.sink }
+  -- the reply to a call that was answered so, where so many items were accepted by then
+  abbrev pub reply_to : Call S → Result Answer Refusal → ℕ → Reply S
+  reply_to call result items = record { ticket = call.ticket; result = result; sink = sent_back result call.sink; items = items }
+
+  -- the reply to a call from a port that was made after H
+  abbrev pub reply_made : Rules → History → ℕ → Call S → Reply S
+  reply_made rules H port call = reply_to call (answer rules H call.event) (item_count rules (H ▹ (port, call.event)))
+
+  -- the reply to a call that was refused for want of memory after H
+  abbrev pub reply_refused : Rules → History → Call S → Reply S
+  reply_refused rules H call = reply_to call (Err Memory) (item_count rules H)
 
 -- what comes by a port, told to this port
 abbrev pub to_port : {X : Type 0} → ℕ → ℕ → X → List X
@@ -151,6 +161,6 @@ module _ {S : Type 0} where
   -- the replies to port p
   abbrev pub replies : Rules → ℕ → Marked S → List (Reply S)
   replies rules p NoLetters = []
-  replies rules p (Made B port call) = replies rules p B ++ to_port port p (reply_to call (answer rules (history_of B) call.event))
-  replies rules p (Refused B port call) = replies rules p B ++ to_port port p (reply_to call (Err Memory))
+  replies rules p (Made B port call) = replies rules p B ++ to_port port p (reply_made rules (history_of B) port call)
+  replies rules p (Refused B port call) = replies rules p B ++ to_port port p (reply_refused rules (history_of B) call)
   replies rules p (Ended B port) = replies rules p B

@@ -1,22 +1,27 @@
 -- How the replies to a port go with its calls, for all marked letters (this project's own rule).
 --
 -- A call's answer: Where the tickets of a port's calls rise, the reply that has the ticket of a call is what the subject
--- answered to just that call at its place, or that it was refused for want of memory. So is the answer to a call of a desk,
--- where the pump received what the desk's port put, and the desk of that subject the first of what the pump replied to it;
--- and so is the answer to a call that was posted, whatever the desk put and was answered in between.
-use Rattle.std.specs.Prelude.{◌≡◌, ◌⊎◌, ◌+◌, ℕ, false, List, [], ◌∷◌, ◌++◌, map, Option, None, Some, Ok, Err, slice_get}
+-- answered to just that call at its place, or that it was refused for want of memory, and how many items were accepted by
+-- then. So is the answer to a call of a desk, where the pump received what the desk's port put, and the desk of that subject
+-- the first of what the pump replied to it; and so is the answer to a call that was posted, whatever the desk put and was
+-- answered in between.
+use Rattle.std.specs.Prelude.{◌≡◌, ◌⊎◌, ◌+◌, ℕ, false, List, [], ◌∷◌, ◌++◌, map, Option, None, Some, Ok, slice_get}
 use Rattle.std.specs.List.{Contains}
+use Rattle.rx_note.specs.declared.answer.Answer.TheVariants.{Admitted}
 use Rattle.rx_note.specs.declared.event.Event.{Event}
-use Rattle.rx_note.specs.declared.refusal.Refusal.TheVariants.{Memory}
+use Rattle.rx_note.specs.declared.event.Event.TheVariants.{Emit}
+use Rattle.rx_note.specs.declared.item.Item.{Item}
+use Rattle.rx_note.specs.declared.note.Note.TheVariants.{Next}
 use Rattle.rx_note.specs.declared.rules.Rules.{Rules}
-use Rattle.rx_history.specs.Histories.{answer}
+use Rattle.rx_history.specs.Histories.{History, ◌▹◌, answer}
+use Rattle.rx_history.specs.Delivery.{emitted}
 use Rattle.rx_mailbox.specs.declared.letter.Letter.{Letter}
 use Rattle.rx_mailbox.specs.declared.letter.Post.TheVariants.{Body, Bye}
 use Rattle.rx_mailbox.specs.Letters.{letter, share, posts}
 use Rattle.rx_mailbox.specs.Boxes.{Outgoing}
 use Rattle.rx_pump.specs.declared.call.Call.{Call}
 use Rattle.rx_pump.specs.declared.reply.Reply.{Reply}
-use Rattle.rx_pump.specs.Marks.{Marked, NoLetters, Made, Refused, Ended, letters_of, history_of, replies, reply_to}
+use Rattle.rx_pump.specs.Marks.{Marked, NoLetters, Made, Refused, Ended, letters_of, history_of, replies, reply_made, reply_refused}
 use Rattle.rx_pump.specs.Desks.{DeskView, Awaits, Called, IsPosted, next_call, tickets_in, Rise}
 
 -- the replies to a port have the tickets of its calls, in their order: each call is replied to once
@@ -26,14 +31,22 @@ EachCallIsReplied S =
 
 module _ {S : Type 0} where
   -- the call stands among the marked letters of a port, and this is the reply to it: it has what the subject answered there, or
-  -- that it was refused for want of memory
+  -- that it was refused for want of memory, and how many items were accepted by then
   abbrev pub IsReplyTo : Rules → ℕ → Marked S → Call S → Reply S → Type 0
   IsReplyTo rules p NoLetters call reply = ⊥
   IsReplyTo rules p (Made B port made) call reply =
-      ((port ≡ p) × (made ≡ call) × (reply ≡ reply_to made (answer rules (history_of B) made.event))) ⊎ IsReplyTo rules p B call reply
+      ((port ≡ p) × (made ≡ call) × (reply ≡ reply_made rules (history_of B) port made)) ⊎ IsReplyTo rules p B call reply
   IsReplyTo rules p (Refused B port refused) call reply =
-      ((port ≡ p) × (refused ≡ call) × (reply ≡ reply_to refused (Err Memory))) ⊎ IsReplyTo rules p B call reply
+      ((port ≡ p) × (refused ≡ call) × (reply ≡ reply_refused rules (history_of B) refused)) ⊎ IsReplyTo rules p B call reply
   IsReplyTo rules p (Ended B port) call reply = IsReplyTo rules p B call reply
+
+-- the reply to an accepted item tells its place: it is the last of those that are counted
+abbrev pub ReplyTellsThePlace : Type 0 → Type 0
+ReplyTellsThePlace S =
+    (rules : Rules) (H : History) (port at : ℕ) (item : Item) (call : Call S)
+    → call.event ≡ Emit (Next item) at → answer rules H call.event ≡ Ok Admitted
+    → (place : ℕ) × ((reply_made rules H port call).items ≡ place + 1)
+    × (emitted rules (H ▹ (port, call.event)) ≡ emitted rules H ++ record item { from = port; place = place } ∷ [])
 
 -- where the tickets of a port's calls rise, the reply that has the ticket of a call is the reply to just that call
 abbrev pub EachReplyIsToItsCall : Type 0 → Type 0

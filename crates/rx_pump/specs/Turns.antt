@@ -1,7 +1,6 @@
 -- What one call does to the core of a pump, its hub and its ports (this project's own rule).
-use Rattle.std.specs.Prelude.{◌≡◌, ◌+◌, ◌<◌, ℕ, Bool, List, [], length, Option, Some, None, Err, MatchBool}
-use Rattle.rx_note.specs.declared.refusal.Refusal.TheVariants.{Memory}
-use Rattle.rx_history.specs.Histories.{History, ◌▹◌, answer}
+use Rattle.std.specs.Prelude.{◌≡◌, ◌+◌, ◌<◌, ℕ, Bool, List, [], length, Option, Some, None, MatchBool}
+use Rattle.rx_history.specs.Histories.{History, ◌▹◌}
 use Rattle.rx_hub.specs.Hubs.{HubView, StandsFor, MayMiss}
 use Rattle.rx_mailbox.specs.Boxes.{Outgoing, all_told}
 use Rattle.rx_pump.specs.declared.call.Call.{Call}
@@ -10,7 +9,7 @@ use Rattle.rx_pump.specs.declared.pump.pump_fault.PumpFault.{PumpFault}
 use Rattle.rx_pump.specs.declared.pump.pump_fault.PumpFault.TheVariants.{InboxGone, DrainerGone, CallerGone}
 use Rattle.rx_pump.specs.declared.pump.pump_parts.PumpParts.{PumpParts}
 use Rattle.rx_pump.specs.declared.reply.Reply.{Reply}
-use Rattle.rx_pump.specs.Marks.{sent_by, reply_to, to_port}
+use Rattle.rx_pump.specs.Marks.{sent_by, reply_made, reply_refused, to_port}
 use Rattle.rx_pump.specs.Sends.{PutsFor, StopsAt}
 use Rattle.rx_mailbox.specs.PortRows.{Puts}
 use Rattle.rx_pump.specs.Pumps.{counted}
@@ -39,14 +38,14 @@ module _ {S : Type 0} where
   pub record IsMade (hub hub_after : HubView) (before after : Ports S) (fault : Option PumpFault) (port : ℕ) (call : Call S) (H : History) : Type 0 where
     pub goes_on : StandsFor hub_after.state (H ▹ (port, call.event))
     pub misses : hub_after.misses ≡ hub.misses
-    pub sends : Sends fault (sent_by hub.state.rules H port call) port (reply_to call (answer hub.state.rules H call.event)) before after
+    pub sends : Sends fault (sent_by hub.state.rules H port call) port (reply_made hub.state.rules H port call) before after
 
   -- a call was refused for want of memory: the hub would have accepted it, counted it, and only this was replied
   pub record IsRefused (hub hub_after : HubView) (before after : Ports S) (fault : Option PumpFault) (port : ℕ) (call : Call S) (H : History) : Type 0 where
     pub stays : StandsFor hub_after.state H
     pub misses : hub_after.misses ≡ counted (hub.misses + 1)
     pub acceptable : MayMiss hub.state.rules H (port, call.event)
-    pub sends : Sends fault [] port (reply_to call (Err Memory)) before after
+    pub sends : Sends fault [] port (reply_refused hub.state.rules H call) before after
 
   -- a call was made or refused
   pub record HandlesCall (hub hub_after : HubView) (before after : Ports S) (refused : Bool) (fault : Option PumpFault) (port : ℕ) (call : Call S) : Type 0 where

@@ -33,4 +33,5 @@ pub use pump::pump_end::PumpEnd;
 pub use pump::pump_fault::PumpFault;
 pub use pump::pump_parts::PumpParts;
 pub use pump::pump_stop::PumpStop;
+pub use pump::shown::{SharedLook, Shown};
 pub use reply::Reply;

@@ -16,6 +16,7 @@ pub(crate) mod pump_end;
 pub(crate) mod pump_fault;
 pub(crate) mod pump_parts;
 pub(crate) mod pump_stop;
+pub(crate) mod shown;
 
 use crate::call::Call;
 use crate::out::Out;
@@ -26,6 +27,7 @@ use crate::pump::pump_end::PumpEnd;
 use crate::pump::pump_fault::PumpFault;
 use crate::pump::pump_parts::PumpParts;
 use crate::pump::pump_stop::PumpStop;
+use crate::pump::shown::{SharedLook, Shown};
 use crate::reply::Reply;
 use rx_heap::{Heap, Memory, room};
 use rx_hub::Hub;
@@ -34,7 +36,7 @@ use rx_mailbox::{
 };
 use rx_note::Given;
 use std::marker::Model;
-use std::sync::Wait;
+use std::sync::{Arc, Wait};
 
 // After so many letters what is held back goes at the latest, however many more stand in the box: so who sends without a rest
 // keeps no observer waiting. A drainer's window is 16 at most, so what it has from so many letters keeps it busy meanwhile.
@@ -58,6 +60,7 @@ pub struct Pump<S: Drop> {
     from: u32,
     was_bye: bool,
     telling: Option<Telling>,
+    shown: Option<SharedLook>,
 }
 
 // A pump that is let go is gone for those who call it, and its drainers hear its Byes.
@@ -76,6 +79,7 @@ impl<S: Drop> Drop for Pump<S> {
             from: _,
             was_bye: _,
             telling: _,
+            shown: _,
         } = self;
         parts.let_go();
     }
@@ -141,6 +145,7 @@ impl<S: Drop> Pump<S> {
             from: 0,
             was_bye: false,
             telling: None,
+            shown: None,
         })
     }
 
@@ -156,6 +161,26 @@ impl<S: Drop> Pump<S> {
     pub fn heard(&self) -> Option<SharedHeard> {
         match &self.telling {
             Some(telling) => telling.heard(),
+            None => None,
+        }
+    }
+
+    /// From now on it shows its subject to who wants to look: what is handed out is for another thread.
+    pub fn show(&mut self, alloc: Heap) -> Result<SharedLook, Memory>
+        ensures { self.new ≡ self.old }
+    {
+        let shown = Shown::shared(alloc)?;
+        self.shown = Some(Arc::try_clone(&shown)?);
+        Ok(shown)
+    }
+
+    /// What shows its subject, for another thread that wants to look; none where it shows it to nobody.
+    pub fn shown(&self) -> Option<SharedLook> {
+        match &self.shown {
+            Some(shown) => match Arc::try_clone(shown) {
+                Ok(shown) => Some(shown),
+                Err(_) => None,
+            },
             None => None,
         }
     }
@@ -264,6 +289,7 @@ impl<S: Drop> Pump<S> {
             from: _,
             was_bye: _,
             telling: _,
+            shown: _,
         } = self;
         parts
     }
@@ -278,11 +304,20 @@ impl<S: Drop> Pump<S> {
         let _is_left = try_ring_all(rt, &mut self.parts.replies);
     }
 
+    // Fills the look that is wanted, before the reply goes out to who wants it. (Where there is no memory to hold a reply back it
+    // goes first, and who looks finds nothing yet.)
+    fn fill_look<R: Wait>(&self, rt: &R) {
+        if let Some(shown) = &self.shown {
+            shown.fill(rt, &self.parts.hub);
+        }
+    }
+
     // Has go out what is held back and due behind the letter that came last: the replies to calls that came together go together, and
     // all goes behind a Bye and after some letters. Then it tells how far it is.
     fn pass_on<R: Wait>(&mut self, rt: &R)
         ensures { self.new ≡ self.old }
     {
+        self.fill_look(rt);
         self.quiet = self.quiet.saturating_add(1);
         if self.was_bye || self.quiet >= MOST_QUIET {
             self.send_held(rt);
@@ -365,6 +400,7 @@ impl<S: Drop> Pump<S> {
             from: _,
             was_bye: _,
             telling: _,
+            shown: _,
         } = self;
         if let Err(place) = finish_all(rt, &mut parts.drainers, &mut ended_drainers) {
             return Err(PumpStop {
@@ -412,6 +448,7 @@ impl<S: Drop> Pump<S> {
             from: _,
             was_bye: _,
             telling: _,
+            shown: _,
         } = self;
         PumpStop {
             fault,

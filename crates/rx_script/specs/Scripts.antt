@@ -19,7 +19,7 @@ use Rattle.rx_config.specs.declared.subject_config.SubjectConfig.{SubjectConfig}
 use Rattle.rx_script.specs.declared.told.Told.{Told}
 use Rattle.rx_script.specs.declared.topic.Topic.{Topic}
 use Rattle.rx_proto.specs.declared.version.Version.{Version}
-use Rattle.rx_proto.specs.declared.writing.WriteFault.{WriteFault}
+use Rattle.rx_proto.specs.declared.writer.WriteFault.{WriteFault}
 use Rattle.rx_proto.specs.Bytes.{AppendsPrefix}
 use Rattle.rx_lines.specs.Bytes.{Puts}
 use Rattle.rx_lines.specs.Lines.{lines_of}

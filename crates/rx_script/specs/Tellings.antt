@@ -16,7 +16,7 @@ use Rattle.rx_lines.specs.declared.step.Step.{Step}
 use Rattle.rx_lines.specs.declared.step.Step.TheVariants as steps
 use Rattle.rx_script.specs.declared.told.Told.{Told}
 use Rattle.rx_script.specs.declared.told.Told.TheVariants as told
-use Rattle.rx_proto.specs.declared.writing.WriteFault.{WriteFault}
+use Rattle.rx_proto.specs.declared.writer.WriteFault.{WriteFault}
 use Rattle.rx_proto.specs.Bytes.{AppendsPrefix}
 use Rattle.rx_lines.specs.Bytes.{Holds, Puts}
 use Rattle.rx_lines.specs.Lines.{TakesLine, TakesNoLine}

@@ -1,5 +1,5 @@
 -- The parts of a server are those of its wiring.
-use Rattle.std.proofs.Common.{◌≡◌, ◌∙◌, sym, refl, ap, subst, ℕ, Bool, suc, ◌+◌, ◌-◌, ◌<◌, ◌≤◌, max, List, [], ◌∷◌, ◌++◌, get_or, length, map, take, true, arith}
+use Rattle.std.proofs.Common.{◌≡◌, ◌∙◌, sym, refl, ap, subst, ℕ, Bool, suc, ◌+◌, ◌-◌, ◌<◌, ◌≤◌, max, List, [], ◌∷◌, ◌++◌, Option, None, Some, get_or, length, map, take, true, arith}
 use Rattle.std.proofs.lemmas.Bool.Decides.{nat_tests}
 use Rattle.std.proofs.lemmas.List.{length-map, map_more}
 use Rattle.std.proofs.lemmas.List.Elements.{All-cons, All-map, All-nil, All-same}
@@ -16,13 +16,14 @@ use Rattle.rx_pump.specs.Pumps.{PumpView, fresh_pump}
 use Rattle.rx_pump.specs.Desks.{DeskView, fresh_desk}
 use Rattle.rx_drain.specs.Drainers.{DrainerView, fresh_drainer}
 use Rattle.rx_config.specs.declared.config.Config.{Config}
+use Rattle.rx_config.specs.declared.http.Http.{Http}
 use Rattle.rx_config.specs.declared.subject_config.SubjectConfig.{SubjectConfig}
 use Rattle.rx_server.specs.declared.close.rooms.Rooms.{Rooms}
 use Rattle.rx_server.specs.declared.wired.Boxes.{Boxes}
 use Rattle.rx_workers.specs.Crews.{IsFor}
 use Rattle.rx_server.specs.OpenBoxes.{AreOpenFor}
 use Rattle.rx_server.specs.Rooms.{AreRooms}
-use Rattle.rx_server.specs.Wirings.{AreHubsOf, AreOpened, IsSizedFor, RowView, Wiring, behind, desk_of, desks_of, drainer_of, drainers_of, greatest, leave_ports, most_observers, next_port, ports_at, pump_of, pumps_of, row_ports, whole_row}
+use Rattle.rx_server.specs.Wirings.{AreHubsOf, AreOpened, IsSizedFor, RowView, Wiring, behind, desk_count, desk_of, desks_of, desks_with, drainer_of, drainers_of, greatest, leave_ports, most_observers, next_port, ports_at, pump_of, pumps_of, row_ports, whole_row}
 use Rattle.rx_server.proofs.Rows.{ports-behind}
 
 module _ {B : Type 0} where
@@ -136,6 +137,14 @@ module _ {B : Type 0} where
       All-same P inboxes (map (λ box. incoming box senders []) boxes) are (All-map P (λ box. incoming box senders []) boxes (λ i d within. holds _))
 
 -- SIZES
+
+-- a server has a desk at least, and few
+few_desks : (workers : ℕ) (http : Option Http) → 1 ≤ workers → workers ≤ 32 → (1 ≤ desks_with workers http) × (desks_with workers http ≤ 33)
+few_desks workers None least most = (least, omega (arith, most))
+few_desks workers (Some http) least most = (omega arith, omega (arith, most))
+
+pub desks-few : (config : Config) → (1 ≤ desk_count config) × (desk_count config ≤ 33)
+desks-few config = few_desks config.workers config.http config.workers_in_range.0 config.workers_in_range.1
 
 -- a subject takes at most 64 observers
 pub observers-few : (limits : Limits) → are_in_range limits ≡ true → limits.observers ≤ 64

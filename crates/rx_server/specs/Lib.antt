@@ -1,3 +1,4 @@
+pub mod Beside
 pub mod Arriving
 pub mod Ends
 pub mod Hearing

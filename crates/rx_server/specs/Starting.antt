@@ -12,6 +12,7 @@ use Rattle.rx_server.specs.declared.wired.start_fault.Role.{Role}
 use Rattle.rx_server.specs.declared.wired.start_fault.Role.TheVariants.{Drainer, Pump, Worker}
 use Rattle.rx_server.specs.declared.wired.start_fault.StartCause.TheVariants.{Memory, NoThread}
 use Rattle.rx_server.specs.declared.wired.start_fault.StartFault.{StartFault}
+use Rattle.rx_server.specs.Wirings.{desk_count}
 
 -- there was no memory for what the thread of this role and number needs
 abbrev pub NoMemoryFor : Role → ℕ → StartFault → Type 0
@@ -34,11 +35,11 @@ abbrev pub CannotRun : ℕ → ℕ → StartFault → Type 0
 CannotRun pumps drainers fault =
     NoMemoryFor Pump 0 fault ⊎ NoMemoryFor Drainer 0 fault ⊎ NoThreadBelow Pump pumps fault ⊎ NoThreadBelow Drainer drainers fault
 
--- how many threads of a role a server of this configuration has
+-- how many threads of a role a server of this configuration has; of those that serve by a desk, the last is its face, if it has one
 abbrev pub threads_of : Config → Role → ℕ
 threads_of config Pump = length config.subjects.items
 threads_of config Drainer = config.drainers
-threads_of config Worker = config.workers
+threads_of config Worker = desk_count config
 
 -- there was no memory for what a thread of such a server needs
 pub record NoMemoryIn (config : Config) (fault : StartFault) : Type 0 where

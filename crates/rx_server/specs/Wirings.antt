@@ -1,5 +1,5 @@
 -- How the threads and the desks of a server are joined by boxes (this project's own rule).
-use Rattle.std.specs.Prelude.{◌≡◌, ◌+◌, ◌-◌, ◌*◌, max, ℕ, Bool, List, [], ◌∷◌, map, length}
+use Rattle.std.specs.Prelude.{◌≡◌, ◌+◌, ◌-◌, ◌*◌, max, ℕ, Bool, List, [], ◌∷◌, map, length, Option, None, Some}
 use Rattle.std.specs.List.{All, enumerate_from, range_with_len, zip}
 use Rattle.rx_history.specs.Histories.{NoEvents}
 use Rattle.rx_hub.specs.Hubs.{HubView, StandsFor}
@@ -11,6 +11,7 @@ use Rattle.rx_pump.specs.Pumps.{PumpView, fresh_pump}
 use Rattle.rx_pump.specs.Desks.{DeskView, fresh_desk}
 use Rattle.rx_drain.specs.Drainers.{DrainerView, fresh_drainer}
 use Rattle.rx_config.specs.declared.config.Config.{Config}
+use Rattle.rx_config.specs.declared.http.Http.{Http}
 use Rattle.rx_config.specs.declared.subject_config.SubjectConfig.{SubjectConfig}
 
 -- PORTS BEFORE THEY ARE HANDED OUT
@@ -64,11 +65,20 @@ greatest (n ∷ ns) = max n (greatest ns)
 abbrev pub most_observers : List SubjectConfig → ℕ
 most_observers subjects = greatest (map (λ subject. subject.rules.limits.observers) subjects)
 
+-- so many desks, and one for a face, if there is one
+abbrev pub desks_with : ℕ → Option Http → ℕ
+desks_with workers None = workers
+desks_with workers (Some http) = workers + 1
+
+-- how many desks a server has: one for each worker, and behind these one for its face
+abbrev pub desk_count : Config → ℕ
+desk_count config = desks_with config.workers config.http
+
 -- a drainer's box has room for two letters of each item that the observers of all subjects may have asked for, with two more
--- for each observer, and for a letter of each worker
+-- for each observer, and for a letter of each desk
 abbrev pub drainer_capacity : Config → ℕ
 drainer_capacity config =
-    2 * length config.subjects.items * most_observers config.subjects.items * (config.window + 2) + config.workers
+    2 * length config.subjects.items * most_observers config.subjects.items * (config.window + 2) + desk_count config
 
 -- THE BOXES OF A SERVER
 
@@ -83,7 +93,7 @@ module _ {S : Type 0} where
   pub record IsSizedFor (config : Config) (w : Wiring S) : Type 0 where
     pub subjects : length w.subjects ≡ length config.subjects.items
     pub drainers : length w.drainers ≡ config.drainers
-    pub replies : length w.replies ≡ config.workers
+    pub replies : length w.replies ≡ desk_count config
     pub subject_capacities : All (λ box. capacity_of box ≡ 64) w.subjects
     pub drainer_capacities : All (λ box. capacity_of box ≡ drainer_capacity config) w.drainers
     pub reply_capacities : All (λ box. capacity_of box ≡ length config.subjects.items) w.replies

@@ -25,11 +25,14 @@ pub use close::close_fault::{CloseCause, CloseFault};
 pub use close::report::{Report, SubjectReport};
 pub use close::report_lines::write_report_lines;
 pub use rx_config::{Budget, Config, ConfigError, SubjectConfig, read_config};
+pub use rx_desk::Grants;
+pub use rx_face::{Closer, Doorway, Entrance};
+pub use rx_http::Epoch;
 pub use rx_session::response_to;
 pub use rx_workers::{
-    AcceptFault, AcceptStop, Aim, Bell, Idle, Joined, Listener, Moments, Readiness, Ready,
-    RunningWorker, ServeFault, SessionDesk, SharedMoments, Watch, WatchFault, Worker, WorkerEnd,
-    accept_all, serve_connections, start_worker,
+    AcceptFault, AcceptStop, Aim, ClientSink, Idle, Joined, Listener, Moments, Readiness, Ready,
+    RunningWorker, ServeFault, SessionDesk, SharedMoments, Waker, Watch, WatchFault, Worker,
+    WorkerEnd, accept_all, serve_connections, start_worker,
 };
 pub use server::{Server, start, start_unread};
 pub use wired::start_fault::{Role, StartCause, StartFault};

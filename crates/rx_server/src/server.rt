@@ -25,7 +25,7 @@ use std::vec::IntoIter;
 /// without `close` waits for nobody: its threads end by themselves, once the desks that were handed out have ended or are let go
 /// too.
 pub struct Server<S: Sink> {
-    running: Running<S>,
+    pub(crate) running: Running<S>,
     // The ports by which the drainers are told to leave.
     leaves: Vec<Port<Out<S>>, Heap>,
     pub(crate) desks: IntoIter<CallDesk<S>, Heap>,

@@ -4,7 +4,7 @@ ghost use Rattle.std.specs.Vec.Iter.{into_iter_items};
 ghost use Rattle.rx_hub.specs.Hubs.{HubView};
 ghost use Rattle.rx_server.specs.OpenBoxes.{AreOpenFor, IsEmptyFor};
 ghost use Rattle.rx_server.specs.Starting.{CannotRun, NoMemoryFor, NoMemoryIn};
-ghost use Rattle.rx_server.specs.Wirings.{IsWired, Wiring, drainer_capacity, joined_parts, most_observers};
+ghost use Rattle.rx_server.specs.Wirings.{IsWired, Wiring, desk_count, drainer_capacity, joined_parts, most_observers};
 
 pub(crate) mod makers;
 pub(crate) mod opened;
@@ -81,12 +81,12 @@ impl<S: Sink> Wired<S> {
     {
         let count = config.subjects.len();
         let drainers = config.drainers as usize;
-        let workers = config.workers as usize;
+        let desks = desk_count(config);
         Ok(Wired {
             pumps: room(alloc, count)?,
             drainers: room(alloc, drainers)?,
             leaves: room(alloc, drainers)?,
-            desks: room(alloc, workers)?,
+            desks: room(alloc, desks)?,
         })
     }
 
@@ -169,13 +169,13 @@ fn open_boxes<S: Drop>(alloc: &Heap, config: &Config) -> Result<Boxes<S>, StartF
 {
     let count = config.subjects.len();
     let drainers = config.drainers as usize;
-    let workers = config.workers as usize;
-    let senders = config.workers as u32 + config.drainers as u32;
+    let desks = desk_count(config);
+    let senders = desks as u32 + config.drainers as u32;
     let capacity = drainer_capacity(config);
     Ok(Boxes {
         subjects: open_all(alloc, Role::Pump, count, SUBJECT_CAPACITY, senders)?,
         drainers: open_all(alloc, Role::Drainer, drainers, capacity, count as u32 + 1)?,
-        replies: open_all(alloc, Role::Worker, workers, count, count as u32)?,
+        replies: open_all(alloc, Role::Worker, desks, count, count as u32)?,
     })
 }
 
@@ -226,7 +226,18 @@ fn drainer_capacity(config: &Config) -> usize
 {
     let observers = most_observers(&config.subjects) as usize;
     let asked = config.subjects.len() * observers;
-    2 * asked * (config.window as usize + 2) + config.workers as usize
+    2 * asked * (config.window as usize + 2) + desk_count(config)
+}
+
+// How many desks a server has: one for each worker, and behind these one for its face, if it has one.
+fn desk_count(config: &Config) -> usize
+    ensures count { result ≡ desk_count config.now }
+    ensures most { result ≤ 33 }
+{
+    match config.http {
+        Some(_) => config.workers as usize + 1,
+        None => config.workers as usize,
+    }
 }
 
 // The most observers that one of the subjects takes.

@@ -10,7 +10,7 @@ use Rattle.rx_note.specs.declared.event.Event.TheVariants.{Request, Dispose}
 use Rattle.rx_note.specs.declared.note.Note.{Note}
 use Rattle.rx_sink.specs.declared.asks.Asks.{Asks}
 use Rattle.rx_sink.specs.declared.flow.Flow.{Flow}
-use Rattle.rx_sink.specs.declared.flow.Flow.TheVariants.{Clear, Ready, Stuck}
+use Rattle.rx_sink.specs.declared.flow.Flow.TheVariants.{Clear, Ready, Stuck, Held}
 use Rattle.rx_sink.specs.declared.kept.Kept.{Kept}
 use Rattle.rx_sink.specs.declared.put_away.PutAway.{PutAway}
 use Rattle.rx_sink.specs.declared.sink.SinkFault.{SinkFault}
@@ -107,6 +107,8 @@ module _ {S Rest : Type 0} (acts : Acts S Rest) where
   clear_pays Ready over due is = refl
   clear_pays Stuck true due is = cc
   clear_pays Stuck false due is = cc
+  clear_pays Held true due is = cc
+  clear_pays Held false due is = cc
 
   -- what an answer has done: it is put away, or what is due is held back, or asked for
   abbrev answer_by : Bool → Bool → Attachment S → Ruling S

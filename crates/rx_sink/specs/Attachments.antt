@@ -10,7 +10,7 @@ use Rattle.rx_note.specs.declared.event.Event.TheVariants.{Request, Dispose}
 use Rattle.rx_note.specs.declared.note.Note.{Note}
 use Rattle.rx_note.specs.declared.note.Note.TheVariants.{Next, Completed, Failed}
 use Rattle.rx_sink.specs.declared.flow.Flow.{Flow}
-use Rattle.rx_sink.specs.declared.flow.Flow.TheVariants.{Clear, Ready, Stuck}
+use Rattle.rx_sink.specs.declared.flow.Flow.TheVariants.{Clear, Ready, Stuck, Held}
 use Rattle.rx_sink.specs.declared.kept.Kept.{Kept}
 use Rattle.rx_sink.specs.Acts.{Step, Takes, Flushes}
 
@@ -75,23 +75,32 @@ is_last (Next item) = false
 is_last Completed = true
 is_last (Failed text) = true
 
--- nothing waits in the sink
+-- nothing waits in the sink, nor is anything held back
 abbrev pub is_clear : Flow → Bool
 is_clear Clear = true
 is_clear Ready = false
 is_clear Stuck = false
+is_clear Held = false
 
--- what is due is held back: the sink is stuck, and no more is due than a `u32` counts
+-- nothing waits in the sink
+abbrev pub is_idle : Flow → Bool
+is_idle Clear = true
+is_idle Ready = false
+is_idle Stuck = false
+is_idle Held = true
+
+-- what is due is held back: the sink is stuck, or its reader asks itself, and no more is due than a `u32` counts
 abbrev pub is_held_back : Flow → ℕ → Bool
 is_held_back Clear due = false
 is_held_back Ready due = false
 is_held_back Stuck due = nat_lt due (2 ^ 32)
+is_held_back Held due = nat_lt due (2 ^ 32)
 
 -- something may wait in a sink of which this was the last step: it was not flushed since, or a flush left something
 abbrev pub may_wait : Option Step → Bool
 may_wait None = true
 may_wait (Some (Takes note flow)) = true
-may_wait (Some (Flushes flow)) = not (is_clear flow)
+may_wait (Some (Flushes flow)) = not (is_idle flow)
 
 module _ {S : Type 0} where
   -- ONE ATTACHMENT

@@ -16,7 +16,7 @@ use Rattle.rx_sink.specs.declared.kept.Kept.{Kept}
 use Rattle.rx_sink.specs.declared.put_away.PutAway.{PutAway}
 use Rattle.rx_sink.specs.declared.sink.SinkFault.{SinkFault}
 use Rattle.rx_sink.specs.Acts.{Acts, Took, raised}
-use Rattle.rx_sink.specs.Attachments.{Attachment, Why, TookLast, Detached, Closed, FailedAtStart, FailedAt, FailedAtFlush, Mark, Sent, Change, Service, Apart, is_clear, is_for, is_held_back, is_last, may_wait}
+use Rattle.rx_sink.specs.Attachments.{Attachment, Why, TookLast, Detached, Closed, FailedAtStart, FailedAt, FailedAtFlush, Mark, Sent, Change, Service, Apart, is_clear, is_for, is_held_back, is_idle, is_last, may_wait}
 
 -- the sinks of a drainer: those that are kept, what those left that were put away, how many found no memory, and how many notes
 -- they took
@@ -141,7 +141,7 @@ module _ {S Rest : Type 0} (acts : Acts S Rest) where
     pub did : acts.flushed before.sink flow after.sink
     pub faultless : acts.faults after.sink ≡ acts.faults before.sink
     pub over : after.over ≡ before.over
-    pub may_wait : after.may_wait ≡ not (is_clear flow)
+    pub may_wait : after.may_wait ≡ not (is_idle flow)
     pub pays : PaysDue flow before.due after asks
 
   -- a kept sink was finished, and what it left is the last that was put away

@@ -18,7 +18,7 @@ use Rattle.rx_note.specs.declared.note.Note.{Note}
 use Rattle.rx_proto.specs.Bytes.{AppendsPrefix}
 use Rattle.rx_proto.specs.Printing.{joined_line, note_line}
 use Rattle.rx_sink.specs.declared.flow.Flow.{Flow}
-use Rattle.rx_sink.specs.declared.flow.Flow.TheVariants.{Clear, Ready, Stuck}
+use Rattle.rx_sink.specs.declared.flow.Flow.TheVariants.{Clear, Ready, Stuck, Held}
 use Rattle.rx_sink.specs.declared.line_rest.LineRest.{LineRest}
 use Rattle.rx_sink.specs.declared.line_sink.LineSink.{LineSink}
 use Rattle.rx_sink.specs.declared.memory_sink.MemorySink.{MemorySink}
@@ -66,6 +66,7 @@ abbrev pub FlushLeaves : {W : Type 0} → Flow → LineSink W → LineSink W →
 FlushLeaves Clear s t = (t.ahead ≡ 0) × (t.stuck ≡ false)
 FlushLeaves Ready s t = ⊥
 FlushLeaves Stuck s t = (s.gathers ≡ true) × (t.ahead ≡ s.ahead) × (t.stuck ≡ true)
+FlushLeaves Held s t = ⊥
 
 -- a sink over a writer writes each line in its version, or a front of it at a fault, and counts the notes that it took; a flush
 -- writes nothing more. Nothing ever waits in it, unless its writer gathers what it is given

@@ -7,4 +7,6 @@ pub enum Flow {
     Ready,
     /// Something waits in it that can't go out now.
     Stuck,
+    /// Nothing waits in it, and its reader asks for items itself: none is asked for in the place of those that it took.
+    Held,
 }

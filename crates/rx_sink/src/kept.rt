@@ -1,5 +1,5 @@
 ghost use Rattle.std.specs.Prelude.{◌≡◌, ◌+◌, ◌≤◌, ◌^◌, if◌then◌else◌, true, false, MatchResult};
-ghost use Rattle.rx_sink.specs.Attachments.{is_clear, is_held_back, is_last};
+ghost use Rattle.rx_sink.specs.Attachments.{is_clear, is_held_back, is_idle, is_last};
 ghost use Rattle.rx_sink.specs.KeptSinks.{FaultedAt, FaultedAtFlush, IsFlushed, PaysDue, TakesNote};
 
 use crate::{Asks, Flow, Sink, SinkFault};
@@ -48,7 +48,7 @@ impl<S: Sink> Kept<S> {
         ensures who { self.new.who ≡ self.old.who }
     {
         let flow = self.sink.flush()?;
-        self.may_wait = !is_clear(flow);
+        self.may_wait = !is_idle(flow);
         let due = u64::from(self.due);
         Ok(self.pay(flow, due))
     }
@@ -92,7 +92,7 @@ fn due_after(due: u32, last: bool) -> u64
     }
 }
 
-// Whether nothing waits in the sink.
+// Whether nothing waits in the sink, nor is anything held back.
 fn is_clear(flow: Flow) -> bool
     ensures { result ≡ is_clear flow }
 {
@@ -105,8 +105,15 @@ fn is_held_back(flow: Flow, due: u64) -> bool
 {
     match flow {
         Flow::Clear | Flow::Ready => false,
-        Flow::Stuck => due <= u64::from(u32::MAX),
+        Flow::Stuck | Flow::Held => due <= u64::from(u32::MAX),
     }
+}
+
+// Whether a sink that was flushed needs no flush before it takes a note more.
+fn is_idle(flow: Flow) -> bool
+    ensures { result ≡ is_idle flow }
+{
+    matches!(flow, Flow::Clear | Flow::Held)
 }
 
 // Whether nothing follows a note.

@@ -16,8 +16,8 @@
 
 mod asks;
 mod flow;
-mod keeping;
 mod kept;
+mod kept_sinks;
 pub mod laws;
 mod line_rest;
 mod line_sink;
@@ -31,8 +31,8 @@ mod spots;
 
 pub use asks::Asks;
 pub use flow::Flow;
-pub use keeping::{attach, detach, flush_one, give, put_all_away};
 pub use kept::Kept;
+pub use kept_sinks::{attach, detach, flush_one, give, put_all_away};
 pub use line_rest::LineRest;
 pub use line_sink::LineSink;
 pub use memory_sink::MemorySink;

@@ -285,6 +285,13 @@ impl TapeSubject {
         self.terminal.is_some()
     }
 
+    /// Its end, once there is one.
+    pub fn end(&self) -> &Option<Note>
+        ensures { result.now ≡ self.now.terminal }
+    {
+        &self.terminal
+    }
+
     /// Whether it keeps its items back until the completion, as Async does.
     pub fn keeps_back(&self) -> bool
         ensures { (result ≡ true) ↔ (self.now.kind ≡ Async) }

@@ -73,8 +73,8 @@ abbrev pub passed : TapeState → ℕ → ℕ
 passed tape keep = min (lowest tape.places (end_of tape) - tape.front) (length tape.items - keep)
 
 -- the tape without so many of its first items
-abbrev pub without : TapeState → ℕ → TapeState
-without tape count = record {
+abbrev pub with_fewer : TapeState → ℕ → TapeState
+with_fewer tape count = record {
   front = tape.front + count;
   items = drop count tape.items;
   places = tape.places;
@@ -82,7 +82,7 @@ without tape count = record {
 
 -- the tape without what every cursor has passed, save the last ones that are to be kept
 abbrev pub trimmed : TapeState → ℕ → TapeState
-trimmed tape keep = without tape (passed tape keep)
+trimmed tape keep = with_fewer tape (passed tape keep)
 
 -- every cursor has passed so many of the first items
 abbrev pub HavePassed : TapeState → ℕ → Type 0

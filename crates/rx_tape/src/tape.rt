@@ -5,7 +5,7 @@
 // A tape that holds 4,294,967,295 cursors, or has been pushed 2^64 - 1 items, answers `Memory` without a refused growth. No
 // machine holds as many.
 ghost use Rattle.std.specs.Prelude.{◌≡◌, ◌≤◌, ◌<◌, ◌^◌, ◌-◌, ◌+◌, ◌↔◌, ℕ, true, drop, None, Some, length, min, slice_get, option_copied, IfOk, OnOk, OnErr};
-ghost use Rattle.rx_tape.specs.Tapes.{end_of, place_of, ahead, tape_at_first, pushed, HavePassed, MovesOn, Spares, trimmed, without};
+ghost use Rattle.rx_tape.specs.Tapes.{end_of, place_of, ahead, tape_at_first, pushed, HavePassed, MovesOn, Spares, trimmed, with_fewer};
 
 use crate::places::Places;
 use rx_heap::{Heap, Memory, give_back};
@@ -180,7 +180,7 @@ impl Tape {
         requires some { 0 < length self.old.items }
         requires passed { HavePassed self.old 1 }
         ensures first { slice_get self.old.items 0 ≡ Some result }
-        ensures left { self.new ≡ without self.old 1 }
+        ensures left { self.new ≡ with_fewer self.old 1 }
     {
         let Some(item) = self.items.pop_front() else {
             unreachable!()

@@ -4,7 +4,7 @@ use Rattle.std.proofs.lemmas.List.{reverse-append}
 use Rattle.std.proofs.lemmas.List.Elements.{All-head, All-tail, All-nil, All-cons, AllZip-push}
 use Rattle.std.specs.List.{All, AllZip}
 use Rattle.rx_pump.specs.Desks.{DeskView, KeepsDesk}
-use Rattle.rx_sink.specs.declared.line_sink.LineSink.{LineSink}
+use Rattle.rx_desk.specs.declared.client_sink.ClientSink.{ClientSink}
 use Rattle.rx_workers.specs.Crews.{AreOut, worker_desk}
 use Rattle.rx_workers.specs.Working.{WorkerView}
 use Rattle.rx_workers.proofs.Sessions.{desk_keeps-same}
@@ -28,42 +28,42 @@ module _ {M C W : Type 0} where
   desks-one workers worker = ap (map worker_desk) (reverse-append workers (worker ∷ []))
 
   -- these desks are left, and the others were handed to workers
-  abbrev pub IsSplit : List (DeskView (LineSink W)) → List (DeskView (LineSink W)) → List (WorkerView M C W) → Type 0
+  abbrev pub IsSplit : List (DeskView (ClientSink W)) → List (DeskView (ClientSink W)) → List (WorkerView M C W) → Type 0
   IsSplit all here workers = here ++ map worker_desk (reverse workers) ≡ all
 
   -- no worker was hired yet
-  pub split-begun : (all : List (DeskView (LineSink W))) (workers : List (WorkerView M C W)) → workers ≡ [] → IsSplit all all workers
+  pub split-begun : (all : List (DeskView (ClientSink W))) (workers : List (WorkerView M C W)) → workers ≡ [] → IsSplit all all workers
   split-begun all workers none = ap (λ (ws : List (WorkerView M C W)). all ++ map worker_desk (reverse ws)) none ∙ append-nil all
 
   -- one worker more was hired
-  pub split-one : (all here left : List (DeskView (LineSink W))) (workers after : List (WorkerView M C W)) (desk : DeskView (LineSink W)) (worker : WorkerView M C W)
+  pub split-one : (all here left : List (DeskView (ClientSink W))) (workers after : List (WorkerView M C W)) (desk : DeskView (ClientSink W)) (worker : WorkerView M C W)
       → here ≡ left ++ desk ∷ [] → after ≡ workers ++ worker ∷ [] → worker_desk worker ≡ desk → IsSplit all here workers → IsSplit all left after
   split-one all here left workers after desk worker took put same split =
       let rest = map worker_desk (reverse workers) in
       ap (λ (ws : List (WorkerView M C W)). left ++ map worker_desk (reverse ws)) put
       ∙ ap (λ ds. left ++ ds) (desks-one workers worker)
-      ∙ ap (λ (d : DeskView (LineSink W)). left ++ d ∷ rest) same
+      ∙ ap (λ (d : DeskView (ClientSink W)). left ++ d ∷ rest) same
       ∙ sym (append_assoc left (desk ∷ []) rest)
       ∙ ap (λ ds. ds ++ rest) (sym took)
       ∙ split
 
   -- the desks that are left made no call
-  pub split-out : (all here : List (DeskView (LineSink W))) (workers : List (WorkerView M C W)) → IsSplit all here workers → AreOut all here workers
+  pub split-out : (all here : List (DeskView (ClientSink W))) (workers : List (WorkerView M C W)) → IsSplit all here workers → AreOut all here workers
   split-out all here workers split = record { kept = here; parts = split; same = kept_same here }
 
   -- no worker was hired for the last of these desks, which came back
-  pub split-back : (all here left after : List (DeskView (LineSink W))) (workers : List (WorkerView M C W)) (desk back : DeskView (LineSink W))
+  pub split-back : (all here left after : List (DeskView (ClientSink W))) (workers : List (WorkerView M C W)) (desk back : DeskView (ClientSink W))
       → here ≡ left ++ desk ∷ [] → after ≡ left ++ back ∷ [] → KeepsDesk desk back → IsSplit all here workers → AreOut all after workers
   split-back all here left after workers desk back took put kept split = record {
     kept = left ++ desk ∷ [];
     parts = ap (λ ds. ds ++ map worker_desk (reverse workers)) (sym took) ∙ split;
     same =
-        subst (λ (ds : List (DeskView (LineSink W))). AllZip KeepsDesk (left ++ desk ∷ []) ds) (sym put)
+        subst (λ (ds : List (DeskView (ClientSink W))). AllZip KeepsDesk (left ++ desk ∷ []) ds) (sym put)
         (AllZip-push KeepsDesk left left desk back (kept_same left) kept);
   }
 
   -- the worker that was hired last joined
-  pub out-one : (all here after : List (DeskView (LineSink W))) (workers left : List (WorkerView M C W)) (worker : WorkerView M C W) (back : DeskView (LineSink W))
+  pub out-one : (all here after : List (DeskView (ClientSink W))) (workers left : List (WorkerView M C W)) (worker : WorkerView M C W) (back : DeskView (ClientSink W))
       → workers ≡ left ++ worker ∷ [] → after ≡ here ++ back ∷ [] → KeepsDesk (worker_desk worker) back → AreOut all here workers → AreOut all after left
   out-one all here after workers left worker back took put kept out =
       let rest = map worker_desk (reverse left) in
@@ -75,12 +75,12 @@ module _ {M C W : Type 0} where
             ∙ ap (λ (ws : List (WorkerView M C W)). out.kept ++ map worker_desk (reverse ws)) (sym took)
             ∙ out.parts;
         same =
-            subst (λ (ds : List (DeskView (LineSink W))). AllZip KeepsDesk (out.kept ++ worker_desk worker ∷ []) ds) (sym put)
+            subst (λ (ds : List (DeskView (ClientSink W))). AllZip KeepsDesk (out.kept ++ worker_desk worker ∷ []) ds) (sym put)
             (AllZip-push KeepsDesk out.kept here (worker_desk worker) back out.same kept);
       }
 
   -- all workers joined
-  pub out-all : (all here : List (DeskView (LineSink W))) (workers : List (WorkerView M C W)) → workers ≡ [] → AreOut all here workers → AllZip KeepsDesk all here
+  pub out-all : (all here : List (DeskView (ClientSink W))) (workers : List (WorkerView M C W)) → workers ≡ [] → AreOut all here workers → AllZip KeepsDesk all here
   out-all all here workers none out =
       let whole : out.kept ≡ all = sym (append-nil out.kept) ∙ ap (λ (ws : List (WorkerView M C W)). out.kept ++ map worker_desk (reverse ws)) (sym none) ∙ out.parts in
-      subst (λ (ds : List (DeskView (LineSink W))). AllZip KeepsDesk ds here) whole out.same
+      subst (λ (ds : List (DeskView (ClientSink W))). AllZip KeepsDesk ds here) whole out.same

@@ -5,5 +5,6 @@ pub mod Places
 pub mod Received
 pub mod Service
 pub mod Sessions
+pub mod Talks
 pub mod Watching
 pub mod Working

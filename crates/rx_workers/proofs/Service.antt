@@ -14,7 +14,7 @@ use Rattle.rx_mailbox.specs.declared.letter.Letter.{Letter}
 use Rattle.rx_mailbox.specs.declared.letter.Post.TheVariants.{Bye}
 use Rattle.rx_pump.specs.Desks.{DeskView, KeepsDesk}
 use Rattle.rx_mailbox.specs.PortRows.{with_bye}
-use Rattle.rx_sink.specs.declared.line_sink.LineSink.{LineSink}
+use Rattle.rx_desk.specs.declared.client_sink.ClientSink.{ClientSink}
 use Rattle.rx_workers.specs.Accepting.{dealt_to, Deals, AcceptsAll}
 use Rattle.rx_workers.specs.Crews.{AreOut, IsPortOf, NamesLast, worker_desk, first_lost}
 use Rattle.rx_workers.specs.Service.{DealsUntil, NotHired, AllHired, EndsEarly, FirstEndsEarly, HasServedJust, HaveServedFrom, HaveServedAll, IsNewOver, Reception, Surroundings, NeverBegan, GoneBefore, EarlyOfAll, EarlyOfFewer, ServesUntil, fault_in, port_to, reception, session_over, with_lost}
@@ -75,7 +75,7 @@ module _ {M C W : Type 0} (around : Peers M C W) where
 
 module _ {M C W : Type 0} (around : Peers M C W) (config : Config) where
   -- what an inbox of a new worker has received
-  received_new : (desk : DeskView (LineSink W)) (one : WorkerView (Unit {0}) C W) (end : WorkerEnd C W) (xs : List (C × W)) (port : Outgoing (C × W)) (ended : HasEnded around one end)
+  received_new : (desk : DeskView (ClientSink W)) (one : WorkerView (Unit {0}) C W) (end : WorkerEnd C W) (xs : List (C × W)) (port : Outgoing (C × W)) (ended : HasEnded around one end)
       → IsNewOver config desk one → port ≡ outgoing one.inbox.box 0 (posts 0 xs) → GotAll end.inbox (with_bye port)
       → (end.inbox ≡ incoming one.inbox.box 1 (posts 0 xs ++ letter 0 Bye ∷ [])) × (came ended.2.deeds ≡ xs)
   received_new desk one end xs port ended new port_is got =
@@ -92,16 +92,16 @@ module _ {M C W : Type 0} (around : Peers M C W) (config : Config) where
       (inbox, sym bodies_are ∙ ap (λ (i : Incoming (C × W)). bodies i.received) inbox ∙ bodies-posts xs)
 
   -- THE WORKER OF A DESK that ended, and whose box settled
-  pub served_just : (desk : DeskView (LineSink W)) (one : WorkerView (Unit {0}) C W) (end : WorkerEnd C W) (xs : List (C × W)) (port : Outgoing (C × W)) → HasEnded around one end
+  pub served_just : (desk : DeskView (ClientSink W)) (one : WorkerView (Unit {0}) C W) (end : WorkerEnd C W) (xs : List (C × W)) (port : Outgoing (C × W)) → HasEnded around one end
       → IsNewOver config desk one → port ≡ outgoing one.inbox.box 0 (posts 0 xs) → GotAll end.inbox (with_bye port)
       → HasServedJust around config xs desk end.desk
   served_just desk one end xs port ended new port_is got =
       let H : WorkerView (Unit {0}) C W → Type 0 = λ w. (h : HasServed around one w end.sessions) × (came h.deeds ≡ xs) in
       let inbox = received_new desk one end xs port ended new port_is got in
       let session : (worker_at_end one ended.0 ended.1 end).session ≡ session_over config end.desk ended.0 ended.1 =
-      ap (λ (s : SessionView (Unit {0}) (LineSink W)). record { subjects = s.subjects; window = s.window; moments = tt; calls = end.desk; joined = ended.0; queue = ended.1 }) new.session in
+      ap (λ (s : SessionView (Unit {0}) (ClientSink W)). record { subjects = s.subjects; window = s.window; moments = tt; calls = end.desk; joined = ended.0; queue = ended.1 }) new.session in
       let start : H (worker_at_end one ended.0 ended.1 end) = (ended.2, inbox.1) in
-      let left : H (worker (session_over config end.desk ended.0 ended.1) end.inbox) = subst (λ (s : SessionView (Unit {0}) (LineSink W)). H (worker s end.inbox)) session start in
+      let left : H (worker (session_over config end.desk ended.0 ended.1) end.inbox) = subst (λ (s : SessionView (Unit {0}) (ClientSink W)). H (worker s end.inbox)) session start in
       let whole : H (worker (session_over config end.desk ended.0 ended.1) (incoming one.inbox.box 1 (posts 0 xs ++ letter 0 Bye ∷ []))) =
       subst (λ (i : Incoming (C × W)). H (worker (session_over config end.desk ended.0 ended.1) i)) inbox.0 left in
       record { one = one; joined = ended.0; queue = ended.1; sessions = end.sessions; is_new = new; worked = whole.0; came_are = whole.1 }
@@ -109,7 +109,7 @@ module _ {M C W : Type 0} (around : Peers M C W) (config : Config) where
   -- WORKER BY WORKER
 
   -- one more desk, behind others
-  served_from_push : (n d k : ℕ) (xs : List (C × W)) (desks backs : List (DeskView (LineSink W))) (desk back : DeskView (LineSink W)) → k ≡ d + length desks
+  served_from_push : (n d k : ℕ) (xs : List (C × W)) (desks backs : List (DeskView (ClientSink W))) (desk back : DeskView (ClientSink W)) → k ≡ d + length desks
       → HaveServedFrom around config n d xs desks backs → HasServedJust around config (dealt_to n k 0 xs) desk back
       → HaveServedFrom around config n d xs (desks ++ desk ∷ []) (backs ++ back ∷ [])
   served_from_push n d k xs [] [] desk back is so one = (subst (λ (m : ℕ). HasServedJust around config (dealt_to n m 0 xs) desk back) (omega (arith, is)) one, tt)
@@ -144,21 +144,21 @@ module _ {C W : Type 0} where
 
 module _ {M C W : Type 0} (around : Peers M C W) (config : Config) where
   -- the workers of the first desks have ended, and served what was dealt to them; those that are left hold what was dealt to them
-  pub record HaveServedSome (n : ℕ) (xs : List (C × W)) (all here : List (DeskView (LineSink W))) (workers : List (WorkerView (Unit {0}) C W)) (ports : List (Outgoing (C × W))) : Type 0 where
-    pub kept : List (DeskView (LineSink W))
+  pub record HaveServedSome (n : ℕ) (xs : List (C × W)) (all here : List (DeskView (ClientSink W))) (workers : List (WorkerView (Unit {0}) C W)) (ports : List (Outgoing (C × W))) : Type 0 where
+    pub kept : List (DeskView (ClientSink W))
     pub parts : kept ++ map worker_desk (reverse workers) ≡ all
     pub served : HaveServedFrom around config n 0 xs kept here
     pub new : All (λ one. IsNewOver config (worker_desk one) one) workers
     pub waits : reverse ports ≡ dealt_by n (length kept) xs (map port_to (reverse workers))
 
   -- none has ended yet
-  pub some-none : (xs : List (C × W)) (here : List (DeskView (LineSink W))) (workers : List (WorkerView (Unit {0}) C W)) (ports : List (Outgoing (C × W))) → here ≡ []
+  pub some-none : (xs : List (C × W)) (here : List (DeskView (ClientSink W))) (workers : List (WorkerView (Unit {0}) C W)) (ports : List (Outgoing (C × W))) → here ≡ []
       → All (λ one. IsNewOver config (worker_desk one) one) workers → Deals xs (reverse (map port_to workers)) (reverse ports)
       → HaveServedSome (length workers) xs (map worker_desk (reverse workers)) here workers ports
   some-none xs here workers ports none new deals = record {
     kept = [];
     parts = refl;
-    served = subst (λ (l : List (DeskView (LineSink W))). HaveServedFrom around config (length workers) 0 xs [] l) (sym none) tt;
+    served = subst (λ (l : List (DeskView (ClientSink W))). HaveServedFrom around config (length workers) 0 xs [] l) (sym none) tt;
     new = new;
     waits =
         let n : length (reverse (map port_to workers)) ≡ length workers = length-reverse (map port_to workers) ∙ length-map workers port_to in
@@ -168,7 +168,7 @@ module _ {M C W : Type 0} (around : Peers M C W) (config : Config) where
   }
 
   -- the last worker's port holds what was dealt to it
-  pub some-port : (n : ℕ) (xs : List (C × W)) (all here : List (DeskView (LineSink W))) (workers left : List (WorkerView (Unit {0}) C W)) (ports rest : List (Outgoing (C × W)))
+  pub some-port : (n : ℕ) (xs : List (C × W)) (all here : List (DeskView (ClientSink W))) (workers left : List (WorkerView (Unit {0}) C W)) (ports rest : List (Outgoing (C × W)))
       → (one : WorkerView (Unit {0}) C W) (port : Outgoing (C × W)) → workers ≡ left ++ one ∷ [] → ports ≡ rest ++ port ∷ []
       → (so : HaveServedSome n xs all here workers ports) → (port ≡ outgoing one.inbox.box 0 (posts 0 (dealt_to n (length so.kept) 0 xs))) × (reverse rest ≡ dealt_by n (length so.kept + 1) xs (map port_to (reverse left)))
   some-port n xs all here workers left ports rest one port took took_port so =
@@ -180,8 +180,8 @@ module _ {M C W : Type 0} (around : Peers M C W) (config : Config) where
       )
 
   -- one more has ended, and its box settled
-  pub some-one : (n : ℕ) (xs : List (C × W)) (all here after : List (DeskView (LineSink W))) (workers left : List (WorkerView (Unit {0}) C W)) (ports rest : List (Outgoing (C × W)))
-      → (one : WorkerView (Unit {0}) C W) (port : Outgoing (C × W)) (back : DeskView (LineSink W)) → workers ≡ left ++ one ∷ [] → ports ≡ rest ++ port ∷ [] → after ≡ here ++ back ∷ []
+  pub some-one : (n : ℕ) (xs : List (C × W)) (all here after : List (DeskView (ClientSink W))) (workers left : List (WorkerView (Unit {0}) C W)) (ports rest : List (Outgoing (C × W)))
+      → (one : WorkerView (Unit {0}) C W) (port : Outgoing (C × W)) (back : DeskView (ClientSink W)) → workers ≡ left ++ one ∷ [] → ports ≡ rest ++ port ∷ [] → after ≡ here ++ back ∷ []
       → ((ys : List (C × W)) → IsNewOver config (worker_desk one) one → port ≡ outgoing one.inbox.box 0 (posts 0 ys) → HasServedJust around config ys (worker_desk one) back)
       → HaveServedSome n xs all here workers ports → HaveServedSome n xs all after left rest
   some-one n xs all here after workers left ports rest one port back took took_port put served so =
@@ -198,30 +198,30 @@ module _ {M C W : Type 0} (around : Peers M C W) (config : Config) where
             ∙ ap (λ (ws : List (WorkerView (Unit {0}) C W)). so.kept ++ map worker_desk ws) (sym (last_first workers left one took))
             ∙ so.parts;
         served =
-            subst (λ (l : List (DeskView (LineSink W))). HaveServedFrom around config n 0 xs (so.kept ++ worker_desk one ∷ []) l) (sym put)
+            subst (λ (l : List (DeskView (ClientSink W))). HaveServedFrom around config n 0 xs (so.kept ++ worker_desk one ∷ []) l) (sym put)
             (served_from_push around config n 0 k xs so.kept here (worker_desk one) back (omega arith) so.served just);
         new = news.0;
         waits = p.1 ∙ ap (λ (m : ℕ). dealt_by n m xs (map port_to (reverse left))) (sym count);
       }
 
   -- all have ended
-  pub some-all : (n : ℕ) (xs : List (C × W)) (all here : List (DeskView (LineSink W))) (workers : List (WorkerView (Unit {0}) C W)) (ports : List (Outgoing (C × W))) → workers ≡ [] → n ≡ length all
+  pub some-all : (n : ℕ) (xs : List (C × W)) (all here : List (DeskView (ClientSink W))) (workers : List (WorkerView (Unit {0}) C W)) (ports : List (Outgoing (C × W))) → workers ≡ [] → n ≡ length all
       → HaveServedSome n xs all here workers ports → HaveServedAll around config xs all here
   some-all n xs all here workers ports none count so =
       let whole : so.kept ≡ all = sym (append-nil so.kept) ∙ ap (λ (ws : List (WorkerView (Unit {0}) C W)). so.kept ++ map worker_desk (reverse ws)) (sym none) ∙ so.parts in
       subst (λ (m : ℕ). HaveServedFrom around config m 0 xs all here) count
-      (subst (λ (l : List (DeskView (LineSink W))). HaveServedFrom around config n 0 xs l here) whole so.served)
+      (subst (λ (l : List (DeskView (ClientSink W))). HaveServedFrom around config n 0 xs l here) whole so.served)
 
   -- as many desks came back as served
-  served_from-long : (n d : ℕ) (xs : List (C × W)) (desks backs : List (DeskView (LineSink W))) → HaveServedFrom around config n d xs desks backs → length backs ≡ length desks
+  served_from-long : (n d : ℕ) (xs : List (C × W)) (desks backs : List (DeskView (ClientSink W))) → HaveServedFrom around config n d xs desks backs → length backs ≡ length desks
   served_from-long n d xs [] [] so = refl
   served_from-long n d xs [] (back ∷ backs) so = absurd so
   served_from-long n d xs (desk ∷ desks) [] so = absurd so
   served_from-long n d xs (desk ∷ desks) (back ∷ backs) so = (let rest = served_from-long n (d + 1) xs desks backs so.1 in omega (arith, rest))
 
   -- one more has ended, and is the first that did so early
-  pub first-early : (n : ℕ) (xs : List (C × W)) (all here after : List (DeskView (LineSink W))) (workers left : List (WorkerView (Unit {0}) C W)) (ports rest : List (Outgoing (C × W)))
-      → (one : WorkerView (Unit {0}) C W) (port : Outgoing (C × W)) (back : DeskView (LineSink W)) (place : ℕ) → n ≡ length all → place ≡ length here
+  pub first-early : (n : ℕ) (xs : List (C × W)) (all here after : List (DeskView (ClientSink W))) (workers left : List (WorkerView (Unit {0}) C W)) (ports rest : List (Outgoing (C × W)))
+      → (one : WorkerView (Unit {0}) C W) (port : Outgoing (C × W)) (back : DeskView (ClientSink W)) (place : ℕ) → n ≡ length all → place ≡ length here
       → workers ≡ left ++ one ∷ [] → ports ≡ rest ++ port ∷ [] → after ≡ here ++ back ∷ []
       → ((ys : List (C × W)) → IsNewOver config (worker_desk one) one → port ≡ outgoing one.inbox.box 0 (posts 0 ys) → EndsEarly around config ys (worker_desk one) back)
       → HaveServedSome n xs all here workers ports → FirstEndsEarly around config xs place all after
@@ -245,7 +245,7 @@ module _ {M C W : Type 0} (around : Peers M C W) (config : Config) where
       }
 
   -- and others end behind it
-  pub first-push : (xs : List (C × W)) (place : ℕ) (all here after : List (DeskView (LineSink W))) (back : DeskView (LineSink W)) → after ≡ here ++ back ∷ []
+  pub first-push : (xs : List (C × W)) (place : ℕ) (all here after : List (DeskView (ClientSink W))) (back : DeskView (ClientSink W)) → after ≡ here ++ back ∷ []
       → FirstEndsEarly around config xs place all here → FirstEndsEarly around config xs place all after
   first-push xs place all here after back put first = record {
     before = first.before;
@@ -258,7 +258,7 @@ module _ {M C W : Type 0} (around : Peers M C W) (config : Config) where
     later = first.later ++ back ∷ [];
     parts_after =
         sym (append_assoc first.backs (first.back ∷ first.later) (back ∷ []))
-        ∙ ap (λ (ds : List (DeskView (LineSink W))). ds ++ back ∷ []) first.parts_after
+        ∙ ap (λ (ds : List (DeskView (ClientSink W))). ds ++ back ∷ []) first.parts_after
         ∙ sym put;
     served = first.served;
     early = first.early;
@@ -268,9 +268,9 @@ module _ {M C W : Type 0} (around : Peers M C W) (config : Config) where
 
 module _ {C W : Type 0} where
   -- a new worker is one over its own desk
-  pub new_own : (config : Config) (desk : DeskView (LineSink W)) (one : WorkerView (Unit {0}) C W) → IsNewOver config desk one → IsNewOver config (worker_desk one) one
+  pub new_own : (config : Config) (desk : DeskView (ClientSink W)) (one : WorkerView (Unit {0}) C W) → IsNewOver config desk one → IsNewOver config (worker_desk one) one
   new_own config desk one new =
-      let is : worker_desk one ≡ desk = ap (λ (s : SessionView (Unit {0}) (LineSink W)). s.calls) new.session in
+      let is : worker_desk one ≡ desk = ap (λ (s : SessionView (Unit {0}) (ClientSink W)). s.calls) new.session in
       record { session = new.session ∙ ap (λ d. session_over config d None no_queue) (sym is); inbox = new.inbox; room = new.room }
 
   -- the port of one worker more
@@ -350,15 +350,15 @@ kept_none (desk ∷ kept) (back ∷ here) none all = let no : ⊥ = (let count =
 
 module _ {C W : Type 0} where
   -- all desks were handed to workers
-  pub handed_all : (desks here : List (DeskView (LineSink W))) (workers : List (WorkerView (Unit {0}) C W)) → here ≡ [] → AreOut desks here workers → map worker_desk (reverse workers) ≡ desks
-  handed_all desks here workers none out = subst (λ (kept : List (DeskView (LineSink W))). kept ++ map worker_desk (reverse workers) ≡ desks) (kept_none out.kept here none out.same) out.parts
+  pub handed_all : (desks here : List (DeskView (ClientSink W))) (workers : List (WorkerView (Unit {0}) C W)) → here ≡ [] → AreOut desks here workers → map worker_desk (reverse workers) ≡ desks
+  handed_all desks here workers none out = subst (λ (kept : List (DeskView (ClientSink W))). kept ++ map worker_desk (reverse workers) ≡ desks) (kept_none out.kept here none out.same) out.parts
 
   -- to as many
-  pub workers_count : (desks : List (DeskView (LineSink W))) (workers : List (WorkerView (Unit {0}) C W)) → map worker_desk (reverse workers) ≡ desks → length workers ≡ length desks
+  pub workers_count : (desks : List (DeskView (ClientSink W))) (workers : List (WorkerView (Unit {0}) C W)) → map worker_desk (reverse workers) ≡ desks → length workers ≡ length desks
   workers_count desks workers all = sym (length-reverse workers) ∙ sym (length-map (reverse workers) worker_desk) ∙ ap length all
 
   -- the desks that are here are some of all
-  pub here_some : (desks here : List (DeskView (LineSink W))) (workers : List (WorkerView (Unit {0}) C W)) → AreOut desks here workers → length here ≤ length desks
+  pub here_some : (desks here : List (DeskView (ClientSink W))) (workers : List (WorkerView (Unit {0}) C W)) → AreOut desks here workers → length here ≤ length desks
   here_some desks here workers out =
       let same : length here ≡ length out.kept = AllZip-long KeepsDesk out.kept here out.same in
       let all : length out.kept + length (map worker_desk (reverse workers)) ≡ length desks = sym (length-append out.kept (map worker_desk (reverse workers))) ∙ ap length out.parts in
@@ -366,12 +366,12 @@ module _ {C W : Type 0} where
 
 module _ {L M C W : Type 0} (around : Surroundings L M C W) (config : Config) where
   -- what is known of the desks that came back, where no worker was lost
-  abbrev pub ServedUnlessLost : Option ℕ → List (DeskView (LineSink W)) → List (DeskView (LineSink W)) → List (DeskView (LineSink W)) → List (WorkerView (Unit {0}) C W) → List (Outgoing (C × W)) → Type 0
+  abbrev pub ServedUnlessLost : Option ℕ → List (DeskView (ClientSink W)) → List (DeskView (ClientSink W)) → List (DeskView (ClientSink W)) → List (WorkerView (Unit {0}) C W) → List (Outgoing (C × W)) → Type 0
   ServedUnlessLost lost desks here after workers ports =
       lost ≡ None → here ≡ [] → (xs : List (C × W)) → Deals xs (reverse (map port_to workers)) (reverse ports) → HaveServedAll around.workers config xs desks after
 
   -- and where one was
-  abbrev pub FirstIfLost : Option ℕ → List (DeskView (LineSink W)) → List (DeskView (LineSink W)) → List (DeskView (LineSink W)) → List (WorkerView (Unit {0}) C W) → List (Outgoing (C × W)) → Type 0
+  abbrev pub FirstIfLost : Option ℕ → List (DeskView (ClientSink W)) → List (DeskView (ClientSink W)) → List (DeskView (ClientSink W)) → List (WorkerView (Unit {0}) C W) → List (Outgoing (C × W)) → Type 0
   FirstIfLost lost desks here after workers ports =
       (place : ℕ) → lost ≡ Some place → here ≡ [] → (xs : List (C × W)) → Deals xs (reverse (map port_to workers)) (reverse ports) → FirstEndsEarly around.workers config xs place desks after
 
@@ -389,7 +389,7 @@ module _ {L M C W : Type 0} (around : Surroundings L M C W) (config : Config) wh
       }
 
   -- no worker was hired for one of the desks
-  hired_so : (fault : ServeFault) (lost : Option ℕ) (before after : Reception L W) (here : List (DeskView (LineSink W)))
+  hired_so : (fault : ServeFault) (lost : Option ℕ) (before after : Reception L W) (here : List (DeskView (ClientSink W)))
       → 0 < length before.desks → length here ≤ length before.desks → NamesLast (length here) fault → after.listener ≡ before.listener
       → ServesUntil around config (with_lost (Err fault) lost) before after
   hired_so NoDesk lost before after here some most names same = absurd names
@@ -400,7 +400,7 @@ module _ {L M C W : Type 0} (around : Surroundings L M C W) (config : Config) wh
   hired_so Memory (Some first) before after here some most names same = record { some_desk = some; untouched = same }
 
   -- by how the acceptor stopped
-  stopped_so : (stop : Result (Unit {0}) AcceptStop) (lost : Option ℕ) (before after : Reception L W) (here : List (DeskView (LineSink W))) (workers : List (WorkerView (Unit {0}) C W)) (ports : List (Outgoing (C × W)))
+  stopped_so : (stop : Result (Unit {0}) AcceptStop) (lost : Option ℕ) (before after : Reception L W) (here : List (DeskView (ClientSink W))) (workers : List (WorkerView (Unit {0}) C W)) (ports : List (Outgoing (C × W)))
       → 0 < length before.desks → here ≡ [] → length (reverse (map port_to workers)) ≡ length before.desks → IfSome lost (λ place. place < length before.desks)
       → AcceptsAll around.accepts around.fails config.connections stop before.listener after.listener (reverse (map port_to workers)) (reverse ports)
       → ServedUnlessLost lost before.desks here after.desks workers ports → FirstIfLost lost before.desks here after.desks workers ports
@@ -417,7 +417,7 @@ module _ {L M C W : Type 0} (around : Surroundings L M C W) (config : Config) wh
   stopped_so (Err (WorkerGone place)) (Some lost) before after here workers ports some none count within all so first = gone_so place before after workers ports some count all
 
   -- by how dealing ended
-  pub ended_so : (dealt result : Result (Unit {0}) ServeFault) (lost : Option ℕ) (listener listener_after : L) (desks here after : List (DeskView (LineSink W))) (workers : List (WorkerView (Unit {0}) C W)) (ports : List (Outgoing (C × W)))
+  pub ended_so : (dealt result : Result (Unit {0}) ServeFault) (lost : Option ℕ) (listener listener_after : L) (desks here after : List (DeskView (ClientSink W))) (workers : List (WorkerView (Unit {0}) C W)) (ports : List (Outgoing (C × W)))
       → 0 < length desks → length after ≡ length desks → AreOut desks here workers → IfSome lost (λ place. place < length after)
       → DealsUntil around.accepts around.fails config.connections dealt listener listener_after here workers ports
       → ServedUnlessLost lost (map worker_desk (reverse workers)) here after workers ports → FirstIfLost lost (map worker_desk (reverse workers)) here after workers ports
@@ -431,7 +431,7 @@ module _ {L M C W : Type 0} (around : Surroundings L M C W) (config : Config) wh
       let all : map worker_desk (reverse workers) ≡ desks = handed_all desks here workers none out in
       let crew : length (reverse (map port_to workers)) ≡ length desks = length-reverse (map port_to workers) ∙ length-map workers port_to ∙ workers_count desks workers all in
       let places : IfSome lost (λ place. place < length desks) = subst (λ (n : ℕ). IfSome lost (λ place. place < n)) count within in
-      let served : ServedUnlessLost lost desks here after workers ports = subst (λ (ds : List (DeskView (LineSink W))). ServedUnlessLost lost ds here after workers ports) all so in
-      let firsts : FirstIfLost lost desks here after workers ports = subst (λ (ds : List (DeskView (LineSink W))). FirstIfLost lost ds here after workers ports) all first in
+      let served : ServedUnlessLost lost desks here after workers ports = subst (λ (ds : List (DeskView (ClientSink W))). ServedUnlessLost lost ds here after workers ports) all so in
+      let firsts : FirstIfLost lost desks here after workers ports = subst (λ (ds : List (DeskView (ClientSink W))). FirstIfLost lost ds here after workers ports) all first in
       subst (λ (r : Result (Unit {0}) ServeFault). ServesUntil around config r (reception listener desks) (reception listener_after after)) is
       (stopped_so stop lost (reception listener desks) (reception listener_after after) here workers ports some none crew places accepted served firsts)

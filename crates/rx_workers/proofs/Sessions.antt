@@ -21,7 +21,7 @@ use Rattle.rx_session.specs.declared.follow.Follow.TheVariants.{Back}
 use Rattle.rx_session.specs.declared.open_session.OpenSession.{OpenSession}
 use Rattle.rx_session.specs.declared.turn.Turn.{Turn}
 use Rattle.rx_session.proofs.ByTurns.{Through-begun}
-use Rattle.rx_sink.specs.declared.line_sink.LineSink.{LineSink}
+use Rattle.rx_desk.specs.declared.client_sink.ClientSink.{ClientSink}
 use Rattle.rx_desk.specs.SessionDesks.{SessionView, KeepsSession, place_of, emits, follows, EmitsAt, FollowsAt}
 use Rattle.rx_workers.specs.Working.{TakesTurn, calls}
 use Rattle.rx_workers.specs.declared.worker.client.Talk.{Talk}
@@ -55,13 +55,13 @@ match_option (Some x) A B P none some m = some x m
 
 module _ {M W : Type 0} (tells : M → ℕ → M → Type 0) where
   -- an Emit keeps the desk
-  emit_keeps : (s : SessionView M (LineSink W)) (name : List ℕ) (note : Note) (r : Response) (t : SessionView M (LineSink W)) → emits tells s name note r t → KeepsSession s t
+  emit_keeps : (s : SessionView M (ClientSink W)) (name : List ℕ) (note : Note) (r : Response) (t : SessionView M (ClientSink W)) → emits tells s name note r t → KeepsSession s t
   emit_keeps s name note r t e =
       match_option (place_of name s.subjects) ((r ≡ Refused words.Subject) × (t ≡ s)) (EmitsAt tells s note r t) (KeepsSession s t)
       (λ x. keeps-equal s t x.1) (λ subject x. x.1.kept) e
 
   -- a Join keeps the desk
-  follow_keeps : (s : SessionView M (LineSink W)) (name : List ℕ) (policy : Choice) (version : Version) (writer : W) (f : Follow W) (t : SessionView M (LineSink W))
+  follow_keeps : (s : SessionView M (ClientSink W)) (name : List ℕ) (policy : Choice) (version : Version) (writer : W) (f : Follow W) (t : SessionView M (ClientSink W))
       → follows tells s name policy version writer f t → KeepsSession s t
   follow_keeps s name policy version writer f t e =
       match_option (place_of name s.subjects) ((f ≡ Back (Refused words.Subject) writer) × (t ≡ s)) (FollowsAt tells s policy version writer f t) (KeepsSession s t)
@@ -81,11 +81,11 @@ a_rest false bytes = (bytes, record { gone = []; kind = refl; passed = tt; parts
 
 module _ {M C W : Type 0} (tells : M → ℕ → M → Type 0) (remaining : C → Option (List ℕ)) (contents : W → Option (List ℕ)) where
   -- a session that reads may stand anywhere
-  stands_open : (desk : SessionView M (LineSink W)) (writer : W) (version : Version) (held : List ℕ) (known : Option (List ℕ)) (quits skips : Bool) (bytes : List ℕ) → quits ≡ false
+  stands_open : (desk : SessionView M (ClientSink W)) (writer : W) (version : Version) (held : List ℕ) (known : Option (List ℕ)) (quits skips : Bool) (bytes : List ℕ) → quits ≡ false
       → (rest : List ℕ) × IsOpen (calls tells remaining contents) (record { desk = desk; writer = writer; version = version; told = held }) rest known known (hands desk writer version held) quits skips bytes
   stands_open desk writer version held known true skips bytes is = absurd (true≢false is)
   stands_open desk writer version held known false skips bytes is =
-      let at : Place (SessionView M (LineSink W)) W = record { desk = desk; writer = writer; version = version; told = held } in
+      let at : Place (SessionView M (ClientSink W)) W = record { desk = desk; writer = writer; version = version; told = held } in
       let r = a_rest skips bytes in (
         r.0,
         record {
@@ -98,7 +98,7 @@ module _ {M C W : Type 0} (tells : M → ℕ → M → Type 0) (remaining : C �
       )
 
   -- a turn keeps the desk
-  pub turn_keeps : (result : Turn W) (talk : Talk C W) (reader : C) (session_after : OpenSession) (before after : SessionView M (LineSink W))
+  pub turn_keeps : (result : Turn W) (talk : Talk C W OpenSession) (reader : C) (session_after : OpenSession) (before after : SessionView M (ClientSink W))
       → TakesTurn tells remaining contents result talk reader session_after before after → KeepsSession before after
   turn_keeps result talk reader session_after before after turn = elim (cases_Bool talk.session.value.quits) [
     | inl quits ↦ keeps-equal before after (turn.quits quits)
@@ -106,8 +106,8 @@ module _ {M C W : Type 0} (tells : M → ℕ → M → Type 0) (remaining : C �
         let session = talk.session.value in
         let known = remaining talk.reader in
         let o = stands_open before talk.writer session.version session.outbox known session.quits session.feed.skips (unread session.feed.lines) reads in
-        let start : Place (SessionView M (LineSink W)) W = record { desk = before; writer = talk.writer; version = session.version; told = session.outbox } in
-        sits_keeps (calls tells remaining contents) (λ (s : SessionView M (LineSink W)). KeepsSession before s)
+        let start : Place (SessionView M (ClientSink W)) W = record { desk = before; writer = talk.writer; version = session.version; told = session.outbox } in
+        sits_keeps (calls tells remaining contents) (λ (s : SessionView M (ClientSink W)). KeepsSession before s)
         (λ d name note r e by had. keeps-then before d e had (emit_keeps tells d name note r e by))
         (λ d name c v w f e by had. keeps-then before d e had (follow_keeps tells d name c v w f e by))
         result start o.0 known (remaining reader) after session_after (turn.sits start o.0 known o.1) (keeps-same before)

@@ -9,13 +9,13 @@ use Rattle.rx_pump.specs.Desks.{DeskView}
 use Rattle.rx_pump.specs.Pumps.{counted}
 use Rattle.rx_pump.proofs.Pumping.{counted-more}
 use Rattle.rx_session.specs.Among.{among}
-use Rattle.rx_session.specs.OpenSessions.{Sitting, Sits, first_place}
+use Rattle.rx_session.specs.OpenSessions.{IsNew, Sitting, Sits, first_place}
 use Rattle.rx_session.specs.declared.open_session.OpenSession.{OpenSession}
 use Rattle.rx_session.specs.declared.turn.Turn.{Turn}
 use Rattle.rx_session.specs.declared.turn.Turn.TheVariants.{Again, Waits, Stuck, Over}
 use Rattle.rx_session.proofs.Amongst.{Sitting-then}
 use Rattle.rx_session.proofs.ByTurns.{IsOver-session, Sitting-new}
-use Rattle.rx_sink.specs.declared.line_sink.LineSink.{LineSink}
+use Rattle.rx_desk.specs.declared.client_sink.ClientSink.{ClientSink}
 use Rattle.rx_workers.specs.Clients.{AreSameClients, IsQuiet, IsTalk, Sets, client_at}
 use Rattle.rx_desk.specs.SessionDesks.{Queue, SessionView, KeepsSession}
 use Rattle.rx_config.specs.declared.subject_config.SubjectConfig.{SubjectConfig}
@@ -25,37 +25,10 @@ use Rattle.rx_workers.specs.declared.worker.client.Talk.{Talk}
 use Rattle.rx_desk.specs.declared.joined.Joined.{Joined}
 use Rattle.rx_workers.specs.declared.worker.worker_end.WorkerEnd.{WorkerEnd}
 use Rattle.rx_workers.specs.Workers.{worker_at_end}
-use Rattle.rx_workers.specs.Working.{WorkerView, worker, State, state, Deed, Admitted, GivenUp, Dismissed, Abandoned, Turned, Parted, admitted, Begins, IsTalkOf, Leaves, HasArrivals, HasConnection, HasNoConnection, HasTurn, HasTurnBehind, HasTurnTo, HasTurns, IsConnection, PartsAt, ServesAt, Does, Works, DoesSome, IsServed, HasWorked, calls, goes_at_once}
+use Rattle.rx_workers.specs.Working.{WorkerView, worker, State, state, Deed, Admitted, GivenUp, Dismissed, Abandoned, Turned, Parted, admitted, HasArrivals, HasConnection, HasNoConnection, HasTurn, HasTurnBehind, HasTurnTo, HasTurns, IsConnection, PartsAt, ServesAt, Does, Works, DoesSome, IsServed, HasWorked, calls}
+use Rattle.rx_workers.specs.Talks.{Begins, IsTalkOf, Leaves, goes_at_once}
+use Rattle.rx_workers.proofs.Talks.{no_talk, one_talk, talks_or_not}
 use Rattle.rx_workers.proofs.Sessions.{keeps-equal, keeps-then, turn_keeps}
-
-module _ {C W : Type 0} where
-  -- something that is said of a session, said of a client
-  abbrev OnTalk : (Talk C W → Type 0) → Option (Client C W) → Type 0
-  OnTalk Q None = Unit {0}
-  OnTalk Q (Some (Talks talk)) = Q talk
-  OnTalk Q (Some (Follows follower)) = Unit {0}
-
-  -- the session at a place is one session
-  one_talk : (Q : Talk C W → Type 0) (client : Option (Client C W)) (talk other : Talk C W) → client ≡ Some (Talks talk) → client ≡ Some (Talks other) → Q talk → Q other
-  one_talk Q client talk other is is_other had = subst (λ (c : Option (Client C W)). OnTalk Q c) (sym is ∙ is_other) had
-
-  -- a session is under way, or none is
-  talks_or_not : (client : Option (Client C W)) → IsTalk client ⊎ ¬ IsTalk client
-  talks_or_not None = inr (λ no. no)
-  talks_or_not (Some (Talks talk)) = inl tt
-  talks_or_not (Some (Follows follower)) = inr (λ no. no)
-
-  -- where it goes on at once it still is
-  pub talk_left : (result : Turn W) (reader : C) (session : OpenSession) (joined : Option Joined) (left : Option (Client C W)) → goes_at_once result ≡ true
-      → Leaves result reader session joined left → IsTalk left
-  talk_left (Again writer) reader session joined left at_once leaves = subst (λ (c : Option (Client C W)). IsTalk c) (sym leaves.1) tt
-  talk_left (Waits writer) reader session joined left at_once leaves = absurd (true≢false (sym at_once))
-  talk_left (Stuck writer) reader session joined left at_once leaves = absurd (true≢false (sym at_once))
-  talk_left (Over end back) reader session joined left at_once leaves = absurd (true≢false (sym at_once))
-
-  -- where a session is under way nobody else is
-  no_talk : (client was : Option (Client C W)) (talk : Talk C W) → client ≡ was → ¬ IsTalk was → client ≡ Some (Talks talk) → ⊥
-  no_talk client was talk is none is_talk = none (subst (λ (c : Option (Client C W)). IsTalk c) (sym is_talk ∙ is) tt)
 
 module _ {M C W : Type 0} (tells : M → ℕ → M → Type 0) (remaining : C → Option (List ℕ)) (contents : W → Option (List ℕ)) where
   -- nothing was done
@@ -170,25 +143,25 @@ module _ {M C W : Type 0} (tells : M → ℕ → M → Type 0) (remaining : C �
   -- EACH CONNECTION HAS ITS SESSION
 
   -- a session is under way that began with a connection, among others
-  pub record IsUnderWay (connection : C × W) (talk : Talk C W) : Type 0 where
-    pub begun : SessionView M (LineSink W)
-    pub now : SessionView M (LineSink W)
+  pub record IsUnderWay (connection : C × W) (talk : Talk C W OpenSession) : Type 0 where
+    pub begun : SessionView M (ClientSink W)
+    pub now : SessionView M (ClientSink W)
     pub sitting : Sitting (among (calls tells remaining contents)) (first_place begun connection.1) [] (remaining connection.0) (remaining talk.reader) now talk.writer talk.session.value
 
   -- it stands at a place
-  record IsThere (clients : List (Option (Client C W))) (connection : C × W) : Type 0 where
+  record IsThere (clients : List (Option (Client C W OpenSession))) (connection : C × W) : Type 0 where
     pub place : ℕ
-    pub talk : Talk C W
+    pub talk : Talk C W OpenSession
     pub there : client_at place clients ≡ Some (Talks talk)
     pub under_way : IsUnderWay connection talk
 
   -- it does, or the connection was served
-  abbrev IsKnown : List (Option (Client C W)) → C × W → Type 0
+  abbrev IsKnown : List (Option (Client C W OpenSession)) → C × W → Type 0
   IsKnown clients connection = IsThere clients connection ⊎ IsServed tells remaining contents connection
 
   -- a connection that was given a place
-  known_new : (place : ℕ) (before after : List (Option (Client C W))) (connection : C × W) (talk : Talk C W) (desk : SessionView M (LineSink W))
-      → Begins connection talk → Sets place before after None (Some (Talks talk)) → IsKnown after connection
+  known_new : (place : ℕ) (before after : List (Option (Client C W OpenSession))) (connection : C × W) (talk : Talk C W OpenSession) (desk : SessionView M (ClientSink W))
+      → Begins IsNew connection talk → Sets place before after None (Some (Talks talk)) → IsKnown after connection
   known_new place before after connection talk desk begins sets =
       let p = among (calls tells remaining contents) in
       let fresh = Sitting-new p talk.session.value desk talk.writer (remaining talk.reader) begins.is_new in
@@ -206,16 +179,16 @@ module _ {M C W : Type 0} (tells : M → ℕ → M → Type 0) (remaining : C �
       })
 
   -- it stands where it stood
-  known_there : (before after : List (Option (Client C W))) (connection : C × W) (s : IsThere before connection) → client_at s.place after ≡ client_at s.place before → IsKnown after connection
+  known_there : (before after : List (Option (Client C W OpenSession))) (connection : C × W) (s : IsThere before connection) → client_at s.place after ≡ client_at s.place before → IsKnown after connection
   known_there before after connection s same = inl (record { place = s.place; talk = s.talk; there = same ∙ s.there; under_way = s.under_way })
 
   -- nobody went
-  known_same : (before after : List (Option (Client C W))) (connection : C × W) → AreSameClients before after → IsKnown before connection → IsKnown after connection
+  known_same : (before after : List (Option (Client C W OpenSession))) (connection : C × W) → AreSameClients before after → IsKnown before connection → IsKnown after connection
   known_same before after connection same (inl s) = known_there before after connection s (same s.place)
   known_same before after connection same (inr served) = inr served
 
   -- where no session was another client is now, or none
-  known_beside : (place : ℕ) (before after : List (Option (Client C W))) (was is : Option (Client C W)) (connection : C × W)
+  known_beside : (place : ℕ) (before after : List (Option (Client C W OpenSession))) (was is : Option (Client C W OpenSession)) (connection : C × W)
       → Sets place before after was is → ¬ IsTalk was → IsKnown before connection → IsKnown after connection
   known_beside place before after was is connection sets none (inr served) = inr served
   known_beside place before after was is connection sets none (inl s) = elim (cases_eq s.place place) [
@@ -224,8 +197,8 @@ module _ {M C W : Type 0} (tells : M → ℕ → M → Type 0) (remaining : C �
   ]
 
   -- a session that goes on
-  known_further : (place : ℕ) (after : List (Option (Client C W))) (connection : C × W) (begun now : SessionView M (LineSink W)) (reader : C) (writer : W) (session : OpenSession) (left : Option (Client C W))
-      → (talk : Talk C W) × (left ≡ Some (Talks talk)) × IsTalkOf reader writer session talk → client_at place after ≡ left
+  known_further : (place : ℕ) (after : List (Option (Client C W OpenSession))) (connection : C × W) (begun now : SessionView M (ClientSink W)) (reader : C) (writer : W) (session : OpenSession) (left : Option (Client C W OpenSession))
+      → (talk : Talk C W OpenSession) × (left ≡ Some (Talks talk)) × IsTalkOf reader writer session talk → client_at place after ≡ left
       → Sitting (among (calls tells remaining contents)) (first_place begun connection.1) [] (remaining connection.0) (remaining reader) now writer session → IsKnown after connection
   known_further place after connection begun now reader writer session left leaves there sitting =
       let p = among (calls tells remaining contents) in
@@ -247,8 +220,8 @@ module _ {M C W : Type 0} (tells : M → ℕ → M → Type 0) (remaining : C �
       })
 
   -- what a turn made of a session under way
-  known_turned : (result : Turn W) (place : ℕ) (after : List (Option (Client C W))) (connection : C × W) (begun now : SessionView M (LineSink W)) (reader : C) (session : OpenSession) (joined : Option Joined)
-      (left : Option (Client C W)) → Leaves result reader session joined left → client_at place after ≡ left
+  known_turned : (result : Turn W) (place : ℕ) (after : List (Option (Client C W OpenSession))) (connection : C × W) (begun now : SessionView M (ClientSink W)) (reader : C) (session : OpenSession) (joined : Option Joined)
+      (left : Option (Client C W OpenSession)) → Leaves result reader session joined left → client_at place after ≡ left
       → Sits (among (calls tells remaining contents)) result (first_place begun connection.1) [] (remaining connection.0) (remaining reader) now session → IsKnown after connection
   known_turned (Again writer) place after connection begun now reader session joined left leaves there sits = known_further place after connection begun now reader writer session left leaves there sits
   known_turned (Waits writer) place after connection begun now reader session joined left leaves there sits = known_further place after connection begun now reader writer session left leaves there sits
@@ -301,11 +274,11 @@ module _ {M C W : Type 0} (tells : M → ℕ → M → Type 0) (remaining : C �
   works_known (Parted place ∷ deeds) before after w = all_by (Parted place) w.0 after (admitted deeds) w.2 (works_known deeds before w.0 w.1)
 
   -- where no session is under way a connection that is known was served
-  known_served : (clients : List (Option (Client C W))) (connection : C × W) → IsQuiet clients → IsKnown clients connection → IsServed tells remaining contents connection
+  known_served : (clients : List (Option (Client C W OpenSession))) (connection : C × W) → IsQuiet clients → IsKnown clients connection → IsServed tells remaining contents connection
   known_served clients connection quiet (inr served) = served
   known_served clients connection quiet (inl s) = absurd (no_talk (client_at s.place clients) (client_at s.place clients) s.talk refl (quiet s.place) s.there)
 
-  all_served : (clients : List (Option (Client C W))) (connections : List (C × W)) → IsQuiet clients → All (IsKnown clients) connections → All (IsServed tells remaining contents) connections
+  all_served : (clients : List (Option (Client C W OpenSession))) (connections : List (C × W)) → IsQuiet clients → All (IsKnown clients) connections → All (IsServed tells remaining contents) connections
   all_served clients connections quiet known = All-weaker (IsKnown clients) (IsServed tells remaining contents) (λ c is. known_served clients c quiet is) connections known
 
   -- ONCE CLOSED, BY ONE OF TWO DEEDS
@@ -333,7 +306,7 @@ module _ {M C W : Type 0} (tells : M → ℕ → M → Type 0) (remaining : C �
   state_closed : (s : State M C W) → s.is_open ≡ false → s ≡ state s.session s.inbox s.clients s.sessions false
   state_closed s closed = ap (λ (b : Bool). state s.session s.inbox s.clients s.sessions b) closed
 
-  pub has_worked : (session : SessionView M (LineSink W)) (inbox : Incoming (C × W)) (after : State M C W) → DoesSome tells remaining contents (state session inbox [] 0 true) after
+  pub has_worked : (session : SessionView M (ClientSink W)) (inbox : Incoming (C × W)) (after : State M C W) → DoesSome tells remaining contents (state session inbox [] 0 true) after
       → after.is_open ≡ false → IsQuiet after.clients
       → HasWorked tells remaining contents (worker session inbox) (worker after.session after.inbox) after.sessions
   has_worked session inbox after goes closed quiet =
@@ -359,17 +332,17 @@ session_is session subjects window desk same_subjects same_window same_calls =
 
 module _ {C W : Type 0} (tells : Unit {0} → ℕ → Unit {0} → Type 0) (remaining : C → Option (List ℕ)) (contents : W → Option (List ℕ)) where
   -- a worker that has worked, by what it left
-  pub worked-end : (before : WorkerView (Unit {0}) C W) (session after : SessionView (Unit {0}) (LineSink W)) (inbox : Incoming (C × W)) (end : WorkerEnd C W) (sessions : ℕ)
+  pub worked-end : (before : WorkerView (Unit {0}) C W) (session after : SessionView (Unit {0}) (ClientSink W)) (inbox : Incoming (C × W)) (end : WorkerEnd C W) (sessions : ℕ)
       → before ≡ worker session inbox → end.desk ≡ after.calls → HasWorked tells remaining contents (worker session inbox) (worker after end.inbox) sessions
       → (joined : Option Joined) × (queue : Queue) × HasWorked tells remaining contents before (worker_at_end before joined queue end) sessions
   worked-end before session after inbox end sessions begins desk worked =
       let H : WorkerView (Unit {0}) C W → Type 0 = λ w. HasWorked tells remaining contents w (worker after end.inbox) sessions in
       let from : H before = subst H (sym begins) worked in
       let left : after ≡ (worker_at_end before after.joined after.queue end).session = session_is after before.session.subjects before.session.window end.desk from.kept.subjects from.kept.window (sym desk) in
-      (after.joined, after.queue, subst (λ (s : SessionView (Unit {0}) (LineSink W)). HasWorked tells remaining contents before (worker s end.inbox) sessions) left from)
+      (after.joined, after.queue, subst (λ (s : SessionView (Unit {0}) (ClientSink W)). HasWorked tells remaining contents before (worker s end.inbox) sessions) left from)
 
   -- so a worker has that was at work
-  pub worker-ended : (before : WorkerView (Unit {0}) C W) (session : SessionView (Unit {0}) (LineSink W)) (inbox : Incoming (C × W)) (begun shift : State (Unit {0}) C W) (end : WorkerEnd C W)
+  pub worker-ended : (before : WorkerView (Unit {0}) C W) (session : SessionView (Unit {0}) (ClientSink W)) (inbox : Incoming (C × W)) (begun shift : State (Unit {0}) C W) (end : WorkerEnd C W)
       → before ≡ worker session inbox → begun ≡ state session inbox [] 0 true → DoesSome tells remaining contents begun shift → shift.is_open ≡ false → IsQuiet shift.clients
       → end.desk ≡ shift.session.calls → end.inbox ≡ shift.inbox → end.sessions ≡ shift.sessions
       → (joined : Option Joined) × (queue : Queue) × HasWorked tells remaining contents before (worker_at_end before joined queue end) end.sessions

@@ -4,37 +4,37 @@ use Rattle.std.specs.List.{position}
 use Rattle.rx_workers.specs.declared.worker.client.Client.{Client}
 use Rattle.rx_workers.specs.declared.worker.client.Client.TheVariants.{Talks, Follows}
 
-module _ {C W : Type 0} where
+module _ {C W T : Type 0} where
   -- who is at a place; at one that is vacant, or that there isn't, nobody
-  abbrev pub client_at : ℕ → List (Option (Client C W)) → Option (Client C W)
+  abbrev pub client_at : ℕ → List (Option (Client C W T)) → Option (Client C W T)
   client_at place clients = slice_index_or clients place None
 
   -- the first place that is vacant
-  abbrev pub first_vacant : List (Option (Client C W)) → Option ℕ
+  abbrev pub first_vacant : List (Option (Client C W T)) → Option ℕ
   first_vacant clients = position is_none clients
 
   -- nobody came, went or changed
-  abbrev pub AreSameClients : List (Option (Client C W)) → List (Option (Client C W)) → Type 0
+  abbrev pub AreSameClients : List (Option (Client C W T)) → List (Option (Client C W T)) → Type 0
   AreSameClients before after = (place : ℕ) → client_at place after ≡ client_at place before
 
   -- at one place there is another client or none any more, and at all others who was there
-  pub record Sets (place : ℕ) (before after : List (Option (Client C W))) (was is : Option (Client C W)) : Type 0 where
+  pub record Sets (place : ℕ) (before after : List (Option (Client C W T))) (was is : Option (Client C W T)) : Type 0 where
     pub was_there : client_at place before ≡ was
     pub is_there : client_at place after ≡ is
     pub others : (other : ℕ) → other ≢ place → client_at other after ≡ client_at other before
 
   -- a session is under way
-  abbrev pub IsTalk : Option (Client C W) → Type 0
+  abbrev pub IsTalk : Option (Client C W T) → Type 0
   IsTalk None = ⊥
   IsTalk (Some (Talks talk)) = Unit {0}
   IsTalk (Some (Follows follower)) = ⊥
 
   -- an observer joined, who is watched
-  abbrev pub IsFollower : Option (Client C W) → Type 0
+  abbrev pub IsFollower : Option (Client C W T) → Type 0
   IsFollower None = ⊥
   IsFollower (Some (Talks talk)) = ⊥
   IsFollower (Some (Follows follower)) = Unit {0}
 
   -- no session is, at any place
-  abbrev pub IsQuiet : List (Option (Client C W)) → Type 0
+  abbrev pub IsQuiet : List (Option (Client C W T)) → Type 0
   IsQuiet clients = (place : ℕ) → ¬ IsTalk (client_at place clients)

@@ -3,7 +3,7 @@ use Rattle.std.specs.Prelude.{◌≡◌, ◌+◌, ◌<◌, ℕ, Bool, true, fals
 use Rattle.rx_mailbox.specs.Boxes.{Incoming, Outgoing, HasBye}
 use Rattle.std.specs.List.{AllZip}
 use Rattle.rx_pump.specs.Desks.{DeskView, KeepsDesk}
-use Rattle.rx_sink.specs.declared.line_sink.LineSink.{LineSink}
+use Rattle.rx_desk.specs.declared.client_sink.ClientSink.{ClientSink}
 use Rattle.rx_workers.specs.Working.{WorkerView}
 use Rattle.rx_workers.specs.declared.crew.serve_fault.ServeFault.{ServeFault}
 use Rattle.rx_workers.specs.declared.crew.serve_fault.ServeFault.TheVariants.{NoDesk, Accept, Thread, Memory}
@@ -15,13 +15,13 @@ IsFor config desk = length desk.ports + length desk.ended ≡ length config.subj
 
 module _ {M C W : Type 0} where
   -- the desk that a worker was handed
-  abbrev pub worker_desk : WorkerView M C W → DeskView (LineSink W)
+  abbrev pub worker_desk : WorkerView M C W → DeskView (ClientSink W)
   worker_desk worker = worker.session.calls
 
   -- of these desks the first are here, as their calls left them; the others were handed to workers, each to the one that was
   -- hired before that of the desk in front of it
-  pub record AreOut (desks here : List (DeskView (LineSink W))) (workers : List (WorkerView M C W)) : Type 0 where
-    pub kept : List (DeskView (LineSink W))
+  pub record AreOut (desks here : List (DeskView (ClientSink W))) (workers : List (WorkerView M C W)) : Type 0 where
+    pub kept : List (DeskView (ClientSink W))
     pub parts : kept ++ map worker_desk (reverse workers) ≡ desks
     pub same : AllZip KeepsDesk kept here
 

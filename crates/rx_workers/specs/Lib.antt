@@ -2,6 +2,7 @@ pub mod Accepting
 pub mod Clients
 pub mod Crews
 pub mod Service
+pub mod Talks
 pub mod Telling
 pub mod Watching
 pub mod Workers

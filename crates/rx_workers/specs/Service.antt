@@ -19,7 +19,7 @@ use Rattle.rx_mailbox.specs.Boxes.{Outgoing, capacity_of, incoming, outgoing}
 use Rattle.rx_mailbox.specs.Letters.{letter, posts}
 use Rattle.rx_pump.specs.Desks.{DeskView}
 use Rattle.rx_mailbox.specs.PortRows.{with_bye}
-use Rattle.rx_sink.specs.declared.line_sink.LineSink.{LineSink}
+use Rattle.rx_desk.specs.declared.client_sink.ClientSink.{ClientSink}
 use Rattle.rx_workers.specs.Accepting.{Accepts, AcceptsAll, dealt_to}
 use Rattle.rx_workers.specs.Crews.{NamesLast, SettlesWith}
 use Rattle.rx_desk.specs.SessionDesks.{Queue, SessionView, no_queue}
@@ -33,7 +33,7 @@ use Rattle.rx_workers.specs.declared.crew.serve_fault.ServeFault.TheVariants.{No
 use Rattle.rx_workers.specs.declared.worker.worker_end.WorkerEnd.{WorkerEnd}
 
 -- the desk of a worker's sessions over a desk that makes its calls, by a configuration
-abbrev pub session_over : {W : Type 0} → Config → DeskView (LineSink W) → Option Joined → Queue → SessionView (Unit {0}) (LineSink W)
+abbrev pub session_over : {W : Type 0} → Config → DeskView (ClientSink W) → Option Joined → Queue → SessionView (Unit {0}) (ClientSink W)
 session_over config desk joined queue = record { subjects = config.subjects.items; window = config.window; moments = tt; calls = desk; joined = joined; queue = queue }
 
 module _ {C W : Type 0} where
@@ -42,7 +42,7 @@ module _ {C W : Type 0} where
   port_to one = outgoing one.inbox.box 0 []
 
   -- a worker that begins, over this desk: its box is new, has one port, and room for 16 connections
-  pub record IsNewOver (config : Config) (desk : DeskView (LineSink W)) (one : WorkerView (Unit {0}) C W) : Type 0 where
+  pub record IsNewOver (config : Config) (desk : DeskView (ClientSink W)) (one : WorkerView (Unit {0}) C W) : Type 0 where
     pub session : one.session ≡ session_over config desk None no_queue
     pub inbox : one.inbox ≡ incoming one.inbox.box 1 []
     pub room : capacity_of one.inbox.box ≡ 16
@@ -50,7 +50,7 @@ module _ {C W : Type 0} where
 module _ {M C W : Type 0} (around : Peers M C W) (config : Config) where
   -- THE WORKER OF A DESK received just these connections, in their order, and then its Bye, and served each to its end by a session
   -- of its own, but those that it gave up; the desk is left as the calls of these sessions left it
-  pub record HasServedJust (connections : List (C × W)) (desk after : DeskView (LineSink W)) : Type 0 where
+  pub record HasServedJust (connections : List (C × W)) (desk after : DeskView (ClientSink W)) : Type 0 where
     pub one : WorkerView (Unit {0}) C W
     pub joined : Option Joined
     pub queue : Queue
@@ -60,19 +60,19 @@ module _ {M C W : Type 0} (around : Peers M C W) (config : Config) where
     pub came_are : came worked.deeds ≡ connections
 
   -- the workers of these desks, of which the first is worker d of n, each served the connections that were dealt to it
-  abbrev pub HaveServedFrom : ℕ → ℕ → List (C × W) → List (DeskView (LineSink W)) → List (DeskView (LineSink W)) → Type 0
+  abbrev pub HaveServedFrom : ℕ → ℕ → List (C × W) → List (DeskView (ClientSink W)) → List (DeskView (ClientSink W)) → Type 0
   HaveServedFrom n d xs [] [] = Unit {0}
   HaveServedFrom n d xs [] (back ∷ backs) = ⊥
   HaveServedFrom n d xs (desk ∷ desks) [] = ⊥
   HaveServedFrom n d xs (desk ∷ desks) (back ∷ backs) = HasServedJust (dealt_to n d 0 xs) desk back × HaveServedFrom n (d + 1) xs desks backs
 
   -- connection i, from 0, was served by the worker of desk i modulo their number, those of a worker in their order
-  abbrev pub HaveServedAll : List (C × W) → List (DeskView (LineSink W)) → List (DeskView (LineSink W)) → Type 0
+  abbrev pub HaveServedAll : List (C × W) → List (DeskView (ClientSink W)) → List (DeskView (ClientSink W)) → Type 0
   HaveServedAll xs desks after = HaveServedFrom (length desks) 0 xs desks after
 
   -- THE WORKER OF A DESK ended early: these connections were sent to it, and then its port put its Bye, or it was gone by then; and its
   -- box did not settle with that port
-  pub record EndsEarly (connections : List (C × W)) (desk after : DeskView (LineSink W)) : Type 0 where
+  pub record EndsEarly (connections : List (C × W)) (desk after : DeskView (ClientSink W)) : Type 0 where
     pub one : WorkerView (Unit {0}) C W
     pub is_new : IsNewOver config desk one
     pub end : WorkerEnd C W
@@ -83,15 +83,15 @@ module _ {M C W : Type 0} (around : Peers M C W) (config : Config) where
     pub unsettled : ¬ IsSomeAnd told (SettlesWith end.inbox)
 
   -- the worker of the desk at this place is the first that ended early: those before it each served what was dealt to them
-  pub record FirstEndsEarly (connections : List (C × W)) (place : ℕ) (desks after : List (DeskView (LineSink W))) : Type 0 where
-    pub before : List (DeskView (LineSink W))
-    pub desk : DeskView (LineSink W)
-    pub behind : List (DeskView (LineSink W))
+  pub record FirstEndsEarly (connections : List (C × W)) (place : ℕ) (desks after : List (DeskView (ClientSink W))) : Type 0 where
+    pub before : List (DeskView (ClientSink W))
+    pub desk : DeskView (ClientSink W)
+    pub behind : List (DeskView (ClientSink W))
     pub parts : before ++ desk ∷ behind ≡ desks
     pub place_is : place ≡ length before
-    pub backs : List (DeskView (LineSink W))
-    pub back : DeskView (LineSink W)
-    pub later : List (DeskView (LineSink W))
+    pub backs : List (DeskView (ClientSink W))
+    pub back : DeskView (ClientSink W)
+    pub later : List (DeskView (ClientSink W))
     pub parts_after : backs ++ back ∷ later ≡ after
     pub served : HaveServedFrom (length desks) 0 connections before backs
     pub early : EndsEarly (dealt_to (length desks) (length before) 0 connections) desk back
@@ -99,10 +99,10 @@ module _ {M C W : Type 0} (around : Peers M C W) (config : Config) where
 -- a listener, and the desks for the connections that it accepts
 pub record Reception (L W : Type 0) : Type 0 where
   pub listener : L
-  pub desks : List (DeskView (LineSink W))
+  pub desks : List (DeskView (ClientSink W))
 
 -- this listener, with these desks
-abbrev pub reception : {L W : Type 0} → L → List (DeskView (LineSink W)) → Reception L W
+abbrev pub reception : {L W : Type 0} → L → List (DeskView (ClientSink W)) → Reception L W
 reception listener desks = record { listener = listener; desks = desks }
 
 -- what is around a crew: how a listener accepts a connection and how it fails, and what is around its workers
@@ -200,7 +200,7 @@ with_lost (Err Memory) (Some place) = Err Memory
 module _ {L C W : Type 0} (accepts : L → C × W → L → Type 0) (fails : L → L → Type 0) where
   -- how dealing ended: a worker was not hired, and nothing was accepted; or each was, and the connections were dealt to them until the
   -- acceptor stopped. The last of the workers was hired for the first desk
-  pub data DealsUntil (count : ℕ) (ended : Result (Unit {0}) ServeFault) (listener listener_after : L) (here : List (DeskView (LineSink W))) (workers : List (WorkerView (Unit {0}) C W)) (ports : List (Outgoing (C × W))) : Type 0 where
+  pub data DealsUntil (count : ℕ) (ended : Result (Unit {0}) ServeFault) (listener listener_after : L) (here : List (DeskView (ClientSink W))) (workers : List (WorkerView (Unit {0}) C W)) (ports : List (Outgoing (C × W))) : Type 0 where
     NotHired : (fault : ServeFault) → ended ≡ Err fault → NamesLast (length here) fault → listener_after ≡ listener → DealsUntil count ended listener listener_after here workers ports
     AllHired : (stop : Result (Unit {0}) AcceptStop) → ended ≡ fault_in stop → here ≡ []
         → AcceptsAll accepts fails count stop listener listener_after (reverse (map port_to workers)) (reverse ports) → DealsUntil count ended listener listener_after here workers ports

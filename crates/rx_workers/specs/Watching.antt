@@ -22,20 +22,20 @@ pub record Watches (key : ℕ) (aim : Option Aim) (before after : ℕ → Option
   pub there : after key ≡ aim
   pub others : (other : ℕ) → other ≢ key → after other ≡ before other
 
-module _ {C W : Type 0} where
+module _ {C W T : Type 0} where
   -- what a client is watched for: a session for what it waits for, a follower for the end; nobody for nothing
-  abbrev pub aim_of : Option (Client C W) → Option Aim
+  abbrev pub aim_of : Option (Client C W T) → Option Aim
   aim_of None = None
   aim_of (Some (Talks talk)) = Some talk.aim
   aim_of (Some (Follows follower)) = Some HangUp
 
   -- THE AGREEMENT: by the key of each place what is there is watched, and nothing where nobody is
-  abbrev pub AreWatched : (ℕ → Option Aim) → List (Option (Client C W)) → Type 0
+  abbrev pub AreWatched : (ℕ → Option Aim) → List (Option (Client C W T)) → Type 0
   AreWatched watched clients = (place : ℕ) → watched place ≡ aim_of (client_at place clients)
 
   -- what a session that goes on waits for behind a turn: for what it did where it goes on at once, for bytes where it has none, and
   -- for room too where its writer took no more
-  abbrev pub IsAimed : Turn W → Aim → Option (Client C W) → Type 0
+  abbrev pub IsAimed : Turn W → Aim → Option (Client C W T) → Type 0
   IsAimed (Again writer) was left = aim_of left ≡ Some was
   IsAimed (Waits writer) was left = aim_of left ≡ Some Bytes
   IsAimed (Stuck writer) was left = aim_of left ≡ Some Both

@@ -14,7 +14,7 @@
 -- serves is given a `Readiness` that watches the connection at each place for that, who follows for the hang-up, and nothing
 -- at a vacant place, and leaves it so. Of who is ready, the session at its place alone has turns, and where the `Readiness`
 -- tells that its peer hung up, and just there, the follower at its place is parted with.
-use Rattle.std.specs.Prelude.{◌≡◌, ◌⊎◌, ◌<◌, ℕ, Bool, true, false, List, [], ◌∷◌, ◌++◌, length, Option, None, Some, option_map}
+use Rattle.std.specs.Prelude.{◌≡◌, ◌⊎◌, ◌<◌, ℕ, Bool, true, false, List, [], ◌∷◌, ◌++◌, length, Option, None, Some}
 use Rattle.std.specs.List.{All, Contains}
 use Rattle.rx_mailbox.specs.Boxes.{Incoming, with_letter}
 use Rattle.rx_mailbox.specs.Letters.{letter}
@@ -27,41 +27,39 @@ use Rattle.rx_session.specs.Sessions.{Parties, Place, Session, parties}
 use Rattle.rx_lines.specs.declared.input_end.InputEnd.{InputEnd}
 use Rattle.rx_session.specs.declared.open_session.OpenSession.{OpenSession}
 use Rattle.rx_session.specs.declared.session_end.SessionEnd.{SessionEnd}
-use Rattle.rx_session.specs.declared.session_end.SessionEnd.TheVariants as ends
 use Rattle.rx_session.specs.declared.turn.Turn.{Turn}
-use Rattle.rx_session.specs.declared.turn.Turn.TheVariants.{Again, Waits, Stuck, Over}
 use Rattle.rx_sink.specs.Acts.{raised}
-use Rattle.rx_sink.specs.declared.line_sink.LineSink.{LineSink}
+use Rattle.rx_desk.specs.declared.client_sink.ClientSink.{ClientSink}
 use Rattle.rx_workers.specs.Clients.{AreSameClients, IsFollower, IsQuiet, IsTalk, Sets, client_at}
+use Rattle.rx_workers.specs.Talks.{Admits, Leaves, goes_at_once}
 use Rattle.rx_desk.specs.SessionDesks.{SessionView, KeepsSession, Disposes, emits, follows, has_subject}
 use Rattle.rx_workers.specs.declared.worker.client.Client.{Client}
 use Rattle.rx_workers.specs.declared.worker.client.Client.TheVariants.{Talks, Follows}
 use Rattle.rx_workers.specs.declared.worker.client.Follower.{Follower}
 use Rattle.rx_workers.specs.declared.worker.client.Talk.{Talk}
 use Rattle.rx_desk.specs.declared.joined.Joined.{Joined}
-use Rattle.rx_workers.specs.declared.readiness.Aim.TheVariants.{Bytes}
 use Rattle.rx_workers.specs.Watching.{IsAimed}
 
 -- a worker: the session's desk over which it serves, and the inbox of its connections, each a reader and a writer
 pub record WorkerView (M C W : Type 0) : Type 0 where
-  pub session : SessionView M (LineSink W)
+  pub session : SessionView M (ClientSink W)
   pub inbox : Incoming (C × W)
 
 -- the worker over this session's desk, with this inbox
-abbrev pub worker : {M C W : Type 0} → SessionView M (LineSink W) → Incoming (C × W) → WorkerView M C W
+abbrev pub worker : {M C W : Type 0} → SessionView M (ClientSink W) → Incoming (C × W) → WorkerView M C W
 worker session inbox = record { session = session; inbox = inbox }
 
 -- a worker at work: the desk of its sessions, its inbox, its clients, how many sessions it began, and whether a connection may
 -- still come
 pub record State (M C W : Type 0) : Type 0 where
-  pub session : SessionView M (LineSink W)
+  pub session : SessionView M (ClientSink W)
   pub inbox : Incoming (C × W)
-  pub clients : List (Option (Client C W))
+  pub clients : List (Option (Client C W OpenSession))
   pub sessions : ℕ
   pub is_open : Bool
 
 -- the worker at work with this desk, this inbox and these clients, that began so many sessions, and may still be sent a connection or not
-abbrev pub state : {M C W : Type 0} → SessionView M (LineSink W) → Incoming (C × W) → List (Option (Client C W)) → ℕ → Bool → State M C W
+abbrev pub state : {M C W : Type 0} → SessionView M (ClientSink W) → Incoming (C × W) → List (Option (Client C W OpenSession)) → ℕ → Bool → State M C W
 state session inbox clients sessions is_open = record { session = session; inbox = inbox; clients = clients; sessions = sessions; is_open = is_open }
 
 -- no connection comes to it any more, and no session is under way
@@ -109,77 +107,26 @@ module _ {X : Type 0} where
   IsConnection (Turned place) = ⊥
   IsConnection (Parted place) = ⊥
 
--- whether a session goes on at once, by what its turn came to
-abbrev pub goes_at_once : {W : Type 0} → Turn W → Bool
-goes_at_once (Again writer) = true
-goes_at_once (Waits writer) = false
-goes_at_once (Stuck writer) = false
-goes_at_once (Over end back) = false
-
-module _ {C W : Type 0} where
-  -- a session that began with its connection, which is watched for bytes
-  pub record Begins (connection : C × W) (talk : Talk C W) : Type 0 where
-    pub reader_is : talk.reader ≡ connection.0
-    pub writer_is : talk.writer ≡ connection.1
-    pub is_new : IsNew talk.session.value
-    pub aim_is : talk.aim ≡ Bytes
-
-  -- a connection was given this place, which was vacant, or none
-  abbrev pub Admits : Option ℕ → C × W → List (Option (Client C W)) → List (Option (Client C W)) → Type 0
-  Admits None connection before after = AreSameClients before after
-  Admits (Some place) connection before after = (talk : Talk C W) × Begins connection talk × Sets place before after None (Some (Talks talk))
-
-  -- the halves and the session of a talk after a turn, whatever its connection is watched for
-  pub record IsTalkOf (reader : C) (writer : W) (session : OpenSession) (talk : Talk C W) : Type 0 where
-    pub reader_is : talk.reader ≡ reader
-    pub writer_is : talk.writer ≡ writer
-    pub session_is : talk.session.value ≡ session
-
-  -- a client whose session goes on with these
-  abbrev pub GoesOn : C → W → OpenSession → Option (Client C W) → Type 0
-  GoesOn reader writer session left = (talk : Talk C W) × (left ≡ Some (Talks talk)) × IsTalkOf reader writer session talk
-
-  -- the follower that a session leaves: of whom its last Join made
-  abbrev pub follower_of : C → Option Joined → Option (Client C W)
-  follower_of reader joined = option_map (λ observer. Follows (record { reader = reader; observer = observer })) joined
-
-  -- what a session that ended leaves: where it handed its writer over, a follower; else nobody
-  abbrev pub left_by : SessionEnd → C → Option Joined → Option (Client C W)
-  left_by ends.Quit reader joined = None
-  left_by ends.EndOfInput reader joined = None
-  left_by ends.HandedOver reader joined = follower_of reader joined
-  left_by ends.ReadFault reader joined = None
-  left_by ends.WriteFault reader joined = None
-  left_by ends.TooManyReads reader joined = None
-
-  -- what a turn leaves at its place: the session with its reader and the writer that the turn gave back, or what the session
-  -- leaves once it is over
-  abbrev pub Leaves : Turn W → C → OpenSession → Option Joined → Option (Client C W) → Type 0
-  Leaves (Again writer) reader session joined left = GoesOn reader writer session left
-  Leaves (Waits writer) reader session joined left = GoesOn reader writer session left
-  Leaves (Stuck writer) reader session joined left = GoesOn reader writer session left
-  Leaves (Over end back) reader session joined left = left ≡ left_by end reader joined
-
 module _ {M C W : Type 0} (tells : M → ℕ → M → Type 0) (remaining : C → Option (List ℕ)) (contents : W → Option (List ℕ)) where
   -- the desk of the sessions, and their writers
-  abbrev pub calls : Parties (SessionView M (LineSink W)) W
+  abbrev pub calls : Parties (SessionView M (ClientSink W)) W
   calls = parties has_subject (emits tells) (follows tells) contents
 
   -- THE TURN of a session, from wherever it stood; one that had read QUIT asks nothing of the desk any more
-  pub record TakesTurn (result : Turn W) (talk : Talk C W) (reader : C) (session : OpenSession) (before after : SessionView M (LineSink W)) : Type 0 where
+  pub record TakesTurn (result : Turn W) (talk : Talk C W OpenSession) (reader : C) (session : OpenSession) (before after : SessionView M (ClientSink W)) : Type 0 where
     pub sits :
-        (start : Place (SessionView M (LineSink W)) W) (first : List ℕ) (read_old : Option (List ℕ))
+        (start : Place (SessionView M (ClientSink W)) W) (first : List ℕ) (read_old : Option (List ℕ))
         → Sitting calls start first read_old (remaining talk.reader) before talk.writer talk.session.value
         → Sits calls result start first read_old (remaining reader) after session
     pub quits : talk.session.value.quits ≡ true → after ≡ before
 
   -- the session at this place had one turn, and nobody else any
   pub record HasTurn (place : ℕ) (before after : State M C W) : Type 0 where
-    pub talk : Talk C W
+    pub talk : Talk C W OpenSession
     pub result : Turn W
     pub reader : C
     pub session : OpenSession
-    pub left : Option (Client C W)
+    pub left : Option (Client C W OpenSession)
     pub turn : TakesTurn result talk reader session before.session after.session
     pub leaves : Leaves result reader session after.session.joined left
     pub aimed : IsAimed result talk.aim left
@@ -202,10 +149,10 @@ module _ {M C W : Type 0} (tells : M → ℕ → M → Type 0) (remaining : C �
   -- ONE DEED. Behind the Bye, and where none comes any more, the worker is closed to connections
   abbrev pub Does : Deed (C × W) → State M C W → State M C W → Type 0
   Does (Admitted connection place) before after =
-      Receives (Body connection) before after × Admits (Some place) connection before.clients after.clients
+      Receives (Body connection) before after × Admits IsNew (Some place) connection before.clients after.clients
       × (after.sessions ≡ raised before.sessions) × (after.is_open ≡ before.is_open)
   Does (GivenUp connection) before after =
-      Receives (Body connection) before after × Admits None connection before.clients after.clients
+      Receives (Body connection) before after × Admits IsNew None connection before.clients after.clients
       × (after.sessions ≡ before.sessions) × (after.is_open ≡ before.is_open)
   Does Dismissed before after =
       Receives Bye before after × AreSameClients before.clients after.clients
@@ -268,8 +215,8 @@ module _ {M C W : Type 0} (tells : M → ℕ → M → Type 0) (remaining : C �
   pub record IsServed (connection : C × W) : Type 0 where
     pub reader : C
     pub input : Option InputEnd
-    pub before : SessionView M (LineSink W)
-    pub after : SessionView M (LineSink W)
+    pub before : SessionView M (ClientSink W)
+    pub after : SessionView M (ClientSink W)
     pub end : SessionEnd
     pub back : Option W
     pub session : Session (among calls) (remaining connection.0) (remaining reader) input before connection.1 (record { end = end; desk = after; back = back })
@@ -278,7 +225,7 @@ module _ {M C W : Type 0} (tells : M → ℕ → M → Type 0) (remaining : C �
   -- connection could come any more
   pub record HasWorked (before after : WorkerView M C W) (sessions : ℕ) : Type 0 where
     pub deeds : List (Deed (C × W))
-    pub clients : List (Option (Client C W))
+    pub clients : List (Option (Client C W OpenSession))
     pub works : Works deeds (state before.session before.inbox [] 0 true) (state after.session after.inbox clients sessions false)
     pub is_over : Contains deeds Dismissed ⊎ Contains deeds Abandoned
     pub is_quiet : IsQuiet clients

@@ -25,11 +25,10 @@ use crate::crew::idle::Idle;
 use crate::crew::serve_fault::ServeFault;
 use crate::listener::Listener;
 use rx_config::Config;
-use rx_desk::Moments;
+use rx_desk::{ClientSink, Moments};
 use rx_heap::{Heap, Memory, room};
 use rx_mailbox::Port;
 use rx_pump::CallDesk;
-use rx_sink::LineSink;
 use std::sync::{Arc, Mutex, Wait};
 use std::thread::Threads;
 
@@ -51,7 +50,7 @@ pub fn serve_connections<
     config: &Arc<Config, Heap>,
     listener: &mut L,
     moments: M,
-    desks: &mut Vec<CallDesk<LineSink<L::Writer>>, Heap>,
+    desks: &mut Vec<CallDesk<ClientSink<L::Writer>>, Heap>,
 ) -> Result<(), ServeFault>
     requires { All (IsFor (arc_value config.now)) desks.old.items }
     ensures no_desk { (result ≡ Err ServeFault.NoDesk) ↔ (desks.old.items ≡ []) }
@@ -68,11 +67,11 @@ pub fn serve_connections<
     let Bench {
         moments,
         mut readiness,
-        mut bells,
+        mut wakers,
         mut workers,
         mut ports,
     } = bench;
-    watch_all(listener, desks.len(), &mut readiness, &mut bells)?;
+    watch_all(listener, desks.len(), &mut readiness, &mut wakers)?;
     let dealt = deal_all(
         rt,
         heap,
@@ -80,22 +79,22 @@ pub fn serve_connections<
         &moments,
         listener,
         &mut readiness,
-        &bells,
+        &wakers,
         desks,
         &mut workers,
         &mut ports,
     );
-    let lost = end_all(rt, workers, ports, &bells, desks);
-    drop(bells);
+    let lost = end_all(rt, workers, ports, &wakers, desks);
+    drop(wakers);
     with_lost(dealt, lost)
 }
 
-// The moments of a crew, and room for its workers, for what each waits by, and for the ports and the bells to them.
+// The moments of a crew, and room for its workers, for what each waits by, and for the ports and the wakers to them.
 #[derive(Drop)]
 struct Bench<M: Moments + Drop + Send + 'static, L: Listener> {
     moments: Arc<Mutex<M>, Heap>,
     readiness: Vec<Idle<L::Reader, L::Readiness>, Heap>,
-    bells: Vec<L::Bell, Heap>,
+    wakers: Vec<L::Waker, Heap>,
     workers: Vec<Hired<M, L::Reader, L::Writer, L::Readiness>, Heap>,
     ports: Vec<Port<(L::Reader, L::Writer)>, Heap>,
 }
@@ -106,7 +105,7 @@ fn make_bench<M: Moments + Drop + Send + 'static, L: Listener>(
     count: usize,
 ) -> Result<Bench<M, L>, Memory>
     ensures readiness { IfOk result (λ bench. (bench.readiness.items ≡ []) × (count ≤ vec_capacity bench.readiness)) }
-    ensures bells { IfOk result (λ bench. (bench.bells.items ≡ []) × (count ≤ vec_capacity bench.bells)) }
+    ensures wakers { IfOk result (λ bench. (bench.wakers.items ≡ []) × (count ≤ vec_capacity bench.wakers)) }
     ensures workers { IfOk result (λ bench. (bench.workers.items ≡ []) × (count ≤ vec_capacity bench.workers)) }
     ensures ports { IfOk result (λ bench. (bench.ports.items ≡ []) × (count ≤ vec_capacity bench.ports)) }
 {
@@ -116,25 +115,25 @@ fn make_bench<M: Moments + Drop + Send + 'static, L: Listener>(
     Ok(Bench {
         moments,
         readiness: room(heap, count)?,
-        bells: room(heap, count)?,
+        wakers: room(heap, count)?,
         workers: room(heap, count)?,
         ports: room(heap, count)?,
     })
 }
 
-// What so many workers wait by, each with its bell. `Thread` of the first that has none.
+// What so many workers wait by, each with its waker. `Thread` of the first that has none.
 fn watch_all<L: Listener>(
     listener: &L,
     count: usize,
     readiness: &mut Vec<Idle<L::Reader, L::Readiness>, Heap>,
-    bells: &mut Vec<L::Bell, Heap>,
+    wakers: &mut Vec<L::Waker, Heap>,
 ) -> Result<(), ServeFault>
     requires none { readiness.old.items ≡ [] }
     requires readiness { count ≤ vec_capacity readiness.old }
-    requires no_bell { bells.old.items ≡ [] }
-    requires bells { count ≤ vec_capacity bells.old }
+    requires no_waker { wakers.old.items ≡ [] }
+    requires wakers { count ≤ vec_capacity wakers.old }
     ensures readiness { OnOk result (vec_len readiness.new ≡ count) }
-    ensures bells { OnOk result (vec_len bells.new ≡ count) }
+    ensures wakers { OnOk result (vec_len wakers.new ≡ count) }
     ensures fault { IfErr result (λ fault. (place : ℕ) × (fault ≡ ServeFault.Thread place) × (place < count)) }
     ensures first { IfErr result (λ fault. fault ≡ ServeFault.Thread (vec_len readiness.new)) }
 {
@@ -143,7 +142,7 @@ fn watch_all<L: Listener>(
             return Err(ServeFault::Thread(place));
         };
         readiness.push_reserved(watch.readiness);
-        bells.push_reserved(watch.bell);
+        wakers.push_reserved(watch.waker);
     }
     Ok(())
 }
@@ -160,8 +159,8 @@ fn deal_all<
     moments: &Arc<Mutex<M>, Heap>,
     listener: &mut L,
     readiness: &mut Vec<Idle<L::Reader, L::Readiness>, Heap>,
-    bells: &Vec<L::Bell, Heap>,
-    desks: &mut Vec<CallDesk<LineSink<L::Writer>>, Heap>,
+    wakers: &Vec<L::Waker, Heap>,
+    desks: &mut Vec<CallDesk<ClientSink<L::Writer>>, Heap>,
     workers: &mut Vec<Hired<M, L::Reader, L::Writer, L::Readiness>, Heap>,
     ports: &mut Vec<Port<(L::Reader, L::Writer)>, Heap>,
 ) -> Result<(), ServeFault>
@@ -179,7 +178,7 @@ fn deal_all<
     ensures dealt { DealsUntil L.accepts L.fails (arc_value config.now).connections result listener.old listener.new desks.new.items workers.new.items ports.new.items }
 {
     hire_all(rt, heap, config, moments, readiness, desks, workers, ports)?;
-    fault_in(accept(rt, listener, ports, bells, config.connections))
+    fault_in(accept(rt, listener, ports, wakers, config.connections))
 }
 
 // Accepts the connections for the workers, the last one of whom was hired for the first desk.
@@ -187,7 +186,7 @@ fn accept<L: Listener, R: Wait>(
     rt: &R,
     listener: &mut L,
     ports: &mut Vec<Port<(L::Reader, L::Writer)>, Heap>,
-    bells: &Vec<L::Bell, Heap>,
+    wakers: &Vec<L::Waker, Heap>,
     connections: u32,
 ) -> Result<(), AcceptStop>
     requires some { 0 < vec_len ports.old }
@@ -195,7 +194,7 @@ fn accept<L: Listener, R: Wait>(
     ensures { AcceptsAll L.accepts L.fails connections result listener.old listener.new (reverse ports.old.items) (reverse ports.new.items) }
 {
     ports.reverse();
-    let accepted = accept_all(rt, listener, ports, bells, connections);
+    let accepted = accept_all(rt, listener, ports, wakers, connections);
     ports.reverse();
     accepted
 }

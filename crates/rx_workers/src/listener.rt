@@ -1,7 +1,7 @@
 ghost use Rattle.std.specs.Prelude.{IfOk, OnErr};
 
 use crate::crew::idle::Idle;
-use crate::readiness::{Bell, Readiness, WatchFault};
+use crate::readiness::{Readiness, Waker, WatchFault};
 use std::error::Error;
 use std::fmt;
 use std::io::{Read, Write};
@@ -18,13 +18,13 @@ impl fmt::Display for AcceptFault {
 
 impl Error for AcceptFault {}
 
-/// What a worker waits by, and the bell that ends its wait.
+/// What a worker waits by, and the waker that ends its wait.
 #[derive(Drop)]
 pub struct Watch<C, P: Readiness<C> + Drop, B: Drop> {
     /// What the worker waits by, which watches nothing yet.
     pub readiness: Idle<C, P>,
     /// What ends its wait.
-    pub bell: B,
+    pub waker: B,
 }
 
 /// Where connections come from. Its relations say what a call answers and what it leaves of it.
@@ -36,7 +36,7 @@ pub trait Listener {
     /// What a worker waits by for its connections.
     type Readiness: Readiness<Self::Reader> + Drop + Send + 'static;
     /// What tells a worker that a connection came.
-    type Bell: Bell + Drop;
+    type Waker: Waker + Drop;
 
     ghost accepts: { Self → Self.Reader × Self.Writer → Self → Type 0 };
 
@@ -48,5 +48,5 @@ pub trait Listener {
         ensures failed { OnErr result (fails self.old self.new) };
 
     /// What one more worker waits by.
-    fn watch(&self) -> Result<Watch<Self::Reader, Self::Readiness, Self::Bell>, WatchFault>;
+    fn watch(&self) -> Result<Watch<Self::Reader, Self::Readiness, Self::Waker>, WatchFault>;
 }

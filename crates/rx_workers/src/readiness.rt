@@ -70,7 +70,7 @@ pub trait Readiness<C> {
     fn forget(&mut self, connection: &C, key: usize)
         ensures { Watches key None (watched self.old) (watched self.new) };
 
-    /// Waits until a connection is ready, or until the bell rings; not where one is to be told again. It may come back without
+    /// Waits until a connection is ready, or until the waker wakes it; not where one is to be told again. It may come back without
     /// either.
     fn wait(&mut self)
         ensures { WatchesSame (watched self.old) (watched self.new) };
@@ -81,7 +81,7 @@ pub trait Readiness<C> {
 }
 
 /// Ends the wait of a worker. It is let go once the worker has ended.
-pub trait Bell {
+pub trait Waker {
     /// Ends the wait that is under way, or else the next one.
-    fn ring(&self);
+    fn wake(&self);
 }

@@ -20,11 +20,10 @@ use crate::worker::shift::Shift;
 use crate::worker::task::Task;
 use crate::worker::worker_end::WorkerEnd;
 use rx_config::Config;
-use rx_desk::{Moments, SessionDesk};
+use rx_desk::{ClientSink, Moments, SessionDesk};
 use rx_heap::Heap;
 use rx_mailbox::Inbox;
 use rx_pump::CallDesk;
-use rx_sink::LineSink;
 use std::io::{Read, Write};
 use std::marker::Model;
 use std::sync::{Arc, Mutex, Wait};
@@ -37,7 +36,7 @@ pub struct Worker<M: Drop, C: Drop, W: Write + Drop, P: Readiness<C> + Drop> {
     own: Heap,
     config: Arc<Config, Heap>,
     moments: Arc<Mutex<M>, Heap>,
-    desk: CallDesk<LineSink<W>>,
+    desk: CallDesk<ClientSink<W>>,
     inbox: Inbox<(C, W)>,
     readiness: Idle<C, P>,
 }
@@ -86,7 +85,7 @@ impl<M: Moments + Drop, C: Read + Drop, W: Write + Drop, P: Readiness<C> + Drop>
         own: Heap,
         config: Arc<Config, Heap>,
         moments: Arc<Mutex<M>, Heap>,
-        desk: CallDesk<LineSink<W>>,
+        desk: CallDesk<ClientSink<W>>,
         inbox: Inbox<(C, W)>,
         readiness: Idle<C, P>,
     ) -> Worker<M, C, W, P>

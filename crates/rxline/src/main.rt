@@ -40,22 +40,37 @@ fn main(rt: HostRuntime) -> ExitCode {
     let mut writer = rt.stdout();
     if writer.is_terminal() {
         let mut shown = Plain::new(&mut writer);
-        return run(&rt, words.as_slice(), &mut reader, &mut shown, &mut faults);
+        return run(
+            &rt,
+            words.as_slice(),
+            &mut reader,
+            &mut shown,
+            &mut faults,
+            rt.stderr(),
+        );
     }
-    run(&rt, words.as_slice(), &mut reader, &mut writer, &mut faults)
+    run(
+        &rt,
+        words.as_slice(),
+        &mut reader,
+        &mut writer,
+        &mut faults,
+        rt.stderr(),
+    )
 }
 
 // The program over these streams. The process ends with its status.
-fn run<'a, F: Host, R: Read, W: Write, E: Write>(
+fn run<'a, F: Host, R: Read, W: Write, E: Write, L: Write + Drop + Send + 'static>(
     rt: &F,
     words: &'a [&'a str],
     reader: &mut R,
     writer: &mut W,
     faults: &mut E,
+    log: L,
 ) -> ExitCode
     ensures { Program (map (λ s. s.now) words.entry.now) (exit_status result) (record { left = R.remaining reader.old; written = W.contents writer.old }) (record { left = R.remaining reader.new; written = W.contents writer.new }) (E.contents faults.old) (E.contents faults.new) }
 {
-    ExitCode::from(run_words(rt, words, reader, writer, faults))
+    ExitCode::from(run_words(rt, words, reader, writer, faults, log))
 }
 
 // The words of the command line, the program's name first.

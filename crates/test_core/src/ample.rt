@@ -1,7 +1,7 @@
 //! Runs of a hub with ample memory: of each kind, strategy and error mode 200 drawn events of all four forms. None is
 //! refused for want of memory, each observer is given what the history of the same events says, and nothing stays in use.
 
-use crate::drawing::Plan;
+use crate::draws::Plan;
 use crate::hubs::{Ran, joined, run_drawn};
 use rx_heap::Heap;
 use rx_note::{Answer, Errors, Refusal, Strategy};

@@ -1,6 +1,6 @@
 //! A hub over a budget of bytes in use, a list of what is given over one, and what a text takes of one.
 
-use crate::expecting::{expect_answer, expect_count, expect_that};
+use crate::expectations::{expect_answer, expect_count, expect_that};
 use crate::heaps::{copy, unlimited};
 use rx_heap::{Heap, Memory};
 use rx_hub::Hub;

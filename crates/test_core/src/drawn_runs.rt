@@ -1,7 +1,7 @@
 //! Drawn events, by what they show: the run of a hub of each kind gives what the history of the same events says, and shows
 //! enough of what its kind does; and lines are shorter where a kind or a strategy is to leave something out.
 
-use crate::drawing::Plan;
+use crate::draws::Plan;
 use crate::heaps::unlimited;
 use crate::hubs::{OBSERVERS, Ran, Reading, joined, reading_of, run_drawn};
 use rx_heap::Heap;

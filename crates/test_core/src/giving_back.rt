@@ -1,7 +1,7 @@
 //! What a hub takes of a budget and gives back: what a burst needed once that has drained, the text of an emission that was
 //! refused, and all of it when the hub goes; and that an item which is kept back takes no room.
 
-use crate::expecting::{expect_answer, expect_count, expect_that};
+use crate::expectations::{expect_answer, expect_count, expect_that};
 use crate::heaps::{copy, unlimited};
 use rx_heap::Heap;
 use rx_hub::Hub;

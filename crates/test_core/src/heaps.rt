@@ -4,7 +4,7 @@
 //! back. Told is `!` where a block was refused, behind `?` the bytes used, in tens, and behind `#` how many growths were asked
 //! for.
 
-use crate::expecting::{expect_count, expect_that, expect_told};
+use crate::expectations::{expect_count, expect_that, expect_told};
 use rx_heap::Heap;
 use std::alloc::Global;
 use std::process::Abort;

@@ -6,7 +6,7 @@
 
 ghost use Rattle.std.specs.Prelude.{◌≤◌};
 
-use crate::expecting::expect_told;
+use crate::expectations::expect_told;
 use crate::heaps::unlimited;
 use rx_heap::{Heap, Memory};
 use rx_history::{History, LineError};

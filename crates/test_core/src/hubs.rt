@@ -7,8 +7,8 @@
 
 ghost use Rattle.std.specs.Prelude.{◌≤◌, IfOk};
 
-use crate::drawing::{Plan, drawn};
-use crate::expecting::expect_told;
+use crate::draws::{Plan, drawn};
+use crate::expectations::expect_told;
 use crate::heaps::unlimited;
 use rx_heap::Heap;
 use rx_history::History;

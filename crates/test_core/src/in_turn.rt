@@ -1,6 +1,6 @@
 //! Scripts that tell the same with each of their growths refused in turn.
 
-use crate::expecting::{expect_told, expect_words};
+use crate::expectations::{expect_told, expect_words};
 use rx_heap::Heap;
 use std::alloc::Global;
 use std::process::Abort;

@@ -13,13 +13,13 @@ mod budgets;
 #[cfg(test)]
 mod clerk;
 #[cfg(test)]
-mod drawing;
-#[cfg(test)]
 mod drawn_runs;
+#[cfg(test)]
+mod draws;
 #[cfg(test)]
 mod drips;
 #[cfg(test)]
-mod expecting;
+mod expectations;
 #[cfg(test)]
 mod giving_back;
 #[cfg(test)]

@@ -5,7 +5,7 @@
 //! line what it is given, in brackets where several notes come at once. `|` is the completion, `#` an error, a capital
 //! letter a seed.
 
-use crate::expecting::expect_that;
+use crate::expectations::expect_that;
 use crate::heaps::unlimited;
 use rx_heap::Heap;
 use rx_hub::{Hub, Run};

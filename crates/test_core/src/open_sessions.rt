@@ -5,7 +5,7 @@
 //! of the reader, M for too many reads), then what was written, and behind `|` what the desk was asked: `n`, `c` and `f` for an item, completion and an error, and `s` for
 //! a Join in the first version, `t` for one in the second, with the count of the bytes that the writer had then.
 
-use crate::expecting::{expect_count, expect_told};
+use crate::expectations::{expect_count, expect_told};
 use crate::heaps::unlimited;
 use crate::scribe::{Scribe, writing};
 use rx_heap::Heap;

@@ -3,7 +3,7 @@
 //! The signs: P, E, F, S, H and Q for PUB, END, FAIL, SUB, HELLO and QUIT, A for AT, J for JOIN, R for REQUEST, D for DISPOSE;
 //! `l` for a line that is too long, `-` for no line, and `m` for want of memory.
 
-use crate::expecting::{expect_count, expect_that, expect_told};
+use crate::expectations::{expect_count, expect_that, expect_told};
 use crate::heaps::unlimited;
 use rx_heap::Heap;
 use rx_note::{Item, Note, Strategy, Text};

@@ -6,7 +6,7 @@
 
 ghost use Rattle.std.specs.Prelude.{◌≤◌, IfOk};
 
-use crate::expecting::{expect_count, expect_that, expect_words};
+use crate::expectations::{expect_count, expect_that, expect_words};
 use crate::hubs::{Ran, Reading};
 use rx_heap::Heap;
 use rx_history::History;

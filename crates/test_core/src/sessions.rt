@@ -6,7 +6,7 @@
 //! for an item, completion and an error, and `s` for a Join in the first version, `t` for one in the second.
 use crate::clerk::Clerk;
 use crate::drips::{Drips, dripping};
-use crate::expecting::{expect_count, expect_told};
+use crate::expectations::{expect_count, expect_told};
 use crate::heaps::unlimited;
 use crate::protocol::filled;
 use crate::sheet::{Sheet, blank};

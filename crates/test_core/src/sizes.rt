@@ -1,6 +1,6 @@
 //! Runs of a hub at sizes at which a list might be too short: none of them is refused for want of memory.
 
-use crate::expecting::expect_count;
+use crate::expectations::expect_count;
 use crate::heaps::unlimited;
 use crate::hubs::{hub_of, run_of};
 use rx_heap::Heap;

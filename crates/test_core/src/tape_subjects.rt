@@ -3,7 +3,7 @@
 
 ghost use Rattle.std.specs.Prelude.{◌≤◌, length};
 
-use crate::expecting::expect_count;
+use crate::expectations::expect_count;
 use crate::heaps::unlimited;
 use crate::in_turn::{Script, expect_in_turn};
 use crate::subjects::{ROWS, is_memory, put_end, put_item, put_offered};

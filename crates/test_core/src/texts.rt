@@ -1,6 +1,6 @@
 //! What the errors of the core and of the lines say to a person.
 
-use crate::expecting::expect_words;
+use crate::expectations::expect_words;
 use rx_heap::Memory;
 use rx_history::LineError as HistoryError;
 use rx_hub::{HubError, NoObserver};

@@ -5,7 +5,7 @@ ghost use Rattle.std.specs.List.{All};
 ghost use Rattle.rx_pump.specs.Desks.{DeskView, KeepsDesk};
 ghost use Rattle.rx_server.specs.Servers.{IsDeskOf, IsEndOf};
 
-use crate::expecting::expect_answer;
+use crate::expectations::expect_answer;
 use crate::servers::copy;
 use rx_drain::Sink;
 use rx_heap::Heap;

@@ -2,7 +2,7 @@
 //! a worker has nothing to wait by, and where no desk is left.
 
 use crate::callers::caller_of;
-use crate::expecting::{expect_answer, expect_that, expect_told};
+use crate::expectations::{expect_answer, expect_that, expect_told};
 use crate::servers::{Host, closed, config_of, copy, started};
 use crate::turns::{Everyone, Silent, Still};
 use rx_drain::LineSink;
@@ -10,7 +10,7 @@ use rx_heap::Heap;
 use rx_note::Answer;
 use rx_proto::Version;
 use rx_pump::EndedDesk;
-use rx_server::{AcceptFault, Listener, ServeFault, Server, Watch, WatchFault};
+use rx_server::{AcceptFault, ClientSink, Listener, ServeFault, Server, Watch, WatchFault};
 use std::alloc::Global;
 use std::io::{self, Read, Write};
 use std::process::Abort;
@@ -154,7 +154,7 @@ impl<R: Host> Listener for Peers<R> {
 
     type Readiness = Everyone;
 
-    type Bell = Silent;
+    type Waker = Silent;
 
     ghost accepts = { λ _ _ _. Unit {0} };
 
@@ -177,8 +177,8 @@ impl<R: Host> Listener for Peers<R> {
             return Err(WatchFault);
         }
         let readiness = Everyone::new(self.rt.alloc());
-        let bell = Silent;
-        Ok(Watch { readiness, bell })
+        let waker = Silent;
+        Ok(Watch { readiness, waker })
     }
 }
 
@@ -216,9 +216,10 @@ struct Run {
 fn run_of<R: Host>(rt: &R, faults: Faults) -> Run {
     let heap = Heap::unlimited(rt.alloc());
     let page = page_of(rt);
-    let mut server: Server<LineSink<Clerk<R>>> = started(rt, &heap, FOUR);
+    let mut server: Server<ClientSink<Clerk<R>>> = started(rt, &heap, FOUR);
     let mut first = caller_of(rt, &mut server);
-    let sink = LineSink::new(clerk_on(rt, &page).expect(rt, "a clerk"), Version::Two);
+    let clerk = clerk_on(rt, &page).expect(rt, "a clerk");
+    let sink = ClientSink::Lines(LineSink::new(clerk, Version::Two));
     expect_answer(rt, first.join(rt, 0, 100, sink), Ok(Answer::Joined(0)));
     let served = server.serve(rt, &mut peers_of(rt, &page, faults), Still);
     let ended = first.finish_alone(rt, &heap);
@@ -253,7 +254,7 @@ fn a_listener_that_fails(rt: HostRuntime) {
 fn no_desk_is_left(rt: HostRuntime) {
     let heap = Heap::unlimited(rt.alloc());
     let page = page_of(&rt);
-    let mut server: Server<LineSink<Clerk<HostRuntime>>> = started(&rt, &heap, ONE_DESK);
+    let mut server: Server<ClientSink<Clerk<HostRuntime>>> = started(&rt, &heap, ONE_DESK);
     let only = caller_of(&rt, &mut server);
     let served = server.serve(&rt, &mut peers_of(&rt, &page, NO_FAULT), Still);
     assert_eq!(&rt; served, Err(ServeFault::NoDesk));

@@ -6,7 +6,7 @@ ghost use Rattle.rx_pump.specs.Desks.{KeepsDesk};
 ghost use Rattle.rx_server.specs.Servers.{IsEndOf};
 
 use crate::callers::{Caller, caller_of};
-use crate::expecting::{expect_answer, expect_count, expect_that};
+use crate::expectations::{expect_answer, expect_count, expect_that};
 use crate::servers::{Host, TWO_OF_EACH, closed, config_of, copy, started};
 use crate::starts::Ration;
 use rx_drain::MemorySink;

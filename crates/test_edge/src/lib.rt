@@ -10,7 +10,7 @@ mod callers;
 #[cfg(test)]
 mod crews;
 #[cfg(test)]
-mod expecting;
+mod expectations;
 #[cfg(test)]
 mod going_on;
 #[cfg(test)]

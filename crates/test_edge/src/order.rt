@@ -11,7 +11,7 @@ ghost use Rattle.rx_server.specs.Servers.{IsDeskOf, IsEndOf};
 ghost use Rattle.test_edge.specs.declared.order.Ledger.{Ledger};
 
 use crate::callers::{Caller, caller_of};
-use crate::expecting::{expect_answer, expect_count, expect_that};
+use crate::expectations::{expect_answer, expect_count, expect_that};
 use crate::servers::{Host, closed, started, subject_of};
 use rx_drain::{Flow, PutAway, Sink, SinkFault};
 use rx_heap::{Heap, Memory};

@@ -7,7 +7,7 @@ ghost use Rattle.rx_pump.specs.Desks.{DeskView, KeepsDesk};
 ghost use Rattle.rx_server.specs.Servers.{IsDeskOf, IsEndOf};
 
 use crate::callers::{Caller, caller_of, emit_all};
-use crate::expecting::{expect_answer, expect_count, expect_that, expect_told};
+use crate::expectations::{expect_answer, expect_count, expect_that, expect_told};
 use rx_drain::{MemorySink, Sink};
 use rx_heap::Heap;
 use rx_note::{Answer, Note, Refusal};

@@ -3,16 +3,15 @@
 
 ghost use Rattle.std.specs.Prelude.{◌≡◌, ◌+◌, length, vec_len};
 
-use crate::expecting::{expect_count, expect_that, expect_told};
+use crate::expectations::{expect_count, expect_that, expect_told};
 use crate::servers::{Host, config_of, copy, started};
 use crate::turns::{Everyone, Still};
-use rx_drain::LineSink;
 use rx_heap::Heap;
 use rx_mailbox::{Inbox, Port, open};
 use rx_note::{Errors, Item, Note, Policy, Strategy, Text};
 use rx_proto::{Name, Response, Version, Word};
 use rx_pump::CallDesk;
-use rx_server::{Config, Joined, Server, SessionDesk, Worker};
+use rx_server::{ClientSink, Config, Joined, Server, SessionDesk, Worker};
 use rx_session::{Desk, Follow};
 use std::io::{self, Read, Write};
 use std::process::Abort;
@@ -42,9 +41,9 @@ type Session<'a, R> = SessionDesk<'a, R, Still, Deaf>;
 // The next desk of a server, which has a port for each subject of this configuration.
 fn desk_of(
     rt: &impl Abort,
-    server: &mut Server<LineSink<Deaf>>,
+    server: &mut Server<ClientSink<Deaf>>,
     config: &Config,
-) -> CallDesk<LineSink<Deaf>>
+) -> CallDesk<ClientSink<Deaf>>
     ensures { length result.ports + length result.ended ≡ vec_len config.now.subjects }
 {
     let desk = server.desk().expect(rt, "a desk");
@@ -56,7 +55,7 @@ fn desk_of(
 }
 
 // Closes a server whose desk is not handed in.
-fn close_without<R: Host>(rt: &R, heap: &Heap, server: Server<LineSink<Deaf>>) {
+fn close_without<R: Host>(rt: &R, heap: &Heap, server: Server<ClientSink<Deaf>>) {
     let closed = server.close(rt, Vec::new(copy(rt, heap)));
     expect_that(rt, closed.is_err(), "a desk is missing");
 }
@@ -147,7 +146,7 @@ fn calls_of_a_session_reach_the_subject(rt: HostRuntime) {
     let heap = Heap::unlimited(rt.alloc());
     let config = config_of(&rt, &heap, ONE_PLACE);
     for (steps, wanted) in &STEPS {
-        let mut server: Server<LineSink<Deaf>> = started(&rt, &heap, ONE_PLACE);
+        let mut server: Server<ClientSink<Deaf>> = started(&rt, &heap, ONE_PLACE);
         let calls = desk_of(&rt, &mut server, &config);
         let mut desk = SessionDesk::new(&rt, &heap, calls, &config, Still);
         let told = told_steps(&rt, &heap, &mut desk, steps.as_bytes());
@@ -196,7 +195,7 @@ fn a_worker_serves_what_came(rt: HostRuntime) {
     let heap = Heap::unlimited(rt.alloc());
     for connections in [0, 1, 3] {
         let config = config_of(&rt, &heap, ONE_PLACE);
-        let mut server: Server<LineSink<Deaf>> = started(&rt, &heap, ONE_PLACE);
+        let mut server: Server<ClientSink<Deaf>> = started(&rt, &heap, ONE_PLACE);
         let calls = desk_of(&rt, &mut server, &config);
         let inbox = box_with(&rt, &heap, connections);
         let config = Arc::new(copy(&rt, &heap), config).expect(&rt, "memory");

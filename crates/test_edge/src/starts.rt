@@ -6,7 +6,7 @@ ghost use Rattle.rx_pump.specs.Desks.{DeskView};
 ghost use Rattle.rx_server.specs.Servers.{IsDeskOf, IsEndOf};
 
 use crate::callers::caller_of;
-use crate::expecting::{expect_count, expect_that, expect_told};
+use crate::expectations::{expect_count, expect_that, expect_told};
 use crate::servers::{Host, TWO_OF_EACH, closed, config_of, copy, started};
 use rx_drain::MemorySink;
 use rx_heap::Heap;

@@ -1,6 +1,6 @@
 //! What the faults of a server and of the program say to a person.
 
-use crate::expecting::expect_told;
+use crate::expectations::expect_told;
 use rx_program::{ProgramFault, tell};
 use rx_server::{
     AcceptStop, CloseCause, CloseFault, ConfigError, Role, ServeFault, StartCause, StartFault,
@@ -116,6 +116,7 @@ fn texts_of_the_programs_faults(rt: HostRuntime) -> Result<(), Fail> {
             ProgramFault::Close(close_fault(Role::Drainer, 1)),
             "close fault: drainer 1",
         ),
+        (ProgramFault::NoHttp, "no answer by HTTP"),
     ] {
         expect_line(&rt, alloc, *fault, text)?;
     }

@@ -6,7 +6,7 @@ ghost use Rattle.rx_pump.specs.Desks.{DeskView, KeepsDesk};
 ghost use Rattle.rx_server.specs.Servers.{IsDeskOf, IsEndOf};
 
 use crate::callers::{Caller, caller_of, emit_all};
-use crate::expecting::{expect_count, expect_that};
+use crate::expectations::{expect_count, expect_that};
 use crate::servers::{Host, TWO_OF_EACH, closed, copy, expect_items, expect_subject, started};
 use rx_drain::MemorySink;
 use rx_heap::Heap;

@@ -1,14 +1,13 @@
 //! Workers over connections in memory, whose reads and writes would block now and then: each session is answered as if it were
 //! alone, and where a growth is refused a connection at most is given up.
 
-use crate::expecting::{expect_count, expect_that, expect_told};
+use crate::expectations::{expect_count, expect_that, expect_told};
 use crate::servers::{Host, closed, config_of, copy};
-use rx_drain::LineSink;
 use rx_heap::Heap;
 use rx_program::WatchLog;
 use rx_server::{
-    AcceptFault, Aim, Bell, Idle, Listener, Moments, Readiness, Ready, ServeFault, Server, Watch,
-    WatchFault, start,
+    AcceptFault, Aim, ClientSink, Idle, Listener, Moments, Readiness, Ready, ServeFault, Server,
+    Waker, Watch, WatchFault, start,
 };
 use std::alloc::Global;
 use std::io::{self, ErrorKind, Read, Write};
@@ -184,8 +183,8 @@ impl<C> Readiness<C> for Everyone {
 #[derive(Drop)]
 pub(crate) struct Silent;
 
-impl Bell for Silent {
-    fn ring(&self) {}
+impl Waker for Silent {
+    fn wake(&self) {}
 }
 
 /// Time stands still.
@@ -244,7 +243,7 @@ impl<R: Host> Listener for Peers<R> {
 
     type Readiness = Everyone;
 
-    type Bell = Silent;
+    type Waker = Silent;
 
     ghost accepts = { λ _ _ _. Unit {0} };
 
@@ -261,8 +260,8 @@ impl<R: Host> Listener for Peers<R> {
 
     fn watch(&self) -> Result<Watch<Halting, Everyone, Silent>, WatchFault> {
         let readiness = Everyone::new(self.rt.alloc());
-        let bell = Silent;
-        Ok(Watch { readiness, bell })
+        let waker = Silent;
+        Ok(Watch { readiness, waker })
     }
 }
 
@@ -279,7 +278,7 @@ fn share(rt: &impl Host, page: &Page) -> Page {
 fn serve_peers<R: Host>(
     rt: &R,
     free: &Heap,
-    server: Server<LineSink<Sipping<R>>>,
+    server: Server<ClientSink<Sipping<R>>>,
     pages: &[Page; 3],
 ) -> Result<(), ServeFault> {
     let mut server = server;

@@ -1,79 +1,194 @@
 //! Answers to requests, each byte for byte.
 
 use rx_heap::Heap;
-use rx_http::{Answer, Refusal, write_answer};
+use rx_http::{Answer, Document, Epoch, LookForm, Refusal, write_answer};
 use std::test::Fail;
 
+/// What a request is answered, as a row tells it: by a server of the epoch `1a21de595e8`.
+#[derive(Clone, Copy, PartialEq, Eq)]
+pub(crate) enum Answered {
+    Events,
+    Over,
+    Well,
+    Unwell,
+    Accepted(Option<u32>),
+    Requested,
+    /// What is seen is `{}` and a line.
+    Stats,
+    /// What is seen is `a 1` and a line.
+    Metrics,
+    /// What is seen is `s open` and a line.
+    Lines,
+    /// What is seen is `<p>s` and a line.
+    Page,
+    Refused(Refusal),
+}
+
+impl Answered {
+    fn answer(self, heap: &Heap) -> Result<Answer, Fail> {
+        Ok(match self {
+            Answered::Events => Answer::Events,
+            Answered::Over => Answer::Over,
+            Answered::Well => Answer::Well,
+            Answered::Unwell => Answer::Unwell,
+            Answered::Accepted(place) => Answer::Accepted {
+                epoch: Epoch::new(b"1a21de595e8").ok_or("no epoch")?,
+                place,
+            },
+            Answered::Stats => shown(heap, LookForm::Stats, b"{}\n")?,
+            Answered::Metrics => shown(heap, LookForm::Metrics, b"a 1\n")?,
+            Answered::Lines => shown(heap, LookForm::Lines, b"s open\n")?,
+            Answered::Page => shown(heap, LookForm::Page, b"<p>s\n")?,
+            Answered::Requested => Answer::Requested,
+            Answered::Refused(cause) => Answer::Refused(cause),
+        })
+    }
+}
+
+fn shown(heap: &Heap, form: LookForm, bytes: &[u8]) -> Result<Answer, Fail> {
+    let bytes = Vec::from_slice(heap.clone()?, bytes)?;
+    let body = Document::new(bytes).ok_or("too long")?;
+    Ok(Answer::Shown { form, body })
+}
+
 /// Each answer and its bytes.
-pub(crate) const ANSWERS: [(Answer, &[u8]); 16] = [
+pub(crate) const ANSWERS: [(Answered, &[u8]); 33] = [
     (
-        Answer::Events,
+        Answered::Events,
         b"HTTP/1.1 200 OK\r\nContent-Type: text/event-stream\r\nCache-Control: no-store, no-transform\r\nX-Accel-Buffering: no\r\nContent-Encoding: identity\r\nVary: Accept, Origin\r\nConnection: close\r\n\r\n",
     ),
     (
-        Answer::Over,
+        Answered::Over,
         b"HTTP/1.1 204 No Content\r\nCache-Control: no-store\r\nX-Content-Type-Options: nosniff\r\nConnection: close\r\n\r\n",
     ),
     (
-        Answer::Well,
+        Answered::Well,
         b"HTTP/1.1 200 OK\r\nContent-Type: text/plain; charset=utf-8\r\nContent-Length: 3\r\nCache-Control: no-store\r\nX-Content-Type-Options: nosniff\r\nConnection: close\r\n\r\nok\n",
     ),
     (
-        Answer::Unwell,
+        Answered::Unwell,
         b"HTTP/1.1 503 Service Unavailable\r\nContent-Type: text/plain; charset=utf-8\r\nContent-Length: 7\r\nCache-Control: no-store\r\nX-Content-Type-Options: nosniff\r\nConnection: close\r\n\r\nunwell\n",
     ),
     (
-        Answer::Refused(Refusal::Head),
+        Answered::Accepted(None),
+        b"HTTP/1.1 200 OK\r\nContent-Type: application/json\r\nContent-Length: 24\r\nCache-Control: no-store\r\nX-Content-Type-Options: nosniff\r\nConnection: close\r\n\r\n{\"epoch\":\"1a21de595e8\"}\n",
+    ),
+    (
+        Answered::Accepted(Some(0)),
+        b"HTTP/1.1 200 OK\r\nContent-Type: application/json\r\nContent-Length: 34\r\nCache-Control: no-store\r\nX-Content-Type-Options: nosniff\r\nConnection: close\r\n\r\n{\"epoch\":\"1a21de595e8\",\"place\":0}\n",
+    ),
+    (
+        Answered::Accepted(Some(4_294_967_294)),
+        b"HTTP/1.1 200 OK\r\nContent-Type: application/json\r\nContent-Length: 43\r\nCache-Control: no-store\r\nX-Content-Type-Options: nosniff\r\nConnection: close\r\n\r\n{\"epoch\":\"1a21de595e8\",\"place\":4294967294}\n",
+    ),
+    (
+        Answered::Stats,
+        b"HTTP/1.1 200 OK\r\nContent-Type: application/json\r\nContent-Length: 3\r\nCache-Control: no-store\r\nX-Content-Type-Options: nosniff\r\nConnection: close\r\n\r\n{}\n",
+    ),
+    (
+        Answered::Metrics,
+        b"HTTP/1.1 200 OK\r\nContent-Type: text/plain; version=0.0.4\r\nContent-Length: 4\r\nCache-Control: no-store\r\nX-Content-Type-Options: nosniff\r\nConnection: close\r\n\r\na 1\n",
+    ),
+    (
+        Answered::Lines,
+        b"HTTP/1.1 200 OK\r\nContent-Type: text/plain; charset=utf-8\r\nContent-Length: 7\r\nCache-Control: no-store\r\nX-Content-Type-Options: nosniff\r\nConnection: close\r\n\r\ns open\n",
+    ),
+    (
+        Answered::Page,
+        b"HTTP/1.1 200 OK\r\nContent-Type: text/html; charset=utf-8\r\nContent-Length: 5\r\nCache-Control: no-store\r\nX-Content-Type-Options: nosniff\r\nConnection: close\r\nContent-Security-Policy: frame-ancestors 'none'\r\n\r\n<p>s\n",
+    ),
+    (
+        Answered::Requested,
+        b"HTTP/1.1 204 No Content\r\nCache-Control: no-store\r\nX-Content-Type-Options: nosniff\r\nConnection: close\r\n\r\n",
+    ),
+    (
+        Answered::Refused(Refusal::Items),
+        b"HTTP/1.1 400 Bad Request\r\nContent-Type: application/json\r\nContent-Length: 72\r\nCache-Control: no-store\r\nX-Content-Type-Options: nosniff\r\nConnection: close\r\n\r\n{\"error\":\"request\",\"text\":\"request is how many items more, at least 1\"}\n",
+    ),
+    (
+        Answered::Refused(Refusal::Observer),
+        b"HTTP/1.1 404 Not Found\r\nContent-Type: application/json\r\nContent-Length: 88\r\nCache-Control: no-store\r\nX-Content-Type-Options: nosniff\r\nConnection: close\r\n\r\n{\"error\":\"observer\",\"text\":\"there is none of that name that asks for its items itself\"}\n",
+    ),
+    (
+        Answered::Refused(Refusal::Head),
         b"HTTP/1.1 400 Bad Request\r\nContent-Type: application/json\r\nContent-Length: 58\r\nCache-Control: no-store\r\nX-Content-Type-Options: nosniff\r\nConnection: close\r\n\r\n{\"error\":\"head\",\"text\":\"the head is not one of HTTP/1.1\"}\n",
     ),
     (
-        Answer::Refused(Refusal::Word),
-        b"HTTP/1.1 400 Bad Request\r\nContent-Type: application/json\r\nContent-Length: 119\r\nCache-Control: no-store\r\nX-Content-Type-Options: nosniff\r\nConnection: close\r\n\r\n{\"error\":\"strategy\",\"text\":\"strategy is BUFFER, DROP:n, LATEST:n or BOUNDED:n, errors AHEAD or DELAY, window 1 to 16\"}\n",
+        Answered::Refused(Refusal::Word),
+        b"HTTP/1.1 400 Bad Request\r\nContent-Type: application/json\r\nContent-Length: 143\r\nCache-Control: no-store\r\nX-Content-Type-Options: nosniff\r\nConnection: close\r\n\r\n{\"error\":\"strategy\",\"text\":\"strategy is BUFFER, DROP:n, LATEST:n or BOUNDED:n, errors AHEAD or DELAY, window 1 to 16, credit asked or socket\"}\n",
     ),
     (
-        Answer::Refused(Refusal::LastEventId),
+        Answered::Refused(Refusal::LastEventId),
         b"HTTP/1.1 400 Bad Request\r\nContent-Type: application/json\r\nContent-Length: 66\r\nCache-Control: no-store\r\nX-Content-Type-Options: nosniff\r\nConnection: close\r\n\r\n{\"error\":\"last-event-id\",\"text\":\"it is none that a server tells\"}\n",
     ),
     (
-        Answer::Refused(Refusal::Subject),
+        Answered::Refused(Refusal::Lf),
+        b"HTTP/1.1 400 Bad Request\r\nContent-Type: application/json\r\nContent-Length: 43\r\nCache-Control: no-store\r\nX-Content-Type-Options: nosniff\r\nConnection: close\r\n\r\n{\"error\":\"lf\",\"text\":\"a text is one line\"}\n",
+    ),
+    (
+        Answered::Refused(Refusal::Origin),
+        b"HTTP/1.1 403 Forbidden\r\nContent-Type: application/json\r\nContent-Length: 60\r\nCache-Control: no-store\r\nX-Content-Type-Options: nosniff\r\nConnection: close\r\n\r\n{\"error\":\"origin\",\"text\":\"a page of another site sends it\"}\n",
+    ),
+    (
+        Answered::Refused(Refusal::ReadOnly),
+        b"HTTP/1.1 403 Forbidden\r\nContent-Type: application/json\r\nContent-Length: 51\r\nCache-Control: no-store\r\nX-Content-Type-Options: nosniff\r\nConnection: close\r\n\r\n{\"error\":\"emit\",\"text\":\"readers alone are served\"}\n",
+    ),
+    (
+        Answered::Refused(Refusal::Subject),
         b"HTTP/1.1 404 Not Found\r\nContent-Type: application/json\r\nContent-Length: 67\r\nCache-Control: no-store\r\nX-Content-Type-Options: nosniff\r\nConnection: close\r\n\r\n{\"error\":\"subject\",\"text\":\"the configuration has no such subject\"}\n",
     ),
     (
-        Answer::Refused(Refusal::Path),
-        b"HTTP/1.1 404 Not Found\r\nContent-Type: application/json\r\nContent-Length: 57\r\nCache-Control: no-store\r\nX-Content-Type-Options: nosniff\r\nConnection: close\r\n\r\n{\"error\":\"path\",\"text\":\"try /healthz or /subjects/NAME\"}\n",
+        Answered::Refused(Refusal::Path),
+        b"HTTP/1.1 404 Not Found\r\nContent-Type: application/json\r\nContent-Length: 78\r\nCache-Control: no-store\r\nX-Content-Type-Options: nosniff\r\nConnection: close\r\n\r\n{\"error\":\"path\",\"text\":\"try /, /subjects/NAME, /stats, /metrics or /healthz\"}\n",
     ),
     (
-        Answer::Refused(Refusal::Method),
+        Answered::Refused(Refusal::Method),
+        b"HTTP/1.1 405 Method Not Allowed\r\nContent-Type: application/json\r\nContent-Length: 44\r\nCache-Control: no-store\r\nX-Content-Type-Options: nosniff\r\nConnection: close\r\nAllow: GET, POST\r\n\r\n{\"error\":\"method\",\"text\":\"try GET or POST\"}\n",
+    ),
+    (
+        Answered::Refused(Refusal::OnlyGet),
         b"HTTP/1.1 405 Method Not Allowed\r\nContent-Type: application/json\r\nContent-Length: 36\r\nCache-Control: no-store\r\nX-Content-Type-Options: nosniff\r\nConnection: close\r\nAllow: GET\r\n\r\n{\"error\":\"method\",\"text\":\"try GET\"}\n",
     ),
     (
-        Answer::Refused(Refusal::Spent),
-        b"HTTP/1.1 409 Conflict\r\nContent-Type: application/json\r\nContent-Length: 72\r\nCache-Control: no-store\r\nX-Content-Type-Options: nosniff\r\nConnection: close\r\n\r\n{\"error\":\"spent\",\"text\":\"the subject accepted as many joins as it may\"}\n",
+        Answered::Refused(Refusal::Length),
+        b"HTTP/1.1 411 Length Required\r\nContent-Type: application/json\r\nContent-Length: 47\r\nCache-Control: no-store\r\nX-Content-Type-Options: nosniff\r\nConnection: close\r\n\r\n{\"error\":\"length\",\"text\":\"say Content-Length\"}\n",
     ),
     (
-        Answer::Refused(Refusal::LongHead),
+        Answered::Refused(Refusal::Long),
+        b"HTTP/1.1 413 Content Too Large\r\nContent-Type: application/json\r\nContent-Length: 82\r\nCache-Control: no-store\r\nX-Content-Type-Options: nosniff\r\nConnection: close\r\n\r\n{\"error\":\"long\",\"text\":\"a text has at most 1,024 bytes, and 8,192 with the head\"}\n",
+    ),
+    (
+        Answered::Refused(Refusal::Ended),
+        b"HTTP/1.1 409 Conflict\r\nContent-Type: application/json\r\nContent-Length: 49\r\nCache-Control: no-store\r\nX-Content-Type-Options: nosniff\r\nConnection: close\r\n\r\n{\"error\":\"ended\",\"text\":\"the subject has ended\"}\n",
+    ),
+    (
+        Answered::Refused(Refusal::Spent),
+        b"HTTP/1.1 409 Conflict\r\nContent-Type: application/json\r\nContent-Length: 81\r\nCache-Control: no-store\r\nX-Content-Type-Options: nosniff\r\nConnection: close\r\n\r\n{\"error\":\"spent\",\"text\":\"the subject accepted as many joins or items as it may\"}\n",
+    ),
+    (
+        Answered::Refused(Refusal::LongHead),
         b"HTTP/1.1 431 Request Header Fields Too Large\r\nContent-Type: application/json\r\nContent-Length: 71\r\nCache-Control: no-store\r\nX-Content-Type-Options: nosniff\r\nConnection: close\r\n\r\n{\"error\":\"head\",\"text\":\"a head has at most 8,192 bytes and 32 fields\"}\n",
     ),
     (
-        Answer::Refused(Refusal::Gone),
+        Answered::Refused(Refusal::Gone),
         b"HTTP/1.1 500 Internal Server Error\r\nContent-Type: application/json\r\nContent-Length: 69\r\nCache-Control: no-store\r\nX-Content-Type-Options: nosniff\r\nConnection: close\r\n\r\n{\"error\":\"gone\",\"text\":\"the thread of the subject ended by a fault\"}\n",
     ),
     (
-        Answer::Refused(Refusal::Full),
+        Answered::Refused(Refusal::Full),
         b"HTTP/1.1 503 Service Unavailable\r\nContent-Type: application/json\r\nContent-Length: 63\r\nCache-Control: no-store\r\nX-Content-Type-Options: nosniff\r\nConnection: close\r\nRetry-After: 5\r\n\r\n{\"error\":\"full\",\"text\":\"as many observers are held as may be\"}\n",
     ),
     (
-        Answer::Refused(Refusal::Stopping),
+        Answered::Refused(Refusal::Stopping),
         b"HTTP/1.1 503 Service Unavailable\r\nContent-Type: application/json\r\nContent-Length: 47\r\nCache-Control: no-store\r\nX-Content-Type-Options: nosniff\r\nConnection: close\r\nRetry-After: 2\r\n\r\n{\"error\":\"stopping\",\"text\":\"the server stops\"}\n",
     ),
     (
-        Answer::Refused(Refusal::Memory),
+        Answered::Refused(Refusal::Memory),
         b"HTTP/1.1 507 Insufficient Storage\r\nContent-Type: application/json\r\nContent-Length: 65\r\nCache-Control: no-store\r\nX-Content-Type-Options: nosniff\r\nConnection: close\r\n\r\n{\"error\":\"memory\",\"text\":\"the budget of the subject is used up\"}\n",
     ),
 ];
 
 /// The bytes of an answer.
-pub(crate) fn bytes_of(answer: Answer) -> &'static [u8] {
+pub(crate) fn bytes_of(answer: Answered) -> &'static [u8] {
     for (other, bytes) in ANSWERS {
         if other == answer {
             return bytes;
@@ -87,7 +202,7 @@ fn answers_as_their_bytes(rt: HostRuntime) -> Result<(), Fail> {
     let heap = Heap::unlimited(rt.alloc());
     for (i, (answer, bytes)) in ANSWERS.iter().enumerate() {
         let mut written = Vec::new(heap.clone()?);
-        write_answer(&mut written, *answer)?;
+        write_answer(&mut written, answer.answer(&heap)?)?;
         assert_eq!(rt; written.as_slice(), *bytes, "answer {i}");
     }
     Ok(())

@@ -1,20 +1,15 @@
 //! Whole exchanges: what a connection is answered, or what the server is asked for it, however its reads are cut.
 
-use crate::answers::bytes_of;
+use crate::answers::{Answered, bytes_of};
+use crate::clerk::{clerk_of, serve};
 use crate::drips::{Drips, Page};
-use rx_exchange::{Exchange, Front, Joining};
-use rx_heap::{Heap, Memory};
-use rx_http::{Answer, Begin, Epoch, Refusal};
+use rx_exchange::Exchange;
+use rx_heap::Heap;
+use rx_http::{Begin, Credit, Refusal};
 use rx_note::{Errors, Policy, Strategy};
-use rx_proto::Name;
 use rx_session::{SessionEnd, Turn};
 use std::io::ErrorKind;
 use std::test::Fail;
-
-const EPOCH: &[u8] = b"1a21de595e8";
-
-// More turns than any row takes.
-const MOST_TURNS: u32 = 10_000;
 
 /// Where a reader begins.
 #[derive(Clone, Copy)]
@@ -37,145 +32,87 @@ impl Place {
     }
 }
 
-/// A server that has one subject, `trades`, and keeps a writer or gives it back. It notes how it was asked to have a reader join.
-#[derive(Drop)]
-struct Clerk {
-    epoch: Epoch,
-    well: bool,
-    refuses: Option<Refusal>,
-    asked: u32,
-    policy: Option<Policy>,
-    window: u32,
-    begin: Option<Begin>,
-}
-
-fn clerk_of(well: bool, refuses: Option<Refusal>) -> Result<Clerk, Fail> {
-    let Some(epoch) = Epoch::new(EPOCH) else {
-        return Err(Fail::from("no epoch"));
-    };
-    Ok(Clerk {
-        epoch,
-        well,
-        refuses,
-        asked: 0,
-        policy: None,
-        window: 0,
-        begin: None,
-    })
-}
-
-impl Front<Page> for Clerk {
-    ghost since = { λ desk epoch. Unit {0} };
-
-    ghost looks = { λ desk well. Unit {0} };
-
-    ghost joins = { λ old name policy window begin writer joining new. Unit {0} };
-
-    fn epoch(&self) -> &Epoch {
-        &self.epoch
-    }
-
-    fn is_well(&self) -> bool {
-        self.well
-    }
-
-    fn join(
-        &mut self,
-        subject: &Name,
-        policy: Policy,
-        window: u32,
-        begin: Begin,
-        writer: Page,
-    ) -> Joining<Page> {
-        self.asked = self.asked.saturating_add(1);
-        self.policy = Some(policy);
-        self.window = window;
-        self.begin = Some(begin);
-        if subject.as_bytes() != b"trades".as_slice() {
-            return Joining::Back(Refusal::Subject, writer);
-        }
-        match self.refuses {
-            Some(cause) => Joining::Back(cause, writer),
-            None => Joining::Taken,
-        }
-    }
-}
-
-// Gives the exchange its turns until it is over. How it ended, and the writer, if that is back.
-fn serve(
-    drips: &mut Drips<'_>,
-    page: Page,
-    clerk: &mut Clerk,
-    max_reads: u64,
-) -> Result<(SessionEnd, Option<Page>), Fail> {
-    let mut exchange = Exchange::new(max_reads);
-    let mut writer = page;
-    for _ in 0..MOST_TURNS {
-        match exchange.turn(drips, writer, clerk) {
-            Turn::Again(back) | Turn::Waits(back) | Turn::Stuck(back) => writer = back,
-            Turn::Over(end, back) => return Ok((end, back)),
-        }
-    }
-    Err(Fail::from("turns without an end"))
-}
-
 /// Connections that are answered.
-const ANSWERED: [(&[u8], Answer); 17] = [
-    (b"GET /healthz HTTP/1.1\r\n\r\n", Answer::Well),
-    (b"GET /healthz HTTP/1.0\n\n", Answer::Well),
+const ANSWERED: [(&[u8], Answered); 26] = [
+    (b"GET /healthz HTTP/1.1\r\n\r\n", Answered::Well),
+    (b"GET /healthz HTTP/1.0\n\n", Answered::Well),
+    (b"GET /stats?x HTTP/1.1\r\n\r\n", Answered::Stats),
+    (b"GET /metrics HTTP/1.1\r\n\r\n", Answered::Metrics),
+    (b"GET /stats.txt HTTP/1.1\r\n\r\n", Answered::Lines),
+    (b"GET / HTTP/1.1\r\n\r\n", Answered::Page),
+    (
+        b"POST /subjects/trades/observers/1a21de595e8-4?request=2 HTTP/1.1\r\n\r\n",
+        Answered::Requested,
+    ),
+    (
+        b"POST /subjects/other/observers/1a21de595e8-4 HTTP/1.1\r\n\r\n",
+        Answered::Refused(Refusal::Subject),
+    ),
+    (
+        b"POST /stats HTTP/1.1\r\n\r\n",
+        Answered::Refused(Refusal::OnlyGet),
+    ),
+    (
+        b"HEAD /metrics HTTP/1.1\r\n\r\n",
+        Answered::Refused(Refusal::OnlyGet),
+    ),
+    (
+        b"GET /stats/ HTTP/1.1\r\n\r\n",
+        Answered::Refused(Refusal::Path),
+    ),
     (
         b"GET /healthz HTTP/1.1\r\n\r\nGET /healthz HTTP/1.1\r\n\r\n",
-        Answer::Well,
+        Answered::Well,
     ),
     (
         b"GET /healthz HTTP/1.1\r\nContent-Length: 25\r\n\r\nGET /subjects/trades HTTP/1.1\r\n\r\n",
-        Answer::Well,
+        Answered::Well,
     ),
     (
         b"GET /subjects/trades HTTP/1.1\r\nLast-Event-ID: 1a21de595e8-7-over\r\n\r\n",
-        Answer::Over,
+        Answered::Over,
     ),
     (
         b"GET /subjects/trades?last-event-id=1a21de595e8--over HTTP/1.1\r\n\r\n",
-        Answer::Over,
+        Answered::Over,
     ),
     (
         b"HEAD /subjects/trades HTTP/1.1\r\n\r\n",
-        Answer::Refused(Refusal::Method),
+        Answered::Refused(Refusal::Method),
     ),
     (
         b"POST /subjects/trades HTTP/1.1\r\nContent-Length: 5\r\nOrigin: http://x\r\n\r\nhello",
-        Answer::Refused(Refusal::Method),
+        Answered::Refused(Refusal::Origin),
     ),
     (
         b"OPTIONS /healthz HTTP/1.1\r\n\r\n",
-        Answer::Refused(Refusal::Method),
+        Answered::Refused(Refusal::OnlyGet),
     ),
-    (b"GET / HTTP/1.1\r\n\r\n", Answer::Refused(Refusal::Path)),
+    (b"GET /x HTTP/1.1\r\n\r\n", Answered::Refused(Refusal::Path)),
     (
         b"GET /subjects/trades?strategy=LATEST HTTP/1.1\r\n\r\n",
-        Answer::Refused(Refusal::Word),
+        Answered::Refused(Refusal::Word),
     ),
     (
         b"GET /subjects/trades?window=17 HTTP/1.1\r\n\r\n",
-        Answer::Refused(Refusal::Word),
+        Answered::Refused(Refusal::Word),
     ),
     (
         b"GET /subjects/trades HTTP/1.1\r\nLast-Event-ID: 7\r\n\r\n",
-        Answer::Refused(Refusal::LastEventId),
+        Answered::Refused(Refusal::LastEventId),
     ),
     (
         b"GET /subjects/Trades HTTP/1.1\r\n\r\n",
-        Answer::Refused(Refusal::Subject),
+        Answered::Refused(Refusal::Subject),
     ),
     (
         b"GET /subjects/other HTTP/1.1\r\n\r\n",
-        Answer::Refused(Refusal::Subject),
+        Answered::Refused(Refusal::Subject),
     ),
-    (b"hello\r\n\r\n", Answer::Refused(Refusal::Head)),
+    (b"hello\r\n\r\n", Answered::Refused(Refusal::Head)),
     (
         b"\r\n\r\nGET /healthz HTTP/1.1\r\n\r\n",
-        Answer::Refused(Refusal::Head),
+        Answered::Refused(Refusal::Head),
     ),
 ];
 
@@ -188,7 +125,7 @@ fn answered_at_each_cut(rt: HostRuntime) -> Result<(), Fail> {
             if step % 2 == 0 {
                 drips.between = Some(ErrorKind::WouldBlock);
             }
-            let mut clerk = clerk_of(true, None)?;
+            let mut clerk = clerk_of(&heap, true, None)?;
             let page = Page::new(heap.clone()?, 2);
             let (end, back) = serve(&mut drips, page, &mut clerk, 1000)?;
             assert_eq!(rt; end, SessionEnd::Quit, "row {i} by {step}");
@@ -220,91 +157,110 @@ fn refused_by_the_server(rt: HostRuntime) -> Result<(), Fail> {
     let heap = Heap::unlimited(rt.alloc());
     let request = b"GET /subjects/trades HTTP/1.1\r\n\r\n".as_slice();
     for cause in CAUSES {
-        let mut clerk = clerk_of(true, Some(cause))?;
+        let mut clerk = clerk_of(&heap, true, Some(cause))?;
         let page = Page::new(heap.clone()?, 0);
         let (_, back) = serve(&mut Drips::new(request, 100), page, &mut clerk, 1000)?;
         let Some(page) = back else {
             return Err(Fail::from("the writer is gone"));
         };
-        assert_eq!(rt; page.held.as_slice(), bytes_of(Answer::Refused(cause)));
+        assert_eq!(rt; page.held.as_slice(), bytes_of(Answered::Refused(cause)));
         assert_eq!(rt; clerk.asked, 1);
     }
-    let mut unwell = clerk_of(false, None)?;
+    let mut unwell = clerk_of(&heap, false, None)?;
     let request = b"GET /healthz HTTP/1.1\r\n\r\n".as_slice();
     let page = Page::new(heap.clone()?, 0);
     let (_, back) = serve(&mut Drips::new(request, 100), page, &mut unwell, 1000)?;
     let Some(page) = back else {
         return Err(Fail::from("the writer is gone"));
     };
-    assert_eq!(rt; page.held.as_slice(), bytes_of(Answer::Unwell));
+    assert_eq!(rt; page.held.as_slice(), bytes_of(Answered::Unwell));
     Ok(())
 }
 
+/// What is owed where a query has no words.
+const ALL: Credit = Credit {
+    window: 16,
+    asked: false,
+};
+
 /// Connections whose reader joins: how it wants to be served, and where it begins.
-const JOINED: [(&[u8], Strategy, Errors, u32, Place); 7] = [
+const JOINED: [(&[u8], Strategy, Errors, Credit, Place); 8] = [
     (
         b"GET /subjects/trades HTTP/1.1\r\n\r\n",
         Strategy::Buffer,
         Errors::Delay,
-        16,
+        ALL,
         Place::Fresh,
     ),
     (
         b"GET /subjects/trades?strategy=LATEST%3A1&errors=AHEAD&window=2 HTTP/1.1\r\nOrigin: http://x\r\n\r\n",
         Strategy::Latest(1),
         Errors::Ahead,
-        2,
+        Credit {
+            window: 2,
+            asked: false,
+        },
         Place::Fresh,
     ),
     (
         b"GET /subjects/trades HTTP/1.1\r\nLast-Event-ID: 1a21de595e8-7\r\n\r\n",
         Strategy::Buffer,
         Errors::Delay,
-        16,
+        ALL,
         Place::Behind(Some(7)),
     ),
     (
         b"GET /subjects/trades HTTP/1.1\r\nlast-event-id: 1a21de595e8-\r\n\r\n",
         Strategy::Buffer,
         Errors::Delay,
-        16,
+        ALL,
         Place::Behind(None),
     ),
     (
         b"GET /subjects/trades?last-event-id=1a21de595e8-0 HTTP/1.1\r\n\r\n",
         Strategy::Buffer,
         Errors::Delay,
-        16,
+        ALL,
         Place::Behind(Some(0)),
     ),
     (
         b"GET /subjects/trades HTTP/1.1\r\nLast-Event-ID: 1a21de595e9-7\r\n\r\n",
         Strategy::Buffer,
         Errors::Delay,
-        16,
+        ALL,
         Place::Restarted(b"1a21de595e9", Some(7), false),
     ),
     (
         b"GET /subjects/trades?strategy=BOUNDED:9 HTTP/1.1\r\nLast-Event-ID: 5--over\r\n\r\n",
         Strategy::Bounded(9),
         Errors::Delay,
-        16,
+        ALL,
         Place::Restarted(b"5", None, true),
+    ),
+    (
+        b"GET /subjects/trades?strategy=LATEST:1&credit=asked&window=1 HTTP/1.1\r\n\r\n",
+        Strategy::Latest(1),
+        Errors::Delay,
+        Credit {
+            window: 1,
+            asked: true,
+        },
+        Place::Fresh,
     ),
 ];
 
 #[test]
 fn joined_at_each_cut(rt: HostRuntime) -> Result<(), Fail> {
     let heap = Heap::unlimited(rt.alloc());
-    for (i, (bytes, strategy, errors, window, place)) in JOINED.iter().enumerate() {
+    for (i, (bytes, strategy, errors, credit, place)) in JOINED.iter().enumerate() {
         for step in 1..=bytes.len() {
-            let mut clerk = clerk_of(true, None)?;
+            let mut clerk = clerk_of(&heap, true, None)?;
             let page = Page::new(heap.clone()?, 0);
             let (end, back) = serve(&mut Drips::new(bytes, step), page, &mut clerk, 1000)?;
             assert_eq!(rt; end, SessionEnd::HandedOver, "row {i} by {step}");
             assert!(rt; back.is_none(), "row {i} by {step}");
             assert_eq!(rt; clerk.asked, 1, "row {i} by {step}");
-            assert_eq!(rt; clerk.window, *window, "row {i} by {step}");
+            assert!(rt; clerk.credit == Some(*credit), "row {i} by {step}");
             let policy = Policy::new(*strategy, *errors)?;
             assert!(rt; clerk.policy == Some(policy), "row {i} by {step}");
             let Some(begin) = &clerk.begin else {
@@ -317,7 +273,19 @@ fn joined_at_each_cut(rt: HostRuntime) -> Result<(), Fail> {
 }
 
 /// Connections that end before they are answered: by which reads, and how.
-const ENDED: [(&[u8], bool, u64, SessionEnd); 4] = [
+const ENDED: [(&[u8], bool, u64, SessionEnd); 6] = [
+    (
+        b"POST /subjects/trades HTTP/1.1\r\nContent-Length: 5\r\n\r\nhell",
+        false,
+        1000,
+        SessionEnd::EndOfInput,
+    ),
+    (
+        b"POST /subjects/trades HTTP/1.1\r\nContent-Length: 5\r\n\r\nhell",
+        true,
+        1000,
+        SessionEnd::ReadFault,
+    ),
     (b"", false, 1000, SessionEnd::EndOfInput),
     (
         b"GET /healthz HTTP/1.1\r\n\r",
@@ -345,7 +313,7 @@ fn ended_without_an_answer(rt: HostRuntime) -> Result<(), Fail> {
     for (i, (bytes, fails, max_reads, ended)) in ENDED.iter().enumerate() {
         let mut drips = Drips::new(bytes, 1);
         drips.fails = *fails;
-        let mut clerk = clerk_of(true, None)?;
+        let mut clerk = clerk_of(&heap, true, None)?;
         let page = Page::new(heap.clone()?, 0);
         let (end, back) = serve(&mut drips, page, &mut clerk, *max_reads)?;
         assert_eq!(rt; end, *ended, "row {i}");
@@ -381,7 +349,7 @@ fn seen_of(turn: Turn<Page>) -> (Shown, Option<Page>) {
 fn an_answer_that_waits(rt: HostRuntime) -> Result<(), Fail> {
     let heap = Heap::unlimited(rt.alloc());
     let mut exchange = Exchange::new(1000);
-    let mut clerk = clerk_of(true, None)?;
+    let mut clerk = clerk_of(&heap, true, None)?;
     let mut drips = Drips::new(b"GET /healthz HTTP/1.1\r\n\r\nmore", 20);
     drips.between = Some(ErrorKind::WouldBlock);
     let mut writer = Page::new(heap.clone()?, 1);
@@ -401,28 +369,29 @@ fn an_answer_that_waits(rt: HostRuntime) -> Result<(), Fail> {
         writer = page;
         writer.fails = true;
     }
-    assert_eq!(rt; writer.held.as_slice(), bytes_of(Answer::Well));
+    assert_eq!(rt; writer.held.as_slice(), bytes_of(Answered::Well));
     Ok(())
 }
 
 // The exchange of a request, whose answer is written by `tight`. How it ended, and what the writer has.
-fn told_by(tight: &Heap) -> Result<(SessionEnd, Option<Page>), Fail> {
+fn told_by(heap: &Heap, tight: &Heap) -> Result<(SessionEnd, Option<Page>), Fail> {
     let request = b"GET /healthz HTTP/1.1\r\n\r\n".as_slice();
     let page = Page::new(tight.clone()?, 0);
     serve(
         &mut Drips::new(request, 100),
         page,
-        &mut clerk_of(true, None)?,
+        &mut clerk_of(heap, true, None)?,
         1000,
     )
 }
 
 #[test]
 fn answers_with_each_growth_refused(rt: HostRuntime) -> Result<(), Fail> {
-    let whole = bytes_of(Answer::Well);
+    let heap = Heap::unlimited(rt.alloc());
+    let whole = bytes_of(Answered::Well);
     for growth in 0..100 {
         let tight = Heap::refusing(rt.alloc(), growth)?;
-        let (end, back) = told_by(&tight)?;
+        let (end, back) = told_by(&heap, &tight)?;
         let Some(page) = back else {
             return Err(Fail::from("the writer is gone"));
         };

@@ -1,5 +1,5 @@
-//! Tests of what browsers ask for and are written, by its public calls: requests and answers; heads and whole exchanges, cut at each
-//! byte; a reader of streams that is read off the standard, texts that come back, and a stream that is cut at each byte and written with
+//! Tests of what browsers ask for and are written, by its public calls: requests and answers; heads, whole exchanges and emissions, cut
+//! at each byte; a reader of streams that is read off the standard, texts that come back, and a stream that is cut at each byte and written with
 //! each growth refused; what event sinks write and how they stand.
 //!
 //! There is no code here but tests, and nothing stands on it. It stands above `rx_http`, `rx_exchange` and `rx_events`, so that these are
@@ -9,7 +9,11 @@
 #[cfg(test)]
 mod answers;
 #[cfg(test)]
+mod clerk;
+#[cfg(test)]
 mod drips;
+#[cfg(test)]
+mod emissions;
 #[cfg(test)]
 mod examples;
 #[cfg(test)]
@@ -18,6 +22,8 @@ mod exchanges;
 mod heads;
 #[cfg(test)]
 mod plain;
+#[cfg(test)]
+mod posts;
 #[cfg(test)]
 mod requests;
 #[cfg(test)]

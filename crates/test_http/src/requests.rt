@@ -1,17 +1,27 @@
 //! Heads of requests: what each asks for, or why it is refused.
 
 use rx_heap::{Heap, Memory};
-use rx_http::{Asked, Epoch, Id, MAX_HEAD, Refusal, read_request};
+use rx_http::{
+    Asked, Credit, Epoch, Id, LookForm, MAX_HEAD, NoteKind, ObserverId, Refusal, read_request,
+};
 use rx_note::{Errors, Policy, Strategy};
 use rx_proto::Name;
 use std::test::Fail;
 
 /// What is asked for.
-enum Wanted {
+pub(crate) enum Wanted {
     /// The events of `trades`, served so.
     Served(Strategy, Errors, u32),
     /// The same by a reader that knows this, served as where a query has no words.
     Knowing(&'static [u8], Option<u32>, bool),
+    /// The same by a reader that asks for its items itself, and is owed so many at first.
+    Asking(u32),
+    /// A note for `trades`, with a body of so many bytes.
+    Emitted(NoteKind, u32),
+    /// Items for the observer of `trades` of this epoch and number, so many.
+    Granted(&'static [u8], u32, u32),
+    /// What is seen, in this form.
+    Looked(LookForm),
     Health,
     Refused(Refusal),
 }
@@ -20,10 +30,10 @@ enum Wanted {
 const PLAIN: Wanted = Wanted::Served(Strategy::Buffer, Errors::Delay, 16);
 
 impl Wanted {
-    fn asked(&self) -> Result<Result<Asked, Refusal>, Fail> {
+    pub(crate) fn asked(&self) -> Result<Result<Asked, Refusal>, Fail> {
         match self {
             Wanted::Served(strategy, errors, window) => {
-                events(*strategy, *errors, *window, None)
+                events(*strategy, *errors, by_socket(*window), None)
             }
             Wanted::Knowing(epoch, place, over) => {
                 let known = Id {
@@ -31,7 +41,32 @@ impl Wanted {
                     place: *place,
                     over: *over,
                 };
-                events(Strategy::Buffer, Errors::Delay, 16, Some(known))
+                events(Strategy::Buffer, Errors::Delay, by_socket(16), Some(known))
+            }
+            Wanted::Asking(window) => {
+                let credit = Credit {
+                    window: *window,
+                    asked: true,
+                };
+                events(Strategy::Buffer, Errors::Delay, credit, None)
+            }
+            Wanted::Granted(epoch, who, items) => {
+                Ok(Ok(Asked::Request {
+                    subject: Name::new(b"trades").ok_or("no name")?,
+                    observer: ObserverId {
+                        epoch: Epoch::new(epoch).ok_or("no epoch")?,
+                        who: *who,
+                    },
+                    items: *items,
+                }))
+            }
+            Wanted::Looked(form) => Ok(Ok(Asked::Look(*form))),
+            Wanted::Emitted(kind, size) => {
+                Ok(Ok(Asked::Emission {
+                    subject: Name::new(b"trades").ok_or("no name")?,
+                    kind: *kind,
+                    size: *size,
+                }))
             }
             Wanted::Health => Ok(Ok(Asked::Health)),
             Wanted::Refused(cause) => Ok(Err(*cause)),
@@ -39,10 +74,17 @@ impl Wanted {
     }
 }
 
+fn by_socket(window: u32) -> Credit {
+    Credit {
+        window,
+        asked: false,
+    }
+}
+
 fn events(
     strategy: Strategy,
     errors: Errors,
-    window: u32,
+    credit: Credit,
     known: Option<Id>,
 ) -> Result<Result<Asked, Refusal>, Fail> {
     let subject = Name::new(b"trades").ok_or("no name")?;
@@ -50,13 +92,20 @@ fn events(
     Ok(Ok(Asked::Events {
         subject,
         policy,
-        window,
+        credit,
         known,
     }))
 }
 
 /// Requests by GET, by their targets.
-const TARGETS: [(&[u8], Wanted); 15] = [
+const TARGETS: [(&[u8], Wanted); 22] = [
+    (b"/", Wanted::Looked(LookForm::Page)),
+    (b"/?x", Wanted::Looked(LookForm::Page)),
+    (b"/stats", Wanted::Looked(LookForm::Stats)),
+    (b"/stats.txt", Wanted::Looked(LookForm::Lines)),
+    (b"/metrics", Wanted::Looked(LookForm::Metrics)),
+    (b"/subjects/trades?credit=asked&window=1", Wanted::Asking(1)),
+    (b"/subjects/trades?credit=socket", PLAIN),
     (b"/healthz", Wanted::Health),
     (b"/healthz?strategy=NONE", Wanted::Health),
     (b"/subjects/trades", PLAIN),
@@ -99,7 +148,10 @@ const TARGETS: [(&[u8], Wanted); 15] = [
 ];
 
 /// Such requests that are refused.
-const REFUSED: [(&[u8], Refusal); 21] = [
+const REFUSED: [(&[u8], Refusal); 24] = [
+    (b"/subjects/trades?credit=", Refusal::Word),
+    (b"/subjects/trades?credit=ASKED", Refusal::Word),
+    (b"/stats.text", Refusal::Path),
     (b"/subjects/trades?strategy=", Refusal::Word),
     (b"/subjects/trades?strategy=buffer", Refusal::Word),
     (b"/subjects/trades?strategy=LATEST:0", Refusal::Word),
@@ -190,7 +242,7 @@ fn ids(rt: HostRuntime) -> Result<(), Fail> {
 }
 
 /// Whole heads.
-const HEADS: [(&[u8], Wanted); 14] = [
+const HEADS: [(&[u8], Wanted); 15] = [
     (b"GET /healthz HTTP/1.0\n\n", Wanted::Health),
     (b"\r\nGET /healthz HTTP/1.1\r\n\r\n", Wanted::Health),
     (
@@ -210,14 +262,18 @@ const HEADS: [(&[u8], Wanted); 14] = [
         Wanted::Refused(Refusal::LastEventId),
     ),
     (
-        b"POST /subjects/trades?errors=NEVER HTTP/1.1\r\n\r\n",
+        b"PUT /subjects/trades?errors=NEVER HTTP/1.1\r\n\r\n",
         Wanted::Refused(Refusal::Method),
     ),
     (
         b"HEAD /healthz HTTP/1.1\r\n\r\n",
-        Wanted::Refused(Refusal::Method),
+        Wanted::Refused(Refusal::OnlyGet),
     ),
-    (b"POST / HTTP/1.1\r\n\r\n", Wanted::Refused(Refusal::Path)),
+    (
+        b"POST / HTTP/1.1\r\n\r\n",
+        Wanted::Refused(Refusal::OnlyGet),
+    ),
+    (b"POST /x HTTP/1.1\r\n\r\n", Wanted::Refused(Refusal::Path)),
     (
         b"GET /healthz HTTP/2.0\r\n\r\n",
         Wanted::Refused(Refusal::Head),

@@ -1,11 +1,11 @@
 //! What event sinks write of the notes that they take, and how they stand.
 
-use crate::answers::bytes_of;
+use crate::answers::{Answered, bytes_of};
 use crate::drips::Page;
 use crate::plain::{Reader, read};
 use rx_events::EventSink;
 use rx_heap::{Heap, Memory};
-use rx_http::{Answer, Begin, Epoch, Id};
+use rx_http::{Begin, Epoch, Id};
 use rx_note::{Item, Note, Text};
 use rx_sink::{Flow, Sink, SinkFault};
 use std::test::Fail;
@@ -181,7 +181,7 @@ fn streams_as_their_bytes(rt: HostRuntime) -> Result<(), Fail> {
             assert_eq!(rt; sink.take(note.note(&heap)?)?, Flow::Clear, "{}", row.name);
         }
         let stream = sink.into_writer();
-        let told = stream.as_slice().strip_prefix(bytes_of(Answer::Events));
+        let told = stream.as_slice().strip_prefix(bytes_of(Answered::Events));
         assert!(rt; told == Some(row.told), "{}", row.name);
     }
     Ok(())
@@ -220,6 +220,37 @@ fn what_is_passed_over_is_not_counted(rt: HostRuntime) -> Result<(), Fail> {
 }
 
 #[test]
+fn what_its_reader_asks_for_is_held_back(rt: HostRuntime) -> Result<(), Fail> {
+    let heap = Heap::unlimited(rt.alloc());
+    let mut sink = gathering(&heap, 1)?.asked();
+    sink.start(0)?;
+    assert_eq!(rt; sink.flush()?, Flow::Stuck);
+    assert_eq!(rt; sink.flush()?, Flow::Clear, "nothing was told");
+    assert_eq!(rt;
+        sink.take(Told::Item(7, b"a").note(&heap)?)?,
+        Flow::Ready,
+        "passed over"
+    );
+    assert_eq!(rt; sink.flush()?, Flow::Clear);
+    assert_eq!(rt;
+        sink.take(Told::Item(8, b"a").note(&heap)?)?,
+        Flow::Stuck,
+        "told"
+    );
+    assert_eq!(rt; sink.flush()?, Flow::Held);
+    assert_eq!(rt; sink.take(Told::Item(9, b"a").note(&heap)?)?, Flow::Stuck);
+    assert_eq!(rt; sink.take(Told::Done.note(&heap)?)?, Flow::Ready, "an end");
+    assert_eq!(rt; sink.flush()?, Flow::Clear);
+    let stream = Vec::new(heap.clone()?);
+    let mut sink = EventSink::new(stream, epoch()?, Begin::Fresh, false).asked();
+    sink.start(0)?;
+    assert_eq!(rt; sink.take(Told::Item(0, b"a").note(&heap)?)?, Flow::Held);
+    assert_eq!(rt; sink.flush()?, Flow::Held);
+    assert_eq!(rt; sink.take(Told::Failed(b"x").note(&heap)?)?, Flow::Clear);
+    Ok(())
+}
+
+#[test]
 fn stuck_until_nothing_waits(rt: HostRuntime) -> Result<(), Fail> {
     let heap = Heap::unlimited(rt.alloc());
     let mut sink = gathering(&heap, 1)?;
@@ -252,7 +283,7 @@ impl Refusable for Stream {
             }
         }
         let stream = sink.into_writer();
-        let mut whole = Vec::from_slice(free.clone()?, bytes_of(Answer::Events))?;
+        let mut whole = Vec::from_slice(free.clone()?, bytes_of(Answered::Events))?;
         whole.extend_from_slice(row.told)?;
         let is_right = if is_made {
             stream == whole
@@ -292,7 +323,7 @@ fn stream_of(heap: &Heap, begin: Begin) -> Result<Vec<u8, Heap>, Fail> {
         sink.take(note.note(heap)?)?;
     }
     let stream = sink.into_writer();
-    match stream.as_slice().strip_prefix(bytes_of(Answer::Events)) {
+    match stream.as_slice().strip_prefix(bytes_of(Answered::Events)) {
         Some(told) => Ok(Vec::from_slice(heap.clone()?, told)?),
         None => Err(Fail::from("another head")),
     }

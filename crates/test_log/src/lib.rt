@@ -7,6 +7,8 @@
 #[cfg(test)]
 mod dice;
 #[cfg(test)]
+mod expectations;
+#[cfg(test)]
 mod machines;
 #[cfg(test)]
 mod memory;

@@ -8,6 +8,7 @@
 //! What is told: of `a` a `t` for a tenure, the number of a note, `-` for nothing; of what is read the sign of how it stands, and
 //! a letter for the call that it answers, `A` the first; `F` of a call that was refused since the machine is full.
 
+use crate::expectations::{expect_that, expect_told};
 use crate::traps::sign_of;
 use rx_heap::{Heap, Memory};
 use rx_log::{Call, CallError, Entry, Holder, Machine, Pace, Read, ReadError, Total};
@@ -116,6 +117,13 @@ impl Stand {
         Ok(())
     }
 
+    fn act_all(&mut self, events: &str) -> Result<(), Fail> {
+        for event in events.as_bytes() {
+            self.act(*event)?;
+        }
+        Ok(())
+    }
+
     // A call, made again where it was refused for want of memory.
     fn publish(&mut self, event: u8) -> Result<(), Fail> {
         for _ in 0..2 {
@@ -211,6 +219,19 @@ impl Stand {
         }
         Ok(())
     }
+
+    // Reads at this place: `G` where entries before it were not read, `P` where it was, `-` where no call is answered.
+    fn read_at(&mut self, place: u64, entry: &Entry) -> Result<(), Fail> {
+        let sign = match self.machine.read(place, entry) {
+            Ok(Read { answers: None, .. }) => b'-',
+            Ok(_) => b'A',
+            Err(ReadError::Gone) => b'G',
+            Err(ReadError::Passed) => b'P',
+            Err(ReadError::Memory) => b'!',
+        };
+        self.told.push(sign)?;
+        Ok(())
+    }
 }
 
 fn digit(number: u64) -> u8 {
@@ -245,9 +266,7 @@ impl Refusable for Script {
                 is_right: true,
             });
         };
-        for event in self.events.as_bytes() {
-            stand.act(*event)?;
-        }
+        stand.act_all(self.events)?;
         Ok(Seen {
             is_made: true,
             misses: stand.misses,
@@ -261,14 +280,8 @@ fn parts_of_a_machine(rt: HostRuntime) -> Result<(), Fail> {
     let heap = Heap::unlimited(rt.alloc());
     for (name, events, told) in &ROWS {
         let mut stand = Stand::new(&heap, &heap)?;
-        for event in events.as_bytes() {
-            stand.act(*event)?;
-        }
-        assert_eq!(rt;
-            stand.told.as_slice(),
-            told.as_bytes(),
-            "{name}, wanted {told}"
-        );
+        stand.act_all(events)?;
+        expect_told(&rt, stand.told.as_slice(), told, name);
     }
     Ok(())
 }
@@ -278,10 +291,10 @@ fn growths_refused_in_turn(rt: HostRuntime) -> Result<(), Fail> {
     let mut missed: u64 = 0;
     for (name, events, told) in &ROWS {
         let refusals = refuse_in_turn(&Script { events, told }, rt.alloc())?;
-        assert_eq!(rt; refusals.fault, "", "{name}");
+        expect_told(&rt, refusals.fault.as_bytes(), "", name);
         missed = missed.saturating_add(refusals.missed);
     }
-    assert!(rt; missed > 0);
+    expect_that(&rt, missed > 0, "growths that were missed");
     Ok(())
 }
 
@@ -290,11 +303,10 @@ fn entries_out_of_their_place(rt: HostRuntime) -> Result<(), Fail> {
     let heap = Heap::unlimited(rt.alloc());
     let mut stand = Stand::new(&heap, &heap)?;
     let entry = stand.arriving(b'x')?;
-    assert_eq!(rt; stand.machine.read(2, &entry), Err(ReadError::Gone));
-    stand.read(&entry)?;
-    assert_eq!(rt; stand.machine.read(1, &entry), Err(ReadError::Passed));
-    let Read { answers, .. } = stand.machine.read(2, &entry)?;
-    assert_eq!(rt; answers, None);
-    assert_eq!(rt; stand.machine.at(), 2);
+    for place in &[2, 1, 1, 2] {
+        stand.read_at(*place, &entry)?;
+    }
+    expect_told(&rt, stand.told.as_slice(), "G-P-", "places");
+    expect_that(&rt, stand.machine.at() == 2, "that two were read");
     Ok(())
 }

@@ -1,5 +1,6 @@
 //! The traps of a log, a row each: entries, and how each of them stands, told by a sign.
 
+use crate::expectations::expect_told;
 use rx_heap::Heap;
 use rx_log::{Entry, Holder, Rule, Standing, Total};
 use rx_note::{Item, Note, Text};
@@ -281,7 +282,7 @@ fn traps_of_a_log(rt: HostRuntime) -> Result<(), Fail> {
     let heap = Heap::unlimited(rt.alloc());
     for row in &ROWS {
         let told = signs_of(&heap, row)?;
-        assert_eq!(rt; told.as_slice(), row.told.as_bytes(), "{}", row.name);
+        expect_told(&rt, told.as_slice(), row.told, row.name);
     }
     Ok(())
 }
@@ -290,11 +291,16 @@ fn signs_of(heap: &Heap, row: &Row) -> Result<Vec<u8, Heap>, Fail> {
     let mut rule = Rule::new(heap.clone()?, SPAN, row.begun)?;
     let mut told = Vec::new(heap.clone()?);
     for put in row.puts {
-        let entry = entry_of(heap, *put)?;
-        let standing = rule.step(&entry)?;
-        told.push(sign_of(&entry, standing))?;
+        told.push(sign_behind(heap, &mut rule, *put)?)?;
     }
     Ok(told)
+}
+
+// The sign of what is put behind those before it.
+fn sign_behind(heap: &Heap, rule: &mut Rule, put: Put) -> Result<u8, Fail> {
+    let entry = entry_of(heap, put)?;
+    let standing = rule.step(&entry)?;
+    Ok(sign_of(&entry, standing))
 }
 
 fn entry_of(heap: &Heap, put: Put) -> Result<Entry, Fail> {

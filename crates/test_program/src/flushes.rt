@@ -1,7 +1,7 @@
 //! The program over a writer whose flushes fail: what it wrote it flushes, and where that fails it says so. No flush of the
 //! standard output fails, so no run of the built program shows this.
 
-use crate::expecting::{expect_that, expect_told};
+use crate::expectations::{expect_that, expect_told};
 use rx_program::{Host, run_words};
 use std::alloc::Global;
 use std::fs::{self, File};
@@ -62,7 +62,8 @@ fn told_unflushed(rt: &impl Host, words: &[&str]) -> Vec<u8> {
         held: Vec::new(rt.alloc()),
     };
     let mut faults = Vec::new(rt.alloc());
-    let status = run_words(rt, words, &mut reader, &mut writer, &mut faults);
+    let log = Vec::new(rt.alloc());
+    let status = run_words(rt, words, &mut reader, &mut writer, &mut faults, log);
     joined(
         rt.alloc(),
         status,

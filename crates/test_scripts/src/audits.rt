@@ -1,4 +1,4 @@
-use crate::expecting::{Ran, expect_end, expect_ran, expect_told};
+use crate::expectations::{Ran, expect_end, expect_ran, expect_told};
 use rx_config::{Config, SubjectConfig};
 use rx_heap::{Heap, Memory};
 use rx_note::{Kind, Limits, Rules};

@@ -1,6 +1,6 @@
 //! Scripts over subjects with budgets: how much waits and is kept there, and what is answered beyond.
 
-use crate::expecting::{expect_that, expect_told};
+use crate::expectations::{expect_that, expect_told};
 use rx_config::read_config;
 use rx_heap::{Heap, Memory};
 use rx_script::run_script;

@@ -4,7 +4,7 @@
 ghost use Rattle.std.specs.Prelude.{◌≡◌, true};
 ghost use Rattle.rx_hub.specs.Hubs.{are_in_range};
 
-use crate::expecting::expect_told;
+use crate::expectations::expect_told;
 use rx_config::Config;
 use rx_heap::{Heap, Memory};
 use rx_note::{Kind, Limits, Rules, Text};

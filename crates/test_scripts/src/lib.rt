@@ -13,11 +13,15 @@ mod budgets;
 #[cfg(test)]
 mod configurations;
 #[cfg(test)]
-mod expecting;
+mod expectations;
+#[cfg(test)]
+mod key_edges;
 #[cfg(test)]
 mod kinds;
 #[cfg(test)]
 mod listings;
+#[cfg(test)]
+mod readings;
 #[cfg(test)]
 mod refusals;
 #[cfg(test)]

@@ -1,6 +1,6 @@
 //! A configuration, told: the lines of one that is accepted, and of one that is refused the key at fault.
 
-use crate::expecting::{expect_that, expect_told};
+use crate::expectations::{expect_that, expect_told};
 use rx_config::{Config, ConfigError, advise, config_lines, read_config};
 use rx_heap::Heap;
 use std::alloc::Global;
@@ -36,7 +36,7 @@ fn expect_each(rt: &impl Abort, alloc: Global, rows: &[(&str, &str)]) -> Result<
 }
 
 // Configurations, and their lines.
-const ACCEPTED: [(&str, &str); 4] = [
+const ACCEPTED: [(&str, &str); 6] = [
     (
         "[[subject]]\nname = \"s\"\nkind = \"publish\"\n",
         "subject s publish observers 64 joins 4294967295 items 4294967295\npool drainers 1 workers 4 window 16 connections 4294967295 stall 60\n",
@@ -53,6 +53,14 @@ const ACCEPTED: [(&str, &str); 4] = [
         "[[subject]]\nname = \"b\"\nkind = \"behavior\"\nseed = \"none yet\"\nbudget = 64000\n[[subject]]\nname = \"d\"\nkind = \"replay\"\nage = 1\nbudget = 281474976710656\n",
         "subject b behavior observers 64 joins 4294967295 items 4294967295 budget 64000 seed none yet\nsubject d replay age 1 observers 64 joins 4294967295 items 4294967295 budget 281474976710656\npool drainers 1 workers 4 window 16 connections 4294967295 stall 60\n",
     ),
+    (
+        "[[subject]]\nname = \"s\"\nkind = \"publish\"\n[http]\nsocket = \"/run/e.sock\"\n",
+        "subject s publish observers 64 joins 4294967295 items 4294967295\npool drainers 1 workers 4 window 16 connections 4294967295 stall 60\nhttp heartbeat 15 readers 256 emit socket /run/e.sock\n",
+    ),
+    (
+        "[http]\nreaders = 4096\nsocket = \"a b\"\nemit = false\nheartbeat = 3600\n[[subject]]\nname = \"s\"\nkind = \"async\"\n",
+        "subject s async observers 64 joins 4294967295 items 4294967295\npool drainers 1 workers 4 window 16 connections 4294967295 stall 60\nhttp heartbeat 3600 readers 4096 socket a b\n",
+    ),
 ];
 
 #[test]
@@ -61,7 +69,7 @@ fn lines_of_configurations(rt: HostRuntime) -> Result<(), Fail> {
 }
 
 // Texts that are refused, and what is told of the key.
-const REFUSED: [(&str, &str); 29] = [
+const REFUSED: [(&str, &str); 34] = [
     (
         "",
         "config has to have a subject at least, as in: [[subject]] and below it name = \"prices\" and kind = \"publish\"\n",
@@ -76,7 +84,7 @@ const REFUSED: [(&str, &str); 29] = [
     ),
     (
         "subjects = 1\n[[subject]]\nname = \"s\"\nkind = \"publish\"\n",
-        "config: subjects is no key: there are subject, as in: [[subject]], and pool, as in: [pool]\n",
+        "config: subjects is no key: there are subject, as in: [[subject]], pool, as in: [pool], and http, as in: [http]\n",
     ),
     (
         "pool = 1\n[[subject]]\nname = \"s\"\nkind = \"publish\"\n",
@@ -113,6 +121,27 @@ const REFUSED: [(&str, &str); 29] = [
     (
         "[[subject]]\nname = \"s\"\nkind = \"publish\"\n[pool]\ntakeover = 1\n",
         "pool: takeover is wrong: true or false, as in: takeover = true\n",
+    ),
+    (
+        "http = 1\n[[subject]]\nname = \"s\"\nkind = \"publish\"\n",
+        "http has to be a table, as in: [http]\n",
+    ),
+    (
+        "[[subject]]\nname = \"s\"\nkind = \"publish\"\n[http]\n",
+        "http: socket is missing: 1 to 107 bytes without a line feed, as in: socket = \"/run/events.sock\"\n",
+    ),
+    (
+        "[[subject]]\nname = \"s\"\nkind = \"publish\"\n[http]\nsocket = \"\"\nport = 80\n",
+        "http: socket is wrong: 1 to 107 bytes without a line feed, as in: socket = \"/run/events.sock\"\nhttp: port is no key: http has socket, heartbeat, readers and emit\n",
+    ),
+    (
+        "[[subject]]\nname = \"s\"\nkind = \"publish\"\n[http]\nsocket = \"a\\nb\"\nheartbeat = true\nreaders = \"1\"\nemit = 1\n",
+        "http: socket is wrong: 1 to 107 bytes without a line feed, as in: socket = \"/run/events.sock\"\nhttp: heartbeat is wrong: seconds from 1 to 3600, as in: heartbeat = 15\nhttp: readers is wrong: a number from 1 to 4096, as in: readers = 256\nhttp: emit is wrong: true or false, as in: emit = false\n",
+    ),
+    // Of both the pool comes first, and then the subjects.
+    (
+        "[http]\nsocket = 1\n[pool]\ndrainers = 9\n[[subject]]\nname = \"s\"\nkind = \"hot\"\n",
+        "pool: drainers is wrong: a number from 1 to 8, as in: drainers = 1\nhttp: socket is wrong: 1 to 107 bytes without a line feed, as in: socket = \"/run/events.sock\"\nsubject 0: kind is wrong: \"publish\", \"behavior\", \"async\" or \"replay\", as in: kind = \"publish\"\n",
     ),
     (
         "subject = [1]\n",
@@ -157,7 +186,7 @@ const REFUSED: [(&str, &str); 29] = [
     // All that is wrong, in its order; of keys that are none in that of their bytes.
     (
         "extra = 1\n\"\\u001b[2J\\n\" = 1\n[pool]\ndrainers = 9\nthreads = 1\nwindow = 0\n[[subject]]\nname = \"s\"\nkind = \"publish\"\nage = 5\nseed = \"z\"\n[[subject]]\nname = \"s\"\nlimit = 100\n",
-        "config: \\x1b[2J\\x0a is no key: there are subject, as in: [[subject]], and pool, as in: [pool]\nconfig: extra is no key: there are subject, as in: [[subject]], and pool, as in: [pool]\npool: drainers is wrong: a number from 1 to 8, as in: drainers = 1\npool: window is wrong: a number from 1 to 16, as in: window = 16\npool: threads is no key: a pool has drainers, workers, window, connections, stall, idle and takeover\nsubject 0: seed is wrong: with kind = \"behavior\" alone, up to 1024 bytes without a line feed, as in: seed = \"none yet\"\nsubject 0: age is wrong: with kind = \"replay\" alone, milliseconds from 1 to 9223372036854775807, as in: age = 60000\nsubject 1: kind is missing: \"publish\", \"behavior\", \"async\" or \"replay\", as in: kind = \"publish\"\nsubject 1: limit is no key: a subject has name, kind, observers, joins, items and budget, a behavior also seed, a replay also count and age\nsubject 1: name is wrong: no other subject may have it\n",
+        "config: \\x1b[2J\\x0a is no key: there are subject, as in: [[subject]], pool, as in: [pool], and http, as in: [http]\nconfig: extra is no key: there are subject, as in: [[subject]], pool, as in: [pool], and http, as in: [http]\npool: drainers is wrong: a number from 1 to 8, as in: drainers = 1\npool: window is wrong: a number from 1 to 16, as in: window = 16\npool: threads is no key: a pool has drainers, workers, window, connections, stall, idle and takeover\nsubject 0: seed is wrong: with kind = \"behavior\" alone, up to 1024 bytes without a line feed, as in: seed = \"none yet\"\nsubject 0: age is wrong: with kind = \"replay\" alone, milliseconds from 1 to 9223372036854775807, as in: age = 60000\nsubject 1: kind is missing: \"publish\", \"behavior\", \"async\" or \"replay\", as in: kind = \"publish\"\nsubject 1: limit is no key: a subject has name, kind, observers, joins, items and budget, a behavior also seed, a replay also count and age\nsubject 1: name is wrong: no other subject may have it\n",
     ),
     // Of a name that stands twice the later, wherever the first stands.
     (
@@ -167,7 +196,7 @@ const REFUSED: [(&str, &str); 29] = [
     // The control characters of a key are those of ASCII and those above, by which a terminal is steered too.
     (
         "\"\\u007f\\u009b\" = 1\n[[subject]]\nname = \"s\"\nkind = \"publish\"\n",
-        "config: \\x7f\\x9b is no key: there are subject, as in: [[subject]], and pool, as in: [pool]\n",
+        "config: \\x7f\\x9b is no key: there are subject, as in: [[subject]], pool, as in: [pool], and http, as in: [http]\n",
     ),
     // A value of another type.
     (
@@ -192,23 +221,23 @@ fn keys_at_fault(rt: HostRuntime) -> Result<(), Fail> {
 
 // Each key at its least value, and at its greatest; beside them one that is none.
 const LEAST: &str =
-    "[pool]\ndrainers = 1\nworkers = 1\nwindow = 1\nconnections = 1\nstall = 1\nidle = 1\ntakeover = false\n[[subject]]\nname = \"s\"\nkind = \"replay\"\nobservers = 1\njoins = 1\nitems = 1\nbudget = 1\ncount = 1\nage = 1\n[[subject]]\nname = \"b\"\nkind = \"behavior\"\nseed = \"\"\nlimit = 1\n";
+    "[pool]\ndrainers = 1\nworkers = 1\nwindow = 1\nconnections = 1\nstall = 1\nidle = 1\ntakeover = false\n[http]\nsocket = \"s\"\nheartbeat = 1\nreaders = 1\n[[subject]]\nname = \"s\"\nkind = \"replay\"\nobservers = 1\njoins = 1\nitems = 1\nbudget = 1\ncount = 1\nage = 1\n[[subject]]\nname = \"b\"\nkind = \"behavior\"\nseed = \"\"\nlimit = 1\n";
 
 const GREATEST: &str =
-    "[pool]\ndrainers = 8\nworkers = 32\nwindow = 16\nconnections = 4294967295\nstall = 3600\nidle = 86400\ntakeover = true\n[[subject]]\nname = \"abcdefghijklmnopqrstuvwxyz012345\"\nkind = \"replay\"\nobservers = 64\njoins = 4294967295\nitems = 4294967295\nbudget = 281474976710656\ncount = 4096\nage = 9223372036854775807\n[[subject]]\nname = \"b\"\nkind = \"behavior\"\nlimit = 1\n";
+    "[pool]\ndrainers = 8\nworkers = 32\nwindow = 16\nconnections = 4294967295\nstall = 3600\nidle = 86400\ntakeover = true\n[http]\nsocket = \"/pppppppppppppppppppppppppppppppppppppppppppppppppppppppppppppppppppppppppppppppppppppppppppppppppppppppppp\"\nheartbeat = 3600\nreaders = 4096\n[[subject]]\nname = \"abcdefghijklmnopqrstuvwxyz012345\"\nkind = \"replay\"\nobservers = 64\njoins = 4294967295\nitems = 4294967295\nbudget = 281474976710656\ncount = 4096\nage = 9223372036854775807\n[[subject]]\nname = \"b\"\nkind = \"behavior\"\nlimit = 1\n";
 
 const NO_KEY: &str =
     "subject 1: limit is no key: a subject has name, kind, observers, joins, items and budget, a behavior also seed, a replay also count and age\n";
 
 // Each number one below its least value, and one above its greatest; no number is above the greatest age.
 const BELOW: &str =
-    "[pool]\ndrainers = 0\nworkers = 0\nwindow = 0\nconnections = 0\nstall = 0\nidle = 0\n[[subject]]\nname = \"s\"\nkind = \"replay\"\nobservers = 0\njoins = 0\nitems = 0\nbudget = 0\ncount = 0\nage = 0\n";
+    "[pool]\ndrainers = 0\nworkers = 0\nwindow = 0\nconnections = 0\nstall = 0\nidle = 0\n[http]\nsocket = \"\"\nheartbeat = 0\nreaders = 0\n[[subject]]\nname = \"s\"\nkind = \"replay\"\nobservers = 0\njoins = 0\nitems = 0\nbudget = 0\ncount = 0\nage = 0\n";
 
 const ABOVE: &str =
-    "[pool]\ndrainers = 9\nworkers = 33\nwindow = 17\nconnections = 4294967296\nstall = 3601\nidle = 86401\n[[subject]]\nname = \"s\"\nkind = \"replay\"\nobservers = 65\njoins = 4294967296\nitems = 4294967296\nbudget = 281474976710657\ncount = 4097\nage = 0\n";
+    "[pool]\ndrainers = 9\nworkers = 33\nwindow = 17\nconnections = 4294967296\nstall = 3601\nidle = 86401\n[http]\nsocket = \"/ppppppppppppppppppppppppppppppppppppppppppppppppppppppppppppppppppppppppppppppppppppppppppppppppppppppppppp\"\nheartbeat = 3601\nreaders = 4097\n[[subject]]\nname = \"s\"\nkind = \"replay\"\nobservers = 65\njoins = 4294967296\nitems = 4294967296\nbudget = 281474976710657\ncount = 4097\nage = 0\n";
 
 const EACH_WRONG: &str =
-    "pool: drainers is wrong: a number from 1 to 8, as in: drainers = 1\npool: workers is wrong: a number from 1 to 32, as in: workers = 4\npool: window is wrong: a number from 1 to 16, as in: window = 16\npool: connections is wrong: a number from 1 to 4294967295, as in: connections = 1000\npool: stall is wrong: seconds from 1 to 3600, as in: stall = 60\npool: idle is wrong: seconds from 1 to 86400, as in: idle = 600\nsubject 0: observers is wrong: a number from 1 to 64, as in: observers = 64\nsubject 0: joins is wrong: a number from 1 to 4294967295, as in: joins = 1000\nsubject 0: items is wrong: a number from 1 to 4294967295, as in: items = 1000000\nsubject 0: budget is wrong: bytes from 1 to 281474976710656, as in: budget = 64000000\nsubject 0: count is wrong: with kind = \"replay\" alone, a number from 1 to 4096, as in: count = 16\nsubject 0: age is wrong: with kind = \"replay\" alone, milliseconds from 1 to 9223372036854775807, as in: age = 60000\n";
+    "pool: drainers is wrong: a number from 1 to 8, as in: drainers = 1\npool: workers is wrong: a number from 1 to 32, as in: workers = 4\npool: window is wrong: a number from 1 to 16, as in: window = 16\npool: connections is wrong: a number from 1 to 4294967295, as in: connections = 1000\npool: stall is wrong: seconds from 1 to 3600, as in: stall = 60\npool: idle is wrong: seconds from 1 to 86400, as in: idle = 600\nhttp: socket is wrong: 1 to 107 bytes without a line feed, as in: socket = \"/run/events.sock\"\nhttp: heartbeat is wrong: seconds from 1 to 3600, as in: heartbeat = 15\nhttp: readers is wrong: a number from 1 to 4096, as in: readers = 256\nsubject 0: observers is wrong: a number from 1 to 64, as in: observers = 64\nsubject 0: joins is wrong: a number from 1 to 4294967295, as in: joins = 1000\nsubject 0: items is wrong: a number from 1 to 4294967295, as in: items = 1000000\nsubject 0: budget is wrong: bytes from 1 to 281474976710656, as in: budget = 64000000\nsubject 0: count is wrong: with kind = \"replay\" alone, a number from 1 to 4096, as in: count = 16\nsubject 0: age is wrong: with kind = \"replay\" alone, milliseconds from 1 to 9223372036854775807, as in: age = 60000\n";
 
 #[test]
 fn advice_at_the_edges(rt: HostRuntime) -> Result<(), Fail> {

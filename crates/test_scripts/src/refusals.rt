@@ -2,7 +2,7 @@
 //! never sent: what is written is that for the script without this line, with this answer at its place. Or there is no run,
 //! and nothing was read or written. An audit that met it wrote nothing, or a front of what it prints.
 
-use crate::expecting::expect_told;
+use crate::expectations::expect_told;
 use crate::kinds::{Named, RUNS, Room, Run, config_of};
 use crate::rows::{ROWS, Row};
 use rx_heap::{Heap, Memory};

@@ -1,6 +1,6 @@
 //! The worked runs: each a script for the standard configuration and what is written for it.
 
-use crate::expecting::{Ran, expect_ran, expect_that};
+use crate::expectations::{Ran, expect_ran, expect_that};
 use rx_config::Config;
 use rx_heap::{Heap, Memory};
 use rx_script::run_script;

@@ -6,7 +6,7 @@ ghost use Rattle.rx_mailbox.specs.declared.letter.Post.TheVariants.{Body, Bye};
 ghost use Rattle.rx_mailbox.specs.Boxes.{told, with_post, AreOf};
 ghost use Rattle.test_threads.specs.Wiring.{IsTwo};
 
-use crate::expecting::{expect_count, expect_text, expect_that, expect_words};
+use crate::expectations::{expect_count, expect_text, expect_that, expect_words};
 use rx_heap::{Heap, Memory};
 use rx_mailbox::{
     EndedPort, Gone, Inbox, MAX_CAPACITY, MAX_PORTS, OpenError, Port, Post, SettleCause,

@@ -5,7 +5,7 @@
 
 use crate::boxes::{copy, finish, first_of_two, send, two, unlimited};
 use crate::drainers::{drainer_of, note, put_call};
-use crate::expecting::{expect_count, expect_that, expect_told};
+use crate::expectations::{expect_count, expect_that, expect_told};
 use rx_drain::{DrainEnd, Drainer};
 use rx_heap::Heap;
 use rx_mailbox::{Inbox, Port};

@@ -10,15 +10,16 @@ ghost use Rattle.rx_pump.specs.Serving.{HasPumped};
 ghost use Rattle.test_threads.specs.Wiring.{IsOne, boxes_of};
 
 use crate::boxes::{close, copy, two, unlimited};
-use crate::expecting::{expect_answer, expect_count, expect_that};
+use crate::expectations::{expect_answer, expect_count, expect_that};
 use crate::pumps::{one_if, pump_if, serve};
 use rx_heap::Heap;
 use rx_mailbox::{EndedPort, Inbox, Port, Post};
-use rx_note::{Answer, Event, Item, Note, Text};
+use rx_note::{Answer, Event, Item, Kind, Note, Text};
 use rx_pump::{Call, CallDesk, EndedDesk, Out, Pump, PumpEnd, Reply};
 use std::process::Abort;
 use std::sync::Wait;
 use std::thread::{Threads, join};
+use test_kit::rules_of;
 
 // A pump of a new Publish subject.
 fn pump_of(
@@ -35,11 +36,12 @@ fn pump_of(
     ensures inbox { result.inbox ≡ inbox }
     ensures callers { result.replies ≡ callers.items }
 {
-    pump_if(rt, heap, heap, inbox, drainer, callers).expect(rt, "a pump")
+    let rules = rules_of(Kind::Publish);
+    pump_if(rt, heap, heap, rules, inbox, drainer, callers).expect(rt, "a pump")
 }
 
 // A new box with one port.
-fn one<B: Drop>(rt: &impl Abort, alloc: Heap, capacity: usize) -> (Inbox<B>, Port<B>)
+pub(crate) fn one<B: Drop>(rt: &impl Abort, alloc: Heap, capacity: usize) -> (Inbox<B>, Port<B>)
     ensures { IsOne result.0 result.1 }
 {
     one_if(rt, alloc, capacity).expect(rt, "a box")
@@ -52,7 +54,7 @@ const ITEMS: u64 = 100;
 const TOGETHER: u64 = 10;
 
 // A desk of one subject.
-fn desk_of(
+pub(crate) fn desk_of(
     rt: &impl Abort,
     alloc: &Heap,
     port: Port<Call<u8>>,
@@ -77,7 +79,7 @@ fn item(rt: &impl Abort, alloc: &Heap) -> Event {
 }
 
 // Emits an item, and looks that the subject admits it.
-fn admit(rt: &(impl Wait + Abort), alloc: &Heap, desk: &mut CallDesk<u8>)
+pub(crate) fn admit(rt: &(impl Wait + Abort), alloc: &Heap, desk: &mut CallDesk<u8>)
     requires { 0 < length desk.old.ports }
     ensures { KeepsDesk desk.old desk.new }
 {
@@ -114,7 +116,7 @@ fn admit_posted(rt: &(impl Wait + Abort), desk: &mut CallDesk<u8>, before: u64)
 }
 
 // Ends the desk's ports.
-fn finish_desk(rt: &(impl Wait + Abort), desk: CallDesk<u8>) -> EndedDesk<u8>
+pub(crate) fn finish_desk(rt: &(impl Wait + Abort), desk: CallDesk<u8>) -> EndedDesk<u8>
     requires { desk.ended ≡ [] }
     ensures ports { result.ports.items ≡ map with_bye desk.ports }
     ensures inbox { result.inbox ≡ desk.inbox }

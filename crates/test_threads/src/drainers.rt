@@ -8,7 +8,7 @@ ghost use Rattle.rx_mailbox.specs.PortRows.{IsFresh};
 ghost use Rattle.std.specs.Prelude.{◌≡◌, []};
 
 use crate::boxes::{copy, finish, first_of_two, send, two, unlimited};
-use crate::expecting::{expect_count, expect_that, expect_told, expect_words};
+use crate::expectations::{expect_count, expect_that, expect_told, expect_words};
 use rx_drain::{DrainEnd, Drainer, MemorySink, PutAway, RunningDrainer, Sink, start_drainer};
 use rx_heap::Heap;
 use rx_mailbox::{Inbox, Port, Post};

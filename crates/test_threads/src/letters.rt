@@ -1,8 +1,8 @@
 //! What is told of letters. A letter is told by its signs and a space; a Bye is `.`. What a drainer receives is `+` with the
 //! observer and its sink, `=` with the observer and the sign of its note, `-` with the observer that left. A reply is its
-//! ticket, the signs of its answer, and the sink that came back or `_`.
+//! ticket, the signs of its answer, the sink that came back or `_`, and how many items its subject had.
 
-use crate::expecting::expect_count;
+use crate::expectations::expect_count;
 use rx_mailbox::{Inbox, Post};
 use rx_pump::{Out, Reply};
 use std::process::Abort;
@@ -38,6 +38,7 @@ impl Tells for Reply<u8> {
             Some(sink) => told.put_digit(sink as usize),
             None => told.put(b'_'),
         }
+        told.put_digit(self.items as usize);
     }
 }
 

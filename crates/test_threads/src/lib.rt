@@ -8,21 +8,25 @@
 #[cfg(test)]
 mod boxes;
 #[cfg(test)]
+mod counted_items;
+#[cfg(test)]
 mod credits;
 #[cfg(test)]
 mod desks;
 #[cfg(test)]
 mod drainers;
 #[cfg(test)]
-mod expecting;
+mod expectations;
 #[cfg(test)]
-mod forgetting;
+mod forgotten_observers;
 #[cfg(test)]
-mod holding;
+mod held_letters;
 #[cfg(test)]
 mod letters;
 #[cfg(test)]
 mod line_sinks;
+#[cfg(test)]
+mod looks;
 #[cfg(test)]
 mod pumps;
 #[cfg(test)]

@@ -2,7 +2,7 @@
 
 use crate::boxes::unlimited;
 use crate::drainers::note;
-use crate::expecting::{expect_count, expect_that, expect_told};
+use crate::expectations::{expect_count, expect_that, expect_told};
 use rx_drain::{Flow, LineSink, Sink, SinkFault};
 use rx_heap::Heap;
 use rx_proto::Version;
@@ -179,12 +179,13 @@ impl Write for Dam {
     }
 }
 
-// How the sink stands: `c` for clear, `r` for ready, `s` for stuck, `!` at a fault.
+// How the sink stands: `c` for clear, `r` for ready, `s` for stuck, `h` for held, `!` at a fault.
 fn sign_of_flow(flow: Result<Flow, SinkFault>) -> u8 {
     match flow {
         Ok(Flow::Clear) => b'c',
         Ok(Flow::Ready) => b'r',
         Ok(Flow::Stuck) => b's',
+        Ok(Flow::Held) => b'h',
         Err(SinkFault) => b'!',
     }
 }

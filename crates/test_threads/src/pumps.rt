@@ -9,17 +9,17 @@ ghost use Rattle.rx_pump.specs.Serving.{HasPumped};
 ghost use Rattle.test_threads.specs.Wiring.{IsOne};
 
 use crate::boxes::{close, copy, finish, first_of_two_if, made, send, two_if, unlimited};
-use crate::expecting::{expect_count, expect_that, expect_words};
+use crate::expectations::{expect_count, expect_that, expect_words};
 use crate::letters::told_of;
 use rx_heap::Heap;
 use rx_hub::Hub;
 use rx_mailbox::{EndedPort, Inbox, Port, open};
-use rx_note::{Event, Kind, Limits, Strategy};
+use rx_note::{Event, Kind, Rules, Strategy};
 use rx_pump::{Call, Out, Pump, PumpEnd, PumpFault, PumpStop, Reply};
 use std::process::Abort;
 use std::sync::Wait;
 use std::test::Fail;
-use test_kit::{Refusable, Seen, event_of, policy_of, refuse_in_turn};
+use test_kit::{Refusable, Seen, event_of, policy_of, refuse_in_turn, rules_of};
 
 // The event of a sign.
 fn event_by(rt: &impl Abort, heap: &Heap, sign: u8) -> Event {
@@ -28,7 +28,13 @@ fn event_by(rt: &impl Abort, heap: &Heap, sign: u8) -> Event {
 }
 
 // The call of a sign.
-fn call_of(rt: &impl Abort, heap: &Heap, ticket: u64, sign: u8, sink: Option<u8>) -> Call<u8> {
+pub(crate) fn call_of(
+    rt: &impl Abort,
+    heap: &Heap,
+    ticket: u64,
+    sign: u8,
+    sink: Option<u8>,
+) -> Call<u8> {
     let event = event_by(rt, heap, sign);
     Call {
         ticket,
@@ -65,11 +71,12 @@ fn send_calls(
     }
 }
 
-/// A pump of a new Publish subject, which grows by `tight`. None where there was no memory for its hub or for it.
+/// A pump of a new subject by these rules, which grows by `tight`. None where there was no memory for its hub or for it.
 pub(crate) fn pump_if(
     rt: &impl Abort,
     heap: &Heap,
     tight: &Heap,
+    rules: Rules,
     inbox: Inbox<Call<u8>>,
     drainer: Port<Out<u8>>,
     callers: Vec<Port<Reply<u8>>, Heap>,
@@ -81,12 +88,8 @@ pub(crate) fn pump_if(
     ensures inbox { IfSome result (λ pump. pump.inbox ≡ inbox) }
     ensures callers { IfSome result (λ pump. pump.replies ≡ callers.items) }
 {
-    let limits = Limits {
-        observers: 1,
-        joins: 1,
-        items: u32::MAX,
-    };
-    let hub = Hub::new(copy(rt, tight), Kind::Publish, limits).ok()?;
+    let Rules { kind, limits } = rules;
+    let hub = Hub::new(copy(rt, tight), kind, limits).ok()?;
     let drainers = vec![in copy(rt, heap); drainer].expect(rt, "memory");
     Pump::new(copy(rt, tight), hub, inbox, drainers, callers).ok()
 }
@@ -142,7 +145,8 @@ fn fed_if(rt: &impl Abort, heap: &Heap, tight: &Heap, inbox: Inbox<Call<u8>>) ->
     let (outs, drainer) = first_of_two_if::<Out<u8>>(rt, copy(rt, tight), 16)?;
     let (replies, caller) = one_if::<Reply<u8>>(rt, copy(rt, tight), 8)?;
     let callers = vec![in copy(rt, heap); caller].expect(rt, "memory");
-    let pump = pump_if(rt, heap, tight, inbox, drainer, callers)?;
+    let rules = rules_of(Kind::Publish);
+    let pump = pump_if(rt, heap, tight, rules, inbox, drainer, callers)?;
     Some(Fed {
         pump,
         outs,
@@ -237,17 +241,17 @@ struct Sent {
 const SENT: [Sent; 3] = [
     Sent {
         outs: "+07 =0a -0 . ",
-        replies: "1J0_ 2A_ 3L_ 4n9 . ",
+        replies: "1J0_0 2A_1 3L_1 4n91 . ",
         refused: 0,
     },
     Sent {
         outs: ". ",
-        replies: "1m7 2A_ 3n_ 4n9 . ",
+        replies: "1m70 2A_1 3n_1 4n91 . ",
         refused: 1,
     },
     Sent {
         outs: "+07 -0 . ",
-        replies: "1J0_ 2m_ 3L_ 4n9 . ",
+        replies: "1J0_0 2m_0 3L_0 4n90 . ",
         refused: 1,
     },
 ];

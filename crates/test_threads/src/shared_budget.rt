@@ -1,6 +1,6 @@
 //! A budget that two threads share: they never have the same bytes.
 
-use crate::expecting::{expect_count, expect_that};
+use crate::expectations::{expect_count, expect_that};
 use rx_heap::Heap;
 use std::sync::atomic::{AtomicU64, Ordering};
 use std::test::Fail;

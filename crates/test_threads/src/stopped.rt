@@ -2,7 +2,7 @@
 
 use crate::boxes::{copy, first_of_two, send, two, unlimited};
 use crate::drainers::{drainer_of, note};
-use crate::expecting::expect_that;
+use crate::expectations::expect_that;
 use rx_drain::{DrainFault, MemorySink, RunningDrainer, start_drainer};
 use rx_heap::Heap;
 use rx_mailbox::{Inbox, Port, Post};

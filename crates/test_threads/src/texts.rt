@@ -1,5 +1,5 @@
 //! What the faults of threads say to a person.
-use crate::expecting::expect_text;
+use crate::expectations::expect_text;
 use rx_drain::{DrainFault, NoThread};
 use rx_pump::{CallError, PumpFault};
 use rx_sink::SinkFault;

@@ -8,7 +8,7 @@ ghost use Rattle.rx_mailbox.specs.Settling.{GotAll};
 ghost use Rattle.test_threads.specs.Bodies.{all_of, after_all};
 
 use crate::boxes::{copy, finish, send, two, unlimited};
-use crate::expecting::expect_count;
+use crate::expectations::expect_count;
 use rx_heap::Heap;
 use rx_mailbox::{EndedPort, Inbox, Port, Post, Settled, settle};
 use std::process::Abort;

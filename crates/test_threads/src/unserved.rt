@@ -2,7 +2,7 @@
 
 use crate::boxes::{copy, finish, first_of_two, send, two, unlimited};
 use crate::drainers::{drainer_of, note};
-use crate::expecting::{expect_count, expect_that};
+use crate::expectations::{expect_count, expect_that};
 use rx_heap::Heap;
 use rx_mailbox::Port;
 use rx_note::Note;

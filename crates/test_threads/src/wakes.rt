@@ -3,7 +3,7 @@
 ghost use Rattle.std.specs.Prelude.{◌≡◌};
 
 use crate::boxes::{copy, finish, send, two, unlimited};
-use crate::expecting::{expect_count, expect_that};
+use crate::expectations::{expect_count, expect_that};
 use rx_heap::Heap;
 use rx_mailbox::{Gone, Inbox, Port, Post};
 use std::process::Abort;

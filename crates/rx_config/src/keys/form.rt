@@ -2,6 +2,7 @@
 ghost use Rattle.std.specs.Prelude.{◌≡◌, IfSome, IsTrue, option_map};
 ghost use Rattle.toml.specs.View.{view};
 
+use crate::http::MAX_PATH;
 use crate::keys::KINDS;
 use crate::keys::number::number_within;
 use rx_note::MAX_TEXT;
@@ -21,6 +22,8 @@ pub(crate) enum Form {
     Kind,
     /// A text of at most 1,024 bytes without LF, or none.
     Text,
+    /// The path of a socket, which can't be left out: 1 to 107 bytes without LF.
+    Path,
     /// A number from `least` to `most`; where it is left out, `standard`.
     Number {
         least: u32,
@@ -32,8 +35,10 @@ pub(crate) enum Form {
         least: u64,
         most: u64,
     },
-    /// A flag; where it is left out, it isn't set.
-    Flag,
+    /// A flag; where it is left out, `standard`.
+    Flag {
+        standard: bool,
+    },
 }
 
 impl Form {
@@ -80,20 +85,20 @@ impl Form {
         }
     }
 
-    /// The flag that a value says. None: the value is no flag, or this is no form of one.
+    /// The flag that a value says, or the standard one where there is no value. None: the value is no flag, or this is no form of one.
     pub(crate) fn flag_of(self, value: Option<&Value>) -> Option<bool>
         ensures { result ≡ flag_of self (option_map (λ v. view v.now) value.entry) }
     {
         match (self, value) {
-            (Form::Flag, None) => Some(false),
-            (Form::Flag, Some(value)) => value.as_bool(),
+            (Form::Flag { standard }, None) => Some(standard),
+            (Form::Flag { .. }, Some(value)) => value.as_bool(),
             _ => None,
         }
     }
 
     /// Whether a key of this form can't be left out.
     pub(crate) fn is_needed(self) -> bool {
-        matches!(self, Form::Name | Form::Kind)
+        matches!(self, Form::Name | Form::Kind | Form::Path)
     }
 
     /// Whether this value may stand there.
@@ -105,8 +110,8 @@ impl Form {
                 number_within(value, u64::from(least), u64::from(most)).is_some()
             }
             Form::Bound { least, most } => number_within(value, least, most).is_some(),
-            Form::Flag => value.as_bool().is_some(),
-            Form::Name | Form::Kind | Form::Text => match value.as_str() {
+            Form::Flag { .. } => value.as_bool().is_some(),
+            Form::Name | Form::Kind | Form::Text | Form::Path => match value.as_str() {
                 Some(text) => self.takes_text(text),
                 None => false,
             },
@@ -118,8 +123,14 @@ impl Form {
         match self {
             Form::Name => Name::new(text.as_bytes()).is_some(),
             Form::Kind => KINDS.contains(&text),
-            Form::Text => text.len() <= MAX_TEXT && !text.as_bytes().contains(&b'\n'),
+            Form::Text => is_line(text, MAX_TEXT),
+            Form::Path => !text.is_empty() && is_line(text, MAX_PATH),
             _ => false,
         }
     }
+}
+
+// Whether a text has no LF, and at most so many bytes.
+fn is_line(text: &str, most: usize) -> bool {
+    text.len() <= most && !text.as_bytes().contains(&b'\n')
 }

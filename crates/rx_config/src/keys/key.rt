@@ -49,7 +49,7 @@ impl Key {
         self.form.bound_of(self.value_in(section))
     }
 
-    /// The flag that stands at it. None: what stands there is no flag.
+    /// The flag that stands at it, or its standard. None: what stands there is no flag.
     pub(crate) fn flag_in(&self, section: &Section) -> Option<bool>
         ensures { result ≡ flag_of self.now.form (get_member self.now.name.now (members_in section.now)) }
     {

@@ -1,17 +1,18 @@
 // The lines of a configuration that was accepted.
-ghost use Rattle.std.specs.Prelude.{◌≡◌, ◌++◌, IfOk, OnOk, codes, decimal, map};
-ghost use Rattle.rx_config.specs.Configurations.{settings_of, subject_of_config};
-ghost use Rattle.rx_config.specs.Listings.{bound_words, config_lines, crew_words, flag_words, kind_words, limit_words, option_words, pool_line, seed_words, service_words, subject_line, subject_lines};
+ghost use Rattle.std.specs.Prelude.{◌≡◌, ◌++◌, IfOk, OnOk, codes, decimal, map, option_map};
+ghost use Rattle.rx_config.specs.Configurations.{events_of_config, settings_of, subject_of_config};
+ghost use Rattle.rx_config.specs.Listings.{bound_words, config_lines, crew_words, events_words, flag_words, http_line, kind_words, limit_words, option_words, pool_line, reader_words, seed_words, service_words, subject_line, subject_lines};
 
 use crate::budget::Budget;
 use crate::config::Config;
+use crate::http::Http;
 use crate::subject_config::SubjectConfig;
 use itoa::Buffer;
 use rx_heap::{Heap, Memory};
 use rx_note::{Kind, Limits};
 
-/// The lines that tell a configuration, each with its LF: one for each subject, in their order, and then that of the pool. What
-/// was left out in its text stands there too, as it will be served.
+/// The lines that tell a configuration, each with its LF: one for each subject, in their order, that of the pool, and then that
+/// of events over HTTP, where they are told. What was left out in its text stands there too, as it will be served.
 ///
 /// # Errors
 ///
@@ -22,6 +23,7 @@ pub fn config_lines(heap: &Heap, config: &Config) -> Result<Vec<u8, Heap>, Memor
     let mut lines = Vec::new(heap.clone()?);
     put_subjects(&mut lines, config.subjects.as_slice())?;
     put_pool(&mut lines, config)?;
+    put_http(&mut lines, &config.http)?;
     Ok(lines)
 }
 
@@ -150,6 +152,38 @@ fn put_flag(lines: &mut Vec<u8, Heap>, key: &[u8], flag: bool) -> Result<(), Mem
         return put(lines, key);
     }
     Ok(())
+}
+
+// Puts the line of events over HTTP, where they are told.
+fn put_http(lines: &mut Vec<u8, Heap>, http: &Option<Http>) -> Result<(), Memory>
+    ensures { OnOk result (lines.new.items ≡ lines.old.items ++ http_line (option_map events_of_config http.now)) }
+{
+    match http {
+        Some(http) => {
+            put_events(lines, http)?;
+            put(lines, b"\n")
+        }
+        None => Ok(()),
+    }
+}
+
+// Puts what is said of events over HTTP.
+fn put_events(lines: &mut Vec<u8, Heap>, http: &Http) -> Result<(), Memory>
+    ensures { OnOk result (lines.new.items ≡ lines.old.items ++ events_words (events_of_config http.now)) }
+{
+    put(lines, b"http")?;
+    put_readers(lines, http)?;
+    put(lines, b" socket ")?;
+    put(lines, http.socket.as_bytes())
+}
+
+// Puts how long a reader of events hears nothing, how many there are, and whether notes may be emitted.
+fn put_readers(lines: &mut Vec<u8, Heap>, http: &Http) -> Result<(), Memory>
+    ensures { OnOk result (lines.new.items ≡ lines.old.items ++ reader_words (events_of_config http.now)) }
+{
+    put_number(lines, b" heartbeat ", u64::from(http.heartbeat))?;
+    put_number(lines, b" readers ", u64::from(http.readers))?;
+    put_flag(lines, b" emit", http.emit)
 }
 
 // Puts a key and its number.

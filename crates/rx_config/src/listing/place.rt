@@ -1,7 +1,7 @@
 // Where in a configuration a key stands.
 
 use crate::keys::key::Key;
-use crate::keys::{POOL_KEYS, SUBJECT_KEYS, TOP_KEYS};
+use crate::keys::{HTTP_KEYS, POOL_KEYS, SUBJECT_KEYS, TOP_KEYS};
 use std::fmt;
 
 /// The table of a configuration in which a key stands.
@@ -9,6 +9,7 @@ use std::fmt;
 pub(crate) enum Place {
     Top,
     Pool,
+    Http,
     /// The entry of this number, from 0.
     Subject(usize),
 }
@@ -19,6 +20,7 @@ impl Place {
         match self {
             Place::Top => &TOP_KEYS,
             Place::Pool => &POOL_KEYS,
+            Place::Http => &HTTP_KEYS,
             Place::Subject(_) => &SUBJECT_KEYS,
         }
     }
@@ -29,6 +31,7 @@ impl fmt::Display for Place {
         match self {
             Place::Top => f.write_str("config"),
             Place::Pool => f.write_str("pool"),
+            Place::Http => f.write_str("http"),
             Place::Subject(index) => write!(f, "subject {index}"),
         }
     }

@@ -3,7 +3,7 @@
 
 use crate::config_error::ConfigError;
 use crate::keys::key::Key;
-use crate::keys::{KIND, NAME, POOL, SUBJECT};
+use crate::keys::{HTTP, KIND, NAME, POOL, SUBJECT};
 use crate::listing::advice::Advice;
 use crate::listing::place::Place;
 use crate::reader::subject_list::MAX_SUBJECTS;
@@ -34,22 +34,37 @@ pub fn advise<W: Write>(
 // Writes what is wrong with the configuration of this table.
 fn advise_on<W: Write>(table: &Table, writer: &mut W) -> io::Result<()> {
     advise_on_names(table, Place::Top, writer)?;
-    advise_on_pool(table, writer)?;
-    match table.get(SUBJECT.name) {
-        Some(value) => match value.as_array() {
-            Some(subjects) if !subjects.is_empty() => advise_on_subjects(subjects, writer),
-            _ => tell_no_subject(writer),
-        },
-        None => tell_no_subject(writer),
+    advise_on_section(table, Place::Pool, &POOL, writer)?;
+    advise_on_section(table, Place::Http, &HTTP, writer)?;
+    advise_on_list(table, writer)
+}
+
+// Writes what is wrong with the subjects of a configuration, or that it has none.
+fn advise_on_list<W: Write>(table: &Table, writer: &mut W) -> io::Result<()> {
+    let Some(value) = table.get(SUBJECT.name) else {
+        return tell_no_subject(writer);
+    };
+    match value.as_array() {
+        Some(subjects) if !subjects.is_empty() => advise_on_subjects(subjects, writer),
+        _ => tell_no_subject(writer),
     }
 }
 
 fn tell_no_subject<W: Write>(writer: &mut W) -> io::Result<()> {
-    writeln!(
+    let (name, example) = (SUBJECT.name, SUBJECT.example);
+    write!(
         writer,
-        "config has to have a {} at least, as in: {} and below it {} = {} and {} = {}",
-        SUBJECT.name, SUBJECT.example, NAME.name, NAME.example, KIND.name, KIND.example
-    )
+        "config has to have a {name} at least, as in: {example}"
+    )?;
+    tell_need(" and below it ", &NAME, writer)?;
+    tell_need(" and ", &KIND, writer)?;
+    writer.write_all(b"\n")
+}
+
+// Writes a key that a subject has to have, and an example.
+fn tell_need<W: Write>(before: &str, key: &Key, writer: &mut W) -> io::Result<()> {
+    let (name, example) = (key.name, key.example);
+    write!(writer, "{before}{name} = {example}")
 }
 
 fn tell<W: Write>(place: Place, advice: Advice<'_>, writer: &mut W) -> io::Result<()> {
@@ -65,33 +80,49 @@ fn tell_no_table<W: Write>(place: Place, key: &Key, writer: &mut W) -> io::Resul
     )
 }
 
-// Writes what is wrong with the pool.
-fn advise_on_pool<W: Write>(table: &Table, writer: &mut W) -> io::Result<()> {
-    let Some(value) = table.get(POOL.name) else {
+// Writes what is wrong with a table at the top, which may be missing.
+fn advise_on_section<W: Write>(
+    table: &Table,
+    place: Place,
+    key: &Key,
+    writer: &mut W,
+) -> io::Result<()> {
+    let Some(value) = table.get(key.name) else {
         return Ok(());
     };
     match value.as_table() {
-        Some(pool) => advise_on_keys(pool, Place::Pool, None, writer),
-        None => tell_no_table(Place::Pool, &POOL, writer),
+        Some(section) => advise_on_keys(section, place, None, writer),
+        None => tell_no_table(place, key, writer),
     }
 }
 
 // Writes what is wrong with each subject, and with its name where an earlier one has it.
 fn advise_on_subjects<W: Write>(subjects: &[Value], writer: &mut W) -> io::Result<()> {
     for (index, subject) in subjects.iter().enumerate().take(MAX_SUBJECTS) {
-        let place = Place::Subject(index);
-        match subject.as_table() {
-            Some(table) => advise_on_keys(table, place, kind_of(table), writer)?,
-            None => tell_no_table(place, &SUBJECT, writer)?,
-        }
+        advise_on_subject(subject, index, writer)?;
         if has_name_before(subjects, index) {
-            writeln!(
-                writer,
-                "{place}: name is wrong: no other subject may have it"
-            )?;
+            tell_name_before(index, writer)?;
         }
     }
     Ok(())
+}
+
+// Writes what is wrong with the subject of this number.
+fn advise_on_subject<W: Write>(subject: &Value, index: usize, writer: &mut W) -> io::Result<()> {
+    let place = Place::Subject(index);
+    match subject.as_table() {
+        Some(table) => advise_on_keys(table, place, kind_of(table), writer),
+        None => tell_no_table(place, &SUBJECT, writer),
+    }
+}
+
+// Writes that the name of the subject of this number stands in an earlier one.
+fn tell_name_before<W: Write>(index: usize, writer: &mut W) -> io::Result<()> {
+    let place = Place::Subject(index);
+    writeln!(
+        writer,
+        "{place}: name is wrong: no other subject may have it"
+    )
 }
 
 // The word for a subject's kind, where it has one.

@@ -13,9 +13,15 @@ pub(crate) fn limits_in(section: &Section) -> Option<Limits>
     ensures limits { result ≡ limits_in (members_in section.now) }
     ensures range { IfSome result (λ limits. are_in_range limits ≡ true) }
 {
-    let observers = OBSERVERS.number_in(section)?;
-    let joins = JOINS.number_in(section)?;
-    let items = ITEMS.number_in(section)?;
+    let Some(observers) = OBSERVERS.number_in(section) else {
+        return None;
+    };
+    let Some(joins) = JOINS.number_in(section) else {
+        return None;
+    };
+    let Some(items) = ITEMS.number_in(section) else {
+        return None;
+    };
     Some(Limits {
         observers,
         joins,

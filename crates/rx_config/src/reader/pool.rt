@@ -1,15 +1,14 @@
 // What `pool` says: how many threads there are, and what they take on.
-ghost use Rattle.std.specs.Prelude.{◌≡◌, IfSome};
+ghost use Rattle.std.specs.Prelude.{◌≡◌, ◌≤◌, IfSome};
 
 use crate::keys::section::Section;
-use crate::keys::{CONNECTIONS, DRAINERS, IDLE, POOL, POOL_KEYS, STALL, TAKEOVER, WINDOW, WORKERS};
+use crate::keys::{CONNECTIONS, IDLE, POOL, POOL_KEYS, STALL, TAKEOVER};
+use crate::reader::crew::Crew;
 
 /// What `pool` says: how many threads there are, and what they take on.
 #[derive(Clone, Copy, Debug)]
 pub(crate) struct Pool {
-    pub(crate) drainers: u8,
-    pub(crate) workers: u8,
-    pub(crate) window: u8,
+    pub(crate) crew: Crew,
     pub(crate) connections: u32,
     pub(crate) stall: u16,
     pub(crate) idle: Option<u64>,
@@ -17,7 +16,7 @@ pub(crate) struct Pool {
 }
 
 impl Pool {
-    ghost use Rattle.rx_config.specs.Configurations.{IsInRange, pool_at, pool_in, standard_pool};
+    ghost use Rattle.rx_config.specs.Configurations.{IsInRange, pool_at, pool_in, pool_of_crew, standard_pool};
     ghost use Rattle.rx_config.specs.KeyTables.{members_in};
 
     /// The pool of a configuration that has none.
@@ -53,17 +52,33 @@ impl Pool {
         if !section.has_only(&POOL_KEYS, None) {
             return None;
         }
-        let drainers = DRAINERS.number_in(section)?;
-        let workers = WORKERS.number_in(section)?;
-        let window = WINDOW.number_in(section)?;
-        let connections = CONNECTIONS.number_in(section)?;
-        let stall = STALL.number_in(section)?;
-        let idle = IDLE.bound_in(section)?;
-        let takeover = TAKEOVER.flag_in(section)?;
+        let Some(crew) = Crew::of(section) else {
+            return None;
+        };
+        Pool::of_crew(section, crew)
+    }
+
+    // The pool of a table that has this crew.
+    fn of_crew(section: &Section, crew: Crew) -> Option<Pool>
+        ensures pool { result ≡ pool_of_crew (members_in section.now) crew }
+        ensures same { IfSome result (λ pool. pool.crew ≡ crew) }
+        ensures connections { IfSome result (λ pool. 1 ≤ pool.connections) }
+        ensures stall { IfSome result (λ pool. (1 ≤ pool.stall) × (pool.stall ≤ 3600)) }
+    {
+        let Some(connections) = CONNECTIONS.number_in(section) else {
+            return None;
+        };
+        let Some(stall) = STALL.number_in(section) else {
+            return None;
+        };
+        let Some(idle) = IDLE.bound_in(section) else {
+            return None;
+        };
+        let Some(takeover) = TAKEOVER.flag_in(section) else {
+            return None;
+        };
         Some(Pool {
-            drainers: drainers as u8,
-            workers: workers as u8,
-            window: window as u8,
+            crew,
             connections,
             stall: stall as u16,
             idle,

@@ -3,7 +3,7 @@ ghost use Rattle.std.specs.Prelude.{◌≡◌, true, IfOk, MatchResult, Ok};
 ghost use Rattle.rx_note.specs.Kinds.{kind_checked};
 ghost use Rattle.rx_hub.specs.Hubs.{are_in_range};
 ghost use Rattle.toml.specs.View.{view};
-ghost use Rattle.rx_config.specs.Configurations.{ReadsSubject, subject_in, subject_of, subject_of_config};
+ghost use Rattle.rx_config.specs.Configurations.{ReadsAs, subject_in, subject_of, subject_of_config};
 ghost use Rattle.rx_config.specs.KeyTables.{members_in};
 
 use crate::budget::Budget;
@@ -26,7 +26,7 @@ pub(crate) fn subject_of(
     runtime: Global,
     value: &Value,
 ) -> Result<SubjectConfig, Fault>
-    ensures { ReadsSubject (subject_of (view value.now)) result }
+    ensures { ReadsAs subject_of_config (subject_of (view value.now)) result }
 {
     match value.as_table() {
         None => Err(Fault::Refused),
@@ -36,7 +36,7 @@ pub(crate) fn subject_of(
 
 // The subject of a table.
 fn subject_in(heap: &Heap, runtime: Global, section: &Section) -> Result<SubjectConfig, Fault>
-    ensures { ReadsSubject (subject_in (members_in section.now)) result }
+    ensures { ReadsAs subject_of_config (subject_in (members_in section.now)) result }
 {
     let Some(word) = NAME.text_in(section) else {
         return Err(Fault::Refused);

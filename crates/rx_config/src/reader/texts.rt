@@ -1,4 +1,4 @@
-// The texts of a subject: its name, and the seed of a Behavior.
+// The texts of a configuration: the name of a subject, the seed of a Behavior, and a line.
 ghost use Rattle.std.specs.Prelude.{◌≡◌};
 ghost use Rattle.rx_config.specs.Configurations.{Reads, line_in, name_in, seed_in};
 ghost use Rattle.rx_config.specs.KeyTables.{members_in};
@@ -33,8 +33,8 @@ pub(crate) fn seed_in(heap: &Heap, section: &Section) -> Result<Option<Text>, Fa
     }
 }
 
-// The text of these bytes.
-fn line_in(heap: &Heap, bytes: &[u8]) -> Result<Text, Fault>
+/// The text of these bytes.
+pub(crate) fn line_in(heap: &Heap, bytes: &[u8]) -> Result<Text, Fault>
     ensures { Reads (line_in bytes.now) result }
 {
     let Ok(heap) = heap.clone() else {

@@ -10,15 +10,33 @@ pub enum Refusal {
     Word,
     /// 400: what it says to know is no id that a server tells.
     LastEventId,
+    /// 400: its text has an LF.
+    Lf,
+    /// 400: how many items it asks for is no number of them, or more than may be.
+    Items,
+    /// 403: a page of another site sends it.
+    Origin,
+    /// 403: readers alone are served.
+    ReadOnly,
     /// 404: there is no subject of that name.
     Subject,
     /// 404: there is no such path.
     Path,
-    /// 405: nothing is served by that method there.
+    /// 404: there is no such observer that asks for its items itself.
+    Observer,
+    /// 405: a subject is read by GET, and emitted to by POST.
     Method,
+    /// 405: nothing is served there but by GET.
+    OnlyGet,
+    /// 411: how long its body is isn't told by one number.
+    Length,
+    /// 413: its text has more than 1,024 bytes, or more than 8,192 with the head.
+    Long,
     /// 431: its head has more than 8,192 bytes or more than 32 fields.
     LongHead,
-    /// 409: as many joins were accepted as may be.
+    /// 409: the subject has ended.
+    Ended,
+    /// 409: as many joins or items were accepted as may be.
     Spent,
     /// 500: the thread that owns the subject is gone.
     Gone,
@@ -36,10 +54,14 @@ impl Refusal {
         ensures { result.now ≡ status_of self }
     {
         match self {
-            Refusal::Head | Refusal::Word | Refusal::LastEventId => b"400 Bad Request",
-            Refusal::Subject | Refusal::Path => b"404 Not Found",
-            Refusal::Method => b"405 Method Not Allowed",
-            Refusal::Spent => b"409 Conflict",
+            Refusal::Head | Refusal::Word | Refusal::LastEventId | Refusal::Lf | Refusal::Items =>
+                b"400 Bad Request",
+            Refusal::Origin | Refusal::ReadOnly => b"403 Forbidden",
+            Refusal::Subject | Refusal::Path | Refusal::Observer => b"404 Not Found",
+            Refusal::Method | Refusal::OnlyGet => b"405 Method Not Allowed",
+            Refusal::Ended | Refusal::Spent => b"409 Conflict",
+            Refusal::Length => b"411 Length Required",
+            Refusal::Long => b"413 Content Too Large",
             Refusal::LongHead => b"431 Request Header Fields Too Large",
             Refusal::Gone => b"500 Internal Server Error",
             Refusal::Full | Refusal::Stopping => b"503 Service Unavailable",
@@ -56,9 +78,17 @@ impl Refusal {
             Refusal::Head | Refusal::LongHead => b"head",
             Refusal::Word => b"strategy",
             Refusal::LastEventId => b"last-event-id",
+            Refusal::Lf => b"lf",
+            Refusal::Items => b"request",
+            Refusal::Origin => b"origin",
+            Refusal::ReadOnly => b"emit",
             Refusal::Subject => b"subject",
             Refusal::Path => b"path",
-            Refusal::Method => b"method",
+            Refusal::Observer => b"observer",
+            Refusal::Method | Refusal::OnlyGet => b"method",
+            Refusal::Length => b"length",
+            Refusal::Long => b"long",
+            Refusal::Ended => b"ended",
             Refusal::Spent => b"spent",
             Refusal::Gone => b"gone",
             Refusal::Full => b"full",
@@ -70,17 +100,26 @@ impl Refusal {
     /// What to do about it.
     pub(crate) fn advice(self) -> &'static [u8]
         ensures bytes { result.now ≡ advice_of self }
-        ensures few { length result.now ≤ 100 }
+        ensures few { length result.now ≤ 200 }
     {
         match self {
             Refusal::Head => b"the head is not one of HTTP/1.1",
             Refusal::Word =>
-                b"strategy is BUFFER, DROP:n, LATEST:n or BOUNDED:n, errors AHEAD or DELAY, window 1 to 16",
+                b"strategy is BUFFER, DROP:n, LATEST:n or BOUNDED:n, errors AHEAD or DELAY, window 1 to 16, credit asked or socket",
             Refusal::LastEventId => b"it is none that a server tells",
             Refusal::Subject => b"the configuration has no such subject",
-            Refusal::Path => b"try /healthz or /subjects/NAME",
-            Refusal::Method => b"try GET",
-            Refusal::Spent => b"the subject accepted as many joins as it may",
+            Refusal::Path => b"try /, /subjects/NAME, /stats, /metrics or /healthz",
+            Refusal::Observer => b"there is none of that name that asks for its items itself",
+            Refusal::Lf => b"a text is one line",
+            Refusal::Items => b"request is how many items more, at least 1",
+            Refusal::Origin => b"a page of another site sends it",
+            Refusal::ReadOnly => b"readers alone are served",
+            Refusal::Method => b"try GET or POST",
+            Refusal::OnlyGet => b"try GET",
+            Refusal::Length => b"say Content-Length",
+            Refusal::Long => b"a text has at most 1,024 bytes, and 8,192 with the head",
+            Refusal::Ended => b"the subject has ended",
+            Refusal::Spent => b"the subject accepted as many joins or items as it may",
             Refusal::LongHead => b"a head has at most 8,192 bytes and 32 fields",
             Refusal::Gone => b"the thread of the subject ended by a fault",
             Refusal::Full => b"as many observers are held as may be",
@@ -94,7 +133,8 @@ impl Refusal {
         ensures { result.now ≡ fields_of self }
     {
         match self {
-            Refusal::Method => b"Allow: GET\r\n",
+            Refusal::Method => b"Allow: GET, POST\r\n",
+            Refusal::OnlyGet => b"Allow: GET\r\n",
             Refusal::Full => b"Retry-After: 5\r\n",
             Refusal::Stopping => b"Retry-After: 2\r\n",
             _ => b"",

@@ -1,15 +1,23 @@
 // The bytes of an answer.
-ghost use Rattle.std.specs.Prelude.{◌≡◌, ◌<◌, ◌^◌, ◌++◌, [], length};
+ghost use Rattle.std.specs.Prelude.{◌≡◌, ◌<◌, ◌≤◌, ◌^◌, ◌++◌, codes, length};
 ghost use Rattle.rx_http.specs.declared.answer.Answer.TheVariants.{Refused};
 ghost use Rattle.rx_proto.specs.Bytes.{Writes};
-ghost use Rattle.rx_http.specs.Answers.{answer_bytes, plain_kind, refusal_body, sized, sized_head};
+ghost use Rattle.rx_http.specs.Answers.{accepted_body, answer_bytes, look_fields, look_kind, place_member, plain_kind, refusal_body, sized, sized_head};
 
-use crate::{Answer, Refusal};
-use rx_proto::{MAX_DIGITS, WriteFault, write_bytes, write_digits};
+use crate::{Answer, Epoch, LookForm, Refusal};
+use rx_proto::{LineBytes, MAX_DIGITS, WriteFault, write_bytes, write_digits};
 use std::io::Write;
 
 // The bytes of a refusal's body around its name and its advice.
 const BODY_AROUND: usize = 23;
+
+// The type of a body in words, and of one in JSON.
+const PLAIN: &[u8] = b"text/plain; charset=utf-8";
+
+const JSON: &[u8] = b"application/json";
+
+// The most bytes of the body of the answer to an emission, and some more.
+const ACCEPTED: usize = 64;
 
 /// Writes an answer, by several writes: its head, and its body, which for `Events` is still to come. It takes no memory of its
 /// own. After a fault the writer has a prefix of it.
@@ -21,29 +29,91 @@ pub fn write_answer<W: Write>(writer: &mut W, answer: Answer) -> Result<(), Writ
             writer,
             b"HTTP/1.1 200 OK\r\nContent-Type: text/event-stream\r\nCache-Control: no-store, no-transform\r\nX-Accel-Buffering: no\r\nContent-Encoding: identity\r\nVary: Accept, Origin\r\nConnection: close\r\n\r\n",
         ),
-        Answer::Over => write_bytes(
+        Answer::Over | Answer::Requested => write_bytes(
             writer,
             b"HTTP/1.1 204 No Content\r\nCache-Control: no-store\r\nX-Content-Type-Options: nosniff\r\nConnection: close\r\n\r\n",
         ),
-        Answer::Well => write_plain(writer, b"200 OK", b"ok\n"),
-        Answer::Unwell => write_plain(writer, b"503 Service Unavailable", b"unwell\n"),
+        Answer::Well => write_sized(writer, b"200 OK", PLAIN, b"", b"ok\n"),
+        Answer::Unwell => write_sized(writer, b"503 Service Unavailable", PLAIN, b"", b"unwell\n"),
+        Answer::Accepted { epoch, place } => {
+            let body = accepted_body(&epoch, place);
+            write_sized(writer, b"200 OK", JSON, b"", body.as_bytes())
+        }
+        Answer::Shown { form, body } => {
+            write_sized(
+                writer,
+                b"200 OK",
+                kind_of(form),
+                more_of(form),
+                body.as_bytes(),
+            )
+        }
         Answer::Refused(refusal) => write_refusal(writer, refusal),
     }
 }
 
-// Writes an answer in words.
-fn write_plain<W: Write>(writer: &mut W, status: &[u8], body: &[u8]) -> Result<(), WriteFault>
-    requires { length body.now < 2 ^ 32 }
-    ensures { Writes result (W.contents writer.old) (W.contents writer.new) (sized status.now plain_kind [] body.now) }
+// The type of what is seen of a server.
+fn kind_of(form: LookForm) -> &'static [u8]
+    ensures { result.now ≡ look_kind form }
 {
-    write_head(
-        writer,
-        status,
-        b"text/plain; charset=utf-8",
-        b"",
-        body.len() as u32,
-    )?;
+    match form {
+        LookForm::Stats => JSON,
+        LookForm::Metrics => b"text/plain; version=0.0.4",
+        LookForm::Lines => PLAIN,
+        LookForm::Page => b"text/html; charset=utf-8",
+    }
+}
+
+// The fields that it has besides.
+fn more_of(form: LookForm) -> &'static [u8]
+    ensures { result.now ≡ look_fields form }
+{
+    match form {
+        LookForm::Stats | LookForm::Metrics | LookForm::Lines => b"",
+        LookForm::Page => b"Content-Security-Policy: frame-ancestors 'none'\r\n",
+    }
+}
+
+// Writes an answer with its body.
+fn write_sized<W: Write>(
+    writer: &mut W,
+    status: &[u8],
+    kind: &[u8],
+    fields: &[u8],
+    body: &[u8],
+) -> Result<(), WriteFault>
+    requires { length body.now < 2 ^ 32 }
+    ensures { Writes result (W.contents writer.old) (W.contents writer.new) (sized status.now kind.now fields.now body.now) }
+{
+    write_head(writer, status, kind, fields, body.len() as u32)?;
     write_bytes(writer, body)
+}
+
+// The body of the answer to an emission that was accepted.
+fn accepted_body(epoch: &Epoch, place: Option<u32>) -> LineBytes<ACCEPTED>
+    ensures { result ≡ accepted_body epoch.now place }
+{
+    let mut body = LineBytes::new();
+    body.put(b"{\"epoch\":\"");
+    body.put(epoch.as_bytes());
+    body.put(b"\"");
+    put_place_member(&mut body, place);
+    body.put(b"}\n");
+    body
+}
+
+// Puts where an item stands, if one was accepted.
+fn put_place_member(body: &mut LineBytes<ACCEPTED>, place: Option<u32>)
+    requires { length body.old ≤ 40 }
+    ensures bytes { body.new ≡ body.old ++ place_member place }
+    ensures few { length body.new ≤ 60 }
+{
+    if let Some(place) = place {
+        let mut digits = [0; MAX_DIGITS];
+        let start = write_digits(place, &mut digits);
+        body.put(b",\"place\":");
+        body.put(&digits[start..]);
+    }
 }
 
 // Writes a refusal, with its body in JSON.
@@ -53,7 +123,7 @@ fn write_refusal<W: Write>(writer: &mut W, refusal: Refusal) -> Result<(), Write
     write_head(
         writer,
         refusal.status(),
-        b"application/json",
+        JSON,
         refusal.fields(),
         body_len(refusal),
     )?;

@@ -1,4 +1,4 @@
-use crate::Id;
+use crate::{Credit, Id, LookForm, NoteKind, ObserverId};
 use rx_note::Policy;
 use rx_proto::Name;
 
@@ -11,11 +11,31 @@ pub enum Asked {
         subject: Name,
         /// How its reader wants to be served.
         policy: Policy,
-        /// How many items may be on their way to it at a time: 1 to 16.
-        window: u32,
+        /// How many items it is owed, and who asks for more.
+        credit: Credit,
         /// What it knows; None where it knows nothing.
         known: Option<Id>,
     },
+    /// `POST /subjects/NAME`, or `/end` or `/fail` behind it: a note for a subject.
+    Emission {
+        /// The subject's name. Whether there is such a subject is still to be seen.
+        subject: Name,
+        /// What is said to it.
+        kind: NoteKind,
+        /// How many bytes the body has, which is the text: 1,024 at most.
+        size: u32,
+    },
+    /// `POST /subjects/NAME/observers/EPOCH-WHO`: items for an observer, which asks for them itself.
+    Request {
+        /// The subject's name. Whether there is such a subject is still to be seen.
+        subject: Name,
+        /// The observer. Whether there is such an observer is still to be seen.
+        observer: ObserverId,
+        /// How many items more it is owed.
+        items: u32,
+    },
+    /// `GET /`, `/stats`, `/stats.txt` and `/metrics`: what is seen of the server.
+    Look(LookForm),
     /// `GET /healthz`: whether all is well.
     Health,
 }

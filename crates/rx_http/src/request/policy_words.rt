@@ -1,8 +1,9 @@
-// The words by which a reader chooses a strategy, an error mode and a window.
+// The words by which a reader chooses a strategy, an error mode and its credit, and asks for items.
 ghost use Rattle.std.specs.Prelude.{◌↔◌, IsTrue, codes, decimal};
 ghost use Rattle.rx_http.specs.Queries.{word_in};
-ghost use Rattle.rx_http.specs.Words.{HasPolicy, HasRoom, HasWindow, IsAnyErrors, IsFound, IsNumber, IsReadOf, IsRoom, IsWindow, errors_word, strategy_word};
+ghost use Rattle.rx_http.specs.Words.{HasCredit, HasPolicy, HasShortRoom, HasWindow, IsAnyErrors, IsAsking, IsFound, IsNumber, IsReadOf, IsRoom, IsWindow, credit_word, errors_word, items_word, strategy_word};
 
+use crate::Credit;
 use crate::number::number_of;
 use crate::request::query::word_of;
 use rx_note::{Errors, Policy, Strategy};
@@ -22,11 +23,27 @@ pub(crate) fn policy_of(query: &[u8]) -> Option<Policy>
     }
 }
 
-/// The window that the words of a query say: 16 where it has none.
-pub(crate) fn window_of(query: &[u8]) -> Option<u32>
+/// The credit that the words of a query say: 16 items, of which the socket has more asked for, where it has none.
+pub(crate) fn credit_of(query: &[u8]) -> Option<Credit>
+    ensures { IsFound (HasCredit query.now) result }
+{
+    let window = window_of(query)?;
+    let asked = asked_in(query)?;
+    Some(Credit { window, asked })
+}
+
+/// How many items the words of a query ask for: one where it has none.
+pub(crate) fn items_of(query: &[u8]) -> Option<u32>
+    ensures { IsReadOf IsNumber decimal (items_word query.now) result }
+{
+    number_in(query, b"request=", b"1")
+}
+
+// The window that the words of a query say: 16 where it has none.
+fn window_of(query: &[u8]) -> Option<u32>
     ensures { IsFound (HasWindow query.now) result }
 {
-    match number_in(query) {
+    match number_in(query, b"window=", b"16") {
         Some(window) if is_window(window) => Some(window),
         _ => None,
     }
@@ -40,7 +57,7 @@ fn is_window(number: u32) -> bool
 
 // The strategy of a query, with any room of 16 bits.
 fn strategy_in(query: &[u8]) -> Option<Strategy>
-    ensures { IsReadOf HasRoom strategy_word (word_in (codes "strategy=") (codes "BUFFER") query.now) result }
+    ensures { IsReadOf HasShortRoom strategy_word (word_in (codes "strategy=") (codes "BUFFER") query.now) result }
 {
     match word_of(query, b"strategy=", b"BUFFER") {
         Some(word) => strategy_of(word.as_bytes()),
@@ -50,7 +67,7 @@ fn strategy_in(query: &[u8]) -> Option<Strategy>
 
 // The strategy of a word, with any room of 16 bits.
 fn strategy_of(word: &[u8]) -> Option<Strategy>
-    ensures { IsReadOf HasRoom strategy_word word.now result }
+    ensures { IsReadOf HasShortRoom strategy_word word.now result }
 {
     if word == b"BUFFER".as_slice() {
         return Some(Strategy::Buffer);
@@ -98,11 +115,33 @@ fn errors_of(word: &[u8]) -> Option<Errors>
     }
 }
 
-// The number of the window of a query.
-fn number_in(query: &[u8]) -> Option<u32>
-    ensures { IsReadOf IsNumber decimal (word_in (codes "window=") (codes "16") query.now) result }
+// Who asks for the items of a reader, by a query: it does itself, or else its socket.
+fn asked_in(query: &[u8]) -> Option<bool>
+    ensures { IsReadOf IsAsking credit_word (word_in (codes "credit=") (codes "socket") query.now) result }
 {
-    match word_of(query, b"window=", b"16") {
+    match word_of(query, b"credit=", b"socket") {
+        Some(word) => asked_of(word.as_bytes()),
+        None => None,
+    }
+}
+
+fn asked_of(word: &[u8]) -> Option<bool>
+    ensures { IsReadOf IsAsking credit_word word.now result }
+{
+    if word == b"asked".as_slice() {
+        Some(true)
+    } else if word == b"socket".as_slice() {
+        Some(false)
+    } else {
+        None
+    }
+}
+
+// The number of a key of a query, or of another word where it has none.
+fn number_in(query: &[u8], key: &[u8], other: &[u8]) -> Option<u32>
+    ensures { IsReadOf IsNumber decimal (word_in key.now other.now query.now) result }
+{
+    match word_of(query, key, other) {
         Some(word) => number_of(word.as_bytes()),
         None => None,
     }

@@ -1,9 +1,9 @@
 // The bytes of an event.
-ghost use Rattle.std.specs.Prelude.{◌≡◌, ◌≤◌, ◌++◌, decimal, drop, Option, Some};
+ghost use Rattle.std.specs.Prelude.{◌≡◌, ◌≤◌, ◌++◌, decimal, drop, IfSome, Option, Some};
 ghost use Rattle.rx_proto.specs.Bytes.{Writes};
 ghost use Rattle.base64.specs.Engines.{standard};
 ghost use Rattle.base64.specs.GeneralPurpose.{encode_of};
-ghost use Rattle.rx_http.specs.Events.{event_bytes, saying_of, text_by};
+ghost use Rattle.rx_http.specs.Events.{event_bytes, item_bytes, saying_of, text_by};
 ghost use Rattle.rx_http.specs.Ids.{id_bytes, over_word, place_digits};
 ghost use Rattle.rx_http.specs.Laws.{IsPlace};
 ghost use Rattle.rx_http.specs.Pieces.{heartbeat_line, id_line, kind_line, retry_line, text_lines};
@@ -11,9 +11,17 @@ ghost use Rattle.rx_http.specs.Pieces.{heartbeat_line, id_line, kind_line, retry
 use crate::stream_event::lines::{failed_line, is_text, next_line};
 use crate::{Epoch, StreamEvent};
 use base64::engine::general_purpose::STANDARD;
-use rx_note::Text;
-use rx_proto::{MAX_DIGITS, WriteFault, write_bytes, write_digits};
+use rx_note::{Item, Text};
+use rx_proto::{LineBytes, MAX_DIGITS, WriteFault, write_bytes, write_digits};
 use std::io::Write;
+
+const CR: u8 = b'\r';
+
+// The most bytes of a text whose event goes by one write.
+const SHORT_TEXT: usize = 120;
+
+// The most bytes of the event of an item with such a text.
+const SHORT_EVENT: usize = 172;
 
 // The most bytes that a text has in base64.
 const MAX_CODED: usize = 1368;
@@ -36,9 +44,48 @@ pub fn write_heartbeat<W: Write>(writer: &mut W) -> Result<(), WriteFault>
     write_bytes(writer, b":\n")
 }
 
-/// Writes an event of the server's epoch, by several writes: a writer whose writes are dear gathers them. A text that is no UTF-8
-/// goes in base64. It takes no memory of its own. After a fault the writer has a prefix of the event.
+/// Writes an event of the server's epoch, that of an item with a short text by one write, and another one by several: a writer whose
+/// writes are dear gathers them. A text that is no UTF-8 goes in base64. It takes no memory of its own. After a fault the writer has a
+/// prefix of the event.
 pub fn write_event<W: Write>(
+    writer: &mut W,
+    epoch: &Epoch,
+    event: StreamEvent<'_>,
+) -> Result<(), WriteFault>
+    ensures { Writes result (W.contents writer.old) (W.contents writer.new) (event_bytes epoch.now event.entry) }
+{
+    if let StreamEvent::Next(item) = event
+        && let Some(line) = short_event(epoch, item)
+    {
+        return write_bytes(writer, line.as_bytes());
+    }
+    write_pieces(writer, epoch, event)
+}
+
+// The bytes of the event of an item whose text is short and told as itself, the commonest by far. None of another one.
+#[inline(never)] // so that another event makes no room for it
+fn short_event(epoch: &Epoch, item: &Item) -> Option<LineBytes<SHORT_EVENT>>
+    ensures { IfSome result (λ line. line ≡ item_bytes epoch.now item.now) }
+{
+    let text = item.text.as_bytes();
+    if text.len() > SHORT_TEXT || item.is_seed() || text.contains(&CR) || !is_text(&item.text) {
+        return None;
+    }
+    let mut digits = [0; MAX_DIGITS];
+    let start = write_digits(item.place, &mut digits);
+    let mut line = LineBytes::new();
+    line.put(b"id: ");
+    line.put(epoch.as_bytes());
+    line.put(b"-");
+    line.put(&digits[start..]);
+    line.put(b"\nevent: next\ndata: ");
+    line.put(text);
+    line.put(b"\n\n");
+    Some(line)
+}
+
+// Writes an event piece by piece.
+fn write_pieces<W: Write>(
     writer: &mut W,
     epoch: &Epoch,
     event: StreamEvent<'_>,

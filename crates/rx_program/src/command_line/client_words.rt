@@ -2,7 +2,7 @@
 ghost use Rattle.std.specs.Prelude.{◌≡◌, IfOk, IfSome, MatchOption, Some, codes, false, map, option_map};
 ghost use Rattle.clap.specs.Words.{app_of, first_of, found_of, rows_of, rule_of};
 ghost use Rattle.clap.specs.declared.Command.{out-Command};
-ghost use Rattle.rx_program.specs.CommandLines.{IsNamedBy, NamesNone, count, errors, from, json, pub_app, socket, strategy, sub_app, subject, text};
+ghost use Rattle.rx_program.specs.CommandLines.{IsNamedBy, NamesNone, count, errors, from, json, pub_app, socket, stats_app, strategy, sub_app, subject, text};
 
 use crate::command_line::subscription::Subscription;
 use crate::command_line::task::Task;
@@ -23,6 +23,10 @@ const FROM: &str = "from";
 const COUNT: &str = "count";
 
 const JSON: &str = "json";
+
+const SERVER: &str = "The path of the server's socket";
+
+const FACE: &str = "The path of the server's socket of [http]";
 
 const PUBLISH_EXAMPLE: &str = "\
 Without a text each line of standard input is an item, also one without a line feed at the
@@ -59,6 +63,20 @@ Examples:
 The exit status is 0 once the subject is completed or as many items were told as --count
 says, 1 where it failed or after a fault, and 2 after a wrong command line.";
 
+const STATS_EXAMPLE: &str = "\
+The server's configuration has a section [http], and the path is that of the socket there,
+and not of the one for sessions. Standard output has what the server answers, byte by byte:
+a line for each subject and each observer, and with --json the object that GET /stats
+tells. To look is one call to each subject, and changes nothing.
+
+Examples:
+  rxline stats http.sock
+  rxline stats http.sock --json
+  watch rxline stats http.sock
+
+The exit status is 0 where all of the answer was written, 1 after a fault, and 2 after a
+wrong command line.";
+
 /// The task of `pub`, by what it was given.
 pub(crate) fn publish_in<'a>(found: &ArgMatches<'a>) -> Option<Task<'a>>
     ensures { MatchOption result (NamesNone (Some (codes "pub", rows_of (found_of found.now)))) (IsNamedBy (Some (codes "pub", rows_of (found_of found.now)))) }
@@ -93,6 +111,16 @@ pub(crate) fn subscribe_in<'a>(found: &ArgMatches<'a>) -> Option<Task<'a>>
     Some(Task::Subscribe(socket, subscription))
 }
 
+/// The task of `stats`, by what it was given.
+pub(crate) fn stats_in<'a>(found: &ArgMatches<'a>) -> Option<Task<'a>>
+    ensures { MatchOption result (NamesNone (Some (codes "stats", rows_of (found_of found.now)))) (IsNamedBy (Some (codes "stats", rows_of (found_of found.now)))) }
+{
+    match word_in(found, SOCKET) {
+        Some(socket) => Some(Task::Stats(socket, word_in(found, JSON) == Some("true"))),
+        None => None,
+    }
+}
+
 // The word that a command was given for this argument.
 fn word_in<'a>(found: &ArgMatches<'a>, argument: &str) -> Option<&'a str>
     ensures { option_map (λ s. s.now) result ≡ first_of argument.now (rows_of (found_of found.now)) }
@@ -109,7 +137,7 @@ pub(crate) fn publish_command<'a>(alloc: Global) -> Result<Command<'a>, AllocErr
     let usage = "rxline pub <socket> <subject> [text]";
     let command = new_command(alloc, "pub", usage, about);
     let command = with_help(command, PUBLISH_EXAMPLE);
-    let command = command.arg(server_arg(alloc))?;
+    let command = command.arg(server_arg(alloc, SERVER))?;
     let command = command.arg(subject_arg(alloc))?;
     command.arg(text_arg(alloc))
 }
@@ -125,22 +153,33 @@ pub(crate) fn subscribe_command<'a>(alloc: Global) -> Result<Command<'a>, AllocE
         "rxline sub <socket> <subject> [--strategy S] [--errors E] [--from PLACE] [--count N] [--json]";
     let command = new_command(alloc, "sub", usage, about);
     let command = with_help(command, SUBSCRIBE_EXAMPLE);
-    let command = command.arg(server_arg(alloc))?;
+    let command = command.arg(server_arg(alloc, SERVER))?;
     let command = command.arg(subject_arg(alloc))?;
     let command = command.arg(strategy_arg(alloc))?;
     let command = command.arg(errors_arg(alloc))?;
     let command = command.arg(from_arg(alloc))?;
     let command = command.arg(count_arg(alloc))?;
-    command.arg(json_arg(alloc))
+    command.arg(json_arg(alloc, "Writes JSON, an object a line"))
 }
 
-fn server_arg<'a>(alloc: Global) -> Arg<'a>
+/// The command `stats`.
+pub(crate) fn stats_command<'a>(alloc: Global) -> Result<Command<'a>, AllocError>
+    ensures app { IfOk result (λ c. app_of c ≡ stats_app) }
+    ensures local { IfOk result (λ c. (out-Command c).has_globals ≡ false) }
+{
+    let about = "Shows what is seen of a server's subjects and observers, by its socket of [http]";
+    let usage = "rxline stats <socket> [--json]";
+    let command = new_command(alloc, "stats", usage, about);
+    let command = with_help(command, STATS_EXAMPLE);
+    let command = command.arg(server_arg(alloc, FACE))?;
+    command.arg(json_arg(alloc, "Writes JSON, one object"))
+}
+
+fn server_arg<'a>(alloc: Global, help: &'a str) -> Arg<'a>
     ensures rule { rule_of result ≡ socket }
     ensures local { result.global ≡ false }
 {
-    Arg::new(alloc, SOCKET)
-        .required(true)
-        .help("The path of the server's socket")
+    Arg::new(alloc, SOCKET).required(true).help(help)
 }
 
 fn subject_arg<'a>(alloc: Global) -> Arg<'a>
@@ -195,12 +234,12 @@ fn count_arg<'a>(alloc: Global) -> Arg<'a>
         .help("How many items are wanted, and no more")
 }
 
-fn json_arg<'a>(alloc: Global) -> Arg<'a>
+fn json_arg<'a>(alloc: Global, help: &'a str) -> Arg<'a>
     ensures rule { rule_of result ≡ json }
     ensures local { result.global ≡ false }
 {
     Arg::new(alloc, JSON)
         .long(JSON)
         .action(ArgAction::SetTrue)
-        .help("Writes JSON, an object a line")
+        .help(help)
 }

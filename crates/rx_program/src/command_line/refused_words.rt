@@ -28,7 +28,11 @@ pub(crate) fn refusal_of(heap: &Heap, task: Task<'_>) -> Option<&'static str>
     match task {
         Task::Publish(_, subject, text) => refusal_to_publish(subject, text),
         Task::Subscribe(_, subscription) => refusal_to_subscribe(heap, subscription),
-        Task::Script(_) | Task::Audit(_) | Task::Check(_, _) | Task::Serve(_, _) => None,
+        Task::Script(_)
+        | Task::Audit(_)
+        | Task::Check(_, _)
+        | Task::Serve(_, _)
+        | Task::Stats(_, _) => None,
     }
 }
 

@@ -16,4 +16,6 @@ pub enum Task<'a> {
     Publish(&'a str, &'a str, Option<&'a str>),
     /// To follow a subject at the server whose socket is at the path.
     Subscribe(&'a str, Subscription<'a>),
+    /// To show what is seen of the server whose socket of `[http]` is at the path: as JSON, or in lines.
+    Stats(&'a str, bool),
 }

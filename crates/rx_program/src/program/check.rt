@@ -8,15 +8,19 @@ use crate::program::config_file::read_file;
 use crate::program::flushed::flushed;
 use crate::program::host::Host;
 use crate::program::program_fault::ProgramFault;
-use crate::socket::path::in_the_way;
-use rx_config::{Config, Shown, advise, config_lines, read_config};
+use crate::program::unbounded::tell_unbounded;
+use crate::socket::obstacle::Obstacle;
+use crate::socket::path::{in_the_way, in_the_way_beside};
+use rx_config::{Config, Http, Shown, advise, config_lines, read_config};
 use rx_heap::{Heap, Memory};
 use rx_proto::{WriteFault, write_bytes};
 use std::fs::File;
 use std::io::{self, Read, Write};
+use std::str;
 
 /// Writes the configuration in the file of this path, as it would be served. Why it can't be had, where more can be said than
-/// the cause, goes to `faults`; so does what is in the way of a server at the path of a socket, where one is told.
+/// the cause, goes to `faults`; so does which subjects keep all that they take, and, where the path of a socket is told, what is in the
+/// way of a server there and at the path of its events.
 ///
 /// # Errors
 ///
@@ -68,7 +72,7 @@ fn read_first<F: Host>(rt: &F, path: &str) -> io::Result<()> {
     Ok(())
 }
 
-// Writes the lines of a configuration, and then tells what is in the way of a server.
+// Writes the lines of a configuration, and then tells what it leaves without a bound, and what is in the way of a server.
 fn list_and_look<F: Host, W: Write, E: Write>(
     rt: &F,
     heap: &Heap,
@@ -81,16 +85,19 @@ fn list_and_look<F: Host, W: Write, E: Write>(
         ⊎ ((result ≡ Err ProgramFault.Memory) × (W.contents writer.new ≡ W.contents writer.old)) }
 {
     match list(heap, config, writer) {
-        Ok(()) => look(rt, socket, config.takeover, faults),
+        Ok(()) => {
+            tell_unbounded(config, faults);
+            look(rt, socket, config, faults)
+        }
         Err(fault) => Err(fault),
     }
 }
 
-// Tells what is in the way of a server at the path of a socket, where there is one.
+// Tells what is in the way of a server at the path of a socket, where there is one, and at that of its events.
 fn look<F: Host, E: Write>(
     rt: &F,
     socket: Option<&str>,
-    takeover: bool,
+    config: &Config,
     faults: &mut E,
 ) -> Result<(), ProgramFault>
     ensures { Looks (option_map (λ s. s.now) socket.entry) result }
@@ -98,11 +105,40 @@ fn look<F: Host, E: Write>(
     let Some(path) = socket else {
         return Ok(());
     };
-    match in_the_way(rt, path, takeover) {
-        None => Ok(()),
+    let has_room = tell_obstacle(path, in_the_way(rt, path, config.takeover), faults);
+    let has_face = match &config.http {
+        Some(http) => look_beside(rt, path, http, config.takeover, faults),
+        None => true,
+    };
+    if has_room && has_face {
+        Ok(())
+    } else {
+        Err(ProgramFault::Listen)
+    }
+}
+
+// Tells what is in the way at the path of events. Whether nothing is.
+fn look_beside<F: Host, E: Write>(
+    rt: &F,
+    socket: &str,
+    http: &Http,
+    takeover: bool,
+    faults: &mut E,
+) -> bool {
+    let Ok(path) = str::from_utf8(http.socket.as_bytes()) else {
+        return false;
+    };
+    let obstacle = in_the_way_beside(rt, path, socket, takeover);
+    tell_obstacle(path, obstacle, faults)
+}
+
+// Tells what is in the way at a path, where something is. Whether nothing is.
+fn tell_obstacle<E: Write>(path: &str, obstacle: Option<Obstacle>, faults: &mut E) -> bool {
+    match obstacle {
+        None => true,
         Some(obstacle) => {
             let _ = writeln!(faults, "{}: {obstacle}", Shown(path));
-            Err(ProgramFault::Listen)
+            false
         }
     }
 }

@@ -1,14 +1,16 @@
 //! The program as a client of a server.
 ghost use Rattle.std.specs.Prelude.{◌≡◌, IfOk};
 ghost use Rattle.rx_proto.specs.Bytes.{Writes};
-ghost use Rattle.rx_program.specs.Clients.{Emits, FollowsSubject, accepted_line, follow_fault, format_of};
+ghost use Rattle.rx_client.specs.Looking.{ShowsAnswer};
+ghost use Rattle.rx_program.specs.Clients.{Emits, FollowsSubject, accepted_line, follow_fault, format_of, look_fault};
 
 use crate::command_line::subscription::Subscription;
 use crate::program::host::Host;
 use crate::program::program_fault::ProgramFault;
 use itoa::Buffer;
 use rx_client::{
-    Format, PublishFault, Published, SubscribeFault, Wanted, publish, sub_line, subscribe,
+    Format, LookFault, PublishFault, Published, SubscribeFault, Wanted, look, publish, sub_line,
+    subscribe,
 };
 use rx_heap::{Heap, Memory};
 use rx_proto::{Name, write_bytes};
@@ -170,5 +172,36 @@ fn follow_fault(fault: SubscribeFault) -> ProgramFault
         SubscribeFault::Strange => ProgramFault::Strange,
         SubscribeFault::Write => ProgramFault::Write,
         SubscribeFault::Memory => ProgramFault::Memory,
+    }
+}
+
+/// Asks a server what is seen of it, by the path of its socket for HTTP, and writes what it answers.
+pub(crate) fn stats_at<F: Host, W: Write, E: Write>(
+    rt: &F,
+    socket: &str,
+    is_json: bool,
+    writer: &mut W,
+    faults: &mut E,
+) -> Result<(), ProgramFault>
+    ensures { ShowsAnswer result (W.contents writer.old) (W.contents writer.new) }
+{
+    let heap = Heap::unlimited(rt.alloc());
+    match look(rt, &heap, socket, format_of(is_json), writer, faults) {
+        Ok(()) => Ok(()),
+        Err(fault) => Err(look_fault(fault)),
+    }
+}
+
+// A fault of looking, as the program tells it.
+fn look_fault(fault: LookFault) -> ProgramFault
+    ensures { result ≡ look_fault fault }
+{
+    match fault {
+        LookFault::NoServer => ProgramFault::Connect,
+        LookFault::Refused(_) => ProgramFault::Refused,
+        LookFault::Lost => ProgramFault::Lost,
+        LookFault::Strange => ProgramFault::NoHttp,
+        LookFault::Write => ProgramFault::Write,
+        LookFault::Memory => ProgramFault::Memory,
     }
 }

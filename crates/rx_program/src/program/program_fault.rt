@@ -34,14 +34,16 @@ pub enum ProgramFault {
     Close(CloseFault),
     /// Nobody listens at the path of a socket, or may not be connected to.
     Connect,
-    /// A server refused a line.
+    /// A server refused a line, or what it was asked for.
     Refused,
-    /// A connection was lost, and lines have no answer.
+    /// A connection was lost, and lines have no answer, or none has all of it.
     Lost,
     /// The subject that was followed failed.
     Failed,
     /// What came is no line that a server prints.
     Strange,
+    /// What came is no answer by HTTP.
+    NoHttp,
 }
 
 impl ProgramFault {
@@ -66,6 +68,7 @@ impl ProgramFault {
             ProgramFault::Lost => "connection lost",
             ProgramFault::Failed => "subject failed",
             ProgramFault::Strange => "no line of a server",
+            ProgramFault::NoHttp => "no answer by HTTP",
         }
     }
 
@@ -89,7 +92,8 @@ impl ProgramFault {
             | ProgramFault::Refused
             | ProgramFault::Lost
             | ProgramFault::Failed
-            | ProgramFault::Strange => None,
+            | ProgramFault::Strange
+            | ProgramFault::NoHttp => None,
         }
     }
 }

@@ -15,32 +15,33 @@ use crate::socket::outgoing::Outgoing;
 use rx_config::Config;
 use rx_heap::Heap;
 use rx_proto::{Name, WriteFault};
-use rx_server::{CloseFault, ServeFault, SubjectReport, write_report_lines};
-use rx_sink::{LineSink, Sink};
+use rx_server::{ClientSink, CloseFault, ServeFault, SubjectReport, write_report_lines};
+use rx_sink::Sink;
 use std::io::Write;
 
 /// Serves a configuration on a new Unix socket of this path, until as many connections have ended as it says. Once it listens
-/// it tells so on `faults`; at the end it writes the report, one line a subject, also after a fault of serving.
+/// it tells so on `faults`, and on `log`, by a thread of its own, what it decides of its peers; at the end it writes the report, one line a subject, also after a fault of serving.
 ///
 /// # Errors
 ///
 /// `Listen`: the socket can't be had. `Start`, `Memory`: the server did not start. `Accept`, `Serve`: it served fewer
 /// connections. `Close`: a thread ended by a fault, and there is no report. `Write`: the report was not written.
-pub(crate) fn serve_on<F: Host, W: Write, E: Write>(
+pub(crate) fn serve_on<F: Host, W: Write, E: Write, L: Write + Drop + Send + 'static>(
     rt: &F,
     heap: &Heap,
     config: Config,
     path: &str,
     writer: &mut W,
     faults: &mut E,
+    log: L,
 ) -> Result<(), ProgramFault>
-    ensures { ReportsServer ⟦<LineSink<Outgoing<F>> as Sink>⟧.acts config result (W.contents writer.old) (W.contents writer.new) }
+    ensures { ReportsServer ⟦<ClientSink<Outgoing<F>> as Sink>⟧.acts config result (W.contents writer.old) (W.contents writer.new) }
 {
     let Ok(names) = Names::of(heap, &config) else {
         return Err(ProgramFault::Memory);
     };
     let site = Site::at(rt, heap, path, &config)?;
-    let ended = site.serve(rt, config, path, faults)?;
+    let ended = site.serve(rt, config, path, faults, log)?;
     let reported = told(&names, &ended.closed, writer);
     end_of(ended.served, reported, faults)
 }

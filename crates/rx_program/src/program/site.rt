@@ -1,10 +1,16 @@
 ghost use Rattle.std.specs.Prelude.{◌≡◌, IfErr, IfOk, MatchResult};
 ghost use Rattle.rx_program.specs.Programs.{LacksSocket};
 ghost use Rattle.rx_program.specs.Reporting.{ClosesWith, closed_as};
+ghost use Rattle.rx_server.specs.Servers.{RunsOn};
 ghost use Rattle.rx_server.specs.declared.wired.start_fault.StartFault.{StartFault};
 
+use crate::notices::counted::{Notices, SharedNotices};
+use crate::notices::patience::Patience;
+use crate::notices::teller::start_telling;
+use crate::notices::telling::Telling;
 use crate::program::ended::Ended;
 use crate::program::host::Host;
+use crate::program::porch::Porch;
 use crate::program::program_fault::ProgramFault;
 use crate::socket::Socket;
 use crate::socket::clocked::Clocked;
@@ -12,38 +18,44 @@ use crate::socket::outgoing::Outgoing;
 use crate::socket::path::listen;
 use crate::socket::terms::Terms;
 use rx_config::{Config, Shown};
-use rx_heap::Heap;
-use rx_server::{CloseFault, Report, SubjectReport, start_unread};
-use rx_sink::{LineSink, Sink};
+use rx_heap::{Heap, Memory};
+use rx_server::{ClientSink, CloseFault, Report, ServeFault, Server, SubjectReport, start_unread};
+use rx_sink::Sink;
 use std::fs::File;
 use std::io::Write;
-use std::os::unix::net::UnixListener;
+use std::sync::Arc;
 
-/// What a server is served by: the socket that it listens on and the lock beside it, the terms of its peers, the memory for what waits for them, the
-/// clock of its moments, the memory for what its desks leave, and its own memory.
+/// What a server is served by: the socket that it listens on and the lock beside it, the clock of its moments, the memory for what its
+/// desks leave, and its own memory; and by what it tells what it decides of its peers.
 pub(crate) struct Site<F: Host> {
-    listener: UnixListener,
+    socket: Socket<F>,
     lock: File,
-    host: F,
-    terms: Terms,
-    waiting: Heap,
     clock: F,
     heap: Heap,
     own: Heap,
+    porch: Option<Porch<F>>,
+    notices: SharedNotices,
+    // The same, for the thread that tells them.
+    shared: SharedNotices,
+    patience: Patience,
+    // The host of that thread.
+    teller: F,
 }
 
 // By hand: rx_heap says why.
 impl<F: Host> Drop for Site<F> {
     fn drop(self) {
         let Site {
-            listener: _,
+            socket: _,
             lock: _,
-            host: _,
-            terms: _,
-            waiting: _,
             clock: _,
             heap: _,
             own: _,
+            porch: _,
+            notices: _,
+            shared: _,
+            patience: _,
+            teller: _,
         } = self;
     }
 }
@@ -58,72 +70,136 @@ impl<F: Host> Site<F> {
     ) -> Result<Site<F>, ProgramFault>
         ensures { IfErr result LacksSocket }
     {
-        let Ok(clock) = rt.clone() else {
+        let Ok(tools) = make_tools(rt, heap) else {
             return Err(ProgramFault::Memory);
         };
-        let Ok(host) = rt.clone() else {
-            return Err(ProgramFault::Memory);
+        let Tools {
+            host,
+            clock,
+            teller,
+            waiting,
+            heap,
+            own,
+            notices,
+            shared,
+            counted,
+        } = tools;
+        let Ok((listener, lock)) = listen(rt, path, config.takeover) else {
+            return Err(ProgramFault::Listen);
         };
-        let Ok(own) = heap.clone() else {
-            return Err(ProgramFault::Memory);
+        let porch = match &config.http {
+            Some(http) => Some(Porch::at(rt, &own, config, http, &notices)?),
+            None => None,
         };
-        let Ok(waiting) = heap.clone() else {
-            return Err(ProgramFault::Memory);
-        };
-        let Ok(heap) = heap.clone() else {
-            return Err(ProgramFault::Memory);
-        };
-        match listen(rt, path, config.takeover) {
-            Ok((listener, lock)) => Ok(Site {
-                listener,
-                lock,
-                host,
-                terms: Terms::of(config),
-                waiting,
-                clock,
-                heap,
-                own,
-            }),
-            Err(_) => Err(ProgramFault::Listen),
-        }
+        let socket = Socket::new(listener, host, waiting, Terms::of(config), counted);
+        Ok(Site {
+            socket,
+            lock,
+            clock,
+            heap,
+            own,
+            porch,
+            notices,
+            shared,
+            patience: Patience::of(config),
+            teller,
+        })
     }
 
     /// Starts the server of a configuration, tells on `faults` that it listens at this path, serves the connections that come,
-    /// and closes it. `Start`: it did not start.
-    // All that a server of this sink does is done here: the types of its threads are looked through in each function that has
-    // one.
-    pub(crate) fn serve<E: Write>(
+    /// and closes it. Meanwhile a thread tells on `log` what it decides of its peers. `Start`: it did not start.
+    // All else that a server of this sink does is done here: the types of its threads are looked through in each function that
+    // has one.
+    pub(crate) fn serve<E: Write, L: Write + Drop + Send + 'static>(
         self,
         rt: &F,
         config: Config,
         path: &str,
         faults: &mut E,
+        log: L,
     ) -> Result<Ended, ProgramFault>
-        ensures closed { IfOk result (λ ended. ClosesWith ⟦<LineSink<Outgoing<F>> as Sink>⟧.acts config (closed_as ended.closed)) }
+        ensures closed { IfOk result (λ ended. ClosesWith ⟦<ClientSink<Outgoing<F>> as Sink>⟧.acts config (closed_as ended.closed)) }
         ensures fault { IfErr result (λ fault. (cause : StartFault) × (fault ≡ ProgramFault.Start cause)) }
     {
         let Site {
-            listener,
+            socket,
             lock,
-            host,
-            terms,
-            waiting,
             clock,
             heap,
             own,
+            porch,
+            notices,
+            shared,
+            patience,
+            teller,
         } = self;
-        let mut server = match start_unread::<LineSink<Outgoing<F>>, F>(rt, own, config) {
+        let mut server = match start_unread::<ClientSink<Outgoing<F>>, F>(rt, own, config) {
             Ok(server) => server,
             Err(fault) => return Err(ProgramFault::Start(fault)),
         };
         let _ = writeln!(faults, "rxline: listening on {}", Shown(path));
-        let mut socket = Socket::new(listener, host, waiting, terms, faults);
-        let served = server.serve(rt, &mut socket, Clocked::new(clock));
-        drop(socket);
+        if let Some(porch) = &porch {
+            porch.tell(faults);
+        }
+        let telling = start_telling(rt, teller, shared, Telling::new(patience), log);
+        let served = serve_by(rt, &mut server, socket, Clocked::new(clock), porch);
         let closed = subjects_of(server.close(rt, Vec::new(heap)));
+        notices.end();
+        if let Some(telling) = telling {
+            telling.join(rt);
+        }
         drop(lock);
         Ok(Ended { served, closed })
     }
+}
+
+// Serves the connections of a socket, and beside them those of a face, where there is one.
+fn serve_by<F: Host>(
+    rt: &F,
+    server: &mut Server<ClientSink<Outgoing<F>>>,
+    socket: Socket<F>,
+    moments: Clocked<F>,
+    porch: Option<Porch<F>>,
+) -> Result<(), ServeFault>
+    ensures { RunsOn server.old server.new }
+{
+    let mut socket = socket;
+    let Some(porch) = porch else {
+        return server.serve(rt, &mut socket, moments);
+    };
+    let (entrance, _lock) = porch.open(&moments);
+    server.serve_facing(rt, &mut socket, moments, entrance)
+}
+
+// What a site has beside its sockets.
+struct Tools<F: Host> {
+    host: F,
+    clock: F,
+    teller: F,
+    waiting: Heap,
+    heap: Heap,
+    own: Heap,
+    notices: SharedNotices,
+    // The same, for who tells them and for who counts them.
+    shared: SharedNotices,
+    counted: SharedNotices,
+}
+
+fn make_tools<F: Host>(rt: &F, heap: &Heap) -> Result<Tools<F>, Memory> {
+    let notices = Arc::new(heap.clone()?, Notices::new())?;
+    let shared = Arc::try_clone(&notices)?;
+    let counted = Arc::try_clone(&notices)?;
+    Ok(Tools {
+        host: rt.clone()?,
+        clock: rt.clone()?,
+        teller: rt.clone()?,
+        waiting: heap.clone()?,
+        heap: heap.clone()?,
+        own: heap.clone()?,
+        notices,
+        shared,
+        counted,
+    })
 }
 
 // What a closed server reports of each subject, or why there is no report.

@@ -20,6 +20,15 @@ impl<C: Clock + Drop> Clocked<C> {
         }
     }
 
+    /// The moments of another clock, since the same start.
+    pub(crate) fn beside(&self, clock: C) -> Clocked<C> {
+        Clocked {
+            clock,
+            start: self.start,
+            last: 0,
+        }
+    }
+
     // The milliseconds since the start, where the clock could be read.
     fn elapsed(&self) -> Option<u64> {
         let now = self.clock.monotonic().ok()?;

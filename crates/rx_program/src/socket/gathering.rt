@@ -10,6 +10,8 @@ ghost use Rattle.std.specs.Prelude.{◌≡◌, ◌+◌, ◌-◌, ◌≤◌, [], 
 ghost use Rattle.std.specs.Io.{WritesAtMost};
 ghost use Rattle.std.specs.Io.KnownBytes.{Appends, WriteAppends};
 
+use crate::notices::cause::Cause;
+use crate::notices::counted::SharedNotices;
 use rx_heap::Heap;
 use std::io;
 use std::io::{ErrorKind, Write};
@@ -36,6 +38,7 @@ pub(crate) struct Gathering<W: Write + Drop, C: Clock + Drop> {
     stall: Duration,
     // Since when its socket has taken none, by the clock.
     stuck_since: Option<Duration>,
+    notices: SharedNotices,
 }
 
 // What still waits is tried once more, and waits no longer: a drainer that leaves has flushed it for as long as any may wait.
@@ -47,6 +50,7 @@ impl<W: Write + Drop, C: Clock + Drop> Drop for Gathering<W, C> {
             waiting,
             stall: _,
             stuck_since: _,
+            notices: _,
         } = self;
         let mut wire = wire;
         if !waiting.is_empty() {
@@ -56,8 +60,14 @@ impl<W: Write + Drop, C: Clock + Drop> Drop for Gathering<W, C> {
 }
 
 impl<W: Write + Drop, C: Clock + Drop> Gathering<W, C> {
-    /// Nothing waits yet.
-    pub(crate) fn new(wire: W, clock: C, alloc: Heap, stall: Duration) -> Gathering<W, C>
+    /// Nothing waits yet. Where the peer is given up it is counted among the notices.
+    pub(crate) fn new(
+        wire: W,
+        clock: C,
+        alloc: Heap,
+        stall: Duration,
+        notices: SharedNotices,
+    ) -> Gathering<W, C>
         ensures wire { result.wire ≡ wire }
         ensures none { result.waiting.items ≡ [] }
     {
@@ -67,6 +77,7 @@ impl<W: Write + Drop, C: Clock + Drop> Gathering<W, C> {
             waiting: Vec::new(alloc),
             stall,
             stuck_since: None,
+            notices,
         }
     }
 
@@ -84,6 +95,7 @@ impl<W: Write + Drop, C: Clock + Drop> Gathering<W, C> {
         };
         self.stuck_since = Some(since);
         if now.saturating_sub(since) >= self.stall {
+            self.notices.count(Cause::Stalled);
             io::Error::from(ErrorKind::TimedOut)
         } else {
             io::Error::from(ErrorKind::WouldBlock)
@@ -107,7 +119,10 @@ impl<W: Write + Drop, C: Clock + Drop> Write for Gathering<W, C> {
         }
         match self.waiting.extend_from_slice(bytes) {
             Ok(()) => Ok(bytes.len()),
-            Err(_) => Err(io::Error::from(ErrorKind::OutOfMemory)),
+            Err(_) => {
+                self.notices.count(Cause::Unheld);
+                Err(io::Error::from(ErrorKind::OutOfMemory))
+            }
         }
     }
 

@@ -1,5 +1,7 @@
 // A session that is idle fails in its reader, which knows when its last bytes came, so that no contract speaks of time; the
 // poll tells connections on which nothing happened for as long, so that they have a turn.
+use crate::notices::cause::Cause;
+use crate::notices::counted::SharedNotices;
 use crate::socket::link::Link;
 use std::io;
 use std::io::{ErrorKind, Read};
@@ -14,6 +16,7 @@ pub struct Incoming<C: Clock + Drop> {
     idle: Option<Duration>,
     // When the last bytes came, by the clock; at first when the connection was made.
     last: Duration,
+    notices: SharedNotices,
 }
 
 // By hand: rx_heap says why.
@@ -24,19 +27,27 @@ impl<C: Clock + Drop> Drop for Incoming<C> {
             clock: _,
             idle: _,
             last: _,
+            notices: _,
         } = self;
     }
 }
 
 impl<C: Clock + Drop> Incoming<C> {
-    /// The reading half of a connection, whose peer may send nothing for so long.
-    pub fn new(link: Link, clock: C, idle: Option<Duration>) -> Incoming<C> {
+    /// The reading half of a connection, whose peer may send nothing for so long. Where it sent nothing for longer it is counted among
+    /// the notices.
+    pub fn new(
+        link: Link,
+        clock: C,
+        idle: Option<Duration>,
+        notices: SharedNotices,
+    ) -> Incoming<C> {
         let last = clock.monotonic().unwrap_or(Duration::ZERO);
         Incoming {
             link,
             clock,
             idle,
             last,
+            notices,
         }
     }
 
@@ -59,6 +70,7 @@ impl<C: Clock + Drop> Incoming<C> {
         if now.saturating_sub(self.last) < idle {
             return fault;
         }
+        self.notices.count(Cause::Silent);
         io::Error::from(ErrorKind::TimedOut)
     }
 }

@@ -13,6 +13,8 @@ pub(crate) enum Obstacle {
     Abandoned,
     /// A file, a folder or a link stands there.
     Stands,
+    /// Another socket of the same server is to stand there.
+    Taken,
     /// The system refuses it.
     Refused(io::Error),
 }
@@ -33,6 +35,7 @@ impl fmt::Display for Obstacle {
             Obstacle::Abandoned =>
                 "a socket stands there on which nobody listens: takeover = true in [pool] has it removed",
             Obstacle::Stands => "something stands there that is no socket, and is not removed",
+            Obstacle::Taken => "the socket of sessions is to stand there",
             Obstacle::Refused(fault) => return fault.fmt(f),
         })
     }

@@ -1,3 +1,4 @@
+use crate::notices::counted::SharedNotices;
 use crate::socket::gathering::Gathering;
 use crate::socket::link::Link;
 use crate::socket::wire::Wire;
@@ -25,9 +26,15 @@ impl<C: Clock + Drop> Drop for Outgoing<C> {
 
 impl<C: Clock + Drop> Outgoing<C> {
     /// The writing half of a connection. It and what waits take this memory. A flush has failed once the peer took no byte for
-    /// so long while some waited for it.
-    pub fn new(link: Link, clock: C, alloc: &Heap, stall: Duration) -> Result<Outgoing<C>, Memory> {
-        let gathering = Gathering::new(Wire::of(link), clock, alloc.clone()?, stall);
+    /// so long while some waited for it, which is counted among the notices.
+    pub fn new(
+        link: Link,
+        clock: C,
+        alloc: &Heap,
+        stall: Duration,
+        notices: SharedNotices,
+    ) -> Result<Outgoing<C>, Memory> {
+        let gathering = Gathering::new(Wire::of(link), clock, alloc.clone()?, stall, notices);
         match Box::new(alloc.clone()?, gathering) {
             Ok(held) => Ok(Outgoing { held }),
             Err(_) => Err(Memory),

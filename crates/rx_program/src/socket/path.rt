@@ -14,7 +14,7 @@ use crate::socket::obstacle::Obstacle;
 use mio::net::UnixStream;
 use std::fs::{self, File, TryLockError};
 use std::io::{self, ErrorKind};
-use std::os::unix::fs::FileTypeExt;
+use std::os::unix::fs::{FileTypeExt, MetadataExt};
 use std::os::unix::net::UnixListener;
 
 /// The most bytes of a path.
@@ -50,6 +50,33 @@ pub(crate) fn in_the_way<F: Host>(rt: &F, path: &str, takeover: bool) -> Option<
         Ok(_lock) => standing(rt, path).filter(|found| !(takeover && found.is_abandoned())),
         Err(obstacle) => Some(obstacle),
     }
+}
+
+/// What is in the way of a second socket of a server, beside one at another path at which it was looked already.
+pub(crate) fn in_the_way_beside<F: Host>(
+    rt: &F,
+    path: &str,
+    other: &str,
+    takeover: bool,
+) -> Option<Obstacle> {
+    let obstacle = in_the_way(rt, path, takeover);
+    match is_one_lock(rt, path, other) {
+        Ok(true) => Some(Obstacle::Taken),
+        _ => obstacle,
+    }
+}
+
+// Whether the locks beside two paths are one file: then these are one path, however they are written.
+fn is_one_lock<F: Host>(rt: &F, path: &str, other: &str) -> io::Result<bool> {
+    let (mine, others) = (lock_of(rt, path)?, lock_of(rt, other)?);
+    Ok(mine == others)
+}
+
+// By which the system knows the file of the lock beside a path.
+fn lock_of<F: Host>(rt: &F, path: &str) -> io::Result<(u64, u64)> {
+    let name = format!(in rt.alloc(); "{path}.lock")?;
+    let found = fs::symlink_metadata(rt, name.as_str())?;
+    Ok((found.dev(), found.ino()))
 }
 
 // The lock beside a path, which nobody else holds now.

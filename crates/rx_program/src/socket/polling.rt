@@ -2,12 +2,13 @@
 // session that has had its turns for now and would go on has lines in hand, of which the system knows nothing, and its socket
 // may have no room: it stands in a list (`Readiness::again`), once, by which the next wait is none, and is told behind the
 // others that are ready by then.
-ghost use Rattle.std.specs.Prelude.{IfOk};
+ghost use Rattle.std.specs.Prelude.{◌≡◌, IfOk};
 ghost use Rattle.rx_program.specs.WatchLogs.{watched_by};
 ghost use Rattle.rx_workers.specs.Watching.{WatchesNothing};
 
+use crate::notices::counted::SharedNotices;
 use crate::socket::incoming::Incoming;
-use crate::socket::ring::Ring;
+use crate::socket::poll_waker::PollWaker;
 use crate::socket::system_events::SystemEvents;
 use crate::socket::watch_log::WatchLog;
 use rx_heap::Heap;
@@ -15,6 +16,7 @@ use rx_server::{Aim, Readiness, Ready, WatchFault};
 use std::alloc::Global;
 use std::io;
 use std::net::Net;
+use std::os::unix::net::UnixListener;
 use std::time::{Clock, Duration};
 
 /// The readiness of the connections of a Unix socket, by the system's events, and for contracts what it was asked to watch.
@@ -31,25 +33,41 @@ impl<C: Clock + Drop> Drop for Polling<C> {
 }
 
 impl<C: Clock + Drop> Polling<C> {
-    /// It watches nothing, and tells connections on which nothing happened for so long, by this clock.
+    /// It watches nothing, and tells connections on which nothing happened for so long, by this clock. One that can't be watched is
+    /// counted among the notices.
     pub fn new(
         net: &impl Net,
         runtime: Global,
         clock: C,
         heap: &Heap,
         idle: Option<Duration>,
+        notices: SharedNotices,
     ) -> io::Result<Polling<C>>
         ensures { IfOk result (λ polling. WatchesNothing (watched_by polling.log)) }
     {
         Ok(Polling {
-            events: SystemEvents::new(net, runtime, clock, heap, idle)?,
+            events: SystemEvents::new(net, runtime, clock, heap, idle, notices)?,
             log: WatchLog::new(),
         })
     }
 
-    /// A bell that ends its waits.
-    pub fn bell(&self) -> io::Result<Ring> {
-        self.events.bell()
+    /// A waker that ends its waits.
+    pub fn waker(&self) -> io::Result<PollWaker> {
+        self.events.waker()
+    }
+
+    /// Has its waits end too where a connection came to this listener. It tells nothing of it.
+    pub(crate) fn listen(&mut self, listener: &UnixListener) -> io::Result<()>
+        ensures { self.new.log ≡ self.old.log }
+    {
+        self.events.listen(listener)
+    }
+
+    /// Has the next wait end where a connection that came to this listener is still there.
+    pub(crate) fn listen_anew(&mut self, listener: &UnixListener)
+        ensures { self.new.log ≡ self.old.log }
+    {
+        self.events.listen_anew(listener);
     }
 }
 

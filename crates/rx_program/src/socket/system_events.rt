@@ -1,5 +1,7 @@
+use crate::notices::cause::Cause;
+use crate::notices::counted::SharedNotices;
 use crate::socket::incoming::Incoming;
-use crate::socket::ring::Ring;
+use crate::socket::poll_waker::PollWaker;
 use mio::unix::SourceFd;
 use mio::{Events, Interest, Poll, Token, Waker};
 use rx_heap::Heap;
@@ -8,14 +10,19 @@ use std::alloc::Global;
 use std::collections::VecDeque;
 use std::io;
 use std::net::Net;
+use std::os::fd::AsRawFd;
+use std::os::unix::net::UnixListener;
 use std::time::{Clock, Duration};
 
 // How many events of the system are told at a time at most, how many connections on which nothing happened for long, and how
 // many of those that are to be told again.
 const MOST_READY: usize = 256;
 
-// By which the bell is told, as no connection is.
-const BELL: Token = Token(usize::MAX);
+// By which the waker is told, as no connection is.
+const WAKER: Token = Token(usize::MAX);
+
+// By which a listener is.
+const LISTENER: Token = Token(usize::MAX - 1);
 
 // How often it looks for sessions that sent nothing for long, in seconds.
 const LOOK: u64 = 1;
@@ -35,6 +42,7 @@ pub(crate) struct SystemEvents<C: Clock + Drop> {
     // The keys of those that are to be told again, each once, and with room for all.
     again: VecDeque<usize, Heap>,
     looked: Duration,
+    notices: SharedNotices,
 }
 
 // A connection that is watched.
@@ -58,18 +66,21 @@ impl<C: Clock + Drop> Drop for SystemEvents<C> {
             watched: _,
             again: _,
             looked: _,
+            notices: _,
         } = self;
     }
 }
 
 impl<C: Clock + Drop> SystemEvents<C> {
-    /// It watches nothing, and tells connections on which nothing happened for so long, by this clock.
+    /// It watches nothing, and tells connections on which nothing happened for so long, by this clock. One that can't be watched is
+    /// counted among the notices.
     pub(crate) fn new(
         net: &impl Net,
         runtime: Global,
         clock: C,
         heap: &Heap,
         idle: Option<Duration>,
+        notices: SharedNotices,
     ) -> io::Result<SystemEvents<C>> {
         let poll = Poll::new(net)?;
         let events = Events::with_capacity(runtime, MOST_READY)?;
@@ -84,17 +95,40 @@ impl<C: Clock + Drop> SystemEvents<C> {
             watched: Vec::new(heap.clone()?),
             again: VecDeque::new(heap.clone()?),
             looked: Duration::ZERO,
+            notices,
         })
     }
 
-    /// A bell that ends its waits.
-    pub(crate) fn bell(&self) -> io::Result<Ring> {
-        Ok(Ring::new(Waker::new(self.poll.registry(), BELL)?))
+    /// A waker that ends its waits.
+    pub(crate) fn waker(&self) -> io::Result<PollWaker> {
+        Ok(PollWaker::new(Waker::new(self.poll.registry(), WAKER)?))
+    }
+
+    /// Has its waits end too where a connection came to this listener.
+    pub(crate) fn listen(&mut self, listener: &UnixListener) -> io::Result<()> {
+        let descriptor = listener.as_raw_fd();
+        let mut source = SourceFd(&descriptor);
+        self.poll
+            .registry()
+            .register(&mut source, LISTENER, Interest::READABLE)
+    }
+
+    /// Has the next wait end where one that came is still there.
+    pub(crate) fn listen_anew(&mut self, listener: &UnixListener) {
+        let descriptor = listener.as_raw_fd();
+        let mut source = SourceFd(&descriptor);
+        let _ = self
+            .poll
+            .registry()
+            .reregister(&mut source, LISTENER, Interest::READABLE);
     }
 
     /// Watches a connection for bytes.
     pub(crate) fn begin(&mut self, connection: &Incoming<C>, key: usize) -> Result<(), WatchFault> {
-        self.make_room(key)?;
+        let Ok(()) = self.make_room(key) else {
+            self.notices.count(Cause::Unserved);
+            return Err(WatchFault);
+        };
         let descriptor = connection.descriptor();
         let mut source = SourceFd(&descriptor);
         match self
@@ -103,7 +137,10 @@ impl<C: Clock + Drop> SystemEvents<C> {
             .register(&mut source, Token(key), Interest::READABLE)
         {
             Ok(()) => Ok(()),
-            Err(_) => Err(WatchFault),
+            Err(_) => {
+                self.notices.count(Cause::Unwatched);
+                Err(WatchFault)
+            }
         }
     }
 
@@ -141,7 +178,7 @@ impl<C: Clock + Drop> SystemEvents<C> {
         let _ = self.poll.registry().deregister(&mut source);
     }
 
-    /// Waits until one is ready, or until the bell rings.
+    /// Waits until one is ready, or until the waker ends the wait.
     pub(crate) fn wait(&mut self) {
         let most = if self.again.is_empty() {
             self.idle.map(|_| Duration::from_secs(LOOK))
@@ -183,7 +220,7 @@ impl<C: Clock + Drop> SystemEvents<C> {
         }
     }
 
-    // Puts what the system told, all but the bell.
+    // Puts what the system told, all but the waker and the listener.
     fn put_events(&mut self, now: Duration) {
         for event in self.events.iter() {
             let key = event.token().0;

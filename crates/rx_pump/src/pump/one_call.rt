@@ -108,6 +108,7 @@ fn handle_any<S: Drop, R: Wait>(
         ticket,
         result,
         sink,
+        items: parts.hub.items(),
     };
     let last = detach(leaving, result);
     let fault = send(rt, parts, first, outs, last, port, reply);

@@ -187,6 +187,7 @@ fn make_pump<S: Drop>(
         return Err(Memory);
     };
     pump.tell(alloc.clone()?, callers)?;
+    drop(pump.show(alloc.clone()?)?);
     Ok(pump)
 }
 

@@ -13,8 +13,8 @@ use crate::close::{join_drainers, join_pumps};
 use crate::wired::running_pump::{RunningPump, start_pump};
 use crate::wired::start_fault::{Role, StartFault};
 use rx_drain::{Drainer, RunningDrainer, start_drainer};
-use rx_heap::{Heap, room};
-use rx_pump::Pump;
+use rx_heap::{Heap, Memory, room};
+use rx_pump::{Pump, SharedLook};
 use rx_sink::Sink;
 use std::sync::Wait;
 use std::thread::Threads;
@@ -58,6 +58,18 @@ impl<S: Sink> Running<S> {
         for pump in &self.pumps {
             pump.wait(rt);
         }
+    }
+
+    // What shows each subject, in their order.
+    pub(crate) fn shown(&self, alloc: &Heap) -> Result<Vec<SharedLook, Heap>, Memory> {
+        let mut shown = Vec::new(alloc.clone()?);
+        for pump in &self.pumps {
+            let Some(look) = pump.shown() else {
+                return Err(Memory);
+            };
+            shown.push(look)?;
+        }
+        Ok(shown)
     }
 
     // Waits until each thread has ended, and puts what they left into the rooms. `Err`: the first pump that ended by a fault

@@ -2,10 +2,10 @@
 ghost use Rattle.std.specs.Prelude.{◌≡◌, MatchResult, IfOk};
 ghost use Rattle.rx_pump.specs.Serving.{HasPumped, PumpHasFailed};
 
-use rx_pump::{Pump, PumpEnd, PumpFault, SharedHeard};
+use rx_pump::{Pump, PumpEnd, PumpFault, SharedHeard, SharedLook};
 use std::marker::Model;
 use std::snapshot::Snapshot;
-use std::sync::Wait;
+use std::sync::{Arc, Wait};
 use std::thread;
 use std::thread::{Promise, PromisedHandle, Threads};
 
@@ -32,6 +32,7 @@ impl<S: Drop> Promise<Result<PumpEnd<S>, PumpFault>> for PumpPromise<S> {
 pub(crate) struct RunningPump<S: Drop> {
     handle: PromisedHandle<Result<PumpEnd<S>, PumpFault>, PumpPromise<S>>,
     heard: SharedHeard,
+    shown: SharedLook,
 }
 
 // By hand: rx_heap says why.
@@ -40,6 +41,7 @@ impl<S: Drop> Drop for RunningPump<S> {
         let RunningPump {
             handle: _,
             heard: _,
+            shown: _,
         } = self;
     }
 }
@@ -62,12 +64,16 @@ pub(crate) fn start_pump<
     let Ok(own) = rt.clone() else {
         return Err(NoPumpThread);
     };
-    let Some(heard) = pump.heard() else {
+    let (Some(heard), Some(shown)) = (pump.heard(), pump.shown()) else {
         return Err(NoPumpThread);
     };
     let promise = PumpPromise(Snapshot::of(&pump));
     match thread::spawn_with(rt, promise, move || serve(&own, pump)) {
-        Ok(handle) => Ok(RunningPump { handle, heard }),
+        Ok(handle) => Ok(RunningPump {
+            handle,
+            heard,
+            shown,
+        }),
         Err(_) => Err(NoPumpThread),
     }
 }
@@ -88,11 +94,23 @@ impl<S: Drop> RunningPump<S> {
         self.heard.wait(rt);
     }
 
+    // What shows its subject. None where it can't be shared any more.
+    pub(crate) fn shown(&self) -> Option<SharedLook> {
+        match Arc::try_clone(&self.shown) {
+            Ok(shown) => Some(shown),
+            Err(_) => None,
+        }
+    }
+
     // Waits until the thread has ended. It answers what `serve` did, and at a fault that alone.
     pub(crate) fn join<R: Threads>(self, rt: &R) -> Result<PumpEnd<S>, PumpFault>
         ensures { MatchResult result (λ end. HasPumped self end) (λ fault. PumpHasFailed self fault) }
     {
-        let RunningPump { handle, heard: _ } = self;
+        let RunningPump {
+            handle,
+            heard: _,
+            shown: _,
+        } = self;
         handle.join(rt)
     }
 }

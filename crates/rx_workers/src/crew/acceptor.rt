@@ -4,7 +4,7 @@ ghost use Rattle.std.specs.List.{All};
 ghost use Rattle.rx_workers.specs.Accepting.{AcceptsAll, AcceptsNext, HoldsNothing};
 
 use crate::listener::{AcceptFault, Listener};
-use crate::readiness::Bell;
+use crate::readiness::Waker;
 use rx_heap::Heap;
 use rx_mailbox::Port;
 use std::error::Error;
@@ -31,13 +31,13 @@ impl fmt::Display for AcceptStop {
 
 impl Error for AcceptStop {}
 
-/// Accepts so many connections, and sends each to its worker: connection i, from 0, to worker i modulo their number, whose bell
+/// Accepts so many connections, and sends each to its worker: connection i, from 0, to worker i modulo their number, whose waker
 /// rings then. `Err` where the listener fails or a worker is gone; those accepted before went to their workers.
 pub fn accept_all<L: Listener, R: Wait>(
     rt: &R,
     listener: &mut L,
     ports: &mut Vec<Port<(L::Reader, L::Writer)>, Heap>,
-    bells: &Vec<L::Bell, Heap>,
+    wakers: &Vec<L::Waker, Heap>,
     connections: u32,
 ) -> Result<(), AcceptStop>
     requires some { 0 < vec_len ports.old }
@@ -45,7 +45,7 @@ pub fn accept_all<L: Listener, R: Wait>(
     ensures { AcceptsAll L.accepts L.fails connections result listener.old listener.new ports.old.items ports.new.items }
 {
     for number in 0..connections {
-        accept_next(rt, listener, ports, bells, number)?;
+        accept_next(rt, listener, ports, wakers, number)?;
     }
     Ok(())
 }
@@ -55,7 +55,7 @@ fn accept_next<L: Listener, R: Wait>(
     rt: &R,
     listener: &mut L,
     ports: &mut Vec<Port<(L::Reader, L::Writer)>, Heap>,
-    bells: &Vec<L::Bell, Heap>,
+    wakers: &Vec<L::Waker, Heap>,
     number: u32,
 ) -> Result<(), AcceptStop>
     requires some { 0 < vec_len ports.old }
@@ -71,13 +71,13 @@ fn accept_next<L: Listener, R: Wait>(
     let Ok(()) = ports[place].send(rt, connection) else {
         return Err(AcceptStop::WorkerGone(place));
     };
-    ring_at(bells, place);
+    wake_at(wakers, place);
     Ok(())
 }
 
-/// Rings the bell of the worker at this place.
-pub(crate) fn ring_at<B: Bell>(bells: &Vec<B, Heap>, place: usize) {
-    if let Some(bell) = bells.get(place) {
-        bell.ring();
+/// Wakes the worker at this place.
+pub(crate) fn wake_at<B: Waker>(wakers: &Vec<B, Heap>, place: usize) {
+    if let Some(waker) = wakers.get(place) {
+        waker.wake();
     }
 }

@@ -9,16 +9,15 @@ ghost use Rattle.rx_workers.specs.Crews.{SettlesWith, worker_desk};
 ghost use Rattle.rx_workers.specs.Service.{EndsEarly, HasServedJust, IsNewOver};
 ghost use Rattle.rx_workers.specs.Workers.{peers};
 
-use crate::crew::acceptor::ring_at;
-use crate::readiness::{Bell, Readiness};
+use crate::crew::acceptor::wake_at;
+use crate::readiness::{Readiness, Waker};
 use crate::worker::running_worker::RunningWorker;
 use crate::worker::task::dismiss;
 use crate::worker::worker_end::WorkerEnd;
-use rx_desk::Moments;
+use rx_desk::{ClientSink, Moments};
 use rx_heap::Heap;
 use rx_mailbox::{EndedPort, Inbox, Port, settle};
 use rx_pump::CallDesk;
-use rx_sink::LineSink;
 use std::io::{Read, Write};
 use std::marker::Model;
 use std::sync::Wait;
@@ -60,7 +59,7 @@ impl<M: Moments + Drop, C: Read + Drop, W: Write + Drop, P: Readiness<C> + Drop>
 #[derive(Drop)]
 pub(crate) struct ReturnedDesk<W: Write + Drop> {
     /// Its desk, as its calls left it.
-    pub(crate) desk: CallDesk<LineSink<W>>,
+    pub(crate) desk: CallDesk<ClientSink<W>>,
     /// Whether all that was sent to it came, and then its Bye.
     pub(crate) has_all: bool,
 }
@@ -78,13 +77,13 @@ impl<M: Moments + Drop, C: Read + Drop, W: Write + Drop, P: Readiness<C> + Drop>
         Hired { worker, room }
     }
 
-    /// Tells the worker by the port to its inbox that no connection comes any more, rings the bell at this place, and waits until it
+    /// Tells the worker by the port to its inbox that no connection comes any more, wakes it by the waker at this place, and waits until it
     /// has ended. Then its box is settled.
-    pub(crate) fn end<B: Bell, R: Threads + Wait>(
+    pub(crate) fn end<B: Waker, R: Threads + Wait>(
         self,
         rt: &R,
         port: Port<(C, W)>,
-        bells: &Vec<B, Heap>,
+        wakers: &Vec<B, Heap>,
         place: usize,
     ) -> ReturnedDesk<W>
         requires { port.box ≡ self.inbox.box }
@@ -94,7 +93,7 @@ impl<M: Moments + Drop, C: Read + Drop, W: Write + Drop, P: Readiness<C> + Drop>
     {
         let Hired { worker, room } = self;
         let dismissed = dismiss(rt, port);
-        ring_at(bells, place);
+        wake_at(wakers, place);
         let WorkerEnd {
             desk,
             inbox,

@@ -14,11 +14,10 @@ use crate::readiness::Readiness;
 use crate::worker::Worker;
 use crate::worker::running_worker::start_worker;
 use rx_config::Config;
-use rx_desk::Moments;
+use rx_desk::{ClientSink, Moments};
 use rx_heap::{Heap, Memory, room};
 use rx_mailbox::{EndedPort, Inbox, OpenError, Port, open};
 use rx_pump::CallDesk;
-use rx_sink::LineSink;
 use std::io::{Read, Write};
 use std::sync::{Arc, Mutex, Wait};
 use std::thread::Threads;
@@ -81,7 +80,7 @@ fn open_box<T: Drop>(heap: &Heap) -> Result<(Inbox<T>, Port<T>), Memory>
 // A desk for which no worker was hired, and whether there was memory for one.
 #[derive(Drop)]
 struct Unhired<W: Write + Drop> {
-    desk: CallDesk<LineSink<W>>,
+    desk: CallDesk<ClientSink<W>>,
     has_memory: bool,
 }
 
@@ -98,7 +97,7 @@ fn hire<
     config: &Arc<Config, Heap>,
     moments: &Arc<Mutex<M>, Heap>,
     readiness: Idle<C, P>,
-    desk: CallDesk<LineSink<W>>,
+    desk: CallDesk<ClientSink<W>>,
 ) -> Result<(Hired<M, C, W, P>, Port<(C, W)>), Unhired<W>>
     requires { IsFor (arc_value config.now) desk }
     ensures { MatchResult result
@@ -143,7 +142,7 @@ pub(crate) fn hire_all<
     config: &Arc<Config, Heap>,
     moments: &Arc<Mutex<M>, Heap>,
     readiness: &mut Vec<Idle<C, P>, Heap>,
-    desks: &mut Vec<CallDesk<LineSink<W>>, Heap>,
+    desks: &mut Vec<CallDesk<ClientSink<W>>, Heap>,
     workers: &mut Vec<Hired<M, C, W, P>, Heap>,
     ports: &mut Vec<Port<(C, W)>, Heap>,
 ) -> Result<(), ServeFault>

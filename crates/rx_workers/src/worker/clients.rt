@@ -12,29 +12,29 @@ use std::mem;
 
 /// The clients of a worker, each at a place of its own, from 0. Contracts see the list of the places, each with its client or
 /// vacant.
-pub(crate) struct Clients<C: Drop, W: Drop> {
-    places: Vec<Option<Client<C, W>>, Heap>,
+pub struct Clients<C: Drop, W: Drop, T: Drop> {
+    places: Vec<Option<Client<C, W, T>>, Heap>,
 }
 
 // By hand: rx_heap says why.
-impl<C: Drop, W: Drop> Drop for Clients<C, W> {
+impl<C: Drop, W: Drop, T: Drop> Drop for Clients<C, W, T> {
     fn drop(self) {
         let Clients { places: _ } = self;
     }
 }
 
-impl<C: Drop, W: Drop> Model for Clients<C, W> {
+impl<C: Drop, W: Drop, T: Drop> Model for Clients<C, W, T> {
     ghost use Rattle.std.specs.Prelude.{List, Option};
     ghost use Rattle.rx_workers.specs.declared.worker.client.Client.{Client};
 
-    ghost Value = { List (Option (Client C W)) };
+    ghost Value = { List (Option (Client C W T)) };
 
     ghost view = { λ c. c.places.items };
 }
 
-impl<C: Drop, W: Drop> Clients<C, W> {
+impl<C: Drop, W: Drop, T: Drop> Clients<C, W, T> {
     /// No clients.
-    pub(crate) fn new(alloc: Heap) -> Clients<C, W>
+    pub fn new(alloc: Heap) -> Clients<C, W, T>
         ensures { result ≡ [] }
     {
         Clients {
@@ -43,7 +43,7 @@ impl<C: Drop, W: Drop> Clients<C, W> {
     }
 
     /// A place that is vacant: one more, behind the others, where none of them is.
-    pub(crate) fn vacancy(&mut self) -> Result<usize, Memory>
+    pub fn vacancy(&mut self) -> Result<usize, Memory>
         ensures vacant { IfOk result (λ place. client_at place self.new ≡ None) }
         ensures within { IfOk result (λ place. place < length self.new) }
         ensures same { AreSameClients self.old self.new }
@@ -63,7 +63,7 @@ impl<C: Drop, W: Drop> Clients<C, W> {
     }
 
     /// Puts a client at a place, or leaves it vacant.
-    pub(crate) fn put(&mut self, place: usize, client: Option<Client<C, W>>)
+    pub fn put(&mut self, place: usize, client: Option<Client<C, W, T>>)
         requires { place < length self.old }
         ensures { Sets place self.old self.new (client_at place self.old) client }
     {
@@ -71,7 +71,7 @@ impl<C: Drop, W: Drop> Clients<C, W> {
     }
 
     /// Takes the session under way at this place. It is vacant then.
-    pub(crate) fn take_talk(&mut self, place: usize) -> Option<Talk<C, W>>
+    pub fn take_talk(&mut self, place: usize) -> Option<Talk<C, W, T>>
         ensures taken { MatchOption result (self.new ≡ self.old) (λ talk. Sets place self.old self.new (Some (Talks talk)) None) }
         ensures none { IfNone result (¬ IsTalk (client_at place self.old)) }
         ensures within { IfSome result (λ _. place < length self.new) }
@@ -87,7 +87,7 @@ impl<C: Drop, W: Drop> Clients<C, W> {
     }
 
     /// Takes the follower at this place. It is vacant then.
-    pub(crate) fn take_follower(&mut self, place: usize) -> Option<Follower<C>>
+    pub fn take_follower(&mut self, place: usize) -> Option<Follower<C>>
         ensures taken { MatchOption result (self.new ≡ self.old) (λ follower. Sets place self.old self.new (Some (Follows follower)) None) }
         ensures none { IfNone result (¬ IsFollower (client_at place self.old)) }
     {
@@ -102,7 +102,7 @@ impl<C: Drop, W: Drop> Clients<C, W> {
     }
 
     /// Whether no session is under way.
-    pub(crate) fn is_quiet(&self) -> bool
+    pub fn is_quiet(&self) -> bool
         ensures { IsTrue result ↔ IsQuiet self.now }
     {
         none_talks(&self.places)
@@ -110,21 +110,23 @@ impl<C: Drop, W: Drop> Clients<C, W> {
 }
 
 // The first of these places that is vacant.
-fn first_vacant<C: Drop, W: Drop>(places: &Vec<Option<Client<C, W>>, Heap>) -> Option<usize>
+fn first_vacant<C: Drop, W: Drop, T: Drop>(
+    places: &Vec<Option<Client<C, W, T>>, Heap>,
+) -> Option<usize>
     ensures { result ≡ first_vacant places.now.items }
 {
     places.iter().position(|slot| slot.is_none())
 }
 
 // Whether a session is under way at none of these places.
-fn none_talks<C: Drop, W: Drop>(places: &Vec<Option<Client<C, W>>, Heap>) -> bool
+fn none_talks<C: Drop, W: Drop, T: Drop>(places: &Vec<Option<Client<C, W, T>>, Heap>) -> bool
     ensures { IsTrue result ↔ All (λ slot. ¬ IsTalk slot) places.now.items }
 {
     places.iter().all(|slot| !is_talk(slot))
 }
 
 // Whether a session is under way there.
-fn is_talk<C: Drop, W: Drop>(slot: &Option<Client<C, W>>) -> bool
+fn is_talk<C: Drop, W: Drop, T: Drop>(slot: &Option<Client<C, W, T>>) -> bool
     ensures { IsTrue result ↔ IsTalk slot.now }
 {
     matches!(slot, Some(Client::Talks(_)))

@@ -5,35 +5,35 @@
 // though the worker still watches. That an observer has left by then is an answer like any other.
 ghost use Rattle.std.specs.Prelude.{◌≡◌, Some};
 ghost use Rattle.rx_workers.specs.Watching.{IsAimed, Watches, WatchesSame, aim_of};
-ghost use Rattle.rx_workers.specs.Working.{GoesOn, Leaves, goes_at_once, left_by};
+ghost use Rattle.rx_workers.specs.Talks.{GoesOn, Leaves, goes_at_once, left_by};
 
 use crate::readiness::{Aim, Readiness};
 use crate::worker::client::{Client, Follower, Talk};
 use rx_desk::Joined;
 use rx_heap::Heap;
-use rx_session::{OpenSession, SessionEnd, Turn};
+use rx_session::{SessionEnd, Turn};
 
 /// Where a session pauses, and for what its connection was watched: after the last turn for now one that would go on at once
 /// is told again by the next wait.
 #[derive(Clone, Copy)]
-pub(crate) struct Pause {
+pub struct Pause {
     /// The place of the session.
-    pub(crate) place: usize,
+    pub place: usize,
     /// Whether it has no further turn now.
-    pub(crate) is_last: bool,
+    pub is_last: bool,
     /// What its connection is watched for.
-    pub(crate) aim: Aim,
+    pub aim: Aim,
 }
 
 /// What is left by a turn that came to this: whether the session goes on at once, and who is at its place.
-pub(crate) fn leave<C: Drop, W: Drop, P: Readiness<C>>(
+pub fn leave<C: Drop, W: Drop, T: Drop, P: Readiness<C>>(
     turned: Turn<W>,
     reader: C,
-    session: Box<OpenSession, Heap>,
+    session: Box<T, Heap>,
     joined: Option<Joined>,
     pause: Pause,
     readiness: &mut P,
-) -> (bool, Option<Client<C, W>>)
+) -> (bool, Option<Client<C, W, T>>)
     requires { P.watched readiness.old pause.place ≡ Some pause.aim }
     ensures goes_on { result.0 ≡ goes_at_once turned }
     ensures leaves { Leaves turned reader session.value joined result.1 }
@@ -58,12 +58,12 @@ pub(crate) fn leave<C: Drop, W: Drop, P: Readiness<C>>(
 }
 
 // A session that goes on.
-fn talks<C: Drop, W: Drop>(
+fn talks<C: Drop, W: Drop, T: Drop>(
     reader: C,
     writer: W,
-    session: Box<OpenSession, Heap>,
+    session: Box<T, Heap>,
     aim: Aim,
-) -> Option<Client<C, W>>
+) -> Option<Client<C, W, T>>
     ensures goes_on { GoesOn reader writer session.value result }
     ensures aimed { aim_of result ≡ Some aim }
 {
@@ -97,13 +97,13 @@ fn watch<C, P: Readiness<C>>(reader: &C, pause: Pause, aim: Aim, readiness: &mut
 }
 
 // What a session that ended so leaves at its place.
-fn end_at<C: Drop, W: Drop, P: Readiness<C>>(
+fn end_at<C: Drop, W: Drop, T: Drop, P: Readiness<C>>(
     end: SessionEnd,
     reader: C,
     joined: Option<Joined>,
     place: usize,
     readiness: &mut P,
-) -> Option<Client<C, W>>
+) -> Option<Client<C, W, T>>
     ensures left { result ≡ left_by end reader joined }
     ensures watched { Watches place (aim_of result) (P.watched readiness.old) (P.watched readiness.new) }
 {

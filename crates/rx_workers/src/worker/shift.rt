@@ -11,16 +11,20 @@ use crate::worker::parting::{Pause, leave};
 use rx_desk::{Moments, SessionDesk};
 use rx_heap::Heap;
 use rx_mailbox::{Inbox, Letter, Post, TryRecvFault};
+use rx_session::OpenSession;
 use std::io::{Read, Write};
 use std::marker::Model;
 use std::sync::Wait;
+
+// The most reads of one session.
+const MAX_READS: u64 = 4_294_967_296;
 
 /// A worker at work: the desk of its sessions, the inbox of its connections, its clients, and how many sessions it began.
 pub(crate) struct Shift<'a, R, M: Drop, C: Drop, W: Write + Drop> {
     heap: &'a Heap,
     desk: SessionDesk<'a, R, M, W>,
     inbox: Inbox<(C, W)>,
-    clients: Clients<C, W>,
+    clients: Clients<C, W, OpenSession>,
     sessions: u64,
     // A connection may come.
     is_open: bool,
@@ -128,7 +132,8 @@ impl<'a, R: Wait, M: Moments + Drop, C: Read + Drop, W: Write + Drop> Shift<'a, 
         let Letter { from: _, post } = letter;
         match post {
             Post::Body(connection) => {
-                let admitted = admit(self.heap, &mut self.clients, connection, readiness);
+                let session = OpenSession::new(MAX_READS);
+                let admitted = admit(self.heap, &mut self.clients, connection, session, readiness);
                 let Some(_) = admitted else {
                     return true;
                 };

@@ -1,7 +1,7 @@
 use Rattle.std.proofs.Common.{◌∙◌, subst, sym, refl}
 use Rattle.rx_client.proofs.Written.{breaks-none, breaks-on, goes-front, goes-none, goes-on}
 use Rattle.rx_client.specs.Following.{new_follower}
-use Rattle.rx_client.specs.Running.{Goes}
+use Rattle.rx_client.specs.Running.{StepsOn}
 use Rattle.rx_client.specs.declared.follower.Follower.{Follower}
 use Rattle.rx_client.proofs.subscriber.subscribe.Goals as goal
 use Rattle.rx_client.proofs.subscriber.subscribe.Goals.{in-Ok-join+in-Ok-false, in-Err-None}
@@ -13,7 +13,7 @@ pub loop-init : goal.loop-init
 loop-init g c =
     let start = new_follower c.args.wanted.from c.args.wanted.may_overflow in
     let known = g.W.Write.contents c.args.writer.now in
-    (subst (λ (f : Follower). Goes c.args.wanted.format start f known known) (sym c.new.ensures) (goes-none c.args.wanted.format start known), refl)
+    (subst (λ (f : Follower). StepsOn c.args.wanted.format start f known known) (sym c.new.ensures) (goes-none c.args.wanted.format start known), refl)
 
 pub returns-in-Ok-true : goal.returns-in-Ok-true
 returns-in-Ok-true g c = (

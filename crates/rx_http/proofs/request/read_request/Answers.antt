@@ -1,5 +1,5 @@
 -- What the parser found is what the head asks for.
-use Rattle.std.proofs.Common.{◌≡◌, ◌≤◌, ◌<◌, ℕ, List, [], ◌++◌, codes, length, length-take, length-drop, drop, take, Option, Result, refl, ap, ◌∙◌, subst, inl, inr, arith}
+use Rattle.std.proofs.Common.{Bool, ◌≡◌, ◌≤◌, ◌<◌, ℕ, List, [], ◌++◌, codes, length, length-take, length-drop, drop, take, Option, Result, refl, ap, ◌∙◌, subst, inl, inr, arith}
 use Rattle.std.proofs.lemmas.List.{drop_all, length-map}
 use Rattle.httparse.specs.Grammar.{RequestHead, ReadsRequest, print_request}
 use Rattle.httparse.specs.Spans.{IsRequestAt, header_bytes, name_and_value}
@@ -7,6 +7,7 @@ use Rattle.httparse.specs.declared.spans.HeaderSpan.{HeaderSpan}
 use Rattle.httparse.specs.declared.spans.RequestSpans.{RequestSpans}
 use Rattle.httparse.proofs.GrammarLemmas.{request_unique}
 use Rattle.rx_http.specs.Asking.{AsksFor, IsHead, field_in}
+use Rattle.rx_http.specs.Bodies.{HasSize, is_foreign}
 use Rattle.rx_http.specs.declared.request.asked.Asked.{Asked}
 use Rattle.rx_http.specs.declared.answer.refusal.Refusal.{Refusal}
 use Rattle.rx_http.proofs.request.read_request.Goals as goal
@@ -19,10 +20,18 @@ whole bytes headers parts head few room end at = (few, (at.reads.0, at.reads.1 �
     fields : length head.fields ≤ 32
     fields = omega (arith, ap length at.fields, length-map (take parts.headers headers) (header_bytes bytes), length-map head.fields name_and_value, length-take parts.headers headers, room)
 
-asks-as : (method target : List ℕ) (field : Option (List ℕ)) (result : Result Asked Refusal) (method₁ target₁ : List ℕ) (field₁ : Option (List ℕ))
-    → method ≡ method₁ → target ≡ target₁ → field ≡ field₁ → AsksFor method target field result → AsksFor method₁ target₁ field₁ result
-asks-as method target field result method₁ target₁ field₁ m t f asks =
-    subst (λ l. AsksFor l target₁ field₁ result) m (subst (λ l. AsksFor method l field₁ result) t (subst (λ l. AsksFor method target l result) f asks))
+asks-as : (method target : List ℕ) (field : Option (List ℕ)) (foreign : Bool) (size : Option ℕ) (result : Result Asked Refusal) (method₁ target₁ : List ℕ) (field₁ : Option (List ℕ)) (foreign₁ : Bool)
+    → method ≡ method₁ → target ≡ target₁ → field ≡ field₁ → foreign ≡ foreign₁ → AsksFor method target field foreign size result
+    → AsksFor method₁ target₁ field₁ foreign₁ size result
+asks-as method target field foreign size result method₁ target₁ field₁ foreign₁ m t f b asks =
+    subst (λ l. AsksFor l target₁ field₁ foreign₁ size result) m (subst (λ l. AsksFor method l field₁ foreign₁ size result) t
+    (subst (λ l. AsksFor method target l foreign₁ size result) f (subst (λ l. AsksFor method target field l size result) b asks)))
+
+foreign-as : (origin host origin₁ host₁ : Option (List ℕ)) → origin ≡ origin₁ → host ≡ host₁ → is_foreign origin host ≡ is_foreign origin₁ host₁
+foreign-as origin host origin₁ host₁ o h = ap (λ x. is_foreign x host) o ∙ ap (λ x. is_foreign origin₁ x) h
+
+sized-as : (coding length coding₁ length₁ : Option (List ℕ)) (size : Option ℕ) → coding ≡ coding₁ → length ≡ length₁ → HasSize coding length size → HasSize coding₁ length₁ size
+sized-as coding length coding₁ length₁ size c l has = subst (λ o. HasSize o length₁ size) c (subst (λ o. HasSize coding o size) l has)
 
 -- bytes that go on behind a head are none
 longer : (bytes : List ℕ) (len : ℕ) (found head : RequestHead) → len < length bytes → ReadsRequest bytes found (drop len bytes) → ReadsRequest bytes head [] → ⊥
@@ -37,9 +46,17 @@ returns-then-parts-head-clause-read c =
 pub returns-else-parts-head-clause-read : goal.returns-else-parts-head-clause-read
 returns-else-parts-head-clause-read c =
     let (found, at) = rw c.in-Ok-Complete.field-0-is at c.in-Ok-Complete.ensures.complete in
-    let fields = c.field_in-known.ensures ∙ ap (field_in (codes "last-event-id")) at.fields in
+    let in_fields = λ (name : List ℕ). ap (field_in name) at.fields in
+    let known = c.field_in-known.ensures ∙ in_fields (codes "last-event-id") in
+    let origin = c.field_in.ensures ∙ in_fields (codes "origin") in
+    let host = c.field_in-in-Ok-Complete.ensures ∙ in_fields (codes "host") in
+    let foreign = c.is_foreign-is_foreign.ensures ∙ foreign-as _ _ _ _ origin host in
+    let coding = c.field_in-in-Ok-Complete-2.ensures ∙ in_fields (codes "transfer-encoding") in
+    let size = c.field_in-in-Ok-Complete-3.ensures ∙ in_fields (codes "content-length") in
+    let has = sized-as _ _ _ _ c.size_of_body-size.result coding size c.size_of_body-size.ensures in
+    let asks = asks-as _ _ _ _ c.size_of_body-size.result c.asked_for.result found.method found.target _ _ (c.of.ensures ∙ at.method) (c.of-target.ensures ∙ at.path) known foreign c.asked_for.ensures in
     inl (
       found,
       whole c.args.head.now c.parse_request.new.headers c.in-Ok-Complete.parts found c.if-head-gt-MAX_HEAD.false c.parse_request.auto.headers c.if-parts-head.false at,
-      asks-as _ _ _ c.asked_for.result found.method found.target _ (c.of.ensures ∙ at.method) (c.of-in-Ok-Complete.ensures ∙ at.path) fields c.asked_for.ensures,
+      (c.size_of_body-size.result, has, asks),
     )

@@ -28,8 +28,8 @@ answered words kind status left written_old written_new told_old told_new agains
   ]
 ]
 
-pub returns : goal.returns
-returns g c = answered _ _ c.answer.result _ _ _ _ _ c.in-Err.ensures c.answer.ensures
+pub returns-in-Err : goal.returns-in-Err
+returns-in-Err g c = answered _ _ c.answer.result _ _ _ _ _ c.in-Err.ensures c.answer.ensures
 
 pub returns-in-Some : goal.returns-in-Some
 returns-in-Some g c = inr (refl, (inr (c.in-Ok.task, c.in-Ok.ensures, c.in-Some.ensures), (refl, refl)))

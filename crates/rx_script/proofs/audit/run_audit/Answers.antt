@@ -1,7 +1,7 @@
 use Rattle.std.proofs.Common.{Result, sym, subst, ◌∙◌, inr, refl, inl}
 use Rattle.std.proofs.lemmas.Result.{MatchResult-from_err}
 use Rattle.rx_proto.specs.Bytes.{Writes}
-use Rattle.rx_proto.specs.declared.writing.WriteFault.{WriteFault}
+use Rattle.rx_proto.specs.declared.writer.WriteFault.{WriteFault}
 use Rattle.rx_script.specs.Audits.{audit_written, subjects_in}
 use Rattle.rx_script.proofs.Audited.{Prints-all, Prints-none, audits, audits-broken, audits-faulty}
 use Rattle.rx_script.proofs.audit.run_audit.Goals as goal

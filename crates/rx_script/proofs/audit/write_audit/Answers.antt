@@ -6,7 +6,7 @@ use Rattle.rx_script.specs.Audits.{subject_in, subject_written}
 use Rattle.rx_proto.specs.Bytes.{AppendsPrefix}
 use Rattle.rx_lines.specs.Bytes.{Holds, Loses, Puts}
 use Rattle.rx_script.specs.declared.ledger.Ledger.{Ledger}
-use Rattle.rx_proto.specs.declared.writing.WriteFault.{WriteFault}
+use Rattle.rx_proto.specs.declared.writer.WriteFault.{WriteFault}
 use Rattle.rx_script.proofs.Audited.{Writes-held}
 use Rattle.rx_script.proofs.Pieces.{flat_map-next, flat_map-parts}
 use Rattle.rx_lines.proofs.Written.{Holds-then, Loses-more, Loses-then}

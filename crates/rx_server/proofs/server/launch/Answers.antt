@@ -8,7 +8,7 @@ use Rattle.rx_drain.specs.Drainers.{DrainerView}
 use Rattle.rx_server.specs.declared.wired.start_fault.Role.TheVariants.{Pump, Worker}
 use Rattle.rx_server.specs.Servers.{IsEndOf, IsWhole, server_of}
 use Rattle.rx_server.specs.Wirings.{IsWired, desk_of, drainer_of, joined_parts, pump_of}
-use Rattle.rx_server.proofs.Joining.{Rooms-as, drainers-keep, hubs-count, made-count, mapped-count, zip-count}
+use Rattle.rx_server.proofs.Joining.{Rooms-as, desks-few, drainers-keep, hubs-count, made-count, mapped-count, zip-count}
 use Rattle.rx_server.proofs.StartFaults.{memory-for, start-memory, start-run}
 use Rattle.rx_server.proofs.server.launch.Goals as goal
 
@@ -23,7 +23,7 @@ rooms-requires g c =
     let pumps = made-count (pump_of w) (zip hubs w.subjects) parts.pumps.items wired.pumps_are ∙ zip-count hubs w.subjects hubs_count ∙ wired.boxes.subjects in
     let drainers = made-count {D = DrainerView _ _} (drainer_of w c.args.keeps) w.drainers parts.drainers.items wired.drainers_are ∙ wired.boxes.drainers in
     let desks = made-count (desk_of w) w.replies parts.desks.items wired.desks_are ∙ wired.boxes.replies in
-    (omega (arith, drainers, desks, parts.desks.ok, parts.drainers.ok, config.workers_in_range, config.drainers_in_range), omega (arith, pumps, parts.pumps.ok, config.subjects_in_range, config.subjects.ok))
+    (omega (arith, drainers, desks, parts.desks.ok, parts.drainers.ok, (desks-few config).1, config.drainers_in_range), omega (arith, pumps, parts.pumps.ok, config.subjects_in_range, config.subjects.ok))
 
 pub invariant_of-result : goal.invariant_of-result
 invariant_of-result g c =
@@ -110,7 +110,7 @@ returns-in_err-heap-clause-fault g c =
     let p = err_from_is_err_and c.from_residual-in_err-heap.result c.from_residual-in_err-heap.ensures.1 in
     let config = c.args.config in
     let fault = c.in_err-heap.field-0.0 in
-    rw (p.1, p.2) (start-memory config fault (memory-for config fault Worker 0 (omega (arith, config.workers_in_range)) c.in_err-heap.ensures.fault))
+    rw (p.1, p.2) (start-memory config fault (memory-for config fault Worker 0 (omega (arith, (desks-few config).0)) c.in_err-heap.ensures.fault))
 
 pub returns-in_err-running-clause-fault : goal.returns-in_err-running-clause-fault
 returns-in_err-running-clause-fault g c =

@@ -6,7 +6,7 @@ use Rattle.rx_history.specs.Histories.{NoEvents}
 use Rattle.rx_hub.specs.Hubs.{HubView, StandsFor}
 use Rattle.rx_mailbox.specs.Boxes.{Incoming}
 use Rattle.rx_server.specs.declared.wired.start_fault.Role.TheVariants.{Drainer, Pump, Worker}
-use Rattle.rx_server.specs.Wirings.{AreHubsOf, RowView}
+use Rattle.rx_server.specs.Wirings.{AreHubsOf, RowView, desk_count}
 use Rattle.rx_server.proofs.Joining.{boxes-are, desks-wired, drainers-wired, inboxes-count, inboxes-new, leaves-wired, left-count, made-count, pumps-count, pumps-wired, rows-count, rows-have, rows-left}
 use Rattle.rx_server.proofs.StartFaults.{memory-below, memory-for}
 use Rattle.rx_server.proofs.wired.join.Goals as goal
@@ -19,7 +19,7 @@ make_pumps-requires-clause-inboxes g c =
     let config = c.args.config.now in
     let opened = c.requires.boxes.1 in
     let replies = rows-count _ _ _ _ _ _ opened.replies in
-    let enough : length c.args.boxes.now.replies.rows.items ≤ config.workers + config.drainers = omega (arith, replies) in
+    let enough : length c.args.boxes.now.replies.rows.items ≤ desk_count config + config.drainers = omega (arith, replies) in
     inboxes-new _ _ _ (λ (inbox : Incoming _). (inbox.received ≡ []) × (length c.args.boxes.now.replies.rows.items ≤ inbox.ports)) opened.subjects.inboxes_are
     (λ box. (refl, enough))
 
@@ -73,7 +73,7 @@ make_desks-requires-clause-subjects g c =
     let config = c.args.config.now in
     let opened = c.requires.boxes.1 in
     let replies = inboxes-count _ _ _ _ _ _ opened.replies in
-    let enough : length (into_iter_items c.args.boxes.now.replies.inboxes) ≤ config.workers + config.drainers = omega (arith, replies) in
+    let enough : length (into_iter_items c.args.boxes.now.replies.inboxes) ≤ desk_count config + config.drainers = omega (arith, replies) in
     rows-have _ _ _ _ opened.subjects.rows_are enough
 
 pub make_desks-requires-clause-none : goal.make_desks-requires-clause-none
@@ -100,7 +100,7 @@ make_drainers-requires-clause-subjects g c =
     let replies = inboxes-count _ _ _ _ _ _ opened.replies in
     let drainers = inboxes-count _ _ _ _ _ _ opened.drainers in
     let desks = made-count _ _ _ c.in_ok-make_desks.ensures.desks in
-    let enough : length (into_iter_items c.args.boxes.now.drainers.inboxes) + c.make_desks.new.desks.len ≤ config.workers + config.drainers =
+    let enough : length (into_iter_items c.args.boxes.now.drainers.inboxes) + c.make_desks.new.desks.len ≤ desk_count config + config.drainers =
     omega (arith, replies, drainers, desks, c.make_desks.new.desks.ok) in
     rows-left _ _ _ _ _ _ opened.subjects.rows_are c.in_ok-make_desks.ensures.subjects enough
 
@@ -122,7 +122,7 @@ returns-clause-wired g c =
     let replies = inboxes-count _ _ _ _ _ _ opened.replies in
     let pumps = pumps-count _ _ _ _ _ hubs inboxes c.in_ok-make_pumps.ensures.pumps in
     let desks = made-count _ _ _ c.in_ok-make_desks.ensures.desks in
-    let callers : config.workers + config.drainers ≡ length w.replies + length w.drainers = omega (arith, opened.replies.count_is, opened.drainers.count_is) in
+    let callers : desk_count config + config.drainers ≡ length w.replies + length w.drainers = omega (arith, opened.replies.count_is, opened.drainers.count_is) in
     let pumps_done : c.make_pumps.new.pumps.len ≡ length w.subjects = omega (arith, pumps, c.make_pumps.new.pumps.ok, opened.subjects.count_is) in
     let desks_done : c.make_desks.new.desks.len ≡ length w.replies = omega (arith, desks, replies, c.make_desks.new.desks.ok, opened.replies.count_is) in (
       w,

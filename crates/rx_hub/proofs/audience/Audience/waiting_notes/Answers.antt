@@ -15,6 +15,6 @@ returns c = λ default s stands.
     let lt : c.args.place < length subs = omega (arith, c.requires, ap (λ (v : AudienceState). length v.observers) c.self.view_is, observers-length a.tape.items subs) in
     let seen = ap (λ (v : AudienceState). get_or v.observers c.args.place default) (sym c.self.view_is) ∙ observer-at a.tape.items subs c.args.place one default lt c.index.ensures in
     let on = c.self.invariant.0 c.args.place (place_of one) (omega (arith, lt, length-map subs place_of)) in
-    c.waiting_notes.ensures a.tape s
+    c.waiting_notes.ensures.waiting a.tape s
     (subst (λ (p : Place). Stands a.tape false p.seat) (place-at subs c.args.place one (place_of one) lt c.index.ensures) on)
     (subst (λ (o : Observer). lanes.StandsFor o.lane s) seen stands)

@@ -17,7 +17,7 @@ none_owed c = ap (λ (v : LaneView). v.state.owing) c.self.view_is ∙ c.require
 note_is : (c : After-end_queue) → c.in-Some.note ≡ overflow
 note_is c =
     let open_now = ap (λ (v : LaneView). v.state.ended) c.self.view_is ∙ c.requires.open in
-    let kept = kept_where_full (strategy_of c.self.inside.queue) (length (items_of c.self.inside.queue)) c.self.inside.overflow (is_full c) (c.self.invariant open_now) in
+    let kept = kept_where_full (strategy_of c.self.inside.queue) (length (items_of c.self.inside.queue)) c.self.inside.overflow (is_full c) (c.self.invariant.0 open_now) in
     let same : Some c.in-Some.note ≡ Some overflow = sym c.in-Some.is ∙ c.take.ensures.value ∙ kept in
     cc
 

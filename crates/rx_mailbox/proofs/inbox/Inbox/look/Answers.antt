@@ -2,7 +2,7 @@ use Rattle.std.proofs.Common.{rules, ◌≡◌, sym, subst, length, MatchResult}
 use Rattle.std.proofs.lemmas.List.{nil_from_length}
 use Rattle.rx_mailbox.specs.Batches.{carried}
 use Rattle.rx_mailbox.specs.Boxes.{Incoming, with_letter}
-use Rattle.rx_mailbox.specs.Hands.{without, IsHand}
+use Rattle.rx_mailbox.specs.Hands.{so_far, IsHand}
 use Rattle.rx_mailbox.specs.Settling.{letter_count}
 use Rattle.rx_mailbox.proofs.Hands.{opens}
 use Rattle.rx_mailbox.proofs.inbox.Inbox.look.Given as given
@@ -10,10 +10,10 @@ use Rattle.rx_mailbox.proofs.inbox.Inbox.look.Goals as goal
 
 -- what came was opened
 opened : (g : given.Over) (c : goal.After-open_batch g)
-    → (IsHand c.take_by.new.inlet c.in-Ok.came.from c.open_batch.new.hand.items × (c.open_batch.new.letters ≡ letter_count (without c.take_by.new.inlet (length c.open_batch.new.hand.items)).received))
+    → (IsHand c.take_by.new.inlet c.in-Ok.came.from c.open_batch.new.hand.items × (c.open_batch.new.letters ≡ letter_count (so_far c.take_by.new.inlet (length c.open_batch.new.hand.items)).received))
     × MatchResult c.open_batch.result
-    (λ x. without c.take_by.new.inlet (length c.open_batch.new.hand.items) ≡ with_letter (without c.self.inside.inlet (length c.self.inside.hand.items)) x)
-    (λ _. without c.take_by.new.inlet (length c.open_batch.new.hand.items) ≡ without c.self.inside.inlet (length c.self.inside.hand.items))
+    (λ x. so_far c.take_by.new.inlet (length c.open_batch.new.hand.items) ≡ with_letter (so_far c.self.inside.inlet (length c.self.inside.hand.items)) x)
+    (λ _. so_far c.take_by.new.inlet (length c.open_batch.new.hand.items) ≡ so_far c.self.inside.inlet (length c.self.inside.hand.items))
 opened g c =
     let hand = c.self.inside.hand.items in
     let zero : length hand ≡ 0 = search rules in
@@ -27,5 +27,5 @@ invariant_of-self g c =
 
 pub returns-in-Ok-clause-received : goal.returns-in-Ok-clause-received
 returns-in-Ok-clause-received g c = subst (λ (i : Incoming _). MatchResult c.open_batch.result
-    (λ x. without c.take_by.new.inlet (length c.open_batch.new.hand.items) ≡ with_letter i x)
-    (λ _. without c.take_by.new.inlet (length c.open_batch.new.hand.items) ≡ i)) c.self.view_is (opened g c).1
+    (λ x. so_far c.take_by.new.inlet (length c.open_batch.new.hand.items) ≡ with_letter i x)
+    (λ _. so_far c.take_by.new.inlet (length c.open_batch.new.hand.items) ≡ i)) c.self.view_is (opened g c).1

@@ -14,7 +14,7 @@ returns-clause-handles g c =
     let none = c.clear.ensures.items in
     subst (λ (after : HubView). HandlesCall hub after before then c.is_memory.result c.send-fault.result c.args.port c.args.call) (sym c.send-fault.ensures.hub)
     (handled_with hub step.new.self before then step.result step.new.outs.items c.part-first.result.0 c.detach-last.result c.part-first.result.1 c.leaver-leaving.result
-    c.is_memory.result c.send-fault.result c.args.port c.args.call
+    c.items.result c.is_memory.result c.send-fault.result c.args.port c.args.call
     c.is_memory.ensures c.part-first.ensures.attached c.part-first.ensures.back c.leaver-leaving.ensures c.detach-last.ensures
     (record {
       step = λ other H stands. subst (λ (old : List Given). Steps hub.state step.new.self.state old step.new.outs.items step.result H (c.args.port, c.args.call.event)) none (step.ensures.step other H stands);
@@ -23,4 +23,4 @@ returns-clause-handles g c =
       accepted = step.ensures.accepted;
       rules = step.ensures.rules;
     })
-    c.send-fault.ensures.sends)
+    c.items.ensures.count c.send-fault.ensures.sends)

@@ -15,7 +15,7 @@ returns-clause-handles g c = λ ticket.
     let then = ports_of (record c.args.parts.now { hub = c.step-answered.new.self; drainers = c.give_all-outcome.new.drainers }) in
     let step = c.step-answered in
     let none = c.clear.ensures.items in
-    handled_request hub step.new.self before then step.result step.new.outs.items c.is_memory.result c.drainer_gone.result c.args.port c.args.who c.args.n ticket
+    handled_request hub step.new.self before then step.result step.new.outs.items step.new.self.state.subject.count c.is_memory.result c.drainer_gone.result c.args.port c.args.who c.args.n ticket
     c.is_memory.ensures
     (record {
       step = λ other H stands. subst (λ (old : List Given). Steps hub.state step.new.self.state old step.new.outs.items step.result H (c.args.port, Request c.args.who c.args.n)) none (step.ensures.step other H stands);
@@ -24,5 +24,6 @@ returns-clause-handles g c = λ ticket.
       accepted = step.ensures.accepted;
       rules = step.ensures.rules;
     })
-    (sends_notes (map give step.new.outs.items) c.give_all-outcome.result c.drainer_gone.result c.args.port (record { ticket = ticket; result = step.result; sink = None }) before then
+    refl
+    (sends_notes (map give step.new.outs.items) c.give_all-outcome.result c.drainer_gone.result c.args.port (record { ticket = ticket; result = step.result; sink = None; items = step.new.self.state.subject.count }) before then
     c.give_all-outcome.ensures refl (omega (arith, c.requires.silent, c.args.parts.now.replies.ok.0, told-length c.args.parts.now.replies.items)) c.drainer_gone.ensures)

@@ -1,7 +1,7 @@
 use Rattle.std.proofs.Common.{◌≡◌, ◌+◌, ◌-◌, min, List, length, refl, sym, subst, ap, ◌∙◌, arith}
 use Rattle.std.proofs.lemmas.List.{length-drop}
 use Rattle.rx_note.specs.declared.item.Item.{Item}
-use Rattle.rx_tape.specs.Tapes.{TapeState, end_of, lowest, passed, trimmed, without}
+use Rattle.rx_tape.specs.Tapes.{TapeState, end_of, lowest, passed, trimmed, with_fewer}
 use Rattle.rx_tape.proofs.Lows.{lowest-le, le-lowest, held_back, all_kept}
 use Rattle.rx_tape.proofs.tape.Tape.trim.Goals as goal
 use Rattle.rx_tape.proofs.tape.Tape.trim.Goals.{then-len-keep-via-then-len-keep, then-len-keep-via-else-len-keep+then-stands_at}
@@ -52,4 +52,4 @@ returns c =
     c.min-gone.ensures ∙ ap (λ low. min (low - t.front) (c.len-2.result - c.args.keep)) same ∙ ap (λ n. min (lowest t.places (end_of v) - t.front) (n - c.args.keep)) all in
     subst (λ (tape : TapeState). record { front = t.front + c.min-gone.result; items = c.drop_front.new.items.items; places = t.places } ≡ trimmed tape c.args.keep) c.self.view_is
     (ap (λ (left : List Item). record { front = t.front + c.min-gone.result; items = left; places = t.places }) c.drop_front.ensures
-    ∙ ap (without v) gone)
+    ∙ ap (with_fewer v) gone)

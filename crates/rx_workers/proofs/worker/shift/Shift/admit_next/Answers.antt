@@ -3,7 +3,9 @@ use Rattle.std.proofs.Common.{◌∙◌, ap, false, refl, inl, inr, true≢false
 use Rattle.rx_mailbox.specs.Boxes.{Incoming, with_letter}
 use Rattle.rx_mailbox.specs.Letters.{letter}
 use Rattle.rx_mailbox.specs.declared.letter.Post.TheVariants.{Body}
+use Rattle.rx_session.specs.OpenSessions.{IsNew}
 use Rattle.rx_workers.specs.Working.{State, Admitted, GivenUp, Receives, state}
+use Rattle.rx_workers.proofs.Talks.{admits-as}
 use Rattle.rx_workers.proofs.worker.shift.Shift.admit_next.Goals as goal
 
 -- there was no memory for the connection
@@ -28,8 +30,9 @@ returns-in-Some g c =
     let after : State _ _ _ = state c.self.inside.desk c.try_recv.new.self c.admit-admitted.new.clients c.saturating_add-self-inside.result c.self.inside.is_open in
     let received : Receives g.M.Moments.tells g.C.Read.remaining g.W.Write.contents (Body c.in-Body.connection) before after =
     record { from = c.in-Ok.letter.from; of_box = c.in-Ok.ensures.port; inbox = inbox; session = refl } in
+    let begun = admits-as c.new-session.result IsNew c.in-Some.field-0 c.in-Body.connection c.self.inside.clients c.admit-admitted.new.clients c.new-session.ensures.new c.in-Some.ensures.admits in
     rw (← c.self.view_is) (record {
-      came = λ _. (Admitted c.in-Body.connection c.in-Some.field-0, tt, (received, c.in-Some.ensures.admits, c.saturating_add-self-inside.ensures, refl));
+      came = λ _. (Admitted c.in-Body.connection c.in-Some.field-0, tt, (received, begun, c.saturating_add-self-inside.ensures, refl));
       none = λ no. absurd (true≢false no);
       watched = c.in-Some.ensures.watched;
     })

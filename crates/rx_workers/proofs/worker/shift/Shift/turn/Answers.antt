@@ -6,7 +6,7 @@ use Rattle.rx_workers.specs.declared.worker.client.Client.{Client}
 use Rattle.rx_workers.specs.declared.worker.client.Client.TheVariants.{Talks}
 use Rattle.rx_workers.proofs.Places.{Sets-then, is_talk}
 use Rattle.rx_workers.proofs.Watching.{watched-set, watched-there}
-use Rattle.rx_workers.proofs.Working.{talk_left}
+use Rattle.rx_workers.proofs.Talks.{talk_left}
 use Rattle.rx_workers.proofs.worker.shift.Shift.turn.Goals as goal
 
 -- its connection is watched for what it waits for
@@ -40,7 +40,7 @@ returns g c =
       kept = λ none. absurd (none talks);
       talks = λ at_once. (
         talks,
-        subst (λ (client : Option (Client _ _)). IsTalk client) (sym had.sets.is_there)
+        subst (λ (client : Option (Client _ _ _)). IsTalk client) (sym had.sets.is_there)
             (talk_left c.turn-turned.result c.turn-turned.new.reader c.turn-turned.new.self c.turn-turned.new.desk.joined c.leave-goes_on.result.1 (sym c.leave-goes_on.ensures.goes_on ∙ at_once) had.leaves),
       );
       watched =

@@ -1,0 +1,422 @@
+ghost use Rattle.std.specs.Prelude.{◌≡◌, ◌-◌, ◌^◌, ◌<◌, ◌&&◌, ◌⊎◌, length};
+ghost use Rattle.rx_http.specs.declared.answer.refusal.Refusal.TheVariants as causes;
+ghost use Rattle.rx_desk.specs.ClientSinks.{writer_of};
+ghost use Rattle.rx_desk.specs.EventDesks.{cause_in, cause_of, event_sink, has_reply, held_with, is_bounded, joining_by, request_cause, requested_by};
+
+use crate::askers::Askers;
+use crate::client_sink::ClientSink;
+use crate::emitted_note::{emitted_by, note_of};
+use crate::grants::Grants;
+use crate::joined::Joined;
+use crate::moments::Moments;
+use crate::responses::{has_joined, sink_back};
+use crate::session_desk::SessionDesk;
+use rx_events::EventSink;
+use rx_exchange::{Front, Joining};
+use rx_heap::{Heap, Memory};
+use rx_http::{Begin, Credit, Document, Epoch, LookForm, NoteKind, ObserverId, Refusal};
+use rx_hub::SubjectLook;
+use rx_note::{Answer, Note, Policy, Strategy};
+use rx_proto::Name;
+use rx_pump::{CallError, Reply, SharedLook};
+use rx_stats::page_of;
+use std::io::Write;
+use std::marker::Model;
+use std::sync::Wait;
+
+/// The desk of browsers: it finds the subject of a name in the configuration, and makes one call to it, the emission of a note, or a Join
+/// with a sink that tells the observer's notes as events. It holds no more observers at a time than there may be readers.
+pub struct EventDesk<'a, R, M: Drop, W: Write + Drop> {
+    session: SessionDesk<'a, R, M, W>,
+    // The memory for the sinks.
+    heap: &'a Heap,
+    epoch: Epoch,
+    grants: Grants,
+    // What shows each subject.
+    looks: Vec<SharedLook, Heap>,
+    // How many observers joined and were not disposed of.
+    held: u32,
+    // Those of them whose readers ask for items themselves.
+    askers: Askers,
+    // Each call so far had a reply.
+    is_well: bool,
+}
+
+// By hand: rx_heap says why.
+impl<'a, R, M: Drop, W: Write + Drop> Drop for EventDesk<'a, R, M, W> {
+    fn drop(self) {
+        let EventDesk {
+            session: _,
+            heap: _,
+            epoch: _,
+            grants: _,
+            looks: _,
+            held: _,
+            askers: _,
+            is_well: _,
+        } = self;
+    }
+}
+
+impl<'a, R, M: Drop, W: Write + Drop> Model for EventDesk<'a, R, M, W> {
+    ghost use Rattle.rx_desk.specs.Askers.{observers_in};
+    ghost use Rattle.rx_desk.specs.EventDesks.{EventView};
+    ghost use Rattle.rx_desk.specs.declared.client_sink.ClientSink.{ClientSink};
+
+    ghost Value = { EventView M (ClientSink W) };
+
+    ghost view = { λ d. record { session = d.session; epoch = d.epoch; grants = d.grants; held = d.held; asking = observers_in d.askers; is_well = d.is_well } };
+}
+
+impl<'a, R, M: Drop, W: Write + Drop> EventDesk<'a, R, M, W> {
+    ghost use Rattle.std.specs.Prelude.{true, []};
+
+    /// The desk of the browsers of a server of this epoch that grants them so much, over a session's desk that begins. The sinks of readers
+    /// stand in this memory, and by `looks` the subjects are seen, in their order.
+    pub fn new(
+        session: SessionDesk<'a, R, M, W>,
+        heap: &'a Heap,
+        epoch: Epoch,
+        grants: Grants,
+        looks: Vec<SharedLook, Heap>,
+    ) -> EventDesk<'a, R, M, W>
+        ensures { result ≡ record { session = session.entry; epoch = epoch; grants = grants; held = 0; asking = []; is_well = true } }
+    {
+        EventDesk {
+            session,
+            heap,
+            epoch,
+            grants,
+            looks,
+            held: 0,
+            askers: Askers::new(),
+            is_well: true,
+        }
+    }
+
+    /// The session's desk by which it made its calls.
+    pub fn into_session(self) -> SessionDesk<'a, R, M, W>
+        ensures { result ≡ self.entry.session }
+    {
+        let EventDesk {
+            session,
+            heap: _,
+            epoch: _,
+            grants: _,
+            looks: _,
+            held: _,
+            askers: _,
+            is_well: _,
+        } = self;
+        session
+    }
+
+    /// Whom the last call made that a Join was sent by, if it made an observer.
+    pub fn joined(&self) -> Option<Joined>
+        ensures { result ≡ self.now.session.joined }
+    {
+        self.session.joined()
+    }
+}
+
+impl<'a, R: Wait, M: Moments + Drop, W: Write + Drop> EventDesk<'a, R, M, W> {
+    ghost use Rattle.rx_desk.specs.EventDesks.{AsksFor, AsksWith, EmitsNote, HasLooked, IsRefused, KeepsRest, PartsWith, RequestsAt};
+    ghost use Rattle.rx_desk.specs.SessionDesks.{LooksAt};
+
+    // Asks for an observer at the subject at this place, with this sink. Where there is no memory for the place of one that asks itself
+    // no call is made.
+    fn ask(
+        &mut self,
+        place: usize,
+        policy: Policy,
+        credit: Credit,
+        sink: ClientSink<W>,
+    ) -> Joining<W>
+        requires subject { place < length self.old.session.subjects }
+        requires room { self.old.held < 2 ^ 32 - 1 }
+        ensures { IsRefused causes.Memory self.old (writer_of sink) result self.new ⊎ AsksWith M.tells self.old policy credit sink result self.new place }
+    {
+        let Ok(()) = self.askers.make_room(self.heap) else {
+            return Joining::Back(Refusal::Memory, sink.into_writer());
+        };
+        let first = credit.window.min(self.session.window());
+        let answered = self.session.join(place, policy, first, sink);
+        self.held = held_with(self.held, has_joined(&answered));
+        self.is_well = both(self.is_well, has_reply(&answered));
+        if credit.asked
+            && let Some(observer) = self.session.joined()
+        {
+            self.askers.add(observer);
+        }
+        joining_by(answered)
+    }
+
+    // Emits a note of this kind at the subject at this place.
+    fn emit_at(&mut self, place: usize, kind: NoteKind, note: Note) -> Result<Option<u32>, Refusal>
+        requires { place < length self.old.session.subjects }
+        ensures { EmitsNote M.tells self.old kind note result self.new place }
+    {
+        let answered = self.session.emit_at(place, note);
+        self.is_well = both(self.is_well, has_reply(&answered));
+        emitted_by(kind, &answered)
+    }
+
+    // Asks for items for an observer at the subject at this place, if it asks itself.
+    fn request_at(&mut self, place: usize, observer: ObserverId, items: u32) -> Result<(), Refusal>
+        requires { place < length self.old.session.subjects }
+        ensures { RequestsAt self.old observer items result self.new place }
+    {
+        let ObserverId { epoch, who } = observer;
+        let joined = Joined {
+            subject: place,
+            who,
+        };
+        if epoch != self.epoch || !self.askers.has(joined) {
+            return Err(Refusal::Observer);
+        }
+        self.ask_for(place, who, items)
+    }
+
+    // Asks for items for an observer at the subject at this place.
+    fn ask_for(&mut self, place: usize, who: u32, items: u32) -> Result<(), Refusal>
+        requires { place < length self.old.session.subjects }
+        ensures { AsksFor self.old who items result self.new place }
+    {
+        let answered = self.session.request(place, who, items);
+        self.is_well = both(self.is_well, has_reply(&answered));
+        requested_by(&answered)
+    }
+
+    // What is seen of each subject, in their order.
+    fn look(&mut self) -> Result<Vec<Option<SubjectLook>, Heap>, Memory>
+        ensures { HasLooked self.old self.new }
+    {
+        let mut seen = Vec::new(self.heap.clone()?);
+        let count = self.session.subjects().len();
+        for place in 0..count {
+            seen.push(self.look_at(place))?;
+        }
+        Ok(seen)
+    }
+
+    // What is seen of the subject at this place.
+    fn look_at(&mut self, place: usize) -> Option<SubjectLook>
+        requires { place < length self.old.session.subjects }
+        ensures looks { LooksAt self.old.session place self.new.session }
+        ensures rest { KeepsRest self.old self.new }
+    {
+        match self.looks.get(place) {
+            Some(shown) => self.session.look(place, shown),
+            None => None,
+        }
+    }
+
+    /// Disposes of an observer, by one call to its subject; one that has left by then is refused there.
+    pub fn dispose(&mut self, observer: Joined)
+        ensures { PartsWith self.old observer self.new }
+    {
+        self.session.dispose(observer);
+        self.askers.remove(observer);
+        self.held = self.held.saturating_sub(1);
+    }
+}
+
+impl<'a, R: Wait, M: Moments + Drop, W: Write + Drop> Front<W> for EventDesk<'a, R, M, W> {
+    ghost use Rattle.std.specs.Prelude.{◌≡◌};
+    ghost use Rattle.rx_desk.specs.EventDesks.{emits, joins, requests, shows};
+
+    ghost since = { λ desk epoch. epoch ≡ desk.epoch };
+
+    ghost looks = { λ desk well. well ≡ desk.is_well };
+
+    ghost joins = { joins M.tells };
+
+    ghost emits = { emits M.tells };
+
+    ghost requests = { requests };
+
+    ghost shows = { shows };
+
+    fn epoch(&self) -> &Epoch {
+        &self.epoch
+    }
+
+    fn is_well(&self) -> bool {
+        self.is_well
+    }
+
+    fn join(
+        &mut self,
+        subject: &Name,
+        policy: Policy,
+        credit: Credit,
+        begin: Begin,
+        writer: W,
+    ) -> Joining<W> {
+        let Some(place) = self.session.place_of(subject) else {
+            return Joining::Back(Refusal::Subject, writer);
+        };
+        if self.held >= self.grants.readers {
+            return Joining::Back(Refusal::Full, writer);
+        }
+        let sink = sink_over(writer, &self.epoch, begin, policy.strategy(), credit.asked);
+        match ClientSink::events(self.heap, sink) {
+            Ok(sink) => self.ask(place, policy, credit, sink),
+            Err(writer) => Joining::Back(Refusal::Memory, writer),
+        }
+    }
+
+    fn emit(
+        &mut self,
+        subject: &Name,
+        kind: NoteKind,
+        text: &[u8],
+    ) -> Result<Option<u32>, Refusal> {
+        if !self.grants.may_emit {
+            return Err(Refusal::ReadOnly);
+        }
+        let Some(place) = self.session.place_of(subject) else {
+            return Err(Refusal::Subject);
+        };
+        let note = note_of(self.session.memory_at(place), kind, text)?;
+        self.emit_at(place, kind, note)
+    }
+
+    fn request(&mut self, subject: &Name, observer: ObserverId, items: u32) -> Result<(), Refusal> {
+        match self.session.place_of(subject) {
+            Some(place) => self.request_at(place, observer, items),
+            None => Err(Refusal::Subject),
+        }
+    }
+
+    fn show(&mut self, form: LookForm) -> Result<Document, Refusal> {
+        let Ok(seen) = self.look() else {
+            return Err(Refusal::Memory);
+        };
+        let told = page_of(
+            self.heap,
+            form,
+            &self.epoch,
+            self.session.subjects(),
+            seen.as_slice(),
+        );
+        match told {
+            Ok(bytes) => Document::new(bytes).ok_or(Refusal::Memory),
+            Err(_) => Err(Refusal::Memory),
+        }
+    }
+}
+
+// The sink that tells an observer of this strategy by a writer, from where its reader begins.
+fn sink_over<W: Write + Drop>(
+    writer: W,
+    epoch: &Epoch,
+    begin: Begin,
+    strategy: Strategy,
+    asked: bool,
+) -> EventSink<W>
+    ensures { result ≡ event_sink writer epoch.now begin strategy asked }
+{
+    let Some(epoch) = Epoch::new(epoch.as_bytes()) else {
+        unreachable!()
+    };
+    let sink = EventSink::gathering(writer, epoch, begin, is_bounded(strategy));
+    if asked { sink.asked() } else { sink }
+}
+
+// Whether an observer of this strategy may end by an overflow.
+fn is_bounded(strategy: Strategy) -> bool
+    ensures { result ≡ is_bounded strategy }
+{
+    matches!(strategy, Strategy::Bounded(_))
+}
+
+// How many observers are held, with one more where a call made it.
+fn held_with(held: u32, joined: bool) -> u32
+    requires { held < 2 ^ 32 - 1 }
+    ensures { result ≡ held_with held joined }
+{
+    if joined { held + 1 } else { held }
+}
+
+fn both(one: bool, other: bool) -> bool
+    ensures { result ≡ (one && other) }
+{
+    one && other
+}
+
+// Whether a call had a reply.
+fn has_reply<S>(answered: &Result<Reply<S>, CallError<S>>) -> bool
+    ensures { result ≡ has_reply answered.now }
+{
+    answered.is_ok()
+}
+
+// What becomes of the writer, by the answer to the call of its sink.
+fn joining_by<W: Write + Drop>(
+    answered: Result<Reply<ClientSink<W>>, CallError<ClientSink<W>>>,
+) -> Joining<W>
+    ensures { result ≡ joining_by answered }
+{
+    if has_joined(&answered) {
+        return Joining::Taken;
+    }
+    let cause = cause_of(&answered);
+    match sink_back(answered) {
+        None => Joining::Taken,
+        Some(sink) => Joining::Back(cause, sink.into_writer()),
+    }
+}
+
+// Why a Join is refused whose call was answered so.
+fn cause_of<S>(answered: &Result<Reply<S>, CallError<S>>) -> Refusal
+    ensures { result ≡ cause_of answered.now }
+{
+    match answered {
+        Ok(reply) => cause_in(reply.result),
+        Err(_) => Refusal::Gone,
+    }
+}
+
+// Why a Join is refused, by what its subject answered.
+fn cause_in(answered: Result<Answer, rx_note::Refusal>) -> Refusal
+    ensures { result ≡ cause_in answered }
+{
+    match answered {
+        Err(rx_note::Refusal::Full) => Refusal::Full,
+        Err(rx_note::Refusal::Spent) => Refusal::Spent,
+        Err(rx_note::Refusal::Memory) => Refusal::Memory,
+        Ok(_)
+        | Err(
+            rx_note::Refusal::Ended
+            | rx_note::Refusal::ZeroRequest
+            | rx_note::Refusal::NoObserver
+            | rx_note::Refusal::TooMuch,
+        ) => Refusal::Gone,
+    }
+}
+
+// What a request of items is answered whose call was answered so.
+fn requested_by<S>(answered: &Result<Reply<S>, CallError<S>>) -> Result<(), Refusal>
+    ensures { result ≡ requested_by answered.now }
+{
+    match answered {
+        Ok(reply) => match reply.result {
+            Ok(_) => Ok(()),
+            Err(refusal) => Err(request_cause(refusal)),
+        },
+        Err(_) => Err(Refusal::Gone),
+    }
+}
+
+// Why a request of items is refused, by what its subject answered.
+fn request_cause(refusal: rx_note::Refusal) -> Refusal
+    ensures { result ≡ request_cause refusal }
+{
+    match refusal {
+        rx_note::Refusal::NoObserver | rx_note::Refusal::Ended => Refusal::Observer,
+        rx_note::Refusal::ZeroRequest | rx_note::Refusal::TooMuch => Refusal::Items,
+        rx_note::Refusal::Memory => Refusal::Memory,
+        rx_note::Refusal::Full | rx_note::Refusal::Spent => Refusal::Gone,
+    }
+}

@@ -1,0 +1,8 @@
+/// What a server grants to browsers.
+#[derive(Clone, Copy, Debug, PartialEq, Eq)]
+pub struct Grants {
+    /// How many readers are held at a time at most.
+    pub readers: u32,
+    /// Whether notes may be emitted, or readers alone are served.
+    pub may_emit: bool,
+}

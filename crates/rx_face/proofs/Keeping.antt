@@ -1,0 +1,115 @@
+-- What an exchange keeps of its desk.
+use Rattle.std.proofs.Common.{◌≡◌, ℕ, zero, suc, Bool, true, false, List, Option, None, Some, MatchBool, MatchOption, Result, Ok, Err, ap, inl, inr}
+use Rattle.rx_desk.specs.EventDesks.{AsksFor, EmitsAt, EventView, IsRefused, IsUnasked, IsUngranted, JoinsAt, RequestsAt, asks_itself, emits, joins, requests}
+use Rattle.rx_desk.specs.SessionDesks.{KeepsSession, Looks, LooksAt, SessionView, place_of}
+use Rattle.rx_desk.specs.declared.client_sink.ClientSink.{ClientSink}
+use Rattle.rx_exchange.specs.Meetings.{Meets}
+use Rattle.rx_exchange.specs.Meetings as meetings
+use Rattle.rx_exchange.specs.declared.exchange.Exchange.{Exchange}
+use Rattle.rx_exchange.specs.declared.joining.Joining.{Joining}
+use Rattle.rx_http.specs.Begins.{begin_by}
+use Rattle.rx_http.specs.declared.answer.Answer.{Answer}
+use Rattle.rx_http.specs.declared.answer.refusal.Refusal.{Refusal}
+use Rattle.rx_http.specs.declared.answer.refusal.Refusal.TheVariants as causes
+use Rattle.rx_http.specs.declared.request.asked.Asked.{Asked}
+use Rattle.rx_http.specs.declared.request.asked.Asked.TheVariants.{Emission, Events, Health, Look, Request}
+use Rattle.rx_http.specs.declared.request.note_kind.NoteKind.{NoteKind}
+use Rattle.rx_http.specs.declared.request.begin.Begin.{Begin}
+use Rattle.rx_http.specs.declared.request.credit.Credit.{Credit}
+use Rattle.rx_http.specs.declared.request.observer_id.ObserverId.{ObserverId}
+use Rattle.rx_note.specs.Choices.{Choice}
+use Rattle.rx_session.specs.declared.turn.Turn.{Turn}
+use Rattle.rx_workers.proofs.Sessions.{keeps-equal, keeps-then}
+use Rattle.rx_workers.specs.declared.worker.client.Talk.{Talk}
+use Rattle.rx_face.specs.Facing.{TakesTurn, calls}
+
+-- in both cases
+match_option : {X : Type 0} (o : Option X) (A : Type 0) (B : X → Type 0) (P : Type 0) → (A → P) → ((x : X) → B x → P) → MatchOption o A B → P
+match_option None A B P none some m = none m
+match_option (Some x) A B P none some m = some x m
+
+module _ {M W : Type 0} where
+  -- the desk of a face keeps that of its calls
+  abbrev pub Kept : EventView M (ClientSink W) → EventView M (ClientSink W) → Type 0
+  Kept before after = KeepsSession before.session after.session
+
+  pub kept-equal : (s t : EventView M (ClientSink W)) → t ≡ s → Kept s t
+  kept-equal s t same = keeps-equal s.session t.session (ap (λ (v : EventView M (ClientSink W)). v.session) same)
+
+module _ {M W : Type 0} (tells : M → ℕ → M → Type 0) where
+  -- a Join at a subject
+  at_keeps : (s : EventView M (ClientSink W)) (policy : Choice) (credit : Credit) (begin : Begin) (writer : W) (joining : Joining W) (t : EventView M (ClientSink W)) (subject : ℕ)
+      → JoinsAt tells s policy credit begin writer joining t subject → Kept s t
+  at_keeps s policy credit begin writer joining t subject (inl full) = kept-equal s t full.1.1
+  at_keeps s policy credit begin writer joining t subject (inr (room, inl refused)) = kept-equal s t refused.1
+  at_keeps s policy credit begin writer joining t subject (inr (room, inr by)) = by.2.asks.once.kept
+
+  -- at the subject of a name
+  join_keeps : (s : EventView M (ClientSink W)) (name : List ℕ) (policy : Choice) (credit : Credit) (begin : Begin) (writer : W) (joining : Joining W) (t : EventView M (ClientSink W))
+      → joins tells s name policy credit begin writer joining t → Kept s t
+  join_keeps s name policy credit begin writer joining t j =
+      match_option (place_of name s.session.subjects) (IsRefused causes.Subject s writer joining t) (JoinsAt tells s policy credit begin writer joining t) (Kept s t)
+      (λ refused. kept-equal s t refused.1) (at_keeps s policy credit begin writer joining t) j
+
+  -- an emission at a subject
+  emit_at_keeps : (s : EventView M (ClientSink W)) (kind : NoteKind) (text : List ℕ) (emitted : Result (Option ℕ) Refusal) (t : EventView M (ClientSink W)) (subject : ℕ)
+      → EmitsAt tells s kind text emitted t subject → Kept s t
+  emit_at_keeps s kind text emitted t subject (inl refused) = kept-equal s t refused.2.1
+  emit_at_keeps s kind text emitted t subject (inr emits) = emits.asks.once.kept
+
+  -- at the subject of a name
+  emit_keeps : (s : EventView M (ClientSink W)) (name : List ℕ) (kind : NoteKind) (text : List ℕ) (emitted : Result (Option ℕ) Refusal) (t : EventView M (ClientSink W))
+      → emits tells s name kind text emitted t → Kept s t
+  emit_keeps s name kind text emitted t (inl read_only) = kept-equal s t read_only.1.1
+  emit_keeps s name kind text emitted t (inr may) =
+      match_option (place_of name s.session.subjects) (IsUnasked tells causes.Subject s emitted t) (EmitsAt tells s kind text emitted t) (Kept s t)
+      (λ refused. kept-equal s t refused.1) (emit_at_keeps s kind text emitted t) may.1
+
+module _ {M W : Type 0} where
+  -- a request of items at a subject
+  request_at_keeps : (s : EventView M (ClientSink W)) (observer : ObserverId) (items : ℕ) (asked : Result (Unit {0}) Refusal) (t : EventView M (ClientSink W)) (subject : ℕ) (asks : Bool)
+      → MatchBool asks (AsksFor s observer.who items asked t subject) (IsUngranted causes.Observer s asked t) → Kept s t
+  request_at_keeps s observer items asked t subject true for = for.asks.kept
+  request_at_keeps s observer items asked t subject false refused = kept-equal s t refused.1
+
+  -- at the subject of a name
+  request_keeps : (s : EventView M (ClientSink W)) (name : List ℕ) (observer : ObserverId) (items : ℕ) (asked : Result (Unit {0}) Refusal) (t : EventView M (ClientSink W))
+      → requests s name observer items asked t → Kept s t
+  request_keeps s name observer items asked t r =
+      match_option (place_of name s.session.subjects) (IsUngranted causes.Subject s asked t) (RequestsAt s observer items asked t) (Kept s t)
+      (λ refused. kept-equal s t refused.1) (λ subject at. request_at_keeps s observer items asked t subject (asks_itself s observer subject) at) r
+
+  -- a look at a subject
+  look_keeps : (s t : SessionView M (ClientSink W)) (subject : ℕ) → LooksAt s subject t → KeepsSession s t
+  look_keeps s t subject (inl same) = keeps-equal s t same
+  look_keeps s t subject (inr asks) = asks.kept
+
+  -- at some of them
+  looks_keep : (count : ℕ) (s t : SessionView M (ClientSink W)) → Looks count s t → KeepsSession s t
+  looks_keep zero s t same = keeps-equal s t same
+  looks_keep (suc count) s t (mid, looks, at) = keeps-then s mid t (looks_keep count s mid looks) (look_keeps mid t count at)
+
+module _ {M C W : Type 0} (tells : M → ℕ → M → Type 0) (remaining : C → Option (List ℕ)) (contents : W → Option (List ℕ)) where
+  -- a Join from where its reader begins
+  begin_keeps : (s : EventView M (ClientSink W)) (name : List ℕ) (policy : Choice) (credit : Credit) (begin : Option Begin) (writer : W) (met : Option (Answer × W)) (t : EventView M (ClientSink W))
+      → meetings.JoinsAt (calls tells remaining contents) s name policy credit begin writer met t → Kept s t
+  begin_keeps s name policy credit None writer met t j = kept-equal s t j.0
+  begin_keeps s name policy credit (Some begin) writer met t j = join_keeps tells s name policy credit begin writer j.0 t j.1
+
+  -- what was asked for
+  meet_keeps : (s : EventView M (ClientSink W)) (writer : W) (asked : Result Asked Refusal) (text : List ℕ) (met : Option (Answer × W)) (t : EventView M (ClientSink W))
+      → Meets (calls tells remaining contents) s writer asked text met t → Kept s t
+  meet_keeps s writer (Ok (Events subject policy credit known)) text met t m = begin_keeps s subject policy credit (begin_by m.0 known) writer met t m.2
+  meet_keeps s writer (Ok (Emission subject kind size)) text met t m = emit_keeps tells s subject kind text m.0 t m.1
+  meet_keeps s writer (Ok (Request subject observer items)) text met t m = request_keeps s subject observer items m.0 t m.1
+  meet_keeps s writer (Ok (Look form)) text met t m = looks_keep m.1.0 s.session t.session m.1.1.0
+  meet_keeps s writer (Ok Health) text met t m = kept-equal s t m.0
+  meet_keeps s writer (Err cause) text met t m = kept-equal s t m.0
+
+  -- ANY TURN
+  pub turn_keeps : (result : Turn W) (talk : Talk C W Exchange) (reader : C) (exchange : Exchange) (before after : EventView M (ClientSink W))
+      → TakesTurn tells remaining contents result talk reader exchange before after → Kept before after
+  turn_keeps result talk reader exchange before after turn = elim turn.asks_once [
+    | inl same ↦ kept-equal before after same
+    | inr (asked, text, met, meets) ↦ meet_keeps before talk.writer asked text met after meets
+  ]

@@ -1,0 +1,19 @@
+use crate::Closer;
+use rx_desk::Grants;
+use rx_http::Epoch;
+use rx_workers::{Idle, Readiness};
+
+/// What a face begins with, beside its desk.
+#[derive(Drop)]
+pub struct Entrance<M: Drop, C, P: Readiness<C> + Drop, B: Closer + Drop> {
+    /// Where its connections come from, and what it waits by.
+    pub doorway: Idle<C, P>,
+    /// What closes that.
+    pub closer: B,
+    /// Where its moments come from.
+    pub moments: M,
+    /// The epoch of this start of the server.
+    pub epoch: Epoch,
+    /// What is granted to those who come.
+    pub grants: Grants,
+}

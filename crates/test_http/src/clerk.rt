@@ -1,0 +1,164 @@
+//! A server that notes what exchanges ask it for.
+
+use crate::drips::{Drips, Page};
+use rx_exchange::{Exchange, Front, Joining};
+use rx_heap::Heap;
+use rx_http::{Begin, Credit, Document, Epoch, LookForm, NoteKind, ObserverId, Refusal};
+use rx_note::Policy;
+use rx_proto::Name;
+use rx_session::{SessionEnd, Turn};
+use std::test::Fail;
+
+const EPOCH: &[u8] = b"1a21de595e8";
+
+// More turns than any row takes.
+const MOST_TURNS: u32 = 10_000;
+
+/// A server that has one subject, `trades`, and keeps a writer or gives it back. It notes how it was asked to have a reader join.
+#[derive(Drop)]
+pub(crate) struct Clerk {
+    epoch: Epoch,
+    well: bool,
+    refuses: Option<Refusal>,
+    pub(crate) asked: u32,
+    pub(crate) policy: Option<Policy>,
+    pub(crate) credit: Option<Credit>,
+    pub(crate) begin: Option<Begin>,
+    /// The note that was emitted last: its kind and its text.
+    pub(crate) kind: Option<NoteKind>,
+    pub(crate) text: Vec<u8, Heap>,
+}
+
+pub(crate) fn clerk_of(heap: &Heap, well: bool, refuses: Option<Refusal>) -> Result<Clerk, Fail> {
+    let Some(epoch) = Epoch::new(EPOCH) else {
+        return Err(Fail::from("no epoch"));
+    };
+    Ok(Clerk {
+        epoch,
+        well,
+        refuses,
+        asked: 0,
+        policy: None,
+        credit: None,
+        begin: None,
+        kind: None,
+        text: Vec::new(heap.clone()?),
+    })
+}
+
+impl Front<Page> for Clerk {
+    ghost since = { λ desk epoch. Unit {0} };
+
+    ghost looks = { λ desk well. Unit {0} };
+
+    ghost joins = { λ old name policy credit begin writer joining new. Unit {0} };
+
+    ghost emits = { λ old name kind text emitted new. Unit {0} };
+
+    ghost requests = { λ old name observer items asked new. Unit {0} };
+
+    ghost shows = { λ old form shown new. Unit {0} };
+
+    fn epoch(&self) -> &Epoch {
+        &self.epoch
+    }
+
+    fn is_well(&self) -> bool {
+        self.well
+    }
+
+    fn join(
+        &mut self,
+        subject: &Name,
+        policy: Policy,
+        credit: Credit,
+        begin: Begin,
+        writer: Page,
+    ) -> Joining<Page> {
+        self.asked = self.asked.saturating_add(1);
+        self.policy = Some(policy);
+        self.credit = Some(credit);
+        self.begin = Some(begin);
+        if subject.as_bytes() != b"trades".as_slice() {
+            return Joining::Back(Refusal::Subject, writer);
+        }
+        match self.refuses {
+            Some(cause) => Joining::Back(cause, writer),
+            None => Joining::Taken,
+        }
+    }
+
+    fn emit(
+        &mut self,
+        subject: &Name,
+        kind: NoteKind,
+        text: &[u8],
+    ) -> Result<Option<u32>, Refusal> {
+        self.asked = self.asked.saturating_add(1);
+        self.kind = Some(kind);
+        if self.text.extend_from_slice(text).is_err() {
+            return Err(Refusal::Memory);
+        }
+        if subject.as_bytes() != b"trades".as_slice() {
+            return Err(Refusal::Subject);
+        }
+        match (self.refuses, kind) {
+            (Some(cause), _) => Err(cause),
+            (None, NoteKind::Next) => Ok(Some(0)),
+            (None, _) => Ok(None),
+        }
+    }
+
+    fn request(
+        &mut self,
+        subject: &Name,
+        _observer: ObserverId,
+        _items: u32,
+    ) -> Result<(), Refusal> {
+        self.asked = self.asked.saturating_add(1);
+        if subject.as_bytes() != b"trades".as_slice() {
+            return Err(Refusal::Subject);
+        }
+        match self.refuses {
+            Some(cause) => Err(cause),
+            None => Ok(()),
+        }
+    }
+
+    fn show(&mut self, form: LookForm) -> Result<Document, Refusal> {
+        if let Some(cause) = self.refuses {
+            return Err(cause);
+        }
+        let Ok(alloc) = self.text.allocator().clone() else {
+            return Err(Refusal::Memory);
+        };
+        let body = match form {
+            LookForm::Stats => b"{}\n".as_slice(),
+            LookForm::Metrics => b"a 1\n".as_slice(),
+            LookForm::Lines => b"s open\n".as_slice(),
+            LookForm::Page => b"<p>s\n".as_slice(),
+        };
+        match Vec::from_slice(alloc, body) {
+            Ok(bytes) => Document::new(bytes).ok_or(Refusal::Memory),
+            Err(_) => Err(Refusal::Memory),
+        }
+    }
+}
+
+/// Gives the exchange its turns until it is over. How it ended, and the writer, if that is back.
+pub(crate) fn serve(
+    drips: &mut Drips<'_>,
+    page: Page,
+    clerk: &mut Clerk,
+    max_reads: u64,
+) -> Result<(SessionEnd, Option<Page>), Fail> {
+    let mut exchange = Exchange::new(max_reads);
+    let mut writer = page;
+    for _ in 0..MOST_TURNS {
+        match exchange.turn(drips, writer, clerk) {
+            Turn::Again(back) | Turn::Waits(back) | Turn::Stuck(back) => writer = back,
+            Turn::Over(end, back) => return Ok((end, back)),
+        }
+    }
+    Err(Fail::from("turns without an end"))
+}

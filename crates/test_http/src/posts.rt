@@ -1,0 +1,175 @@
+//! Heads of requests by POST: what each asks for, or why it is refused.
+
+use crate::requests::Wanted;
+use rx_heap::Heap;
+use rx_http::{NoteKind, Refusal, read_request};
+use std::test::Fail;
+
+/// Requests by POST, by what stands behind the path of the subjects, and their fields.
+const POSTS: [(&[u8], &[u8], Wanted); 33] = [
+    (b"trades", b"", Wanted::Emitted(NoteKind::Next, 0)),
+    (
+        b"trades",
+        b"Content-Length: 1024",
+        Wanted::Emitted(NoteKind::Next, 1024),
+    ),
+    (
+        b"trades?errors=NEVER",
+        b"content-length: 1",
+        Wanted::Emitted(NoteKind::Next, 1),
+    ),
+    (
+        b"trades/end",
+        b"Content-Length: 0",
+        Wanted::Emitted(NoteKind::Completed, 0),
+    ),
+    (
+        b"trades/end?x",
+        b"",
+        Wanted::Emitted(NoteKind::Completed, 0),
+    ),
+    (
+        b"trades/fail",
+        b"Content-Length: 3",
+        Wanted::Emitted(NoteKind::Failed, 3),
+    ),
+    (
+        b"trades",
+        b"Origin: http://localhost",
+        Wanted::Emitted(NoteKind::Next, 0),
+    ),
+    (
+        b"trades",
+        b"Origin: https://localhost",
+        Wanted::Emitted(NoteKind::Next, 0),
+    ),
+    (
+        b"trades",
+        b"Origin: http://localhost:80",
+        Wanted::Refused(Refusal::Origin),
+    ),
+    (
+        b"trades",
+        b"Origin: http://other",
+        Wanted::Refused(Refusal::Origin),
+    ),
+    (
+        b"trades",
+        b"Origin: ftp://localhost",
+        Wanted::Refused(Refusal::Origin),
+    ),
+    (
+        b"trades",
+        b"Origin: localhost",
+        Wanted::Refused(Refusal::Origin),
+    ),
+    (b"trades", b"Origin: null", Wanted::Refused(Refusal::Origin)),
+    (
+        b"Trades",
+        b"Origin: null\r\nContent-Length: x",
+        Wanted::Refused(Refusal::Origin),
+    ),
+    (
+        b"trades",
+        b"Transfer-Encoding: chunked",
+        Wanted::Refused(Refusal::Length),
+    ),
+    (
+        b"trades",
+        b"Content-Length: 01",
+        Wanted::Refused(Refusal::Length),
+    ),
+    (
+        b"trades",
+        b"Content-Length: -1",
+        Wanted::Refused(Refusal::Length),
+    ),
+    (
+        b"Trades",
+        b"Content-Length: 4294967296",
+        Wanted::Refused(Refusal::Length),
+    ),
+    (
+        b"Trades",
+        b"Content-Length: 1025",
+        Wanted::Refused(Refusal::Long),
+    ),
+    (
+        b"Trades",
+        b"Content-Length: 1024",
+        Wanted::Refused(Refusal::Subject),
+    ),
+    (b"trades/ends", b"", Wanted::Refused(Refusal::Subject)),
+    (b"trades/end/", b"", Wanted::Refused(Refusal::Subject)),
+    (
+        b"trades/observers/19c0-7",
+        b"",
+        Wanted::Granted(b"19c0", 7, 1),
+    ),
+    (
+        b"trades/observers/19c0-0?request=4294967295",
+        b"Content-Length: 0",
+        Wanted::Granted(b"19c0", 0, 4_294_967_295),
+    ),
+    (
+        b"trades/observers/19c0-4294967295?x&request=0",
+        b"Origin: http://localhost",
+        Wanted::Granted(b"19c0", 4_294_967_295, 0),
+    ),
+    (
+        b"Trades/observers/19c0?request=x",
+        b"Origin: null",
+        Wanted::Refused(Refusal::Origin),
+    ),
+    (
+        b"Trades/observers/19c0-?request=x",
+        b"",
+        Wanted::Refused(Refusal::Observer),
+    ),
+    (
+        b"trades/observers/19c0-07",
+        b"",
+        Wanted::Refused(Refusal::Observer),
+    ),
+    (
+        b"trades/observers/19c0-7-over",
+        b"",
+        Wanted::Refused(Refusal::Observer),
+    ),
+    (
+        b"Trades/observers/19c0-7?request=",
+        b"",
+        Wanted::Refused(Refusal::Items),
+    ),
+    (
+        b"Trades/observers/19c0-7?request=4294967296",
+        b"",
+        Wanted::Refused(Refusal::Items),
+    ),
+    (
+        b"Trades/observers/19c0-7?request=1",
+        b"",
+        Wanted::Refused(Refusal::Subject),
+    ),
+    (b"trades/observers", b"", Wanted::Refused(Refusal::Subject)),
+];
+
+#[test]
+fn posts(rt: HostRuntime) -> Result<(), Fail> {
+    let heap = Heap::unlimited(rt.alloc());
+    for (i, (rest, fields, wanted)) in POSTS.iter().enumerate() {
+        let mut head = Vec::from_slice(heap.clone()?, b"POST /subjects/")?;
+        head.extend_from_slice(rest)?;
+        head.extend_from_slice(b" HTTP/1.1\r\nHost: localhost\r\n")?;
+        head.extend_from_slice(fields)?;
+        if !fields.is_empty() {
+            head.extend_from_slice(b"\r\n")?;
+        }
+        head.extend_from_slice(b"\r\n")?;
+        assert!(rt;
+            read_request(head.as_slice()) == wanted.asked()?,
+            "post {i}"
+        );
+    }
+    Ok(())
+}
