@@ -1,6 +1,7 @@
 """A server in a folder of its own and the peers of one, for the programs beside this one."""
 
 import os
+import re
 import select
 import shutil
 import socket
@@ -69,6 +70,22 @@ class Server:
         with open(self.told_in, encoding="utf-8") as faults:
             return faults.read().splitlines()
 
+    def logged(self):
+        """Returns how many events its log lines tell so far, by what they say; each is a line of a warning, and stands behind the others."""
+        events = {}
+        for line in self.told()[1:]:
+            match = re.fullmatch(r"<4>rxline: (.*?)(?: \(and ([1-9][0-9]*) more\))?", line)
+            want(f"that {line!r} is a log line", match is not None, True)
+            events[match.group(1)] = events.get(match.group(1), 0) + 1 + int(match.group(2) or 0)
+        return events
+
+    def expect_logged(self, wanted):
+        """Waits until its log lines tell so many events, by what they say."""
+        ends = time.monotonic() + MOST
+        while self.logged() != wanted and time.monotonic() < ends and self.process.poll() is None:
+            time.sleep(0.01)
+        want("what is logged", self.logged(), wanted)
+
     def expect(self, wanted):
         """Waits until its standard error has these lines."""
         ends = time.monotonic() + MOST
@@ -81,6 +98,36 @@ class Server:
         reported, _ = self.process.communicate(timeout=MOST)
         want("the status", self.process.returncode, 0)
         return reported
+
+
+class Face(Server):
+    """A server with a face, begun in its folder, so that the path of its socket can be short."""
+
+    def __init__(self, rxline, subjects, http="", pool=""):
+        config = f'{subjects}\n[pool]\n{pool}\n[http]\nsocket = "h.sock"\n{http}\n'
+        super().__init__(rxline, config, begun_by='cd "$(dirname "$3")"; exec "$@"')
+        self.http = f"{self.folder}/h.sock"
+
+    def __enter__(self):
+        self.listens()
+        return self
+
+    def listens(self):
+        """Waits until it listens at both its sockets."""
+        told = rf"{re.escape(self.listening())}\nrxline: http on h\.sock, epoch ([0-9a-f]{{1,16}})"
+        ends = time.monotonic() + MOST
+        while not re.fullmatch(told, "\n".join(self.told())) and time.monotonic() < ends and self.process.poll() is None:
+            time.sleep(0.01)
+        match = re.fullmatch(told, "\n".join(self.told()))
+        want(f"standard error {self.told()!r} tells an epoch", match is not None, True)
+        self.epoch = match.group(1)
+
+    def again(self):
+        """Kills it, and starts another one at its paths."""
+        self.process.kill()
+        self.process.wait()
+        self.start()
+        self.listens()
 
 
 class Peer:
@@ -117,6 +164,8 @@ class Peer:
             more = self.socket.recv(1 << 16)
         except socket.timeout:
             more = None
+        except ConnectionResetError:
+            more = b""  # so ends a connection on which something was sent that was never read
         want(f"that something comes within {MOST} s behind {self.rest[-100:]!r}", more is not None, True)
         self.rest += more
         return not more

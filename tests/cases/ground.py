@@ -37,12 +37,14 @@ def config(*pool, observers=2, more=""):
 
 
 @contextlib.contextmanager
-def served(rxline, text, report):
-    """A server that ends by itself once the block's peers had their connections: with this report, and nothing told but that it listens."""
+def served(rxline, text, report, logged=()):
+    """A server that ends by itself once the block's peers had their connections: with this report, and nothing told but that it listens,
+    and what is logged: how many events of each sort."""
     with Server(rxline, text) as server:
         yield server
         want("the report", server.report(), report)
-        server.expect([server.listening()])
+        want("what is told first", server.told()[0], server.listening())
+        want("what is logged", server.logged(), dict(logged))
 
 
 def joined(server, number, subject="s", policy="BUFFER DELAY"):

@@ -1,6 +1,7 @@
 """What a server bounds: times, memory, and who may listen at its path."""
 
 import os
+import subprocess
 import time
 
 from cases import case
@@ -29,7 +30,8 @@ def ages_items_by_another_unit(rxline):
 @case
 def ends_the_wrong_session_as_idle(rxline):
     """One says nothing and is let go; one that says something now and then is not, nor an observer, who may be silent."""
-    with served(rxline, config("connections = 3", "workers = 1", "idle = 3"), b"s joins 1 refused 0\n") as server:
+    logged = {"a connection ends: it sent nothing for 3 s": 1}
+    with served(rxline, config("connections = 3", "workers = 1", "idle = 3"), b"s joins 1 refused 0\n", logged) as server:
         follower, idle, busy = joined(server, 0), Peer(server.path), Peer(server.path)
         for _ in range(12):
             emit_for(busy, [follower], [b"a"])
@@ -42,11 +44,87 @@ def ends_the_wrong_session_as_idle(rxline):
 @case
 def ends_no_session_that_is_idle_alone(rxline):
     """Nobody else says a word, and yet a silent session is ended: behind its time, and not before it."""
-    with served(rxline, config("connections = 1", "idle = 2"), b"s joins 0 refused 0\n") as server:
+    with served(rxline, config("connections = 1", "idle = 2"), b"s joins 0 refused 0\n", {"a connection ends: it sent nothing for 2 s": 1}) as server:
         peer = Peer(server.path)
         begins = time.monotonic()
         peer.hear_last()
         want("that it is not ended before its time", time.monotonic() - begins > 1.8, True)
+
+
+# How many sessions end at about the same time, and how many lines may tell them in the seconds that this takes.
+SILENT = 60
+LINES = 6
+
+
+@case
+def logs_a_line_for_each_of_many(rxline):
+    """Of many that end in a second there are a few lines, which together tell each; they come while the server runs on."""
+    with Server(rxline, config(f"connections = {SILENT + 1}", "workers = 1", "idle = 2")) as server:
+        peers = [Peer(server.path) for _ in range(SILENT)]
+        for peer in peers:
+            peer.hear_last()
+        server.expect_logged({"a connection ends: it sent nothing for 2 s": SILENT})
+        want("that few lines tell them", len(server.told()) - 1 <= LINES, True)
+        answered_to_quit(Peer(server.path))
+        want("the report", server.report(), b"s joins 0 refused 0\n")
+
+
+SILENCE = b"<4>rxline: a connection ends: it sent nothing for 1 s\n"
+
+
+def fill(pipe):
+    """Writes to a pipe until it takes nothing more. It is opened anew, so that who else writes to it waits as before."""
+    writer = os.open(f"/proc/self/fd/{pipe}", os.O_WRONLY | os.O_NONBLOCK)
+    for size in (1 << 12, 1):
+        try:
+            while True:
+                os.write(writer, b"." * size)
+        except BlockingIOError:
+            pass
+    os.close(writer)
+
+
+def first_line(pipe):
+    """Reads a pipe up to its first LF: a line may be written in pieces."""
+    line = b""
+    while not line.endswith(b"\n"):
+        line += os.read(pipe, 1)
+    return line
+
+
+def all_of(pipe):
+    """Reads a pipe to its end."""
+    with os.fdopen(pipe, "rb") as reader:
+        return reader.read()
+
+
+@case
+def waits_for_who_reads_its_log(rxline):
+    """Its standard error takes nothing more, and yet it serves, and ends those who are silent. What it logs comes once there is room."""
+    with folder_with(config("connections = 3", "workers = 1", "idle = 1")):
+        reader, writer = os.pipe()
+        with subprocess.Popen([rxline, "serve", "c.toml", "s.sock"], stdout=subprocess.PIPE, stderr=writer) as process:
+            want("what is told first", first_line(reader), b"rxline: listening on s.sock\n")
+            fill(writer)
+            os.close(writer)
+            for _ in range(2):
+                Peer("s.sock").hear_last()
+            answered_to_quit(Peer("s.sock"), b"PUB s a")
+            want("what is logged", all_of(reader).lstrip(b"."), SILENCE * 2)
+            want("the report and the status", (process.stdout.read(), process.wait(MOST)), (b"s joins 0 refused 0\n", 0))
+
+
+@case
+def gives_up_where_its_log_fails(rxline):
+    """Its standard error fails from the first line on, and yet it serves, ends one who is silent, and reports."""
+    with folder_with(config("connections = 2", "idle = 1")):
+        with open("/dev/full", "wb") as full, subprocess.Popen([rxline, "serve", "c.toml", "s.sock"], stdout=subprocess.PIPE, stderr=full) as process:
+            ends = time.monotonic() + MOST
+            while not os.path.exists("s.sock") and time.monotonic() < ends:
+                time.sleep(0.01)
+            Peer("s.sock").hear_last()
+            answered_to_quit(Peer("s.sock"), b"PUB s a")
+            want("the report and the status", (process.stdout.read(), process.wait(MOST)), (b"s joins 0 refused 0\n", 0))
 
 
 @case
@@ -67,12 +145,18 @@ def adds_up_the_pauses_of_one_who_reads(rxline):
 @case
 def keeps_the_place_of_one_who_stalls(rxline):
     """Of two observers, as many as there may be, one takes nothing for a second; then there is a place for another one."""
-    with served(rxline, config("connections = 4", "stall = 1"), b"s joins 3 refused 0\n") as server:
+    with Server(rxline, config("connections = 4", "stall = 1")) as server:
         _stalled, _silent, producer = joined(server, 0), joined(server, 1, policy="DROP:0 DELAY"), Peer(server.path)
         emit_all(producer, [LONG] * 6_000)
         late = Peer(server.path)
         want("a place", joins_at_last(late), b"JOINED 2")
         answered_to_quit(producer)
+        late.close()
+        want("the report", server.report(), b"s joins 3 refused 0\n")
+        # Of the other one, of whom items were let go, so much may wait that it is given up too. Who went by itself is not told.
+        logged = server.logged()
+        want("what is logged", list(logged), ["a peer is given up: it took nothing for 1 s"])
+        want("whether each is told once", logged.popitem()[1] in (1, 2), True)
 
 
 # The report, the path, and memory.
@@ -132,6 +216,30 @@ def takes_over_a_path_that_is_held(rxline):
         checked(rxline, server, NO_SOCKET)
         refused(rxline, server)
         want("the file that stands there", os.path.getsize(server.path), 0)
+
+
+HTTP = '[http]\nsocket = "h.sock"\n'
+IN_THE_OTHER = b"h.sock: the socket of sessions is to stand there\n"
+
+
+@case
+def looks_past_the_path_of_events(rxline):
+    """A check tells what is in the way at the socket of events as it does at that of sessions, and that both are one path, however that
+    is written."""
+    with folder_with(config() + HTTP):
+        for path, told in (("s.sock", b""), ("h.sock", IN_THE_OTHER), ("./h.sock", IN_THE_OTHER)):
+            status, _, heard = run(rxline, "check", "c.toml", path)
+            want(f"what is told beside {path}", (status, heard), (1 if told else 0, told + UNHEARD if told else b""))
+        want("a server of one path", run(rxline, "serve", "c.toml", "./h.sock")[::2], (1, UNHEARD))
+        os.remove("h.sock")
+        os.mkdir("both")
+        with open("h.sock", "wb"):
+            pass
+        both = b"both" + NO_SOCKET + b"h.sock" + NO_SOCKET + UNHEARD
+        want("what is told of two that stand", run(rxline, "check", "c.toml", "both")[::2], (1, both))
+    with folder_with(config() + '[http]\nsocket = "no/such/h.sock"\n'):
+        missing = b"no/such/h.sock: No such file or directory (os error 2)\n" + UNHEARD
+        want("what is told of a folder that is missing", run(rxline, "check", "c.toml", "s.sock")[::2], (1, missing))
 
 
 # More items than a socket and the budget take.

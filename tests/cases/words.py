@@ -39,6 +39,8 @@ STATUSES = [
     (["pub", "no/such/socket", "S", "a"], 2, b"", b"error: a subject is 1 to 32 of a to z, 0 to 9 and -\n"),
     (["pub", "no/such/socket", "s", "a"], 1, b"accepted 0\n", UNCONNECTED),
     (["sub", "no/such/socket", "s"], 1, b"", UNCONNECTED),
+    (["stats", "no/such/socket"], 1, b"", UNCONNECTED),
+    (["stats", "no/such/socket", "--json"], 1, b"", UNCONNECTED),
 ]
 
 
@@ -72,6 +74,21 @@ def padded(length):
     return '[[subject]]\nname = "s"\nkind = "async"\n#'.ljust(length, ".")
 
 
+# The bounds of a Replay, and what is told where there is none.
+BOUNDS = ["count = 4096\n", "age = 1000\n", "items = 1000\n", "budget = 64000000\n"]
+BOUNDLESS = b"subject 0: it keeps all that it takes: count, age, items or budget bounds that, as in: budget = 64000000\n"
+
+
+def lines_of_replay(bound):
+    """Returns the lines of a configuration of a Replay with one bound."""
+    key, _, value = bound.strip().partition(" = ")
+    kept = f" {key} {value}" if key in ("count", "age") else ""
+    items = value if key == "items" else "4294967295"
+    budget = f" budget {value}" if key == "budget" else ""
+    subject = f"subject s replay{kept} observers 64 joins 4294967295 items {items}{budget}\n"
+    return subject.encode() + b"pool drainers 1 workers 4 window 16 connections 4294967295 stall 60\n"
+
+
 # Commands, the configuration that each is given, the status, what is written and what is told.
 FILES = [
     ("script", REPLAY + "count = 0\n", 1, b"", b"rxline: config: subject 0 is refused\n"),
@@ -87,6 +104,9 @@ FILES = [
         b"pool drainers 1 workers 4 window 1 connections 4294967295 stall 60\n",
         b"",
     ),
+    # What bounds a Replay, each alone, and nothing.
+    *(("check", REPLAY + bound, 0, lines_of_replay(bound), b"") for bound in BOUNDS),
+    ("check", REPLAY, 0, lines_of_replay(""), BOUNDLESS),
     (
         "check",
         PUBLISH + 'seed = "z"\n',
@@ -127,6 +147,8 @@ WRONG = [
     (["serve", "a"], 2, b"", b"error: ", usage(b"serve <config> <socket>")),
     (["script"], 2, b"", b"error: ", usage(b"script <config>")),
     (["check"], 2, b"", b"error: ", usage(b"check <config> [socket]")),
+    (["stats"], 2, b"", b"error: ", usage(b"stats <socket> [--json]")),
+    (["stats", "a", "b"], 2, b"", b"error: ", usage(b"stats <socket> [--json]")),
     (["\x1b[2J"], 2, b"", b"error: ", b"For more information, try '--help'.\n"),
 ]
 

@@ -38,10 +38,12 @@ def connects(peer: socket.socket, path: Path) -> bool:
 
 def is_readable(peer: socket.socket) -> bool:
     """Whether something came, which may be the end."""
+    looked = select.poll()  # which, unlike select, takes a descriptor of any number
     try:
-        return bool(select.select([peer], [], [], 0)[0])
+        looked.register(peer, select.POLLIN)
     except (OSError, ValueError):
         return True
+    return bool(looked.poll(0))
 
 
 def moment_after(seconds: Optional[float]) -> Optional[float]:

@@ -15,14 +15,19 @@ HELLO = b"HELLO 2\n"
 _NAME = re.compile(r"[a-z0-9-]{1,32}")
 
 
-def _name(subject: str) -> bytes:
+def check_name(subject: str) -> None:
+    """ValueError for what is no name of a subject."""
     if not _NAME.fullmatch(subject):
         raise ValueError(f"{subject!r} is no subject: 1 to 32 of a to z, 0 to 9 and -")
+
+
+def _name(subject: str) -> bytes:
+    check_name(subject)
     return subject.encode()
 
 
-def _bytes(text: Text) -> bytes:
-    """The bytes of a text, and where they end in CR one CR more, for one before the LF is no part of a line."""
+def bytes_of(text: Text) -> bytes:
+    """The bytes of a text. TypeError, ValueError, TooLong."""
     if not isinstance(text, (str, bytes, bytearray, memoryview)):
         raise TypeError(f"a text is a str, bytes, a bytearray or a memoryview, not {type(text).__name__}")
     raw = text.encode() if isinstance(text, str) else bytes(text)
@@ -30,6 +35,12 @@ def _bytes(text: Text) -> bytes:
         raise ValueError("a text has no line feed")
     if len(raw) > MAX_TEXT:
         raise TooLong()
+    return raw
+
+
+def _bytes(text: Text) -> bytes:
+    """The bytes of a text, and where they end in CR one CR more, for one before the LF is no part of a line."""
+    raw = bytes_of(text)
     return raw + b"\r" if raw.endswith(b"\r") else raw
 
 

@@ -3,7 +3,7 @@
     follow PATH SUBJECT STRATEGY SINCE EPOCH PATIENCE     each note behind its position, once it has told `joined`
     publish PATH SUBJECT resend|once                      the texts of standard input; which were accepted, which may have been
     end PATH SUBJECT, fail PATH SUBJECT TEXT              ends the subject
-    refused PATH COUNT                                    how so many calls are refused
+    refused PATH COUNT                                    how so many calls are refused, beside many files that are open
     misuse PATH                                           how calls are refused that are sent to nobody
     waits PATH                                            how long calls wait for a server that says nothing
     quiet PATH                                            that a note which comes late is told
@@ -13,6 +13,8 @@
     slow PATH                                             what is told, but items, once it looks for notes
 A word that is `-` is left out."""
 
+import os
+import resource
 import sys
 import threading
 import time
@@ -93,7 +95,16 @@ def fail(path, subject, text):
         client.fail(subject, text)
 
 
+def hold_many():
+    """Opens so many files that the number of the next one is more than `select` takes."""
+    _, most = resource.getrlimit(resource.RLIMIT_NOFILE)
+    resource.setrlimit(resource.RLIMIT_NOFILE, (most, most))
+    for _ in range(1024):
+        os.dup(0)
+
+
 def refused(path, count):
+    hold_many()
     with rxline.connect(path) as client:
         for _ in range(int(count)):
             try:

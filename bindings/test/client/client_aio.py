@@ -4,7 +4,7 @@ import asyncio
 import sys
 
 import rxline
-from client import MISUSES, ROOMS, follow_words, kind_of, published, strategy_of, tell, texts, words_of
+from client import MISUSES, ROOMS, follow_words, hold_many, kind_of, published, strategy_of, tell, texts, words_of
 from rxline import aio
 
 
@@ -40,6 +40,7 @@ async def fail(path, subject, text):
 
 
 async def refused(path, count):
+    hold_many()
     async with await aio.connect(path) as client:
         calls = [client.publish("s", "a") for _ in range(int(count))]
         for refusal in await asyncio.gather(*calls, return_exceptions=True):

@@ -14,6 +14,21 @@ from ..policy import BUFFER, Errors
 MANY_LINES = 64  # With as many it reads no more until half of them are taken, so that a server notices who is slow.
 
 
+async def connected(path: Path, ends: Optional[float]) -> socket.socket:
+    """A socket that is connected to the server at this path, once that has room for it. NoServer, TimedOut."""
+    peer = socket.socket(socket.AF_UNIX)
+    try:
+        peer.setblocking(False)
+        while not connects(peer, path):
+            if ends is not None and time.monotonic() > ends:
+                raise TimedOut(f"no connection at {path}")
+            await asyncio.sleep(PAUSE)
+    except BaseException:
+        peer.close()
+        raise
+    return peer
+
+
 class Wire(asyncio.Protocol):
     """Lines both ways. A moment `ends` is when it stops waiting; None for never."""
 
@@ -28,14 +43,8 @@ class Wire(asyncio.Protocol):
     @classmethod
     async def open(cls, path: Path, ends: Optional[float]) -> "Wire":
         """Connects. NoServer, TimedOut."""
-        peer = socket.socket(socket.AF_UNIX)
-        peer.setblocking(False)
-        wire = cls()
+        wire, peer = cls(), await connected(path, ends)
         try:
-            while not connects(peer, path):
-                if ends is not None and time.monotonic() > ends:
-                    raise TimedOut(f"no connection at {path}")
-                await asyncio.sleep(PAUSE)
             await asyncio.get_running_loop().create_unix_connection(lambda: wire, sock=peer)
         except BaseException:
             peer.close()
