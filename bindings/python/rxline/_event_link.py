@@ -12,6 +12,10 @@ from ._sse import Event, Stream
 from .errors import ConnectionLost, NoServer, TimedOut
 from .notes import Position
 
+# How long who asked for items in vain goes on to hear a stream, in seconds: what its server told before comes by then, and where
+# another server took the path while the first one lives, nothing ends the stream.
+LEAVING = 5.0
+
 
 def connected(address: Address, ends: Optional[float]) -> socket.socket:
     """A socket to this address. NoServer, TimedOut."""
@@ -131,6 +135,7 @@ class EventLink(HttpLink):
         """Asks for them. Refused, NoServer, ConnectionLost, ProtocolError, TimedOut."""
         super().__init__(address, ends)
         self._stream, self._events = Stream(last), deque()  # type: Stream, Deque[Event]
+        self._leaves: Optional[float] = None
         try:
             said, status = self.ask(request, ends), self._answer.status
             self.has_ended = status == 204
@@ -141,11 +146,24 @@ class EventLink(HttpLink):
             self.close()
             raise
 
+    def leave(self) -> None:
+        """Nobody is there who could be asked for more: what was told before that is still heard."""
+        self._leaves = self._leaves or moment_after(LEAVING)
+
     def event(self, ends: Optional[float]) -> Event:
         """The next event. ConnectionLost; TimedOut, after which it can be asked for again."""
         while not self._events:
-            self._events.extend(self._stream.feed(self._receive(ends)))
+            self._events.extend(self._stream.feed(self._receive_by(ends)))
         return self._events.popleft()
+
+    def _receive_by(self, ends: Optional[float]) -> bytes:
+        leaves = self._leaves
+        if leaves is None or (ends is not None and ends < leaves):
+            return self._receive(ends)
+        try:
+            return self._receive(leaves)
+        except TimedOut as fault:
+            raise ConnectionLost("its observer has left") from fault
 
 
 def posted(address: Address, request: bytes, ends: Optional[float]) -> Position:
@@ -157,10 +175,16 @@ def posted(address: Address, request: bytes, ends: Optional[float]) -> Position:
         link.close()
 
 
-def asked(address: Address, request: bytes, ends: Optional[float]) -> None:
-    """Asks for items by this request. Refused, NoServer, ConnectionLost, ProtocolError, TimedOut."""
-    link = HttpLink(address, ends)
+def asked(address: Address, request: bytes, ends: Optional[float]) -> bool:
+    """Asks for items by this request, and returns whether somebody was there who could be asked. Refused, ProtocolError, TimedOut."""
+    try:
+        link = HttpLink(address, ends)
+    except NoServer:
+        return False
     try:
         link.carry_out(request, ends)
+    except ConnectionLost:
+        return False
     finally:
         link.close()
+    return True

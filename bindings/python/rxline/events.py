@@ -84,7 +84,8 @@ class EventSubscription(Following[EventLink]):
     def _hear_next(self, link: EventLink, ends: Optional[float]) -> None:
         account = self._account
         if self._asks and account.to_ask_for:
-            asked(self._address, self._address.items(self._subject, account.observer, account.to_ask_for), ends)
+            if not asked(self._address, self._address.items(self._subject, account.observer, account.to_ask_for), ends):
+                link.leave()
             account.to_ask_for = 0
         account.hear(link.event(ends))
 

@@ -7,6 +7,7 @@ from collections import deque
 from typing import Deque, Optional, Tuple
 
 from .._connection import moment_after
+from .._event_link import LEAVING
 from .._http import MAX_BODY, Address, Answer, position_in, refusal
 from .._sse import Event, Stream
 from ..errors import ConnectionLost, NoServer, TimedOut
@@ -101,6 +102,7 @@ class EventWire(HttpWire):
         super().__init__(halves)
         self._stream = Stream(last)
         self._events: Deque[Event] = deque()
+        self._leaves: Optional[float] = None
         self.has_ended = False
 
     @classmethod
@@ -121,11 +123,24 @@ class EventWire(HttpWire):
             raise refusal(status or 0, said + await self._rest(ends))
         self._events.extend(self._stream.feed(said))
 
+    def leave(self) -> None:
+        """Nobody is there who could be asked for more: what was told before that is still heard."""
+        self._leaves = self._leaves or moment_after(LEAVING)
+
     async def event(self, ends: Optional[float]) -> Event:
         """The next event. ConnectionLost; TimedOut, after which it can be asked for again. One task at a time."""
         while not self._events:
-            self._events.extend(self._stream.feed(await self._receive(ends)))
+            self._events.extend(self._stream.feed(await self._receive_by(ends)))
         return self._events.popleft()
+
+    async def _receive_by(self, ends: Optional[float]) -> bytes:
+        leaves = self._leaves
+        if leaves is None or (ends is not None and ends < leaves):
+            return await self._receive(ends)
+        try:
+            return await self._receive(leaves)
+        except TimedOut as fault:
+            raise ConnectionLost("its observer has left") from fault
 
 
 async def posted(address: Address, request: bytes, ends: Optional[float]) -> Position:
@@ -137,10 +152,16 @@ async def posted(address: Address, request: bytes, ends: Optional[float]) -> Pos
         wire.close()
 
 
-async def asked(address: Address, request: bytes, ends: Optional[float]) -> None:
-    """Asks for items by this request. Refused, NoServer, ConnectionLost, ProtocolError, TimedOut."""
-    wire = HttpWire(await connected(address, ends))
+async def asked(address: Address, request: bytes, ends: Optional[float]) -> bool:
+    """Asks for items by this request, and returns whether somebody was there who could be asked. Refused, ProtocolError, TimedOut."""
+    try:
+        wire = HttpWire(await connected(address, ends))
+    except NoServer:
+        return False
     try:
         await wire.carry_out(request, ends)
+    except ConnectionLost:
+        return False
     finally:
         wire.close()
+    return True

@@ -60,7 +60,8 @@ class EventSubscription(Following[EventWire]):
     async def _hear_next(self, link: EventWire, ends: Optional[float]) -> None:
         account = self._account
         if self._asks and account.to_ask_for:
-            await asked(self._address, self._address.items(self._subject, account.observer, account.to_ask_for), ends)
+            if not await asked(self._address, self._address.items(self._subject, account.observer, account.to_ask_for), ends):
+                link.leave()
             account.to_ask_for = 0
         account.hear(await link.event(ends))
 
