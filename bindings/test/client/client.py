@@ -181,7 +181,7 @@ def idle(path, patience):
 
 
 def slow(path):
-    with rxline.connect(path, patience=0) as client, client.subscribe("p", rxline.bounded(1024)) as notes:
+    with rxline.connect(path, patience=0) as client, client.subscribe("p", rxline.bounded(64)) as notes:
         tell("joined")
         sys.stdin.readline()
         for note in notes:

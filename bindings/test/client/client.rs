@@ -172,7 +172,7 @@ fn idle(path: &str, patience: &str) -> Result<(), Error> {
 
 fn slow(path: &str) -> Result<(), Error> {
     let client = Client::connect_with(path, Options { patience: Some(Duration::ZERO), ..Options::default() })?;
-    let notes = client.subscribe_with("p", &Subscribe { strategy: Strategy::Bounded(1024), ..Subscribe::default() })?;
+    let notes = client.subscribe_with("p", &Subscribe { strategy: Strategy::Bounded(64), ..Subscribe::default() })?;
     tell(b"joined");
     io::stdin().read_line(&mut String::new()).unwrap();
     for note in notes {

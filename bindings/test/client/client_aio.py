@@ -104,7 +104,7 @@ async def idle(path, patience):
 
 
 async def slow(path):
-    async with await aio.connect(path, patience=0) as client, await client.subscribe("p", rxline.bounded(1024)) as notes:
+    async with await aio.connect(path, patience=0) as client, await client.subscribe("p", rxline.bounded(64)) as notes:
         tell("joined")
         await asyncio.get_running_loop().run_in_executor(None, sys.stdin.readline)
         async for note in notes:
