@@ -114,15 +114,23 @@ def waits_for_who_reads_its_log(rxline):
             want("the report and the status", (process.stdout.read(), process.wait(MOST)), (b"s joins 0 refused 0\n", 0))
 
 
+def listening(path):
+    """Returns a connection to a server that tells nobody when it listens: its socket stands there before that."""
+    ends = time.monotonic() + MOST
+    while True:
+        try:
+            return Peer(path)
+        except (FileNotFoundError, ConnectionRefusedError):
+            want(f"that it listens within {MOST} s", time.monotonic() < ends, True)
+            time.sleep(0.01)
+
+
 @case
 def gives_up_where_its_log_fails(rxline):
     """Its standard error fails from the first line on, and yet it serves, ends one who is silent, and reports."""
     with folder_with(config("connections = 2", "idle = 1")):
         with open("/dev/full", "wb") as full, subprocess.Popen([rxline, "serve", "c.toml", "s.sock"], stdout=subprocess.PIPE, stderr=full) as process:
-            ends = time.monotonic() + MOST
-            while not os.path.exists("s.sock") and time.monotonic() < ends:
-                time.sleep(0.01)
-            Peer("s.sock").hear_last()
+            listening("s.sock").hear_last()
             answered_to_quit(Peer("s.sock"), b"PUB s a")
             want("the report and the status", (process.stdout.read(), process.wait(MOST)), (b"s joins 0 refused 0\n", 0))
 
