@@ -31,8 +31,9 @@ def run(rxline, *words, sent=SCRIPT):
 
 
 def config(*pool, observers=2, more=""):
-    """Returns a configuration of the subject `s`, of these lines of the pool, and of what else is served."""
-    lines = "".join(f"{line}\n" for line in pool)
+    """Returns a configuration of the subject `s`, of these lines of the pool, and of what else is served. Where they don't say it nobody is
+    given up for what he takes, however slow this machine is."""
+    lines = "".join(f"{line}\n" for line in ("stall = 3600", *pool)[any(line.startswith("stall") for line in pool) :])
     return f"{PUBLISH}observers = {observers}\n{more}[pool]\n{lines}"
 
 
