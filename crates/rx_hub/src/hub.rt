@@ -6,6 +6,7 @@ ghost use Rattle.rx_hub.specs.Hubs.{is_miss};
 ghost use Rattle.rx_hub.specs.Looks.{IsSeen};
 ghost use Rattle.rx_history.specs.Histories.{History, NoEvents, held, item_count, joins};
 
+use crate::backlog::Backlog;
 use crate::multicast::Multicast;
 use crate::no_observer::NoObserver;
 use crate::run::Run;
@@ -178,6 +179,18 @@ impl Hub {
     {
         seen.misses = self.misses;
         self.multicast.look(seen)
+    }
+
+    /// Whether its subject ended. Nothing is promised of it.
+    #[inline] // asked for every call
+    pub fn is_ended(&self) -> bool {
+        self.multicast.subject.is_ended()
+    }
+
+    /// What waits for the observer for whom most notes wait; None where none waits for any. It takes a step for each item that it
+    /// counts, and nothing is promised of it.
+    pub fn backlog(&self) -> Option<Backlog> {
+        self.multicast.backlog()
     }
 
     /// How many of its steps were answered Memory; it stays at its greatest value.

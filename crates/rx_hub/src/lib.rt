@@ -8,6 +8,7 @@
 #![tactic(auto)]
 
 mod audience;
+mod backlog;
 mod emission;
 mod hub;
 mod multicast;
@@ -21,6 +22,7 @@ mod subject_end;
 mod subject_look;
 mod subscription;
 
+pub use backlog::Backlog;
 pub use hub::{Hub, HubError};
 pub use no_observer::NoObserver;
 pub use observer_look::ObserverLook;

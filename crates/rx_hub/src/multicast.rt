@@ -12,6 +12,7 @@ ghost use Rattle.rx_hub.specs.Audiences.{most_waiting};
 ghost use Rattle.rx_hub.specs.States.{state_by, IsOfHistory};
 
 use crate::audience::Audience;
+use crate::backlog::Backlog;
 use crate::emission::Emission;
 use crate::no_observer::NoObserver;
 use crate::subject_end::SubjectEnd;
@@ -115,6 +116,11 @@ impl Multicast {
         seen.joins = self.joins;
         seen.bytes = self.audience.bytes();
         Ok(())
+    }
+
+    /// What waits for the observer for whom most notes wait; None where none waits for any.
+    pub(crate) fn backlog(&self) -> Option<Backlog> {
+        self.audience.backlog(self.subject.keep())
     }
 
     // A note is emitted from a port.

@@ -129,6 +129,15 @@ impl Seat {
         }
     }
 
+    /// How many bytes the texts have that wait, of those on the tape without the last `keep`, which stay for others anyway; in a step
+    /// for each. Nothing is promised of it.
+    pub(crate) fn waiting_bytes(&self, keep: usize, tape: &Tape) -> u64 {
+        match self {
+            Seat::Shared(lane) => bytes_between(lane.waiting_len(), keep, tape),
+            Seat::Own(lane) => lane.waiting_bytes(),
+        }
+    }
+
     /// A copy of an item that is to be offered, where the offer needs one.
     pub(crate) fn copy(&self, item: &Option<Item>) -> Result<Option<Item>, Memory>
         ensures { IfOk result (λ copy. copy ≡ needed self.now item.now) }
@@ -278,6 +287,19 @@ fn end_own(lane: &mut Lane, note: Note) -> Option<Note>
         return None;
     }
     lane.end(note)
+}
+
+// How many bytes the texts have of the last `back` items of the tape, without the last `keep`.
+fn bytes_between(back: usize, keep: usize, tape: &Tape) -> u64 {
+    let first = tape.len().saturating_sub(back);
+    let end = tape.len().saturating_sub(keep);
+    let mut bytes: u64 = 0;
+    for place in first..end {
+        if let Some(item) = tape.item(place) {
+            bytes = bytes.saturating_add(item.text.as_bytes().len() as u64);
+        }
+    }
+    bytes
 }
 
 // An item as a note.

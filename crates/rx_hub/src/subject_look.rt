@@ -1,5 +1,6 @@
 ghost use Rattle.std.specs.Prelude.{◌≤◌, vec_capacity, IfOk};
 
+use crate::backlog::Backlog;
 use crate::observer_look::ObserverLook;
 use crate::subject_end::SubjectEnd;
 use rx_heap::{Heap, Memory};
@@ -19,6 +20,9 @@ pub struct SubjectLook {
     pub misses: u64,
     /// The bytes that all together hold who share the hub's memory; 0 where that has no limit. Nothing is promised of it.
     pub bytes: u64,
+    /// What waits for the observer for whom most notes wait, where whoever filled the look asked for that
+    /// ([`Hub::backlog`](crate::Hub::backlog)). Nothing is promised of it.
+    pub backlog: Option<Backlog>,
     /// A row for each observer that is held, by rising number.
     pub observers: Vec<ObserverLook, Heap>,
 }
@@ -35,6 +39,7 @@ impl SubjectLook {
             joins: 0,
             misses: 0,
             bytes: 0,
+            backlog: None,
             observers,
         })
     }

@@ -163,6 +163,11 @@ impl Lane {
         }
     }
 
+    /// How many bytes the texts have that wait, in a step for each. Nothing is promised of it.
+    pub fn waiting_bytes(&self) -> u64 {
+        self.queue.bytes()
+    }
+
     /// Whether an item that is offered now is lost: by `Drop`, where nothing is owed and the room is full.
     pub fn loses_next(&self) -> bool
         ensures { result ≡ loses_next self.now.state }

@@ -84,6 +84,28 @@ impl Queue {
         }
     }
 
+    /// How many bytes the texts have that wait, in a step for each. Nothing is promised of it.
+    pub(crate) fn bytes(&self) -> u64 {
+        let mut bytes: u64 = 0;
+        for place in 0..self.len() {
+            if let Some(item) = self.at(place) {
+                bytes = bytes.saturating_add(item.text.as_bytes().len() as u64);
+            }
+        }
+        bytes
+    }
+
+    // The item of this place, from the one that has waited longest on.
+    fn at(&self, place: usize) -> Option<&Item> {
+        match self {
+            Queue::Growing(items) => items.get(place),
+            Queue::Empty => None,
+            Queue::Dropping(ring) => ring.get(place),
+            Queue::Replacing(ring) => ring.get(place),
+            Queue::Bounding(ring) => ring.get(place),
+        }
+    }
+
     /// Whether it loses what comes, and its room is full.
     pub(crate) fn is_full(&self) -> bool
         ensures { result ≡ is_full (strategy_of self.now) (length (items_of self.now)) }

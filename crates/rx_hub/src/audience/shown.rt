@@ -5,6 +5,7 @@ ghost use Rattle.rx_hub.specs.Audiences.{places_of, observers_on, AllOn};
 ghost use Rattle.rx_hub.specs.Looks.{row_at};
 
 use crate::audience::Audience;
+use crate::backlog::Backlog;
 use crate::observer_look::ObserverLook;
 use crate::subscription::Subscription;
 use rx_heap::{Heap, Memory};
@@ -19,6 +20,25 @@ impl Audience {
         rows.reserve(self.subscriptions.len())?;
         put_rows(&self.subscriptions, rows);
         Ok(())
+    }
+
+    /// What waits for the observer for whom most notes wait, where the subject keeps the last `keep` items; None where none waits for
+    /// any. It takes a step for each of the items that it counts.
+    pub(crate) fn backlog(&self, keep: usize) -> Option<Backlog> {
+        let mut longest: Option<usize> = None;
+        let mut most = 0;
+        for place in 0..self.subscriptions.len() {
+            let waiting = self.subscriptions[place].seat.waiting_notes();
+            if waiting > most {
+                longest = Some(place);
+                most = waiting;
+            }
+        }
+        let subscription = self.subscriptions.get(longest?)?;
+        Some(Backlog {
+            who: subscription.who,
+            bytes: subscription.seat.waiting_bytes(keep, &self.tape),
+        })
     }
 
     /// The bytes that all together hold who share its memory; 0 where that has no limit.
