@@ -16,6 +16,7 @@
 
 mod call;
 pub(crate) mod call_desk;
+mod grace;
 pub mod laws;
 mod out;
 pub(crate) mod pump;
@@ -26,6 +27,7 @@ pub use call_desk::CallDesk;
 pub use call_desk::call_error::CallError;
 pub use call_desk::desk_parts::DeskParts;
 pub use call_desk::ended_desk::EndedDesk;
+pub use grace::Grace;
 pub use out::Out;
 pub use pump::Pump;
 pub use pump::heard::{Heard, SharedHeard};

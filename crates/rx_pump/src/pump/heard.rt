@@ -1,3 +1,4 @@
+use crate::Grace;
 use rx_heap::{Heap, Memory};
 use std::sync::atomic::{AtomicU64, Ordering};
 use std::sync::{Arc, Wait};
@@ -45,9 +46,20 @@ impl Heard {
     }
 
     /// Waits until all desks ended, and then until nothing waits for an observer and all that was given is on its way; but no longer
-    /// than a quarter of a second after the last letter, since who takes nothing may leave something waiting for ever.
-    pub fn wait<R: Wait>(&self, rt: &R) {
+    /// than by this grace. It answers what is left of that.
+    pub fn wait<R: Wait>(&self, rt: &R, grace: Grace) -> Grace {
         self.wait_for_desks(rt);
+        match grace {
+            Grace::WhileMoving => {
+                self.wait_while_moving(rt);
+                Grace::WhileMoving
+            }
+            Grace::Within(ms) => Grace::Within(self.wait_within(rt, ms)),
+        }
+    }
+
+    // Waits until nothing waits, or nothing moves any more.
+    fn wait_while_moving<R: Wait>(&self, rt: &R) {
         let mut letters = 0;
         for _ in rt.forever() {
             if self.is_at(OVER) {
@@ -60,6 +72,21 @@ impl Heard {
                 return;
             }
             letters = now;
+        }
+        unreachable!()
+    }
+
+    // Waits until nothing waits, for so many milliseconds at most. How many are left.
+    fn wait_within<R: Wait>(&self, rt: &R, ms: u64) -> u64 {
+        let mut left = ms;
+        for _ in rt.forever() {
+            if left == 0 || self.is_at(OVER) {
+                return left;
+            }
+            let step = left.min(MOST_STILL);
+            self.state
+                .park_timeout(rt, DESKS_ENDED as u32, Duration::from_millis(step));
+            left -= step;
         }
         unreachable!()
     }

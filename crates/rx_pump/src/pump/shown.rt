@@ -6,21 +6,30 @@ ghost use Rattle.rx_hub.specs.Hubs.{StandsFor};
 ghost use Rattle.rx_hub.specs.Looks.{IsSeen};
 
 use rx_heap::{Heap, Memory};
-use rx_hub::{Hub, SubjectLook};
+use rx_hub::{Backlog, Hub, SubjectLook};
 use std::sync::atomic::{AtomicBool, Ordering};
 use std::sync::{Arc, Mutex, Wait};
 
-/// What another thread sees of the subject of a pump and its observers, where it wants to: it wants a look, makes a call that
-/// changes nothing, and takes the look once that call was replied to. One reader at a time: of two that want one at once only one
-/// takes it. Nothing is promised of it.
+/// What another thread sees of the subject of a pump and its observers. One that asks wants a look, makes a call that changes
+/// nothing, and takes the look once that call was replied to; beside it one may watch, which makes no call. One reader at a time of
+/// each: of two that want a look at once only one takes it. Nothing is promised of it.
 #[derive(Drop)]
 pub struct Shown {
-    is_wanted: AtomicBool,
-    page: Mutex<Page>,
+    asked: Slot,
+    watched: Slot,
+    // Who watches is shown the end of the subject, though no letter comes behind that.
+    is_end_shown: AtomicBool,
     alloc: Heap,
 }
 
 pub type SharedLook = Arc<Shown, Heap>;
+
+// Whether a look is wanted, and where it is to be written.
+#[derive(Drop)]
+struct Slot {
+    is_wanted: AtomicBool,
+    page: Mutex<Page>,
+}
 
 // Where a look is to be written, and one that was.
 #[derive(Drop)]
@@ -30,14 +39,13 @@ struct Page {
 }
 
 impl Shown {
-    // Nothing is wanted yet.
+    // Nobody asks yet. Who watches is shown all from the first letter on.
     pub(crate) fn shared(alloc: Heap) -> Result<SharedLook, Memory> {
+        let blank = SubjectLook::new(alloc.clone()?)?;
         let shown = Shown {
-            is_wanted: AtomicBool::new(false),
-            page: Mutex::new(Page {
-                blank: None,
-                filled: None,
-            }),
+            asked: Slot::new(None),
+            watched: Slot::new(Some(blank)),
+            is_end_shown: AtomicBool::new(false),
             alloc: alloc.clone()?,
         };
         Ok(Arc::new(alloc, shown)?)
@@ -49,38 +57,99 @@ impl Shown {
     ///
     /// `Memory`: there was none for a row of each observer, and no look is wanted.
     pub fn want<R: Wait>(&self, rt: &R) -> Result<(), Memory> {
-        let blank = SubjectLook::new(self.alloc.clone()?)?;
-        let mut page = self.page.lock(rt);
-        page.blank = Some(blank);
-        page.filled = None;
-        drop(page);
-        self.is_wanted.store(true, Ordering::SeqCst);
+        let _old = self.asked.want(rt, SubjectLook::new(self.alloc.clone()?)?);
         Ok(())
     }
 
     /// The look that was wanted, once it is filled. None before, and where it was taken already.
     pub fn take<R: Wait>(&self, rt: &R) -> Option<SubjectLook> {
-        self.page.lock(rt).filled.take()
+        self.asked.take(rt)
     }
 
-    // Fills a look that is wanted.
-    pub(crate) fn fill<R: Wait>(&self, rt: &R, hub: &Hub) {
-        if self.is_wanted.load(Ordering::SeqCst) {
-            self.fill_page(rt, hub);
+    /// What is seen by who watches: the look that was filled since the last one, with its backlog, where the pump handled a letter
+    /// since; then the next is wanted. So a subject at which nothing happens costs nothing. None too where there was no memory.
+    pub fn watch<R: Wait>(&self, rt: &R) -> Option<SubjectLook> {
+        if self.watched.is_wanted() {
+            return None;
+        }
+        let Ok(alloc) = self.alloc.clone() else {
+            return None;
+        };
+        match SubjectLook::new(alloc) {
+            Ok(blank) => self.watched.want(rt, blank),
+            Err(_) => None,
         }
     }
 
-    // Whoever wants one meanwhile has it filled behind the next letter.
+    // Fills the looks that are wanted. Only one that is watched has the backlog, for which the pump goes over all that waits for an
+    // observer.
+    #[inline(always)] // behind each letter
+    pub(crate) fn fill<R: Wait>(&self, rt: &R, hub: &Hub) {
+        if self.asked.is_wanted() {
+            self.asked.fill(rt, hub, None);
+        }
+        let is_ended = hub.is_ended();
+        let is_new = is_ended && !self.is_end_shown.load(Ordering::SeqCst);
+        if is_new || self.watched.is_wanted() {
+            self.is_end_shown.store(is_ended, Ordering::SeqCst);
+            self.watched.fill(rt, hub, hub.backlog());
+        }
+    }
+}
+
+impl Slot {
+    // A look is wanted if there is room for it.
+    fn new(blank: Option<SubjectLook>) -> Slot {
+        Slot {
+            is_wanted: AtomicBool::new(blank.is_some()),
+            page: Mutex::new(Page {
+                blank,
+                filled: None,
+            }),
+        }
+    }
+
+    // Wants a look, which is to be written here. The one that was filled before comes back, if one was.
+    fn want<R: Wait>(&self, rt: &R, blank: SubjectLook) -> Option<SubjectLook> {
+        let mut page = self.page.lock(rt);
+        let filled = page.filled.take();
+        page.blank = Some(blank);
+        drop(page);
+        self.is_wanted.store(true, Ordering::SeqCst);
+        filled
+    }
+
+    // The look that was wanted, once it is filled.
+    fn take<R: Wait>(&self, rt: &R) -> Option<SubjectLook> {
+        self.page.lock(rt).filled.take()
+    }
+
+    // Whether one is wanted that the pump did not begin to fill.
+    fn is_wanted(&self) -> bool {
+        self.is_wanted.load(Ordering::SeqCst)
+    }
+
+    // Fills the look, that which was filled already anew. Whoever wants one meanwhile has it filled behind the next letter.
     #[inline(never)] // rare
-    fn fill_page<R: Wait>(&self, rt: &R, hub: &Hub) {
+    fn fill<R: Wait>(&self, rt: &R, hub: &Hub, backlog: Option<Backlog>) {
         self.is_wanted.store(false, Ordering::SeqCst);
-        self.page.lock(rt).fill(hub);
+        let mut page = self.page.lock(rt);
+        page.clear();
+        page.fill(hub, backlog);
     }
 }
 
 impl Page {
-    // Writes what is seen of a hub where a look is to be written, if anywhere.
-    fn fill(&mut self, hub: &Hub)
+    // Has a look that was filled written anew, unless there is room for another.
+    fn clear(&mut self) {
+        let filled = self.filled.take();
+        if self.blank.is_none() {
+            self.blank = filled;
+        }
+    }
+
+    // Writes what is seen of a hub, and this backlog, where a look is to be written, if anywhere.
+    fn fill(&mut self, hub: &Hub, backlog: Option<Backlog>)
         ensures none { self.old.blank ≡ None → self.new ≡ self.old }
         ensures seen { IfSome self.old.blank (λ _. IfSome self.new.filled (λ look. (H : History) → StandsFor hub.now.state H → IsSeen hub.now.state.rules H look)) }
         ensures room { IfSome self.old.blank (λ blank. length hub.now.state.observers ≤ vec_capacity blank.observers → IsSome self.new.filled) }
@@ -88,6 +157,7 @@ impl Page {
         let Some(mut look) = self.blank.take() else {
             return;
         };
+        look.backlog = backlog;
         self.filled = match hub.look(&mut look) {
             Ok(()) => Some(look),
             Err(_) => None,
