@@ -6,6 +6,7 @@ mod Digits
 mod Going
 mod Lines
 mod Plain
+mod PlainTexts
 mod Responses
 mod Single
 mod Spelled

@@ -14,10 +14,10 @@ use Rattle.rx_http.specs.Answers.{accepted_body, answer_bytes}
 use Rattle.rx_http.specs.Epochs.{IsEpoch}
 use Rattle.rx_http.specs.Laws.{IsPlace}
 use Rattle.rx_http.specs.Responses.{AnswersAreRead, body_of, head_of}
-use Rattle.rx_http.specs.declared.answer.Answer.TheVariants.{Events, Over, Well, Unwell, Accepted, Requested, Shown, Refused}
+use Rattle.rx_http.specs.declared.answer.Answer.TheVariants.{Events, Over, Well, Unwell, Accepted, Requested, Shown, Stops, Refused}
 use Rattle.rx_http.specs.declared.request.look_form.LookForm.TheVariants.{Stats, Metrics, Lines, Page}
 use Rattle.rx_http.specs.declared.answer.refusal.Refusal.{Refusal}
-use Rattle.rx_http.specs.declared.answer.refusal.Refusal.TheVariants.{Head, Word, LastEventId, Lf, Items, Origin, ReadOnly, Subject, Path, Observer, Method, OnlyGet, Length, Long, Ended, Spent, LongHead, Gone, Full, Stopping, Memory}
+use Rattle.rx_http.specs.declared.answer.refusal.Refusal.TheVariants.{Head, Word, LastEventId, Lf, Items, Within, Origin, NoStop, ReadOnly, Subject, Path, Observer, Method, OnlyGet, OnlyPost, Length, Long, Ended, Spent, LongHead, Gone, Full, Stopping, Memory}
 
 both : {P : Type 0} (a b : Bool) → (a && b) ≡ true → (a ≡ true → b ≡ true → P) → P
 both true true is then = then refl refl
@@ -59,13 +59,16 @@ refusals_are_read Word = (head-is _ refl, refl)
 refusals_are_read LastEventId = (head-is _ refl, refl)
 refusals_are_read Lf = (head-is _ refl, refl)
 refusals_are_read Items = (head-is _ refl, refl)
+refusals_are_read Within = (head-is _ refl, refl)
 refusals_are_read Origin = (head-is _ refl, refl)
+refusals_are_read NoStop = (head-is _ refl, refl)
 refusals_are_read ReadOnly = (head-is _ refl, refl)
 refusals_are_read Subject = (head-is _ refl, refl)
 refusals_are_read Path = (head-is _ refl, refl)
 refusals_are_read Observer = (head-is _ refl, refl)
 refusals_are_read Method = (head-is _ refl, refl)
 refusals_are_read OnlyGet = (head-is _ refl, refl)
+refusals_are_read OnlyPost = (head-is _ refl, refl)
 refusals_are_read Length = (head-is _ refl, refl)
 refusals_are_read Long = (head-is _ refl, refl)
 refusals_are_read Spent = (head-is _ refl, refl)
@@ -174,4 +177,5 @@ answers_are_read (Shown Stats body) is = stats_are_read body is
 answers_are_read (Shown Metrics body) is = metrics_are_read body is
 answers_are_read (Shown Lines body) is = lines_are_read body is
 answers_are_read (Shown Page body) is = page_is_read body is
+answers_are_read Stops is = (head-is _ refl, refl)
 answers_are_read (Refused refusal) is = refusals_are_read refusal

@@ -5,18 +5,18 @@ use Rattle.rx_note.specs.Choices.{Choice, choice}
 use Rattle.rx_note.specs.declared.errors.Errors.{Errors}
 use Rattle.rx_note.specs.declared.errors.Errors.TheVariants.{Ahead, Delay}
 use Rattle.rx_proto.specs.Names.{IsName}
-use Rattle.rx_http.specs.Asking.{AsksAt, AsksForEmission, AsksForEvents, AsksForItems, AsksForRequest, HasWords, HeadAsksForOne, NamesSubject, Nowhere, Route, SaysItems, SaysObserver, SaysSome, ToEmission, ToEvents, ToHealth, ToLook, ToRequest, known_word}
+use Rattle.rx_http.specs.Asking.{AsksAt, AsksForEmission, AsksForEvents, AsksForItems, AsksForRequest, AsksForStop, HasWords, HeadAsksForOne, NamesSubject, Nowhere, Route, SaysItems, SaysObserver, SaysSome, SaysStop, ToEmission, ToEvents, ToHealth, ToLook, ToRequest, ToStop, known_word}
 use Rattle.rx_http.specs.Bodies.{HasSize}
 use Rattle.rx_http.specs.Ids.{id_of, over_word, place_digits}
 use Rattle.rx_http.specs.Laws.{IsPlace}
-use Rattle.rx_http.specs.Words.{HasCredit, HasPolicy, HasWindow, IsId, SaysKnown, credit_word, errors_word, observer_id}
+use Rattle.rx_http.specs.Words.{HasCredit, HasPace, HasPolicy, HasWindow, HasWithin, IsId, SaysKnown, credit_word, errors_word, observer_id}
 use Rattle.rx_http.specs.declared.request.asked.Asked.{Asked}
-use Rattle.rx_http.specs.declared.request.asked.Asked.TheVariants.{Emission, Events, Health, Look, Request}
+use Rattle.rx_http.specs.declared.request.asked.Asked.TheVariants.{Emission, Events, Health, Look, Request, Stop}
 use Rattle.rx_http.specs.declared.request.credit.Credit.{Credit}
 use Rattle.rx_http.specs.declared.request.note_kind.NoteKind.{NoteKind}
 use Rattle.rx_http.specs.declared.request.observer_id.ObserverId.{ObserverId}
 use Rattle.rx_http.specs.declared.answer.refusal.Refusal.{Refusal}
-use Rattle.rx_http.specs.declared.answer.refusal.Refusal.TheVariants.{Head, Word, LastEventId, Lf, Items, Origin, ReadOnly, Subject, Path, Observer, Method, OnlyGet, Length, Long, Ended, Spent, LongHead, Gone, Full, Stopping, Memory}
+use Rattle.rx_http.specs.declared.answer.refusal.Refusal.TheVariants.{Head, Word, LastEventId, Lf, Items, Within, Origin, NoStop, ReadOnly, Subject, Path, Observer, Method, OnlyGet, OnlyPost, Length, Long, Ended, Spent, LongHead, Gone, Full, Stopping, Memory}
 use Rattle.rx_http.specs.declared.id.Id.{Id}
 use Rattle.rx_http.proofs.Cuts.{parted-one}
 use Rattle.rx_http.proofs.Spelled.{apart, limits-room, strategy-one}
@@ -38,20 +38,24 @@ policy-one query a b p q =
 window-one : (query : List ℕ) (a b : ℕ) → HasWindow query a → HasWindow query b → a ≡ b
 window-one query a b p q = decimal_injective a b (omega (arith, p.limits)) (omega (arith, q.limits)) (sym p.word ∙ q.word)
 
+pace-one : (query : List ℕ) (a b : ℕ) → HasPace query a → HasPace query b → a ≡ b
+pace-one query a b p q = decimal_injective a b (omega (arith, p.limits)) (omega (arith, q.limits)) (sym p.word ∙ q.word)
+
 asked-one : (a b : Bool) → credit_word a ≡ credit_word b → a ≡ b
 asked-one true true same = refl
 asked-one true false same = apart _ _ same refl
 asked-one false true same = apart _ _ same refl
 asked-one false false same = refl
 
-credit_with : ℕ → Bool → Credit
-credit_with window asked = record { window = window; asked = asked }
+credit_with : ℕ → Bool → ℕ → Credit
+credit_with window asked pace = record { window = window; asked = asked; pace = pace }
 
 credit-one : (query : List ℕ) (a b : Credit) → HasCredit query a → HasCredit query b → a ≡ b
 unfolding credit_with
 credit-one query a b p q =
-    ap (λ w. credit_with w a.asked) (window-one query a.window b.window p.window q.window)
-    ∙ ap (λ x. credit_with b.window x) (asked-one a.asked b.asked (sym p.asked ∙ q.asked))
+    ap (λ w. credit_with w a.asked a.pace) (window-one query a.window b.window p.window q.window)
+    ∙ ap (λ x. credit_with b.window x a.pace) (asked-one a.asked b.asked (sym p.asked ∙ q.asked))
+    ∙ ap (λ n. credit_with b.window b.asked n) (pace-one query a.pace b.pace p.pace q.pace)
 
 place-one : (a b : Option ℕ) → IsPlace a → IsPlace b → place_digits a ≡ place_digits b → a ≡ b
 place-one None None p q same = refl
@@ -123,6 +127,7 @@ verdict name query field (Ok (Emission subject kind size)) asks = absurd asks
 verdict name query field (Ok (Request subject observer items)) asks = absurd asks
 verdict name query field (Ok Health) asks = absurd asks
 verdict name query field (Ok (Look form)) asks = absurd asks
+verdict name query field (Ok (Stop within)) asks = absurd asks
 verdict name query field (Err Word) asks = (NoWords, refl, asks)
 verdict name query field (Err LastEventId) asks = (NoId, refl, asks)
 verdict name query field (Err Subject) asks = (NoName, refl, asks)
@@ -131,7 +136,10 @@ verdict name query field (Err Ended) asks = absurd asks
 verdict name query field (Err Long) asks = absurd asks
 verdict name query field (Err Length) asks = absurd asks
 verdict name query field (Err OnlyGet) asks = absurd asks
+verdict name query field (Err OnlyPost) asks = absurd asks
 verdict name query field (Err Origin) asks = absurd asks
+verdict name query field (Err Within) asks = absurd asks
+verdict name query field (Err NoStop) asks = absurd asks
 verdict name query field (Err ReadOnly) asks = absurd asks
 verdict name query field (Err Lf) asks = absurd asks
 verdict name query field (Err Path) asks = absurd asks
@@ -182,16 +190,20 @@ named name kind size (Ok (Events subject policy credit known)) names = absurd na
 named name kind size (Ok (Request subject observer items)) names = absurd names
 named name kind size (Ok Health) names = absurd names
 named name kind size (Ok (Look form)) names = absurd names
+named name kind size (Ok (Stop within)) names = absurd names
 named name kind size (Err Subject) names = inr (names, refl)
 named name kind size (Err Head) names = absurd names
 named name kind size (Err Word) names = absurd names
 named name kind size (Err LastEventId) names = absurd names
 named name kind size (Err Lf) names = absurd names
 named name kind size (Err Origin) names = absurd names
+named name kind size (Err Within) names = absurd names
+named name kind size (Err NoStop) names = absurd names
 named name kind size (Err ReadOnly) names = absurd names
 named name kind size (Err Path) names = absurd names
 named name kind size (Err Method) names = absurd names
 named name kind size (Err OnlyGet) names = absurd names
+named name kind size (Err OnlyPost) names = absurd names
 named name kind size (Err Length) names = absurd names
 named name kind size (Err Long) names = absurd names
 named name kind size (Err LongHead) names = absurd names
@@ -256,6 +268,7 @@ granted name word query (Ok (Events subject policy credit known)) asks = absurd 
 granted name word query (Ok (Emission subject kind size)) asks = absurd asks
 granted name word query (Ok Health) asks = absurd asks
 granted name word query (Ok (Look form)) asks = absurd asks
+granted name word query (Ok (Stop within)) asks = absurd asks
 granted name word query (Err Observer) asks = (NoObserver, refl, asks)
 granted name word query (Err Items) asks = (NoItems, refl, asks)
 granted name word query (Err Subject) asks = (NoSuch, refl, asks)
@@ -264,10 +277,13 @@ granted name word query (Err Word) asks = absurd asks
 granted name word query (Err LastEventId) asks = absurd asks
 granted name word query (Err Lf) asks = absurd asks
 granted name word query (Err Origin) asks = absurd asks
+granted name word query (Err Within) asks = absurd asks
+granted name word query (Err NoStop) asks = absurd asks
 granted name word query (Err ReadOnly) asks = absurd asks
 granted name word query (Err Path) asks = absurd asks
 granted name word query (Err Method) asks = absurd asks
 granted name word query (Err OnlyGet) asks = absurd asks
+granted name word query (Err OnlyPost) asks = absurd asks
 granted name word query (Err Length) asks = absurd asks
 granted name word query (Err Long) asks = absurd asks
 granted name word query (Err LongHead) asks = absurd asks
@@ -305,6 +321,57 @@ request-one name word query false a b p q =
     let h = granted name word query b q in
     g.1 ∙ ap (granted_by name) (grant-one name word query g.0 h.0 g.2 h.2) ∙ sym h.1
 
+-- SO DOES WHO STOPS A SERVER
+
+within-one : (query : List ℕ) (a b : ℕ) → HasWithin query a → HasWithin query b → a ≡ b
+within-one query a b p q = decimal_injective a b (omega (arith, p.limits)) (omega (arith, q.limits)) (sym p.word ∙ q.word)
+
+-- a stop says how long it waits, or nothing that does
+halted : (query : List ℕ) (result : Result Asked Refusal) → SaysStop query result
+    → ((within : ℕ) × HasWithin query within × (result ≡ Ok (Stop within))) ⊎ (((within : ℕ) → HasWithin query within → ⊥) × (result ≡ Err Within))
+halted query (Ok (Stop within)) says = inl (within, says, refl)
+halted query (Ok (Events subject policy credit known)) says = absurd says
+halted query (Ok (Emission subject kind size)) says = absurd says
+halted query (Ok (Request subject observer items)) says = absurd says
+halted query (Ok Health) says = absurd says
+halted query (Ok (Look form)) says = absurd says
+halted query (Err Within) says = inr (says, refl)
+halted query (Err Head) says = absurd says
+halted query (Err Word) says = absurd says
+halted query (Err LastEventId) says = absurd says
+halted query (Err Lf) says = absurd says
+halted query (Err Items) says = absurd says
+halted query (Err Origin) says = absurd says
+halted query (Err NoStop) says = absurd says
+halted query (Err ReadOnly) says = absurd says
+halted query (Err Subject) says = absurd says
+halted query (Err Path) says = absurd says
+halted query (Err Observer) says = absurd says
+halted query (Err Method) says = absurd says
+halted query (Err OnlyGet) says = absurd says
+halted query (Err OnlyPost) says = absurd says
+halted query (Err Length) says = absurd says
+halted query (Err Long) says = absurd says
+halted query (Err Ended) says = absurd says
+halted query (Err Spent) says = absurd says
+halted query (Err LongHead) says = absurd says
+halted query (Err Gone) says = absurd says
+halted query (Err Full) says = absurd says
+halted query (Err Stopping) says = absurd says
+halted query (Err Memory) says = absurd says
+
+halts-one : (query : List ℕ) (a b : Result Asked Refusal)
+    → ((within : ℕ) × HasWithin query within × (a ≡ Ok (Stop within))) ⊎ (((within : ℕ) → HasWithin query within → ⊥) × (a ≡ Err Within))
+    → ((within : ℕ) × HasWithin query within × (b ≡ Ok (Stop within))) ⊎ (((within : ℕ) → HasWithin query within → ⊥) × (b ≡ Err Within)) → a ≡ b
+halts-one query a b (inl (n, p, is)) (inl (m, q, was)) = is ∙ ap (λ k. Ok (Stop k)) (within-one query n m p q) ∙ sym was
+halts-one query a b (inl (n, p, is)) (inr (none, was)) = absurd (none n p)
+halts-one query a b (inr (none, is)) (inl (m, q, was)) = absurd (none m q)
+halts-one query a b (inr (none, is)) (inr (never, was)) = is ∙ sym was
+
+stop-one : (query : List ℕ) (foreign : Bool) (a b : Result Asked Refusal) → AsksForStop query foreign a → AsksForStop query foreign b → a ≡ b
+stop-one query true a b p q = p ∙ sym q
+stop-one query false a b p q = halts-one query a b (halted query a p) (halted query b q)
+
 -- the size of a body is told once
 size-one : (coding length : Option (List ℕ)) (a b : Option ℕ) → HasSize coding length a → HasSize coding length b → a ≡ b
 size-one (Some coding) length a b p q = p ∙ sym q
@@ -324,6 +391,7 @@ at-one (ToEmission name kind) query field foreign size a b p q = emission-one na
 at-one (ToRequest name word) query field foreign size a b p q = request-one name word query foreign a b p q
 at-one ToHealth query field foreign size a b p q = p ∙ sym q
 at-one (ToLook form) query field foreign size a b p q = p ∙ sym q
+at-one ToStop query field foreign size a b p q = stop-one query foreign a b p q
 at-one (Nowhere cause) query field foreign size a b p q = p ∙ sym q
 
 sized-one : (route : Route) (query : List ℕ) (field coding length : Option (List ℕ)) (foreign : Bool) (n m : Option ℕ) (a b : Result Asked Refusal) → HasSize coding length n

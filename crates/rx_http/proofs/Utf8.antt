@@ -29,7 +29,7 @@ word-ascii [] each = IsAscii-nil
 word-ascii (byte ∷ bytes) each = word-more (nat_lt byte 128) byte bytes refl each (word-ascii bytes)
 
 -- a word of ASCII, by computation
-word : (bytes : List ℕ) → list_all (λ b. nat_lt b 128) bytes ≡ true → IsUtf8 bytes
+pub word : (bytes : List ℕ) → list_all (λ b. nat_lt b 128) bytes ≡ true → IsUtf8 bytes
 word bytes each = IsUtf8-from_ascii bytes (word-ascii bytes each)
 
 -- A TEXT

@@ -4,11 +4,11 @@
 -- last of its connection. No memory is taken.
 use Rattle.std.specs.Prelude.{ℕ, List, [], ◌++◌, length, Option, None, Some, codes, decimal}
 use Rattle.rx_http.specs.declared.answer.Answer.{Answer}
-use Rattle.rx_http.specs.declared.answer.Answer.TheVariants.{Events, Over, Well, Unwell, Accepted, Requested, Shown, Refused}
+use Rattle.rx_http.specs.declared.answer.Answer.TheVariants.{Events, Over, Well, Unwell, Accepted, Requested, Shown, Stops, Refused}
 use Rattle.rx_http.specs.declared.request.look_form.LookForm.{LookForm}
 use Rattle.rx_http.specs.declared.request.look_form.LookForm.TheVariants.{Stats, Metrics, Lines, Page}
 use Rattle.rx_http.specs.declared.answer.refusal.Refusal.{Refusal}
-use Rattle.rx_http.specs.declared.answer.refusal.Refusal.TheVariants.{Head, Word, LastEventId, Lf, Items, Origin, ReadOnly, Subject, Path, Observer, Method, OnlyGet, Length, Long, Ended, Spent, LongHead, Gone, Full, Stopping, Memory}
+use Rattle.rx_http.specs.declared.answer.refusal.Refusal.TheVariants.{Head, Word, LastEventId, Lf, Items, Within, Origin, NoStop, ReadOnly, Subject, Path, Observer, Method, OnlyGet, OnlyPost, Length, Long, Ended, Spent, LongHead, Gone, Full, Stopping, Memory}
 
 -- the status of a refusal
 abbrev pub status_of : Refusal → List ℕ
@@ -17,13 +17,16 @@ status_of Word = codes "400 Bad Request"
 status_of LastEventId = codes "400 Bad Request"
 status_of Lf = codes "400 Bad Request"
 status_of Items = codes "400 Bad Request"
+status_of Within = codes "400 Bad Request"
 status_of Origin = codes "403 Forbidden"
+status_of NoStop = codes "403 Forbidden"
 status_of ReadOnly = codes "403 Forbidden"
 status_of Subject = codes "404 Not Found"
 status_of Path = codes "404 Not Found"
 status_of Observer = codes "404 Not Found"
 status_of Method = codes "405 Method Not Allowed"
 status_of OnlyGet = codes "405 Method Not Allowed"
+status_of OnlyPost = codes "405 Method Not Allowed"
 status_of Length = codes "411 Length Required"
 status_of Long = codes "413 Content Too Large"
 status_of Spent = codes "409 Conflict"
@@ -41,13 +44,16 @@ error_of Word = codes "strategy"
 error_of LastEventId = codes "last-event-id"
 error_of Lf = codes "lf"
 error_of Items = codes "request"
+error_of Within = codes "within"
 error_of Origin = codes "origin"
+error_of NoStop = codes "stop"
 error_of ReadOnly = codes "emit"
 error_of Subject = codes "subject"
 error_of Path = codes "path"
 error_of Observer = codes "observer"
 error_of Method = codes "method"
 error_of OnlyGet = codes "method"
+error_of OnlyPost = codes "method"
 error_of Length = codes "length"
 error_of Long = codes "long"
 error_of Spent = codes "spent"
@@ -65,13 +71,16 @@ advice_of Word = codes "strategy is BUFFER, DROP:n, LATEST:n or BOUNDED:n, error
 advice_of LastEventId = codes "it is none that a server tells"
 advice_of Lf = codes "a text is one line"
 advice_of Items = codes "request is how many items more, at least 1"
+advice_of Within = codes "within is how many seconds, 0 to 3,600"
 advice_of Origin = codes "a page of another site sends it"
+advice_of NoStop = codes "the configuration has no stop"
 advice_of ReadOnly = codes "readers alone are served"
 advice_of Subject = codes "the configuration has no such subject"
 advice_of Path = codes "try /, /subjects/NAME, /stats, /metrics or /healthz"
 advice_of Observer = codes "there is none of that name that asks for its items itself"
 advice_of Method = codes "try GET or POST"
 advice_of OnlyGet = codes "try GET"
+advice_of OnlyPost = codes "try POST"
 advice_of Length = codes "say Content-Length"
 advice_of Long = codes "a text has at most 1,024 bytes, and 8,192 with the head"
 advice_of Spent = codes "the subject accepted as many joins or items as it may"
@@ -86,6 +95,7 @@ advice_of Memory = codes "the budget of the subject is used up"
 abbrev pub fields_of : Refusal → List ℕ
 fields_of Method = codes "Allow: GET, POST\r\n"
 fields_of OnlyGet = codes "Allow: GET\r\n"
+fields_of OnlyPost = codes "Allow: POST\r\n"
 fields_of Full = codes "Retry-After: 5\r\n"
 fields_of Stopping = codes "Retry-After: 2\r\n"
 fields_of other = []
@@ -150,4 +160,5 @@ answer_bytes Unwell = sized (codes "503 Service Unavailable") plain_kind [] (cod
 answer_bytes (Accepted epoch place) = sized (codes "200 OK") (codes "application/json") [] (accepted_body epoch place)
 answer_bytes Requested = empty_head
 answer_bytes (Shown form body) = sized (codes "200 OK") (look_kind form) (look_fields form) body
+answer_bytes Stops = sized (codes "202 Accepted") plain_kind [] (codes "stopping\n")
 answer_bytes (Refused refusal) = sized (status_of refusal) (codes "application/json") (fields_of refusal) (refusal_body refusal)

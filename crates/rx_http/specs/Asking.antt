@@ -4,10 +4,11 @@
 -- The exact requests: a head of at most 8,192 bytes and 32 fields that is one of the grammar of HTTP/1.0 and HTTP/1.1 asks
 -- for the events of a subject, by GET of `/subjects/NAME`, for the emission of a note there, by POST of it or of `end` or
 -- `fail` behind it, for items for an observer, by POST of it with `observers/` and its word behind it, for whether all is well, by GET of `/healthz`, or for what is seen of the server, by GET of `/`, `/stats`,
--- `/stats.txt` or `/metrics`; or it is refused for the first of these causes: its path,
+-- `/stats.txt` or `/metrics`, or for a stop, by POST of `/stop`; or it is refused for the first of these causes: its path,
 -- its method; of events a word of its query, what its reader says to know, the name of the subject; of an emission that a page
 -- of another site sends it, that the size of its body isn't told, or is above 1,024 bytes, the name; of items that a page of
--- another site asks for them, the word of the observer, how many they are, the name. Other bytes are refused as
+-- another site asks for them, the word of the observer, how many they are, the name; of a stop that a page of another site asks for it,
+-- how long it waits. Other bytes are refused as
 -- too long, where they are more or begin with more fields, or as no head. It asks for one thing, or is refused for one cause.
 -- No memory is taken.
 use Rattle.std.specs.Prelude.{◌≡◌, ◌<◌, ◌≤◌, ◌⊎◌, ℕ, Bool, List, [], ◌∷◌, length, map, if◌then◌else◌, Option, None, Some, Result, Ok, Err, MatchBool, MatchOption, codes, decimal}
@@ -20,9 +21,9 @@ use Rattle.rx_proto.specs.Names.{IsName}
 use Rattle.rx_proto.specs.Reading.{begins_with, rest_behind, same_word}
 use Rattle.rx_http.specs.Bodies.{HasSize, is_foreign}
 use Rattle.rx_http.specs.Queries.{cut_at, path_of, query_of, word_in}
-use Rattle.rx_http.specs.Words.{HasCredit, HasPolicy, IsNumber, IsObserver, SaysKnown, items_word, observer_word}
+use Rattle.rx_http.specs.Words.{HasCredit, HasPolicy, HasWithin, IsNumber, IsObserver, SaysKnown, items_word, observer_word}
 use Rattle.rx_http.specs.declared.request.asked.Asked.{Asked}
-use Rattle.rx_http.specs.declared.request.asked.Asked.TheVariants.{Emission, Events, Health, Look, Request}
+use Rattle.rx_http.specs.declared.request.asked.Asked.TheVariants.{Emission, Events, Health, Look, Request, Stop}
 use Rattle.rx_http.specs.declared.request.credit.Credit.{Credit}
 use Rattle.rx_http.specs.declared.request.look_form.LookForm.{LookForm}
 use Rattle.rx_http.specs.declared.request.look_form.LookForm.TheVariants.{Stats, Metrics, Lines, Page}
@@ -95,14 +96,25 @@ AsksForItems name word query other = ⊥
 abbrev pub AsksForRequest : List ℕ → List ℕ → List ℕ → Bool → Result Asked Refusal → Type 0
 AsksForRequest name word query foreign result = MatchBool foreign (result ≡ Err causes.Origin) (AsksForItems name word query result)
 
+-- what is asked for of a server that is to stop, or the first cause for which it is refused: how long it waits is no such number
+abbrev pub SaysStop : List ℕ → Result Asked Refusal → Type 0
+SaysStop query (Ok (Stop within)) = HasWithin query within
+SaysStop query (Err causes.Within) = (within : ℕ) → HasWithin query within → ⊥
+SaysStop query other = ⊥
+
+-- the same, where it may be that a page of another site asks for it
+abbrev pub AsksForStop : List ℕ → Bool → Result Asked Refusal → Type 0
+AsksForStop query foreign result = MatchBool foreign (result ≡ Err causes.Origin) (SaysStop query result)
+
 -- where a method and a path lead: to the events of the subject of a name, to the emission of a note there, to items for the observer of a
--- word there, to whether all is well, to what is seen of the server, or nowhere
+-- word there, to whether all is well, to what is seen of the server, to its stop, or nowhere
 pub data Route : Type 0 where
   ToEvents : (name : List ℕ) → Route
   ToEmission : (name : List ℕ) (kind : NoteKind) → Route
   ToRequest : (name word : List ℕ) → Route
   ToHealth : Route
   ToLook : (form : LookForm) → Route
+  ToStop : Route
   Nowhere : (cause : Refusal) → Route
 
 -- the route of a POST, by what stands behind the path of the subjects: the subject's name, and what is said to it, or an observer
@@ -121,6 +133,10 @@ subject_route method rest =
 -- a route that GET alone takes
 abbrev pub by_get : List ℕ → Route → Route
 by_get method route = if same_word method (codes "GET") then route else Nowhere causes.OnlyGet
+
+-- the route to the stop, by its methods
+abbrev pub stop_route : List ℕ → Route
+stop_route method = if same_word method (codes "POST") then ToStop else Nowhere causes.OnlyPost
 
 -- how who looks by this path is told what is seen; nobody looks by another
 abbrev pub form_of : List ℕ → Option LookForm
@@ -141,7 +157,9 @@ abbrev pub route_of : List ℕ → List ℕ → Route
 route_of method path =
     if same_word path (codes "/healthz") then by_get method ToHealth
     else look_route method (form_of path)
-    (if begins_with path (codes "/subjects/") then subject_route method (rest_behind path (codes "/subjects/")) else Nowhere causes.Path)
+    (if same_word path (codes "/stop") then stop_route method
+    else if begins_with path (codes "/subjects/") then subject_route method (rest_behind path (codes "/subjects/"))
+    else Nowhere causes.Path)
 
 -- what is asked for at the end of a route, or the cause for which it is refused
 abbrev pub AsksAt : Route → List ℕ → Option (List ℕ) → Bool → Option ℕ → Result Asked Refusal → Type 0
@@ -150,6 +168,7 @@ AsksAt (ToEmission name kind) query field foreign size result = AsksForEmission 
 AsksAt (ToRequest name word) query field foreign size result = AsksForRequest name word query foreign result
 AsksAt ToHealth query field foreign size result = result ≡ Ok Health
 AsksAt (ToLook form) query field foreign size result = result ≡ Ok (Look form)
+AsksAt ToStop query field foreign size result = AsksForStop query foreign result
 AsksAt (Nowhere cause) query field foreign size result = result ≡ Err cause
 
 -- what a method, a target and a field ask for, by whether a page of another site sent them and by the size of their body

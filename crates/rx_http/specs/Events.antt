@@ -1,11 +1,11 @@
 -- What each event of a stream says. The rules are this project's own.
-use Rattle.std.specs.Prelude.{ℕ, List, [], ◌++◌, ◌==◌, true, false, if◌then◌else◌, Option, None, Some, codes, decimal}
+use Rattle.std.specs.Prelude.{◌≡◌, ◌≤◌, ◌&&◌, ℕ, Bool, List, [], ◌++◌, ◌==◌, length, nat_lt, not, true, false, if◌then◌else◌, Option, None, Some, codes, decimal}
 use Rattle.std.specs.Str.{is_utf8}
 use Rattle.base64.specs.Engines.{standard}
 use Rattle.base64.specs.GeneralPurpose.{encode_of}
 use Rattle.rx_note.specs.declared.item.Item.{Item}
 use Rattle.rx_http.specs.Ids.{id_bytes, id_of}
-use Rattle.rx_http.specs.Pieces.{Saying, saying_bytes}
+use Rattle.rx_http.specs.Pieces.{Saying, saying_bytes, text_lines}
 use Rattle.rx_http.specs.declared.stream_event.StreamEvent.{StreamEvent}
 use Rattle.rx_http.specs.declared.stream_event.StreamEvent.TheVariants.{Joined, Next, Missed, Restarted, Completed, Failed, Overflowed}
 
@@ -16,6 +16,21 @@ kind_by kind text = if is_utf8 text then kind else kind ++ codes "64"
 -- a text as it is told: where it is no UTF-8, in base64
 abbrev pub text_by : List ℕ → List ℕ
 text_by text = if is_utf8 text then text else encode_of standard text
+
+-- a byte of ASCII that ends no line of a text
+abbrev pub is_plain_byte : ℕ → Bool
+is_plain_byte byte = nat_lt byte 128 && not (byte == 13)
+
+-- a text that is told as itself on one line
+pub record IsLine (text : List ℕ) : Type 0 where
+  pub told : is_utf8 text ≡ true
+  pub line : text_lines text ≡ text
+
+-- an item whose event goes by one write
+pub record IsShort (item : Item) : Type 0 where
+  pub few : length item.text ≤ 120
+  pub own : (item.place == 4294967295) ≡ false
+  pub line : IsLine item.text
 
 -- the id of an item: its place; none of a seed, which has the last place of all
 abbrev pub item_id : List ℕ → ℕ → Option (List ℕ)

@@ -8,11 +8,11 @@ use Rattle.rx_http.specs.Epochs.{IsEpoch}
 use Rattle.rx_http.specs.Laws.{IsPlace}
 use Rattle.rx_http.specs.Answers.{accepted_body, answer_bytes, look_kind, plain_kind, refusal_body}
 use Rattle.rx_http.specs.declared.answer.Answer.{Answer}
-use Rattle.rx_http.specs.declared.answer.Answer.TheVariants.{Events, Over, Well, Unwell, Accepted, Requested, Shown, Refused}
+use Rattle.rx_http.specs.declared.answer.Answer.TheVariants.{Events, Over, Well, Unwell, Accepted, Requested, Shown, Stops, Refused}
 use Rattle.rx_http.specs.declared.request.look_form.LookForm.{LookForm}
 use Rattle.rx_http.specs.declared.request.look_form.LookForm.TheVariants.{Stats, Metrics, Lines, Page}
 use Rattle.rx_http.specs.declared.answer.refusal.Refusal.{Refusal}
-use Rattle.rx_http.specs.declared.answer.refusal.Refusal.TheVariants.{Head, Word, LastEventId, Lf, Items, Origin, ReadOnly, Subject, Path, Observer, Method, OnlyGet, Length, Long, Ended, Spent, LongHead, Gone, Full, Stopping, Memory}
+use Rattle.rx_http.specs.declared.answer.refusal.Refusal.TheVariants.{Head, Word, LastEventId, Lf, Items, Within, Origin, NoStop, ReadOnly, Subject, Path, Observer, Method, OnlyGet, OnlyPost, Length, Long, Ended, Spent, LongHead, Gone, Full, Stopping, Memory}
 
 -- a field of an answer
 abbrev pub field : List ℕ → List ℕ → Field
@@ -42,13 +42,16 @@ refusal_head Word = refused (codes "400") (codes "Bad Request") [] Word
 refusal_head LastEventId = refused (codes "400") (codes "Bad Request") [] LastEventId
 refusal_head Lf = refused (codes "400") (codes "Bad Request") [] Lf
 refusal_head Items = refused (codes "400") (codes "Bad Request") [] Items
+refusal_head Within = refused (codes "400") (codes "Bad Request") [] Within
 refusal_head Origin = refused (codes "403") (codes "Forbidden") [] Origin
+refusal_head NoStop = refused (codes "403") (codes "Forbidden") [] NoStop
 refusal_head ReadOnly = refused (codes "403") (codes "Forbidden") [] ReadOnly
 refusal_head Subject = refused (codes "404") (codes "Not Found") [] Subject
 refusal_head Path = refused (codes "404") (codes "Not Found") [] Path
 refusal_head Observer = refused (codes "404") (codes "Not Found") [] Observer
 refusal_head Method = refused (codes "405") (codes "Method Not Allowed") (field (codes "Allow") (codes "GET, POST") ∷ []) Method
 refusal_head OnlyGet = refused (codes "405") (codes "Method Not Allowed") (field (codes "Allow") (codes "GET") ∷ []) OnlyGet
+refusal_head OnlyPost = refused (codes "405") (codes "Method Not Allowed") (field (codes "Allow") (codes "POST") ∷ []) OnlyPost
 refusal_head Length = refused (codes "411") (codes "Length Required") [] Length
 refusal_head Long = refused (codes "413") (codes "Content Too Large") [] Long
 refusal_head LongHead = refused (codes "431") (codes "Request Header Fields Too Large") [] LongHead
@@ -82,6 +85,7 @@ head_of Unwell = head_with (codes "503") (codes "Service Unavailable") plain_kin
 head_of (Accepted epoch place) = head_with (codes "200") (codes "OK") (codes "application/json") [] (accepted_body epoch place)
 head_of Requested = head (codes "204") (codes "No Content") (kept_nowhere [])
 head_of (Shown form body) = head_with (codes "200") (codes "OK") (look_kind form) (shown_fields form) body
+head_of Stops = head_with (codes "202") (codes "Accepted") plain_kind [] (codes "stopping\n")
 head_of (Refused refusal) = refusal_head refusal
 
 -- its body, where that does not go on to the end of the connection
@@ -93,6 +97,7 @@ body_of Unwell = codes "unwell\n"
 body_of (Accepted epoch place) = accepted_body epoch place
 body_of Requested = []
 body_of (Shown form body) = body
+body_of Stops = codes "stopping\n"
 body_of (Refused refusal) = refusal_body refusal
 
 -- an answer that there is: its epoch is one, its place has 32 bits, and its body less than 4 GiB
@@ -104,6 +109,7 @@ IsAnswer Unwell = Unit {0}
 IsAnswer (Accepted epoch place) = IsEpoch epoch × IsPlace place
 IsAnswer Requested = Unit {0}
 IsAnswer (Shown form body) = length body < 2 ^ 32
+IsAnswer Stops = Unit {0}
 IsAnswer (Refused refusal) = Unit {0}
 
 -- THE LAW: by the grammar each answer is read as this head, and behind it stands this body

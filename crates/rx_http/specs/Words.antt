@@ -64,6 +64,24 @@ pub record HasWindow (query : List ℕ) (window : ℕ) : Type 0 where
   pub limits : IsWindow window
   pub word : word_in (codes "window=") (codes "16") query ≡ decimal window
 
+-- how many milliseconds may be between two items of a reader: up to 60,000, and 0 where they are told as they come
+abbrev pub IsPace : ℕ → Type 0
+IsPace n = n ≤ 60000
+
+-- a pace that the words of a query say: none where it has none
+pub record HasPace (query : List ℕ) (pace : ℕ) : Type 0 where
+  pub limits : IsPace pace
+  pub word : word_in (codes "pace=") (codes "0") query ≡ decimal pace
+
+-- how many seconds a server that stops may wait for who has something waiting: up to 3,600
+abbrev pub IsWithin : ℕ → Type 0
+IsWithin n = n ≤ 3600
+
+-- how many of them the words of a query say: 10 where it has none
+pub record HasWithin (query : List ℕ) (within : ℕ) : Type 0 where
+  pub limits : IsWithin within
+  pub word : word_in (codes "within=") (codes "10") query ≡ decimal within
+
 -- who asks for the items of a reader: it does itself, or its socket does as it takes them
 abbrev pub credit_word : Bool → List ℕ
 credit_word true = codes "asked"
@@ -73,10 +91,11 @@ credit_word false = codes "socket"
 abbrev pub IsAsking : Bool → Type 0
 IsAsking asked = Unit {0}
 
--- a credit that the words of a query say: by the socket where it has none
+-- a credit that the words of a query say: by the socket, as they come, where it has none
 pub record HasCredit (query : List ℕ) (credit : Credit) : Type 0 where
   pub window : HasWindow query credit.window
   pub asked : word_in (codes "credit=") (codes "socket") query ≡ credit_word credit.asked
+  pub pace : HasPace query credit.pace
 
 -- how many items a query asks for: one where it says nothing
 abbrev pub items_word : List ℕ → List ℕ

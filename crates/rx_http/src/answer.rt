@@ -29,6 +29,8 @@ pub enum Answer {
         form: LookForm,
         body: Document,
     },
+    /// The server stops from now on.
+    Stops,
     /// It is refused.
     Refused(Refusal),
 }

@@ -114,6 +114,7 @@ pub fn answer_can_be_told(answer: &Answer)
         | Answer::Well
         | Answer::Unwell
         | Answer::Requested
+        | Answer::Stops
         | Answer::Refused(_) => {}
     }
 }

@@ -3,7 +3,7 @@ ghost use Rattle.std.specs.Prelude.{◌≡◌, All, Err, List, MatchBool, Ok, Op
 ghost use Rattle.std.specs.Str.{str_to_ascii_lowercase};
 ghost use Rattle.httparse.specs.Grammar.{RequestHead};
 ghost use Rattle.httparse.specs.Spans.{IsHeaderWithin, header_bytes};
-ghost use Rattle.rx_http.specs.Asking.{AsksAt, AsksFor, AsksForEmission, AsksForEvents, AsksForRequest, HeadAsksFor, IsHead, IsReadOfHead, field_in, form_of, known_word, post_route, subject_route};
+ghost use Rattle.rx_http.specs.Asking.{AsksAt, AsksFor, AsksForEmission, AsksForEvents, AsksForRequest, AsksForStop, HeadAsksFor, IsHead, IsReadOfHead, field_in, form_of, known_word, post_route, stop_route, subject_route};
 ghost use Rattle.rx_http.specs.Words.{IsFound, SaysKnown};
 
 pub(crate) mod asked;
@@ -19,7 +19,7 @@ pub(crate) mod word;
 
 use crate::parts::cut;
 use crate::request::body::{is_foreign, size_of_body};
-use crate::request::policy_words::{credit_of, items_of, policy_of};
+use crate::request::policy_words::{credit_of, items_of, policy_of, within_of};
 use crate::request::query::word_of;
 use crate::{Asked, Id, LookForm, NoteKind, ObserverId, Refusal};
 use httparse::spans::{EMPTY_HEADER_SPAN, HeaderSpan, parse_request};
@@ -36,8 +36,9 @@ const MAX_FIELDS: usize = 32;
 const MAX_TEXT: u32 = 1024;
 
 /// What a head asks for: all bytes of a request up to and with its first empty line. It takes no memory. Refused in the order
-/// `LongHead`, `Head`, `Path`, `OnlyGet` or `Method`; then for events `Word`, `LastEventId`, `Subject`, for an emission `Origin`,
-/// `Length`, `Long`, `Subject`, and for items of an observer `Origin`, `Observer`, `Items`, `Subject`.
+/// `LongHead`, `Head`, `Path`, `OnlyGet`, `OnlyPost` or `Method`; then for events `Word`, `LastEventId`, `Subject`, for an emission
+/// `Origin`, `Length`, `Long`, `Subject`, for items of an observer `Origin`, `Observer`, `Items`, `Subject`, and for a stop `Origin`,
+/// `Within`.
 pub fn read_request(head: &[u8]) -> Result<Asked, Refusal>
     ensures read { IsReadOfHead head.now result }
     ensures whole { (request : RequestHead) → IsHead head.now request → HeadAsksFor request result }
@@ -102,6 +103,9 @@ fn asked_for(
     if let Some(form) = form_of(path) {
         return by_get(is_get, Asked::Look(form));
     }
+    if path == b"/stop".as_slice() {
+        return stop_asked_for(method, query, is_foreign);
+    }
     match path.strip_prefix(b"/subjects/".as_slice()) {
         Some(rest) => subject_asked_for(method, rest, query, known, is_foreign, size),
         None => Err(Refusal::Path),
@@ -153,6 +157,30 @@ fn by_get(is_get: bool, asked: Asked) -> Result<Asked, Refusal>
         Ok(asked)
     } else {
         Err(Refusal::OnlyGet)
+    }
+}
+
+// What a method asks for at the path of a stop.
+fn stop_asked_for(method: &[u8], query: &[u8], is_foreign: bool) -> Result<Asked, Refusal>
+    ensures { (field : Option (List ℕ)) (size : Option ℕ) → AsksAt (stop_route method.now) query.now field is_foreign size result }
+{
+    if method == b"POST".as_slice() {
+        stop_of(query, is_foreign)
+    } else {
+        Err(Refusal::OnlyPost)
+    }
+}
+
+// The stop that a query says.
+fn stop_of(query: &[u8], is_foreign: bool) -> Result<Asked, Refusal>
+    ensures { AsksForStop query.now is_foreign result }
+{
+    if is_foreign {
+        return Err(Refusal::Origin);
+    }
+    match within_of(query) {
+        Some(within) => Ok(Asked::Stop { within }),
+        None => Err(Refusal::Within),
     }
 }
 

@@ -14,8 +14,12 @@ pub enum Refusal {
     Lf,
     /// 400: how many items it asks for is no number of them, or more than may be.
     Items,
+    /// 400: how long a stop may take is no number of seconds, or more than may be.
+    Within,
     /// 403: a page of another site sends it.
     Origin,
+    /// 403: the configuration has no stop.
+    NoStop,
     /// 403: readers alone are served.
     ReadOnly,
     /// 404: there is no subject of that name.
@@ -28,6 +32,8 @@ pub enum Refusal {
     Method,
     /// 405: nothing is served there but by GET.
     OnlyGet,
+    /// 405: nothing is served there but by POST.
+    OnlyPost,
     /// 411: how long its body is isn't told by one number.
     Length,
     /// 413: its text has more than 1,024 bytes, or more than 8,192 with the head.
@@ -54,11 +60,15 @@ impl Refusal {
         ensures { result.now ≡ status_of self }
     {
         match self {
-            Refusal::Head | Refusal::Word | Refusal::LastEventId | Refusal::Lf | Refusal::Items =>
-                b"400 Bad Request",
-            Refusal::Origin | Refusal::ReadOnly => b"403 Forbidden",
+            Refusal::Head
+            | Refusal::Word
+            | Refusal::LastEventId
+            | Refusal::Lf
+            | Refusal::Items
+            | Refusal::Within => b"400 Bad Request",
+            Refusal::Origin | Refusal::NoStop | Refusal::ReadOnly => b"403 Forbidden",
             Refusal::Subject | Refusal::Path | Refusal::Observer => b"404 Not Found",
-            Refusal::Method | Refusal::OnlyGet => b"405 Method Not Allowed",
+            Refusal::Method | Refusal::OnlyGet | Refusal::OnlyPost => b"405 Method Not Allowed",
             Refusal::Ended | Refusal::Spent => b"409 Conflict",
             Refusal::Length => b"411 Length Required",
             Refusal::Long => b"413 Content Too Large",
@@ -80,12 +90,14 @@ impl Refusal {
             Refusal::LastEventId => b"last-event-id",
             Refusal::Lf => b"lf",
             Refusal::Items => b"request",
+            Refusal::Within => b"within",
             Refusal::Origin => b"origin",
+            Refusal::NoStop => b"stop",
             Refusal::ReadOnly => b"emit",
             Refusal::Subject => b"subject",
             Refusal::Path => b"path",
             Refusal::Observer => b"observer",
-            Refusal::Method | Refusal::OnlyGet => b"method",
+            Refusal::Method | Refusal::OnlyGet | Refusal::OnlyPost => b"method",
             Refusal::Length => b"length",
             Refusal::Long => b"long",
             Refusal::Ended => b"ended",
@@ -112,10 +124,13 @@ impl Refusal {
             Refusal::Observer => b"there is none of that name that asks for its items itself",
             Refusal::Lf => b"a text is one line",
             Refusal::Items => b"request is how many items more, at least 1",
+            Refusal::Within => b"within is how many seconds, 0 to 3,600",
             Refusal::Origin => b"a page of another site sends it",
+            Refusal::NoStop => b"the configuration has no stop",
             Refusal::ReadOnly => b"readers alone are served",
             Refusal::Method => b"try GET or POST",
             Refusal::OnlyGet => b"try GET",
+            Refusal::OnlyPost => b"try POST",
             Refusal::Length => b"say Content-Length",
             Refusal::Long => b"a text has at most 1,024 bytes, and 8,192 with the head",
             Refusal::Ended => b"the subject has ended",
@@ -135,6 +150,7 @@ impl Refusal {
         match self {
             Refusal::Method => b"Allow: GET, POST\r\n",
             Refusal::OnlyGet => b"Allow: GET\r\n",
+            Refusal::OnlyPost => b"Allow: POST\r\n",
             Refusal::Full => b"Retry-After: 5\r\n",
             Refusal::Stopping => b"Retry-After: 2\r\n",
             _ => b"",

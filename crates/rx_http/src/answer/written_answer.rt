@@ -48,6 +48,7 @@ pub fn write_answer<W: Write>(writer: &mut W, answer: Answer) -> Result<(), Writ
                 body.as_bytes(),
             )
         }
+        Answer::Stops => write_sized(writer, b"202 Accepted", PLAIN, b"", b"stopping\n"),
         Answer::Refused(refusal) => write_refusal(writer, refusal),
     }
 }

@@ -38,4 +38,9 @@ pub enum Asked {
     Look(LookForm),
     /// `GET /healthz`: whether all is well.
     Health,
+    /// `POST /stop`: that the server stops.
+    Stop {
+        /// How many seconds it waits at most for who has something waiting, up to 3,600.
+        within: u32,
+    },
 }

@@ -5,4 +5,6 @@ pub struct Credit {
     pub window: u32,
     /// It asks for each further item itself. Else one is asked for in the place of each that went out to it.
     pub asked: bool,
+    /// How many milliseconds are between two items that are told to it at the least, up to 60,000; 0 where it takes them as they come.
+    pub pace: u32,
 }

@@ -1,7 +1,7 @@
-// The words by which a reader chooses a strategy, an error mode and its credit, and asks for items.
+// The words by which a reader chooses a strategy, an error mode and its credit, and asks for items; and by which a server is stopped.
 ghost use Rattle.std.specs.Prelude.{◌↔◌, IsTrue, codes, decimal};
 ghost use Rattle.rx_http.specs.Queries.{word_in};
-ghost use Rattle.rx_http.specs.Words.{HasCredit, HasPolicy, HasShortRoom, HasWindow, IsAnyErrors, IsAsking, IsFound, IsNumber, IsReadOf, IsRoom, IsWindow, credit_word, errors_word, items_word, strategy_word};
+ghost use Rattle.rx_http.specs.Words.{HasCredit, HasPace, HasPolicy, HasShortRoom, HasWindow, HasWithin, IsAnyErrors, IsAsking, IsFound, IsNumber, IsPace, IsReadOf, IsRoom, IsWindow, IsWithin, credit_word, errors_word, items_word, strategy_word};
 
 use crate::Credit;
 use crate::number::number_of;
@@ -10,6 +10,12 @@ use rx_note::{Errors, Policy, Strategy};
 
 // The most items that may be on their way to a reader at a time.
 const MAX_WINDOW: u32 = 16;
+
+// The most milliseconds that may be between two items of a reader.
+const MAX_PACE: u32 = 60_000;
+
+// The most seconds that a server that stops may wait.
+const MAX_WITHIN: u32 = 3_600;
 
 /// The policy that the words of a query say: BUFFER and DELAY where it has none.
 pub(crate) fn policy_of(query: &[u8]) -> Option<Policy>
@@ -23,13 +29,18 @@ pub(crate) fn policy_of(query: &[u8]) -> Option<Policy>
     }
 }
 
-/// The credit that the words of a query say: 16 items, of which the socket has more asked for, where it has none.
+/// The credit that the words of a query say: 16 items, of which the socket has more asked for, as they come, where it has none.
 pub(crate) fn credit_of(query: &[u8]) -> Option<Credit>
     ensures { IsFound (HasCredit query.now) result }
 {
     let window = window_of(query)?;
     let asked = asked_in(query)?;
-    Some(Credit { window, asked })
+    let pace = pace_of(query)?;
+    Some(Credit {
+        window,
+        asked,
+        pace,
+    })
 }
 
 /// How many items the words of a query ask for: one where it has none.
@@ -37,6 +48,22 @@ pub(crate) fn items_of(query: &[u8]) -> Option<u32>
     ensures { IsReadOf IsNumber decimal (items_word query.now) result }
 {
     number_in(query, b"request=", b"1")
+}
+
+/// How many seconds a server that stops waits at most, by the words of a query: 10 where it has none.
+pub(crate) fn within_of(query: &[u8]) -> Option<u32>
+    ensures { IsFound (HasWithin query.now) result }
+{
+    match number_in(query, b"within=", b"10") {
+        Some(within) if is_within(within) => Some(within),
+        _ => None,
+    }
+}
+
+fn is_within(number: u32) -> bool
+    ensures { IsTrue result ↔ IsWithin number }
+{
+    number <= MAX_WITHIN
 }
 
 // The window that the words of a query say: 16 where it has none.
@@ -53,6 +80,22 @@ fn is_window(number: u32) -> bool
     ensures { IsTrue result ↔ IsWindow number }
 {
     1 <= number && number <= MAX_WINDOW
+}
+
+// The pace that the words of a query say: none where it has none.
+fn pace_of(query: &[u8]) -> Option<u32>
+    ensures { IsFound (HasPace query.now) result }
+{
+    match number_in(query, b"pace=", b"0") {
+        Some(pace) if is_pace(pace) => Some(pace),
+        _ => None,
+    }
+}
+
+fn is_pace(number: u32) -> bool
+    ensures { IsTrue result ↔ IsPace number }
+{
+    number <= MAX_PACE
 }
 
 // The strategy of a query, with any room of 16 bits.

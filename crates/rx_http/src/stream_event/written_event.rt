@@ -1,21 +1,19 @@
 // The bytes of an event.
-ghost use Rattle.std.specs.Prelude.{◌≡◌, ◌≤◌, ◌++◌, decimal, drop, IfSome, Option, Some};
+ghost use Rattle.std.specs.Prelude.{◌≡◌, ◌+◌, ◌≤◌, ◌++◌, decimal, drop, length, Option, Some, true};
 ghost use Rattle.rx_proto.specs.Bytes.{Writes};
 ghost use Rattle.base64.specs.Engines.{standard};
 ghost use Rattle.base64.specs.GeneralPurpose.{encode_of};
-ghost use Rattle.rx_http.specs.Events.{event_bytes, item_bytes, saying_of, text_by};
+ghost use Rattle.rx_http.specs.Events.{IsShort, event_bytes, item_bytes, saying_of, text_by};
 ghost use Rattle.rx_http.specs.Ids.{id_bytes, over_word, place_digits};
 ghost use Rattle.rx_http.specs.Laws.{IsPlace};
 ghost use Rattle.rx_http.specs.Pieces.{heartbeat_line, id_line, kind_line, retry_line, text_lines};
 
-use crate::stream_event::lines::{failed_line, is_text, next_line};
+use crate::stream_event::lines::{failed_line, is_line, is_text, next_line};
 use crate::{Epoch, StreamEvent};
 use base64::engine::general_purpose::STANDARD;
 use rx_note::{Item, Text};
-use rx_proto::{LineBytes, MAX_DIGITS, WriteFault, write_bytes, write_digits};
+use rx_proto::{MAX_DIGITS, WriteFault, write_bytes, write_digits};
 use std::io::Write;
-
-const CR: u8 = b'\r';
 
 // The most bytes of a text whose event goes by one write.
 const SHORT_TEXT: usize = 120;
@@ -47,6 +45,7 @@ pub fn write_heartbeat<W: Write>(writer: &mut W) -> Result<(), WriteFault>
 /// Writes an event of the server's epoch, that of an item with a short text by one write, and another one by several: a writer whose
 /// writes are dear gathers them. A text that is no UTF-8 goes in base64. It takes no memory of its own. After a fault the writer has a
 /// prefix of the event.
+#[inline(always)] // which event it is is known where it is written
 pub fn write_event<W: Write>(
     writer: &mut W,
     epoch: &Epoch,
@@ -54,37 +53,61 @@ pub fn write_event<W: Write>(
 ) -> Result<(), WriteFault>
     ensures { Writes result (W.contents writer.old) (W.contents writer.new) (event_bytes epoch.now event.entry) }
 {
-    if let StreamEvent::Next(item) = event
-        && let Some(line) = short_event(epoch, item)
-    {
-        return write_bytes(writer, line.as_bytes());
+    match event {
+        StreamEvent::Next(item) => write_item(writer, epoch, item),
+        _ => write_pieces(writer, epoch, event),
     }
-    write_pieces(writer, epoch, event)
 }
 
-// The bytes of the event of an item whose text is short and told as itself, the commonest by far. None of another one.
+// Writes the event of an item.
 #[inline(never)] // so that another event makes no room for it
-fn short_event(epoch: &Epoch, item: &Item) -> Option<LineBytes<SHORT_EVENT>>
-    ensures { IfSome result (λ line. line ≡ item_bytes epoch.now item.now) }
+fn write_item<W: Write>(writer: &mut W, epoch: &Epoch, item: &Item) -> Result<(), WriteFault>
+    ensures { Writes result (W.contents writer.old) (W.contents writer.new) (item_bytes epoch.now item.now) }
 {
-    let text = item.text.as_bytes();
-    if text.len() > SHORT_TEXT || item.is_seed() || text.contains(&CR) || !is_text(&item.text) {
-        return None;
+    if is_short(item) {
+        write_short(writer, epoch, item)
+    } else {
+        write_pieces(writer, epoch, StreamEvent::Next(item))
     }
-    let mut digits = [0; MAX_DIGITS];
-    let start = write_digits(item.place, &mut digits);
-    let mut line = LineBytes::new();
-    line.put(b"id: ");
-    line.put(epoch.as_bytes());
-    line.put(b"-");
-    line.put(&digits[start..]);
-    line.put(b"\nevent: next\ndata: ");
-    line.put(text);
-    line.put(b"\n\n");
-    Some(line)
+}
+
+// Whether the event of an item goes by one write: its text is short and told as itself on one line.
+fn is_short(item: &Item) -> bool
+    ensures { result ≡ true → IsShort item.now }
+{
+    item.text.as_bytes().len() <= SHORT_TEXT && !item.is_seed() && is_line(&item.text)
+}
+
+// Writes such an event, the commonest by far.
+fn write_short<W: Write>(writer: &mut W, epoch: &Epoch, item: &Item) -> Result<(), WriteFault>
+    requires { IsShort item.now }
+    ensures { Writes result (W.contents writer.old) (W.contents writer.new) (item_bytes epoch.now item.now) }
+{
+    let mut event = [0; SHORT_EVENT];
+    let end = put_before(&mut event, SHORT_EVENT, b"\n\n");
+    let text = put_before(&mut event, end, item.text.as_bytes());
+    let kind = put_before(&mut event, text, b"\nevent: next\ndata: ");
+    let place = itoa::write_digits(u64::from(item.place), &mut event, kind);
+    let hyphen = put_before(&mut event, place, b"-");
+    let start = put_before(&mut event, hyphen, epoch.as_bytes());
+    let first = put_before(&mut event, start, b"id: ");
+    write_bytes(writer, &event[first..])
+}
+
+// Puts a piece so that it ends there. Where it begins.
+#[inline(always)] // so that a piece of fixed size is copied by that
+fn put_before(bytes: &mut [u8], end: usize, piece: &[u8]) -> usize
+    requires { (length piece.now ≤ end) × (end ≤ length bytes.old) }
+    ensures start { result + length piece.now ≡ end }
+    ensures put { drop result bytes.new ≡ piece.now ++ drop end bytes.old }
+{
+    let start = end - piece.len();
+    bytes[start..end].copy_from_slice(piece);
+    start
 }
 
 // Writes an event piece by piece.
+#[inline(never)] // so that a short one makes no room for it
 fn write_pieces<W: Write>(
     writer: &mut W,
     epoch: &Epoch,
