@@ -38,6 +38,7 @@ module _ {D W : Type 0} (p : Parties D W) where
       (after, (emitted, (desk, emits), epoch, (after, since), is))
   meets-among desk after start writer (Ok (asks.Request subject observer items)) text met (asked, requests, is) = (after, (asked, (desk, requests), is))
   meets-among desk after start writer (Ok (asks.Look form)) text met (shown, shows, is) = (after, (shown, (desk, shows), is))
+  meets-among desk after start writer (Ok (asks.Stop within)) text met (stopped, stops, is) = (after, (stopped, (desk, stops), is))
   meets-among desk after start writer (Ok asks.Health) text met (same, well, looks, is) = (start, (refl, well, (desk, looks), is))
   meets-among desk after start writer (Err cause) text met (same, is) = (start, (refl, is))
 

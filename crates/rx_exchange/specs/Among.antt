@@ -15,6 +15,7 @@ module _ {D W : Type 0} (p : Parties D W) where
     emits = λ desk name kind text emitted after. (now : D) × p.emits now name kind text emitted after;
     requests = λ desk name observer items asked after. (now : D) × p.requests now name observer items asked after;
     shows = λ desk form shown after. (now : D) × p.shows now form shown after;
+    stops = λ desk within stopped after. (now : D) × p.stops now within stopped after;
     contents = p.contents;
   }
 

@@ -4,7 +4,7 @@ use Rattle.std.specs.Io.KnownBytes.{Consumes, IsAtEnd, Keeps}
 use Rattle.rx_http.specs.Asking.{IsReadOfHead}
 use Rattle.rx_http.specs.Heads.{HasNoHead, IsHeadAt}
 use Rattle.rx_http.specs.declared.request.asked.Asked.{Asked}
-use Rattle.rx_http.specs.declared.request.asked.Asked.TheVariants.{Emission, Events, Health, Look, Request}
+use Rattle.rx_http.specs.declared.request.asked.Asked.TheVariants.{Emission, Events, Health, Look, Request, Stop}
 use Rattle.rx_http.specs.declared.answer.refusal.Refusal.{Refusal}
 use Rattle.rx_http.specs.declared.answer.refusal.Refusal.TheVariants.{Long, LongHead}
 use Rattle.rx_session.specs.declared.session_end.SessionEnd.{SessionEnd}
@@ -19,6 +19,7 @@ size_of (Ok (Events subject policy credit known)) = 0
 size_of (Ok (Request subject observer items)) = 0
 size_of (Ok Health) = 0
 size_of (Ok (Look form)) = 0
+size_of (Ok (Stop within)) = 0
 size_of (Err cause) = 0
 
 -- the head of the bytes has so many of them, and was read so

@@ -8,7 +8,7 @@ use Rattle.rx_http.specs.Begins.{begin_by}
 use Rattle.rx_http.specs.declared.answer.Answer.{Answer}
 use Rattle.rx_http.specs.declared.answer.Answer.TheVariants as answers
 use Rattle.rx_http.specs.declared.request.asked.Asked.{Asked}
-use Rattle.rx_http.specs.declared.request.asked.Asked.TheVariants.{Emission, Events, Health, Look, Request}
+use Rattle.rx_http.specs.declared.request.asked.Asked.TheVariants.{Emission, Events, Health, Look, Request, Stop}
 use Rattle.rx_http.specs.declared.request.credit.Credit.{Credit}
 use Rattle.rx_http.specs.declared.request.look_form.LookForm.{LookForm}
 use Rattle.rx_http.specs.declared.request.note_kind.NoteKind.{NoteKind}
@@ -30,13 +30,23 @@ pub record Parties (D W : Type 0) : Type 1 where
   pub emits : D → List ℕ → NoteKind → List ℕ → Result (Option ℕ) Refusal → D → Type 0
   pub requests : D → List ℕ → ObserverId → ℕ → Result (Unit {0}) Refusal → D → Type 0
   pub shows : D → LookForm → Result (List ℕ) Refusal → D → Type 0
+  pub stops : D → ℕ → Result (Unit {0}) Refusal → D → Type 0
   pub contents : W → Option (List ℕ)
 
--- these seven
+-- these eight
 abbrev pub parties : {D W : Type 0} → (D → List ℕ → Type 0) → (D → Bool → Type 0) → (D → List ℕ → Choice → Credit → Begin → W → Joining W → D → Type 0)
     → (D → List ℕ → NoteKind → List ℕ → Result (Option ℕ) Refusal → D → Type 0) → (D → List ℕ → ObserverId → ℕ → Result (Unit {0}) Refusal → D → Type 0) → (D → LookForm → Result (List ℕ) Refusal → D → Type 0)
-    → (W → Option (List ℕ)) → Parties D W
-parties since looks joins emits requests shows contents = record { since = since; looks = looks; joins = joins; emits = emits; requests = requests; shows = shows; contents = contents }
+    → (D → ℕ → Result (Unit {0}) Refusal → D → Type 0) → (W → Option (List ℕ)) → Parties D W
+parties since looks joins emits requests shows stops contents = record {
+  since = since;
+  looks = looks;
+  joins = joins;
+  emits = emits;
+  requests = requests;
+  shows = shows;
+  stops = stops;
+  contents = contents;
+}
 
 -- the answer to a Join, and the writer to which it is told; none where the server has the writer
 abbrev pub joined : {W : Type 0} → Joining W → Option (Answer × W)
@@ -53,6 +63,11 @@ emission_answer epoch (Err cause) = answers.Refused cause
 abbrev pub request_answer : Result (Unit {0}) Refusal → Answer
 request_answer (Ok done) = answers.Requested
 request_answer (Err cause) = answers.Refused cause
+
+-- the answer to who has the server stop: it does, or the cause for which it doesn't
+abbrev pub stop_answer : Result (Unit {0}) Refusal → Answer
+stop_answer (Ok done) = answers.Stops
+stop_answer (Err cause) = answers.Refused cause
 
 -- the answer to who looks, in this form: what is seen, or the cause for which nothing is
 abbrev pub look_answer : LookForm → Result (List ℕ) Refusal → Answer
@@ -85,6 +100,8 @@ module _ {D W : Type 0} (p : Parties D W) where
       (asked : Result (Unit {0}) Refusal) × p.requests desk subject observer items asked after × (met ≡ Some (request_answer asked, writer))
   Meets desk writer (Ok (Look form)) text met after =
       (shown : Result (List ℕ) Refusal) × p.shows desk form shown after × (met ≡ Some (look_answer form shown, writer))
+  Meets desk writer (Ok (Stop within)) text met after =
+      (stopped : Result (Unit {0}) Refusal) × p.stops desk within stopped after × (met ≡ Some (stop_answer stopped, writer))
   Meets desk writer (Ok Health) text met after =
       (after ≡ desk) × (well : Bool) × p.looks desk well × (met ≡ Some ((if well then answers.Well else answers.Unwell), writer))
   Meets desk writer (Err cause) text met after = (after ≡ desk) × (met ≡ Some (answers.Refused cause, writer))

@@ -27,6 +27,8 @@ pub trait Front<W> {
 
     ghost shows: { Self → LookForm → Result (List ℕ) Refusal → Self → Type 0 };
 
+    ghost stops: { Self → ℕ → Result (Unit {0}) Refusal → Self → Type 0 };
+
     /// The epoch of this start of the server.
     fn epoch(&self) -> &Epoch
         ensures { since self.now result.now };
@@ -58,4 +60,8 @@ pub trait Front<W> {
     /// What is seen of the server now, in this form.
     fn show(&mut self, form: LookForm) -> Result<Document, Refusal>
         ensures { shows self.old form result self.new };
+
+    /// Has the server stop, which waits so many seconds at most for who has something waiting.
+    fn stop(&mut self, within: u32) -> Result<(), Refusal>
+        ensures { stops self.old within result self.new };
 }

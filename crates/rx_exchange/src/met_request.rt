@@ -1,7 +1,7 @@
 // What is done with what a connection asks for.
 ghost use Rattle.std.specs.Prelude.{◌≡◌, []};
 ghost use Rattle.rx_http.specs.Answers.{answer_bytes};
-ghost use Rattle.rx_exchange.specs.Meetings.{Meets, Tells, emission_answer, look_answer, parties, request_answer};
+ghost use Rattle.rx_exchange.specs.Meetings.{Meets, Tells, emission_answer, look_answer, parties, request_answer, stop_answer};
 
 use crate::{Front, Joining};
 use rx_http::{Answer, Asked, Begin, Document, Epoch, LookForm, Refusal, write_answer};
@@ -15,7 +15,7 @@ pub(crate) fn meet<W: Write + Drop, D: Front<W>>(
     writer: W,
     desk: &mut D,
 ) -> Option<(Answer, W)>
-    ensures { Meets (parties D.since D.looks D.joins D.emits D.requests D.shows W.contents) desk.old writer asked text.now result desk.new }
+    ensures { Meets (parties D.since D.looks D.joins D.emits D.requests D.shows D.stops W.contents) desk.old writer asked text.now result desk.new }
 {
     match asked {
         Ok(
@@ -58,6 +58,10 @@ pub(crate) fn meet<W: Write + Drop, D: Front<W>>(
             let shown = desk.show(form);
             Some((look_answer(form, shown), writer))
         }
+        Ok(Asked::Stop { within }) => {
+            let stopped = desk.stop(within);
+            Some((stop_answer(stopped), writer))
+        }
         Ok(Asked::Health) if desk.is_well() => Some((Answer::Well, writer)),
         Ok(Asked::Health) => Some((Answer::Unwell, writer)),
         Err(cause) => Some((Answer::Refused(cause), writer)),
@@ -83,6 +87,16 @@ fn request_answer(asked: Result<(), Refusal>) -> Answer
 {
     match asked {
         Ok(()) => Answer::Requested,
+        Err(cause) => Answer::Refused(cause),
+    }
+}
+
+// What is answered to who has the server stop.
+fn stop_answer(stopped: Result<(), Refusal>) -> Answer
+    ensures { result ≡ stop_answer stopped }
+{
+    match stopped {
+        Ok(()) => Answer::Stops,
         Err(cause) => Answer::Refused(cause),
     }
 }
