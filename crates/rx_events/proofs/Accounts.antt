@@ -1,25 +1,23 @@
 -- The stream of an event sink is an account.
-use Rattle.std.proofs.Common.{◌≡◌, ℕ, zero, suc, ◌+◌, ◌-◌, ◌<◌, ◌≤◌, ◌^◌, ◌==◌, ◌||◌, Bool, true, false, cond, nat_lt, List, [], ◌∷◌, ◌++◌, Option, None, Some, refl, sym, ap, ◌∙◌, subst, add-one, append_assoc, arith}
+use Rattle.std.proofs.Common.{◌≡◌, ℕ, zero, suc, ◌+◌, ◌-◌, ◌<◌, ◌≤◌, ◌^◌, ◌==◌, ◌||◌, Bool, true, false, cond, nat_lt, List, [], ◌∷◌, ◌++◌, Option, None, Some, refl, sym, ap, ◌∙◌, subst, add-one, arith}
 use Rattle.std.proofs.lemmas.Bool.Decides.{nat_tests}
 use Rattle.rx_note.specs.declared.item.Item.{Item}
 use Rattle.rx_note.specs.declared.note.Note.{Note}
 use Rattle.rx_note.specs.declared.note.Note.TheVariants.{Next, Completed, Failed}
 use Rattle.rx_proto.specs.LineFeeds.{HasNoLf}
 use Rattle.rx_http.specs.Accounts.{AreCounted, BeginsWithId, ComesBehind, events_of, last_of}
-use Rattle.rx_http.specs.Answers.{answer_bytes}
-use Rattle.rx_http.specs.Laws.{ArePieces, IsPlace}
-use Rattle.rx_http.specs.Pieces.{retry_line}
+use Rattle.rx_http.specs.Laws.{ArePieces, Event, Heartbeat, IsPlace, Piece, Retry}
 use Rattle.rx_http.specs.Reading.{read, reader_with}
-use Rattle.rx_http.specs.declared.answer.Answer.TheVariants.{Events}
 use Rattle.rx_http.specs.declared.request.begin.Begin.{Begin}
 use Rattle.rx_http.specs.declared.request.begin.Begin.TheVariants.{Fresh, Behind, Restarted}
 use Rattle.rx_http.specs.declared.stream_event.StreamEvent.{StreamEvent}
 use Rattle.rx_http.specs.declared.stream_event.StreamEvent.TheVariants as events
 use Rattle.rx_http.proofs.Accounting.{id_is_account}
 use Rattle.rx_events.specs.Hearing.{AreNotes, IsBegin, StreamIsAccount, stream_events, stream_pieces}
-use Rattle.rx_events.specs.Telling.{begin_events, count_to, is_overflow, is_seed, item_events, left_out, notes_events, pieces_of, standing_at, standing_behind, told_bytes}
+use Rattle.rx_events.specs.Telling.{begin_events, count_to, is_overflow, is_seed, item_events, left_out, notes_events, pieces_of, standing_at, standing_behind}
 use Rattle.rx_events.specs.declared.standing.Standing.{Standing}
-use Rattle.rx_events.proofs.Written.{told-append}
+use Rattle.rx_events.specs.Written.{without_heartbeats}
+use Rattle.rx_events.proofs.Written.{pieces-append}
 
 -- THE PIECES ARE SUCH
 
@@ -45,9 +43,9 @@ item-pieces (Some left) item few none fits =
       | false ↦ ((omega arith, omega arith), ((few, none), tt))
     ]
 
-pieces-append : (xs ys : List StreamEvent) → ArePieces (pieces_of xs) → ArePieces (pieces_of ys) → ArePieces (pieces_of (xs ++ ys))
-pieces-append [] ys p q = q
-pieces-append (x ∷ xs) ys p q = (p.0, pieces-append xs ys p.1 q)
+both-pieces : (xs ys : List StreamEvent) → ArePieces (pieces_of xs) → ArePieces (pieces_of ys) → ArePieces (pieces_of (xs ++ ys))
+both-pieces [] ys p q = q
+both-pieces (x ∷ xs) ys p q = (p.0, both-pieces xs ys p.1 q)
 
 known-fits : (s : Standing) (item : Item) → item.place < 2 ^ 32 → IsPlace s.known → IsPlace (standing_behind s item).known
 known-fits s item few fits =
@@ -59,7 +57,7 @@ known-fits s item few fits =
 notes-pieces : (s : Standing) (notes : List Note) → IsPlace s.known → AreNotes notes → ArePieces (pieces_of (notes_events s notes))
 notes-pieces s [] fits are = tt
 notes-pieces s (Next item ∷ notes) fits are =
-    pieces-append (item_events (left_out s item) item) (notes_events (standing_behind s item) notes)
+    both-pieces (item_events (left_out s item) item) (notes_events (standing_behind s item) notes)
     (item-pieces (left_out s item) item are.0.0 are.0.1 (left-fits s item))
     (notes-pieces (standing_behind s item) notes (known-fits s item are.0.0 fits) are.1)
 notes-pieces s (Completed ∷ notes) fits are = (fits, notes-pieces s notes fits (subst AreNotes (sym are) tt))
@@ -135,25 +133,36 @@ of-pieces : (xs : List StreamEvent) → events_of (pieces_of xs) ≡ xs
 of-pieces [] = refl
 of-pieces (x ∷ xs) = ap (λ l. x ∷ l) (of-pieces xs)
 
+-- WITH HEARTBEATS BETWEEN THEM
+
+beaten-pieces : (beaten : List Piece) → ArePieces (without_heartbeats beaten) → ArePieces beaten
+beaten-pieces [] are = tt
+beaten-pieces (Event event ∷ beaten) are = (are.0, beaten-pieces beaten are.1)
+beaten-pieces (Retry ms ∷ beaten) are = (are.0, beaten-pieces beaten are.1)
+beaten-pieces (Heartbeat ∷ beaten) are = beaten-pieces beaten are
+
+beaten-events : (beaten : List Piece) → events_of (without_heartbeats beaten) ≡ events_of beaten
+beaten-events [] = refl
+beaten-events (Event event ∷ beaten) = ap (λ l. event ∷ l) (beaten-events beaten)
+beaten-events (Retry ms ∷ beaten) = beaten-events beaten
+beaten-events (Heartbeat ∷ beaten) = beaten-events beaten
+
 pub stream_is_account : StreamIsAccount
 stream_is_account = record {
-  bytes = λ epoch begin bounded who notes.
+  pieces = λ begin bounded who notes.
       let s = standing_at begin bounded in
-      let first = begin_events begin s.known who in
-      let rest = notes_events s notes in
-      append_assoc (answer_bytes Events) (retry_line 1000 ++ told_bytes epoch first) (told_bytes epoch rest)
-      ∙ ap (λ l. answer_bytes Events ++ l) (append_assoc (retry_line 1000) (told_bytes epoch first) (told_bytes epoch rest)
-      ∙ ap (λ l. retry_line 1000 ++ l) (sym (told-append epoch first rest)));
-  account = λ epoch before come back begin bounded who notes is is_begin few are cut.
+      ap (λ l. Retry 1000 ∷ l) (sym (pieces-append (begin_events begin s.known who) (notes_events s notes)));
+  account = λ epoch before come back begin bounded who notes beaten is is_begin few are same cut.
       let s = standing_at begin bounded in
       let first = begin_events begin s.known who in
       let rest = notes_events s notes in
       let all = stream_events begin bounded who notes in
       let P : List StreamEvent → Type 0 = λ l. ComesBehind epoch before (count_to s.known) l (read come (reader_with before)) in
-      let such = pieces-append first rest (begin-pieces begin bounded who is_begin few) (notes-pieces s notes (known-begun begin bounded is_begin) are) in
-      let counted = begin-counted begin bounded who rest (notes-counted s notes are) in
-      subst P (of-pieces all)
-      (id_is_account epoch before come back (count_to s.known) (stream_pieces begin bounded who notes) is (omega arith, such)
-      (subst (AreCounted (count_to s.known)) (sym (of-pieces all)) counted)
-      (subst BeginsWithId (sym (of-pieces all)) (begins-with begin s.known who rest)) cut);
+      let such : ArePieces (stream_pieces begin bounded who notes) = (omega arith, both-pieces first rest (begin-pieces begin bounded who is_begin few) (notes-pieces s notes (known-begun begin bounded is_begin) are)) in
+      let events : events_of beaten ≡ all = sym (beaten-events beaten) ∙ ap events_of same ∙ of-pieces all in
+      let counted : AreCounted (count_to s.known) all = begin-counted begin bounded who rest (notes-counted s notes are) in
+      subst P events
+      (id_is_account epoch before come back (count_to s.known) beaten is (beaten-pieces beaten (subst ArePieces (sym same) such))
+      (subst (AreCounted (count_to s.known)) (sym events) counted)
+      (subst BeginsWithId (sym events) (begins-with begin s.known who rest)) cut);
 }

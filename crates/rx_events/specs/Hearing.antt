@@ -3,23 +3,22 @@
 -- Its reader hears its subject: of the notes that it took, but an overflow, its reader hears just what is told to one that
 -- knows what it said, or that asked from the first that came where it said nothing.
 --
--- Its stream is an account: wherever it is cut, its reader was told a front of the events, and comes again with the id of
--- what it knows by them.
+-- Its stream is an account: whatever heartbeats stand in it and wherever it is cut, its reader was told a front of the events, and comes
+-- again with the id of what it knows by them.
 use Rattle.std.specs.Prelude.{◌≡◌, ◌<◌, ◌^◌, ℕ, Bool, if◌then◌else◌, List, [], ◌∷◌, ◌++◌}
 use Rattle.rx_note.specs.declared.note.Note.{Note}
 use Rattle.rx_note.specs.declared.note.Note.TheVariants.{Next, Completed, Failed}
 use Rattle.rx_proto.specs.LineFeeds.{HasNoLf}
 use Rattle.rx_http.specs.Accounts.{ComesBehind, heard_by}
-use Rattle.rx_http.specs.Answers.{answer_bytes}
 use Rattle.rx_http.specs.Epochs.{IsEpoch}
 use Rattle.rx_http.specs.Laws.{IsPlace, Piece, Retry, stream_of}
 use Rattle.rx_http.specs.Reading.{read, reader_with}
 use Rattle.rx_http.specs.Resuming.{told}
-use Rattle.rx_http.specs.declared.answer.Answer.TheVariants.{Events}
 use Rattle.rx_http.specs.declared.request.begin.Begin.{Begin}
 use Rattle.rx_http.specs.declared.request.begin.Begin.TheVariants.{Fresh, Behind, Restarted}
 use Rattle.rx_http.specs.declared.stream_event.StreamEvent.{StreamEvent}
-use Rattle.rx_events.specs.Telling.{begin_bytes, begin_events, count_to, is_overflow, is_seed, notes_events, pieces_of, standing_at, told_bytes}
+use Rattle.rx_events.specs.Telling.{begin_events, begin_pieces, count_to, is_overflow, is_seed, notes_events, pieces_of, standing_at}
+use Rattle.rx_events.specs.Written.{without_heartbeats}
 use Rattle.rx_events.specs.declared.standing.Standing.{Standing}
 
 -- the place of the first item that isn't a seed; 0 where there is none
@@ -68,12 +67,13 @@ abbrev pub NotesAreHeard : Type 0
 NotesAreHeard =
     (standing : Standing) (notes : List Note) → heard_by (notes_events standing notes) ≡ told (of_subject standing.bounded notes) (known_before standing notes)
 
--- ITS STREAM IS AN ACCOUNT: the bytes of a begin and of some notes are an answer's head and then the stream of their events; and wherever
--- that is cut, its reader was told a front of the events and comes again with the id of what it knows by them
+-- ITS STREAM IS AN ACCOUNT: the pieces of a begin and of some notes are those of the stream of their events; and wherever that is cut, with
+-- heartbeats anywhere in it, its reader was told a front of the events and comes again with the id of what it knows by them
 pub record StreamIsAccount : Type 0 where
-  pub bytes : (epoch : List ℕ) (begin : Begin) (bounded : Bool) (who : ℕ) (notes : List Note)
-      → begin_bytes epoch begin (standing_at begin bounded).known who ++ told_bytes epoch (notes_events (standing_at begin bounded) notes)
-      ≡ answer_bytes Events ++ stream_of epoch (stream_pieces begin bounded who notes)
-  pub account : (epoch before come back : List ℕ) (begin : Begin) (bounded : Bool) (who : ℕ) (notes : List Note)
-      → IsEpoch epoch → IsBegin begin → who < 2 ^ 32 → AreNotes notes → stream_of epoch (stream_pieces begin bounded who notes) ≡ come ++ back
+  pub pieces : (begin : Begin) (bounded : Bool) (who : ℕ) (notes : List Note)
+      → begin_pieces begin (standing_at begin bounded).known who ++ pieces_of (notes_events (standing_at begin bounded) notes)
+      ≡ stream_pieces begin bounded who notes
+  pub account : (epoch before come back : List ℕ) (begin : Begin) (bounded : Bool) (who : ℕ) (notes : List Note) (beaten : List Piece)
+      → IsEpoch epoch → IsBegin begin → who < 2 ^ 32 → AreNotes notes → without_heartbeats beaten ≡ stream_pieces begin bounded who notes
+      → stream_of epoch beaten ≡ come ++ back
       → ComesBehind epoch before (count_to (standing_at begin bounded).known) (stream_events begin bounded who notes) (read come (reader_with before))

@@ -12,7 +12,7 @@ use rx_sink::Sink;
 use std::io::Write;
 
 /// An event sink wrote the head of its answer, where its reader begins, and of each note that it took the events by which that is told to
-/// a reader that was told those before; after a fault a front of what was to come next.
+/// a reader that was told those before, with heartbeats between them; after a fault a front of what was to come next.
 pub fn event_sinks_write<W: Write + Drop>()
     ensures { WritesEvents ⟦<EventSink<W> as Sink>⟧.acts W.contents }
 {}
@@ -32,7 +32,7 @@ pub fn notes_are_heard()
     ensures { NotesAreHeard }
 {}
 
-/// Wherever the stream of an event sink is cut, its reader was told a front of its events, and comes again with the id of what it knows by
+/// Wherever the stream of an event sink is cut, and whatever heartbeats stand in it, its reader was told a front of its events, and comes again with the id of what it knows by
 /// them.
 pub fn stream_is_account()
     ensures { StreamIsAccount }

@@ -1,4 +1,4 @@
-ghost use Rattle.std.specs.Prelude.{◌≡◌, ◌≤◌};
+ghost use Rattle.std.specs.Prelude.{◌≡◌, ◌≤◌, is_some};
 ghost use Rattle.rx_events.specs.Telling.{count_to, is_told, left_out, standing_after, standing_at, standing_behind};
 
 use rx_http::Begin;
@@ -66,37 +66,30 @@ impl Standing {
         }
     }
 
-    /// Whether a note is told to it: all but an item of which it knows already what became.
-    pub(crate) fn is_told(self, note: &Note) -> bool
-        ensures { result ≡ is_told self note.now }
+    /// It was told this note, or passes over it: an item of which it knows already what became. Whether it was told.
+    pub(crate) fn hear(&mut self, note: &Note) -> bool
+        ensures told { result ≡ is_told self.old note.now }
+        ensures after { self.new ≡ standing_after self.old note.now }
     {
         match note {
-            Note::Next(item) => self.left_out(item).is_some(),
+            Note::Next(item) => self.hear_item(item),
             Note::Completed | Note::Failed(_) => true,
         }
     }
 
-    /// How it stands once this note was told, or passed over.
-    pub(crate) fn after(self, note: &Note) -> Standing
-        ensures { result ≡ standing_after self note.now }
+    // The same of an item.
+    fn hear_item(&mut self, item: &Item) -> bool
+        ensures told { result ≡ is_some (left_out self.old item.now) }
+        ensures after { self.new ≡ standing_behind self.old item.now }
     {
-        match note {
-            Note::Next(item) => self.behind(item),
-            Note::Completed | Note::Failed(_) => self,
+        if item.is_seed() {
+            return true;
         }
-    }
-
-    // How it stands once this item was told, or passed over.
-    fn behind(self, item: &Item) -> Standing
-        ensures { result ≡ standing_behind self item.now }
-    {
-        if item.is_seed() || self.left_out(item).is_none() {
-            return self;
+        if !self.fresh && u64::from(item.place) < self.count() {
+            return false;
         }
-        Standing {
-            known: Some(item.place),
-            fresh: false,
-            bounded: self.bounded,
-        }
+        self.known = Some(item.place);
+        self.fresh = false;
+        true
     }
 }
