@@ -33,13 +33,14 @@ pub record Subject : Type 0 where
   pub rules : Rules
   pub budget : Option ℕ
 
--- what is served over HTTP: the path of the socket, how long a reader hears nothing before a beat, how many readers, and whether notes may
--- be emitted
+-- what is served over HTTP: the path of the socket, how long a reader hears nothing before a beat, how many readers, whether notes may
+-- be emitted, and whether the server may be stopped
 pub record Events : Type 0 where
   pub socket : List ℕ
   pub heartbeat : ℕ
   pub readers : ℕ
   pub emit : Bool
+  pub stop : Bool
 
 -- what a configuration says
 pub record Settings : Type 0 where
@@ -51,13 +52,13 @@ abbrev pub subject_of_config : SubjectConfig → Subject
 subject_of_config config = record { name = config.name; rules = config.rules; budget = config.budget }
 
 abbrev pub events_of_config : Http → Events
-events_of_config http = record { socket = http.socket; heartbeat = http.heartbeat; readers = http.readers; emit = http.emit }
+events_of_config http = record { socket = http.socket; heartbeat = http.heartbeat; readers = http.readers; emit = http.emit; stop = http.stop }
 
 abbrev pub settings_of : Config → Settings
-settings_of config = record { subjects = map subject_of_config config.subjects.items; pool = record { crew = record { drainers = config.drainers; workers = config.workers; window = config.window }; connections = config.connections; stall = config.stall; idle = config.idle; takeover = config.takeover }; http = option_map events_of_config config.http }
+settings_of config = record { subjects = map subject_of_config config.subjects.items; pool = record { crew = record { drainers = config.drainers; workers = config.workers; window = config.window }; connections = config.connections; stall = config.stall; waiting = config.waiting; idle = config.idle; takeover = config.takeover }; http = option_map events_of_config config.http }
 
 abbrev pub standard_pool : Pool
-standard_pool = record { crew = record { drainers = 1; workers = 4; window = 16 }; connections = 4294967295; stall = 60; idle = None; takeover = false }
+standard_pool = record { crew = record { drainers = 1; workers = 4; window = 16 }; connections = 4294967295; stall = 60; waiting = 33554432; idle = None; takeover = false }
 
 -- one Publish subject `s`, with the greatest limits
 abbrev pub standard_settings : Settings
@@ -97,6 +98,18 @@ number_or most missing (Some value) = number_of most value
 abbrev pub number_at : List ℕ → ℕ → ℕ → Members → Option ℕ
 number_at key most missing members = number_or most missing (get_member key members)
 
+-- a number of 0 to `most`
+abbrev pub natural_in_range : ℕ → ℕ → Option ℕ
+natural_in_range most n = if nat_le n most then Some n else None
+
+-- the number from 0 on that a key may have, else another one
+abbrev pub natural_or : ℕ → ℕ → Option Data → Option ℕ
+natural_or most missing None = Some missing
+natural_or most missing (Some value) = option_and_then (natural_in_range most) (option_and_then natural_of (as_integer value))
+
+abbrev pub natural_at : List ℕ → ℕ → ℕ → Members → Option ℕ
+natural_at key most missing members = natural_or most missing (get_member key members)
+
 -- the bound that a key may have
 abbrev pub bound_or : ℕ → Option Data → Option (Option ℕ)
 bound_or most None = Some None
@@ -134,16 +147,18 @@ abbrev pub crew_in : Members → Option Crew
 crew_in members = crew_with (number_at (codes "drainers") 8 1 members) (number_at (codes "workers") 32 4 members) (number_at (codes "window") 16 16 members)
 
 -- the pool of a crew: what it takes on
-abbrev pub pool_with : Crew → Option ℕ → Option ℕ → Option (Option ℕ) → Option Bool → Option Pool
-pool_with crew (Some connections) (Some stall) (Some idle) (Some takeover) = Some (record { crew = crew; connections = connections; stall = stall; idle = idle; takeover = takeover })
-pool_with crew _ _ _ _ = None
+abbrev pub pool_with : Crew → Option ℕ → Option ℕ → Option ℕ → Option (Option ℕ) → Option Bool → Option Pool
+pool_with crew (Some connections) (Some stall) (Some waiting) (Some idle) (Some takeover) =
+    Some (record { crew = crew; connections = connections; stall = stall; waiting = waiting; idle = idle; takeover = takeover })
+pool_with crew _ _ _ _ _ = None
 
 abbrev pub pool_of_crew : Members → Crew → Option Pool
 pool_of_crew members crew =
-    pool_with crew (number_at (codes "connections") 4294967295 4294967295 members) (number_at (codes "stall") 3600 60 members) (bound_at (codes "idle") 86400 members) (flag_at (codes "takeover") false members)
+    pool_with crew (number_at (codes "connections") 4294967295 4294967295 members) (number_at (codes "stall") 3600 60 members)
+    (natural_at (codes "waiting") 4294967295 33554432 members) (bound_at (codes "idle") 86400 members) (flag_at (codes "takeover") false members)
 
 abbrev pub pool_keys : List (List ℕ)
-pool_keys = codes "drainers" ∷ codes "workers" ∷ codes "window" ∷ codes "connections" ∷ codes "stall" ∷ codes "idle" ∷ codes "takeover" ∷ []
+pool_keys = codes "drainers" ∷ codes "workers" ∷ codes "window" ∷ codes "connections" ∷ codes "stall" ∷ codes "waiting" ∷ codes "idle" ∷ codes "takeover" ∷ []
 
 abbrev pub pool_in : Members → Option Pool
 pool_in members = if has_only pool_keys members then option_and_then (pool_of_crew members) (crew_in members) else None
@@ -175,17 +190,19 @@ path_in bytes = if nat_le 1 (length bytes) && nat_le (length bytes) 107 then lin
 abbrev pub socket_in : Members → Option (List ℕ)
 socket_in members = option_and_then path_in (text_at (codes "socket") members)
 
-abbrev pub events_with : Option (List ℕ) → Option ℕ → Option ℕ → Option Bool → Option Events
-events_with (Some socket) (Some heartbeat) (Some readers) (Some emit) = Some (record { socket = socket; heartbeat = heartbeat; readers = readers; emit = emit })
-events_with _ _ _ _ = None
+abbrev pub events_with : Option (List ℕ) → Option ℕ → Option ℕ → Option Bool → Option Bool → Option Events
+events_with (Some socket) (Some heartbeat) (Some readers) (Some emit) (Some stop) =
+    Some (record { socket = socket; heartbeat = heartbeat; readers = readers; emit = emit; stop = stop })
+events_with _ _ _ _ _ = None
 
 abbrev pub http_keys : List (List ℕ)
-http_keys = codes "socket" ∷ codes "heartbeat" ∷ codes "readers" ∷ codes "emit" ∷ []
+http_keys = codes "socket" ∷ codes "heartbeat" ∷ codes "readers" ∷ codes "emit" ∷ codes "stop" ∷ []
 
 abbrev pub http_in : Members → Option Events
 http_in members =
     if has_only http_keys members
     then events_with (socket_in members) (number_at (codes "heartbeat") 3600 15 members) (number_at (codes "readers") 4096 256 members) (flag_at (codes "emit") true members)
+    (flag_at (codes "stop") false members)
     else None
 
 -- the section, which may be missing

@@ -61,9 +61,11 @@ abbrev pub flag_words : List ℕ → Bool → List ℕ
 flag_words key false = []
 flag_words key true = key
 
--- how many connections are served, and how long a peer may take nothing
+-- how many connections are served, how long a peer may take nothing, and how much may wait for it
 abbrev pub service_words : Settings → List ℕ
-service_words settings = number_words (codes " connections ") settings.pool.connections ++ number_words (codes " stall ") settings.pool.stall
+service_words settings =
+    number_words (codes " connections ") settings.pool.connections
+    ++ (number_words (codes " stall ") settings.pool.stall ++ number_words (codes " waiting ") settings.pool.waiting)
 
 -- how long a session may send nothing, where that has an end, and whether a path is taken over
 abbrev pub option_words : Settings → List ℕ
@@ -76,10 +78,13 @@ pool_words settings = codes "pool" ++ (crew_words settings ++ (service_words set
 abbrev pub pool_line : Settings → List ℕ
 pool_line settings = line (pool_words settings)
 
--- how long a reader of events hears nothing, how many there are, and whether notes may be emitted
+-- whether notes may be emitted, and whether the server may be stopped
+abbrev pub right_words : Events → List ℕ
+right_words events = flag_words (codes " emit") events.emit ++ flag_words (codes " stop") events.stop
+
+-- how long a reader of events hears nothing, how many there are, and what may be asked for besides
 abbrev pub reader_words : Events → List ℕ
-reader_words events =
-    number_words (codes " heartbeat ") events.heartbeat ++ (number_words (codes " readers ") events.readers ++ flag_words (codes " emit") events.emit)
+reader_words events = number_words (codes " heartbeat ") events.heartbeat ++ (number_words (codes " readers ") events.readers ++ right_words events)
 
 -- what is said of events over HTTP; the path goes to the end of its line
 abbrev pub events_words : Events → List ℕ

@@ -25,6 +25,8 @@ pub struct Config {
     pub connections: u32,
     /// How long the peer of an observer may take no byte while some wait for it, 1 to 3,600 seconds.
     pub stall: u16,
+    /// How many bytes may wait for an observer at its subject before a server gives it up; 0 for as many as do.
+    pub waiting: u32,
     /// How long a session may send nothing before it is ended, in seconds, of which 1 to 86,400 are read; as long as it likes, where
     /// there is none.
     pub idle: Option<u64>,
@@ -75,6 +77,7 @@ impl Config {
             window: pool.crew.window,
             connections: pool.connections,
             stall: pool.stall,
+            waiting: pool.waiting,
             idle: pool.idle,
             takeover: pool.takeover,
             http: None,

@@ -17,6 +17,8 @@ pub struct Http {
     pub readers: u16,
     /// Whether notes may be emitted; else readers alone are served.
     pub emit: bool,
+    /// Whether the server may be stopped by a request.
+    pub stop: bool,
     ghost socket_in_range: { (1 ≤ length socket) × (length socket ≤ 107) },
     ghost heartbeat_in_range: { (1 ≤ heartbeat) × (heartbeat ≤ 3600) },
     ghost readers_in_range: { (1 ≤ readers) × (readers ≤ 4096) },

@@ -41,12 +41,13 @@ pub(crate) const HTTP: Key = Key {
 };
 
 /// The keys of the pool, in the order in which they are looked at.
-pub(crate) static POOL_KEYS: [Key; 7] = [
+pub(crate) static POOL_KEYS: [Key; 8] = [
     DRAINERS,
     WORKERS,
     WINDOW,
     CONNECTIONS,
     STALL,
+    WAITING,
     IDLE,
     TAKEOVER,
 ];
@@ -111,6 +112,18 @@ pub(crate) const STALL: Key = Key {
     example: "60",
 };
 
+pub(crate) const WAITING: Key = Key {
+    name: "waiting",
+    form: Form::Number {
+        least: 0,
+        most: u32::MAX,
+        standard: 33_554_432,
+    },
+    kind: None,
+    wants: "bytes",
+    example: "33554432",
+};
+
 pub(crate) const IDLE: Key = Key {
     name: "idle",
     form: Form::Bound {
@@ -131,7 +144,7 @@ pub(crate) const TAKEOVER: Key = Key {
 };
 
 /// The keys of what is served over HTTP, in the order in which they are looked at.
-pub(crate) static HTTP_KEYS: [Key; 4] = [SOCKET, HEARTBEAT, READERS, EMIT];
+pub(crate) static HTTP_KEYS: [Key; 5] = [SOCKET, HEARTBEAT, READERS, EMIT, STOP];
 
 pub(crate) const SOCKET: Key = Key {
     name: "socket",
@@ -171,6 +184,14 @@ pub(crate) const EMIT: Key = Key {
     kind: None,
     wants: "true or false",
     example: "false",
+};
+
+pub(crate) const STOP: Key = Key {
+    name: "stop",
+    form: Form::Flag { standard: false },
+    kind: None,
+    wants: "true or false",
+    example: "true",
 };
 
 /// The keys of a subject, in the order in which they are looked at.

@@ -70,6 +70,7 @@ fn config_in(alloc: Heap, runtime: Global, table: &Table) -> Result<Config, Conf
             window: pool.crew.window,
             connections: pool.connections,
             stall: pool.stall,
+            waiting: pool.waiting,
             idle: pool.idle,
             takeover: pool.takeover,
             http,

@@ -1,7 +1,7 @@
 // The lines of a configuration that was accepted.
 ghost use Rattle.std.specs.Prelude.{◌≡◌, ◌++◌, IfOk, OnOk, codes, decimal, map, option_map};
 ghost use Rattle.rx_config.specs.Configurations.{events_of_config, settings_of, subject_of_config};
-ghost use Rattle.rx_config.specs.Listings.{bound_words, config_lines, crew_words, events_words, flag_words, http_line, kind_words, limit_words, option_words, pool_line, reader_words, seed_words, service_words, subject_line, subject_lines};
+ghost use Rattle.rx_config.specs.Listings.{bound_words, config_lines, crew_words, events_words, flag_words, http_line, kind_words, limit_words, option_words, pool_line, reader_words, right_words, seed_words, service_words, subject_line, subject_lines};
 
 use crate::budget::Budget;
 use crate::config::Config;
@@ -128,12 +128,13 @@ fn put_crew(lines: &mut Vec<u8, Heap>, config: &Config) -> Result<(), Memory>
     put_number(lines, b" window ", u64::from(config.window))
 }
 
-// Puts how many connections are served, and how long a peer may take nothing.
+// Puts how many connections are served, how long a peer may take nothing, and how much may wait for it.
 fn put_service(lines: &mut Vec<u8, Heap>, config: &Config) -> Result<(), Memory>
     ensures { OnOk result (lines.new.items ≡ lines.old.items ++ service_words (settings_of config.now)) }
 {
     put_number(lines, b" connections ", u64::from(config.connections))?;
-    put_number(lines, b" stall ", u64::from(config.stall))
+    put_number(lines, b" stall ", u64::from(config.stall))?;
+    put_number(lines, b" waiting ", u64::from(config.waiting))
 }
 
 // Puts how long a session may send nothing, where that has an end, and whether a path is taken over.
@@ -177,13 +178,21 @@ fn put_events(lines: &mut Vec<u8, Heap>, http: &Http) -> Result<(), Memory>
     put(lines, http.socket.as_bytes())
 }
 
-// Puts how long a reader of events hears nothing, how many there are, and whether notes may be emitted.
+// Puts how long a reader of events hears nothing, how many there are, and what may be asked for besides.
 fn put_readers(lines: &mut Vec<u8, Heap>, http: &Http) -> Result<(), Memory>
     ensures { OnOk result (lines.new.items ≡ lines.old.items ++ reader_words (events_of_config http.now)) }
 {
     put_number(lines, b" heartbeat ", u64::from(http.heartbeat))?;
     put_number(lines, b" readers ", u64::from(http.readers))?;
-    put_flag(lines, b" emit", http.emit)
+    put_rights(lines, http)
+}
+
+// Puts whether notes may be emitted, and whether the server may be stopped.
+fn put_rights(lines: &mut Vec<u8, Heap>, http: &Http) -> Result<(), Memory>
+    ensures { OnOk result (lines.new.items ≡ lines.old.items ++ right_words (events_of_config http.now)) }
+{
+    put_flag(lines, b" emit", http.emit)?;
+    put_flag(lines, b" stop", http.stop)
 }
 
 // Puts a key and its number.

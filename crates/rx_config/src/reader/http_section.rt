@@ -5,7 +5,7 @@ ghost use Rattle.rx_config.specs.KeyTables.{members_in};
 
 use crate::http::{Http, MAX_PATH};
 use crate::keys::section::Section;
-use crate::keys::{EMIT, HEARTBEAT, HTTP, HTTP_KEYS, READERS, SOCKET};
+use crate::keys::{EMIT, HEARTBEAT, HTTP, HTTP_KEYS, READERS, SOCKET, STOP};
 use crate::reader::fault::Fault;
 use crate::reader::texts::line_in;
 use rx_heap::Heap;
@@ -43,12 +43,16 @@ fn http_in(heap: &Heap, section: &Section) -> Result<Http, Fault>
     let Some(emit) = EMIT.flag_in(section) else {
         return Err(Fault::Refused);
     };
+    let Some(stop) = STOP.flag_in(section) else {
+        return Err(Fault::Refused);
+    };
     match socket_in(heap, section) {
         Ok(socket) => Ok(Http {
             socket,
             heartbeat: heartbeat as u16,
             readers: readers as u16,
             emit,
+            stop,
         }),
         Err(fault) => Err(fault),
     }

@@ -2,7 +2,7 @@
 ghost use Rattle.std.specs.Prelude.{◌≡◌, ◌≤◌, IfSome};
 
 use crate::keys::section::Section;
-use crate::keys::{CONNECTIONS, IDLE, POOL, POOL_KEYS, STALL, TAKEOVER};
+use crate::keys::{CONNECTIONS, IDLE, POOL, POOL_KEYS, STALL, TAKEOVER, WAITING};
 use crate::reader::crew::Crew;
 
 /// What `pool` says: how many threads there are, and what they take on.
@@ -11,6 +11,7 @@ pub(crate) struct Pool {
     pub(crate) crew: Crew,
     pub(crate) connections: u32,
     pub(crate) stall: u16,
+    pub(crate) waiting: u32,
     pub(crate) idle: Option<u64>,
     pub(crate) takeover: bool,
 }
@@ -71,6 +72,9 @@ impl Pool {
         let Some(stall) = STALL.number_in(section) else {
             return None;
         };
+        let Some(waiting) = WAITING.number_in(section) else {
+            return None;
+        };
         let Some(idle) = IDLE.bound_in(section) else {
             return None;
         };
@@ -81,6 +85,7 @@ impl Pool {
             crew,
             connections,
             stall: stall as u16,
+            waiting,
             idle,
             takeover,
         })
