@@ -12,6 +12,7 @@ pub(crate) mod drainer_parts;
 pub(crate) mod flushes;
 pub(crate) mod one_letter;
 pub(crate) mod outs;
+pub(crate) mod rounds;
 
 use crate::drainer::asks::holds_back;
 use crate::drainer::bursts::Bursts;
@@ -21,6 +22,7 @@ use crate::drainer::drain_stop::DrainStop;
 use crate::drainer::drainer_left::DrainerLeft;
 use crate::drainer::drainer_parts::DrainerParts;
 use crate::drainer::one_letter::{handle_first, handle_more, handle_rest};
+use crate::drainer::rounds::Rounds;
 use rx_heap::{Heap, room};
 use rx_mailbox::{Inbox, Port};
 use rx_pump::{Call, Out};
@@ -38,6 +40,7 @@ pub struct Drainer<S: Sink> {
     left: bool,
     fault: Option<DrainFault>,
     bursts: Bursts,
+    rounds: Rounds,
 }
 
 // A drainer that is let go is gone for its subjects, which hear its Byes.
@@ -49,6 +52,7 @@ impl<S: Sink> Drop for Drainer<S> {
             left: _,
             fault: _,
             bursts: _,
+            rounds: _,
         } = self;
         hands.let_go();
     }
@@ -107,6 +111,7 @@ impl<S: Sink> Drainer<S> {
             left: false,
             fault: None,
             bursts: Bursts::new(),
+            rounds: Rounds::new(),
         })
     }
 
@@ -165,7 +170,8 @@ impl<S: Sink> Drainer<S> {
             return Err(DrainFault::InboxGone);
         };
         let more = handle_more(rt, &mut self.hands, &mut self.bursts, self.leave, first);
-        let rest = handle_rest(rt, &mut self.hands, self.leave, more);
+        let is_all_due = self.rounds.is_due();
+        let rest = handle_rest(rt, &mut self.hands, self.leave, more, is_all_due);
         self.left = rest.left;
         self.fault = rest.fault;
         outcome(rest.fault)
@@ -195,6 +201,7 @@ impl<S: Sink> Drainer<S> {
             left: _,
             fault: _,
             bursts: _,
+            rounds: _,
         } = self;
         hands
     }
@@ -234,6 +241,7 @@ impl<S: Sink> Drainer<S> {
             left: _,
             fault: _,
             bursts: _,
+            rounds: _,
         } = self;
         let DrainerLeft {
             parts,
@@ -265,6 +273,7 @@ impl<S: Sink> Drainer<S> {
             left: _,
             fault: _,
             bursts: _,
+            rounds: _,
         } = self;
         DrainStop { fault, left }
     }

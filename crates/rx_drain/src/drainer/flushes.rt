@@ -1,5 +1,9 @@
 // What waits in the sinks goes out, as far as it can now.
 //
+// A sink in which nothing waits may have something to do all the same: one whose reader is gone may have its fault, one whose reader was
+// told nothing for long tells it that. A drainer that rests looks after all of them then (`look_after`); one that never does so behind
+// each 16th turn (`Rounds`), so that none is forgotten however much comes for the others.
+//
 // When a server closes, it is the drainer that waits for peers, for a quarter of a second in all, in rounds over all its
 // sinks (`flushing::flush_last`); a wait of each writer's own as it goes would add up.
 ghost use Rattle.std.specs.Prelude.{◌≡◌, ◌+◌, ◌<◌, ◌≤◌, false, None, vec_len};
@@ -22,7 +26,7 @@ const LAST_REST: u64 = 10;
 
 // Flushes each sink in which something may wait, and asks the subjects for what is due of those that are not stuck. It
 // answers the fault, if there is one.
-pub(crate) fn flush_all<S: Sink, R: Wait>(
+fn flush_all<S: Sink, R: Wait>(
     rt: &R,
     hands: &mut DrainerLeft<S>,
     leave: usize,
@@ -34,9 +38,7 @@ pub(crate) fn flush_all<S: Sink, R: Wait>(
     ensures keeps { hands.new.put_away.keeps ≡ hands.old.put_away.keeps }
     ensures flushes { FlushesAll S.acts (view_of hands.old false None) (view_of hands.new false result) }
 {
-    let fault = flush_each(rt, hands, leave, false);
-    let _is_left = try_ring_all(rt, &mut hands.parts.subjects);
-    fault
+    flush_due(rt, hands, leave, false)
 }
 
 // Flushes all sinks, also those in which nothing waits: one whose reader is gone may have its fault then. It answers the fault
@@ -53,7 +55,25 @@ pub(crate) fn look_after<S: Sink, R: Wait>(
     ensures keeps { hands.new.put_away.keeps ≡ hands.old.put_away.keeps }
     ensures flushes { FlushesAll S.acts (view_of hands.old false None) (view_of hands.new false result) }
 {
-    let fault = flush_each(rt, hands, leave, true);
+    flush_due(rt, hands, leave, true)
+}
+
+// Flushes all sinks, or each in which something may wait, and asks the subjects for what is due of those that are not stuck. It
+// answers the fault, if there is one.
+pub(crate) fn flush_due<S: Sink, R: Wait>(
+    rt: &R,
+    hands: &mut DrainerLeft<S>,
+    leave: usize,
+    all: bool,
+) -> Option<DrainFault>
+    requires { Fits leave false None hands.old }
+    ensures fits { Fits leave false result hands.new }
+    ensures inbox { hands.new.parts.inbox ≡ hands.old.parts.inbox }
+    ensures ports { AreSame (view_of hands.old false None).ports (view_of hands.new false result).ports }
+    ensures keeps { hands.new.put_away.keeps ≡ hands.old.put_away.keeps }
+    ensures flushes { FlushesAll S.acts (view_of hands.old false None) (view_of hands.new false result) }
+{
+    let fault = flush_each(rt, hands, leave, all);
     let _is_left = try_ring_all(rt, &mut hands.parts.subjects);
     fault
 }

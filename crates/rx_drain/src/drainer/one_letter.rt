@@ -15,7 +15,7 @@ ghost use Rattle.rx_drain.specs.Drainers.{Fits, HasGoneOn, HandlesLetter, Handle
 
 use crate::drainer::asks::{holds_back, part_all, send_asks, would_wake};
 use crate::drainer::bursts::Bursts;
-use crate::drainer::flushes::{flush_all, flush_last, look_after, may_wait};
+use crate::drainer::flushes::{flush_due, flush_last, look_after, may_wait};
 use crate::drainer::outs::{finish_unserved, into_sink, serve_out};
 use crate::{DrainFault, DrainerLeft, DrainerParts};
 use rx_mailbox::{Gone, Letter, Post, TryRecvFault, finish_all, try_ring_all};
@@ -219,13 +219,14 @@ fn receive_more<S: Drop, R: Wait>(
     received
 }
 
-// Has go out what waits in the sinks, unless there is a fault, and what is held back for the subjects. Once the drainer has left
-// there are none.
+// Has go out what waits in the sinks, unless there is a fault, and what is held back for the subjects; where all sinks are due, it looks
+// after each. Once the drainer has left there are none.
 pub(crate) fn handle_rest<S: Sink, R: Wait>(
     rt: &R,
     hands: &mut DrainerLeft<S>,
     leave: usize,
     handled: AfterLetter,
+    is_all_due: bool,
 ) -> AfterLetter
     requires fits { Fits leave handled.left handled.fault hands.old }
     requires of_subject { IsOfSubject handled.fault }
@@ -240,7 +241,7 @@ pub(crate) fn handle_rest<S: Sink, R: Wait>(
         let _is_left = try_ring_all(rt, &mut hands.parts.subjects);
         return handled;
     }
-    let fault = flush_all(rt, hands, leave);
+    let fault = flush_due(rt, hands, leave, is_all_due);
     AfterLetter { left: false, fault }
 }
 

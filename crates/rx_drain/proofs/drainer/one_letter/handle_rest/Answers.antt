@@ -16,6 +16,6 @@ returns-then-handled-clause-pays g c =
 
 pub returns-clause-pays : goal.returns-clause-pays
 returns-clause-pays g c =
-    let after = view_of c.flush_all-fault.new.hands false c.flush_all-fault.result in
+    let after = view_of c.flush_due-fault.new.hands false c.flush_due-fault.result in
     pays_open g.S.Sink.acts (λ left fault. view_of c.args.hands.now left fault) after c.args.handled.left c.args.handled.fault c.if-handled.false (sym c.is_some.ensures ∙ c.if-is_some.false)
-    (pays_flushed g.S.Sink.acts (view_of c.args.hands.now false None) after c.flush_all-fault.ensures.inbox c.flush_all-fault.ensures.ports c.flush_all-fault.ensures.flushes)
+    (pays_flushed g.S.Sink.acts (view_of c.args.hands.now false None) after c.flush_due-fault.ensures.inbox c.flush_due-fault.ensures.ports c.flush_due-fault.ensures.flushes)
