@@ -2,12 +2,16 @@
 -- own rule).
 --
 -- A Join at a name that no subject of the configuration has is refused by `Subject`, where as many observers are held as there
--- may be readers by `Full`, and where there is no memory for its sink by `Memory`: no call is made then, and the writer comes
+-- may be readers by `Full`, and where there is no memory for its sink by `Memory`: no Join is made then, and the writer comes
 -- back. Any other makes just one call to the first subject of its name, the Join by that policy at the moment that `now` told,
--- with that window as its first request, or the configured one where that is less, and an event sink over the writer, which tells
--- from where its reader begins. The writer is taken just where the observer joined or no sink came back; else it comes back with
+-- with that window as its first request, or one item where its reader keeps a pace, or the configured window where that is less, and an
+-- event sink over the writer, which tells from where its reader begins, by a tempo with that pace. The writer is taken just where the observer joined or no sink came back; else it comes back with
 -- the cause for which the subject refused the Join, or `Gone` where that had no reply. An observer is held from its Join until it
 -- is disposed of.
+--
+-- A reader that says nothing to a Publish begins behind the last item that this had accepted: one call before the Join tells how many
+-- these are, a request that is refused and changes nothing. So it is told of each item behind that, or that it missed it. Any other
+-- subject gives who joins an item that came before; there a reader that says nothing misses nothing before its first.
 --
 -- An emission is refused by `ReadOnly` where readers alone are served, at a name that no subject has by `Subject`, and then where
 -- its bytes are no text by `Long`, `Lf` or `Memory`: no call is made. Any other makes just one call to the first subject of its
@@ -18,14 +22,19 @@
 -- answered by what came of it. An observer asks itself whose Join said so, until it is disposed of: nobody else's credit is changed.
 --
 -- Who looks has each subject asked for nothing, in their order, as far as there is memory. What he is told no clause says.
-use Rattle.std.specs.Prelude.{◌≡◌, ◌+◌, ◌-◌, ◌<◌, ◌≤◌, ◌⊎◌, ◌&&◌, min, ℕ, Bool, true, false, if◌then◌else◌, List, [], ◌∷◌, ◌++◌, Option, None, Some, MatchBool, MatchOption, Result, Ok, Err}
+--
+-- A stop is refused by `NoStop` where none is granted. From one that isn't on all is not well, and each Join and each emission is refused by
+-- `Stopping`: no call is made. Readers that ask for their items go on to be given them, and who looks sees what there is.
+use Rattle.std.specs.Prelude.{◌≡◌, ◌+◌, ◌-◌, ◌<◌, ◌≤◌, ◌⊎◌, ◌&&◌, nat_lt, not, min, ℕ, Bool, true, false, if◌then◌else◌, List, [], ◌∷◌, ◌++◌, Option, None, Some, slice_get, MatchBool, MatchOption, Result, Ok, Err}
 use Rattle.rx_events.specs.Telling.{standing_at}
 use Rattle.rx_events.specs.declared.event_sink.EventSink.{EventSink}
 use Rattle.rx_exchange.specs.declared.joining.Joining.{Joining}
 use Rattle.rx_exchange.specs.declared.joining.Joining.TheVariants.{Taken, Back}
 use Rattle.rx_http.specs.declared.answer.refusal.Refusal.{Refusal}
 use Rattle.rx_http.specs.declared.answer.refusal.Refusal.TheVariants as causes
+use Rattle.rx_http.specs.Accounts.{last_of}
 use Rattle.rx_http.specs.declared.request.begin.Begin.{Begin}
+use Rattle.rx_http.specs.declared.request.begin.Begin.TheVariants.{Behind, Fresh, Restarted}
 use Rattle.rx_http.specs.declared.request.credit.Credit.{Credit}
 use Rattle.rx_http.specs.declared.request.observer_id.ObserverId.{ObserverId}
 use Rattle.rx_proto.specs.Reading.{same_word}
@@ -46,13 +55,14 @@ use Rattle.rx_desk.specs.Askers.{is_among, without}
 use Rattle.rx_desk.specs.ClientSinks.{IsEvents, writer_of}
 use Rattle.rx_desk.specs.EmittedNotes.{IsRefusedNote, emitted_by, note_of}
 use Rattle.rx_desk.specs.Responses.{has_joined, sink_back}
-use Rattle.rx_desk.specs.SessionDesks.{AsksEmit, AsksItems, AsksJoin, Disposes, Looks, SessionView, joined_by, place_of}
+use Rattle.rx_desk.specs.SessionDesks.{AsksEmit, AsksItems, AsksJoin, Disposes, Looks, SessionView, is_publish, joined_by, place_of}
 use Rattle.rx_desk.specs.declared.client_sink.ClientSink.{ClientSink}
 use Rattle.rx_desk.specs.declared.grants.Grants.{Grants}
 use Rattle.rx_desk.specs.declared.joined.Joined.{Joined}
 
 -- a desk of those who ask for events and emit: the session's desk that makes its calls, the epoch of the server, what it grants, how many
--- observers are held, those of them that ask for their items themselves, and whether each call so far had a reply
+-- observers are held, those of them that ask for their items themselves, whether each call so far had a reply, and whether it was asked to
+-- stop
 pub record EventView (M S : Type 0) : Type 0 where
   pub session : SessionView M S
   pub epoch : List ℕ
@@ -60,6 +70,11 @@ pub record EventView (M S : Type 0) : Type 0 where
   pub held : ℕ
   pub asking : List Joined
   pub is_well : Bool
+  pub stopping : Bool
+
+-- whether all is well: each call had a reply, and it isn't asked to stop
+abbrev pub is_healthy : {M S : Type 0} → EventView M S → Bool
+is_healthy desk = desk.is_well && not desk.stopping
 
 -- whether an observer may end by an overflow
 abbrev pub is_bounded : Strategy → Bool
@@ -74,9 +89,9 @@ asker_of false = Drainer
 asker_of true = Reader false
 
 module _ {W : Type 0} where
-  -- the sink over a writer that tells the notes of an observer to a reader who begins there, and told nothing yet
-  abbrev pub event_sink : W → List ℕ → Begin → Strategy → Bool → EventSink W
-  event_sink writer epoch begin strategy asked = record {
+  -- the sink over a writer that tells the notes of an observer to a reader who begins there, by the credit that it wants, and told nothing yet
+  abbrev pub event_sink : W → List ℕ → Begin → Strategy → Credit → EventSink W
+  event_sink writer epoch begin strategy credit = record {
     writer = writer;
     epoch = epoch;
     begin = begin;
@@ -86,8 +101,13 @@ module _ {W : Type 0} where
     ahead = 0;
     gathers = true;
     stuck = false;
-    asker = asker_of asked;
+    asker = asker_of credit.asked;
+    tempo = Some (nat_lt 0 credit.pace);
   }
+
+-- how many items a reader is owed at first: one, where it keeps a pace, and the configured window at most
+abbrev pub first_of : Credit → ℕ → ℕ
+first_of credit window = min (if nat_lt 0 credit.pace then 1 else credit.window) window
 
 -- why a Join is refused, by what its subject answered
 abbrev pub cause_in : Result Answer notes.Refusal → Refusal
@@ -164,37 +184,79 @@ module _ {M W : Type 0} where
     pub asking : after.asking ≡ without observer before.asking
     pub epoch : after.epoch ≡ before.epoch
     pub grants : after.grants ≡ before.grants
+    pub stopping : after.stopping ≡ before.stopping
     pub is_well : after.is_well ≡ before.is_well
+
+-- where a reader begins that said nothing to a Publish, by the answer to the call before its Join
+abbrev pub first_begin : {S : Type 0} → Result (Reply S) (CallError S) → Begin
+first_begin (Ok reply) = Behind (last_of reply.items)
+first_begin (Err error) = Fresh
+
+module _ {M W : Type 0} where
+  -- one call told where a reader begins, and did nothing else
+  pub record FindsBegin (before : EventView M (ClientSink W)) (first : Begin) (after : EventView M (ClientSink W)) (subject : ℕ) : Type 0 where
+    pub answered : Result (Reply (ClientSink W)) (CallError (ClientSink W))
+    pub asks : AsksItems before.session subject 4294967295 0 answered after.session
+    pub first_is : first ≡ first_begin answered
+    pub is_well : after.is_well ≡ (before.is_well && has_reply answered)
+    pub held : after.held ≡ before.held
+    pub asking : after.asking ≡ before.asking
+    pub epoch : after.epoch ≡ before.epoch
+    pub grants : after.grants ≡ before.grants
+    pub stopping : after.stopping ≡ before.stopping
+
+  -- it begins where it says, and no call was made
+  abbrev pub BeginsThere : EventView M (ClientSink W) → Begin → Begin → EventView M (ClientSink W) → Type 0
+  BeginsThere before begin first after = (first ≡ begin) × (after ≡ before)
+
+  -- where a reader begins at the subject at this place, by what it says
+  abbrev pub BeginsAt : EventView M (ClientSink W) → Begin → Begin → EventView M (ClientSink W) → ℕ → Type 0
+  BeginsAt before Fresh first after subject =
+      MatchBool (is_publish (slice_get before.session.subjects subject)) (FindsBegin before first after subject) (BeginsThere before Fresh first after)
+  BeginsAt before (Behind place) first after subject = BeginsThere before (Behind place) first after
+  BeginsAt before (Restarted id) first after subject = BeginsThere before (Restarted id) first after
 
 module _ {M W : Type 0} (tells : M → ℕ → M → Type 0) where
   -- an observer was asked for at the subject at this place with this sink, and so it was answered
   pub record AsksWith (before : EventView M (ClientSink W)) (policy : Choice) (credit : Credit) (sink : ClientSink W) (joining : Joining W) (after : EventView M (ClientSink W)) (subject : ℕ) : Type 0 where
     pub answered : Result (Reply (ClientSink W)) (CallError (ClientSink W))
-    pub asks : AsksJoin tells before.session subject policy (min credit.window before.session.window) sink answered after.session
+    pub asks : AsksJoin tells before.session subject policy (first_of credit before.session.window) sink answered after.session
     pub joining_is : joining ≡ joining_by answered
     pub held : after.held ≡ held_with before.held (has_joined answered)
     pub asking : after.asking ≡ asking_with before.asking credit.asked (joined_by subject answered)
     pub is_well : after.is_well ≡ (before.is_well && has_reply answered)
     pub epoch : after.epoch ≡ before.epoch
     pub grants : after.grants ≡ before.grants
+    pub stopping : after.stopping ≡ before.stopping
 
   -- with a sink that tells its notes as events by the writer
   abbrev pub JoinsBy : EventView M (ClientSink W) → Choice → Credit → Begin → W → Joining W → EventView M (ClientSink W) → ℕ → Type 0
   JoinsBy before policy credit begin writer joining after subject =
-      (sink : ClientSink W) × IsEvents (event_sink writer before.epoch begin policy.strategy credit.asked) sink × AsksWith before policy credit sink joining after subject
+      (sink : ClientSink W) × IsEvents (event_sink writer before.epoch begin policy.strategy credit) sink × AsksWith before policy credit sink joining after subject
 
-  -- a Join at the subject at this place: it is refused where as many observers are held as may be, or where there is no memory for its
-  -- sink or its place; else the subject is asked
+  -- from where its reader begins is found out; then it is refused where there is no memory for its sink or its place, or the subject is asked
+  pub record JoinsFrom (before : EventView M (ClientSink W)) (policy : Choice) (credit : Credit) (begin : Begin) (writer : W) (joining : Joining W) (after : EventView M (ClientSink W)) (subject : ℕ) : Type 0 where
+    pub mid : EventView M (ClientSink W)
+    pub first : Begin
+    pub begins : BeginsAt before begin first mid subject
+    pub does : IsRefused causes.Memory mid writer joining after ⊎ JoinsBy mid policy credit first writer joining after subject
+
+  -- a Join at the subject at this place: it is refused where as many observers are held as may be
   abbrev pub JoinsAt : EventView M (ClientSink W) → Choice → Credit → Begin → W → Joining W → EventView M (ClientSink W) → ℕ → Type 0
   JoinsAt before policy credit begin writer joining after subject =
       ((before.grants.readers ≤ before.held) × IsRefused causes.Full before writer joining after)
-      ⊎ ((before.held < before.grants.readers) × (IsRefused causes.Memory before writer joining after ⊎ JoinsBy before policy credit begin writer joining after subject))
+      ⊎ ((before.held < before.grants.readers) × JoinsFrom before policy credit begin writer joining after subject)
 
   -- a Join at the subject of a name; without such a subject no call is made, and the writer comes back
-  abbrev pub joins : EventView M (ClientSink W) → List ℕ → Choice → Credit → Begin → W → Joining W → EventView M (ClientSink W) → Type 0
-  joins before name policy credit begin writer joining after =
+  abbrev pub JoinsNamed : EventView M (ClientSink W) → List ℕ → Choice → Credit → Begin → W → Joining W → EventView M (ClientSink W) → Type 0
+  JoinsNamed before name policy credit begin writer joining after =
       MatchOption (place_of name before.session.subjects) (IsRefused causes.Subject before writer joining after)
       (JoinsAt before policy credit begin writer joining after)
+
+  -- the same of a server that may have been asked to stop, where it is refused
+  abbrev pub joins : EventView M (ClientSink W) → List ℕ → Choice → Credit → Begin → W → Joining W → EventView M (ClientSink W) → Type 0
+  joins before name policy credit begin writer joining after =
+      MatchBool before.stopping (IsRefused causes.Stopping before writer joining after) (JoinsNamed before name policy credit begin writer joining after)
 
 module _ {M W : Type 0} where
   -- nothing was done but what the session's desk did
@@ -204,6 +266,7 @@ module _ {M W : Type 0} where
     pub asking : after.asking ≡ before.asking
     pub epoch : after.epoch ≡ before.epoch
     pub grants : after.grants ≡ before.grants
+    pub stopping : after.stopping ≡ before.stopping
 
   -- no call was made for a request of items, which is refused for this cause
   abbrev pub IsUngranted : Refusal → EventView M (ClientSink W) → Result (Unit {0}) Refusal → EventView M (ClientSink W) → Type 0
@@ -223,6 +286,7 @@ module _ {M W : Type 0} where
     pub asking : after.asking ≡ before.asking
     pub epoch : after.epoch ≡ before.epoch
     pub grants : after.grants ≡ before.grants
+    pub stopping : after.stopping ≡ before.stopping
 
   -- a request at the subject at this place: of another observer than one that asks itself no call is made
   abbrev pub RequestsAt : EventView M (ClientSink W) → ObserverId → ℕ → Result (Unit {0}) Refusal → EventView M (ClientSink W) → ℕ → Type 0
@@ -241,6 +305,15 @@ module _ {M W : Type 0} where
   -- some were
   abbrev pub HasLooked : EventView M (ClientSink W) → EventView M (ClientSink W) → Type 0
   HasLooked before after = (count : ℕ) × LookedAt count before after
+
+  -- the desk that was asked to stop
+  abbrev pub with_stop : EventView M (ClientSink W) → EventView M (ClientSink W)
+  with_stop desk = record desk { stopping = true }
+
+  -- who has the server stop asks no subject; without leave he is refused
+  abbrev pub stops : EventView M (ClientSink W) → ℕ → Result (Unit {0}) Refusal → EventView M (ClientSink W) → Type 0
+  stops before within stopped after =
+      MatchBool before.grants.may_stop ((stopped ≡ Ok tt) × (after ≡ with_stop before)) (IsUngranted causes.NoStop before stopped after)
 
   -- whatever is told to who looks
   abbrev pub shows : EventView M (ClientSink W) → LookForm → Result (List ℕ) Refusal → EventView M (ClientSink W) → Type 0
@@ -261,6 +334,7 @@ module _ {M W : Type 0} (tells : M → ℕ → M → Type 0) where
     pub asking : after.asking ≡ before.asking
     pub epoch : after.epoch ≡ before.epoch
     pub grants : after.grants ≡ before.grants
+    pub stopping : after.stopping ≡ before.stopping
 
   -- an emission at the subject at this place: its bytes are no text, or its note is emitted
   abbrev pub EmitsAt : EventView M (ClientSink W) → NoteKind → List ℕ → Result (Option ℕ) Refusal → EventView M (ClientSink W) → ℕ → Type 0
@@ -269,8 +343,13 @@ module _ {M W : Type 0} (tells : M → ℕ → M → Type 0) where
       ⊎ EmitsNote before kind (note_of kind text) emitted after subject
 
   -- an emission at the subject of a name; without such a subject, or where readers alone are served, no call is made
-  abbrev pub emits : EventView M (ClientSink W) → List ℕ → NoteKind → List ℕ → Result (Option ℕ) Refusal → EventView M (ClientSink W) → Type 0
-  emits before name kind text emitted after =
+  abbrev pub EmitsNamed : EventView M (ClientSink W) → List ℕ → NoteKind → List ℕ → Result (Option ℕ) Refusal → EventView M (ClientSink W) → Type 0
+  EmitsNamed before name kind text emitted after =
       ((before.grants.may_emit ≡ false) × IsUnasked causes.ReadOnly before emitted after)
       ⊎ ((before.grants.may_emit ≡ true)
       × MatchOption (place_of name before.session.subjects) (IsUnasked causes.Subject before emitted after) (EmitsAt before kind text emitted after))
+
+  -- the same of a server that may have been asked to stop, where it is refused
+  abbrev pub emits : EventView M (ClientSink W) → List ℕ → NoteKind → List ℕ → Result (Option ℕ) Refusal → EventView M (ClientSink W) → Type 0
+  emits before name kind text emitted after =
+      MatchBool before.stopping (IsUnasked causes.Stopping before emitted after) (EmitsNamed before name kind text emitted after)

@@ -9,12 +9,14 @@
 -- begun is the same: each note a moment and a call of its own, in their order, and each `answer` that of the oldest; so a
 -- session is as if each line had been carried out before the next. Of a desk that makes no call any more each emission is
 -- answered `GONE`, and `emit` and `dispose` put nothing; what was begun with an earlier one may have been put before that.
-use Rattle.std.specs.Prelude.{◌≡◌, ◌⊎◌, ◌<◌, ◌≤◌, ℕ, zero, suc, true, false, List, [], length, Option, None, Some, MatchOption, Result, Ok, Err, position, if◌then◌else◌}
+use Rattle.std.specs.Prelude.{◌≡◌, ◌⊎◌, ◌<◌, ◌≤◌, ℕ, zero, suc, Bool, true, false, List, [], length, Option, None, Some, MatchOption, Result, Ok, Err, position, if◌then◌else◌}
 use Rattle.rx_note.specs.Choices.{Choice}
 use Rattle.rx_note.specs.declared.answer.Answer.{Answer}
 use Rattle.rx_note.specs.declared.answer.Answer.TheVariants as answers
 use Rattle.rx_note.specs.declared.event.Event.{Event}
 use Rattle.rx_note.specs.declared.event.Event.TheVariants.{Emit, Join, Request, Dispose}
+use Rattle.rx_note.specs.declared.kind.Kind.{Kind}
+use Rattle.rx_note.specs.declared.kind.Kind.TheVariants as kinds
 use Rattle.rx_note.specs.declared.note.Note.{Note}
 use Rattle.rx_note.specs.declared.refusal.Refusal.{Refusal}
 use Rattle.rx_proto.specs.Reading.{same_word}
@@ -60,6 +62,18 @@ pub record SessionView (M S : Type 0) : Type 0 where
 -- the place of the first subject of a name
 abbrev pub place_of : List ℕ → List SubjectConfig → Option ℕ
 place_of name subjects = position (λ subject. same_word subject.name name) subjects
+
+-- whether a kind is Publish
+abbrev pub is_publish_kind : Kind → Bool
+is_publish_kind kinds.Publish = true
+is_publish_kind (kinds.Behavior seed) = false
+is_publish_kind kinds.Async = false
+is_publish_kind (kinds.Replay count age) = false
+
+-- whether a subject is a Publish: it gives nothing that came before who joins
+abbrev pub is_publish : Option SubjectConfig → Bool
+is_publish None = false
+is_publish (Some subject) = is_publish_kind subject.rules.kind
 
 -- what no call of a session's desk changes: the subjects, the window, and to which boxes it belongs
 pub record KeepsSession {M S : Type 0} (before after : SessionView M S) : Type 0 where

@@ -1,22 +1,25 @@
 ghost use Rattle.std.specs.Prelude.{◌≡◌, ◌-◌, ◌^◌, ◌<◌, ◌&&◌, ◌⊎◌, length};
 ghost use Rattle.rx_http.specs.declared.answer.refusal.Refusal.TheVariants as causes;
 ghost use Rattle.rx_desk.specs.ClientSinks.{writer_of};
-ghost use Rattle.rx_desk.specs.EventDesks.{cause_in, cause_of, event_sink, has_reply, held_with, is_bounded, joining_by, request_cause, requested_by};
+ghost use Rattle.rx_desk.specs.EventDesks.{first_begin, has_reply, held_with};
 
 use crate::askers::Askers;
+use crate::causes::{joining_by, requested_by};
 use crate::client_sink::ClientSink;
 use crate::emitted_note::{emitted_by, note_of};
+use crate::event_sinks::{first_of, sink_over, tempo_of};
 use crate::grants::Grants;
 use crate::joined::Joined;
 use crate::moments::Moments;
-use crate::responses::{has_joined, sink_back};
+use crate::responses::has_joined;
 use crate::session_desk::SessionDesk;
-use rx_events::EventSink;
+use crate::stop::SharedStop;
+use rx_events::SharedPulse;
 use rx_exchange::{Front, Joining};
 use rx_heap::{Heap, Memory};
 use rx_http::{Begin, Credit, Document, Epoch, LookForm, NoteKind, ObserverId, Refusal};
 use rx_hub::SubjectLook;
-use rx_note::{Answer, Note, Policy, Strategy};
+use rx_note::{Note, Policy};
 use rx_proto::Name;
 use rx_pump::{CallError, Reply, SharedLook};
 use rx_stats::page_of;
@@ -34,12 +37,18 @@ pub struct EventDesk<'a, R, M: Drop, W: Write + Drop> {
     grants: Grants,
     // What shows each subject.
     looks: Vec<SharedLook, Heap>,
+    // What time it is for the sinks.
+    pulse: SharedPulse,
     // How many observers joined and were not disposed of.
     held: u32,
     // Those of them whose readers ask for items themselves.
     askers: Askers,
     // Each call so far had a reply.
     is_well: bool,
+    // By which who serves hears that it is to stop.
+    stop: SharedStop,
+    // It was asked to.
+    stopping: bool,
 }
 
 // By hand: rx_heap says why.
@@ -51,9 +60,12 @@ impl<'a, R, M: Drop, W: Write + Drop> Drop for EventDesk<'a, R, M, W> {
             epoch: _,
             grants: _,
             looks: _,
+            pulse: _,
             held: _,
             askers: _,
             is_well: _,
+            stop: _,
+            stopping: _,
         } = self;
     }
 }
@@ -65,22 +77,25 @@ impl<'a, R, M: Drop, W: Write + Drop> Model for EventDesk<'a, R, M, W> {
 
     ghost Value = { EventView M (ClientSink W) };
 
-    ghost view = { λ d. record { session = d.session; epoch = d.epoch; grants = d.grants; held = d.held; asking = observers_in d.askers; is_well = d.is_well } };
+    ghost view = { λ d. record { session = d.session; epoch = d.epoch; grants = d.grants; held = d.held; asking = observers_in d.askers; is_well = d.is_well; stopping = d.stopping } };
 }
 
 impl<'a, R, M: Drop, W: Write + Drop> EventDesk<'a, R, M, W> {
-    ghost use Rattle.std.specs.Prelude.{true, []};
+    ghost use Rattle.std.specs.Prelude.{false, true, []};
 
     /// The desk of the browsers of a server of this epoch that grants them so much, over a session's desk that begins. The sinks of readers
-    /// stand in this memory, and by `looks` the subjects are seen, in their order.
+    /// stand in this memory, and tell heartbeats by this pulse; by `looks` the subjects are seen, in their order. Who serves hears by `stop`
+    /// that it is to stop.
     pub fn new(
         session: SessionDesk<'a, R, M, W>,
         heap: &'a Heap,
         epoch: Epoch,
         grants: Grants,
         looks: Vec<SharedLook, Heap>,
+        pulse: SharedPulse,
+        stop: SharedStop,
     ) -> EventDesk<'a, R, M, W>
-        ensures { result ≡ record { session = session.entry; epoch = epoch; grants = grants; held = 0; asking = []; is_well = true } }
+        ensures { result ≡ record { session = session.entry; epoch = epoch; grants = grants; held = 0; asking = []; is_well = true; stopping = false } }
     {
         EventDesk {
             session,
@@ -88,9 +103,12 @@ impl<'a, R, M: Drop, W: Write + Drop> EventDesk<'a, R, M, W> {
             epoch,
             grants,
             looks,
+            pulse,
             held: 0,
             askers: Askers::new(),
             is_well: true,
+            stop,
+            stopping: false,
         }
     }
 
@@ -104,9 +122,12 @@ impl<'a, R, M: Drop, W: Write + Drop> EventDesk<'a, R, M, W> {
             epoch: _,
             grants: _,
             looks: _,
+            pulse: _,
             held: _,
             askers: _,
             is_well: _,
+            stop: _,
+            stopping: _,
         } = self;
         session
     }
@@ -120,7 +141,7 @@ impl<'a, R, M: Drop, W: Write + Drop> EventDesk<'a, R, M, W> {
 }
 
 impl<'a, R: Wait, M: Moments + Drop, W: Write + Drop> EventDesk<'a, R, M, W> {
-    ghost use Rattle.rx_desk.specs.EventDesks.{AsksFor, AsksWith, EmitsNote, HasLooked, IsRefused, KeepsRest, PartsWith, RequestsAt};
+    ghost use Rattle.rx_desk.specs.EventDesks.{AsksFor, AsksWith, BeginsAt, EmitsNamed, EmitsNote, FindsBegin, HasLooked, IsRefused, JoinsBy, JoinsFrom, JoinsNamed, KeepsRest, PartsWith, RequestsAt};
     ghost use Rattle.rx_desk.specs.SessionDesks.{LooksAt};
 
     // Asks for an observer at the subject at this place, with this sink. Where there is no memory for the place of one that asks itself
@@ -139,7 +160,7 @@ impl<'a, R: Wait, M: Moments + Drop, W: Write + Drop> EventDesk<'a, R, M, W> {
         let Ok(()) = self.askers.make_room(self.heap) else {
             return Joining::Back(Refusal::Memory, sink.into_writer());
         };
-        let first = credit.window.min(self.session.window());
+        let first = first_of(credit, self.session.window());
         let answered = self.session.join(place, policy, first, sink);
         self.held = held_with(self.held, has_joined(&answered));
         self.is_well = both(self.is_well, has_reply(&answered));
@@ -149,6 +170,110 @@ impl<'a, R: Wait, M: Moments + Drop, W: Write + Drop> EventDesk<'a, R, M, W> {
             self.askers.add(observer);
         }
         joining_by(answered)
+    }
+
+    // Joins at the subject of this name.
+    fn join_named(
+        &mut self,
+        subject: &Name,
+        policy: Policy,
+        credit: Credit,
+        begin: Begin,
+        writer: W,
+    ) -> Joining<W>
+        ensures { JoinsNamed M.tells self.old subject.now policy credit begin writer result self.new }
+    {
+        let Some(place) = self.session.place_of(subject) else {
+            return Joining::Back(Refusal::Subject, writer);
+        };
+        if self.held >= self.grants.readers {
+            return Joining::Back(Refusal::Full, writer);
+        }
+        self.join_at(place, policy, credit, begin, writer)
+    }
+
+    // Joins at the subject at this place, from where its reader begins.
+    fn join_at(
+        &mut self,
+        place: usize,
+        policy: Policy,
+        credit: Credit,
+        begin: Begin,
+        writer: W,
+    ) -> Joining<W>
+        requires subject { place < length self.old.session.subjects }
+        requires room { self.old.held < 2 ^ 32 - 1 }
+        ensures { JoinsFrom M.tells self.old policy credit begin writer result self.new place }
+    {
+        let first = self.begin_at(place, begin);
+        self.join_from(place, policy, credit, first, writer)
+    }
+
+    // Joins at the subject at this place by a reader that begins there, or there is no memory for its sink.
+    fn join_from(
+        &mut self,
+        place: usize,
+        policy: Policy,
+        credit: Credit,
+        first: Begin,
+        writer: W,
+    ) -> Joining<W>
+        requires subject { place < length self.old.session.subjects }
+        requires room { self.old.held < 2 ^ 32 - 1 }
+        ensures { IsRefused causes.Memory self.old writer result self.new ⊎ JoinsBy M.tells self.old policy credit first writer result self.new place }
+    {
+        let Some(tempo) = tempo_of(&self.pulse, self.grants.heartbeat, credit.pace) else {
+            return Joining::Back(Refusal::Memory, writer);
+        };
+        let sink = sink_over(writer, &self.epoch, first, policy.strategy(), credit, tempo);
+        match ClientSink::events(self.heap, sink) {
+            Ok(sink) => self.ask(place, policy, credit, sink),
+            Err(writer) => Joining::Back(Refusal::Memory, writer),
+        }
+    }
+
+    // Where a reader begins at the subject at this place: one that said nothing to a Publish behind the last item that this had accepted,
+    // by one call that is refused and changes nothing.
+    fn begin_at(&mut self, place: usize, begin: Begin) -> Begin
+        requires { place < length self.old.session.subjects }
+        ensures begins { BeginsAt self.old begin result self.new place }
+        ensures held { self.new.held ≡ self.old.held }
+        ensures subjects { length self.new.session.subjects ≡ length self.old.session.subjects }
+    {
+        match begin {
+            Begin::Fresh if self.session.is_publish(place) => self.find_begin(place),
+            begin => begin,
+        }
+    }
+
+    // Where a reader begins behind the last item that the subject at this place had accepted.
+    fn find_begin(&mut self, place: usize) -> Begin
+        requires { place < length self.old.session.subjects }
+        ensures finds { FindsBegin self.old result self.new place }
+        ensures subjects { length self.new.session.subjects ≡ length self.old.session.subjects }
+    {
+        let answered = self.session.request(place, u32::MAX, 0);
+        self.is_well = both(self.is_well, has_reply(&answered));
+        first_begin(&answered)
+    }
+
+    // Emits a note of this kind and text at the subject of this name, where notes may be emitted.
+    fn emit_named(
+        &mut self,
+        subject: &Name,
+        kind: NoteKind,
+        text: &[u8],
+    ) -> Result<Option<u32>, Refusal>
+        ensures { EmitsNamed M.tells self.old subject.now kind text.now result self.new }
+    {
+        if !self.grants.may_emit {
+            return Err(Refusal::ReadOnly);
+        }
+        let Some(place) = self.session.place_of(subject) else {
+            return Err(Refusal::Subject);
+        };
+        let note = note_of(self.session.memory_at(place), kind, text)?;
+        self.emit_at(place, kind, note)
     }
 
     // Emits a note of this kind at the subject at this place.
@@ -223,11 +348,11 @@ impl<'a, R: Wait, M: Moments + Drop, W: Write + Drop> EventDesk<'a, R, M, W> {
 
 impl<'a, R: Wait, M: Moments + Drop, W: Write + Drop> Front<W> for EventDesk<'a, R, M, W> {
     ghost use Rattle.std.specs.Prelude.{◌≡◌};
-    ghost use Rattle.rx_desk.specs.EventDesks.{emits, joins, requests, shows};
+    ghost use Rattle.rx_desk.specs.EventDesks.{emits, is_healthy, joins, requests, shows, stops};
 
     ghost since = { λ desk epoch. epoch ≡ desk.epoch };
 
-    ghost looks = { λ desk well. well ≡ desk.is_well };
+    ghost looks = { λ desk well. well ≡ is_healthy desk };
 
     ghost joins = { joins M.tells };
 
@@ -237,12 +362,14 @@ impl<'a, R: Wait, M: Moments + Drop, W: Write + Drop> Front<W> for EventDesk<'a,
 
     ghost shows = { shows };
 
+    ghost stops = { stops };
+
     fn epoch(&self) -> &Epoch {
         &self.epoch
     }
 
     fn is_well(&self) -> bool {
-        self.is_well
+        self.is_well && !self.stopping
     }
 
     fn join(
@@ -253,17 +380,10 @@ impl<'a, R: Wait, M: Moments + Drop, W: Write + Drop> Front<W> for EventDesk<'a,
         begin: Begin,
         writer: W,
     ) -> Joining<W> {
-        let Some(place) = self.session.place_of(subject) else {
-            return Joining::Back(Refusal::Subject, writer);
-        };
-        if self.held >= self.grants.readers {
-            return Joining::Back(Refusal::Full, writer);
+        if self.stopping {
+            return Joining::Back(Refusal::Stopping, writer);
         }
-        let sink = sink_over(writer, &self.epoch, begin, policy.strategy(), credit.asked);
-        match ClientSink::events(self.heap, sink) {
-            Ok(sink) => self.ask(place, policy, credit, sink),
-            Err(writer) => Joining::Back(Refusal::Memory, writer),
-        }
+        self.join_named(subject, policy, credit, begin, writer)
     }
 
     fn emit(
@@ -272,14 +392,10 @@ impl<'a, R: Wait, M: Moments + Drop, W: Write + Drop> Front<W> for EventDesk<'a,
         kind: NoteKind,
         text: &[u8],
     ) -> Result<Option<u32>, Refusal> {
-        if !self.grants.may_emit {
-            return Err(Refusal::ReadOnly);
+        if self.stopping {
+            return Err(Refusal::Stopping);
         }
-        let Some(place) = self.session.place_of(subject) else {
-            return Err(Refusal::Subject);
-        };
-        let note = note_of(self.session.memory_at(place), kind, text)?;
-        self.emit_at(place, kind, note)
+        self.emit_named(subject, kind, text)
     }
 
     fn request(&mut self, subject: &Name, observer: ObserverId, items: u32) -> Result<(), Refusal> {
@@ -305,30 +421,25 @@ impl<'a, R: Wait, M: Moments + Drop, W: Write + Drop> Front<W> for EventDesk<'a,
             Err(_) => Err(Refusal::Memory),
         }
     }
+
+    fn stop(&mut self, within: u32) -> Result<(), Refusal> {
+        if !self.grants.may_stop {
+            return Err(Refusal::NoStop);
+        }
+        self.stopping = true;
+        self.stop.ask(within);
+        Ok(())
+    }
 }
 
-// The sink that tells an observer of this strategy by a writer, from where its reader begins.
-fn sink_over<W: Write + Drop>(
-    writer: W,
-    epoch: &Epoch,
-    begin: Begin,
-    strategy: Strategy,
-    asked: bool,
-) -> EventSink<W>
-    ensures { result ≡ event_sink writer epoch.now begin strategy asked }
+// Where a reader begins, by the answer to the call before its Join.
+fn first_begin<S>(answered: &Result<Reply<S>, CallError<S>>) -> Begin
+    ensures { result ≡ first_begin answered.now }
 {
-    let Some(epoch) = Epoch::new(epoch.as_bytes()) else {
-        unreachable!()
-    };
-    let sink = EventSink::gathering(writer, epoch, begin, is_bounded(strategy));
-    if asked { sink.asked() } else { sink }
-}
-
-// Whether an observer of this strategy may end by an overflow.
-fn is_bounded(strategy: Strategy) -> bool
-    ensures { result ≡ is_bounded strategy }
-{
-    matches!(strategy, Strategy::Bounded(_))
+    match answered {
+        Ok(reply) => Begin::Behind(reply.items.checked_sub(1)),
+        Err(_) => Begin::Fresh,
+    }
 }
 
 // How many observers are held, with one more where a call made it.
@@ -350,73 +461,4 @@ fn has_reply<S>(answered: &Result<Reply<S>, CallError<S>>) -> bool
     ensures { result ≡ has_reply answered.now }
 {
     answered.is_ok()
-}
-
-// What becomes of the writer, by the answer to the call of its sink.
-fn joining_by<W: Write + Drop>(
-    answered: Result<Reply<ClientSink<W>>, CallError<ClientSink<W>>>,
-) -> Joining<W>
-    ensures { result ≡ joining_by answered }
-{
-    if has_joined(&answered) {
-        return Joining::Taken;
-    }
-    let cause = cause_of(&answered);
-    match sink_back(answered) {
-        None => Joining::Taken,
-        Some(sink) => Joining::Back(cause, sink.into_writer()),
-    }
-}
-
-// Why a Join is refused whose call was answered so.
-fn cause_of<S>(answered: &Result<Reply<S>, CallError<S>>) -> Refusal
-    ensures { result ≡ cause_of answered.now }
-{
-    match answered {
-        Ok(reply) => cause_in(reply.result),
-        Err(_) => Refusal::Gone,
-    }
-}
-
-// Why a Join is refused, by what its subject answered.
-fn cause_in(answered: Result<Answer, rx_note::Refusal>) -> Refusal
-    ensures { result ≡ cause_in answered }
-{
-    match answered {
-        Err(rx_note::Refusal::Full) => Refusal::Full,
-        Err(rx_note::Refusal::Spent) => Refusal::Spent,
-        Err(rx_note::Refusal::Memory) => Refusal::Memory,
-        Ok(_)
-        | Err(
-            rx_note::Refusal::Ended
-            | rx_note::Refusal::ZeroRequest
-            | rx_note::Refusal::NoObserver
-            | rx_note::Refusal::TooMuch,
-        ) => Refusal::Gone,
-    }
-}
-
-// What a request of items is answered whose call was answered so.
-fn requested_by<S>(answered: &Result<Reply<S>, CallError<S>>) -> Result<(), Refusal>
-    ensures { result ≡ requested_by answered.now }
-{
-    match answered {
-        Ok(reply) => match reply.result {
-            Ok(_) => Ok(()),
-            Err(refusal) => Err(request_cause(refusal)),
-        },
-        Err(_) => Err(Refusal::Gone),
-    }
-}
-
-// Why a request of items is refused, by what its subject answered.
-fn request_cause(refusal: rx_note::Refusal) -> Refusal
-    ensures { result ≡ request_cause refusal }
-{
-    match refusal {
-        rx_note::Refusal::NoObserver | rx_note::Refusal::Ended => Refusal::Observer,
-        rx_note::Refusal::ZeroRequest | rx_note::Refusal::TooMuch => Refusal::Items,
-        rx_note::Refusal::Memory => Refusal::Memory,
-        rx_note::Refusal::Full | rx_note::Refusal::Spent => Refusal::Gone,
-    }
 }

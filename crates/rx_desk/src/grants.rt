@@ -5,4 +5,8 @@ pub struct Grants {
     pub readers: u32,
     /// Whether notes may be emitted, or readers alone are served.
     pub may_emit: bool,
+    /// Whether the server may be stopped by a request.
+    pub may_stop: bool,
+    /// After how many seconds in which a reader was told nothing it is told a heartbeat.
+    pub heartbeat: u16,
 }

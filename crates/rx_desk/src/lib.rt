@@ -13,14 +13,17 @@
 #![tactic(auto)]
 
 mod askers;
+mod causes;
 mod client_sink;
 mod emitted_note;
 mod event_desk;
+mod event_sinks;
 mod grants;
 mod joined;
 mod moments;
 mod responses;
 mod session_desk;
+mod stop;
 
 pub use client_sink::ClientSink;
 pub use event_desk::EventDesk;
@@ -28,3 +31,4 @@ pub use grants::Grants;
 pub use joined::Joined;
 pub use moments::Moments;
 pub use session_desk::SessionDesk;
+pub use stop::{SharedStop, Stop};

@@ -1,6 +1,6 @@
-ghost use Rattle.std.specs.Prelude.{◌≡◌, ◌+◌, ◌-◌, ◌^◌, ◌<◌, ◌∷◌, List, [], None, length, vec_len, IsTrue};
+ghost use Rattle.std.specs.Prelude.{◌≡◌, ◌+◌, ◌-◌, ◌^◌, ◌<◌, ◌∷◌, List, [], None, length, slice_get, vec_len, IsTrue};
 ghost use Rattle.rx_proto.specs.Reading.{same_word};
-ghost use Rattle.rx_desk.specs.SessionDesks.{followed, joined_by, no_queue, place_of};
+ghost use Rattle.rx_desk.specs.SessionDesks.{followed, is_publish, joined_by, no_queue, place_of};
 
 use crate::client_sink::ClientSink;
 use crate::joined::Joined;
@@ -9,7 +9,7 @@ use crate::responses::{has_joined, response_of, sink_back};
 use rx_config::{Config, SubjectConfig};
 use rx_heap::Heap;
 use rx_hub::SubjectLook;
-use rx_note::{Answer, Event, Note, Policy};
+use rx_note::{Answer, Event, Kind, Note, Policy};
 use rx_proto::{Name, Response, Version, Word};
 use rx_pump::{CallDesk, CallError, Reply, SharedLook};
 use rx_session::{Desk, Follow};
@@ -98,6 +98,16 @@ impl<'a, R, M: Drop, W: Write + Drop> SessionDesk<'a, R, M, W> {
         ensures { result ≡ self.now.window }
     {
         u32::from(self.config.window)
+    }
+
+    /// Whether the subject at this place is a Publish.
+    pub(crate) fn is_publish(&self, place: usize) -> bool
+        ensures { result ≡ is_publish (slice_get self.now.subjects place) }
+    {
+        match self.config.subjects.get(place) {
+            Some(subject) => matches!(subject.rules.kind, Kind::Publish),
+            None => false,
+        }
     }
 
     /// The subjects of the configuration.
