@@ -1,7 +1,7 @@
 -- What an exchange keeps of its desk.
-use Rattle.std.proofs.Common.{◌≡◌, ℕ, zero, suc, Bool, true, false, List, Option, None, Some, MatchBool, MatchOption, Result, Ok, Err, ap, inl, inr}
-use Rattle.rx_desk.specs.EventDesks.{AsksFor, EmitsAt, EventView, IsRefused, IsUnasked, IsUngranted, JoinsAt, RequestsAt, asks_itself, emits, joins, requests}
-use Rattle.rx_desk.specs.SessionDesks.{KeepsSession, Looks, LooksAt, SessionView, place_of}
+use Rattle.std.proofs.Common.{◌≡◌, ℕ, zero, suc, Bool, true, false, List, Option, None, Some, slice_get, ◌⊎◌, MatchBool, MatchOption, Result, Ok, Err, ap, inl, inr}
+use Rattle.rx_desk.specs.EventDesks.{AsksFor, BeginsAt, BeginsThere, EmitsAt, EventView, FindsBegin, IsRefused, IsUnasked, IsUngranted, EmitsNamed, JoinsAt, JoinsBy, JoinsNamed, RequestsAt, asks_itself, emits, joins, requests, stops, with_stop}
+use Rattle.rx_desk.specs.SessionDesks.{KeepsSession, Looks, LooksAt, SessionView, is_publish, place_of}
 use Rattle.rx_desk.specs.declared.client_sink.ClientSink.{ClientSink}
 use Rattle.rx_exchange.specs.Meetings.{Meets}
 use Rattle.rx_exchange.specs.Meetings as meetings
@@ -12,9 +12,10 @@ use Rattle.rx_http.specs.declared.answer.Answer.{Answer}
 use Rattle.rx_http.specs.declared.answer.refusal.Refusal.{Refusal}
 use Rattle.rx_http.specs.declared.answer.refusal.Refusal.TheVariants as causes
 use Rattle.rx_http.specs.declared.request.asked.Asked.{Asked}
-use Rattle.rx_http.specs.declared.request.asked.Asked.TheVariants.{Emission, Events, Health, Look, Request}
+use Rattle.rx_http.specs.declared.request.asked.Asked.TheVariants.{Emission, Events, Health, Look, Request, Stop}
 use Rattle.rx_http.specs.declared.request.note_kind.NoteKind.{NoteKind}
 use Rattle.rx_http.specs.declared.request.begin.Begin.{Begin}
+use Rattle.rx_http.specs.declared.request.begin.Begin.TheVariants.{Behind, Fresh, Restarted}
 use Rattle.rx_http.specs.declared.request.credit.Credit.{Credit}
 use Rattle.rx_http.specs.declared.request.observer_id.ObserverId.{ObserverId}
 use Rattle.rx_note.specs.Choices.{Choice}
@@ -28,6 +29,10 @@ match_option : {X : Type 0} (o : Option X) (A : Type 0) (B : X → Type 0) (P : 
 match_option None A B P none some m = none m
 match_option (Some x) A B P none some m = some x m
 
+match_bool : (b : Bool) (A B P : Type 0) → (A → P) → (B → P) → MatchBool b A B → P
+match_bool true A B P first second m = first m
+match_bool false A B P first second m = second m
+
 module _ {M W : Type 0} where
   -- the desk of a face keeps that of its calls
   abbrev pub Kept : EventView M (ClientSink W) → EventView M (ClientSink W) → Type 0
@@ -36,20 +41,47 @@ module _ {M W : Type 0} where
   pub kept-equal : (s t : EventView M (ClientSink W)) → t ≡ s → Kept s t
   kept-equal s t same = keeps-equal s.session t.session (ap (λ (v : EventView M (ClientSink W)). v.session) same)
 
+module _ {M W : Type 0} where
+  -- where a reader of a Publish begins
+  find_keeps : (s : EventView M (ClientSink W)) (first : Begin) (t : EventView M (ClientSink W)) (subject : ℕ) (publish : Bool)
+      → MatchBool publish (FindsBegin s first t subject) (BeginsThere s Fresh first t) → Kept s t
+  find_keeps s first t subject true finds = finds.asks.kept
+  find_keeps s first t subject false there = kept-equal s t there.1
+
+  -- where any reader does
+  begin_at_keeps : (s : EventView M (ClientSink W)) (begin first : Begin) (t : EventView M (ClientSink W)) (subject : ℕ) → BeginsAt s begin first t subject → Kept s t
+  begin_at_keeps s Fresh first t subject begins = find_keeps s first t subject (is_publish (slice_get s.session.subjects subject)) begins
+  begin_at_keeps s (Behind place) first t subject there = kept-equal s t there.1
+  begin_at_keeps s (Restarted id) first t subject there = kept-equal s t there.1
+
 module _ {M W : Type 0} (tells : M → ℕ → M → Type 0) where
+  -- a Join, or none for want of memory
+  does_keeps : (s : EventView M (ClientSink W)) (policy : Choice) (credit : Credit) (begin : Begin) (writer : W) (joining : Joining W) (t : EventView M (ClientSink W)) (subject : ℕ)
+      → (IsRefused causes.Memory s writer joining t ⊎ JoinsBy tells s policy credit begin writer joining t subject) → Kept s t
+  does_keeps s policy credit begin writer joining t subject (inl refused) = kept-equal s t refused.1
+  does_keeps s policy credit begin writer joining t subject (inr by) = by.2.asks.once.kept
+
   -- a Join at a subject
   at_keeps : (s : EventView M (ClientSink W)) (policy : Choice) (credit : Credit) (begin : Begin) (writer : W) (joining : Joining W) (t : EventView M (ClientSink W)) (subject : ℕ)
       → JoinsAt tells s policy credit begin writer joining t subject → Kept s t
   at_keeps s policy credit begin writer joining t subject (inl full) = kept-equal s t full.1.1
-  at_keeps s policy credit begin writer joining t subject (inr (room, inl refused)) = kept-equal s t refused.1
-  at_keeps s policy credit begin writer joining t subject (inr (room, inr by)) = by.2.asks.once.kept
+  at_keeps s policy credit begin writer joining t subject (inr (room, from)) =
+      keeps-then s.session from.mid.session t.session (begin_at_keeps s begin from.first from.mid subject from.begins)
+      (does_keeps from.mid policy credit from.first writer joining t subject from.does)
 
   -- at the subject of a name
+  named_keeps : (s : EventView M (ClientSink W)) (name : List ℕ) (policy : Choice) (credit : Credit) (begin : Begin) (writer : W) (joining : Joining W) (t : EventView M (ClientSink W))
+      → JoinsNamed tells s name policy credit begin writer joining t → Kept s t
+  named_keeps s name policy credit begin writer joining t j =
+      match_option (place_of name s.session.subjects) (IsRefused causes.Subject s writer joining t) (JoinsAt tells s policy credit begin writer joining t) (Kept s t)
+      (λ refused. kept-equal s t refused.1) (at_keeps s policy credit begin writer joining t) j
+
+  -- of a server that may have been asked to stop
   join_keeps : (s : EventView M (ClientSink W)) (name : List ℕ) (policy : Choice) (credit : Credit) (begin : Begin) (writer : W) (joining : Joining W) (t : EventView M (ClientSink W))
       → joins tells s name policy credit begin writer joining t → Kept s t
   join_keeps s name policy credit begin writer joining t j =
-      match_option (place_of name s.session.subjects) (IsRefused causes.Subject s writer joining t) (JoinsAt tells s policy credit begin writer joining t) (Kept s t)
-      (λ refused. kept-equal s t refused.1) (at_keeps s policy credit begin writer joining t) j
+      match_bool s.stopping (IsRefused causes.Stopping s writer joining t) (JoinsNamed tells s name policy credit begin writer joining t) (Kept s t)
+      (λ refused. kept-equal s t refused.1) (named_keeps s name policy credit begin writer joining t) j
 
   -- an emission at a subject
   emit_at_keeps : (s : EventView M (ClientSink W)) (kind : NoteKind) (text : List ℕ) (emitted : Result (Option ℕ) Refusal) (t : EventView M (ClientSink W)) (subject : ℕ)
@@ -58,12 +90,19 @@ module _ {M W : Type 0} (tells : M → ℕ → M → Type 0) where
   emit_at_keeps s kind text emitted t subject (inr emits) = emits.asks.once.kept
 
   -- at the subject of a name
-  emit_keeps : (s : EventView M (ClientSink W)) (name : List ℕ) (kind : NoteKind) (text : List ℕ) (emitted : Result (Option ℕ) Refusal) (t : EventView M (ClientSink W))
-      → emits tells s name kind text emitted t → Kept s t
-  emit_keeps s name kind text emitted t (inl read_only) = kept-equal s t read_only.1.1
-  emit_keeps s name kind text emitted t (inr may) =
+  emit_named_keeps : (s : EventView M (ClientSink W)) (name : List ℕ) (kind : NoteKind) (text : List ℕ) (emitted : Result (Option ℕ) Refusal) (t : EventView M (ClientSink W))
+      → EmitsNamed tells s name kind text emitted t → Kept s t
+  emit_named_keeps s name kind text emitted t (inl read_only) = kept-equal s t read_only.1.1
+  emit_named_keeps s name kind text emitted t (inr may) =
       match_option (place_of name s.session.subjects) (IsUnasked tells causes.Subject s emitted t) (EmitsAt tells s kind text emitted t) (Kept s t)
       (λ refused. kept-equal s t refused.1) (emit_at_keeps s kind text emitted t) may.1
+
+  -- of a server that may have been asked to stop
+  emit_keeps : (s : EventView M (ClientSink W)) (name : List ℕ) (kind : NoteKind) (text : List ℕ) (emitted : Result (Option ℕ) Refusal) (t : EventView M (ClientSink W))
+      → emits tells s name kind text emitted t → Kept s t
+  emit_keeps s name kind text emitted t e =
+      match_bool s.stopping (IsUnasked tells causes.Stopping s emitted t) (EmitsNamed tells s name kind text emitted t) (Kept s t)
+      (λ refused. kept-equal s t refused.1) (emit_named_keeps s name kind text emitted t) e
 
 module _ {M W : Type 0} where
   -- a request of items at a subject
@@ -89,6 +128,12 @@ module _ {M W : Type 0} where
   looks_keep zero s t same = keeps-equal s t same
   looks_keep (suc count) s t (mid, looks, at) = keeps-then s mid t (looks_keep count s mid looks) (look_keeps mid t count at)
 
+  -- a stop
+  stop_keeps : (s : EventView M (ClientSink W)) (within : ℕ) (stopped : Result (Unit {0}) Refusal) (t : EventView M (ClientSink W)) → stops s within stopped t → Kept s t
+  stop_keeps s within stopped t m =
+      match_bool s.grants.may_stop ((stopped ≡ Ok tt) × (t ≡ with_stop s)) (IsUngranted causes.NoStop s stopped t) (Kept s t)
+      (λ asked. keeps-equal s.session t.session (ap (λ (v : EventView M (ClientSink W)). v.session) asked.1)) (λ refused. kept-equal s t refused.1) m
+
 module _ {M C W : Type 0} (tells : M → ℕ → M → Type 0) (remaining : C → Option (List ℕ)) (contents : W → Option (List ℕ)) where
   -- a Join from where its reader begins
   begin_keeps : (s : EventView M (ClientSink W)) (name : List ℕ) (policy : Choice) (credit : Credit) (begin : Option Begin) (writer : W) (met : Option (Answer × W)) (t : EventView M (ClientSink W))
@@ -103,6 +148,7 @@ module _ {M C W : Type 0} (tells : M → ℕ → M → Type 0) (remaining : C �
   meet_keeps s writer (Ok (Emission subject kind size)) text met t m = emit_keeps tells s subject kind text m.0 t m.1
   meet_keeps s writer (Ok (Request subject observer items)) text met t m = request_keeps s subject observer items m.0 t m.1
   meet_keeps s writer (Ok (Look form)) text met t m = looks_keep m.1.0 s.session t.session m.1.1.0
+  meet_keeps s writer (Ok (Stop within)) text met t m = stop_keeps s within m.0 t m.1
   meet_keeps s writer (Ok Health) text met t m = kept-equal s t m.0
   meet_keeps s writer (Err cause) text met t m = kept-equal s t m.0
 

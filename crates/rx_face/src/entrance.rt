@@ -1,5 +1,6 @@
 use crate::Closer;
-use rx_desk::Grants;
+use rx_desk::{Grants, SharedStop};
+use rx_events::SharedPulse;
 use rx_http::Epoch;
 use rx_workers::{Idle, Readiness};
 
@@ -16,4 +17,8 @@ pub struct Entrance<M: Drop, C, P: Readiness<C> + Drop, B: Closer + Drop> {
     pub epoch: Epoch,
     /// What is granted to those who come.
     pub grants: Grants,
+    /// What time it is for the sinks of readers, as long as somebody tells it.
+    pub pulse: SharedPulse,
+    /// By what the server is told to stop.
+    pub stop: SharedStop,
 }

@@ -1,11 +1,12 @@
-ghost use Rattle.std.specs.Prelude.{◌≡◌, ◌+◌, [], None, length, true, vec_len};
+ghost use Rattle.std.specs.Prelude.{◌≡◌, ◌+◌, [], None, length, false, true, vec_len};
 ghost use Rattle.std.specs.Arc.{arc_value};
 ghost use Rattle.rx_desk.specs.SessionDesks.{no_queue};
 
 use crate::Doorway;
 use crate::attendance::Attendance;
 use rx_config::Config;
-use rx_desk::{ClientSink, EventDesk, Grants, Moments, SessionDesk};
+use rx_desk::{ClientSink, EventDesk, Grants, Moments, SessionDesk, SharedStop};
+use rx_events::SharedPulse;
 use rx_heap::Heap;
 use rx_http::Epoch;
 use rx_pump::{CallDesk, SharedLook};
@@ -26,6 +27,9 @@ pub struct Face<M: Drop, C: Drop, W: Write + Drop, P: Doorway<C, W> + Drop> {
     grants: Grants,
     // What shows each subject, in their order.
     shown: Vec<SharedLook, Heap>,
+    // What time it is for its sinks.
+    pulse: SharedPulse,
+    stop: SharedStop,
     desk: CallDesk<ClientSink<W>>,
     doorway: Idle<C, P>,
 }
@@ -41,6 +45,8 @@ impl<M: Drop, C: Drop, W: Write + Drop, P: Doorway<C, W> + Drop> Drop for Face<M
             epoch: _,
             grants: _,
             shown: _,
+            pulse: _,
+            stop: _,
             desk: _,
             doorway: _,
         } = self;
@@ -48,7 +54,7 @@ impl<M: Drop, C: Drop, W: Write + Drop, P: Doorway<C, W> + Drop> Drop for Face<M
 }
 
 impl<M: Drop, C: Drop, W: Write + Drop, P: Doorway<C, W> + Drop> Model for Face<M, C, W, P> {
-    ghost use Rattle.std.specs.Prelude.{◌≡◌, ◌+◌, [], None, length, true, vec_len};
+    ghost use Rattle.std.specs.Prelude.{◌≡◌, ◌+◌, [], None, length, false, true, vec_len};
     ghost use Rattle.std.specs.Arc.{arc_value};
     ghost use Rattle.rx_desk.specs.EventDesks.{EventView};
     ghost use Rattle.rx_desk.specs.SessionDesks.{no_queue};
@@ -56,7 +62,7 @@ impl<M: Drop, C: Drop, W: Write + Drop, P: Doorway<C, W> + Drop> Model for Face<
 
     ghost Value = { EventView M (ClientSink W) };
 
-    ghost view = { λ f. record { session = record { subjects = (arc_value f.config).subjects.items; window = (arc_value f.config).window; moments = f.moments; calls = f.desk; joined = None; queue = no_queue }; epoch = f.epoch; grants = f.grants; held = 0; asking = []; is_well = true } };
+    ghost view = { λ f. record { session = record { subjects = (arc_value f.config).subjects.items; window = (arc_value f.config).window; moments = f.moments; calls = f.desk; joined = None; queue = no_queue }; epoch = f.epoch; grants = f.grants; held = 0; asking = []; is_well = true; stopping = false } };
 
     ghost invariant = { λ f. length f.desk.ports + length f.desk.ended ≡ vec_len (arc_value f.config).subjects };
 }
@@ -65,7 +71,7 @@ impl<M: Moments + Drop, C: Read + Drop, W: Write + Drop, P: Doorway<C, W> + Drop
     ghost use Rattle.rx_face.specs.Facing.{HasServed};
 
     /// A face of a server of this epoch that grants so much, over a desk that has a port for each subject, in the order of the
-    /// configuration, as `shown` shows them. The list of its clients takes the memory `own`.
+    /// configuration, as `shown` shows them. Its sinks have the time of this pulse. It tells by `stop` that it is asked to stop. The list of its clients takes the memory `own`.
     pub fn new(
         heap: Heap,
         own: Heap,
@@ -74,11 +80,13 @@ impl<M: Moments + Drop, C: Read + Drop, W: Write + Drop, P: Doorway<C, W> + Drop
         epoch: Epoch,
         grants: Grants,
         shown: Vec<SharedLook, Heap>,
+        pulse: SharedPulse,
+        stop: SharedStop,
         desk: CallDesk<ClientSink<W>>,
         doorway: Idle<C, P>,
     ) -> Face<M, C, W, P>
         requires { length desk.ports + length desk.ended ≡ vec_len (arc_value config).subjects }
-        ensures { result ≡ record { session = record { subjects = (arc_value config).subjects.items; window = (arc_value config).window; moments = moments; calls = desk; joined = None; queue = no_queue }; epoch = epoch; grants = grants; held = 0; asking = []; is_well = true } }
+        ensures { result ≡ record { session = record { subjects = (arc_value config).subjects.items; window = (arc_value config).window; moments = moments; calls = desk; joined = None; queue = no_queue }; epoch = epoch; grants = grants; held = 0; asking = []; is_well = true; stopping = false } }
     {
         Face {
             heap,
@@ -88,6 +96,8 @@ impl<M: Moments + Drop, C: Read + Drop, W: Write + Drop, P: Doorway<C, W> + Drop
             epoch,
             grants,
             shown,
+            pulse,
+            stop,
             desk,
             doorway,
         }
@@ -105,12 +115,14 @@ impl<M: Moments + Drop, C: Read + Drop, W: Write + Drop, P: Doorway<C, W> + Drop
             epoch,
             grants,
             shown,
+            pulse,
+            stop,
             desk,
             doorway,
         } = self;
         let mut doorway = doorway.into_readiness();
         let session = SessionDesk::new(rt, &heap, desk, &config, moments);
-        let desk = EventDesk::new(session, &heap, epoch, grants, shown);
+        let desk = EventDesk::new(session, &heap, epoch, grants, shown, pulse, stop);
         let mut attendance = Attendance::new(&heap, own, desk);
         attendance.serve(rt, &mut doorway);
         attendance.into_desk().into_session().into_desk()

@@ -108,9 +108,11 @@ pub fn start_face<
         moments,
         epoch,
         grants,
+        pulse,
+        stop,
     } = entrance;
     let face = Face::new(
-        memory, clients, config, moments, epoch, grants, shown, desk, doorway,
+        memory, clients, config, moments, epoch, grants, shown, pulse, stop, desk, doorway,
     );
     match start(rt, own, face, closer) {
         Ok(running) => Ok(running),

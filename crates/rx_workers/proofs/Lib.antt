@@ -6,5 +6,6 @@ pub mod Received
 pub mod Service
 pub mod Sessions
 pub mod Talks
+pub mod WatchLogs
 pub mod Watching
 pub mod Working

@@ -4,6 +4,7 @@ pub mod Crews
 pub mod Service
 pub mod Talks
 pub mod Telling
+pub mod WatchLogs
 pub mod Watching
 pub mod Workers
 pub mod Working

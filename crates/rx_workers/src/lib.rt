@@ -16,6 +16,7 @@ pub(crate) mod crew;
 mod listener;
 mod readiness;
 mod shared_moments;
+mod watch_log;
 pub(crate) mod worker;
 
 pub use crew::acceptor::{AcceptStop, accept_all};
@@ -26,6 +27,7 @@ pub use listener::{AcceptFault, Listener, Watch};
 pub use readiness::{Aim, Readiness, Ready, Waker, WatchFault};
 pub use rx_desk::{ClientSink, Joined, Moments, SessionDesk};
 pub use shared_moments::SharedMoments;
+pub use watch_log::WatchLog;
 pub use worker::Worker;
 pub use worker::admission::admit;
 pub use worker::client::{Client, Follower, Talk};

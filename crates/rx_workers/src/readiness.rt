@@ -3,8 +3,9 @@
 // which is ready has its turn is tested. What is watched for what is known by key: between any two calls of a worker the
 // connection at each place is watched for what is waited for there, and nothing where nobody is (`specs/Watching.antt`). A
 // worker begins by an `Idle` readiness, whose invariant is that it watches nothing, so no list of them needs a clause. What
-// was asked of the system is a history that only contracts see and that takes no memory (`rx_program::WatchLog`, over `Log`
+// was asked of the system is a history that only contracts see and that takes no memory (`rx_workers::WatchLog`, over `Log`
 // of `http_server`).
+use rx_desk::Joined;
 use std::error::Error;
 use std::fmt;
 
@@ -64,6 +65,10 @@ pub trait Readiness<C> {
     /// Has the connection of this key told by the next wait, though nothing happens on it: its session goes on at once. Others
     /// that are ready are told in between.
     fn again(&mut self, key: usize)
+        ensures { WatchesSame (watched self.old) (watched self.new) };
+
+    /// Tells it which observer the peer of a connection is from now on.
+    fn name(&mut self, connection: &C, observer: Joined)
         ensures { WatchesSame (watched self.old) (watched self.new) };
 
     /// Watches it no more.

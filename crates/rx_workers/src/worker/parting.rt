@@ -109,6 +109,7 @@ fn end_at<C: Drop, W: Drop, T: Drop, P: Readiness<C>>(
 {
     match (end, joined) {
         (SessionEnd::HandedOver, Some(observer)) => {
+            readiness.name(&reader, observer);
             readiness.change(&reader, place, Aim::HangUp);
             Some(Client::Follows(Follower { reader, observer }))
         }
