@@ -42,7 +42,8 @@ impl<S: Sink> Server<S> {
     ghost use Rattle.rx_server.specs.Servers.{Closes, Fails, IsEndOf};
 
     /// Ends the desks that were not handed out, and waits until each subject heard that all desks ended and what waits for observers
-    /// has gone to their sinks; but where nothing moves for a quarter of a second, a sink takes nothing, and that is given up. Then it
+    /// has gone to their sinks; but where nothing moves for a quarter of a second, a sink takes nothing, and that is given up, or where
+    /// [`Server::wait_within`] waited for it already. Then it
     /// tells the drainers to leave, waits until all threads have ended, receives what is still in the boxes of the desks, settles
     /// each box that `start` made, and reports. Handed in are the desks that were handed out, each ended. One that was let go
     /// instead has ended too, but is missing.
@@ -60,9 +61,10 @@ impl<S: Sink> Server<S> {
         requires { All (IsEndOf self.made) ended.items }
         ensures { MatchResult result (Closes S.acts self ended.items) (Fails S.acts self ended.items) }
     {
+        let grace = self.grace;
         let (running, mut leaves, mut desks, mut rooms) = self.into_parts();
         finish_desks(rt, &mut desks, &mut rooms.desks);
-        running.wait(rt);
+        let _left = running.wait(rt, grace);
         let told = finish_all(rt, &mut leaves, &mut rooms.leaves);
         running.join(rt, &mut rooms)?;
         match told {

@@ -13,7 +13,7 @@ use crate::close::finish_desks;
 use crate::server::Server;
 use rx_config::Config;
 use rx_face::{Closer, Doorway, Entrance, start_face};
-use rx_heap::{Heap, room};
+use rx_heap::{Heap, Memory, room};
 use rx_pump::{CallDesk, SharedLook};
 use rx_workers::{ClientSink, Listener, Moments, ServeFault, serve_connections};
 use std::io::Write;
@@ -119,6 +119,15 @@ impl<W: Write + Drop + Send + 'static> Server<ClientSink<W>> {
         take_all(&mut desks.into_iter(), &mut left);
         finish_desks(rt, &mut left.into_iter(), &mut self.rooms.desks);
         served
+    }
+
+    /// What shows each subject to another thread, in their order. Nothing is promised of what is seen.
+    ///
+    /// # Errors
+    ///
+    /// `Memory`: there was none for the list.
+    pub fn shown(&self) -> Result<Vec<SharedLook, Heap>, Memory> {
+        self.running.shown(&self.heap)
     }
 }
 

@@ -25,7 +25,7 @@ pub use close::close_fault::{CloseCause, CloseFault};
 pub use close::report::{Report, SubjectReport};
 pub use close::report_lines::write_report_lines;
 pub use rx_config::{Budget, Config, ConfigError, SubjectConfig, read_config};
-pub use rx_desk::Grants;
+pub use rx_desk::{Grants, SharedStop, Stop};
 pub use rx_face::{Closer, Doorway, Entrance};
 pub use rx_http::Epoch;
 pub use rx_session::response_to;

@@ -13,7 +13,7 @@ use crate::wired::wire;
 use rx_config::Config;
 use rx_heap::{Heap, Memory};
 use rx_mailbox::{Port, let_go_all};
-use rx_pump::{CallDesk, Out};
+use rx_pump::{CallDesk, Grace, Out};
 use rx_sink::Sink;
 use std::marker::Model;
 use std::snapshot::Snapshot;
@@ -35,6 +35,8 @@ pub struct Server<S: Sink> {
     // What its workers are made of.
     pub(crate) heap: Heap,
     pub(crate) config: Arc<Config, Heap>,
+    // How long its close waits for what waits for observers.
+    pub(crate) grace: Grace,
 }
 
 // The desks end as they are let go, and the drainers are told to leave.
@@ -48,6 +50,7 @@ impl<S: Sink> Drop for Server<S> {
             rooms: _,
             heap: _,
             config: _,
+            grace: _,
         } = self;
         let_go_all(leaves);
     }
@@ -88,6 +91,18 @@ impl<S: Sink> Server<S> {
         self.desks.next()
     }
 
+    /// Waits until all desks ended, and then until what waits for observers has gone to their sinks, for so many milliseconds at most.
+    /// It answers how many of them are left; some are just where nothing waits. Its close waits for that no more.
+    pub fn wait_within<R: Wait>(&mut self, rt: &R, ms: u64) -> u64
+        ensures { self.new ≡ self.old }
+    {
+        self.grace = Grace::Within(0);
+        match self.running.wait(rt, Grace::Within(ms)) {
+            Grace::Within(left) => left,
+            Grace::WhileMoving => 0,
+        }
+    }
+
     // What runs, the ports by which the drainers are told to leave, the desks that were not handed out, and room for what all
     // these leave.
     pub(crate) fn into_parts(
@@ -114,6 +129,7 @@ impl<S: Sink> Server<S> {
             rooms,
             heap: _,
             config: _,
+            grace: _,
         } = self;
         (running, leaves, desks, rooms)
     }
@@ -185,6 +201,7 @@ where
         rooms,
         heap,
         config,
+        grace: Grace::WhileMoving,
     })
 }
 

@@ -14,7 +14,7 @@ use crate::wired::running_pump::{RunningPump, start_pump};
 use crate::wired::start_fault::{Role, StartFault};
 use rx_drain::{Drainer, RunningDrainer, start_drainer};
 use rx_heap::{Heap, Memory, room};
-use rx_pump::{Pump, SharedLook};
+use rx_pump::{Grace, Pump, SharedLook};
 use rx_sink::Sink;
 use std::sync::Wait;
 use std::thread::Threads;
@@ -53,11 +53,13 @@ impl<S: Sink> Running<S> {
     }
 
     // Waits until each pump heard that all desks ended, which end their ports or are let go, and until what waits has gone to who
-    // takes it.
-    pub(crate) fn wait<R: Wait>(&self, rt: &R) {
+    // takes it, but no longer than by this grace. It answers what is left of that.
+    pub(crate) fn wait<R: Wait>(&self, rt: &R, grace: Grace) -> Grace {
+        let mut grace = grace;
         for pump in &self.pumps {
-            pump.wait(rt);
+            grace = pump.wait(rt, grace);
         }
+        grace
     }
 
     // What shows each subject, in their order.

@@ -2,7 +2,7 @@
 ghost use Rattle.std.specs.Prelude.{◌≡◌, MatchResult, IfOk};
 ghost use Rattle.rx_pump.specs.Serving.{HasPumped, PumpHasFailed};
 
-use rx_pump::{Pump, PumpEnd, PumpFault, SharedHeard, SharedLook};
+use rx_pump::{Grace, Pump, PumpEnd, PumpFault, SharedHeard, SharedLook};
 use std::marker::Model;
 use std::snapshot::Snapshot;
 use std::sync::{Arc, Wait};
@@ -89,9 +89,10 @@ fn serve<S: Drop, R: Wait>(rt: &R, pump: Pump<S>) -> Result<PumpEnd<S>, PumpFaul
 }
 
 impl<S: Drop> RunningPump<S> {
-    // Waits until all desks ended and nothing waits in its hub, but no longer than something moves, or until it is over.
-    pub(crate) fn wait<R: Wait>(&self, rt: &R) {
-        self.heard.wait(rt);
+    // Waits until all desks ended and nothing waits in its hub, but no longer than by this grace, or until it is over. It answers what
+    // is left of that.
+    pub(crate) fn wait<R: Wait>(&self, rt: &R, grace: Grace) -> Grace {
+        self.heard.wait(rt, grace)
     }
 
     // What shows its subject. None where it can't be shared any more.
