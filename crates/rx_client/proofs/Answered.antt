@@ -8,16 +8,16 @@ use Rattle.httparse.specs.declared.spans.ResponseSpans.{ResponseSpans}
 use Rattle.rx_client.specs.Looking.{IsAnswer, first_named}
 
 -- the first bytes behind the head of an answer that tells so many are its body
-pub answers : (came : List ℕ) (headers : List HeaderSpan) (parts : ResponseSpans) (head : ResponseHead) (size : ℕ) → IsResponseAt came headers parts head → parts.code ≡ 200
+pub answers : (came : List ℕ) (headers : List HeaderSpan) (parts : ResponseSpans) (head : ResponseHead) (size : ℕ) → IsResponseAt came headers parts head
     → first_named (codes "content-length") (map (header_bytes came) (take parts.headers headers)) ≡ Some (decimal size) → size ≤ length (drop parts.len came)
-    → IsAnswer came (take size (drop parts.len came))
-answers came headers parts head size at found told enough =
+    → IsAnswer parts.code came (take size (drop parts.len came))
+answers came headers parts head size at told enough =
     let behind = drop parts.len came in
     record {
       head = head;
       rest = drop size behind;
       reads = (at.reads.0, at.reads.1 ∙ ap (λ l. print_response head ++ l) (sym (take-append-drop size behind)));
-      status = sym at.code ∙ found;
+      status = sym at.code;
       size = ap (first_named (codes "content-length")) (sym at.fields) ∙ told ∙ ap (λ n. Some (decimal n)) (sym (length-take-le size behind enough));
     }
 

@@ -22,30 +22,43 @@ const MAX_FIELDS: usize = 32;
 // How many bytes one read has room for.
 const BLOCK: usize = 8192;
 
-// The status of an answer that has what was asked for.
-const FOUND: u16 = 200;
+// An answer, all of which has come.
+#[derive(Clone, Copy)]
+struct Answer<'a> {
+    status: u16,
+    body: &'a [u8],
+}
 
-/// Writes the body of the answer that a peer gives, once all of it has come.
+/// Writes the body of the answer that a peer gives, once all of it has come and where it has the status that is wanted. The body of one
+/// of another status goes to `why`.
 ///
 /// # Errors
 ///
 /// `Write`: a front of the body was written. After all others nothing was: `Refused`, by the status of the answer; `Strange`, what came
-/// is no answer that tells the length of its body, or its head has more than 8,192 bytes or 32 fields; `Lost`, it ended before the
-/// body did, or could not be read; `Memory`.
-pub fn hand_on<R: Read, W: Write>(
+/// is no answer, or one of the status that is wanted that doesn't tell the length of its body, or its head has more than 8,192 bytes or
+/// 32 fields; `Lost`, it ended before the body did, or could not be read; `Memory`.
+pub fn hand_on<R: Read, W: Write, E: Write>(
     peer: &mut R,
     heap: &Heap,
+    wanted: u16,
     writer: &mut W,
+    why: &mut E,
 ) -> Result<(), LookFault>
-    ensures { HandsOn result (R.remaining peer.old) (R.remaining peer.new) (W.contents writer.old) (W.contents writer.new) }
+    ensures { HandsOn wanted result (R.remaining peer.old) (R.remaining peer.new) (W.contents writer.old) (W.contents writer.new) }
 {
     let Ok(alloc) = heap.clone() else {
         return Err(LookFault::Memory);
     };
     let mut came = Vec::new(alloc);
     for _ in 0..u64::MAX {
-        match body_in(came.as_slice()) {
-            Ok(Some(body)) => return write_out(writer, body, LookFault::Write),
+        match answer_in(came.as_slice(), wanted) {
+            Ok(Some(Answer { status, body })) => {
+                if status == wanted {
+                    return write_out(writer, body, LookFault::Write);
+                }
+                let _ = why.write_all(body);
+                return Err(LookFault::Refused(status));
+            }
             Ok(None) => {}
             Err(fault) => return Err(fault),
         }
@@ -72,9 +85,10 @@ fn read_on<R: Read>(peer: &mut R, came: &mut Vec<u8, Heap>) -> Result<usize, Loo
     }
 }
 
-// The body of the answer with which these bytes begin. None: not all of it has come.
-fn body_in(came: &[u8]) -> Result<Option<&[u8]>, LookFault>
-    ensures { IfOk result (λ found. IfSome found (λ body. IsAnswer came.now body.now)) }
+// The answer with which these bytes begin. None: not all of it has come. One of another status than is wanted may lack a length, and
+// is refused for that status then.
+fn answer_in(came: &[u8], wanted: u16) -> Result<Option<Answer<'_>>, LookFault>
+    ensures { IfOk result (λ found. IfSome found (λ answer. IsAnswer answer.status came.now answer.body.now)) }
 {
     let mut fields = [EMPTY_HEADER_SPAN; MAX_FIELDS];
     match parse_response(came, &mut fields) {
@@ -82,17 +96,16 @@ fn body_in(came: &[u8]) -> Result<Option<&[u8]>, LookFault>
             if parts.len > MAX_HEAD {
                 return Err(LookFault::Strange);
             }
-            if parts.code != FOUND {
-                return Err(LookFault::Refused(parts.code));
-            }
+            let status = parts.code;
             let Some(size) = size_in(came, &fields[..parts.headers]) else {
-                return Err(LookFault::Strange);
+                return Err(lacks_length(status, wanted));
             };
             let behind = &came[parts.len..];
             if behind.len() < size {
                 return Ok(None);
             }
-            Ok(Some(&behind[..size]))
+            let body = &behind[..size];
+            Ok(Some(Answer { status, body }))
         }
         Ok(Status::Partial) => {
             if came.len() < MAX_HEAD {
@@ -102,6 +115,15 @@ fn body_in(came: &[u8]) -> Result<Option<&[u8]>, LookFault>
             }
         }
         Err(_) => Err(LookFault::Strange),
+    }
+}
+
+// What is wrong with an answer of this status that doesn't tell the length of its body.
+fn lacks_length(status: u16, wanted: u16) -> LookFault {
+    if status == wanted {
+        LookFault::Strange
+    } else {
+        LookFault::Refused(status)
     }
 }
 

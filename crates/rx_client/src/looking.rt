@@ -3,18 +3,17 @@ ghost use Rattle.std.specs.Prelude.{◌≡◌};
 ghost use Rattle.rx_client.specs.Looking.{ShowsAnswer, look_request};
 
 use crate::Format;
-use crate::answer::hand_on;
+use crate::asking::ask;
 use rx_heap::Heap;
 use std::io::Write;
 use std::net::Net;
-use std::os::unix::net::UnixStream;
 
 /// Why nothing is shown of a server, or not all of it.
 #[derive(Clone, Copy, Debug, PartialEq, Eq)]
 pub enum LookFault {
     /// Nobody listens at the path, or may not be connected to.
     NoServer,
-    /// The answer has this status, and not 200.
+    /// The answer has this status, and not the one that is wanted.
     Refused(u16),
     /// The connection ended before the answer did.
     Lost,
@@ -25,6 +24,9 @@ pub enum LookFault {
     /// There was no memory.
     Memory,
 }
+
+// The status of an answer that has what was asked for.
+const FOUND: u16 = 200;
 
 /// Asks the server whose socket of `[http]` is at this path what is seen of it, in lines or as JSON, and writes what it answers, byte
 /// by byte. It waits for the answer as long as the connection stays. Why it gives up is told on `faults`, where more can be said than
@@ -37,24 +39,9 @@ pub fn look<F: Net, W: Write, E: Write>(
     writer: &mut W,
     faults: &mut E,
 ) -> Result<(), LookFault>
-    ensures { ShowsAnswer result (W.contents writer.old) (W.contents writer.new) }
+    ensures { ShowsAnswer 200 result (W.contents writer.old) (W.contents writer.new) }
 {
-    let mut stream = match UnixStream::connect(rt, path) {
-        Ok(stream) => stream,
-        Err(fault) => {
-            let _ = writeln!(faults, "rxline: {path}: {fault}");
-            return Err(LookFault::NoServer);
-        }
-    };
-    // Where it can't be sent the peer may have answered already, as one that has no room for a reader.
-    let _ = stream.write_all(request_of(format));
-    match hand_on(&mut stream, heap, writer) {
-        Ok(()) => Ok(()),
-        Err(fault) => {
-            tell_more(path, fault, faults);
-            Err(fault)
-        }
-    }
+    ask(rt, heap, path, request_of(format), FOUND, writer, faults)
 }
 
 // The request for what is seen.
@@ -65,15 +52,4 @@ fn request_of(format: Format) -> &'static [u8]
         Format::Plain => b"GET /stats.txt HTTP/1.1\r\nHost: rxline\r\nConnection: close\r\n\r\n",
         Format::Json => b"GET /stats HTTP/1.1\r\nHost: rxline\r\nConnection: close\r\n\r\n",
     }
-}
-
-// Tells what stands behind a fault.
-fn tell_more<E: Write>(path: &str, fault: LookFault, faults: &mut E) {
-    let _ = match fault {
-        LookFault::Refused(status) => writeln!(faults, "rxline: {path}: status {status}"),
-        LookFault::Strange => {
-            writeln!(faults, "rxline: {path}: not a server's socket of [http]")
-        }
-        LookFault::NoServer | LookFault::Lost | LookFault::Write | LookFault::Memory => Ok(()),
-    };
 }
