@@ -1,4 +1,4 @@
 pub mod Passing
+pub mod Putting
 pub mod Reports
-pub mod WatchLogs
 pub mod Writes

@@ -1,5 +1,5 @@
 -- What the program does as a client of a server (this project's own rule).
-use Rattle.std.specs.Prelude.{◌≡◌, ◌≢◌, ◌++◌, ◌⊎◌, ◌<◌, ◌^◌, ℕ, Bool, true, false, List, codes, decimal, Option, None, Some, Result, Ok, MatchResult}
+use Rattle.std.specs.Prelude.{◌≡◌, ◌≢◌, ◌++◌, ◌⊎◌, ◌<◌, ◌≤◌, ◌^◌, ℕ, Bool, true, false, List, codes, decimal, Option, None, Some, Result, Ok, MatchResult}
 use Rattle.std.specs.Borrow.{Bor}
 use Rattle.std.specs.Str.Parse.{IsNumeral, digits_value, without_leading_plus}
 use Rattle.rx_client.specs.Requests.{IsNoSub}
@@ -18,7 +18,7 @@ use Rattle.rx_program.specs.declared.program.program_fault.ProgramFault.{Program
 use Rattle.rx_program.specs.declared.program.program_fault.ProgramFault.TheVariants as faults
 use Rattle.rx_program.specs.declared.command_line.subscription.Subscription.{Subscription}
 use Rattle.rx_program.specs.declared.command_line.task.Task.{Task}
-use Rattle.rx_program.specs.declared.command_line.task.Task.TheVariants.{Publish, Subscribe}
+use Rattle.rx_program.specs.declared.command_line.task.Task.TheVariants.{Publish, Subscribe, Stop}
 
 -- EMITTING
 
@@ -69,6 +69,10 @@ look_fault looks.Memory = faults.Memory
 abbrev pub IsNoNumber : List ℕ → Type 0
 IsNoNumber word = ¬ (IsNumeral 10 (without_leading_plus word) × (digits_value 10 (without_leading_plus word) < 2 ^ 64))
 
+-- a word is no number from 0 to 3,600
+abbrev pub IsNoWithin : List ℕ → Type 0
+IsNoWithin word = ¬ (IsNumeral 10 (without_leading_plus word) × (digits_value 10 (without_leading_plus word) ≤ 3600))
+
 -- a word that may be missing is there and bad
 abbrev pub IfThere : {A : Type 0} → (A → Type 0) → Option A → Type 0
 IfThere bad None = ⊥
@@ -87,4 +91,5 @@ IsBadSubscription s =
 abbrev pub IsBad : Task → Type 0
 IsBad (Publish socket subject text) = IsBadItem subject.now text
 IsBad (Subscribe socket subscription) = IsBadSubscription subscription
+IsBad (Stop socket within) = IfThere (λ t. IsNoWithin t.now) within
 IsBad _ = ⊥

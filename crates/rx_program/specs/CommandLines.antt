@@ -3,7 +3,7 @@
 -- What words ask for: a task that is answered is the one of the command that the words name, with the path that stands behind
 -- it: a script over the standard configuration where they name none, a script, an audit, a check or a server over that file
 -- else, with the path of a socket for a server, and for a check where there is one; what is to be published, whom to
--- subscribe to, or how to show what is seen, at a socket; words that `clap` states a fault of, for
+-- subscribe to, how to show what is seen, or within how long to stop, at a socket; words that `clap` states a fault of, for
 -- the declared command line, are refused by a fault of just these, or for want of memory; where it states none, also by that
 -- they name no task.
 use Rattle.std.specs.Prelude.{◌≡◌, ◌⊎◌, ◌↔◌, ℕ, Bool, List, [], Option, None, Some, codes, option_map, true, unwrap_or}
@@ -13,7 +13,7 @@ use Rattle.clap.specs.Words.{App, IsAmong, Row, Rule, Text, fault_of, first_of, 
 use Rattle.clap.specs.declared.error.kind.ErrorKind.{ErrorKind}
 use Rattle.clap.specs.declared.error.kind.ErrorKind.TheVariants.{DisplayHelp, DisplayVersion, InvalidSubcommand}
 use Rattle.rx_program.specs.declared.command_line.task.Task.{Task}
-use Rattle.rx_program.specs.declared.command_line.task.Task.TheVariants.{Script, Audit, Check, Serve, Publish, Subscribe, Stats}
+use Rattle.rx_program.specs.declared.command_line.task.Task.TheVariants.{Script, Audit, Check, Serve, Publish, Subscribe, Stats, Stop}
 use Rattle.rx_program.specs.declared.command_line.subscription.Subscription.{Subscription}
 
 -- the path of a configuration, which a command needs
@@ -52,6 +52,9 @@ from = option (codes "from")
 abbrev pub count : Rule
 count = option (codes "count")
 
+abbrev pub within : Rule
+within = option (codes "within")
+
 -- a name alone
 abbrev pub json : Rule
 json = record (option (codes "json")) { action = Some SetTrue }
@@ -77,18 +80,20 @@ sub_app = with_rule (with_rule (with_rule (with_rule (with_rule (with_rule (with
 abbrev pub stats_app : App
 stats_app = with_rule (with_rule (new_app (codes "stats")) socket) json
 
+abbrev pub stop_app : App
+stop_app = with_rule (with_rule (new_app (codes "stop")) socket) within
+
 -- the program, whose words come without its name, and which tells its version
 abbrev pub top_app : App
 top_app = on_top (λ s. record s { no_binary_name = true; has_version = true }) (new_app (codes "rxline"))
 
+-- with the commands by which it is a client of a server
+abbrev pub with_clients : App → App
+with_clients app = with_subcommand (with_subcommand (with_subcommand (with_subcommand app pub_app.top) sub_app.top) stats_app.top) stop_app.top
+
 -- the program with its commands
 abbrev pub line_app : App
-line_app =
-    with_subcommand
-    (with_subcommand
-    (with_subcommand (with_subcommand (with_subcommand (with_subcommand (with_subcommand top_app script_app.top) audit_app.top) check_app.top) serve_app.top) pub_app.top)
-    sub_app.top)
-    stats_app.top
+line_app = with_clients (with_subcommand (with_subcommand (with_subcommand (with_subcommand top_app script_app.top) audit_app.top) check_app.top) serve_app.top)
 
 -- a command of this name was named, with this path
 abbrev pub Named : List ℕ → List ℕ → Option (Text × List Row) → Type 0
@@ -129,6 +134,11 @@ NamedStats place is_json named =
     (rows : List Row) × (named ≡ Some (codes "stats", rows)) × (first_of (codes "socket") rows ≡ Some place)
     × (is_json ≡ true ↔ (first_of (codes "json") rows ≡ Some (codes "true")))
 
+-- the command that has a server stop was named, with the path of a socket, and how long it may take, if that is told
+abbrev pub NamedStop : List ℕ → Option (List ℕ) → Option (Text × List Row) → Type 0
+NamedStop place seconds named =
+    (rows : List Row) × (named ≡ Some (codes "stop", rows)) × (first_of (codes "socket") rows ≡ Some place) × (first_of (codes "within") rows ≡ seconds)
+
 -- the task is that of the command that was named, with its paths as they were read; without a command it is a script over the
 -- standard configuration
 abbrev pub IsNamedBy : Option (Text × List Row) → Task → Type 0
@@ -140,6 +150,7 @@ IsNamedBy named (Serve file place) = NamedServe file.now place.now named
 IsNamedBy named (Publish place name text) = NamedPublish place.now name.now (option_map (λ t. t.now) text) named
 IsNamedBy named (Subscribe place s) = NamedSubscribe place.now s named
 IsNamedBy named (Stats place is_json) = NamedStats place.now is_json named
+IsNamedBy named (Stop place seconds) = NamedStop place.now (option_map (λ s. s.now) seconds) named
 
 -- the words ask for a task: `clap` states no fault of them, and they name its command
 abbrev pub Asks : List Text → Task → Type 0

@@ -1,7 +1,6 @@
 pub mod CommandLines
 pub mod Programs
 pub mod Reporting
-pub mod WatchLogs
 pub mod Clients
 pub mod Notices
 pub mod Unbounded

@@ -33,7 +33,7 @@ use Rattle.rx_script.specs.Transcripts.{Subject}
 use Rattle.rx_program.specs.declared.program.program_fault.ProgramFault.{ProgramFault}
 use Rattle.rx_program.specs.declared.program.program_fault.ProgramFault.TheVariants as faults
 use Rattle.rx_program.specs.declared.command_line.task.Task.{Task}
-use Rattle.rx_program.specs.declared.command_line.task.Task.TheVariants.{Script, Audit, Check, Serve, Publish, Subscribe, Stats}
+use Rattle.rx_program.specs.declared.command_line.task.Task.TheVariants.{Script, Audit, Check, Serve, Publish, Subscribe, Stats, Stop}
 use Rattle.rx_client.specs.Looking.{ShowsAnswer}
 use Rattle.rx_program.specs.Clients.{Emits, FollowsSubject, IsBad}
 
@@ -223,7 +223,8 @@ Checks path socket done written_old written_new =
     ((config : Config) × Configures path (settings_of config) × ListsAndLooks (settings_of config) socket done written_old written_new)
     ⊎ ((fault : ProgramFault) × (done ≡ Err fault) × LacksConfig path fault × (written_new ≡ written_old))
 
--- a task was done; for a script and an audit nothing was told meanwhile, and to check, to serve, to follow or to look nothing was read
+-- a task was done; for a script and an audit nothing was told meanwhile, and to check, to serve, to follow or to look nothing was read,
+-- to stop a server nothing was read or written
 abbrev pub Does : Task → Done → Streams → Streams → Option (List ℕ) → Option (List ℕ) → Type 0
 Does (Script path) done old new told_old told = Over (option_map (λ s. s.now) path) RunsScript done old new × (told ≡ told_old)
 Does (Audit path) done old new told_old told = Over (Some path.now) RunsAudit done old new × (told ≡ told_old)
@@ -231,7 +232,8 @@ Does (Check path socket) done old new told_old told = Checks (Some path.now) (op
 Does (Serve path socket) done old new told_old told = Serves (Some path.now) done old.written new.written × (new.left ≡ old.left)
 Does (Publish socket subject text) done old new told_old told = Emits done old.written new.written
 Does (Subscribe socket subscription) done old new told_old told = FollowsSubject subscription.is_json done old.written new.written × (new.left ≡ old.left)
-Does (Stats socket is_json) done old new told_old told = ShowsAnswer done old.written new.written × (new.left ≡ old.left)
+Does (Stats socket is_json) done old new told_old told = ShowsAnswer 200 done old.written new.written × (new.left ≡ old.left)
+Does (Stop socket within) done old new told_old told = Untouched old new
 
 -- THE PROGRAM
 

@@ -3,7 +3,7 @@ ghost use Rattle.std.specs.Prelude.{◌≡◌, ◌⊎◌, IfOk, MatchOption, Mat
 ghost use Rattle.clap.specs.Words.{app_of, first_of, found_of, kind_of, new_app, rows_of, rule_of, subcommand_rows_of, with_rule, with_subcommand};
 ghost use Rattle.clap.specs.declared.Command.{out-Command};
 ghost use Rattle.clap.specs.declared.error.kind.ErrorKind.TheVariants.{OutOfMemory};
-ghost use Rattle.rx_program.specs.CommandLines.{Asks, IsAgainst, IsNamedBy, NamesNone, audit_app, check_app, line_app, path, place, pub_app, script_app, serve_app, socket, stats_app, sub_app, top_app};
+ghost use Rattle.rx_program.specs.CommandLines.{Asks, IsAgainst, IsNamedBy, NamesNone, audit_app, check_app, line_app, path, place, pub_app, script_app, serve_app, socket, stats_app, stop_app, sub_app, top_app, with_clients};
 
 pub(crate) mod client_words;
 pub(crate) mod refused_words;
@@ -11,7 +11,8 @@ pub(crate) mod subscription;
 pub(crate) mod task;
 
 use crate::command_line::client_words::{
-    publish_command, publish_in, stats_command, stats_in, subscribe_command, subscribe_in,
+    publish_command, publish_in, stats_command, stats_in, stop_command, stop_in, subscribe_command,
+    subscribe_in,
 };
 use crate::command_line::task::Task;
 use clap::error::ErrorKind;
@@ -26,7 +27,7 @@ const VERSION: &str = "0.1.0";
 
 // The commands that there are, as the usage line of the program names them.
 const COMMANDS: &str =
-    "script <config> | audit <config> | check <config> [socket] | serve <config> <socket> | pub <socket> <subject> [text] | sub <socket> <subject> | stats <socket>";
+    "script <config> | audit <config> | check <config> [socket] | serve <config> <socket> | pub <socket> <subject> [text] | sub <socket> <subject> | stats <socket> | stop <socket>";
 
 const ABOUT: &str = "Multicasts items to observers by the lines of a script.";
 
@@ -54,7 +55,8 @@ A session on the socket of 'rxline serve' takes PUB, END, FAIL, HELLO and QUIT t
   SUB s BUFFER DELAY        makes the connection an observer's, to which notes are sent
 A server ends once as many connections have ended as its configuration says, or by a
 signal. 'rxline serve --help' says more, with an example. 'rxline pub' emits to it,
-'rxline sub' follows one of its subjects, and 'rxline stats' shows what is seen of them.
+'rxline sub' follows one of its subjects, 'rxline stats' shows what is seen of them, and
+'rxline stop' has it end without a loss.
 
 The exit status is 0 after a finished run, 1 after a fault, and 2 after a wrong command line.";
 
@@ -80,8 +82,8 @@ of which the second prints
   DONE
 
 The server ends once as many connections have ended as 'connections' in the pool says,
-and then writes the report; a signal, as by Ctrl-C, ends it at once, with none. The
-socket's file stays, and where it stands no server starts, unless the pool has takeover:
+and then writes the report; so it does by 'rxline stop', which its section [http] has to
+allow. A signal, as by Ctrl-C, ends it at once, with none. The socket's file stays, and where it stands no server starts, unless the pool has takeover:
 then it is removed, if nobody listens on it. So has this configuration:
   [[subject]]
   name = \"s\"
@@ -137,6 +139,9 @@ fn named<'a>(name: &'a str, found: &ArgMatches<'a>) -> Option<Task<'a>>
     if name == "stats" {
         return stats_in(found);
     }
+    if name == "stop" {
+        return stop_in(found);
+    }
     let path = path_in(found)?;
     if name == "script" {
         return Some(Task::Script(Some(path)));
@@ -181,8 +186,15 @@ fn line<'a>(alloc: Global) -> Result<Command<'a>, AllocError>
 {
     let command = with_audit(alloc, with_script(alloc, top(alloc))?)?;
     let command = with_serve(alloc, with_check(alloc, command)?)?;
+    with_clients(alloc, command)
+}
+
+// With the commands by which the program is a client of a server.
+fn with_clients<'a>(alloc: Global, command: Command<'a>) -> Result<Command<'a>, AllocError>
+    ensures app { IfOk result (λ c. app_of c ≡ with_clients (app_of command.entry)) }
+{
     let command = with_subscribe(alloc, with_publish(alloc, command)?)?;
-    with_stats(alloc, command)
+    with_stop(alloc, with_stats(alloc, command)?)
 }
 
 fn with_publish<'a>(alloc: Global, command: Command<'a>) -> Result<Command<'a>, AllocError>
@@ -201,6 +213,12 @@ fn with_stats<'a>(alloc: Global, command: Command<'a>) -> Result<Command<'a>, Al
     ensures app { IfOk result (λ c. app_of c ≡ with_subcommand (app_of command.entry) stats_app.top) }
 {
     command.subcommand(stats_command(alloc)?)
+}
+
+fn with_stop<'a>(alloc: Global, command: Command<'a>) -> Result<Command<'a>, AllocError>
+    ensures app { IfOk result (λ c. app_of c ≡ with_subcommand (app_of command.entry) stop_app.top) }
+{
+    command.subcommand(stop_command(alloc)?)
 }
 
 fn with_script<'a>(alloc: Global, command: Command<'a>) -> Result<Command<'a>, AllocError>

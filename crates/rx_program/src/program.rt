@@ -6,7 +6,9 @@ ghost use Rattle.rx_program.specs.Programs.{Answers, Does, EndsWith, IsShown, Ov
 pub(crate) mod check;
 pub(crate) mod client;
 pub(crate) mod config_file;
+pub(crate) mod draining;
 pub(crate) mod ended;
+pub(crate) mod ending;
 pub(crate) mod fault_cause;
 pub(crate) mod flushed;
 pub(crate) mod host;
@@ -22,7 +24,7 @@ use crate::command_line::read_words;
 use crate::command_line::refused_words::refusal_of;
 use crate::command_line::task::Task;
 use crate::program::check::check_at;
-use crate::program::client::{publish_at, stats_at, subscribe_at};
+use crate::program::client::{publish_at, stats_at, stop_at, subscribe_at};
 use crate::program::config_file::config_at;
 use crate::program::host::Host;
 use crate::program::program_fault::ProgramFault;
@@ -139,6 +141,7 @@ fn run_task<F: Host, R: Read, W: Write, E: Write, L: Write + Drop + Send + 'stat
             subscribe_at(rt, socket, subscription, writer, faults)
         }
         Task::Stats(socket, is_json) => stats_at(rt, socket, is_json, writer, faults),
+        Task::Stop(socket, within) => stop_at(rt, socket, within, faults),
     }
 }
 

@@ -1,4 +1,5 @@
-// Where there is no descriptor or no memory for a connection, the acceptor pauses and tries again. Only a broken listener ends serving.
+// Where there is no descriptor or no memory for a connection, the acceptor pauses and tries again. Only a broken listener ends serving, and
+// a stop: its listener waits for nobody then, and it looks once a second at least whether one is asked for.
 ghost use Rattle.std.specs.Prelude.{◌≡◌, ◌↔◌, ◌⊎◌, IsTrue};
 
 pub(crate) mod clocked;
@@ -10,22 +11,24 @@ pub(crate) mod link;
 pub(crate) mod obstacle;
 pub(crate) mod outgoing;
 pub(crate) mod path;
+pub(crate) mod peer;
 pub(crate) mod poll_waker;
 pub(crate) mod polling;
 pub(crate) mod system_events;
 pub(crate) mod terms;
-pub(crate) mod watch_log;
 pub(crate) mod wire;
 
 use crate::notices::cause::Cause;
 use crate::notices::counted::SharedNotices;
 use crate::socket::incoming::Incoming;
 use crate::socket::outgoing::Outgoing;
+use crate::socket::peer::Peer;
 use crate::socket::poll_waker::PollWaker;
 use crate::socket::polling::Polling;
+use crate::socket::system_events::SystemEvents;
 use crate::socket::terms::Terms;
 use rx_heap::Heap;
-use rx_server::{AcceptFault, Idle, Listener, Watch, WatchFault};
+use rx_server::{AcceptFault, Idle, Listener, SharedStop, Watch, WatchFault};
 use std::io::ErrorKind;
 use std::net::Net;
 use std::os::unix::net::{UnixListener, UnixStream};
@@ -37,13 +40,17 @@ use std::{io, thread};
 pub(crate) const PAUSE: u64 = 10;
 
 /// The connections of a Unix socket. What is written to one waits for its peer in this memory. A connection that can't be had
-/// is given up alone; where there are no descriptors or no memory for one, it waits for some. Both are counted among the notices.
+/// is given up alone; where there are no descriptors or no memory for one, it waits for some. Both are counted among the notices. No more
+/// come once the server is to stop.
 pub struct Socket<F: Clock + Drop> {
     listener: UnixListener,
     host: F,
     heap: Heap,
     terms: Terms,
     notices: SharedNotices,
+    stop: SharedStop,
+    // What it waits by for the next connection; none where it waits for nothing else.
+    lookout: Option<SystemEvents<F>>,
 }
 
 // By hand: rx_heap says why.
@@ -55,18 +62,23 @@ impl<F: Clock + Drop> Drop for Socket<F> {
             heap: _,
             terms: _,
             notices: _,
+            stop: _,
+            lookout: _,
         } = self;
     }
 }
 
 impl<F: Clock + Drop> Socket<F> {
-    /// The connections that come to this listener, each on these terms. What is decided of them is counted among the notices.
-    pub fn new(
+    /// The connections that come to this listener, each on these terms. What is decided of them is counted among the notices. Where
+    /// it may be stopped it waits by this lookout, over a listener that waits for nobody.
+    pub(crate) fn new(
         listener: UnixListener,
         host: F,
         heap: Heap,
         terms: Terms,
         notices: SharedNotices,
+        stop: SharedStop,
+        lookout: Option<SystemEvents<F>>,
     ) -> Socket<F> {
         Socket {
             listener,
@@ -74,6 +86,16 @@ impl<F: Clock + Drop> Socket<F> {
             heap,
             terms,
             notices,
+            stop,
+            lookout,
+        }
+    }
+
+    // Waits until a connection came, or a second is over.
+    fn wait(&mut self) {
+        match &mut self.lookout {
+            Some(lookout) => lookout.wait(),
+            None => thread::sleep(&self.host, Duration::from_millis(PAUSE)),
         }
     }
 
@@ -111,14 +133,27 @@ impl<F: AllocGlobal + Net + Clock + Wait + Clone + Drop + Send + 'static> Listen
         };
         let mut is_first = true;
         for _ in host.forever() {
+            if self.stop.is_asked() {
+                return Err(AcceptFault);
+            }
             match self.listener.accept() {
                 Ok((stream, _)) => {
-                    match halves(stream, &self.host, &self.heap, self.terms, &self.notices) {
+                    let ends = Some(&self.stop);
+                    match halves(
+                        stream,
+                        &self.host,
+                        &self.heap,
+                        self.terms,
+                        &self.notices,
+                        &self.stop,
+                        ends,
+                    ) {
                         Ok(halves) => return Ok(halves),
                         Err(fault) => self.notices.count(refusal_of(&fault)),
                     }
                 }
                 Err(fault) if is_passing(fault.kind()) => {}
+                Err(fault) if fault.kind() == ErrorKind::WouldBlock => self.wait(),
                 Err(fault) => {
                     self.pause(&fault, is_first)?;
                     is_first = false;
@@ -129,7 +164,13 @@ impl<F: AllocGlobal + Net + Clock + Wait + Clone + Drop + Send + 'static> Listen
     }
 
     fn watch(&self) -> Result<Watch<Incoming<F>, Polling<F>, PollWaker>, WatchFault> {
-        match polled(&self.host, &self.heap, self.terms, &self.notices) {
+        match polled(
+            &self.host,
+            &self.heap,
+            self.terms,
+            &self.notices,
+            &self.stop,
+        ) {
             Ok(watch) => Ok(watch),
             Err(_) => Err(WatchFault),
         }
@@ -142,9 +183,13 @@ fn polled<F: AllocGlobal + Net + Clock + Clone + Drop>(
     heap: &Heap,
     terms: Terms,
     notices: &SharedNotices,
+    stop: &SharedStop,
 ) -> io::Result<Watch<Incoming<F>, Polling<F>, PollWaker>> {
     let notices = Arc::try_clone(notices)?;
-    let readiness = Polling::new(host, host.alloc(), host.clone()?, heap, terms.idle, notices)?;
+    let mut readiness = Polling::new(host, host.alloc(), host.clone()?, heap, terms.idle, notices)?;
+    if terms.may_stop {
+        readiness.stop_by(Arc::try_clone(stop)?);
+    }
     let waker = readiness.waker()?;
     Ok(Watch {
         readiness: Idle::new(readiness),
@@ -152,13 +197,31 @@ fn polled<F: AllocGlobal + Net + Clock + Clone + Drop>(
     })
 }
 
-/// The half of a connection that is read, and the half that is written. Neither waits.
+/// What an acceptor waits by that looks for this stop, over a listener that waits for nobody from now on.
+pub(crate) fn lookout_over<F: AllocGlobal + Net + Clock + Clone + Drop>(
+    host: &F,
+    heap: &Heap,
+    listener: &UnixListener,
+    notices: &SharedNotices,
+    stop: &SharedStop,
+) -> io::Result<SystemEvents<F>> {
+    listener.set_nonblocking(true)?;
+    let notices = Arc::try_clone(notices)?;
+    let mut lookout = SystemEvents::new(host, host.alloc(), host.clone()?, heap, None, notices)?;
+    lookout.listen(listener)?;
+    lookout.stop_by(Arc::try_clone(stop)?);
+    Ok(lookout)
+}
+
+/// The half of a connection that is read, which ends by a stop where one is told, and the half that is written. Neither waits.
 pub(crate) fn halves<C: Clock + Clone + Drop>(
     stream: UnixStream,
     clock: &C,
     heap: &Heap,
     terms: Terms,
     notices: &SharedNotices,
+    stop: &SharedStop,
+    ends: Option<&SharedStop>,
 ) -> io::Result<(Incoming<C>, Outgoing<C>)> {
     stream.set_nonblocking(true)?;
     let counted = Arc::try_clone(notices)?;
@@ -167,10 +230,20 @@ pub(crate) fn halves<C: Clock + Clone + Drop>(
     let writing = clock.clone()?;
     let link = Arc::new(heap.clone()?, stream)?;
     let other = Arc::try_clone(&link)?;
-    let Ok(outgoing) = Outgoing::new(other, writing, heap, terms.stall, counted) else {
+    let stop = Arc::try_clone(stop)?;
+    let ends = match ends {
+        Some(stop) => Some(Arc::try_clone(stop)?),
+        None => None,
+    };
+    let Ok(peer) = Peer::shared(heap.clone()?) else {
         return Err(io::Error::from(ErrorKind::OutOfMemory));
     };
-    Ok((Incoming::new(link, reading, terms.idle, notices), outgoing))
+    let same = Arc::try_clone(&peer)?;
+    let Ok(outgoing) = Outgoing::new(other, writing, heap, terms.stall, same, counted, stop) else {
+        return Err(io::Error::from(ErrorKind::OutOfMemory));
+    };
+    let incoming = Incoming::new(link, reading, terms.idle, peer, notices, ends);
+    Ok((incoming, outgoing))
 }
 
 /// Whether the next accept may do better: the call was interrupted, or the connection is gone.

@@ -2,7 +2,7 @@
 ghost use Rattle.std.specs.Prelude.{◌≡◌, IfOk, IfSome, MatchOption, Some, codes, false, map, option_map};
 ghost use Rattle.clap.specs.Words.{app_of, first_of, found_of, rows_of, rule_of};
 ghost use Rattle.clap.specs.declared.Command.{out-Command};
-ghost use Rattle.rx_program.specs.CommandLines.{IsNamedBy, NamesNone, count, errors, from, json, pub_app, socket, stats_app, strategy, sub_app, subject, text};
+ghost use Rattle.rx_program.specs.CommandLines.{IsNamedBy, NamesNone, count, errors, from, json, pub_app, socket, stats_app, stop_app, strategy, sub_app, subject, text, within};
 
 use crate::command_line::subscription::Subscription;
 use crate::command_line::task::Task;
@@ -23,6 +23,8 @@ const FROM: &str = "from";
 const COUNT: &str = "count";
 
 const JSON: &str = "json";
+
+const WITHIN: &str = "within";
 
 const SERVER: &str = "The path of the server's socket";
 
@@ -77,6 +79,21 @@ Examples:
 The exit status is 0 where all of the answer was written, 1 after a fault, and 2 after a
 wrong command line.";
 
+const STOP_EXAMPLE: &str = "\
+The server's configuration has stop = true in its section [http], and the path is that of
+the socket there. From its answer on the server takes no more: what its sessions have sent
+as whole lines is carried out and answered, and their connections end; then who follows is
+told all that waits for him, for as many seconds at most as --within says. So nothing that
+was accepted is lost, save for who doesn't take it in time. At last the server writes its
+report and ends, and then rxline does.
+
+Examples:
+  rxline stop http.sock
+  rxline stop http.sock --within 60
+
+The exit status is 0 once the server has ended, 1 after a fault, as where it refuses, and 2
+after a wrong command line.";
+
 /// The task of `pub`, by what it was given.
 pub(crate) fn publish_in<'a>(found: &ArgMatches<'a>) -> Option<Task<'a>>
     ensures { MatchOption result (NamesNone (Some (codes "pub", rows_of (found_of found.now)))) (IsNamedBy (Some (codes "pub", rows_of (found_of found.now)))) }
@@ -117,6 +134,16 @@ pub(crate) fn stats_in<'a>(found: &ArgMatches<'a>) -> Option<Task<'a>>
 {
     match word_in(found, SOCKET) {
         Some(socket) => Some(Task::Stats(socket, word_in(found, JSON) == Some("true"))),
+        None => None,
+    }
+}
+
+/// The task of `stop`, by what it was given.
+pub(crate) fn stop_in<'a>(found: &ArgMatches<'a>) -> Option<Task<'a>>
+    ensures { MatchOption result (NamesNone (Some (codes "stop", rows_of (found_of found.now)))) (IsNamedBy (Some (codes "stop", rows_of (found_of found.now)))) }
+{
+    match word_in(found, SOCKET) {
+        Some(socket) => Some(Task::Stop(socket, word_in(found, WITHIN))),
         None => None,
     }
 }
@@ -173,6 +200,20 @@ pub(crate) fn stats_command<'a>(alloc: Global) -> Result<Command<'a>, AllocError
     let command = with_help(command, STATS_EXAMPLE);
     let command = command.arg(server_arg(alloc, FACE))?;
     command.arg(json_arg(alloc, "Writes JSON, one object"))
+}
+
+/// The command `stop`.
+pub(crate) fn stop_command<'a>(alloc: Global) -> Result<Command<'a>, AllocError>
+    ensures app { IfOk result (λ c. app_of c ≡ stop_app) }
+    ensures local { IfOk result (λ c. (out-Command c).has_globals ≡ false) }
+{
+    let about =
+        "Has a server end without a loss, by its socket of [http], and waits until it has ended";
+    let usage = "rxline stop <socket> [--within SECONDS]";
+    let command = new_command(alloc, "stop", usage, about);
+    let command = with_help(command, STOP_EXAMPLE);
+    let command = command.arg(server_arg(alloc, FACE))?;
+    command.arg(within_arg(alloc))
 }
 
 fn server_arg<'a>(alloc: Global, help: &'a str) -> Arg<'a>
@@ -242,4 +283,13 @@ fn json_arg<'a>(alloc: Global, help: &'a str) -> Arg<'a>
         .long(JSON)
         .action(ArgAction::SetTrue)
         .help(help)
+}
+
+fn within_arg<'a>(alloc: Global) -> Arg<'a>
+    ensures rule { rule_of result ≡ within }
+    ensures local { result.global ≡ false }
+{
+    Arg::new(alloc, WITHIN).long(WITHIN).help(
+        "How many seconds it waits at most for who was not told all yet, 0 to 3600; 10 if not told",
+    )
 }

@@ -1,7 +1,7 @@
 //! Words that a command line may have and no server takes, so that nothing is sent.
 ghost use Rattle.std.specs.Prelude.{IfSome, IsTrue};
 ghost use Rattle.rx_proto.specs.Grammar.{IsText};
-ghost use Rattle.rx_program.specs.Clients.{IfThere, IsBad, IsBadItem, IsBadSubscription, IsNoNumber};
+ghost use Rattle.rx_program.specs.Clients.{IfThere, IsBad, IsBadItem, IsBadSubscription, IsNoNumber, IsNoWithin};
 
 use crate::command_line::subscription::Subscription;
 use crate::command_line::task::Task;
@@ -21,6 +21,11 @@ const NO_POLICY: &str =
 
 const NO_NUMBER: &str = "--from and --count take a number, from 0 on";
 
+const NO_WITHIN: &str = "--within takes a number of seconds, from 0 to 3600";
+
+// The most seconds for which a server waits before it stops.
+const MAX_WITHIN: u16 = 3600;
+
 /// Why no server takes what a task names. None: nothing is known against it.
 pub(crate) fn refusal_of(heap: &Heap, task: Task<'_>) -> Option<&'static str>
     ensures { IfSome result (λ _. IsBad task.entry) }
@@ -28,6 +33,7 @@ pub(crate) fn refusal_of(heap: &Heap, task: Task<'_>) -> Option<&'static str>
     match task {
         Task::Publish(_, subject, text) => refusal_to_publish(subject, text),
         Task::Subscribe(_, subscription) => refusal_to_subscribe(heap, subscription),
+        Task::Stop(_, within) => refusal_to_stop(within),
         Task::Script(_)
         | Task::Audit(_)
         | Task::Check(_, _)
@@ -78,6 +84,25 @@ fn refusal_to_subscribe(heap: &Heap, subscription: Subscription<'_>) -> Option<&
         return Some(NO_NUMBER);
     }
     None
+}
+
+fn refusal_to_stop(within: Option<&str>) -> Option<&'static str>
+    ensures { IfSome result (λ _. IfThere (λ t. IsNoWithin t.now) within.entry) }
+{
+    match within {
+        Some(word) if is_no_within(word) => Some(NO_WITHIN),
+        _ => None,
+    }
+}
+
+// Whether a word is no number of seconds for which a server waits.
+fn is_no_within(word: &str) -> bool
+    ensures { IsTrue result → IsNoWithin word.now }
+{
+    match word.parse::<u16>() {
+        Ok(within) => within > MAX_WITHIN,
+        Err(_) => true,
+    }
 }
 
 // Whether a word is there that is no number.

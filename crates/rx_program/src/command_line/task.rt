@@ -18,4 +18,6 @@ pub enum Task<'a> {
     Subscribe(&'a str, Subscription<'a>),
     /// To show what is seen of the server whose socket of `[http]` is at the path: as JSON, or in lines.
     Stats(&'a str, bool),
+    /// To have the server stop whose socket of `[http]` is at the path: within so many seconds, where it is told.
+    Stop(&'a str, Option<&'a str>),
 }

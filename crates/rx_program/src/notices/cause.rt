@@ -6,6 +6,8 @@ ghost use Rattle.rx_program.specs.Notices.{cause_words};
 pub enum Cause {
     /// A peer took nothing for too long while some bytes waited for it: it is given up, with its observer where it has one.
     Stalled,
+    /// More bytes wait for an observer at its subject than may: it is given up.
+    Outgrown,
     /// A peer sent nothing for too long: its connection ends.
     Silent,
     /// There is no memory for what waits for a peer: it is given up.
@@ -23,11 +25,12 @@ pub enum Cause {
 }
 
 /// How many causes there are.
-pub const CAUSES: usize = 8;
+pub const CAUSES: usize = 9;
 
 /// All of them, in the order in which they are told.
 pub const EACH: [Cause; CAUSES] = [
     Cause::Stalled,
+    Cause::Outgrown,
     Cause::Silent,
     Cause::Unheld,
     Cause::NoDescriptor,
@@ -40,17 +43,18 @@ pub const EACH: [Cause; CAUSES] = [
 impl Cause {
     /// Its place among them.
     pub(crate) fn place(self) -> usize
-        ensures { result < 8 }
+        ensures { result < 9 }
     {
         match self {
             Cause::Stalled => 0,
-            Cause::Silent => 1,
-            Cause::Unheld => 2,
-            Cause::NoDescriptor => 3,
-            Cause::NoMemory => 4,
-            Cause::Unserved => 5,
-            Cause::Unwatched => 6,
-            Cause::Broken => 7,
+            Cause::Outgrown => 1,
+            Cause::Silent => 2,
+            Cause::Unheld => 3,
+            Cause::NoDescriptor => 4,
+            Cause::NoMemory => 5,
+            Cause::Unserved => 6,
+            Cause::Unwatched => 7,
+            Cause::Broken => 8,
         }
     }
 
@@ -61,6 +65,7 @@ impl Cause {
     {
         match self {
             Cause::Stalled => "a peer is given up: it took nothing",
+            Cause::Outgrown => "an observer is given up: too much waits for it",
             Cause::Silent => "a connection ends: it sent nothing",
             Cause::Unheld => "a peer is given up: no memory for what waits for it",
             Cause::NoDescriptor => "connections wait: no descriptor",

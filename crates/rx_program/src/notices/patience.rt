@@ -1,25 +1,28 @@
 ghost use Rattle.std.specs.Prelude.{◌≡◌};
-ghost use Rattle.rx_program.specs.Notices.{seconds_of};
+ghost use Rattle.rx_program.specs.Notices.{bytes_of, seconds_of};
 
 use crate::notices::cause::Cause;
 use rx_config::Config;
 
-/// For how long a server waits for a peer, in seconds.
+/// How patient a server is with a peer.
 #[derive(Clone, Copy, Debug)]
 pub struct Patience {
-    /// Until it takes some of what waits for it.
+    /// For how many seconds it waits until the peer takes some of what waits for it.
     pub stall: u64,
-    /// Until it sends something, where that has an end.
+    /// How many bytes may wait for it at its subject; 0 for as many as do.
+    pub waiting: u64,
+    /// For how many seconds it waits until the peer sends something, where that has an end.
     pub idle: Option<u64>,
 }
 
 impl Patience {
     /// That of a configuration.
     pub fn of(config: &Config) -> Patience
-        ensures { result ≡ record { stall = config.now.stall; idle = config.now.idle } }
+        ensures { result ≡ record { stall = config.now.stall; waiting = config.now.waiting; idle = config.now.idle } }
     {
         Patience {
             stall: u64::from(config.stall),
+            waiting: u64::from(config.waiting),
             idle: config.idle,
         }
     }
@@ -31,7 +34,25 @@ impl Patience {
         match cause {
             Cause::Stalled => Some(self.stall),
             Cause::Silent => self.idle,
-            Cause::Unheld
+            Cause::Outgrown
+            | Cause::Unheld
+            | Cause::NoDescriptor
+            | Cause::NoMemory
+            | Cause::Unserved
+            | Cause::Unwatched
+            | Cause::Broken => None,
+        }
+    }
+
+    /// How many bytes may wait for an observer, where it is let go for that more do.
+    pub(crate) fn bytes(self, cause: Cause) -> Option<u64>
+        ensures { result ≡ bytes_of self cause }
+    {
+        match cause {
+            Cause::Outgrown => Some(self.waiting),
+            Cause::Stalled
+            | Cause::Silent
+            | Cause::Unheld
             | Cause::NoDescriptor
             | Cause::NoMemory
             | Cause::Unserved

@@ -5,16 +5,20 @@ ghost use Rattle.rx_client.specs.Looking.{ShowsAnswer};
 ghost use Rattle.rx_program.specs.Clients.{Emits, FollowsSubject, accepted_line, follow_fault, format_of, look_fault};
 
 use crate::command_line::subscription::Subscription;
+use crate::program::ending::wait_for_end;
 use crate::program::host::Host;
 use crate::program::program_fault::ProgramFault;
 use itoa::Buffer;
 use rx_client::{
-    Format, LookFault, PublishFault, Published, SubscribeFault, Wanted, look, publish, sub_line,
-    subscribe,
+    Format, LookFault, PublishFault, Published, SubscribeFault, Wanted, look, publish, stop,
+    sub_line, subscribe,
 };
 use rx_heap::{Heap, Memory};
 use rx_proto::{Name, write_bytes};
-use std::io::{Read, Write};
+use std::io::{self, Read, Write};
+
+// For how many seconds a server waits where that isn't told.
+const WITHIN: u16 = 10;
 
 /// Emits a text, or each line of an input, as items of a subject at a server, and writes how many were accepted.
 pub(crate) fn publish_at<F: Host, R: Read, W: Write, E: Write>(
@@ -183,13 +187,32 @@ pub(crate) fn stats_at<F: Host, W: Write, E: Write>(
     writer: &mut W,
     faults: &mut E,
 ) -> Result<(), ProgramFault>
-    ensures { ShowsAnswer result (W.contents writer.old) (W.contents writer.new) }
+    ensures { ShowsAnswer 200 result (W.contents writer.old) (W.contents writer.new) }
 {
     let heap = Heap::unlimited(rt.alloc());
     match look(rt, &heap, socket, format_of(is_json), writer, faults) {
         Ok(()) => Ok(()),
         Err(fault) => Err(look_fault(fault)),
     }
+}
+
+/// Has a server stop, by the path of its socket for HTTP, and waits until it has ended.
+pub(crate) fn stop_at<F: Host, E: Write>(
+    rt: &F,
+    socket: &str,
+    within: Option<&str>,
+    faults: &mut E,
+) -> Result<(), ProgramFault> {
+    let heap = Heap::unlimited(rt.alloc());
+    let within = within.and_then(seconds_of).unwrap_or(WITHIN);
+    match stop(rt, &heap, socket, within, &mut io::sink(), faults) {
+        Ok(()) => wait_for_end(rt, socket, faults),
+        Err(fault) => Err(look_fault(fault)),
+    }
+}
+
+fn seconds_of(word: &str) -> Option<u16> {
+    word.parse::<u16>().ok()
 }
 
 // A fault of looking, as the program tells it.

@@ -13,9 +13,10 @@ use crate::socket::incoming::Incoming;
 use crate::socket::path::listen;
 use crate::socket::terms::Terms;
 use rx_config::{Config, Http, Shown};
+use rx_events::{Pulse, SharedPulse};
 use rx_heap::Heap;
 use rx_note::Text;
-use rx_server::{Entrance, Epoch, Grants, Idle};
+use rx_server::{Entrance, Epoch, Grants, Idle, SharedStop};
 use std::fs::File;
 use std::io::{ErrorKind, Write};
 use std::os::unix::net::UnixListener;
@@ -23,15 +24,15 @@ use std::sync::Arc;
 use std::time::Clock;
 use std::{io, str};
 
-/// What the face of a server is served by: its socket, and what closes that, the lock beside it, the clock of its moments, the epoch
-/// of this start, and what is granted to browsers.
+/// What the face of a server is served by: its socket, and what closes that, the clock of its moments, the epoch of this start, and what is granted to browsers.
 pub(crate) struct Porch<F: Host> {
     doorway: Idle<Incoming<F>, FaceSocket<F>>,
     closer: FaceCloser,
-    lock: File,
     clock: F,
     epoch: Epoch,
     grants: Grants,
+    pulse: SharedPulse,
+    stop: SharedStop,
     // The path of its socket.
     path: Text,
 }
@@ -42,10 +43,11 @@ impl<F: Host> Drop for Porch<F> {
         let Porch {
             doorway: _,
             closer: _,
-            lock: _,
             clock: _,
             epoch: _,
             grants: _,
+            pulse: _,
+            stop: _,
             path: _,
         } = self;
     }
@@ -55,7 +57,8 @@ impl<F: Host> Drop for Porch<F> {
 pub(crate) type Opened<F> = Entrance<Clocked<F>, Incoming<F>, FaceSocket<F>, FaceCloser>;
 
 impl<F: Host> Porch<F> {
-    /// A new Unix socket by the section `[http]` of a configuration. What it decides of its connections is counted among the notices.
+    /// A new Unix socket by the section `[http]` of a configuration. What it decides of its connections is counted among the notices. By
+    /// `stop` the server is told to stop. With it comes the lock beside the socket, which is to be held as long as the server lives.
     /// Refused by `Listen` where the socket can't be had, and by `Memory`.
     pub(crate) fn at(
         rt: &F,
@@ -63,7 +66,8 @@ impl<F: Host> Porch<F> {
         config: &Config,
         http: &Http,
         notices: &SharedNotices,
-    ) -> Result<Porch<F>, ProgramFault>
+        stop: &SharedStop,
+    ) -> Result<(Porch<F>, File), ProgramFault>
         ensures { IfErr result LacksSocket }
     {
         let Ok(path) = http.socket.copy() else {
@@ -75,19 +79,25 @@ impl<F: Host> Porch<F> {
         let Ok((listener, lock)) = listen(rt, name, config.takeover) else {
             return Err(ProgramFault::Listen);
         };
-        match made(rt, heap, config, listener, notices) {
-            Ok((doorway, closer, clock, epoch)) => Ok(Porch {
-                doorway,
-                closer,
-                lock,
-                clock,
-                epoch,
-                grants: Grants {
-                    readers: u32::from(http.readers),
-                    may_emit: http.emit,
-                },
-                path,
-            }),
+        match made(rt, heap, config, listener, notices, stop) {
+            Ok((doorway, closer, clock, epoch, pulse, stop)) => {
+                let porch = Porch {
+                    doorway,
+                    closer,
+                    clock,
+                    epoch,
+                    grants: Grants {
+                        readers: u32::from(http.readers),
+                        may_emit: http.emit,
+                        may_stop: http.stop,
+                        heartbeat: http.heartbeat,
+                    },
+                    pulse,
+                    stop,
+                    path,
+                };
+                Ok((porch, lock))
+            }
             Err(_) => Err(ProgramFault::Memory),
         }
     }
@@ -103,26 +113,32 @@ impl<F: Host> Porch<F> {
         let _ = writeln!(faults, "rxline: http on {}, epoch {epoch}", Shown(path));
     }
 
-    /// What its face begins with, whose moments begin with these; and the lock, which is held as long as it serves.
-    pub(crate) fn open(self, moments: &Clocked<F>) -> (Opened<F>, File) {
+    /// What its face begins with, whose moments begin with these.
+    pub(crate) fn open(self, moments: &Clocked<F>) -> Opened<F> {
         let Porch {
             doorway,
             closer,
-            lock,
             clock,
             epoch,
             grants,
+            pulse,
+            stop,
             path: _,
         } = self;
-        let moments = moments.beside(clock);
-        let entrance = Entrance {
+        Entrance {
             doorway,
             closer,
-            moments,
+            moments: moments.beside(clock),
             epoch,
             grants,
-        };
-        (entrance, lock)
+            pulse,
+            stop,
+        }
+    }
+
+    /// What time it is for the sinks of its readers. None where that can't be shared.
+    pub(crate) fn pulse(&self) -> Option<SharedPulse> {
+        Arc::try_clone(&self.pulse).ok()
     }
 }
 
@@ -133,17 +149,39 @@ fn made<F: Host>(
     config: &Config,
     listener: UnixListener,
     notices: &SharedNotices,
-) -> io::Result<(Idle<Incoming<F>, FaceSocket<F>>, FaceCloser, F, Epoch)> {
+    stop: &SharedStop,
+) -> io::Result<
+    (
+        Idle<Incoming<F>, FaceSocket<F>>,
+        FaceCloser,
+        F,
+        Epoch,
+        SharedPulse,
+        SharedStop,
+    ),
+> {
     let notices = Arc::try_clone(notices)?;
+    let Ok(pulse) = Pulse::shared(heap.clone()?) else {
+        return Err(io::Error::from(ErrorKind::OutOfMemory));
+    };
     let socket = FaceSocket::new(
         listener,
         rt.clone()?,
         heap.clone()?,
         Terms::of(config),
         notices,
+        Arc::try_clone(&pulse)?,
+        Arc::try_clone(stop)?,
     )?;
     let closer = socket.closer()?;
-    Ok((Idle::new(socket), closer, rt.clone()?, epoch_of(rt)?))
+    Ok((
+        Idle::new(socket),
+        closer,
+        rt.clone()?,
+        epoch_of(rt)?,
+        pulse,
+        Arc::try_clone(stop)?,
+    ))
 }
 
 // The epoch of a start at the present moment.

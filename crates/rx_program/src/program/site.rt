@@ -6,30 +6,35 @@ ghost use Rattle.rx_server.specs.declared.wired.start_fault.StartFault.{StartFau
 
 use crate::notices::counted::{Notices, SharedNotices};
 use crate::notices::patience::Patience;
-use crate::notices::teller::start_telling;
-use crate::notices::telling::Telling;
+use crate::notices::teller::{end_telling, start_telling};
+use crate::notices::warden::Warden;
+use crate::program::draining::drain;
 use crate::program::ended::Ended;
 use crate::program::host::Host;
 use crate::program::porch::Porch;
 use crate::program::program_fault::ProgramFault;
-use crate::socket::Socket;
 use crate::socket::clocked::Clocked;
 use crate::socket::outgoing::Outgoing;
 use crate::socket::path::listen;
 use crate::socket::terms::Terms;
+use crate::socket::{Socket, lookout_over};
 use rx_config::{Config, Shown};
 use rx_heap::{Heap, Memory};
-use rx_server::{ClientSink, CloseFault, Report, ServeFault, Server, SubjectReport, start_unread};
+use rx_server::{
+    ClientSink, CloseFault, Report, ServeFault, Server, SharedStop, StartFault, Stop,
+    SubjectReport, start_unread,
+};
 use rx_sink::Sink;
 use std::fs::File;
 use std::io::Write;
 use std::sync::Arc;
 
-/// What a server is served by: the socket that it listens on and the lock beside it, the clock of its moments, the memory for what its
+/// What a server is served by: the socket that it listens on and the lock beside it, that of its face (or the same), the clock of its moments, the memory for what its
 /// desks leave, and its own memory; and by what it tells what it decides of its peers.
 pub(crate) struct Site<F: Host> {
     socket: Socket<F>,
     lock: File,
+    beside: File,
     clock: F,
     heap: Heap,
     own: Heap,
@@ -38,8 +43,11 @@ pub(crate) struct Site<F: Host> {
     // The same, for the thread that tells them.
     shared: SharedNotices,
     patience: Patience,
+    warden: Warden,
     // The host of that thread.
     teller: F,
+    // By which it is told to stop.
+    stop: SharedStop,
 }
 
 // By hand: rx_heap says why.
@@ -48,6 +56,7 @@ impl<F: Host> Drop for Site<F> {
         let Site {
             socket: _,
             lock: _,
+            beside: _,
             clock: _,
             heap: _,
             own: _,
@@ -55,7 +64,9 @@ impl<F: Host> Drop for Site<F> {
             notices: _,
             shared: _,
             patience: _,
+            warden: _,
             teller: _,
+            stop: _,
         } = self;
     }
 }
@@ -83,18 +94,40 @@ impl<F: Host> Site<F> {
             notices,
             shared,
             counted,
+            stop,
+            stopping,
+            accepting,
         } = tools;
+        let Ok(warden) = Warden::of(&own, config, stopping) else {
+            return Err(ProgramFault::Memory);
+        };
         let Ok((listener, lock)) = listen(rt, path, config.takeover) else {
             return Err(ProgramFault::Listen);
         };
-        let porch = match &config.http {
-            Some(http) => Some(Porch::at(rt, &own, config, http, &notices)?),
-            None => None,
+        let (porch, beside) = match &config.http {
+            Some(http) => {
+                let (porch, beside) = Porch::at(rt, &own, config, http, &notices, &stop)?;
+                (Some(porch), beside)
+            }
+            None => match lock.try_clone() {
+                Ok(beside) => (None, beside),
+                Err(_) => return Err(ProgramFault::Listen),
+            },
         };
-        let socket = Socket::new(listener, host, waiting, Terms::of(config), counted);
+        let terms = Terms::of(config);
+        let lookout = if terms.may_stop {
+            match lookout_over(&host, &own, &listener, &counted, &stop) {
+                Ok(lookout) => Some(lookout),
+                Err(_) => return Err(ProgramFault::Listen),
+            }
+        } else {
+            None
+        };
+        let socket = Socket::new(listener, host, waiting, terms, counted, accepting, lookout);
         Ok(Site {
             socket,
             lock,
+            beside,
             clock,
             heap,
             own,
@@ -102,7 +135,9 @@ impl<F: Host> Site<F> {
             notices,
             shared,
             patience: Patience::of(config),
+            warden,
             teller,
+            stop,
         })
     }
 
@@ -124,6 +159,7 @@ impl<F: Host> Site<F> {
         let Site {
             socket,
             lock,
+            beside,
             clock,
             heap,
             own,
@@ -131,30 +167,88 @@ impl<F: Host> Site<F> {
             notices,
             shared,
             patience,
+            warden,
             teller,
+            stop,
         } = self;
-        let mut server = match start_unread::<ClientSink<Outgoing<F>>, F>(rt, own, config) {
+        let mut warden = warden;
+        let mut server = match start_watched(rt, own, config, &mut warden) {
             Ok(server) => server,
             Err(fault) => return Err(ProgramFault::Start(fault)),
         };
-        let _ = writeln!(faults, "rxline: listening on {}", Shown(path));
-        if let Some(porch) = &porch {
-            porch.tell(faults);
-        }
-        let telling = start_telling(rt, teller, shared, Telling::new(patience), log);
-        let served = serve_by(rt, &mut server, socket, Clocked::new(clock), porch);
+        tell_sockets(path, &porch, faults);
+        let telling = start_telling(rt, teller, shared, patience, warden, log);
+        let served = serve_by(
+            rt,
+            &mut server,
+            socket,
+            Clocked::new(clock),
+            porch,
+            &stop,
+            &notices,
+        );
         let closed = subjects_of(server.close(rt, Vec::new(heap)));
-        notices.end();
-        if let Some(telling) = telling {
-            telling.join(rt);
-        }
-        drop(lock);
-        Ok(Ended { served, closed })
+        end_telling(rt, &notices, telling);
+        Ok(Ended {
+            served,
+            closed,
+            lock,
+            beside,
+        })
     }
 }
 
-// Serves the connections of a socket, and beside them those of a face, where there is one.
+// Starts the server of a configuration, at whose subjects the warden looks from now on. (At none where there is no memory for their list.)
+fn start_watched<F: Host>(
+    rt: &F,
+    own: Heap,
+    config: Config,
+    warden: &mut Warden,
+) -> Result<Server<ClientSink<Outgoing<F>>>, StartFault>
+    ensures { IfOk result (λ server. server.config ≡ config) }
+{
+    let server = start_unread::<ClientSink<Outgoing<F>>, F>(rt, own, config)?;
+    if let Ok(looks) = server.shown() {
+        warden.watch(looks);
+    }
+    Ok(server)
+}
+
+// Tells that a server listens at this path, and where its face does, if it has one.
+fn tell_sockets<F: Host, E: Write>(path: &str, porch: &Option<Porch<F>>, faults: &mut E) {
+    let _ = writeln!(faults, "rxline: listening on {}", Shown(path));
+    if let Some(porch) = porch {
+        porch.tell(faults);
+    }
+}
+
+// Serves the connections of a socket until it is told to stop, and beside them those of a face, where there is one. Where it was told to, it
+// waits for what waits.
 fn serve_by<F: Host>(
+    rt: &F,
+    server: &mut Server<ClientSink<Outgoing<F>>>,
+    socket: Socket<F>,
+    moments: Clocked<F>,
+    porch: Option<Porch<F>>,
+    stop: &SharedStop,
+    notices: &SharedNotices,
+) -> Result<(), ServeFault>
+    ensures { RunsOn server.old server.new }
+{
+    let pulse = match &porch {
+        Some(porch) => porch.pulse(),
+        None => None,
+    };
+    let served = serve_all(rt, server, socket, moments, porch);
+    if stop.is_asked() {
+        drain(rt, server, stop, &pulse, notices);
+        return stopped(served);
+    }
+    served
+}
+
+// Serves the connections of a socket, and beside them those of a face, where there is one.
+fn serve_all<F: Host>(
     rt: &F,
     server: &mut Server<ClientSink<Outgoing<F>>>,
     socket: Socket<F>,
@@ -167,8 +261,16 @@ fn serve_by<F: Host>(
     let Some(porch) = porch else {
         return server.serve(rt, &mut socket, moments);
     };
-    let (entrance, _lock) = porch.open(&moments);
+    let entrance = porch.open(&moments);
     server.serve_facing(rt, &mut socket, moments, entrance)
+}
+
+// How serving ended that was told to stop: no more connections came then.
+fn stopped(served: Result<(), ServeFault>) -> Result<(), ServeFault> {
+    match served {
+        Err(ServeFault::Accept) => Ok(()),
+        other => other,
+    }
 }
 
 // What a site has beside its sockets.
@@ -183,12 +285,19 @@ struct Tools<F: Host> {
     // The same, for who tells them and for who counts them.
     shared: SharedNotices,
     counted: SharedNotices,
+    // By which the server is told to stop, and the same for who tells that and for its socket.
+    stop: SharedStop,
+    stopping: SharedStop,
+    accepting: SharedStop,
 }
 
 fn make_tools<F: Host>(rt: &F, heap: &Heap) -> Result<Tools<F>, Memory> {
     let notices = Arc::new(heap.clone()?, Notices::new())?;
     let shared = Arc::try_clone(&notices)?;
     let counted = Arc::try_clone(&notices)?;
+    let stop = Stop::shared(heap.clone()?)?;
+    let stopping = Arc::try_clone(&stop)?;
+    let accepting = Arc::try_clone(&stop)?;
     Ok(Tools {
         host: rt.clone()?,
         clock: rt.clone()?,
@@ -199,6 +308,9 @@ fn make_tools<F: Host>(rt: &F, heap: &Heap) -> Result<Tools<F>, Memory> {
         notices,
         shared,
         counted,
+        stop,
+        stopping,
+        accepting,
     })
 }
 

@@ -49,3 +49,8 @@ impl<C: Clock + Drop> Moments for Clocked<C> {
         self.last
     }
 }
+
+/// The milliseconds of a moment.
+pub(crate) fn millis(moment: Duration) -> u64 {
+    u64::try_from(moment.as_millis()).unwrap_or(u64::MAX)
+}

@@ -1,19 +1,21 @@
 // Where there are no descriptors or no memory for a connection, it pauses, and has the socket looked at anew by the next wait: so the
 // face goes on to serve those that it has, which give some back as they end.
 ghost use Rattle.std.specs.Prelude.{◌≡◌, IfOk};
-ghost use Rattle.rx_program.specs.WatchLogs.{watched_by};
+ghost use Rattle.rx_workers.specs.WatchLogs.{watched_by};
 ghost use Rattle.rx_workers.specs.Watching.{WatchesNothing};
 
 use crate::notices::cause::Cause;
 use crate::notices::counted::SharedNotices;
+use crate::socket::clocked::millis;
 use crate::socket::face_closer::FaceCloser;
 use crate::socket::incoming::Incoming;
 use crate::socket::outgoing::Outgoing;
 use crate::socket::polling::Polling;
 use crate::socket::terms::Terms;
 use crate::socket::{PAUSE, halves, is_passing, refusal_of, trouble_of};
+use rx_events::SharedPulse;
 use rx_heap::Heap;
-use rx_server::{Aim, Doorway, Readiness, Ready, WatchFault};
+use rx_server::{Aim, Doorway, Joined, Readiness, Ready, SharedStop, WatchFault};
 use std::io::ErrorKind;
 use std::net::Net;
 use std::os::unix::net::UnixListener;
@@ -35,6 +37,7 @@ pub struct FaceSocket<F: Clock + Drop> {
     terms: Terms,
     closed: Arc<AtomicBool, Heap>,
     notices: SharedNotices,
+    stop: SharedStop,
     // The last one that came could not be accepted.
     is_in_trouble: bool,
 }
@@ -50,19 +53,23 @@ impl<F: Clock + Drop> Drop for FaceSocket<F> {
             terms: _,
             closed: _,
             notices: _,
+            stop: _,
             is_in_trouble: _,
         } = self;
     }
 }
 
 impl<F: AllocGlobal + Net + Clock + Clone + Drop> FaceSocket<F> {
-    /// The connections that come to this listener, each on these terms. What it decides of them is counted among the notices.
+    /// The connections that come to this listener, each on these terms. What it decides of them is counted among the notices. With each
+    /// wait it tells the time to this pulse, and begins that of this stop where it was asked for.
     pub fn new(
         listener: UnixListener,
         host: F,
         heap: Heap,
         terms: Terms,
         notices: SharedNotices,
+        pulse: SharedPulse,
+        stop: SharedStop,
     ) -> io::Result<FaceSocket<F>>
         ensures { IfOk result (λ socket. WatchesNothing (watched_by socket.polling.log)) }
     {
@@ -77,6 +84,7 @@ impl<F: AllocGlobal + Net + Clock + Clone + Drop> FaceSocket<F> {
             shared,
         )?;
         polling.listen(&listener)?;
+        polling.beat(pulse);
         let closed = Arc::new(heap.clone()?, AtomicBool::new(false))?;
         Ok(FaceSocket {
             polling,
@@ -86,6 +94,7 @@ impl<F: AllocGlobal + Net + Clock + Clone + Drop> FaceSocket<F> {
             terms,
             closed,
             notices,
+            stop,
             is_in_trouble: false,
         })
     }
@@ -104,7 +113,15 @@ impl<F: Clock + Clone + Drop> FaceSocket<F> {
         for _ in 0..MOST_GIVEN_UP {
             match self.listener.accept() {
                 Ok((stream, _)) => {
-                    match halves(stream, &self.host, &self.heap, self.terms, &self.notices) {
+                    match halves(
+                        stream,
+                        &self.host,
+                        &self.heap,
+                        self.terms,
+                        &self.notices,
+                        &self.stop,
+                        None,
+                    ) {
                         Ok(halves) => return Ok(Some(halves)),
                         Err(fault) => self.notices.count(refusal_of(&fault)),
                     }
@@ -129,8 +146,17 @@ impl<F: Clock + Clone + Drop> FaceSocket<F> {
     }
 }
 
+impl<F: Clock + Drop> FaceSocket<F> {
+    // Begins the time of a stop that was asked for.
+    fn begin_stop(&self) {
+        if let Ok(now) = self.host.monotonic() {
+            self.stop.begin(millis(now));
+        }
+    }
+}
+
 impl<F: Clock + Drop> Readiness<Incoming<F>> for FaceSocket<F> {
-    ghost use Rattle.rx_program.specs.WatchLogs.{watched_by};
+    ghost use Rattle.rx_workers.specs.WatchLogs.{watched_by};
 
     ghost watched = { λ s. watched_by s.polling.log };
 
@@ -146,11 +172,16 @@ impl<F: Clock + Drop> Readiness<Incoming<F>> for FaceSocket<F> {
         Readiness::<Incoming<F>>::again(&mut self.polling, key);
     }
 
+    fn name(&mut self, connection: &Incoming<F>, observer: Joined) {
+        self.polling.name(connection, observer);
+    }
+
     fn forget(&mut self, connection: &Incoming<F>, key: usize) {
         self.polling.forget(connection, key);
     }
 
     fn wait(&mut self) {
+        self.begin_stop();
         Readiness::<Incoming<F>>::wait(&mut self.polling);
     }
 

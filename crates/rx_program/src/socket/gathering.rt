@@ -6,13 +6,16 @@
 // once the peer read all of it. Of writes of up to 68 KB a peer had to read some 36 KB within `stall` seconds to show that it
 // read at all. It costs nothing where notes are short; long ones, of 900 bytes to eight observers that catch up, took up to a
 // third more of the processor, and came up to a third slower.
-ghost use Rattle.std.specs.Prelude.{◌≡◌, ◌+◌, ◌-◌, ◌≤◌, [], length, take, drop, min, vec_len, OnOk};
+ghost use Rattle.std.specs.Prelude.{◌≡◌, ◌+◌, ◌-◌, ◌≤◌, ◌++◌, [], length, take, drop, min, vec_len, OnOk};
 ghost use Rattle.std.specs.Io.{WritesAtMost};
 ghost use Rattle.std.specs.Io.KnownBytes.{Appends, WriteAppends};
 
 use crate::notices::cause::Cause;
 use crate::notices::counted::SharedNotices;
+use crate::socket::clocked::millis;
+use crate::socket::peer::SharedPeer;
 use rx_heap::Heap;
+use rx_server::SharedStop;
 use std::io;
 use std::io::{ErrorKind, Write};
 use std::time::{Clock, Duration};
@@ -38,7 +41,9 @@ pub(crate) struct Gathering<W: Write + Drop, C: Clock + Drop> {
     stall: Duration,
     // Since when its socket has taken none, by the clock.
     stuck_since: Option<Duration>,
+    peer: SharedPeer,
     notices: SharedNotices,
+    stop: SharedStop,
 }
 
 // What still waits is tried once more, and waits no longer: a drainer that leaves has flushed it for as long as any may wait.
@@ -49,9 +54,14 @@ impl<W: Write + Drop, C: Clock + Drop> Drop for Gathering<W, C> {
             clock: _,
             waiting,
             stall: _,
-            stuck_since: _,
-            notices: _,
+            stuck_since,
+            peer: _,
+            notices,
+            stop: _,
         } = self;
+        if stuck_since.is_some() {
+            notices.release();
+        }
         let mut wire = wire;
         if !waiting.is_empty() {
             let _ = wire.write(waiting.as_slice());
@@ -60,13 +70,16 @@ impl<W: Write + Drop, C: Clock + Drop> Drop for Gathering<W, C> {
 }
 
 impl<W: Write + Drop, C: Clock + Drop> Gathering<W, C> {
-    /// Nothing waits yet. Where the peer is given up it is counted among the notices.
+    /// Nothing waits yet. Where the peer is given up it is counted among the notices; but not where the time of a stop is over, when
+    /// nothing waits for it any longer.
     pub(crate) fn new(
         wire: W,
         clock: C,
         alloc: Heap,
         stall: Duration,
+        peer: SharedPeer,
         notices: SharedNotices,
+        stop: SharedStop,
     ) -> Gathering<W, C>
         ensures wire { result.wire ≡ wire }
         ensures none { result.waiting.items ≡ [] }
@@ -77,7 +90,34 @@ impl<W: Write + Drop, C: Clock + Drop> Gathering<W, C> {
             waiting: Vec::new(alloc),
             stall,
             stuck_since: None,
+            peer,
             notices,
+            stop,
+        }
+    }
+
+    // Counts that the peer is given up.
+    fn count(&self, cause: Cause) {
+        let bytes = self.waiting.len() as u64;
+        self.notices.count_about(cause, self.peer.joined(), bytes);
+    }
+
+    // Whether the server gives up the observer that the peer is.
+    fn is_given_up(&self) -> bool {
+        match self.peer.joined() {
+            Some(observer) => self.notices.is_given_up(observer),
+            None => false,
+        }
+    }
+
+    // Its socket took all.
+    fn free(&mut self)
+        ensures wire { self.new.wire ≡ self.old.wire }
+        ensures waiting { self.new.waiting ≡ self.old.waiting }
+    {
+        if self.stuck_since.is_some() {
+            self.stuck_since = None;
+            self.notices.release();
         }
     }
 
@@ -89,13 +129,19 @@ impl<W: Write + Drop, C: Clock + Drop> Gathering<W, C> {
         let Ok(now) = self.clock.monotonic() else {
             return io::Error::from(ErrorKind::WouldBlock);
         };
+        if self.stuck_since.is_none() {
+            self.notices.hold();
+        }
         let since = match self.stuck_since {
             Some(since) if sent == 0 => since,
             _ => now,
         };
         self.stuck_since = Some(since);
+        if is_out_of_time(&self.stop, now) {
+            return io::Error::from(ErrorKind::TimedOut);
+        }
         if now.saturating_sub(since) >= self.stall {
-            self.notices.count(Cause::Stalled);
+            self.count(Cause::Stalled);
             io::Error::from(ErrorKind::TimedOut)
         } else {
             io::Error::from(ErrorKind::WouldBlock)
@@ -120,7 +166,7 @@ impl<W: Write + Drop, C: Clock + Drop> Write for Gathering<W, C> {
         match self.waiting.extend_from_slice(bytes) {
             Ok(()) => Ok(bytes.len()),
             Err(_) => {
-                self.notices.count(Cause::Unheld);
+                self.count(Cause::Unheld);
                 Err(io::Error::from(ErrorKind::OutOfMemory))
             }
         }
@@ -132,15 +178,24 @@ impl<W: Write + Drop, C: Clock + Drop> Write for Gathering<W, C> {
     {
         let (sent, ended) = write_blocks(&mut self.wire, self.waiting.as_slice());
         drop_front(&mut self.waiting, sent);
+        if self.is_given_up() {
+            self.count(Cause::Outgrown);
+            return Err(io::Error::from(ErrorKind::TimedOut));
+        }
         match ended {
             Err(fault) if fault.kind() == ErrorKind::WouldBlock => Err(self.stuck(sent)),
             Err(fault) => Err(fault),
             Ok(()) => {
-                self.stuck_since = None;
+                self.free();
                 Ok(())
             }
         }
     }
+}
+
+// Whether the time of a stop is over at this moment.
+fn is_out_of_time(stop: &SharedStop, now: Duration) -> bool {
+    stop.left(millis(now)) == Some(0)
 }
 
 // Writes these bytes, a block at a time, as far as the writer takes them. It answers how many it took, and what stopped it.
@@ -188,6 +243,32 @@ fn drop_front(waiting: &mut Vec<u8, Heap>, count: usize)
     ensures { waiting.new.items ≡ drop count waiting.old.items }
 {
     let len = waiting.len();
-    waiting.as_mut_slice().copy_within(count..len, 0);
+    move_down(waiting.as_mut_slice(), count);
     waiting.truncate(len - count);
+}
+
+// Moves what stands behind the first bytes to their place, as many at once as they are: the toolchain's `copy_within` goes byte by byte.
+fn move_down(bytes: &mut [u8], count: usize)
+    requires { count ≤ length bytes.old }
+    ensures moved { take (length bytes.old - count) bytes.new ≡ drop count bytes.old }
+    ensures len { length bytes.new ≡ length bytes.old }
+{
+    if count == 0 {
+        return;
+    }
+    let mut moved = 0;
+    while moved + count < bytes.len() {
+        let (front, behind) = bytes.split_at_mut(moved + count);
+        let some = count.min(behind.len());
+        put(front, moved, &behind[..some]);
+        moved += some;
+    }
+}
+
+// Puts these bytes there.
+fn put(bytes: &mut [u8], at: usize, piece: &[u8])
+    requires { at + length piece.now ≤ length bytes.old }
+    ensures { bytes.new ≡ take at bytes.old ++ (piece.now ++ drop (at + length piece.now) bytes.old) }
+{
+    bytes[at..at + piece.len()].copy_from_slice(piece);
 }

@@ -1,8 +1,10 @@
 use crate::notices::counted::SharedNotices;
 use crate::socket::gathering::Gathering;
 use crate::socket::link::Link;
+use crate::socket::peer::SharedPeer;
 use crate::socket::wire::Wire;
 use rx_heap::{Heap, Memory};
+use rx_server::SharedStop;
 use std::io;
 use std::io::Write;
 use std::time::{Clock, Duration};
@@ -26,15 +28,19 @@ impl<C: Clock + Drop> Drop for Outgoing<C> {
 
 impl<C: Clock + Drop> Outgoing<C> {
     /// The writing half of a connection. It and what waits take this memory. A flush has failed once the peer took no byte for
-    /// so long while some waited for it, which is counted among the notices.
+    /// so long while some waited for it, or once the server gives up the observer that it is, which are both counted among the notices; or
+    /// once the time of this stop is over.
     pub fn new(
         link: Link,
         clock: C,
         alloc: &Heap,
         stall: Duration,
+        peer: SharedPeer,
         notices: SharedNotices,
+        stop: SharedStop,
     ) -> Result<Outgoing<C>, Memory> {
-        let gathering = Gathering::new(Wire::of(link), clock, alloc.clone()?, stall, notices);
+        let wire = Wire::of(link);
+        let gathering = Gathering::new(wire, clock, alloc.clone()?, stall, peer, notices, stop);
         match Box::new(alloc.clone()?, gathering) {
             Ok(held) => Ok(Outgoing { held }),
             Err(_) => Err(Memory),

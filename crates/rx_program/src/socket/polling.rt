@@ -3,16 +3,17 @@
 // may have no room: it stands in a list (`Readiness::again`), once, by which the next wait is none, and is told behind the
 // others that are ready by then.
 ghost use Rattle.std.specs.Prelude.{◌≡◌, IfOk};
-ghost use Rattle.rx_program.specs.WatchLogs.{watched_by};
+ghost use Rattle.rx_workers.specs.WatchLogs.{watched_by};
 ghost use Rattle.rx_workers.specs.Watching.{WatchesNothing};
 
 use crate::notices::counted::SharedNotices;
 use crate::socket::incoming::Incoming;
 use crate::socket::poll_waker::PollWaker;
 use crate::socket::system_events::SystemEvents;
-use crate::socket::watch_log::WatchLog;
+use rx_events::SharedPulse;
 use rx_heap::Heap;
-use rx_server::{Aim, Readiness, Ready, WatchFault};
+use rx_server::{Aim, Joined, Readiness, Ready, SharedStop, WatchFault};
+use rx_workers::WatchLog;
 use std::alloc::Global;
 use std::io;
 use std::net::Net;
@@ -56,6 +57,20 @@ impl<C: Clock + Drop> Polling<C> {
         self.events.waker()
     }
 
+    /// Has it tell the time to this pulse, with each wait.
+    pub(crate) fn beat(&mut self, pulse: SharedPulse)
+        ensures { self.new.log ≡ self.old.log }
+    {
+        self.events.beat(pulse);
+    }
+
+    /// Has it tell each connection once this stop is asked for, so that its session has a turn and finds that out.
+    pub(crate) fn stop_by(&mut self, stop: SharedStop)
+        ensures { self.new.log ≡ self.old.log }
+    {
+        self.events.stop_by(stop);
+    }
+
     /// Has its waits end too where a connection came to this listener. It tells nothing of it.
     pub(crate) fn listen(&mut self, listener: &UnixListener) -> io::Result<()>
         ensures { self.new.log ≡ self.old.log }
@@ -72,7 +87,7 @@ impl<C: Clock + Drop> Polling<C> {
 }
 
 impl<C: Clock + Drop> Readiness<Incoming<C>> for Polling<C> {
-    ghost use Rattle.rx_program.specs.WatchLogs.{watched_by};
+    ghost use Rattle.rx_workers.specs.WatchLogs.{watched_by};
 
     ghost watched = { λ p. watched_by p.log };
 
@@ -89,6 +104,10 @@ impl<C: Clock + Drop> Readiness<Incoming<C>> for Polling<C> {
 
     fn again(&mut self, key: usize) {
         self.events.again(key);
+    }
+
+    fn name(&mut self, connection: &Incoming<C>, observer: Joined) {
+        connection.name(observer);
     }
 
     fn forget(&mut self, connection: &Incoming<C>, key: usize) {

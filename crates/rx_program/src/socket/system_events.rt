@@ -1,11 +1,13 @@
 use crate::notices::cause::Cause;
 use crate::notices::counted::SharedNotices;
+use crate::socket::clocked::millis;
 use crate::socket::incoming::Incoming;
 use crate::socket::poll_waker::PollWaker;
 use mio::unix::SourceFd;
 use mio::{Events, Interest, Poll, Token, Waker};
+use rx_events::SharedPulse;
 use rx_heap::Heap;
-use rx_server::{Aim, Ready, WatchFault};
+use rx_server::{Aim, Ready, SharedStop, WatchFault};
 use std::alloc::Global;
 use std::collections::VecDeque;
 use std::io;
@@ -24,12 +26,19 @@ const WAKER: Token = Token(usize::MAX);
 // By which a listener is.
 const LISTENER: Token = Token(usize::MAX - 1);
 
-// How often it looks for sessions that sent nothing for long, in seconds.
+// How often it looks for sessions that sent nothing for long, and tells the time, in seconds.
 const LOOK: u64 = 1;
+
+// How often it tells the time while some sinks keep a pace, in milliseconds.
+const STEP: u64 = 5;
+
+// How long it waits at most while the server is to stop, in milliseconds.
+const STOPPING: u64 = 20;
 
 /// Waits for connections by the system's events. Where a peer may be idle only for so long, a connection is told too once nothing
 /// happened on it for as long, so that its session has a turn and finds that out. One that is to be told again is told behind the
-/// others that are ready by then.
+/// others that are ready by then. With each wait it tells the time to a pulse, if it has one. Where it has a stop, its waits end once a
+/// second at least, and once that is asked for each connection is told, again and again.
 pub(crate) struct SystemEvents<C: Clock + Drop> {
     poll: Poll,
     // It takes memory of the runtime, as `mio` has no other.
@@ -43,6 +52,10 @@ pub(crate) struct SystemEvents<C: Clock + Drop> {
     again: VecDeque<usize, Heap>,
     looked: Duration,
     notices: SharedNotices,
+    pulse: Option<SharedPulse>,
+    stop: Option<SharedStop>,
+    // Since when it knows that the server is to stop.
+    stopping: Option<Duration>,
 }
 
 // A connection that is watched.
@@ -67,6 +80,9 @@ impl<C: Clock + Drop> Drop for SystemEvents<C> {
             again: _,
             looked: _,
             notices: _,
+            pulse: _,
+            stop: _,
+            stopping: _,
         } = self;
     }
 }
@@ -96,12 +112,25 @@ impl<C: Clock + Drop> SystemEvents<C> {
             again: VecDeque::new(heap.clone()?),
             looked: Duration::ZERO,
             notices,
+            pulse: None,
+            stop: None,
+            stopping: None,
         })
     }
 
     /// A waker that ends its waits.
     pub(crate) fn waker(&self) -> io::Result<PollWaker> {
         Ok(PollWaker::new(Waker::new(self.poll.registry(), WAKER)?))
+    }
+
+    /// Has it tell the time to this pulse: its waits then end once a second at least, and more often while somebody keeps a pace.
+    pub(crate) fn beat(&mut self, pulse: SharedPulse) {
+        self.pulse = Some(pulse);
+    }
+
+    /// Has its waits end once a second at least, and tell each connection once this stop is asked for.
+    pub(crate) fn stop_by(&mut self, stop: SharedStop) {
+        self.stop = Some(stop);
     }
 
     /// Has its waits end too where a connection came to this listener.
@@ -181,26 +210,52 @@ impl<C: Clock + Drop> SystemEvents<C> {
     /// Waits until one is ready, or until the waker ends the wait.
     pub(crate) fn wait(&mut self) {
         let most = if self.again.is_empty() {
-            self.idle.map(|_| Duration::from_secs(LOOK))
+            self.most_wait()
         } else {
             Some(Duration::ZERO)
         };
         self.ready.clear();
         let _ = self.poll.poll(&mut self.events, most);
-        let now = match self.idle {
-            Some(_) => self.now(),
-            None => Duration::ZERO,
-        };
+        let now = self.tell_time();
         self.put_again(now);
         self.put_events(now);
         if let Some(idle) = self.idle {
             self.put_idle(now, idle);
         }
+        self.put_stopping(now);
     }
 
     /// The next one that is.
     pub(crate) fn next(&mut self) -> Option<Ready> {
         self.ready.pop()
+    }
+
+    // How long a wait is at most.
+    fn most_wait(&self) -> Option<Duration> {
+        if let Some(stop) = &self.stop {
+            return Some(if stop.is_asked() {
+                Duration::from_millis(STOPPING)
+            } else {
+                Duration::from_secs(LOOK)
+            });
+        }
+        match &self.pulse {
+            Some(pulse) if pulse.is_paced() => Some(Duration::from_millis(STEP)),
+            Some(_) => Some(Duration::from_secs(LOOK)),
+            None => self.idle.map(|_| Duration::from_secs(LOOK)),
+        }
+    }
+
+    // The time behind a wait, which is told to the pulse; it isn't asked for where nobody counts by it.
+    fn tell_time(&self) -> Duration {
+        if self.pulse.is_none() && self.idle.is_none() && self.stop.is_none() {
+            return Duration::ZERO;
+        }
+        let now = self.now();
+        if let Some(pulse) = &self.pulse {
+            pulse.tell(millis(now));
+        }
+        now
     }
 
     fn now(&self) -> Duration {
@@ -242,6 +297,30 @@ impl<C: Clock + Drop> SystemEvents<C> {
                 put(&mut self.ready, watched, key, false, now);
             }
         }
+    }
+
+    // Puts the connections that were not told since the server is to stop, nor for long, up to so many.
+    fn put_stopping(&mut self, now: Duration) {
+        let Some(since) = self.stopping_since(now) else {
+            return;
+        };
+        let most = self.ready.len().saturating_add(MOST_READY);
+        for (key, watched) in self.watched.iter_mut().enumerate() {
+            let is_due = watched.told < since
+                || now.saturating_sub(watched.told) >= Duration::from_secs(LOOK);
+            if is_due && self.ready.len() < most {
+                put(&mut self.ready, watched, key, false, now);
+            }
+        }
+    }
+
+    // Since when the server is to stop, as far as is known here.
+    fn stopping_since(&mut self, now: Duration) -> Option<Duration> {
+        let stop = self.stop.as_ref()?;
+        if self.stopping.is_none() && stop.is_asked() {
+            self.stopping = Some(now);
+        }
+        self.stopping
     }
 
     // Has room for what is told of this key.

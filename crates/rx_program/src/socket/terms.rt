@@ -8,6 +8,8 @@ pub struct Terms {
     pub stall: Duration,
     /// How long its session may send nothing, where that has an end.
     pub idle: Option<Duration>,
+    /// Whether the server may be stopped by a request, so that who waits looks for one.
+    pub may_stop: bool,
 }
 
 impl Terms {
@@ -16,6 +18,15 @@ impl Terms {
         Terms {
             stall: Duration::from_secs(u64::from(config.stall)),
             idle: config.idle.map(Duration::from_secs),
+            may_stop: may_stop(config),
         }
+    }
+}
+
+// Whether a server of this configuration may be stopped by a request.
+fn may_stop(config: &Config) -> bool {
+    match &config.http {
+        Some(http) => http.stop,
+        None => false,
     }
 }

@@ -6,5 +6,5 @@ use Rattle.rx_program.proofs.program.site.Site.serve.Goals as goal
 
 pub returns-clause-closed : goal.returns-clause-closed
 returns-clause-closed g c =
-    closed-so _ c.args.config c.serve_by-served.new.server _ c.close.result (closed_as c.subjects_of-closed.result) (c.serve_by-served.ensures.config ∙ c.in-Ok.ensures.started.2.config_is) c.close.ensures
+    closed-so _ c.args.config c.serve_by-served.new.server _ c.close.result (closed_as c.subjects_of-closed.result) (c.serve_by-served.ensures.config ∙ c.in-Ok.ensures) c.close.ensures
     (MatchResult-weaker c.close.result c.subjects_of-closed.ensures (λ report same. ap closed_as same) (λ fault same. ap closed_as same))

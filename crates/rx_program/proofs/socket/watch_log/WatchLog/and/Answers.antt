@@ -1,5 +1,0 @@
-use Rattle.rx_program.proofs.WatchLogs.{asked-one}
-use Rattle.rx_program.proofs.socket.watch_log.WatchLog.and.Goals as goal
-
-pub returns : goal.returns
-returns c = asked-one c.args.self.now.calls.items c.and.result.items c.args.key c.args.aim c.and.ensures
