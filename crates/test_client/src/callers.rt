@@ -60,7 +60,7 @@ enum Step {
 type Outcome = Result<Option<u32>, CallerError>;
 
 // Of each call its subject, of which there is one, and what it is told.
-const RUN: [(usize, Step, Outcome); 16] = [
+const RUN: &[(usize, Step, Outcome)] = &[
     (1, Step::Publish, Err(CallerError::NoSubject)),
     (1, Step::Join, Err(CallerError::NoSubject)),
     (0, Step::Join, Ok(Some(0))),
@@ -90,6 +90,11 @@ const RUN: [(usize, Step, Outcome); 16] = [
     (0, Step::Complete, Err(CallerError::Refused(Refusal::Ended))),
     (0, Step::Publish, Err(CallerError::Refused(Refusal::Ended))),
 ];
+
+// Hands the table out, so that what goes over it is proved without its rows.
+fn run() -> &'static [(usize, Step, Outcome)] {
+    RUN
+}
 
 // What the sinks of the observers 0 and 1 took: of the first what was emitted before it left.
 const TOOK: &str = "0ae1a!";
@@ -145,7 +150,7 @@ fn go<R: Wait + Abort>(
 fn go_all<R: Wait + Abort>(rt: &R, heap: &Heap, caller: &mut Caller<MemorySink>)
     ensures { caller.new.made ≡ caller.old.made }
 {
-    for (subject, step, wanted) in &RUN {
+    for (subject, step, wanted) in run() {
         let told = go(rt, heap, caller, *subject, *step);
         assert_eq!(rt; told, *wanted, "{step:?} of {subject}");
     }

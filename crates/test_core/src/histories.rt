@@ -72,7 +72,7 @@ type Row = (
     &'static str,
 );
 
-const ROWS: [Row; 18] = [
+const ROWS: &[Row] = &[
     (
         "line_of_a_waiting_end",
         Named::Publish,
@@ -237,9 +237,14 @@ const ROWS: [Row; 18] = [
     ),
 ];
 
+// Hands the table out, so that what goes over it is proved without its rows.
+fn rows() -> &'static [Row] {
+    ROWS
+}
+
 #[test]
 fn histories_of_one_observer(rt: HostRuntime) -> Result<(), Fail> {
-    for (name, named, strategy, errors, first, script, wanted) in &ROWS {
+    for (name, named, strategy, errors, first, script, wanted) in rows() {
         let policy = policy_by(*strategy, *errors)?;
         let told = told_of(&unlimited(&rt), *named, policy, *first, script.as_bytes())?;
         expect_told(&rt, told.as_bytes(), wanted, name);

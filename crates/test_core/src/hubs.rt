@@ -95,7 +95,7 @@ pub(crate) fn new_run_of(
 // A run of a Publish subject: its name, the strategy and the first request of each join, the script, and what is told.
 type Row = (&'static str, Strategy, u32, &'static str, &'static str);
 
-const ROWS: [Row; 3] = [
+const ROWS: &[Row] = &[
     (
         "first_run",
         Strategy::Buffer,
@@ -119,6 +119,11 @@ const ROWS: [Row; 3] = [
     ),
 ];
 
+// Hands the table out, so that what goes over it is proved without its rows.
+fn rows() -> &'static [Row] {
+    ROWS
+}
+
 fn told_by(heap: &Heap, strategy: Strategy, first: u32, script: &[u8]) -> Result<Told, Fail> {
     let events = events_of(heap, strategy, first, script)?;
     let run = new_run_of(heap, rules_of(Kind::Publish), events)?;
@@ -127,7 +132,7 @@ fn told_by(heap: &Heap, strategy: Strategy, first: u32, script: &[u8]) -> Result
 
 #[test]
 fn runs_of_worked_events(rt: HostRuntime) -> Result<(), Fail> {
-    for (name, strategy, first, script, wanted) in &ROWS {
+    for (name, strategy, first, script, wanted) in rows() {
         let told = told_by(&unlimited(&rt), *strategy, *first, script.as_bytes())?;
         expect_told(&rt, told.as_bytes(), wanted, name);
     }

@@ -232,7 +232,7 @@ impl Script for Row {
 }
 
 // The strategy and the error mode of a lane, the first request if it was joined, the script, and what is told.
-const ROWS: [(Strategy, Errors, Option<u32>, &str, &str); 23] = [
+const ROWS: &[(Strategy, Errors, Option<u32>, &str, &str)] = &[
     (
         Strategy::Latest(2),
         Errors::Delay,
@@ -355,9 +355,14 @@ const ROWS: [(Strategy, Errors, Option<u32>, &str, &str); 23] = [
     ),
 ];
 
+// Hands the table out, so that what goes over it is proved without its rows.
+fn rows() -> &'static [(Strategy, Errors, Option<u32>, &'static str, &'static str)] {
+    ROWS
+}
+
 #[test]
 fn lane_call_by_call(rt: HostRuntime) -> Result<(), Fail> {
-    for (strategy, errors, first, script, wanted) in &ROWS {
+    for (strategy, errors, first, script, wanted) in rows() {
         for who in [None, Some(7)] {
             let row = Row {
                 who,

@@ -9,6 +9,8 @@
 #[cfg(test)]
 mod ample;
 #[cfg(test)]
+mod backlogs;
+#[cfg(test)]
 mod budgets;
 #[cfg(test)]
 mod clerk;

@@ -219,7 +219,7 @@ fn are_drawn(heap: &Heap, picture: &Picture) -> Result<bool, Fail> {
     Ok(all)
 }
 
-const PICTURES: [Picture; 12] = [
+const PICTURES: &[Picture] = &[
     Picture {
         name: "publish",
         kind: Named::Publish,
@@ -402,9 +402,14 @@ const PICTURES: [Picture; 12] = [
     },
 ];
 
+// Hands the table out, so that what goes over it is proved without its rows.
+fn pictures() -> &'static [Picture] {
+    PICTURES
+}
+
 #[test]
 fn runs_are_drawn(rt: HostRuntime) -> Result<(), Fail> {
-    for picture in &PICTURES {
+    for picture in pictures() {
         expect_that(&rt, are_drawn(&unlimited(&rt), picture)?, picture.name);
     }
     Ok(())

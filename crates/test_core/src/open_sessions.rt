@@ -201,7 +201,7 @@ fn told_at_once(heap: &Heap, input: Input, takes: bool) -> Told {
 }
 
 // How many `x` a peer sends, what behind them, whether the desk keeps the writer, and what is told.
-const SESSIONS: [(usize, &str, bool, &str); 16] = [
+const SESSIONS: &[(usize, &str, bool, &str)] = &[
     (
         0,
         "PUB s a\nNOPE\nQUIT\nPUB s b\n",
@@ -245,6 +245,11 @@ const SESSIONS: [(usize, &str, bool, &str); 16] = [
     ),
 ];
 
+// Hands the table out, so that what goes over it is proved without its rows.
+fn sessions_table() -> &'static [(usize, &'static str, bool, &'static str)] {
+    SESSIONS
+}
+
 // How many bytes a read gives and a write takes, and how many reads, writes and flushes would block before each.
 const CUTS: [(usize, u64, usize, u64, u64); 9] = [
     (1, 1, 65_536, 0, 0),
@@ -261,7 +266,7 @@ const CUTS: [(usize, u64, usize, u64, u64); 9] = [
 #[test]
 fn turns_tell_what_a_session_tells(rt: HostRuntime) {
     let heap = unlimited(&rt);
-    for (times, rest, takes, told) in &SESSIONS {
+    for (times, rest, takes, told) in sessions_table() {
         let input = Input {
             unit: "x",
             times: *times,
@@ -349,7 +354,7 @@ fn told_within(
 // What a peer sends (a unit, how many times, and the rest), how many bytes a read gives, how many reads, writes and flushes
 // would block before each, how many turns are taken, each of 64 lines at most; what they came to, the reads that were made and the
 // notes of the desk.
-const TURNS: [(&str, usize, &str, usize, u64, u64, u64, u32, &str, u64, u64); 10] = [
+const TURNS: &[(&str, usize, &str, usize, u64, u64, u64, u32, &str, u64, u64)] = &[
     ("", 0, "", 1, 9, 0, 0, 3, "www", 3, 0),
     ("", 0, "END s\n", 3, 1, 0, 0, 6, "wAwAwE", 6, 1),
     ("END s\n", 100, "", 16, 0, 5, 0, 5, "sssss", 1, 2),
@@ -374,10 +379,39 @@ const TURNS: [(&str, usize, &str, usize, u64, u64, u64, u32, &str, u64, u64); 10
     ),
 ];
 
+// Hands the table out, so that what goes over it is proved without its rows.
+fn turns_table() -> &'static [(
+    &'static str,
+    usize,
+    &'static str,
+    usize,
+    u64,
+    u64,
+    u64,
+    u32,
+    &'static str,
+    u64,
+    u64,
+)] {
+    TURNS
+}
+
 #[test]
 fn turns_come_to_this(rt: HostRuntime) {
     let heap = unlimited(&rt);
-    for (unit, times, rest, step, pauses, writes, flushes, turns, told, reads, asked) in &TURNS {
+    for (
+        unit,
+        times,
+        rest,
+        step,
+        pauses,
+        writes,
+        flushes,
+        turns,
+        told,
+        reads,
+        asked,
+    ) in turns_table() {
         let input = Input {
             unit,
             times: *times,

@@ -24,7 +24,7 @@ struct Row {
     parts: &'static [(u64, &'static str)],
 }
 
-const ROWS: [Row; 18] = [
+const ROWS: &[Row] = &[
     Row {
         name: "first_run",
         kind: Named::Publish,
@@ -140,6 +140,11 @@ const ROWS: [Row; 18] = [
         parts: &[(20, "a"), (5, "b"), (29, "+"), (30, "+")],
     },
 ];
+
+// Hands the table out, so that what goes over it is proved without its rows.
+fn rows() -> &'static [Row] {
+    ROWS
+}
 
 impl Row {
     fn rules(&self, heap: &Heap) -> Result<Rules, Fail>
@@ -258,7 +263,7 @@ impl Refusable for Row {
 #[test]
 fn worked_runs_leave_nothing(rt: HostRuntime) -> Result<(), Fail> {
     let heap = Heap::with_budget(rt.alloc(), u64::MAX)?;
-    for row in &ROWS {
+    for row in rows() {
         let seen = row.run_by(&heap, &heap)?;
         expect_that(&rt, seen.is_made && seen.is_right, row.name);
         expect_count(&rt, heap.used(), 0, row.name);
@@ -268,7 +273,7 @@ fn worked_runs_leave_nothing(rt: HostRuntime) -> Result<(), Fail> {
 
 #[test]
 fn worked_runs_with_each_growth_refused(rt: HostRuntime) -> Result<(), Fail> {
-    for row in &ROWS {
+    for row in rows() {
         let refusals = refuse_in_turn(row, rt.alloc())?;
         expect_words(&rt, refusals.fault, "", row.name);
         expect_that(&rt, refusals.unmade >= 1, row.name);

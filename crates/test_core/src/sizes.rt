@@ -128,7 +128,7 @@ const NOTHING: Shape = Shape {
 };
 
 // Runs by their names, and of each how many events are refused, how many notes are given, and the bytes of their texts.
-const RUNS: [(&str, Shape, usize, usize, usize); 12] = [
+const RUNS: &[(&str, Shape, usize, usize, usize)] = &[
     (
         "the longest text",
         Shape {
@@ -277,6 +277,11 @@ const RUNS: [(&str, Shape, usize, usize, usize); 12] = [
     ),
 ];
 
+// Hands the table out, so that what goes over it is proved without its rows.
+fn runs() -> &'static [(&'static str, Shape, usize, usize, usize)] {
+    RUNS
+}
+
 // This is told of a run.
 fn expect_run(rt: &impl Abort, told: Told, wanted: Told, row: &str) {
     expect_count(rt, told.refused as u64, wanted.refused as u64, row);
@@ -288,7 +293,7 @@ fn expect_run(rt: &impl Abort, told: Told, wanted: Told, row: &str) {
 #[test]
 fn no_size_wants_memory(rt: HostRuntime) -> Result<(), Fail> {
     let heap = unlimited(&rt);
-    for (row, shape, refused, given, bytes) in &RUNS {
+    for (row, shape, refused, given, bytes) in runs() {
         let wanted = Told {
             refused: *refused,
             misses: 0,

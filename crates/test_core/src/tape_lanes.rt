@@ -304,7 +304,7 @@ impl Script for Row {
 
 // The items before, the lead, how far back the cursor begins, the room under `Latest`, the error mode, the first request, the
 // script, and what is told.
-const ROWS: [(
+const ROWS: &[(
     &str,
     Option<u8>,
     usize,
@@ -313,7 +313,7 @@ const ROWS: [(
     u32,
     &str,
     &str,
-); 13] = [
+)] = &[
     (
         "",
         None,
@@ -383,9 +383,23 @@ const ROWS: [(
     ),
 ];
 
+// Hands the table out, so that what goes over it is proved without its rows.
+fn rows() -> &'static [(
+    &'static str,
+    Option<u8>,
+    usize,
+    Option<u16>,
+    Errors,
+    u32,
+    &'static str,
+    &'static str,
+)] {
+    ROWS
+}
+
 #[test]
 fn tape_lane_call_by_call(rt: HostRuntime) -> Result<(), Fail> {
-    for (before, lead, back, room, errors, first, script, wanted) in &ROWS {
+    for (before, lead, back, room, errors, first, script, wanted) in rows() {
         for who in [None, Some(7)] {
             let row = Row {
                 who,

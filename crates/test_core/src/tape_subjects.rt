@@ -6,7 +6,7 @@ ghost use Rattle.std.specs.Prelude.{◌≤◌, length};
 use crate::expectations::expect_count;
 use crate::heaps::unlimited;
 use crate::in_turn::{Script, expect_in_turn};
-use crate::subjects::{ROWS, is_memory, put_end, put_item, put_offered};
+use crate::subjects::{is_memory, put_end, put_item, put_offered, rows};
 use crate::tapes::cursor_of;
 use rx_heap::{Heap, Memory};
 use rx_note::Note;
@@ -220,7 +220,7 @@ fn is_within(heap: &Heap, named: Named) -> Result<bool, Memory> {
 #[test]
 fn tape_subject_call_by_call(rt: HostRuntime) -> Result<(), Fail> {
     let heap = unlimited(&rt);
-    for (named, script, wanted) in &ROWS {
+    for (named, script, wanted) in rows() {
         if is_within(&heap, *named)? {
             let row = Row {
                 named: *named,

@@ -22,8 +22,18 @@ use test_kit::Told;
 const FOUR: &[u8] =
     b"[[subject]]\nname = \"s\"\nkind = \"publish\"\n[pool]\nworkers = 4\nconnections = 40\n";
 
+// Hands it out, so that who serves by it is proved without its bytes.
+fn four() -> &'static [u8] {
+    FOUR
+}
+
 // One of each.
 const ONE_DESK: &[u8] = b"[[subject]]\nname = \"s\"\nkind = \"publish\"\n[pool]\nworkers = 1\n";
+
+// Hands it out, so that who serves by it is proved without its bytes.
+fn one_desk() -> &'static [u8] {
+    ONE_DESK
+}
 
 // How many connections there are.
 const CONNECTIONS: usize = 40;
@@ -216,7 +226,7 @@ struct Run {
 fn run_of<R: Host>(rt: &R, faults: Faults) -> Run {
     let heap = Heap::unlimited(rt.alloc());
     let page = page_of(rt);
-    let mut server: Server<ClientSink<Clerk<R>>> = started(rt, &heap, FOUR);
+    let mut server: Server<ClientSink<Clerk<R>>> = started(rt, &heap, four());
     let mut first = caller_of(rt, &mut server);
     let clerk = clerk_on(rt, &page).expect(rt, "a clerk");
     let sink = ClientSink::Lines(LineSink::new(clerk, Version::Two));
@@ -254,7 +264,7 @@ fn a_listener_that_fails(rt: HostRuntime) {
 fn no_desk_is_left(rt: HostRuntime) {
     let heap = Heap::unlimited(rt.alloc());
     let page = page_of(&rt);
-    let mut server: Server<ClientSink<Clerk<HostRuntime>>> = started(&rt, &heap, ONE_DESK);
+    let mut server: Server<ClientSink<Clerk<HostRuntime>>> = started(&rt, &heap, one_desk());
     let only = caller_of(&rt, &mut server);
     let served = server.serve(&rt, &mut peers_of(&rt, &page, NO_FAULT), Still);
     assert_eq!(&rt; served, Err(ServeFault::NoDesk));

@@ -7,7 +7,7 @@ ghost use Rattle.rx_server.specs.Servers.{IsEndOf};
 
 use crate::callers::{Caller, caller_of};
 use crate::expectations::{expect_answer, expect_count, expect_that};
-use crate::servers::{Host, TWO_OF_EACH, closed, config_of, copy, started};
+use crate::servers::{Host, closed, config_of, copy, started, two_of_each};
 use crate::starts::Ration;
 use rx_drain::MemorySink;
 use rx_heap::Heap;
@@ -19,6 +19,11 @@ use std::sync::Wait;
 
 // One subject, for one desk.
 const ONE: &[u8] = b"[[subject]]\nname = \"s\"\nkind = \"publish\"\n[pool]\nworkers = 1\n";
+
+// Hands it out, so that who serves by it is proved without its bytes.
+fn one_config() -> &'static [u8] {
+    ONE
+}
 
 // How many items are posted together, and how often.
 const ITEMS: u64 = 32;
@@ -132,7 +137,7 @@ fn emit_to_many(
 #[test]
 fn a_first_beyond_the_window(rt: HostRuntime) {
     let heap = Heap::unlimited(rt.alloc());
-    let mut server = started(&rt, &heap, ONE);
+    let mut server = started(&rt, &heap, one_config());
     let ended = emit_to_many(&rt, &heap, &mut server);
     let report = closed(&rt, server, ended);
     expect_count(
@@ -145,7 +150,7 @@ fn a_first_beyond_the_window(rt: HostRuntime) {
 
 // Why a server is not closed whose first desk was let go with calls that no answer was taken to. Its subject goes on for the second.
 fn fault_without_a_first(rt: &impl Host, heap: &Heap) -> CloseFault {
-    let mut server: Server<MemorySink> = started(rt, heap, TWO_OF_EACH);
+    let mut server: Server<MemorySink> = started(rt, heap, two_of_each());
     let mut first = caller_of(rt, &mut server);
     let _posted = post_some(rt, heap, &mut first, 0);
     drop(first);
@@ -184,7 +189,7 @@ fn at_work(rt: &impl Host, heap: &Heap, server: &mut Server<MemorySink>) -> Call
 // Lets a server and a desk of it go, in one order or the other, and answers whether each thread ended.
 fn all_end(rt: &impl Host, heap: &Heap, desk_goes_first: bool) -> bool {
     let host = (rt.clone().expect(rt, "a handle"), Ration::of(rt, THREADS));
-    let config = config_of(rt, heap, TWO_OF_EACH);
+    let config = config_of(rt, heap, two_of_each());
     let Ok(mut server) = start(&host, copy(rt, heap), config) else {
         return false;
     };
@@ -246,7 +251,7 @@ fn join_each(rt: &(impl Wait + Abort), heap: &Heap, caller: &mut Caller<MemorySi
 fn what_was_answered_is_served_at_a_close(rt: HostRuntime) {
     let heap = Heap::unlimited(rt.alloc());
     for _ in 0..CLOSES {
-        let mut server = started(&rt, &heap, TWO_OF_EACH);
+        let mut server = started(&rt, &heap, two_of_each());
         let ended = emit_and_end(&rt, &heap, &mut server);
         let report = closed(&rt, server, ended);
         expect_count(&rt, report.taken, 2 * ITEMS, "taken");

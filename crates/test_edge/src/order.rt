@@ -29,6 +29,11 @@ use test_kit::{note_of, policy_by, rules_of, text_of};
 const CONFIG: &[u8] =
     b"[[subject]]\nname = \"s\"\nkind = \"replay\"\ncount = 5\n[pool]\nworkers = 3\ndrainers = 2\n";
 
+// Hands it out, so that who serves by it is proved without its bytes.
+fn configuration() -> &'static [u8] {
+    CONFIG
+}
+
 const COUNT: u16 = 5;
 
 // The last round has no item, but the end.
@@ -298,7 +303,7 @@ fn go_all(
 
 // The report of a server after that.
 fn report_of(rt: &impl Host, heap: &Heap) -> Result<Report<Ledger>, Fail> {
-    let mut server = started::<Ledger>(rt, heap, CONFIG);
+    let mut server = started::<Ledger>(rt, heap, configuration());
     let callers = Callers {
         first: caller_of(rt, &mut server),
         second: caller_of(rt, &mut server),

@@ -45,13 +45,28 @@ pub(crate) fn copy(rt: &impl Abort, alloc: &Heap) -> Heap {
 // One subject, for two desks.
 const TWO_DESKS: &[u8] = b"[[subject]]\nname = \"s\"\nkind = \"publish\"\n[pool]\nworkers = 2\n";
 
+// Hands it out, so that who serves by it is proved without its bytes.
+fn two_desks() -> &'static [u8] {
+    TWO_DESKS
+}
+
 // One subject, with two drainers.
 const TWO_DRAINERS: &[u8] =
     b"[[subject]]\nname = \"s\"\nkind = \"publish\"\n[pool]\nworkers = 1\ndrainers = 2\n";
 
+// Hands it out, so that who serves by it is proved without its bytes.
+fn two_drainers() -> &'static [u8] {
+    TWO_DRAINERS
+}
+
 // Two subjects with two drainers, for two desks.
-pub(crate) const TWO_OF_EACH: &[u8] =
+const TWO_OF_EACH: &[u8] =
     b"[[subject]]\nname = \"s\"\nkind = \"publish\"\n[[subject]]\nname = \"t\"\nkind = \"publish\"\n[pool]\nworkers = 2\ndrainers = 2\n";
+
+// Hands it out, so that who serves by it is proved without its bytes.
+pub(crate) fn two_of_each() -> &'static [u8] {
+    TWO_OF_EACH
+}
 
 // The configuration that this text says.
 pub(crate) fn config_of(rt: &impl Host, heap: &Heap, text: &[u8]) -> Config {
@@ -154,7 +169,7 @@ fn emit_by_two(
 
 // The report of a server after that.
 fn report_of_two_desks(rt: &impl Host, heap: &Heap, bytes: &[u8]) -> Report<MemorySink> {
-    let mut server = started(rt, heap, TWO_DESKS);
+    let mut server = started(rt, heap, two_desks());
     let ended = emit_by_two(rt, heap, &mut server, bytes);
     closed(rt, server, ended)
 }
@@ -246,7 +261,7 @@ fn report_of_two_drainers<R: Host>(
     heap: &Heap,
     come: &Arc<AtomicU64, Global>,
 ) -> Report<Meeting<R>> {
-    let mut server = started(rt, heap, TWO_DRAINERS);
+    let mut server = started(rt, heap, two_drainers());
     let ended = emit_to_both(rt, heap, &mut server, come);
     closed(rt, server, ended)
 }
@@ -348,7 +363,7 @@ fn told_of_fault(cause: StartCause) -> Told {
 
 // What is told of a server that grows by `tight`.
 fn told_of(rt: &impl Host, free: &Heap, tight: &Heap) -> Told {
-    match start(rt, copy(rt, tight), config_of(rt, free, TWO_OF_EACH)) {
+    match start(rt, copy(rt, tight), config_of(rt, free, two_of_each())) {
         Ok(server) => told_of_server(rt, free, tight, server),
         Err(fault) => told_of_fault(fault.cause),
     }

@@ -22,6 +22,11 @@ use test_kit::Told;
 const ONE_PLACE: &[u8] =
     b"[[subject]]\nname = \"s\"\nkind = \"publish\"\nobservers = 1\n[pool]\nworkers = 1\n";
 
+// Hands it out, so that who serves by it is proved without its bytes.
+fn one_place() -> &'static [u8] {
+    ONE_PLACE
+}
+
 /// Takes all that is written, and keeps nothing.
 #[derive(Drop)]
 struct Deaf;
@@ -144,9 +149,9 @@ const STEPS: [(&str, &str); 4] = [
 #[test]
 fn calls_of_a_session_reach_the_subject(rt: HostRuntime) {
     let heap = Heap::unlimited(rt.alloc());
-    let config = config_of(&rt, &heap, ONE_PLACE);
+    let config = config_of(&rt, &heap, one_place());
     for (steps, wanted) in &STEPS {
-        let mut server: Server<ClientSink<Deaf>> = started(&rt, &heap, ONE_PLACE);
+        let mut server: Server<ClientSink<Deaf>> = started(&rt, &heap, one_place());
         let calls = desk_of(&rt, &mut server, &config);
         let mut desk = SessionDesk::new(&rt, &heap, calls, &config, Still);
         let told = told_steps(&rt, &heap, &mut desk, steps.as_bytes());
@@ -194,8 +199,8 @@ fn box_with(rt: &(impl Wait + Abort), heap: &Heap, connections: u64) -> Inbox<(Q
 fn a_worker_serves_what_came(rt: HostRuntime) {
     let heap = Heap::unlimited(rt.alloc());
     for connections in [0, 1, 3] {
-        let config = config_of(&rt, &heap, ONE_PLACE);
-        let mut server: Server<ClientSink<Deaf>> = started(&rt, &heap, ONE_PLACE);
+        let config = config_of(&rt, &heap, one_place());
+        let mut server: Server<ClientSink<Deaf>> = started(&rt, &heap, one_place());
         let calls = desk_of(&rt, &mut server, &config);
         let inbox = box_with(&rt, &heap, connections);
         let config = Arc::new(copy(&rt, &heap), config).expect(&rt, "memory");

@@ -7,7 +7,7 @@ ghost use Rattle.rx_server.specs.Servers.{IsDeskOf, IsEndOf};
 
 use crate::callers::caller_of;
 use crate::expectations::{expect_count, expect_that, expect_told};
-use crate::servers::{Host, TWO_OF_EACH, closed, config_of, copy, started};
+use crate::servers::{Host, closed, config_of, copy, started, two_of_each};
 use rx_drain::MemorySink;
 use rx_heap::Heap;
 use rx_pump::EndedDesk;
@@ -49,7 +49,7 @@ fn told_of_growths(rt: &impl Host, free: &Heap) -> Told {
     let mut last = None;
     for growth in 0..MAX_GROWTHS {
         let tight = Heap::refusing(rt.alloc(), growth).expect(rt, "a budget");
-        let config = config_of(rt, free, TWO_OF_EACH);
+        let config = config_of(rt, free, two_of_each());
         match start::<MemorySink, _>(rt, copy(rt, &tight), config) {
             Ok(server) => {
                 drop(closed(rt, server, Vec::new(copy(rt, free))));
@@ -131,7 +131,7 @@ impl Ration {
 fn told_with_threads<R: Host>(rt: &R, free: &Heap, threads: u64) -> Told {
     let host = (rt.clone().expect(rt, "a handle"), Ration::of(rt, threads));
     let mut told = Told::new();
-    let config = config_of(rt, free, TWO_OF_EACH);
+    let config = config_of(rt, free, two_of_each());
     match start::<MemorySink, _>(&host, copy(rt, free), config) {
         Ok(server) => drop(closed(rt, server, Vec::new(copy(rt, free)))),
         Err(fault) => put_fault(&mut told, fault),
@@ -166,7 +166,7 @@ fn both_ended(
 fn close_asks_for_no_memory(rt: HostRuntime) {
     let free = Heap::unlimited(rt.alloc());
     let counted = Heap::refusing(rt.alloc(), MAX_GROWTHS).expect(&rt, "a budget");
-    let mut server = started(&rt, &counted, TWO_OF_EACH);
+    let mut server = started(&rt, &counted, two_of_each());
     let ended = both_ended(&rt, &free, &mut server);
     let asked = counted.asked();
     drop(closed(&rt, server, ended));

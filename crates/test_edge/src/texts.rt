@@ -1,10 +1,6 @@
-//! What the faults of a server and of the program say to a person.
+//! What the faults of a server say to a person.
 
-use crate::expectations::expect_told;
-use rx_program::{ProgramFault, tell};
-use rx_server::{
-    AcceptStop, CloseCause, CloseFault, ConfigError, Role, ServeFault, StartCause, StartFault,
-};
+use rx_server::{AcceptStop, CloseCause, CloseFault, Role, ServeFault, StartCause, StartFault};
 use std::alloc::Global;
 use std::fmt::Display;
 use std::process::Abort;
@@ -71,54 +67,4 @@ fn close_fault(thread: Role, index: usize) -> CloseFault {
         index,
         cause: CloseCause::Ended,
     }
-}
-
-// What is told of a fault, and the line of it.
-fn expect_line(
-    rt: &impl Abort,
-    alloc: Global,
-    fault: ProgramFault,
-    text: &str,
-) -> Result<(), Fail> {
-    expect_text(rt, alloc, &fault, text)?;
-    let mut told = Vec::new(alloc);
-    tell(fault, &mut told)?;
-    let line = format!(in alloc; "rxline: {text}\n")?;
-    expect_told(rt, told.as_slice(), line.as_str(), text);
-    Ok(())
-}
-
-#[test]
-fn texts_of_the_programs_faults(rt: HostRuntime) -> Result<(), Fail> {
-    let alloc = rt.alloc();
-    for (fault, text) in &[
-        (ProgramFault::NoConfig, "cannot read config"),
-        (
-            ProgramFault::Config(ConfigError::NoSubject),
-            "config: no subject",
-        ),
-        (
-            ProgramFault::Config(ConfigError::BadSubject(usize::MAX)),
-            "config: subject 18446744073709551615 is refused",
-        ),
-        (ProgramFault::Read, "read fault"),
-        (ProgramFault::Write, "write fault"),
-        (ProgramFault::TooManyReads, "too many reads"),
-        (ProgramFault::Memory, "out of memory"),
-        (ProgramFault::Listen, "cannot listen"),
-        (
-            ProgramFault::Start(start_fault(Role::Worker, 3)),
-            "cannot start worker 3",
-        ),
-        (ProgramFault::Accept, "accept fault"),
-        (ProgramFault::Serve, "serve fault"),
-        (
-            ProgramFault::Close(close_fault(Role::Drainer, 1)),
-            "close fault: drainer 1",
-        ),
-        (ProgramFault::NoHttp, "no answer by HTTP"),
-    ] {
-        expect_line(&rt, alloc, *fault, text)?;
-    }
-    Ok(())
 }

@@ -7,7 +7,7 @@ ghost use Rattle.rx_server.specs.Servers.{IsDeskOf, IsEndOf};
 
 use crate::callers::{Caller, caller_of, emit_all};
 use crate::expectations::{expect_count, expect_that};
-use crate::servers::{Host, TWO_OF_EACH, closed, copy, expect_items, expect_subject, started};
+use crate::servers::{Host, closed, copy, expect_items, expect_subject, started, two_of_each};
 use rx_drain::MemorySink;
 use rx_heap::Heap;
 use rx_note::Answer;
@@ -23,6 +23,11 @@ use std::time::{Clock, Duration};
 // Two subjects with two drainers, for three desks.
 const THREE_DESKS: &[u8] =
     b"[[subject]]\nname = \"s\"\nkind = \"publish\"\n[[subject]]\nname = \"t\"\nkind = \"replay\"\n[pool]\nworkers = 3\ndrainers = 2\n";
+
+// Hands it out, so that who serves by it is proved without its bytes.
+fn three_desks_config() -> &'static [u8] {
+    THREE_DESKS
+}
 
 // How many desks wait for one another, and how often one looks for the others, a millisecond apart.
 const DESKS: u64 = 3;
@@ -118,7 +123,7 @@ fn emit_by_three(
 
 // The report of a server after that.
 fn report_of_three_desks(rt: &impl Host, heap: &Heap) -> Report<MemorySink> {
-    let mut server = started(rt, heap, THREE_DESKS);
+    let mut server = started(rt, heap, three_desks_config());
     let ended = emit_by_three(rt, heap, &mut server);
     closed(rt, server, ended)
 }
@@ -159,7 +164,7 @@ fn three_desks_two_subjects(rt: HostRuntime) {
 
 // Why a server is not closed of which a desk was handed out, but is not handed in.
 fn fault_without_a_desk(rt: &impl Host, heap: &Heap) -> CloseFault {
-    let mut server: Server<MemorySink> = started(rt, heap, TWO_OF_EACH);
+    let mut server: Server<MemorySink> = started(rt, heap, two_of_each());
     let kept = caller_of(rt, &mut server).finish(rt);
     let closed = server.close(rt, Vec::new(copy(rt, heap)));
     drop(kept);

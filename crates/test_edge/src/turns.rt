@@ -4,11 +4,11 @@
 use crate::expectations::{expect_count, expect_that, expect_told};
 use crate::servers::{Host, closed, config_of, copy};
 use rx_heap::Heap;
-use rx_program::WatchLog;
 use rx_server::{
-    AcceptFault, Aim, ClientSink, Idle, Listener, Moments, Readiness, Ready, ServeFault, Server,
-    Waker, Watch, WatchFault, start,
+    AcceptFault, Aim, ClientSink, Idle, Joined, Listener, Moments, Readiness, Ready, ServeFault,
+    Server, Waker, Watch, WatchFault, start,
 };
+use rx_workers::WatchLog;
 use std::alloc::Global;
 use std::io::{self, ErrorKind, Read, Write};
 use std::process::Abort;
@@ -19,6 +19,11 @@ use test_kit::Told;
 const ONE: &[u8] =
     b"[[subject]]\nname = \"s\"\nkind = \"publish\"\n[pool]\nworkers = 1\nconnections = 3\n";
 
+// Hands it out, so that who serves by it is proved without its bytes.
+fn one() -> &'static [u8] {
+    ONE
+}
+
 // What each peer sends.
 const SENT: [&[u8]; 3] = [
     b"PUB s a\nNOPE\nQUIT\nPUB s b\n",
@@ -28,6 +33,11 @@ const SENT: [&[u8]; 3] = [
 
 // What all are answered, each behind the one before.
 const ANSWERED: &str = "OK\nERR SYNTAX\nOK\n|ERR SUBJECT\nOK\n|OK\nOK\nERR VERSION\nOK\n|";
+
+// Hands it out, so that who serves by it is proved without its bytes.
+fn answered_text() -> &'static str {
+    ANSWERED
+}
 
 // The same where one is given up, or all are, or none: without the list of what a desk began its items go one by one.
 const GIVEN_UP: [&[u8]; 6] = [
@@ -143,7 +153,7 @@ impl Drop for Everyone {
 }
 
 impl<C> Readiness<C> for Everyone {
-    ghost use Rattle.rx_program.specs.WatchLogs.{watched_by};
+    ghost use Rattle.rx_workers.specs.WatchLogs.{watched_by};
 
     ghost watched = { λ e. watched_by e.log };
 
@@ -160,6 +170,8 @@ impl<C> Readiness<C> for Everyone {
     }
 
     fn again(&mut self, _key: usize) {}
+
+    fn name(&mut self, _connection: &C, _observer: Joined) {}
 
     fn forget(&mut self, _connection: &C, key: usize) {
         self.log = self.log.and(key, None);
@@ -296,7 +308,7 @@ fn serve_peers<R: Host>(
 // What all peers of a server were answered that grows by `tight`: `!` where it was not started, `M` where none was accepted.
 fn told_of<R: Host>(rt: &R, free: &Heap, tight: &Heap) -> Told {
     let mut told = Told::new();
-    let Ok(server) = start(rt, copy(rt, tight), config_of(rt, free, ONE)) else {
+    let Ok(server) = start(rt, copy(rt, tight), config_of(rt, free, one())) else {
         told.put(b'!');
         return told;
     };
@@ -321,7 +333,7 @@ fn meets_refusal<R: Host>(rt: &R, free: &Heap, growth: u64) -> bool {
         assert!(rt; is_known, "growth {growth}");
         return true;
     }
-    expect_told(rt, told.as_bytes(), ANSWERED, "no growth refused");
+    expect_told(rt, told.as_bytes(), answered_text(), "no growth refused");
     expect_count(rt, tight.used(), 0, "bytes that were not given back");
     false
 }
@@ -330,7 +342,7 @@ fn meets_refusal<R: Host>(rt: &R, free: &Heap, growth: u64) -> bool {
 fn sessions_have_their_turns(rt: HostRuntime) {
     let free = Heap::unlimited(rt.alloc());
     let told = told_of(&rt, &free, &Heap::unlimited(rt.alloc()));
-    expect_told(&rt, told.as_bytes(), ANSWERED, "each by turns");
+    expect_told(&rt, told.as_bytes(), answered_text(), "each by turns");
 }
 
 #[test]

@@ -59,6 +59,8 @@ impl Front<Page> for Clerk {
 
     ghost shows = { λ old form shown new. Unit {0} };
 
+    ghost stops = { λ old within stopped new. Unit {0} };
+
     fn epoch(&self) -> &Epoch {
         &self.epoch
     }
@@ -141,6 +143,14 @@ impl Front<Page> for Clerk {
         match Vec::from_slice(alloc, body) {
             Ok(bytes) => Document::new(bytes).ok_or(Refusal::Memory),
             Err(_) => Err(Refusal::Memory),
+        }
+    }
+
+    fn stop(&mut self, within: u32) -> Result<(), Refusal> {
+        self.asked = self.asked.saturating_add(within);
+        match self.refuses {
+            Some(cause) => Err(cause),
+            None => Ok(()),
         }
     }
 }

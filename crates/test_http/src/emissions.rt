@@ -10,7 +10,7 @@ use std::io::ErrorKind;
 use std::test::Fail;
 
 /// Connections that emit: what is emitted, and what the server answers that accepts it.
-const EMITTED: [(&[u8], NoteKind, &[u8], Answered); 8] = [
+const EMITTED: &[(&[u8], NoteKind, &[u8], Answered)] = &[
     (
         b"POST /subjects/trades HTTP/1.1\r\nContent-Length: 5\r\n\r\nhello",
         NoteKind::Next,
@@ -61,10 +61,15 @@ const EMITTED: [(&[u8], NoteKind, &[u8], Answered); 8] = [
     ),
 ];
 
+// Hands the table out, so that what goes over it is proved without its rows.
+fn emitted_table() -> &'static [(&'static [u8], NoteKind, &'static [u8], Answered)] {
+    EMITTED
+}
+
 #[test]
 fn emitted_at_each_cut(rt: HostRuntime) -> Result<(), Fail> {
     let heap = Heap::unlimited(rt.alloc());
-    for (i, (bytes, kind, text, told)) in EMITTED.iter().enumerate() {
+    for (i, (bytes, kind, text, told)) in emitted_table().iter().enumerate() {
         for step in 1..=bytes.len() {
             let mut drips = Drips::new(bytes, step);
             if step % 2 == 0 {

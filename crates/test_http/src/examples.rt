@@ -11,7 +11,7 @@ struct Example {
     messages: &'static [(&'static [u8], &'static [u8], &'static [u8])],
 }
 
-const EXAMPLES: [Example; 7] = [
+const EXAMPLES: &[Example] = &[
     Example {
         name: "three_lines_are_one_text",
         stream: b"data: YHOO\ndata: +2\ndata: 10\n\n",
@@ -56,10 +56,15 @@ const EXAMPLES: [Example; 7] = [
     },
 ];
 
+// Hands the table out, so that what goes over it is proved without its rows.
+fn examples() -> &'static [Example] {
+    EXAMPLES
+}
+
 #[test]
 fn examples_of_the_standard(rt: HostRuntime) -> Result<(), Fail> {
     let heap = Heap::unlimited(rt.alloc());
-    for example in &EXAMPLES {
+    for example in examples() {
         let reader = read(&heap, b"", example.stream)?;
         assert_eq!(rt;
             reader.messages.len(),

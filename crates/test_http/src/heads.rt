@@ -6,7 +6,7 @@ use rx_http::{HeadFound, HeadReader, MAX_HEAD};
 use std::test::Fail;
 
 /// Bytes of a connection, and what of a head is among them.
-const ROWS: [(&[u8], HeadFound); 11] = [
+const ROWS: &[(&[u8], HeadFound)] = &[
     (b"", HeadFound::Partly),
     (b"GET / HTTP/1.1\r\n\r\n", HeadFound::Whole(18)),
     (b"GET / HTTP/1.1\r\nA: b\r\n\r\nbody", HeadFound::Whole(24)),
@@ -19,6 +19,11 @@ const ROWS: [(&[u8], HeadFound); 11] = [
     (b"GET / HTTP/1.1\r\n\r\r\n", HeadFound::Partly),
     (b"GET / HTTP/1.1\r\r\n", HeadFound::Partly),
 ];
+
+// Hands the table out, so that what goes over it is proved without its rows.
+fn rows() -> &'static [(&'static [u8], HeadFound)] {
+    ROWS
+}
 
 // More reads than any row takes.
 const MOST_READS: u32 = 10_000;
@@ -40,7 +45,7 @@ fn gather(head: &mut HeadReader, drips: &mut Drips<'_>) -> Result<HeadFound, Fai
 
 #[test]
 fn heads_cut_at_each_byte(rt: HostRuntime) -> Result<(), Fail> {
-    for (i, (bytes, found)) in ROWS.iter().enumerate() {
+    for (i, (bytes, found)) in rows().iter().enumerate() {
         for step in 1..=bytes.len() {
             let mut drips = Drips::new(bytes, step);
             let mut head = HeadReader::new();

@@ -1,12 +1,12 @@
 //! Heads of requests by POST: what each asks for, or why it is refused.
 
 use crate::requests::Wanted;
-use rx_heap::Heap;
+use rx_heap::{Heap, Memory};
 use rx_http::{NoteKind, Refusal, read_request};
 use std::test::Fail;
 
 /// Requests by POST, by what stands behind the path of the subjects, and their fields.
-const POSTS: [(&[u8], &[u8], Wanted); 33] = [
+const POSTS: &[(&[u8], &[u8], Wanted)] = &[
     (b"trades", b"", Wanted::Emitted(NoteKind::Next, 0)),
     (
         b"trades",
@@ -154,22 +154,71 @@ const POSTS: [(&[u8], &[u8], Wanted); 33] = [
     (b"trades/observers", b"", Wanted::Refused(Refusal::Subject)),
 ];
 
+// Hands the table out, so that what goes over it is proved without its rows.
+fn posts_table() -> &'static [(&'static [u8], &'static [u8], Wanted)] {
+    POSTS
+}
+
 #[test]
 fn posts(rt: HostRuntime) -> Result<(), Fail> {
     let heap = Heap::unlimited(rt.alloc());
-    for (i, (rest, fields, wanted)) in POSTS.iter().enumerate() {
-        let mut head = Vec::from_slice(heap.clone()?, b"POST /subjects/")?;
-        head.extend_from_slice(rest)?;
-        head.extend_from_slice(b" HTTP/1.1\r\nHost: localhost\r\n")?;
-        head.extend_from_slice(fields)?;
-        if !fields.is_empty() {
-            head.extend_from_slice(b"\r\n")?;
-        }
-        head.extend_from_slice(b"\r\n")?;
+    for (i, (rest, fields, wanted)) in posts_table().iter().enumerate() {
+        let head = post_of(&heap, b"POST /subjects/", rest, fields)?;
         assert!(rt;
             read_request(head.as_slice()) == wanted.asked()?,
             "post {i}"
         );
     }
     Ok(())
+}
+
+/// Stops, by what stands behind their path, and their fields.
+const STOPS: &[(&[u8], &[u8], Wanted)] = &[
+    (b"", b"", Wanted::Stopped(10)),
+    (b"?", b"Content-Length: x", Wanted::Stopped(10)),
+    (b"?within=0", b"", Wanted::Stopped(0)),
+    (
+        b"?x&within=3600",
+        b"Origin: http://localhost",
+        Wanted::Stopped(3_600),
+    ),
+    (b"?within=3601", b"", Wanted::Refused(Refusal::Within)),
+    (b"?within=", b"", Wanted::Refused(Refusal::Within)),
+    (b"?within=010", b"", Wanted::Refused(Refusal::Within)),
+    (
+        b"?within=x",
+        b"Origin: null",
+        Wanted::Refused(Refusal::Origin),
+    ),
+];
+
+// Hands the table out, so that what goes over it is proved without its rows.
+fn stops_table() -> &'static [(&'static [u8], &'static [u8], Wanted)] {
+    STOPS
+}
+
+#[test]
+fn stops(rt: HostRuntime) -> Result<(), Fail> {
+    let heap = Heap::unlimited(rt.alloc());
+    for (i, (rest, fields, wanted)) in stops_table().iter().enumerate() {
+        let head = post_of(&heap, b"POST /stop", rest, fields)?;
+        assert!(rt;
+            read_request(head.as_slice()) == wanted.asked()?,
+            "stop {i}"
+        );
+    }
+    Ok(())
+}
+
+// The head of a request with this begin, what stands behind it, and these fields.
+fn post_of(heap: &Heap, begin: &[u8], rest: &[u8], fields: &[u8]) -> Result<Vec<u8, Heap>, Memory> {
+    let mut head = Vec::from_slice(heap.clone()?, begin)?;
+    head.extend_from_slice(rest)?;
+    head.extend_from_slice(b" HTTP/1.1\r\nHost: localhost\r\n")?;
+    head.extend_from_slice(fields)?;
+    if !fields.is_empty() {
+        head.extend_from_slice(b"\r\n")?;
+    }
+    head.extend_from_slice(b"\r\n")?;
+    Ok(head)
 }

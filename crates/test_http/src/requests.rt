@@ -16,6 +16,8 @@ pub(crate) enum Wanted {
     Knowing(&'static [u8], Option<u32>, bool),
     /// The same by a reader that asks for its items itself, and is owed so many at first.
     Asking(u32),
+    /// The same by a reader that wants an item in so many milliseconds at most.
+    Paced(u32),
     /// A note for `trades`, with a body of so many bytes.
     Emitted(NoteKind, u32),
     /// Items for the observer of `trades` of this epoch and number, so many.
@@ -23,6 +25,8 @@ pub(crate) enum Wanted {
     /// What is seen, in this form.
     Looked(LookForm),
     Health,
+    /// A stop within so many seconds.
+    Stopped(u32),
     Refused(Refusal),
 }
 
@@ -47,6 +51,15 @@ impl Wanted {
                 let credit = Credit {
                     window: *window,
                     asked: true,
+                    pace: 0,
+                };
+                events(Strategy::Buffer, Errors::Delay, credit, None)
+            }
+            Wanted::Paced(pace) => {
+                let credit = Credit {
+                    window: 16,
+                    asked: false,
+                    pace: *pace,
                 };
                 events(Strategy::Buffer, Errors::Delay, credit, None)
             }
@@ -69,6 +82,7 @@ impl Wanted {
                 }))
             }
             Wanted::Health => Ok(Ok(Asked::Health)),
+            Wanted::Stopped(within) => Ok(Ok(Asked::Stop { within: *within })),
             Wanted::Refused(cause) => Ok(Err(*cause)),
         }
     }
@@ -78,6 +92,7 @@ fn by_socket(window: u32) -> Credit {
     Credit {
         window,
         asked: false,
+        pace: 0,
     }
 }
 
@@ -98,7 +113,7 @@ fn events(
 }
 
 /// Requests by GET, by their targets.
-const TARGETS: [(&[u8], Wanted); 22] = [
+const TARGETS: &[(&[u8], Wanted)] = &[
     (b"/", Wanted::Looked(LookForm::Page)),
     (b"/?x", Wanted::Looked(LookForm::Page)),
     (b"/stats", Wanted::Looked(LookForm::Stats)),
@@ -106,6 +121,9 @@ const TARGETS: [(&[u8], Wanted); 22] = [
     (b"/metrics", Wanted::Looked(LookForm::Metrics)),
     (b"/subjects/trades?credit=asked&window=1", Wanted::Asking(1)),
     (b"/subjects/trades?credit=socket", PLAIN),
+    (b"/subjects/trades?pace=1", Wanted::Paced(1)),
+    (b"/subjects/trades?pace=60000", Wanted::Paced(60_000)),
+    (b"/subjects/trades?pace=0", PLAIN),
     (b"/healthz", Wanted::Health),
     (b"/healthz?strategy=NONE", Wanted::Health),
     (b"/subjects/trades", PLAIN),
@@ -147,8 +165,13 @@ const TARGETS: [(&[u8], Wanted); 22] = [
     (b"/subjects/trades?last-event-id=", PLAIN),
 ];
 
+// Hands the table out, so that what goes over it is proved without its rows.
+fn targets_table() -> &'static [(&'static [u8], Wanted)] {
+    TARGETS
+}
+
 /// Such requests that are refused.
-const REFUSED: [(&[u8], Refusal); 24] = [
+const REFUSED: &[(&[u8], Refusal)] = &[
     (b"/subjects/trades?credit=", Refusal::Word),
     (b"/subjects/trades?credit=ASKED", Refusal::Word),
     (b"/stats.text", Refusal::Path),
@@ -165,6 +188,9 @@ const REFUSED: [(&[u8], Refusal); 24] = [
     ),
     (b"/subjects/trades?errors=NEVER", Refusal::Word),
     (b"/subjects/trades?window=0", Refusal::Word),
+    (b"/subjects/trades?pace=60001", Refusal::Word),
+    (b"/subjects/trades?pace=", Refusal::Word),
+    (b"/subjects/trades?pace=1s", Refusal::Word),
     (b"/subjects/trades?window=17", Refusal::Word),
     (b"/subjects/trades?last-event-id=19c0", Refusal::LastEventId),
     (
@@ -193,6 +219,11 @@ const REFUSED: [(&[u8], Refusal); 24] = [
     (b"/nowhere?errors=NEVER", Refusal::Path),
 ];
 
+// Hands the table out, so that what goes over it is proved without its rows.
+fn refused_table() -> &'static [(&'static [u8], Refusal)] {
+    REFUSED
+}
+
 // The head of a request by GET.
 fn head_to(heap: &Heap, target: &[u8]) -> Result<Vec<u8, Heap>, Memory> {
     let mut head = Vec::from_slice(heap.clone()?, b"GET ")?;
@@ -204,7 +235,7 @@ fn head_to(heap: &Heap, target: &[u8]) -> Result<Vec<u8, Heap>, Memory> {
 #[test]
 fn targets(rt: HostRuntime) -> Result<(), Fail> {
     let heap = Heap::unlimited(rt.alloc());
-    for (i, (target, wanted)) in TARGETS.iter().enumerate() {
+    for (i, (target, wanted)) in targets_table().iter().enumerate() {
         let head = head_to(&heap, target)?;
         assert!(rt;
             read_request(head.as_slice()) == wanted.asked()?,
@@ -217,7 +248,7 @@ fn targets(rt: HostRuntime) -> Result<(), Fail> {
 #[test]
 fn targets_refused(rt: HostRuntime) -> Result<(), Fail> {
     let heap = Heap::unlimited(rt.alloc());
-    for (i, (target, cause)) in REFUSED.iter().enumerate() {
+    for (i, (target, cause)) in refused_table().iter().enumerate() {
         let head = head_to(&heap, target)?;
         assert!(rt; read_request(head.as_slice()) == Err(*cause), "target {i}");
     }
@@ -242,7 +273,7 @@ fn ids(rt: HostRuntime) -> Result<(), Fail> {
 }
 
 /// Whole heads.
-const HEADS: [(&[u8], Wanted); 15] = [
+const HEADS: &[(&[u8], Wanted)] = &[
     (b"GET /healthz HTTP/1.0\n\n", Wanted::Health),
     (b"\r\nGET /healthz HTTP/1.1\r\n\r\n", Wanted::Health),
     (
@@ -275,6 +306,14 @@ const HEADS: [(&[u8], Wanted); 15] = [
     ),
     (b"POST /x HTTP/1.1\r\n\r\n", Wanted::Refused(Refusal::Path)),
     (
+        b"GET /stop?within=x HTTP/1.1\r\nOrigin: http://x\r\n\r\n",
+        Wanted::Refused(Refusal::OnlyPost),
+    ),
+    (
+        b"POST /stop/ HTTP/1.1\r\n\r\n",
+        Wanted::Refused(Refusal::Path),
+    ),
+    (
         b"GET /healthz HTTP/2.0\r\n\r\n",
         Wanted::Refused(Refusal::Head),
     ),
@@ -290,9 +329,14 @@ const HEADS: [(&[u8], Wanted); 15] = [
     ),
 ];
 
+// Hands the table out, so that what goes over it is proved without its rows.
+fn heads_table() -> &'static [(&'static [u8], Wanted)] {
+    HEADS
+}
+
 #[test]
 fn heads(rt: HostRuntime) -> Result<(), Fail> {
-    for (i, (head, wanted)) in HEADS.iter().enumerate() {
+    for (i, (head, wanted)) in heads_table().iter().enumerate() {
         assert!(rt; read_request(head) == wanted.asked()?, "head {i}");
     }
     Ok(())

@@ -3,11 +3,12 @@
 use crate::answers::{Answered, bytes_of};
 use crate::drips::Page;
 use crate::plain::{Reader, read};
-use rx_events::EventSink;
+use rx_events::{EventSink, Pulse, Tempo};
 use rx_heap::{Heap, Memory};
 use rx_http::{Begin, Epoch, Id};
 use rx_note::{Item, Note, Text};
 use rx_sink::{Flow, Sink, SinkFault};
+use std::sync::Arc;
 use std::test::Fail;
 use test_kit::{Refusable, Seen, refuse_in_turn};
 
@@ -72,7 +73,7 @@ struct Row {
     told: &'static [u8],
 }
 
-const ROWS: [Row; 12] = [
+const ROWS: &[Row] = &[
     Row {
         name: "whatever_comes_first_is_the_next",
         place: Place::Fresh,
@@ -163,6 +164,11 @@ const ROWS: [Row; 12] = [
     },
 ];
 
+// Hands the table out, so that what goes over it is proved without its rows.
+fn rows() -> &'static [Row] {
+    ROWS
+}
+
 fn epoch() -> Result<Epoch, Fail> {
     match Epoch::new(b"e1") {
         Some(epoch) => Ok(epoch),
@@ -173,7 +179,7 @@ fn epoch() -> Result<Epoch, Fail> {
 #[test]
 fn streams_as_their_bytes(rt: HostRuntime) -> Result<(), Fail> {
     let heap = Heap::unlimited(rt.alloc());
-    for row in &ROWS {
+    for row in rows() {
         let stream = Vec::new(heap.clone()?);
         let mut sink = EventSink::new(stream, epoch()?, row.place.begin()?, row.bounded);
         sink.start(4)?;
@@ -265,6 +271,78 @@ fn stuck_until_nothing_waits(rt: HostRuntime) -> Result<(), Fail> {
     let mut sink = EventSink::gathering(page, epoch()?, Begin::Fresh, false);
     assert!(rt; sink.flush() == Err(SinkFault));
     assert!(rt; sink.finish().failed);
+    Ok(())
+}
+
+#[test]
+fn a_heartbeat_where_nothing_was_told(rt: HostRuntime) -> Result<(), Fail> {
+    let heap = Heap::unlimited(rt.alloc());
+    let pulse = Pulse::shared(heap.clone()?)?;
+    let mut sink = gathering(&heap, 0)?.at(Tempo::new(Arc::try_clone(&pulse)?, 1000, 0));
+    sink.start(4)?;
+    sink.flush()?;
+    for (moment, item) in [
+        (999, None),
+        (1000, None),
+        (1999, Some(8)),
+        (2998, None),
+        (2999, Some(8)),
+        (5000, None),
+    ] {
+        pulse.tell(moment);
+        if let Some(place) = item {
+            let flow = sink.take(Told::Item(place, b"a").note(&heap)?)?;
+            assert_eq!(rt; flow, Flow::Ready, "at {moment}");
+        }
+        assert_eq!(rt; sink.flush()?, Flow::Clear, "at {moment}");
+    }
+    let page = sink.into_writer();
+    let told = page
+        .held
+        .as_slice()
+        .strip_prefix(bytes_of(Answered::Events));
+    let wanted =
+        b"retry: 1000\nid: e1-7\nevent: joined\ndata: e1-4\n\n:\nid: e1-8\nevent: next\ndata: a\n\n:\n:\n";
+    assert!(rt; told == Some(wanted.as_slice()));
+    let mut sink = gathering(&heap, 2)?.at(Tempo::new(Arc::try_clone(&pulse)?, 1000, 0));
+    sink.start(4)?;
+    assert_eq!(rt; sink.flush()?, Flow::Stuck);
+    pulse.tell(7000);
+    assert_eq!(rt; sink.flush()?, Flow::Stuck);
+    let page = sink.into_writer();
+    assert!(rt;
+        page.held.as_slice().ends_with(b"e1-4\n\n"),
+        "nothing while something waits"
+    );
+    Ok(())
+}
+
+#[test]
+fn an_item_in_a_time(rt: HostRuntime) -> Result<(), Fail> {
+    let heap = Heap::unlimited(rt.alloc());
+    let pulse = Pulse::shared(heap.clone()?)?;
+    assert!(rt; !pulse.is_paced());
+    let mut sink = gathering(&heap, 0)?.at(Tempo::new(Arc::try_clone(&pulse)?, 1000, 50));
+    assert!(rt; pulse.is_paced());
+    sink.start(4)?;
+    assert_eq!(rt; sink.flush()?, Flow::Clear);
+    assert_eq!(rt;
+        sink.take(Told::Item(7, b"a").note(&heap)?)?,
+        Flow::Ready,
+        "passed over"
+    );
+    assert_eq!(rt; sink.take(Told::Item(8, b"a").note(&heap)?)?, Flow::Stuck);
+    assert_eq!(rt; sink.flush()?, Flow::Stuck);
+    pulse.tell(49);
+    assert_eq!(rt; sink.flush()?, Flow::Stuck);
+    pulse.tell(50);
+    assert_eq!(rt; sink.flush()?, Flow::Clear);
+    assert_eq!(rt; sink.take(Told::Item(9, b"a").note(&heap)?)?, Flow::Stuck);
+    assert_eq!(rt; sink.take(Told::Done.note(&heap)?)?, Flow::Stuck);
+    assert_eq!(rt; sink.flush()?, Flow::Clear, "an end waits for no pace");
+    let rest = sink.finish();
+    assert_eq!(rt; rest.notes, 4);
+    assert!(rt; !pulse.is_paced());
     Ok(())
 }
 

@@ -24,7 +24,7 @@ const PACE: Pace = Pace {
     patience: 10,
 };
 
-const ROWS: [(&str, &str, &str); 18] = [
+const ROWS: &[(&str, &str, &str)] = &[
     ("answered_where_it_stands", "acaparar", "-t-o10A"),
     (
         "no_more_than_a_window_under_way",
@@ -64,6 +64,11 @@ const ROWS: [(&str, &str, &str); 18] = [
         "to10At-o-",
     ),
 ];
+
+// Hands the table out, so that what goes over it is proved without its rows.
+fn rows() -> &'static [(&'static str, &'static str, &'static str)] {
+    ROWS
+}
 
 /// A machine, and what of it is under way.
 #[derive(Drop)]
@@ -278,7 +283,7 @@ impl Refusable for Script {
 #[test]
 fn parts_of_a_machine(rt: HostRuntime) -> Result<(), Fail> {
     let heap = Heap::unlimited(rt.alloc());
-    for (name, events, told) in &ROWS {
+    for (name, events, told) in rows() {
         let mut stand = Stand::new(&heap, &heap)?;
         stand.act_all(events)?;
         expect_told(&rt, stand.told.as_slice(), told, name);
@@ -289,7 +294,7 @@ fn parts_of_a_machine(rt: HostRuntime) -> Result<(), Fail> {
 #[test]
 fn growths_refused_in_turn(rt: HostRuntime) -> Result<(), Fail> {
     let mut missed: u64 = 0;
-    for (name, events, told) in &ROWS {
+    for (name, events, told) in rows() {
         let refusals = refuse_in_turn(&Script { events, told }, rt.alloc())?;
         expect_told(&rt, refusals.fault.as_bytes(), "", name);
         missed = missed.saturating_add(refusals.missed);

@@ -35,7 +35,7 @@ struct Row {
     told: &'static str,
 }
 
-const ROWS: [Row; 19] = [
+const ROWS: &[Row] = &[
     Row {
         name: "a_copy_counts_once",
         begun: 0,
@@ -277,10 +277,15 @@ const ROWS: [Row; 19] = [
     },
 ];
 
+// Hands the table out, so that what goes over it is proved without its rows.
+fn rows_table() -> &'static [Row] {
+    ROWS
+}
+
 #[test]
 fn traps_of_a_log(rt: HostRuntime) -> Result<(), Fail> {
     let heap = Heap::unlimited(rt.alloc());
-    for row in &ROWS {
+    for row in rows_table() {
         let told = signs_of(&heap, row)?;
         expect_told(&rt, told.as_slice(), row.told, row.name);
     }

@@ -14,3 +14,5 @@ mod flushes;
 mod looks;
 #[cfg(test)]
 mod notices;
+#[cfg(test)]
+mod texts;

@@ -12,7 +12,7 @@ const WHOLE: &[u8] =
     b"HTTP/1.1 200 OK\r\nContent-Type: text/plain\r\nContent-Length: 12\r\n\r\nhello\nagain\n";
 
 // What a peer gives, and what is written of it.
-const BODIES: [(&[u8], &str); 6] = [
+const BODIES: &[(&[u8], &str)] = &[
     (WHOLE, "hello\nagain\n"),
     (
         b"HTTP/1.1 200 OK\r\ncontent-length: 5\r\n\r\nhello and more",
@@ -33,20 +33,21 @@ const BODIES: [(&[u8], &str); 6] = [
     ),
 ];
 
+// Hands the table out, so that what goes over it is proved without its rows.
+fn bodies() -> &'static [(&'static [u8], &'static str)] {
+    BODIES
+}
+
 // What a peer gives, and the fault.
-const FAULTS: [(&[u8], LookFault); 13] = [
+const FAULTS: &[(&[u8], LookFault)] = &[
     (b"", LookFault::Lost),
     (
         b"HTTP/1.1 200 OK\r\nContent-Length: 4294967295\r\n\r\nab",
         LookFault::Lost,
     ),
     (
-        b"HTTP/1.1 404 Not Found\r\nContent-Length: 2\r\n\r\nab",
-        LookFault::Refused(404),
-    ),
-    (
-        b"HTTP/1.1 503 Service Unavailable\r\n\r\n",
-        LookFault::Refused(503),
+        b"HTTP/1.1 404 Not Found\r\nContent-Length: 4\r\n\r\nab",
+        LookFault::Lost,
     ),
     (b"ERR SYNTAX\n", LookFault::Strange),
     (b"OK\n", LookFault::Strange),
@@ -74,6 +75,31 @@ const FAULTS: [(&[u8], LookFault); 13] = [
     ),
 ];
 
+// What a peer refuses by, the status, and what is told of why.
+const REFUSALS: &[(&[u8], u16, &str)] = &[
+    (
+        b"HTTP/1.1 404 Not Found\r\nContent-Length: 2\r\n\r\nabc",
+        404,
+        "ab",
+    ),
+    (b"HTTP/1.1 503 Service Unavailable\r\n\r\nab", 503, ""),
+    (
+        b"HTTP/1.1 201 Created\r\nContent-Length: 2\r\n\r\nab",
+        201,
+        "ab",
+    ),
+];
+
+// Hands the table out, so that what goes over it is proved without its rows.
+fn refusals() -> &'static [(&'static [u8], u16, &'static str)] {
+    REFUSALS
+}
+
+// Hands the table out, so that what goes over it is proved without its rows.
+fn faults() -> &'static [(&'static [u8], LookFault)] {
+    FAULTS
+}
+
 /// Gives bytes, so many a read, and then its end, or a fault where it fails.
 #[derive(Drop)]
 struct Gives<'a> {
@@ -94,27 +120,29 @@ impl Read for Gives<'_> {
     }
 }
 
-// What is written of what a peer gives, and how that ends.
-fn handed_on(alloc: Global, given: Gives<'_>) -> (Vec<u8>, Result<(), LookFault>) {
+// What is written of what a peer gives where an answer of status 200 is wanted, what is told of why not, and how that ends.
+fn handed_on(alloc: Global, given: Gives<'_>) -> (Vec<u8>, Vec<u8>, Result<(), LookFault>) {
     let mut peer = given;
-    let mut written = Vec::new(alloc);
-    let ended = hand_on(&mut peer, &Heap::unlimited(alloc), &mut written);
-    (written, ended)
+    let (mut written, mut why) = (Vec::new(alloc), Vec::new(alloc));
+    let heap = Heap::unlimited(alloc);
+    let ended = hand_on(&mut peer, &heap, 200, &mut written, &mut why);
+    (written, why, ended)
 }
 
 const STEPS: [usize; 4] = [1, 2, 7, 8192];
 
 #[test]
 fn bodies_are_handed_on(rt: HostRuntime) -> Result<(), Fail> {
-    for (given, wanted) in &BODIES {
+    for (given, wanted) in bodies() {
         for step in &STEPS {
             let given = Gives {
                 rest: given,
                 step: *step,
                 fails: false,
             };
-            let (written, ended) = handed_on(rt.alloc(), given);
+            let (written, why, ended) = handed_on(rt.alloc(), given);
             expect_told(&rt, written.as_slice(), wanted, "a body");
+            expect_told(&rt, why.as_slice(), "", "why it is none");
             expect_that(&rt, ended.is_ok(), wanted);
         }
     }
@@ -123,16 +151,35 @@ fn bodies_are_handed_on(rt: HostRuntime) -> Result<(), Fail> {
 
 #[test]
 fn nothing_is_written_of_another_answer(rt: HostRuntime) -> Result<(), Fail> {
-    for (given, wanted) in &FAULTS {
+    for (given, wanted) in faults() {
         for step in &STEPS {
             let given = Gives {
                 rest: given,
                 step: *step,
                 fails: false,
             };
-            let (written, ended) = handed_on(rt.alloc(), given);
+            let (written, why, ended) = handed_on(rt.alloc(), given);
             expect_told(&rt, written.as_slice(), "", "another answer");
+            expect_told(&rt, why.as_slice(), "", "why, of another answer");
             expect_that(&rt, ended == Err(*wanted), "its fault");
+        }
+    }
+    Ok(())
+}
+
+#[test]
+fn a_refusal_tells_why(rt: HostRuntime) -> Result<(), Fail> {
+    for (given, status, wanted) in refusals() {
+        for step in &STEPS {
+            let given = Gives {
+                rest: given,
+                step: *step,
+                fails: false,
+            };
+            let (written, why, ended) = handed_on(rt.alloc(), given);
+            expect_told(&rt, written.as_slice(), "", "a refusal");
+            expect_told(&rt, why.as_slice(), wanted, "why it is refused");
+            expect_that(&rt, ended == Err(LookFault::Refused(*status)), wanted);
         }
     }
     Ok(())
@@ -147,7 +194,7 @@ fn nothing_is_written_of_a_part(rt: HostRuntime) -> Result<(), Fail> {
                 step: 8192,
                 fails: *fails,
             };
-            let (written, ended) = handed_on(rt.alloc(), given);
+            let (written, _, ended) = handed_on(rt.alloc(), given);
             expect_told(&rt, written.as_slice(), "", "a part");
             expect_that(&rt, ended == Err(LookFault::Lost), "the fault of a part");
         }
@@ -176,7 +223,7 @@ fn a_head_is_short(rt: HostRuntime) -> Result<(), Fail> {
                 step: *step,
                 fails: false,
             };
-            let (written, ended) = handed_on(rt.alloc(), given);
+            let (written, _, ended) = handed_on(rt.alloc(), given);
             expect_told(&rt, written.as_slice(), wanted, "a long head");
             expect_that(&rt, ended == *ends, "how a long head ends");
         }

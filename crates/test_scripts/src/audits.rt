@@ -35,7 +35,7 @@ fn audit_of<R: Read>(alloc: Global, reader: &mut R, max_reads: u64) -> Result<Ra
 /// The name of an input, its script, what is written, and how it ends.
 type Row = (&'static str, &'static [u8], &'static [u8], SessionEnd);
 
-const ROWS: [Row; 8] = [
+const ROWS: &[Row] = &[
     (
         "audit_of_a_waiting_end",
         WAITING_END,
@@ -81,9 +81,14 @@ const ROWS: [Row; 8] = [
     ),
 ];
 
+// Hands the table out, so that what goes over it is proved without its rows.
+fn rows() -> &'static [Row] {
+    ROWS
+}
+
 #[test]
 fn audits_of_whole_inputs(rt: HostRuntime) -> Result<(), Fail> {
-    for (name, script, wanted, end) in &ROWS {
+    for (name, script, wanted, end) in rows() {
         let mut reader = *script;
         let audited = audit_of(rt.alloc(), &mut reader, MAX_READS)?;
         expect_ran(&rt, &audited, *end, wanted, name);

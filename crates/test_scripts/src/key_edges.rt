@@ -19,7 +19,7 @@ const POOL: &str = "[[subject]]\nname = \"s\"\nkind = \"async\"\n[pool]\n";
 
 // Each key at its least and its greatest value, one below, one above, and of another type: what stands before it, its
 // line, and what is told.
-const EDGES: [(&str, &str, &str); 99] = [
+const EDGES: &[(&str, &str, &str)] = &[
     (
         FIRST,
         "observers = 1\n",
@@ -207,6 +207,18 @@ const EDGES: [(&str, &str, &str); 99] = [
     (POOL, "stall = 3601\n", "pool is refused"),
     (
         POOL,
+        "waiting = 0\n",
+        "1 4 16 4294967295 60 waiting 0; s 64 4294967295 4294967295 async",
+    ),
+    (
+        POOL,
+        "waiting = 4294967295\n",
+        "1 4 16 4294967295 60 waiting 4294967295; s 64 4294967295 4294967295 async",
+    ),
+    (POOL, "waiting = -1\n", "pool is refused"),
+    (POOL, "waiting = 4294967296\n", "pool is refused"),
+    (
+        POOL,
         "idle = 1\n",
         "1 4 16 4294967295 60 idle 1; s 64 4294967295 4294967295 async",
     ),
@@ -290,12 +302,28 @@ const EDGES: [(&str, &str, &str); 99] = [
         "1 4 16 4294967295 60 http /e 15 256; s 64 4294967295 4294967295 async",
     ),
     (HTTP, "emit = 1\n", "http is refused"),
+    (
+        HTTP,
+        "stop = true\n",
+        "1 4 16 4294967295 60 http /e 15 256 emit stop; s 64 4294967295 4294967295 async",
+    ),
+    (
+        HTTP,
+        "stop = false\n",
+        "1 4 16 4294967295 60 http /e 15 256 emit; s 64 4294967295 4294967295 async",
+    ),
+    (HTTP, "stop = 1\n", "http is refused"),
     (HTTP, "port = 80\n", "http is refused"),
 ];
 
+// Hands the table out, so that what goes over it is proved without its rows.
+fn edges_table() -> &'static [(&'static str, &'static str, &'static str)] {
+    EDGES
+}
+
 #[test]
 fn each_key_at_its_edges(rt: HostRuntime) -> Result<(), Fail> {
-    for (front, line, wanted) in &EDGES {
+    for (front, line, wanted) in edges_table() {
         expect_readings(&rt, rt.alloc(), front, &[(*line, *wanted)])?;
     }
     Ok(())

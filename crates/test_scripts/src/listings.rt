@@ -39,27 +39,27 @@ fn expect_each(rt: &impl Abort, alloc: Global, rows: &[(&str, &str)]) -> Result<
 const ACCEPTED: [(&str, &str); 6] = [
     (
         "[[subject]]\nname = \"s\"\nkind = \"publish\"\n",
-        "subject s publish observers 64 joins 4294967295 items 4294967295\npool drainers 1 workers 4 window 16 connections 4294967295 stall 60\n",
+        "subject s publish observers 64 joins 4294967295 items 4294967295\npool drainers 1 workers 4 window 16 connections 4294967295 stall 60 waiting 33554432\n",
     ),
     (
-        "[[subject]]\nname = \"r\"\nkind = \"replay\"\ncount = 16\nage = 60000\nobservers = 2\njoins = 30\nitems = 400\n[[subject]]\nname = \"a-1\"\nkind = \"async\"\n[pool]\ndrainers = 8\nworkers = 32\nwindow = 1\nconnections = 7\nstall = 9\nidle = 600\ntakeover = true\n",
-        "subject r replay count 16 age 60000 observers 2 joins 30 items 400\nsubject a-1 async observers 64 joins 4294967295 items 4294967295\npool drainers 8 workers 32 window 1 connections 7 stall 9 idle 600 takeover\n",
+        "[[subject]]\nname = \"r\"\nkind = \"replay\"\ncount = 16\nage = 60000\nobservers = 2\njoins = 30\nitems = 400\n[[subject]]\nname = \"a-1\"\nkind = \"async\"\n[pool]\ndrainers = 8\nworkers = 32\nwindow = 1\nconnections = 7\nstall = 9\nwaiting = 0\nidle = 600\ntakeover = true\n",
+        "subject r replay count 16 age 60000 observers 2 joins 30 items 400\nsubject a-1 async observers 64 joins 4294967295 items 4294967295\npool drainers 8 workers 32 window 1 connections 7 stall 9 waiting 0 idle 600 takeover\n",
     ),
     (
         "[[subject]]\nname = \"b\"\nkind = \"behavior\"\nseed = \"none yet\"\n[[subject]]\nname = \"c\"\nkind = \"behavior\"\n[[subject]]\nname = \"d\"\nkind = \"replay\"\n",
-        "subject b behavior observers 64 joins 4294967295 items 4294967295 seed none yet\nsubject c behavior observers 64 joins 4294967295 items 4294967295\nsubject d replay observers 64 joins 4294967295 items 4294967295\npool drainers 1 workers 4 window 16 connections 4294967295 stall 60\n",
+        "subject b behavior observers 64 joins 4294967295 items 4294967295 seed none yet\nsubject c behavior observers 64 joins 4294967295 items 4294967295\nsubject d replay observers 64 joins 4294967295 items 4294967295\npool drainers 1 workers 4 window 16 connections 4294967295 stall 60 waiting 33554432\n",
     ),
     (
         "[[subject]]\nname = \"b\"\nkind = \"behavior\"\nseed = \"none yet\"\nbudget = 64000\n[[subject]]\nname = \"d\"\nkind = \"replay\"\nage = 1\nbudget = 281474976710656\n",
-        "subject b behavior observers 64 joins 4294967295 items 4294967295 budget 64000 seed none yet\nsubject d replay age 1 observers 64 joins 4294967295 items 4294967295 budget 281474976710656\npool drainers 1 workers 4 window 16 connections 4294967295 stall 60\n",
+        "subject b behavior observers 64 joins 4294967295 items 4294967295 budget 64000 seed none yet\nsubject d replay age 1 observers 64 joins 4294967295 items 4294967295 budget 281474976710656\npool drainers 1 workers 4 window 16 connections 4294967295 stall 60 waiting 33554432\n",
     ),
     (
         "[[subject]]\nname = \"s\"\nkind = \"publish\"\n[http]\nsocket = \"/run/e.sock\"\n",
-        "subject s publish observers 64 joins 4294967295 items 4294967295\npool drainers 1 workers 4 window 16 connections 4294967295 stall 60\nhttp heartbeat 15 readers 256 emit socket /run/e.sock\n",
+        "subject s publish observers 64 joins 4294967295 items 4294967295\npool drainers 1 workers 4 window 16 connections 4294967295 stall 60 waiting 33554432\nhttp heartbeat 15 readers 256 emit socket /run/e.sock\n",
     ),
     (
-        "[http]\nreaders = 4096\nsocket = \"a b\"\nemit = false\nheartbeat = 3600\n[[subject]]\nname = \"s\"\nkind = \"async\"\n",
-        "subject s async observers 64 joins 4294967295 items 4294967295\npool drainers 1 workers 4 window 16 connections 4294967295 stall 60\nhttp heartbeat 3600 readers 4096 socket a b\n",
+        "[http]\nreaders = 4096\nsocket = \"a b\"\nstop = true\nemit = false\nheartbeat = 3600\n[[subject]]\nname = \"s\"\nkind = \"async\"\n",
+        "subject s async observers 64 joins 4294967295 items 4294967295\npool drainers 1 workers 4 window 16 connections 4294967295 stall 60 waiting 33554432\nhttp heartbeat 3600 readers 4096 stop socket a b\n",
     ),
 ];
 
@@ -92,7 +92,7 @@ const REFUSED: [(&str, &str); 34] = [
     ),
     (
         "[[subject]]\nname = \"s\"\nkind = \"publish\"\n[pool]\nthreads = 1\n",
-        "pool: threads is no key: a pool has drainers, workers, window, connections, stall, idle and takeover\n",
+        "pool: threads is no key: a pool has drainers, workers, window, connections, stall, waiting, idle and takeover\n",
     ),
     (
         "[[subject]]\nname = \"s\"\nkind = \"publish\"\n[pool]\ndrainers = 9\n",
@@ -132,11 +132,11 @@ const REFUSED: [(&str, &str); 34] = [
     ),
     (
         "[[subject]]\nname = \"s\"\nkind = \"publish\"\n[http]\nsocket = \"\"\nport = 80\n",
-        "http: socket is wrong: 1 to 107 bytes without a line feed, as in: socket = \"/run/events.sock\"\nhttp: port is no key: http has socket, heartbeat, readers and emit\n",
+        "http: socket is wrong: 1 to 107 bytes without a line feed, as in: socket = \"/run/events.sock\"\nhttp: port is no key: http has socket, heartbeat, readers, emit and stop\n",
     ),
     (
-        "[[subject]]\nname = \"s\"\nkind = \"publish\"\n[http]\nsocket = \"a\\nb\"\nheartbeat = true\nreaders = \"1\"\nemit = 1\n",
-        "http: socket is wrong: 1 to 107 bytes without a line feed, as in: socket = \"/run/events.sock\"\nhttp: heartbeat is wrong: seconds from 1 to 3600, as in: heartbeat = 15\nhttp: readers is wrong: a number from 1 to 4096, as in: readers = 256\nhttp: emit is wrong: true or false, as in: emit = false\n",
+        "[[subject]]\nname = \"s\"\nkind = \"publish\"\n[http]\nsocket = \"a\\nb\"\nheartbeat = true\nreaders = \"1\"\nemit = 1\nstop = 1\n",
+        "http: socket is wrong: 1 to 107 bytes without a line feed, as in: socket = \"/run/events.sock\"\nhttp: heartbeat is wrong: seconds from 1 to 3600, as in: heartbeat = 15\nhttp: readers is wrong: a number from 1 to 4096, as in: readers = 256\nhttp: emit is wrong: true or false, as in: emit = false\nhttp: stop is wrong: true or false, as in: stop = true\n",
     ),
     // Of both the pool comes first, and then the subjects.
     (
@@ -186,7 +186,7 @@ const REFUSED: [(&str, &str); 34] = [
     // All that is wrong, in its order; of keys that are none in that of their bytes.
     (
         "extra = 1\n\"\\u001b[2J\\n\" = 1\n[pool]\ndrainers = 9\nthreads = 1\nwindow = 0\n[[subject]]\nname = \"s\"\nkind = \"publish\"\nage = 5\nseed = \"z\"\n[[subject]]\nname = \"s\"\nlimit = 100\n",
-        "config: \\x1b[2J\\x0a is no key: there are subject, as in: [[subject]], pool, as in: [pool], and http, as in: [http]\nconfig: extra is no key: there are subject, as in: [[subject]], pool, as in: [pool], and http, as in: [http]\npool: drainers is wrong: a number from 1 to 8, as in: drainers = 1\npool: window is wrong: a number from 1 to 16, as in: window = 16\npool: threads is no key: a pool has drainers, workers, window, connections, stall, idle and takeover\nsubject 0: seed is wrong: with kind = \"behavior\" alone, up to 1024 bytes without a line feed, as in: seed = \"none yet\"\nsubject 0: age is wrong: with kind = \"replay\" alone, milliseconds from 1 to 9223372036854775807, as in: age = 60000\nsubject 1: kind is missing: \"publish\", \"behavior\", \"async\" or \"replay\", as in: kind = \"publish\"\nsubject 1: limit is no key: a subject has name, kind, observers, joins, items and budget, a behavior also seed, a replay also count and age\nsubject 1: name is wrong: no other subject may have it\n",
+        "config: \\x1b[2J\\x0a is no key: there are subject, as in: [[subject]], pool, as in: [pool], and http, as in: [http]\nconfig: extra is no key: there are subject, as in: [[subject]], pool, as in: [pool], and http, as in: [http]\npool: drainers is wrong: a number from 1 to 8, as in: drainers = 1\npool: window is wrong: a number from 1 to 16, as in: window = 16\npool: threads is no key: a pool has drainers, workers, window, connections, stall, waiting, idle and takeover\nsubject 0: seed is wrong: with kind = \"behavior\" alone, up to 1024 bytes without a line feed, as in: seed = \"none yet\"\nsubject 0: age is wrong: with kind = \"replay\" alone, milliseconds from 1 to 9223372036854775807, as in: age = 60000\nsubject 1: kind is missing: \"publish\", \"behavior\", \"async\" or \"replay\", as in: kind = \"publish\"\nsubject 1: limit is no key: a subject has name, kind, observers, joins, items and budget, a behavior also seed, a replay also count and age\nsubject 1: name is wrong: no other subject may have it\n",
     ),
     // Of a name that stands twice the later, wherever the first stands.
     (
@@ -221,23 +221,23 @@ fn keys_at_fault(rt: HostRuntime) -> Result<(), Fail> {
 
 // Each key at its least value, and at its greatest; beside them one that is none.
 const LEAST: &str =
-    "[pool]\ndrainers = 1\nworkers = 1\nwindow = 1\nconnections = 1\nstall = 1\nidle = 1\ntakeover = false\n[http]\nsocket = \"s\"\nheartbeat = 1\nreaders = 1\n[[subject]]\nname = \"s\"\nkind = \"replay\"\nobservers = 1\njoins = 1\nitems = 1\nbudget = 1\ncount = 1\nage = 1\n[[subject]]\nname = \"b\"\nkind = \"behavior\"\nseed = \"\"\nlimit = 1\n";
+    "[pool]\ndrainers = 1\nworkers = 1\nwindow = 1\nconnections = 1\nstall = 1\nwaiting = 0\nidle = 1\ntakeover = false\n[http]\nsocket = \"s\"\nheartbeat = 1\nreaders = 1\n[[subject]]\nname = \"s\"\nkind = \"replay\"\nobservers = 1\njoins = 1\nitems = 1\nbudget = 1\ncount = 1\nage = 1\n[[subject]]\nname = \"b\"\nkind = \"behavior\"\nseed = \"\"\nlimit = 1\n";
 
 const GREATEST: &str =
-    "[pool]\ndrainers = 8\nworkers = 32\nwindow = 16\nconnections = 4294967295\nstall = 3600\nidle = 86400\ntakeover = true\n[http]\nsocket = \"/pppppppppppppppppppppppppppppppppppppppppppppppppppppppppppppppppppppppppppppppppppppppppppppppppppppppppp\"\nheartbeat = 3600\nreaders = 4096\n[[subject]]\nname = \"abcdefghijklmnopqrstuvwxyz012345\"\nkind = \"replay\"\nobservers = 64\njoins = 4294967295\nitems = 4294967295\nbudget = 281474976710656\ncount = 4096\nage = 9223372036854775807\n[[subject]]\nname = \"b\"\nkind = \"behavior\"\nlimit = 1\n";
+    "[pool]\ndrainers = 8\nworkers = 32\nwindow = 16\nconnections = 4294967295\nstall = 3600\nwaiting = 4294967295\nidle = 86400\ntakeover = true\n[http]\nsocket = \"/pppppppppppppppppppppppppppppppppppppppppppppppppppppppppppppppppppppppppppppppppppppppppppppppppppppppppp\"\nheartbeat = 3600\nreaders = 4096\n[[subject]]\nname = \"abcdefghijklmnopqrstuvwxyz012345\"\nkind = \"replay\"\nobservers = 64\njoins = 4294967295\nitems = 4294967295\nbudget = 281474976710656\ncount = 4096\nage = 9223372036854775807\n[[subject]]\nname = \"b\"\nkind = \"behavior\"\nlimit = 1\n";
 
 const NO_KEY: &str =
     "subject 1: limit is no key: a subject has name, kind, observers, joins, items and budget, a behavior also seed, a replay also count and age\n";
 
 // Each number one below its least value, and one above its greatest; no number is above the greatest age.
 const BELOW: &str =
-    "[pool]\ndrainers = 0\nworkers = 0\nwindow = 0\nconnections = 0\nstall = 0\nidle = 0\n[http]\nsocket = \"\"\nheartbeat = 0\nreaders = 0\n[[subject]]\nname = \"s\"\nkind = \"replay\"\nobservers = 0\njoins = 0\nitems = 0\nbudget = 0\ncount = 0\nage = 0\n";
+    "[pool]\ndrainers = 0\nworkers = 0\nwindow = 0\nconnections = 0\nstall = 0\nwaiting = -1\nidle = 0\n[http]\nsocket = \"\"\nheartbeat = 0\nreaders = 0\n[[subject]]\nname = \"s\"\nkind = \"replay\"\nobservers = 0\njoins = 0\nitems = 0\nbudget = 0\ncount = 0\nage = 0\n";
 
 const ABOVE: &str =
-    "[pool]\ndrainers = 9\nworkers = 33\nwindow = 17\nconnections = 4294967296\nstall = 3601\nidle = 86401\n[http]\nsocket = \"/ppppppppppppppppppppppppppppppppppppppppppppppppppppppppppppppppppppppppppppppppppppppppppppppppppppppppppp\"\nheartbeat = 3601\nreaders = 4097\n[[subject]]\nname = \"s\"\nkind = \"replay\"\nobservers = 65\njoins = 4294967296\nitems = 4294967296\nbudget = 281474976710657\ncount = 4097\nage = 0\n";
+    "[pool]\ndrainers = 9\nworkers = 33\nwindow = 17\nconnections = 4294967296\nstall = 3601\nwaiting = 4294967296\nidle = 86401\n[http]\nsocket = \"/ppppppppppppppppppppppppppppppppppppppppppppppppppppppppppppppppppppppppppppppppppppppppppppppppppppppppppp\"\nheartbeat = 3601\nreaders = 4097\n[[subject]]\nname = \"s\"\nkind = \"replay\"\nobservers = 65\njoins = 4294967296\nitems = 4294967296\nbudget = 281474976710657\ncount = 4097\nage = 0\n";
 
 const EACH_WRONG: &str =
-    "pool: drainers is wrong: a number from 1 to 8, as in: drainers = 1\npool: workers is wrong: a number from 1 to 32, as in: workers = 4\npool: window is wrong: a number from 1 to 16, as in: window = 16\npool: connections is wrong: a number from 1 to 4294967295, as in: connections = 1000\npool: stall is wrong: seconds from 1 to 3600, as in: stall = 60\npool: idle is wrong: seconds from 1 to 86400, as in: idle = 600\nhttp: socket is wrong: 1 to 107 bytes without a line feed, as in: socket = \"/run/events.sock\"\nhttp: heartbeat is wrong: seconds from 1 to 3600, as in: heartbeat = 15\nhttp: readers is wrong: a number from 1 to 4096, as in: readers = 256\nsubject 0: observers is wrong: a number from 1 to 64, as in: observers = 64\nsubject 0: joins is wrong: a number from 1 to 4294967295, as in: joins = 1000\nsubject 0: items is wrong: a number from 1 to 4294967295, as in: items = 1000000\nsubject 0: budget is wrong: bytes from 1 to 281474976710656, as in: budget = 64000000\nsubject 0: count is wrong: with kind = \"replay\" alone, a number from 1 to 4096, as in: count = 16\nsubject 0: age is wrong: with kind = \"replay\" alone, milliseconds from 1 to 9223372036854775807, as in: age = 60000\n";
+    "pool: drainers is wrong: a number from 1 to 8, as in: drainers = 1\npool: workers is wrong: a number from 1 to 32, as in: workers = 4\npool: window is wrong: a number from 1 to 16, as in: window = 16\npool: connections is wrong: a number from 1 to 4294967295, as in: connections = 1000\npool: stall is wrong: seconds from 1 to 3600, as in: stall = 60\npool: waiting is wrong: bytes from 0 to 4294967295, as in: waiting = 33554432\npool: idle is wrong: seconds from 1 to 86400, as in: idle = 600\nhttp: socket is wrong: 1 to 107 bytes without a line feed, as in: socket = \"/run/events.sock\"\nhttp: heartbeat is wrong: seconds from 1 to 3600, as in: heartbeat = 15\nhttp: readers is wrong: a number from 1 to 4096, as in: readers = 256\nsubject 0: observers is wrong: a number from 1 to 64, as in: observers = 64\nsubject 0: joins is wrong: a number from 1 to 4294967295, as in: joins = 1000\nsubject 0: items is wrong: a number from 1 to 4294967295, as in: items = 1000000\nsubject 0: budget is wrong: bytes from 1 to 281474976710656, as in: budget = 64000000\nsubject 0: count is wrong: with kind = \"replay\" alone, a number from 1 to 4096, as in: count = 16\nsubject 0: age is wrong: with kind = \"replay\" alone, milliseconds from 1 to 9223372036854775807, as in: age = 60000\n";
 
 #[test]
 fn advice_at_the_edges(rt: HostRuntime) -> Result<(), Fail> {

@@ -12,6 +12,9 @@ use std::test::Fail;
 /// A subject, behind which a text stands.
 pub(crate) const FIRST: &str = "[[subject]]\nname = \"s\"\nkind = \"publish\"\n";
 
+// How many bytes may wait for an observer where a text does not say it. Then it is not told.
+const STANDARD_WAITING: u32 = 33_554_432;
+
 // What was read: the pool, where events are told over HTTP, then a line for each subject.
 fn told<W: Write>(out: &mut W, config: &Config) -> io::Result<()> {
     let Config {
@@ -21,11 +24,15 @@ fn told<W: Write>(out: &mut W, config: &Config) -> io::Result<()> {
         window,
         connections,
         stall,
+        waiting,
         idle,
         takeover,
         http,
     } = config;
     write!(out, "{drainers} {workers} {window} {connections} {stall}")?;
+    if *waiting != STANDARD_WAITING {
+        write!(out, " waiting {waiting}")?;
+    }
     if let Some(idle) = idle {
         write!(out, " idle {idle}")?;
     }
@@ -47,6 +54,9 @@ fn tell_http<W: Write>(out: &mut W, http: &Http) -> io::Result<()> {
     write!(out, " {} {}", http.heartbeat, http.readers)?;
     if http.emit {
         out.write_all(b" emit")?;
+    }
+    if http.stop {
+        out.write_all(b" stop")?;
     }
     Ok(())
 }

@@ -3,8 +3,8 @@
 //! and nothing was read or written. An audit that met it wrote nothing, or a front of what it prints.
 
 use crate::expectations::expect_told;
-use crate::kinds::{Named, RUNS, Room, Run, config_of};
-use crate::rows::{ROWS, Row};
+use crate::kinds::{Named, Room, Run, config_of, runs};
+use crate::rows::{Row, rows};
 use rx_heap::{Heap, Memory};
 use rx_script::{run_audit, run_script};
 use rx_session::SessionEnd;
@@ -259,11 +259,11 @@ fn fault_of_audit(alloc: Global, run: &Run) -> Result<&'static str, Memory> {
 
 #[test]
 fn scripts_with_each_growth_refused(rt: HostRuntime) -> Result<(), Fail> {
-    for row in &ROWS {
+    for row in rows() {
         let fault = fault_of_script(rt.alloc(), &standard(row))?;
         expect_told(&rt, fault.as_bytes(), b"", &row.0);
     }
-    for run in &RUNS {
+    for run in runs() {
         let fault = fault_of_script(rt.alloc(), run)?;
         expect_told(&rt, fault.as_bytes(), b"", &run.name);
     }
@@ -272,11 +272,11 @@ fn scripts_with_each_growth_refused(rt: HostRuntime) -> Result<(), Fail> {
 
 #[test]
 fn audits_with_each_growth_refused(rt: HostRuntime) -> Result<(), Fail> {
-    for row in &ROWS {
+    for row in rows() {
         let fault = fault_of_audit(rt.alloc(), &standard(row))?;
         expect_told(&rt, fault.as_bytes(), b"", &row.0);
     }
-    for run in &RUNS {
+    for run in runs() {
         let fault = fault_of_audit(rt.alloc(), run)?;
         expect_told(&rt, fault.as_bytes(), b"", &run.name);
     }

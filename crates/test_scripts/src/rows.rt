@@ -36,7 +36,7 @@ fn run_of<R: Read>(alloc: Global, reader: &mut R, max_reads: u64) -> Result<Ran,
 /// A worked run: its name, its script, and what is written for it.
 pub(crate) type Row = (&'static str, &'static [u8], &'static [u8]);
 
-pub(crate) const ROWS: [Row; 15] = [
+const ROWS: &[Row] = &[
     ("first_run", FIRST_RUN, FIRST_ANSWERS),
     ("empty_input", b"", b""),
     (
@@ -106,9 +106,14 @@ pub(crate) const ROWS: [Row; 15] = [
     ),
 ];
 
+/// The rows; handed out, so that what goes over them is proved without them.
+pub(crate) fn rows() -> &'static [Row] {
+    ROWS
+}
+
 #[test]
 fn worked_runs(rt: HostRuntime) -> Result<(), Fail> {
-    for (name, script, answers) in &ROWS {
+    for (name, script, answers) in rows() {
         let mut reader = *script;
         let ran = run_of(rt.alloc(), &mut reader, MAX_READS)?;
         expect_ran(&rt, &ran, SessionEnd::EndOfInput, answers, name);

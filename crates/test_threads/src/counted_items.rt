@@ -46,7 +46,7 @@ pub(crate) fn bench_of(rt: &impl Abort, heap: &Heap, rules: Rules) -> Bench
 }
 
 // A subject, how many items it may have, the signs of the calls to it, and how many items each reply tells.
-const ROWS: [(Named, u32, &str, &str); 8] = [
+const ROWS: &[(Named, u32, &str, &str)] = &[
     (Named::Publish, u32::MAX, "ab+c1-d", "1223334"),
     (Named::Publish, u32::MAX, "a.b+", "1111"),
     (Named::Publish, u32::MAX, "a!b", "111"),
@@ -56,6 +56,11 @@ const ROWS: [(Named, u32, &str, &str); 8] = [
     (Named::Async, u32::MAX, "+ab.", "0122"),
     (Named::Replay(Some(1), None), u32::MAX, "ab+", "122"),
 ];
+
+// Hands the table out, so that what goes over it is proved without its rows.
+fn rows() -> &'static [(Named, u32, &'static str, &'static str)] {
+    ROWS
+}
 
 // Makes the calls of these signs.
 fn send_signs(rt: &(impl Wait + Abort), heap: &Heap, port: &mut Port<Call<u8>>, signs: &[u8]) {
@@ -99,7 +104,7 @@ fn counts_of(rt: &(impl Wait + Abort), heap: &Heap, kind: Kind, items: u32, sign
 #[test]
 fn each_reply_counts_the_items(rt: HostRuntime) {
     let heap = unlimited(&rt);
-    for (named, items, signs, counts) in &ROWS {
+    for (named, items, signs, counts) in rows() {
         let kind = kind_of(&heap, *named).expect(&rt, "a kind");
         let told = counts_of(&rt, &heap, kind, *items, signs.as_bytes());
         expect_told(&rt, told.as_bytes(), counts, signs);

@@ -26,7 +26,7 @@ use std::thread::{Threads, join};
 use test_kit::{Named, Told, event_of, kind_of, policy_by, rules_of};
 
 // A subject, the calls to it, and what is seen behind them.
-const ROWS: [(Named, &str, &str); 8] = [
+const ROWS: &[(Named, &str, &str)] = &[
     (Named::Publish, "", "0_00"),
     (Named::Publish, "aBbc", "3_10 0B0d10"),
     (Named::Publish, "BDab2", "2_20 0B0d01 1D2d10"),
@@ -36,6 +36,11 @@ const ROWS: [(Named, &str, &str); 8] = [
     (Named::Behavior(Some(b's')), "B", "0_10 0B0d00"),
     (Named::Replay(None, None), "abL", "2_10 0L1d10"),
 ];
+
+// Hands the table out, so that what goes over it is proved without its rows.
+fn rows() -> &'static [(Named, &'static str, &'static str)] {
+    ROWS
+}
 
 // The strategy and error mode of a sign.
 fn choice_of(sign: u8) -> Option<(Strategy, Errors)> {
@@ -139,11 +144,39 @@ fn seen_after(rt: &(impl Wait + Abort), heap: &Heap, kind: Kind, signs: &[u8]) -
 #[test]
 fn a_look_tells_what_the_calls_came_to(rt: HostRuntime) {
     let heap = unlimited(&rt);
-    for (named, signs, wanted) in &ROWS {
+    for (named, signs, wanted) in rows() {
         let kind = kind_of(&heap, *named).expect(&rt, "a kind");
         let told = seen_after(&rt, &heap, kind, signs.as_bytes());
         expect_told(&rt, told.as_bytes(), wanted, signs);
     }
+}
+
+// Who watches is shown the subject by the letters that come anyway, beside one that asks; each only what came since it last looked.
+#[test]
+fn a_watch_beside_one_who_asks(rt: HostRuntime) {
+    let heap = unlimited(&rt);
+    let Bench {
+        mut pump,
+        mut port,
+        outs: _outs,
+        replies: _replies,
+    } = bench_of(&rt, &heap, rules_of(Kind::Publish));
+    let shown = pump.show(copy(&rt, &heap)).expect(&rt, "memory");
+    expect_that(&rt, shown.watch(&rt).is_none(), "nothing came");
+    for sign in b"Babc" {
+        make(&rt, &mut pump, &mut port, event_by(&rt, &heap, *sign));
+    }
+    shown.want(&rt).expect(&rt, "memory");
+    let first = shown.watch(&rt).expect(&rt, "a look");
+    expect_count(&rt, u64::from(first.joins), 1, "it was filled by the first");
+    expect_that(&rt, shown.watch(&rt).is_none(), "no letter came");
+    make(&rt, &mut pump, &mut port, LOOKING);
+    let asked = shown.take(&rt).expect(&rt, "what was asked for");
+    expect_that(&rt, asked.backlog.is_none(), "only who watches asks for it");
+    let second = shown.watch(&rt).expect(&rt, "a second look");
+    expect_count(&rt, u64::from(second.items), 3, "items");
+    let backlog = second.backlog.expect(&rt, "a backlog");
+    expect_count(&rt, backlog.bytes, 2, "bytes");
 }
 
 #[test]

@@ -21,7 +21,7 @@ struct Load {
 }
 
 // The rooms of a box, and bodies with and without a wake.
-const LOADS: [Load; 6] = [
+const LOADS: &[Load] = &[
     Load {
         capacity: 1,
         bodies: 10_000,
@@ -53,6 +53,11 @@ const LOADS: [Load; 6] = [
         quiet: 1_000_000,
     },
 ];
+
+// Hands the table out, so that what goes over it is proved without its rows.
+fn loads() -> &'static [Load] {
+    LOADS
+}
 
 // Sends the bodies 0, 1, 2 and so on, and lets the port go.
 fn send_many(rt: &(impl Wait + Abort), mut port: Port<u32>, load: Load) {
@@ -101,7 +106,7 @@ fn carry<R: Threads + Wait + Abort + Sync>(rt: &R, alloc: &Heap, load: Load) {
 }
 
 fn carry_all<R: Threads + Wait + Abort + Sync>(rt: &R, alloc: &Heap) {
-    for load in &LOADS {
+    for load in loads() {
         carry(rt, alloc, *load);
     }
 }
