@@ -13,6 +13,9 @@ import time
 # How long anything may take, in seconds.
 MOST = 60
 
+# What is logged of a subject that is over, which is no warning.
+OVER = re.compile(r"<6>rxline: [-a-z0-9]+ is over: (DONE|FAILED) after [0-9]+ items")
+
 NAME = os.path.basename(sys.argv[0])
 
 
@@ -71,9 +74,11 @@ class Server:
             return faults.read().splitlines()
 
     def logged(self):
-        """Returns how many events its log lines tell so far, by what they say; each is a line of a warning, and stands behind the others."""
+        """Returns how many events its warnings tell so far, by what they say; each is a line of the log, and stands behind the others."""
         events = {}
         for line in self.told()[1:]:
+            if OVER.fullmatch(line):
+                continue
             match = re.fullmatch(r"<4>rxline: (.*?)(?: \(and ([1-9][0-9]*) more\))?", line)
             want(f"that {line!r} is a log line", match is not None, True)
             events[match.group(1)] = events.get(match.group(1), 0) + 1 + int(match.group(2) or 0)

@@ -1,6 +1,7 @@
 """What a server bounds: times, memory, and who may listen at its path."""
 
 import os
+import re
 import subprocess
 import time
 
@@ -163,8 +164,38 @@ def keeps_the_place_of_one_who_stalls(rxline):
         want("the report", server.report(), b"s joins 3 refused 0\n")
         # Of the other one, of whom items were let go, so much may wait that it is given up too. Who went by itself is not told.
         logged = server.logged()
-        want("what is logged", list(logged), ["a peer is given up: it took nothing for 1 s"])
-        want("whether each is told once", logged.popitem()[1] in (1, 2), True)
+        told = {re.sub(r"^observer [01] of s(.*), [1-9][0-9]* bytes wait$", r"\1", line) for line in logged}
+        want("what is logged", told, {" is given up: its peer took nothing for 1 s"})
+        want("whether each is told once", sum(logged.values()) in (1, 2), True)
+
+
+# What may wait for an observer, what is logged, whether another one has its place then, and how many joins there were.
+BOUNDS = [
+    (100_000, {"observer 0 of s is given up: more than 100000 bytes wait for it": 1}, b"JOINED 2", 3),
+    (0, {}, b"ERR FULL", 2),
+]
+
+
+@case
+def keeps_all_for_one_who_never_reads(rxline):
+    """Under BUFFER so many bytes wait for one who never reads, and then it is given up, long before `stall` is over, and the other one
+    hears all. Where there is no bound it is kept."""
+    for waiting, logged, answer, joins in BOUNDS:
+        with Server(rxline, config("connections = 4", f"waiting = {waiting}")) as server:
+            _stopped, reader, producer = joined(server, 0), joined(server, 1), Peer(server.path)
+            # More than a socket and the bound take.
+            emit_for(producer, [reader], [LONG] * 10_000)
+            if logged:
+                server.expect_logged(logged)
+            else:
+                time.sleep(3)
+            late = Peer(server.path)
+            late.ask(b"SUB s BUFFER DELAY", answer)
+            answered_to_quit(producer, b"END s")
+            reader.hear_last(b"DONE\n")
+            late.close()
+            want("the report", server.report(), b"s joins %d refused 0\n" % joins)
+            want("what is logged", server.logged(), logged)
 
 
 # The report, the path, and memory.
@@ -255,10 +286,10 @@ MANY = 20_000
 MEMORY = b"ERR MEMORY"
 
 
-def emits_until_refused(producer):
+def emits_until_refused(producer, text=LONG):
     """Returns how many items are admitted until one is refused for want of memory."""
     for admitted in range(MANY):
-        producer.send(b"PUB s " + LONG + b"\n")
+        producer.send(b"PUB s " + text + b"\n")
         answer = producer.line()
         if answer != b"OK":
             want("what an item is refused for", answer, MEMORY)
@@ -293,6 +324,28 @@ def holds_more_than_its_budget(rxline):
         # How many were refused is told of the hub alone, and not of texts.
         want("the report of the first", first.rpartition(b" ")[0], b"s joins 1 refused")
         want("the report of the second", second, b"t joins 0 refused 0")
+
+
+BUDGET = "s refuses: its budget of 64000 bytes is used up"
+
+
+@case
+def keeps_quiet_of_a_subject(rxline):
+    """That a subject refuses for want of its budget is told, and how it ended, once."""
+    subjects = PUBLISH + 'budget = 64000\n[[subject]]\nname = "t"\nkind = "publish"\n[pool]\nconnections = 2\n'
+    with Server(rxline, subjects) as server:
+        reader, producer = joined(server, 0), Peer(server.path)
+        # So short that a text takes no memory of its own: it is the subject that refuses.
+        admitted = emits_until_refused(producer, b"a")
+        for _ in range(admitted):
+            reader.hear(b"NEXT a\n")
+        answered_to_quit(producer, b"PUB t a", b"PUB t b", b"FAIL t why", b"END s")
+        reader.hear_last(b"DONE\n")
+        server.report()
+        over = [line for line in server.told() if line.startswith("<6>")]
+        wanted = [f"<6>rxline: s is over: DONE after {admitted} items", "<6>rxline: t is over: FAILED after 2 items"]
+        want("what is told of their ends", sorted(over), wanted)
+        want("what is logged", list(server.logged()), [BUDGET])
 
 
 @case

@@ -18,7 +18,7 @@ UNCONNECTED = b"rxline: no/such/socket: No such file or directory (os error 2)\n
 SEEDED = '[[subject]]\nname = "s"\nkind = "behavior"\nseed = "z"\n'
 SEEDED_LINES = (
     b"subject s behavior observers 64 joins 4294967295 items 4294967295 seed z\n"
-    b"pool drainers 1 workers 4 window 16 connections 4294967295 stall 60\n"
+    b"pool drainers 1 workers 4 window 16 connections 4294967295 stall 60 waiting 33554432\n"
 )
 REPLAY = '[[subject]]\nname = "s"\nkind = "replay"\n'
 
@@ -41,6 +41,9 @@ STATUSES = [
     (["sub", "no/such/socket", "s"], 1, b"", UNCONNECTED),
     (["stats", "no/such/socket"], 1, b"", UNCONNECTED),
     (["stats", "no/such/socket", "--json"], 1, b"", UNCONNECTED),
+    (["stop", "no/such/socket"], 1, b"", UNCONNECTED),
+    (["stop", "no/such/socket", "--within", "3600"], 1, b"", UNCONNECTED),
+    (["stop", "no/such/socket", "--within", "3601"], 2, b"", b"error: --within takes a number of seconds, from 0 to 3600\n"),
 ]
 
 
@@ -86,7 +89,16 @@ def lines_of_replay(bound):
     items = value if key == "items" else "4294967295"
     budget = f" budget {value}" if key == "budget" else ""
     subject = f"subject s replay{kept} observers 64 joins 4294967295 items {items}{budget}\n"
-    return subject.encode() + b"pool drainers 1 workers 4 window 16 connections 4294967295 stall 60\n"
+    return subject.encode() + b"pool drainers 1 workers 4 window 16 connections 4294967295 stall 60 waiting 33554432\n"
+
+
+# What is told where nothing bounds what waits for an observer.
+WAITS = b"subject 0: all that it takes may wait for an observer: waiting, items or budget bounds that, as in: waiting = 33554432\n"
+
+
+def lines_without_bound(bound):
+    """Returns the lines of a configuration of a Publish with this bound, and none of what waits for an observer."""
+    return lines_of_replay(bound).replace(b"replay", b"publish").replace(b"waiting 33554432", b"waiting 0")
 
 
 # Commands, the configuration that each is given, the status, what is written and what is told.
@@ -101,12 +113,15 @@ FILES = [
         REPLAY + "count = 16\n[pool]\nwindow = 1\n",
         0,
         b"subject s replay count 16 observers 64 joins 4294967295 items 4294967295\n"
-        b"pool drainers 1 workers 4 window 1 connections 4294967295 stall 60\n",
+        b"pool drainers 1 workers 4 window 1 connections 4294967295 stall 60 waiting 33554432\n",
         b"",
     ),
     # What bounds a Replay, each alone, and nothing.
     *(("check", REPLAY + bound, 0, lines_of_replay(bound), b"") for bound in BOUNDS),
     ("check", REPLAY, 0, lines_of_replay(""), BOUNDLESS),
+    # What bounds what waits for an observer, and nothing.
+    ("check", PUBLISH + "[pool]\nwaiting = 0\n", 0, lines_without_bound(""), WAITS),
+    *(("check", PUBLISH + bound + "[pool]\nwaiting = 0\n", 0, lines_without_bound(bound), b"") for bound in BOUNDS[2:]),
     (
         "check",
         PUBLISH + 'seed = "z"\n',
@@ -149,6 +164,7 @@ WRONG = [
     (["check"], 2, b"", b"error: ", usage(b"check <config> [socket]")),
     (["stats"], 2, b"", b"error: ", usage(b"stats <socket> [--json]")),
     (["stats", "a", "b"], 2, b"", b"error: ", usage(b"stats <socket> [--json]")),
+    (["stop"], 2, b"", b"error: ", usage(b"stop <socket> [--within SECONDS]")),
     (["\x1b[2J"], 2, b"", b"error: ", b"For more information, try '--help'.\n"),
 ]
 
