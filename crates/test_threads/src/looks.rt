@@ -179,6 +179,45 @@ fn a_watch_beside_one_who_asks(rt: HostRuntime) {
     expect_count(&rt, backlog.bytes, 2, "bytes");
 }
 
+// How many items come between two looks of who watches, and how many the second one has: that of the first of them, or 256 further on,
+// or as many further on as waited then.
+const BURSTS: &[(u32, u32)] = &[
+    (256, 1),
+    (257, 257),
+    (512, 257),
+    (513, 513),
+    (1_024, 513),
+    (1_025, 1_025),
+];
+
+// The items of the look behind so many, of which the observer is given one.
+fn watched_after(rt: &(impl Wait + Abort), heap: &Heap, items: u32) -> u32 {
+    let Bench {
+        mut pump,
+        mut port,
+        outs: _outs,
+        mut replies,
+    } = bench_of(rt, heap, rules_of(Kind::Publish));
+    let shown = pump.show(copy(rt, heap)).expect(rt, "memory");
+    make(rt, &mut pump, &mut port, event_by(rt, heap, b'B'));
+    expect_that(rt, shown.watch(rt).is_some(), "a look");
+    for _ in 0..items {
+        make(rt, &mut pump, &mut port, event_by(rt, heap, b'a'));
+        let _ = replies.recv(rt).expect(rt, "a reply");
+    }
+    shown.watch(rt).expect(rt, "a look").items
+}
+
+// A burst between two looks is seen, though nothing comes behind it.
+#[test]
+fn a_burst_is_watched(rt: HostRuntime) {
+    let heap = unlimited(&rt);
+    for (items, wanted) in BURSTS {
+        let seen = watched_after(&rt, &heap, *items);
+        expect_count(&rt, u64::from(seen), u64::from(*wanted), "items seen");
+    }
+}
+
 #[test]
 fn a_pump_that_is_gone_shows_nothing(rt: HostRuntime) {
     let heap = unlimited(&rt);

@@ -6,9 +6,12 @@ ghost use Rattle.rx_hub.specs.Hubs.{StandsFor};
 ghost use Rattle.rx_hub.specs.Looks.{IsSeen};
 
 use rx_heap::{Heap, Memory};
-use rx_hub::{Backlog, Hub, SubjectLook};
-use std::sync::atomic::{AtomicBool, Ordering};
+use rx_hub::{Backlog, Hub, NoObserver, SubjectLook};
+use std::sync::atomic::{AtomicBool, AtomicU64, Ordering};
 use std::sync::{Arc, Mutex, Wait};
+
+// Who watches is shown the subject once more behind so many more items at least.
+const LEAST: u64 = 256;
 
 /// What another thread sees of the subject of a pump and its observers. One that asks wants a look, makes a call that changes
 /// nothing, and takes the look once that call was replied to; beside it one may watch, which makes no call. One reader at a time of
@@ -19,6 +22,9 @@ pub struct Shown {
     watched: Slot,
     // Who watches is shown the end of the subject, though no letter comes behind that.
     is_end_shown: AtomicBool,
+    // At how many items who watches is shown the subject once more, though the look before was not taken: else a burst between two
+    // looks, behind which nothing comes, would never be seen.
+    next: AtomicU64,
     alloc: Heap,
 }
 
@@ -46,6 +52,7 @@ impl Shown {
             asked: Slot::new(None),
             watched: Slot::new(Some(blank)),
             is_end_shown: AtomicBool::new(false),
+            next: AtomicU64::new(LEAST),
             alloc: alloc.clone()?,
         };
         Ok(Arc::new(alloc, shown)?)
@@ -67,7 +74,8 @@ impl Shown {
     }
 
     /// What is seen by who watches: the look that was filled since the last one, with its backlog, where the pump handled a letter
-    /// since; then the next is wanted. So a subject at which nothing happens costs nothing. None too where there was no memory.
+    /// since; then the next is wanted. So a subject at which nothing happens costs nothing. A look is of the first letter since, or of a
+    /// later one: it is at most as many items old as it has notes waiting, or 256. None too where there was no memory.
     pub fn watch<R: Wait>(&self, rt: &R) -> Option<SubjectLook> {
         if self.watched.is_wanted() {
             return None;
@@ -81,19 +89,39 @@ impl Shown {
         }
     }
 
-    // Fills the looks that are wanted. Only one that is watched has the backlog, for which the pump goes over all that waits for an
-    // observer.
+    // Fills the looks that are wanted.
     #[inline(always)] // behind each letter
     pub(crate) fn fill<R: Wait>(&self, rt: &R, hub: &Hub) {
         if self.asked.is_wanted() {
             self.asked.fill(rt, hub, None);
         }
-        let is_ended = hub.is_ended();
-        let is_new = is_ended && !self.is_end_shown.load(Ordering::SeqCst);
-        if is_new || self.watched.is_wanted() {
-            self.is_end_shown.store(is_ended, Ordering::SeqCst);
-            self.watched.fill(rt, hub, hub.backlog());
+        let is_new = hub.is_ended() && !self.is_end_shown.load(Ordering::SeqCst);
+        let is_due = u64::from(hub.items()) >= self.next.load(Ordering::SeqCst);
+        if is_new || is_due || self.watched.is_wanted() {
+            self.fill_watched(rt, hub);
         }
+    }
+
+    // Only one that is watched has the backlog, for which the pump goes over all that waits for an observer: so the next is due behind
+    // as many items.
+    #[inline(never)] // rare
+    fn fill_watched<R: Wait>(&self, rt: &R, hub: &Hub) {
+        let backlog = hub.backlog();
+        let next = u64::from(hub.items()).saturating_add(LEAST.max(waiting_by(hub, &backlog)));
+        self.next.store(next, Ordering::SeqCst);
+        self.is_end_shown.store(hub.is_ended(), Ordering::SeqCst);
+        self.watched.fill(rt, hub, backlog);
+    }
+}
+
+// How many notes wait for the observer of a backlog.
+fn waiting_by(hub: &Hub, backlog: &Option<Backlog>) -> u64 {
+    match backlog {
+        Some(backlog) => match hub.waiting_of(backlog.who) {
+            Ok(waiting) => waiting as u64,
+            Err(NoObserver) => 0,
+        },
+        None => 0,
     }
 }
 
