@@ -10,14 +10,14 @@ use Rattle.std.specs.List.{All, list_all}
 use Rattle.std.specs.Prelude.{nat_le}
 use Rattle.httparse.proofs.OnLiterals.{httparse_on_literals}
 use Rattle.httparse.specs.Grammar.{Field, IsField, IsResponseHead, ReadsResponse, ResponseHead, is_token, is_value_byte, reason_phrase}
-use Rattle.rx_http.specs.Answers.{accepted_body, answer_bytes}
+use Rattle.rx_http.specs.Answers.{accepted_body, again_member, answer_bytes, place_member}
 use Rattle.rx_http.specs.Epochs.{IsEpoch}
 use Rattle.rx_http.specs.Laws.{IsPlace}
 use Rattle.rx_http.specs.Responses.{AnswersAreRead, body_of, head_of}
 use Rattle.rx_http.specs.declared.answer.Answer.TheVariants.{Events, Over, Well, Unwell, Accepted, Requested, Shown, Stops, Refused}
 use Rattle.rx_http.specs.declared.request.look_form.LookForm.TheVariants.{Stats, Metrics, Lines, Page}
 use Rattle.rx_http.specs.declared.answer.refusal.Refusal.{Refusal}
-use Rattle.rx_http.specs.declared.answer.refusal.Refusal.TheVariants.{Head, Word, LastEventId, Lf, Items, Within, Origin, NoStop, ReadOnly, Subject, Path, Observer, Method, OnlyGet, OnlyPost, Length, Long, Ended, Spent, LongHead, Gone, Full, Stopping, Memory}
+use Rattle.rx_http.specs.declared.answer.refusal.Refusal.TheVariants.{Head, Word, LastEventId, Lf, Key, Items, Within, Origin, NoStop, ReadOnly, Subject, Path, Observer, Method, OnlyGet, OnlyPost, Length, Long, Ended, Spent, LongHead, Gone, Full, Stopping, Memory}
 
 both : {P : Type 0} (a b : Bool) → (a && b) ≡ true → (a ≡ true → b ≡ true → P) → P
 both true true is then = then refl refl
@@ -58,6 +58,7 @@ refusals_are_read Head = (head-is _ refl, refl)
 refusals_are_read Word = (head-is _ refl, refl)
 refusals_are_read LastEventId = (head-is _ refl, refl)
 refusals_are_read Lf = (head-is _ refl, refl)
+refusals_are_read Key = (head-is _ refl, refl)
 refusals_are_read Items = (head-is _ refl, refl)
 refusals_are_read Within = (head-is _ refl, refl)
 refusals_are_read Origin = (head-is _ refl, refl)
@@ -102,15 +103,25 @@ decimal-values n fits =
 
 -- the answer to an emission: its length is a number
 
-accepted-few : (epoch : List ℕ) (place : Option ℕ) → IsEpoch epoch → IsPlace place → length (accepted_body epoch place) < 2 ^ 64
-accepted-few epoch None is fits = let few = is.few in omega (arith, length-append epoch (codes "\"}\n"))
-accepted-few epoch (Some place) is fits =
+place-few : (place : Option ℕ) → IsPlace place → length (place_member place) ≤ 20
+place-few None fits = omega arith
+place-few (Some place) fits = omega (arith, length-decimal-le 10 place (omega arith) (omega arith) (omega arith))
+
+again-few : (again : Bool) → length (again_member again) ≤ 20
+again-few true = omega arith
+again-few false = omega arith
+
+accepted-few : (epoch : List ℕ) (place : Option ℕ) (again : Bool) → IsEpoch epoch → IsPlace place → length (accepted_body epoch place again) < 2 ^ 64
+accepted-few epoch place again is fits =
     let few = is.few in
+    let end = again_member again ++ codes "}\n" in
     omega (
       arith,
-      length-append epoch (codes "\"" ++ ((codes ",\"place\":" ++ decimal place) ++ codes "}\n")),
-      length-append (decimal place) (codes "}\n"),
-      length-decimal-le 10 place (omega arith) (omega arith) (omega arith),
+      length-append epoch (codes "\"" ++ (place_member place ++ end)),
+      length-append (place_member place) end,
+      length-append (again_member again) (codes "}\n"),
+      place-few place fits,
+      again-few again,
     )
 
 -- what stands behind a length
@@ -157,12 +168,12 @@ unfolding httparse_on_literals
 page_is_read body few =
     (head-is _ (ap (λ b. b && true) (decimal-values (length body) (omega arith))), ap (λ l. as_page l body) (sym (behind (decimal (length body)) (codes "\r\n") (others ++ framed) (codes "\r\n"))))
 
-accepted_are_read : (epoch : List ℕ) (place : Option ℕ) → IsEpoch epoch → IsPlace place
-    → ReadsResponse (answer_bytes (Accepted epoch place)) (head_of (Accepted epoch place)) (body_of (Accepted epoch place))
+accepted_are_read : (epoch : List ℕ) (place : Option ℕ) (again : Bool) → IsEpoch epoch → IsPlace place
+    → ReadsResponse (answer_bytes (Accepted epoch place again)) (head_of (Accepted epoch place again)) (body_of (Accepted epoch place again))
 unfolding httparse_on_literals
-accepted_are_read epoch place is fits =
-    let body = accepted_body epoch place in
-    let few = accepted-few epoch place is fits in
+accepted_are_read epoch place again is fits =
+    let body = accepted_body epoch place again in
+    let few = accepted-few epoch place again is fits in
     (head-is _ (ap (λ b. b && true) (decimal-values (length body) few)), ap (λ l. with_length l body) (sym (behind (decimal (length body)) (codes "\r\n") others (codes "\r\n"))))
 
 pub answers_are_read : AnswersAreRead
@@ -171,7 +182,7 @@ answers_are_read Events is = (head-is _ refl, refl)
 answers_are_read Over is = (head-is _ refl, refl)
 answers_are_read Well is = (head-is _ refl, refl)
 answers_are_read Unwell is = (head-is _ refl, refl)
-answers_are_read (Accepted epoch place) is = accepted_are_read epoch place is.0 is.1
+answers_are_read (Accepted epoch place again) is = accepted_are_read epoch place again is.0 is.1
 answers_are_read Requested is = (head-is _ refl, refl)
 answers_are_read (Shown Stats body) is = stats_are_read body is
 answers_are_read (Shown Metrics body) is = metrics_are_read body is

@@ -5,9 +5,10 @@ use Rattle.rx_note.specs.Choices.{Choice, choice}
 use Rattle.rx_note.specs.declared.errors.Errors.{Errors}
 use Rattle.rx_note.specs.declared.errors.Errors.TheVariants.{Ahead, Delay}
 use Rattle.rx_proto.specs.Names.{IsName}
-use Rattle.rx_http.specs.Asking.{AsksAt, AsksForEmission, AsksForEvents, AsksForItems, AsksForRequest, AsksForStop, HasWords, HeadAsksForOne, NamesSubject, Nowhere, Route, SaysItems, SaysObserver, SaysSome, SaysStop, ToEmission, ToEvents, ToHealth, ToLook, ToRequest, ToStop, known_word}
+use Rattle.rx_http.specs.Asking.{AsksAt, AsksForEmission, AsksForEvents, AsksForItems, AsksForRequest, AsksForStop, HasWords, HeadAsksForOne, NamesSubject, Nowhere, Route, SaysItems, SaysObserver, SaysSome, SaysSomeKey, SaysStop, ToEmission, ToEvents, ToHealth, ToLook, ToRequest, ToStop, known_word}
 use Rattle.rx_http.specs.Bodies.{HasSize}
 use Rattle.rx_http.specs.Ids.{id_of, over_word, place_digits}
+use Rattle.rx_http.specs.Keys.{SaysKey}
 use Rattle.rx_http.specs.Laws.{IsPlace}
 use Rattle.rx_http.specs.Words.{HasCredit, HasPace, HasPolicy, HasWindow, HasWithin, IsId, SaysKnown, credit_word, errors_word, observer_id}
 use Rattle.rx_http.specs.declared.request.asked.Asked.{Asked}
@@ -16,7 +17,7 @@ use Rattle.rx_http.specs.declared.request.credit.Credit.{Credit}
 use Rattle.rx_http.specs.declared.request.note_kind.NoteKind.{NoteKind}
 use Rattle.rx_http.specs.declared.request.observer_id.ObserverId.{ObserverId}
 use Rattle.rx_http.specs.declared.answer.refusal.Refusal.{Refusal}
-use Rattle.rx_http.specs.declared.answer.refusal.Refusal.TheVariants.{Head, Word, LastEventId, Lf, Items, Within, Origin, NoStop, ReadOnly, Subject, Path, Observer, Method, OnlyGet, OnlyPost, Length, Long, Ended, Spent, LongHead, Gone, Full, Stopping, Memory}
+use Rattle.rx_http.specs.declared.answer.refusal.Refusal.TheVariants.{Head, Word, LastEventId, Lf, Key, Items, Within, Origin, NoStop, ReadOnly, Subject, Path, Observer, Method, OnlyGet, OnlyPost, Length, Long, Ended, Spent, LongHead, Gone, Full, Stopping, Memory}
 use Rattle.rx_http.specs.declared.id.Id.{Id}
 use Rattle.rx_http.proofs.Cuts.{parted-one}
 use Rattle.rx_http.proofs.Spelled.{apart, limits-room, strategy-one}
@@ -123,7 +124,7 @@ verdict : (name query : List ℕ) (field : Option (List ℕ)) (result : Result A
 unfolding result_of Holds
 verdict name query field (Ok (Events subject policy credit known)) asks =
     (Served policy credit known, ap (λ s. Ok (Events s policy credit known)) asks.4, (asks.0, asks.1, asks.2, asks.3))
-verdict name query field (Ok (Emission subject kind size)) asks = absurd asks
+verdict name query field (Ok (Emission subject kind size key)) asks = absurd asks
 verdict name query field (Ok (Request subject observer items)) asks = absurd asks
 verdict name query field (Ok Health) asks = absurd asks
 verdict name query field (Ok (Look form)) asks = absurd asks
@@ -142,6 +143,7 @@ verdict name query field (Err Within) asks = absurd asks
 verdict name query field (Err NoStop) asks = absurd asks
 verdict name query field (Err ReadOnly) asks = absurd asks
 verdict name query field (Err Lf) asks = absurd asks
+verdict name query field (Err Key) asks = absurd asks
 verdict name query field (Err Path) asks = absurd asks
 verdict name query field (Err Method) asks = absurd asks
 verdict name query field (Err Spent) asks = absurd asks
@@ -178,59 +180,96 @@ verdict-one name query word NoName NoName p q = refl
 
 -- SO DOES AN EMISSION
 
--- an emission names its subject, or nothing that is one
-named : (name : List ℕ) (kind : NoteKind) (size : ℕ) (result : Result Asked Refusal) → NamesSubject name kind size result
-    → (IsName name × (result ≡ Ok (Emission name kind size))) ⊎ ((IsName name → ⊥) × (result ≡ Err Subject))
-named name kind size (Ok (Emission subject said bytes)) names =
-    inl (
-      names.0,
-      ap (λ s. Ok (Emission s said bytes)) names.1 ∙ ap (λ k. Ok (Emission name k bytes)) names.2 ∙ ap (λ n. Ok (Emission name kind n)) names.3,
-    )
-named name kind size (Ok (Events subject policy credit known)) names = absurd names
-named name kind size (Ok (Request subject observer items)) names = absurd names
-named name kind size (Ok Health) names = absurd names
-named name kind size (Ok (Look form)) names = absurd names
-named name kind size (Ok (Stop within)) names = absurd names
-named name kind size (Err Subject) names = inr (names, refl)
-named name kind size (Err Head) names = absurd names
-named name kind size (Err Word) names = absurd names
-named name kind size (Err LastEventId) names = absurd names
-named name kind size (Err Lf) names = absurd names
-named name kind size (Err Origin) names = absurd names
-named name kind size (Err Within) names = absurd names
-named name kind size (Err NoStop) names = absurd names
-named name kind size (Err ReadOnly) names = absurd names
-named name kind size (Err Path) names = absurd names
-named name kind size (Err Method) names = absurd names
-named name kind size (Err OnlyGet) names = absurd names
-named name kind size (Err OnlyPost) names = absurd names
-named name kind size (Err Length) names = absurd names
-named name kind size (Err Long) names = absurd names
-named name kind size (Err LongHead) names = absurd names
-named name kind size (Err Ended) names = absurd names
-named name kind size (Err Spent) names = absurd names
-named name kind size (Err Gone) names = absurd names
-named name kind size (Err Full) names = absurd names
-named name kind size (Err Stopping) names = absurd names
-named name kind size (Err Memory) names = absurd names
-named name kind size (Err Items) names = absurd names
-named name kind size (Err Observer) names = absurd names
+says-one : (field a b : Option (List ℕ)) → SaysKey field a → SaysKey field b → a ≡ b
+says-one None None None p q = refl
+says-one None None (Some b) p q = absurd q
+says-one None (Some a) b p q = absurd p
+says-one (Some word) None b p q = absurd p
+says-one (Some word) (Some a) None p q = absurd q
+says-one (Some word) (Some a) (Some b) p q = ap Some (p.1 ∙ sym q.1)
 
-names-one : (name : List ℕ) (a b one other : Result Asked Refusal) → (IsName name × (a ≡ one)) ⊎ ((IsName name → ⊥) × (a ≡ other))
-    → (IsName name × (b ≡ one)) ⊎ ((IsName name → ⊥) × (b ≡ other)) → a ≡ b
-names-one name a b one other (inl p) (inl q) = p.1 ∙ sym q.1
-names-one name a b one other (inl p) (inr q) = absurd (q.0 p.0)
-names-one name a b one other (inr p) (inl q) = absurd (p.0 q.0)
-names-one name a b one other (inr p) (inr q) = p.1 ∙ sym q.1
+-- what is made of it
+data Naming : Type 0 where
+  Named : (key : Option (List ℕ)) → Naming
+  NoKey NoSubject : Naming
 
-emission-one : (name : List ℕ) (kind : NoteKind) (foreign : Bool) (size : Option ℕ) (a b : Result Asked Refusal) → AsksForEmission name kind foreign size a
-    → AsksForEmission name kind foreign size b → a ≡ b
-emission-one name kind true size a b p q = p ∙ sym q
-emission-one name kind false None a b p q = p ∙ sym q
-emission-one name kind false (Some n) a b (inl p) (inl q) = p.1 ∙ sym q.1
-emission-one name kind false (Some n) a b (inl p) (inr q) = absurd (omega (arith, p.0, q.0))
-emission-one name kind false (Some n) a b (inr p) (inl q) = absurd (omega (arith, p.0, q.0))
-emission-one name kind false (Some n) a b (inr p) (inr q) = names-one name a b _ _ (named name kind n a p.1) (named name kind n b q.1)
+named_by : List ℕ → NoteKind → ℕ → Naming → Result Asked Refusal
+named_by name kind size (Named key) = Ok (Emission name kind size key)
+named_by name kind size NoKey = Err Key
+named_by name kind size NoSubject = Err Subject
+
+Names : List ℕ → Option (List ℕ) → Naming → Type 0
+Names name field (Named key) = SaysKey field key × IsName name
+Names name field NoKey = SaysSomeKey field → ⊥
+Names name field NoSubject = SaysSomeKey field × (IsName name → ⊥)
+
+-- an emission says its key and names its subject, or nothing that is one
+named : (name : List ℕ) (kind : NoteKind) (size : ℕ) (field : Option (List ℕ)) (result : Result Asked Refusal) → NamesSubject name kind size field result
+    → (n : Naming) × (result ≡ named_by name kind size n) × Names name field n
+unfolding named_by Names
+named name kind size field (Ok (Emission subject said bytes key)) names = (
+  Named key,
+  ap (λ s. Ok (Emission s said bytes key)) names.2 ∙ ap (λ k. Ok (Emission name k bytes key)) names.3 ∙ ap (λ n. Ok (Emission name kind n key)) names.4,
+  (names.0, names.1),
+)
+named name kind size field (Ok (Events subject policy credit known)) names = absurd names
+named name kind size field (Ok (Request subject observer items)) names = absurd names
+named name kind size field (Ok Health) names = absurd names
+named name kind size field (Ok (Look form)) names = absurd names
+named name kind size field (Ok (Stop within)) names = absurd names
+named name kind size field (Err Key) names = (NoKey, refl, names)
+named name kind size field (Err Subject) names = (NoSubject, refl, names)
+named name kind size field (Err Head) names = absurd names
+named name kind size field (Err Word) names = absurd names
+named name kind size field (Err LastEventId) names = absurd names
+named name kind size field (Err Lf) names = absurd names
+named name kind size field (Err Origin) names = absurd names
+named name kind size field (Err Within) names = absurd names
+named name kind size field (Err NoStop) names = absurd names
+named name kind size field (Err ReadOnly) names = absurd names
+named name kind size field (Err Path) names = absurd names
+named name kind size field (Err Method) names = absurd names
+named name kind size field (Err OnlyGet) names = absurd names
+named name kind size field (Err OnlyPost) names = absurd names
+named name kind size field (Err Length) names = absurd names
+named name kind size field (Err Long) names = absurd names
+named name kind size field (Err LongHead) names = absurd names
+named name kind size field (Err Ended) names = absurd names
+named name kind size field (Err Spent) names = absurd names
+named name kind size field (Err Gone) names = absurd names
+named name kind size field (Err Full) names = absurd names
+named name kind size field (Err Stopping) names = absurd names
+named name kind size field (Err Memory) names = absurd names
+named name kind size field (Err Items) names = absurd names
+named name kind size field (Err Observer) names = absurd names
+
+naming-one : (name : List ℕ) (field : Option (List ℕ)) (m n : Naming) → Names name field m → Names name field n → m ≡ n
+unfolding Names
+naming-one name field (Named a) (Named b) p q = ap Named (says-one field a b p.0 q.0)
+naming-one name field (Named a) NoKey p q = absurd (q (a, p.0))
+naming-one name field (Named a) NoSubject p q = absurd (q.1 p.1)
+naming-one name field NoKey (Named b) p q = absurd (p (b, q.0))
+naming-one name field NoKey NoKey p q = refl
+naming-one name field NoKey NoSubject p q = absurd (p q.0)
+naming-one name field NoSubject (Named b) p q = absurd (p.1 q.1)
+naming-one name field NoSubject NoKey p q = absurd (q p.0)
+naming-one name field NoSubject NoSubject p q = refl
+
+names-one : (name : List ℕ) (kind : NoteKind) (size : ℕ) (field : Option (List ℕ)) (a b : Result Asked Refusal) → NamesSubject name kind size field a
+    → NamesSubject name kind size field b → a ≡ b
+names-one name kind size field a b p q =
+    let m = named name kind size field a p in
+    let n = named name kind size field b q in
+    m.1 ∙ ap (named_by name kind size) (naming-one name field m.0 n.0 m.2 n.2) ∙ sym n.1
+
+emission-one : (name : List ℕ) (kind : NoteKind) (foreign : Bool) (size : Option ℕ) (key : Option (List ℕ)) (a b : Result Asked Refusal) → AsksForEmission name kind foreign size key a
+    → AsksForEmission name kind foreign size key b → a ≡ b
+emission-one name kind true size key a b p q = p ∙ sym q
+emission-one name kind false None key a b p q = p ∙ sym q
+emission-one name kind false (Some n) key a b (inl p) (inl q) = p.1 ∙ sym q.1
+emission-one name kind false (Some n) key a b (inl p) (inr q) = absurd (omega (arith, p.0, q.0))
+emission-one name kind false (Some n) key a b (inr p) (inl q) = absurd (omega (arith, p.0, q.0))
+emission-one name kind false (Some n) key a b (inr p) (inr q) = names-one name kind n key a b p.1 q.1
 
 -- SO DOES WHO ASKS FOR ITEMS
 
@@ -265,7 +304,7 @@ unfolding granted_by Grants
 granted name word query (Ok (Request subject observer items)) asks =
     (Granted observer items, ap (λ s. Ok (Request s observer items)) asks.3, (asks.0, asks.1, asks.2))
 granted name word query (Ok (Events subject policy credit known)) asks = absurd asks
-granted name word query (Ok (Emission subject kind size)) asks = absurd asks
+granted name word query (Ok (Emission subject kind size key)) asks = absurd asks
 granted name word query (Ok Health) asks = absurd asks
 granted name word query (Ok (Look form)) asks = absurd asks
 granted name word query (Ok (Stop within)) asks = absurd asks
@@ -276,6 +315,7 @@ granted name word query (Err Head) asks = absurd asks
 granted name word query (Err Word) asks = absurd asks
 granted name word query (Err LastEventId) asks = absurd asks
 granted name word query (Err Lf) asks = absurd asks
+granted name word query (Err Key) asks = absurd asks
 granted name word query (Err Origin) asks = absurd asks
 granted name word query (Err Within) asks = absurd asks
 granted name word query (Err NoStop) asks = absurd asks
@@ -331,7 +371,7 @@ halted : (query : List ℕ) (result : Result Asked Refusal) → SaysStop query r
     → ((within : ℕ) × HasWithin query within × (result ≡ Ok (Stop within))) ⊎ (((within : ℕ) → HasWithin query within → ⊥) × (result ≡ Err Within))
 halted query (Ok (Stop within)) says = inl (within, says, refl)
 halted query (Ok (Events subject policy credit known)) says = absurd says
-halted query (Ok (Emission subject kind size)) says = absurd says
+halted query (Ok (Emission subject kind size key)) says = absurd says
 halted query (Ok (Request subject observer items)) says = absurd says
 halted query (Ok Health) says = absurd says
 halted query (Ok (Look form)) says = absurd says
@@ -340,6 +380,7 @@ halted query (Err Head) says = absurd says
 halted query (Err Word) says = absurd says
 halted query (Err LastEventId) says = absurd says
 halted query (Err Lf) says = absurd says
+halted query (Err Key) says = absurd says
 halted query (Err Items) says = absurd says
 halted query (Err Origin) says = absurd says
 halted query (Err NoStop) says = absurd says
@@ -381,23 +422,23 @@ size-one None (Some word) None (Some n) p q = absurd (p n q.0 q.1)
 size-one None (Some word) (Some n) None p q = absurd (q n p.0 p.1)
 size-one None (Some word) (Some n) (Some m) p q = ap Some (decimal_injective n m (omega (arith, p.0)) (omega (arith, q.0)) (sym p.1 ∙ q.1))
 
-at-one : (route : Route) (query : List ℕ) (field : Option (List ℕ)) (foreign : Bool) (size : Option ℕ) (a b : Result Asked Refusal) → AsksAt route query field foreign size a
-    → AsksAt route query field foreign size b → a ≡ b
-at-one (ToEvents name) query field foreign size a b p q =
+at-one : (route : Route) (query : List ℕ) (field : Option (List ℕ)) (foreign : Bool) (size : Option ℕ) (key : Option (List ℕ)) (a b : Result Asked Refusal) → AsksAt route query field foreign size key a
+    → AsksAt route query field foreign size key b → a ≡ b
+at-one (ToEvents name) query field foreign size key a b p q =
     let v = verdict name query field a p in
     let w = verdict name query field b q in
     v.1 ∙ ap (result_of name) (verdict-one name query (known_word field query) v.0 w.0 v.2 w.2) ∙ sym w.1
-at-one (ToEmission name kind) query field foreign size a b p q = emission-one name kind foreign size a b p q
-at-one (ToRequest name word) query field foreign size a b p q = request-one name word query foreign a b p q
-at-one ToHealth query field foreign size a b p q = p ∙ sym q
-at-one (ToLook form) query field foreign size a b p q = p ∙ sym q
-at-one ToStop query field foreign size a b p q = stop-one query foreign a b p q
-at-one (Nowhere cause) query field foreign size a b p q = p ∙ sym q
+at-one (ToEmission name kind) query field foreign size key a b p q = emission-one name kind foreign size key a b p q
+at-one (ToRequest name word) query field foreign size key a b p q = request-one name word query foreign a b p q
+at-one ToHealth query field foreign size key a b p q = p ∙ sym q
+at-one (ToLook form) query field foreign size key a b p q = p ∙ sym q
+at-one ToStop query field foreign size key a b p q = stop-one query foreign a b p q
+at-one (Nowhere cause) query field foreign size key a b p q = p ∙ sym q
 
-sized-one : (route : Route) (query : List ℕ) (field coding length : Option (List ℕ)) (foreign : Bool) (n m : Option ℕ) (a b : Result Asked Refusal) → HasSize coding length n
-    → AsksAt route query field foreign n a → HasSize coding length m → AsksAt route query field foreign m b → a ≡ b
-sized-one route query field coding length foreign n m a b s p t q =
-    at-one route query field foreign n a b p (subst (λ size. AsksAt route query field foreign size b) (size-one coding length m n t s) q)
+sized-one : (route : Route) (query : List ℕ) (field coding length : Option (List ℕ)) (foreign : Bool) (n m : Option ℕ) (key : Option (List ℕ)) (a b : Result Asked Refusal) → HasSize coding length n
+    → AsksAt route query field foreign n key a → HasSize coding length m → AsksAt route query field foreign m key b → a ≡ b
+sized-one route query field coding length foreign n m key a b s p t q =
+    at-one route query field foreign n key a b p (subst (λ size. AsksAt route query field foreign size key b) (size-one coding length m n t s) q)
 
 pub asks-one : HeadAsksForOne
-asks-one head a b (n, s, p) (m, t, q) = sized-one _ _ _ _ _ _ n m a b s p t q
+asks-one head a b (n, s, p) (m, t, q) = sized-one _ _ _ _ _ _ n m _ a b s p t q

@@ -2,13 +2,13 @@
 --
 -- The exact answers: each answer is written as exactly its bytes, or a prefix of them after a fault; each says that it is the
 -- last of its connection. No memory is taken.
-use Rattle.std.specs.Prelude.{ℕ, List, [], ◌++◌, length, Option, None, Some, codes, decimal}
+use Rattle.std.specs.Prelude.{ℕ, Bool, true, false, List, [], ◌++◌, length, Option, None, Some, codes, decimal}
 use Rattle.rx_http.specs.declared.answer.Answer.{Answer}
 use Rattle.rx_http.specs.declared.answer.Answer.TheVariants.{Events, Over, Well, Unwell, Accepted, Requested, Shown, Stops, Refused}
 use Rattle.rx_http.specs.declared.request.look_form.LookForm.{LookForm}
 use Rattle.rx_http.specs.declared.request.look_form.LookForm.TheVariants.{Stats, Metrics, Lines, Page}
 use Rattle.rx_http.specs.declared.answer.refusal.Refusal.{Refusal}
-use Rattle.rx_http.specs.declared.answer.refusal.Refusal.TheVariants.{Head, Word, LastEventId, Lf, Items, Within, Origin, NoStop, ReadOnly, Subject, Path, Observer, Method, OnlyGet, OnlyPost, Length, Long, Ended, Spent, LongHead, Gone, Full, Stopping, Memory}
+use Rattle.rx_http.specs.declared.answer.refusal.Refusal.TheVariants.{Head, Word, LastEventId, Lf, Key, Items, Within, Origin, NoStop, ReadOnly, Subject, Path, Observer, Method, OnlyGet, OnlyPost, Length, Long, Ended, Spent, LongHead, Gone, Full, Stopping, Memory}
 
 -- the status of a refusal
 abbrev pub status_of : Refusal → List ℕ
@@ -16,6 +16,7 @@ status_of Head = codes "400 Bad Request"
 status_of Word = codes "400 Bad Request"
 status_of LastEventId = codes "400 Bad Request"
 status_of Lf = codes "400 Bad Request"
+status_of Key = codes "400 Bad Request"
 status_of Items = codes "400 Bad Request"
 status_of Within = codes "400 Bad Request"
 status_of Origin = codes "403 Forbidden"
@@ -43,6 +44,7 @@ error_of Head = codes "head"
 error_of Word = codes "strategy"
 error_of LastEventId = codes "last-event-id"
 error_of Lf = codes "lf"
+error_of Key = codes "idempotency-key"
 error_of Items = codes "request"
 error_of Within = codes "within"
 error_of Origin = codes "origin"
@@ -70,6 +72,7 @@ advice_of Head = codes "the head is not one of HTTP/1.1"
 advice_of Word = codes "strategy is BUFFER, DROP:n, LATEST:n or BOUNDED:n, errors AHEAD or DELAY, window 1 to 16, credit asked or socket"
 advice_of LastEventId = codes "it is none that a server tells"
 advice_of Lf = codes "a text is one line"
+advice_of Key = codes "a key is 1 to 64 visible characters"
 advice_of Items = codes "request is how many items more, at least 1"
 advice_of Within = codes "within is how many seconds, 0 to 3,600"
 advice_of Origin = codes "a page of another site sends it"
@@ -133,9 +136,15 @@ abbrev pub place_member : Option ℕ → List ℕ
 place_member None = []
 place_member (Some place) = codes ",\"place\":" ++ decimal place
 
--- the body of the answer to an emission that was accepted, in JSON: the epoch of the server, and where the item stands
-abbrev pub accepted_body : List ℕ → Option ℕ → List ℕ
-accepted_body epoch place = codes "{\"epoch\":\"" ++ (epoch ++ (codes "\"" ++ (place_member place ++ codes "}\n")))
+-- that it was accepted before, when it came by the same key
+abbrev pub again_member : Bool → List ℕ
+again_member false = []
+again_member true = codes ",\"again\":true"
+
+-- the body of the answer to an emission that was accepted, in JSON: the epoch of the server, where the item stands, and whether it was
+-- accepted before
+abbrev pub accepted_body : List ℕ → Option ℕ → Bool → List ℕ
+accepted_body epoch place again = codes "{\"epoch\":\"" ++ (epoch ++ (codes "\"" ++ (place_member place ++ (again_member again ++ codes "}\n"))))
 
 -- how what is seen of a server is told
 abbrev pub look_kind : LookForm → List ℕ
@@ -157,7 +166,7 @@ answer_bytes Events = events_head
 answer_bytes Over = empty_head
 answer_bytes Well = sized (codes "200 OK") plain_kind [] (codes "ok\n")
 answer_bytes Unwell = sized (codes "503 Service Unavailable") plain_kind [] (codes "unwell\n")
-answer_bytes (Accepted epoch place) = sized (codes "200 OK") (codes "application/json") [] (accepted_body epoch place)
+answer_bytes (Accepted epoch place again) = sized (codes "200 OK") (codes "application/json") [] (accepted_body epoch place again)
 answer_bytes Requested = empty_head
 answer_bytes (Shown form body) = sized (codes "200 OK") (look_kind form) (look_fields form) body
 answer_bytes Stops = sized (codes "202 Accepted") plain_kind [] (codes "stopping\n")

@@ -6,7 +6,7 @@
 -- `fail` behind it, for items for an observer, by POST of it with `observers/` and its word behind it, for whether all is well, by GET of `/healthz`, or for what is seen of the server, by GET of `/`, `/stats`,
 -- `/stats.txt` or `/metrics`, or for a stop, by POST of `/stop`; or it is refused for the first of these causes: its path,
 -- its method; of events a word of its query, what its reader says to know, the name of the subject; of an emission that a page
--- of another site sends it, that the size of its body isn't told, or is above 1,024 bytes, the name; of items that a page of
+-- of another site sends it, that the size of its body isn't told, or is above 1,024 bytes, its key, the name; of items that a page of
 -- another site asks for them, the word of the observer, how many they are, the name; of a stop that a page of another site asks for it,
 -- how long it waits. Other bytes are refused as
 -- too long, where they are more or begin with more fields, or as no head. It asks for one thing, or is refused for one cause.
@@ -20,6 +20,7 @@ use Rattle.rx_note.specs.Choices.{Choice}
 use Rattle.rx_proto.specs.Names.{IsName}
 use Rattle.rx_proto.specs.Reading.{begins_with, rest_behind, same_word}
 use Rattle.rx_http.specs.Bodies.{HasSize, is_foreign}
+use Rattle.rx_http.specs.Keys.{SaysKey}
 use Rattle.rx_http.specs.Queries.{cut_at, path_of, query_of, word_in}
 use Rattle.rx_http.specs.Words.{HasCredit, HasPolicy, HasWithin, IsNumber, IsObserver, SaysKnown, items_word, observer_word}
 use Rattle.rx_http.specs.declared.request.asked.Asked.{Asked}
@@ -61,18 +62,24 @@ AsksForEvents name query field (Err causes.LastEventId) = HasWords query × (Say
 AsksForEvents name query field (Err causes.Subject) = HasWords query × SaysSome (known_word field query) × (IsName name → ⊥)
 AsksForEvents name query field other = ⊥
 
--- what is asked for by an emission with a body of that size, by the name of its subject
-abbrev pub NamesSubject : List ℕ → NoteKind → ℕ → Result Asked Refusal → Type 0
-NamesSubject name kind size (Ok (Emission subject said bytes)) = IsName name × (subject ≡ name) × (said ≡ kind) × (bytes ≡ size)
-NamesSubject name kind size (Err causes.Subject) = IsName name → ⊥
-NamesSubject name kind size other = ⊥
+-- a field says a key, or there is none
+abbrev pub SaysSomeKey : Option (List ℕ) → Type 0
+SaysSomeKey field = (key : Option (List ℕ)) × SaysKey field key
+
+-- what is asked for by an emission with a body of that size, by its key and the name of its subject
+abbrev pub NamesSubject : List ℕ → NoteKind → ℕ → Option (List ℕ) → Result Asked Refusal → Type 0
+NamesSubject name kind size field (Ok (Emission subject said bytes key)) =
+    SaysKey field key × IsName name × (subject ≡ name) × (said ≡ kind) × (bytes ≡ size)
+NamesSubject name kind size field (Err causes.Key) = SaysSomeKey field → ⊥
+NamesSubject name kind size field (Err causes.Subject) = SaysSomeKey field × (IsName name → ⊥)
+NamesSubject name kind size field other = ⊥
 
 -- what is asked for by an emission, or the first cause for which it is refused: a page of another site sends it, its size isn't told, its
--- text is too long, the name
-abbrev pub AsksForEmission : List ℕ → NoteKind → Bool → Option ℕ → Result Asked Refusal → Type 0
-AsksForEmission name kind foreign size result =
+-- text is too long, its key is none, the name
+abbrev pub AsksForEmission : List ℕ → NoteKind → Bool → Option ℕ → Option (List ℕ) → Result Asked Refusal → Type 0
+AsksForEmission name kind foreign size key result =
     MatchBool foreign (result ≡ Err causes.Origin)
-    (MatchOption size (result ≡ Err causes.Length) (λ n. ((1024 < n) × (result ≡ Err causes.Long)) ⊎ ((n ≤ 1024) × NamesSubject name kind n result)))
+    (MatchOption size (result ≡ Err causes.Length) (λ n. ((1024 < n) × (result ≡ Err causes.Long)) ⊎ ((n ≤ 1024) × NamesSubject name kind n key result)))
 
 -- a word says this observer
 abbrev pub SaysObserver : List ℕ → ObserverId → Type 0
@@ -162,18 +169,19 @@ route_of method path =
     else Nowhere causes.Path)
 
 -- what is asked for at the end of a route, or the cause for which it is refused
-abbrev pub AsksAt : Route → List ℕ → Option (List ℕ) → Bool → Option ℕ → Result Asked Refusal → Type 0
-AsksAt (ToEvents name) query field foreign size result = AsksForEvents name query field result
-AsksAt (ToEmission name kind) query field foreign size result = AsksForEmission name kind foreign size result
-AsksAt (ToRequest name word) query field foreign size result = AsksForRequest name word query foreign result
-AsksAt ToHealth query field foreign size result = result ≡ Ok Health
-AsksAt (ToLook form) query field foreign size result = result ≡ Ok (Look form)
-AsksAt ToStop query field foreign size result = AsksForStop query foreign result
-AsksAt (Nowhere cause) query field foreign size result = result ≡ Err cause
+abbrev pub AsksAt : Route → List ℕ → Option (List ℕ) → Bool → Option ℕ → Option (List ℕ) → Result Asked Refusal → Type 0
+AsksAt (ToEvents name) query field foreign size key result = AsksForEvents name query field result
+AsksAt (ToEmission name kind) query field foreign size key result = AsksForEmission name kind foreign size key result
+AsksAt (ToRequest name word) query field foreign size key result = AsksForRequest name word query foreign result
+AsksAt ToHealth query field foreign size key result = result ≡ Ok Health
+AsksAt (ToLook form) query field foreign size key result = result ≡ Ok (Look form)
+AsksAt ToStop query field foreign size key result = AsksForStop query foreign result
+AsksAt (Nowhere cause) query field foreign size key result = result ≡ Err cause
 
--- what a method, a target and a field ask for, by whether a page of another site sent them and by the size of their body
-abbrev pub AsksFor : List ℕ → List ℕ → Option (List ℕ) → Bool → Option ℕ → Result Asked Refusal → Type 0
-AsksFor method target field foreign size result = AsksAt (route_of method (path_of target)) (query_of target) field foreign size result
+-- what a method, a target and a field ask for, by whether a page of another site sent them, by the size of their body, and by what they
+-- are named
+abbrev pub AsksFor : List ℕ → List ℕ → Option (List ℕ) → Bool → Option ℕ → Option (List ℕ) → Result Asked Refusal → Type 0
+AsksFor method target field foreign size key result = AsksAt (route_of method (path_of target)) (query_of target) field foreign size key result
 
 -- the value of the first field of this name, in a head
 abbrev pub said_in : RequestHead → List ℕ → Option (List ℕ)
@@ -183,7 +191,8 @@ said_in head name = field_in name (map name_and_value head.fields)
 abbrev pub HeadAsksFor : RequestHead → Result Asked Refusal → Type 0
 HeadAsksFor head result =
     (size : Option ℕ) × HasSize (said_in head (codes "transfer-encoding")) (said_in head (codes "content-length")) size
-    × AsksFor head.method head.target (said_in head (codes "last-event-id")) (is_foreign (said_in head (codes "origin")) (said_in head (codes "host"))) size result
+    × AsksFor head.method head.target (said_in head (codes "last-event-id")) (is_foreign (said_in head (codes "origin")) (said_in head (codes "host"))) size
+    (said_in head (codes "idempotency-key")) result
 
 -- a head that is too long: it has more than 8,192 bytes, or more than 32 fields
 abbrev pub IsLongHead : List ℕ → Type 0

@@ -10,6 +10,7 @@ pub mod HeadBlocks
 pub mod HeadGrammar
 pub mod Heads
 pub mod Ids
+pub mod Keys
 pub mod Laws
 pub mod Pieces
 pub mod Queries

@@ -12,7 +12,7 @@ use Rattle.rx_http.specs.declared.answer.Answer.TheVariants.{Events, Over, Well,
 use Rattle.rx_http.specs.declared.request.look_form.LookForm.{LookForm}
 use Rattle.rx_http.specs.declared.request.look_form.LookForm.TheVariants.{Stats, Metrics, Lines, Page}
 use Rattle.rx_http.specs.declared.answer.refusal.Refusal.{Refusal}
-use Rattle.rx_http.specs.declared.answer.refusal.Refusal.TheVariants.{Head, Word, LastEventId, Lf, Items, Within, Origin, NoStop, ReadOnly, Subject, Path, Observer, Method, OnlyGet, OnlyPost, Length, Long, Ended, Spent, LongHead, Gone, Full, Stopping, Memory}
+use Rattle.rx_http.specs.declared.answer.refusal.Refusal.TheVariants.{Head, Word, LastEventId, Lf, Key, Items, Within, Origin, NoStop, ReadOnly, Subject, Path, Observer, Method, OnlyGet, OnlyPost, Length, Long, Ended, Spent, LongHead, Gone, Full, Stopping, Memory}
 
 -- a field of an answer
 abbrev pub field : List ℕ → List ℕ → Field
@@ -41,6 +41,7 @@ refusal_head Head = refused (codes "400") (codes "Bad Request") [] Head
 refusal_head Word = refused (codes "400") (codes "Bad Request") [] Word
 refusal_head LastEventId = refused (codes "400") (codes "Bad Request") [] LastEventId
 refusal_head Lf = refused (codes "400") (codes "Bad Request") [] Lf
+refusal_head Key = refused (codes "400") (codes "Bad Request") [] Key
 refusal_head Items = refused (codes "400") (codes "Bad Request") [] Items
 refusal_head Within = refused (codes "400") (codes "Bad Request") [] Within
 refusal_head Origin = refused (codes "403") (codes "Forbidden") [] Origin
@@ -82,7 +83,7 @@ head_of Events = head (codes "200") (codes "OK") events_fields
 head_of Over = head (codes "204") (codes "No Content") (kept_nowhere [])
 head_of Well = head_with (codes "200") (codes "OK") plain_kind [] (codes "ok\n")
 head_of Unwell = head_with (codes "503") (codes "Service Unavailable") plain_kind [] (codes "unwell\n")
-head_of (Accepted epoch place) = head_with (codes "200") (codes "OK") (codes "application/json") [] (accepted_body epoch place)
+head_of (Accepted epoch place again) = head_with (codes "200") (codes "OK") (codes "application/json") [] (accepted_body epoch place again)
 head_of Requested = head (codes "204") (codes "No Content") (kept_nowhere [])
 head_of (Shown form body) = head_with (codes "200") (codes "OK") (look_kind form) (shown_fields form) body
 head_of Stops = head_with (codes "202") (codes "Accepted") plain_kind [] (codes "stopping\n")
@@ -94,7 +95,7 @@ body_of Events = []
 body_of Over = []
 body_of Well = codes "ok\n"
 body_of Unwell = codes "unwell\n"
-body_of (Accepted epoch place) = accepted_body epoch place
+body_of (Accepted epoch place again) = accepted_body epoch place again
 body_of Requested = []
 body_of (Shown form body) = body
 body_of Stops = codes "stopping\n"
@@ -106,7 +107,7 @@ IsAnswer Events = Unit {0}
 IsAnswer Over = Unit {0}
 IsAnswer Well = Unit {0}
 IsAnswer Unwell = Unit {0}
-IsAnswer (Accepted epoch place) = IsEpoch epoch × IsPlace place
+IsAnswer (Accepted epoch place again) = IsEpoch epoch × IsPlace place
 IsAnswer Requested = Unit {0}
 IsAnswer (Shown form body) = length body < 2 ^ 32
 IsAnswer Stops = Unit {0}

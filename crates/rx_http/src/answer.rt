@@ -21,6 +21,8 @@ pub enum Answer {
         epoch: Epoch,
         /// The place of the item; none where its subject ended by it.
         place: Option<u32>,
+        /// It was accepted before, when it came by the same key, and not once more.
+        again: bool,
     },
     /// The observer is owed the items that were asked for.
     Requested,

@@ -102,7 +102,11 @@ pub fn answer_can_be_told(answer: &Answer)
     ensures { IsAnswer answer.now }
 {
     match answer {
-        Answer::Accepted { epoch, place } => {
+        Answer::Accepted {
+            epoch,
+            place,
+            again: _,
+        } => {
             let _ = epoch.as_bytes();
             look(*place);
         }

@@ -31,6 +31,7 @@ pub use id::Id;
 pub use request::asked::Asked;
 pub use request::begin::Begin;
 pub use request::credit::Credit;
+pub use request::idempotency_key::IdempotencyKey;
 pub use request::look_form::LookForm;
 pub use request::note_kind::NoteKind;
 pub use request::observer_id::ObserverId;

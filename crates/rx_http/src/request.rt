@@ -10,6 +10,7 @@ pub(crate) mod asked;
 pub(crate) mod begin;
 pub(crate) mod body;
 pub(crate) mod credit;
+pub(crate) mod idempotency_key;
 pub(crate) mod look_form;
 pub(crate) mod note_kind;
 pub(crate) mod observer_id;
@@ -19,6 +20,7 @@ pub(crate) mod word;
 
 use crate::parts::cut;
 use crate::request::body::{is_foreign, size_of_body};
+use crate::request::idempotency_key::key_of;
 use crate::request::policy_words::{credit_of, items_of, policy_of, within_of};
 use crate::request::query::word_of;
 use crate::{Asked, Id, LookForm, NoteKind, ObserverId, Refusal};
@@ -37,7 +39,7 @@ const MAX_TEXT: u32 = 1024;
 
 /// What a head asks for: all bytes of a request up to and with its first empty line. It takes no memory. Refused in the order
 /// `LongHead`, `Head`, `Path`, `OnlyGet`, `OnlyPost` or `Method`; then for events `Word`, `LastEventId`, `Subject`, for an emission
-/// `Origin`, `Length`, `Long`, `Subject`, for items of an observer `Origin`, `Observer`, `Items`, `Subject`, and for a stop `Origin`,
+/// `Origin`, `Length`, `Long`, `Key`, `Subject`, for items of an observer `Origin`, `Observer`, `Items`, `Subject`, and for a stop `Origin`,
 /// `Within`.
 pub fn read_request(head: &[u8]) -> Result<Asked, Refusal>
     ensures read { IsReadOfHead head.now result }
@@ -63,7 +65,8 @@ pub fn read_request(head: &[u8]) -> Result<Asked, Refusal>
                 field_in(head, fields, b"content-length"),
             );
             let target = parts.path.of(head);
-            asked_for(parts.method.of(head), target, known, is_foreign, size)
+            let key = field_in(head, fields, b"idempotency-key");
+            asked_for(parts.method.of(head), target, known, is_foreign, size, key)
         }
         Ok(Status::Partial) => Err(Refusal::Head),
         Err(Error::TooManyHeaders) => Err(Refusal::LongHead),
@@ -85,15 +88,16 @@ fn field_in<'a>(head: &'a [u8], fields: &[HeaderSpan], name: &[u8]) -> Option<&'
     None
 }
 
-// What a method, a target and the field of an id ask for, and what is said of who sent them and of the size of their body.
+// What a method, a target and the field of an id ask for, and what is said of who sent them, of the size of their body and of their key.
 fn asked_for(
     method: &[u8],
     target: &[u8],
     known: Option<&[u8]>,
     is_foreign: bool,
     size: Option<u32>,
+    key: Option<&[u8]>,
 ) -> Result<Asked, Refusal>
-    ensures { AsksFor method.now target.now (option_map (λ word. word.now) known.entry) is_foreign size result }
+    ensures { AsksFor method.now target.now (option_map (λ word. word.now) known.entry) is_foreign size (option_map (λ word. word.now) key.entry) result }
 {
     let (path, query) = cut(target, b'?');
     let is_get = method == b"GET".as_slice();
@@ -107,7 +111,7 @@ fn asked_for(
         return stop_asked_for(method, query, is_foreign);
     }
     match path.strip_prefix(b"/subjects/".as_slice()) {
-        Some(rest) => subject_asked_for(method, rest, query, known, is_foreign, size),
+        Some(rest) => subject_asked_for(method, rest, query, known, is_foreign, size, key),
         None => Err(Refusal::Path),
     }
 }
@@ -120,13 +124,14 @@ fn subject_asked_for(
     known: Option<&[u8]>,
     is_foreign: bool,
     size: Option<u32>,
+    key: Option<&[u8]>,
 ) -> Result<Asked, Refusal>
-    ensures { AsksAt (subject_route method.now rest.now) query.now (option_map (λ word. word.now) known.entry) is_foreign size result }
+    ensures { AsksAt (subject_route method.now rest.now) query.now (option_map (λ word. word.now) known.entry) is_foreign size (option_map (λ word. word.now) key.entry) result }
 {
     if method == b"GET".as_slice() {
         events_asked_for(rest, query, known)
     } else if method == b"POST".as_slice() {
-        post_asked_for(rest, query, is_foreign, size)
+        post_asked_for(rest, query, is_foreign, size, key)
     } else {
         Err(Refusal::Method)
     }
@@ -162,7 +167,7 @@ fn by_get(is_get: bool, asked: Asked) -> Result<Asked, Refusal>
 
 // What a method asks for at the path of a stop.
 fn stop_asked_for(method: &[u8], query: &[u8], is_foreign: bool) -> Result<Asked, Refusal>
-    ensures { (field : Option (List ℕ)) (size : Option ℕ) → AsksAt (stop_route method.now) query.now field is_foreign size result }
+    ensures { (field : Option (List ℕ)) (size : Option ℕ) (key : Option (List ℕ)) → AsksAt (stop_route method.now) query.now field is_foreign size key result }
 {
     if method == b"POST".as_slice() {
         stop_of(query, is_foreign)
@@ -190,29 +195,31 @@ fn post_asked_for(
     query: &[u8],
     is_foreign: bool,
     size: Option<u32>,
+    key: Option<&[u8]>,
 ) -> Result<Asked, Refusal>
-    ensures { (field : Option (List ℕ)) → AsksAt (post_route rest.now) query.now field is_foreign size result }
+    ensures { (field : Option (List ℕ)) → AsksAt (post_route rest.now) query.now field is_foreign size (option_map (λ word. word.now) key.entry) result }
 {
     let (name, end) = cut(rest, b'/');
     if end == b"end".as_slice() {
-        emission_of(name, NoteKind::Completed, is_foreign, size)
+        emission_of(name, NoteKind::Completed, is_foreign, size, key)
     } else if end == b"fail".as_slice() {
-        emission_of(name, NoteKind::Failed, is_foreign, size)
+        emission_of(name, NoteKind::Failed, is_foreign, size, key)
     } else if let Some(word) = end.strip_prefix(b"observers/".as_slice()) {
         request_of(name, word, query, is_foreign)
     } else {
-        emission_of(rest, NoteKind::Next, is_foreign, size)
+        emission_of(rest, NoteKind::Next, is_foreign, size, key)
     }
 }
 
-// The emission of a note at the subject of this name, with a body of this size.
+// The emission of a note at the subject of this name, with a body of this size, and by this key, if there is one.
 fn emission_of(
     name: &[u8],
     kind: NoteKind,
     is_foreign: bool,
     size: Option<u32>,
+    key: Option<&[u8]>,
 ) -> Result<Asked, Refusal>
-    ensures { AsksForEmission name.now kind is_foreign size result }
+    ensures { AsksForEmission name.now kind is_foreign size (option_map (λ word. word.now) key.entry) result }
 {
     if is_foreign {
         return Err(Refusal::Origin);
@@ -223,12 +230,16 @@ fn emission_of(
     if size > MAX_TEXT {
         return Err(Refusal::Long);
     }
+    let Some(key) = key_of(key) else {
+        return Err(Refusal::Key);
+    };
     match Name::new(name) {
         Some(subject) => {
             Ok(Asked::Emission {
                 subject,
                 kind,
                 size,
+                key,
             })
         }
         None => Err(Refusal::Subject),

@@ -12,6 +12,8 @@ pub enum Refusal {
     LastEventId,
     /// 400: its text has an LF.
     Lf,
+    /// 400: by what it is named is no key.
+    Key,
     /// 400: how many items it asks for is no number of them, or more than may be.
     Items,
     /// 400: how long a stop may take is no number of seconds, or more than may be.
@@ -64,6 +66,7 @@ impl Refusal {
             | Refusal::Word
             | Refusal::LastEventId
             | Refusal::Lf
+            | Refusal::Key
             | Refusal::Items
             | Refusal::Within => b"400 Bad Request",
             Refusal::Origin | Refusal::NoStop | Refusal::ReadOnly => b"403 Forbidden",
@@ -89,6 +92,7 @@ impl Refusal {
             Refusal::Word => b"strategy",
             Refusal::LastEventId => b"last-event-id",
             Refusal::Lf => b"lf",
+            Refusal::Key => b"idempotency-key",
             Refusal::Items => b"request",
             Refusal::Within => b"within",
             Refusal::Origin => b"origin",
@@ -123,6 +127,7 @@ impl Refusal {
             Refusal::Path => b"try /, /subjects/NAME, /stats, /metrics or /healthz",
             Refusal::Observer => b"there is none of that name that asks for its items itself",
             Refusal::Lf => b"a text is one line",
+            Refusal::Key => b"a key is 1 to 64 visible characters",
             Refusal::Items => b"request is how many items more, at least 1",
             Refusal::Within => b"within is how many seconds, 0 to 3,600",
             Refusal::Origin => b"a page of another site sends it",

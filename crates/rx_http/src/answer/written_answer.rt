@@ -2,7 +2,7 @@
 ghost use Rattle.std.specs.Prelude.{◌≡◌, ◌<◌, ◌≤◌, ◌^◌, ◌++◌, codes, length};
 ghost use Rattle.rx_http.specs.declared.answer.Answer.TheVariants.{Refused};
 ghost use Rattle.rx_proto.specs.Bytes.{Writes};
-ghost use Rattle.rx_http.specs.Answers.{accepted_body, answer_bytes, look_fields, look_kind, place_member, plain_kind, refusal_body, sized, sized_head};
+ghost use Rattle.rx_http.specs.Answers.{accepted_body, again_member, answer_bytes, look_fields, look_kind, place_member, plain_kind, refusal_body, sized, sized_head};
 
 use crate::{Answer, Epoch, LookForm, Refusal};
 use rx_proto::{LineBytes, MAX_DIGITS, WriteFault, write_bytes, write_digits};
@@ -17,7 +17,7 @@ const PLAIN: &[u8] = b"text/plain; charset=utf-8";
 const JSON: &[u8] = b"application/json";
 
 // The most bytes of the body of the answer to an emission, and some more.
-const ACCEPTED: usize = 64;
+const ACCEPTED: usize = 96;
 
 /// Writes an answer, by several writes: its head, and its body, which for `Events` is still to come. It takes no memory of its
 /// own. After a fault the writer has a prefix of it.
@@ -35,8 +35,12 @@ pub fn write_answer<W: Write>(writer: &mut W, answer: Answer) -> Result<(), Writ
         ),
         Answer::Well => write_sized(writer, b"200 OK", PLAIN, b"", b"ok\n"),
         Answer::Unwell => write_sized(writer, b"503 Service Unavailable", PLAIN, b"", b"unwell\n"),
-        Answer::Accepted { epoch, place } => {
-            let body = accepted_body(&epoch, place);
+        Answer::Accepted {
+            epoch,
+            place,
+            again,
+        } => {
+            let body = accepted_body(&epoch, place, again);
             write_sized(writer, b"200 OK", JSON, b"", body.as_bytes())
         }
         Answer::Shown { form, body } => {
@@ -91,14 +95,15 @@ fn write_sized<W: Write>(
 }
 
 // The body of the answer to an emission that was accepted.
-fn accepted_body(epoch: &Epoch, place: Option<u32>) -> LineBytes<ACCEPTED>
-    ensures { result ≡ accepted_body epoch.now place }
+fn accepted_body(epoch: &Epoch, place: Option<u32>, again: bool) -> LineBytes<ACCEPTED>
+    ensures { result ≡ accepted_body epoch.now place again }
 {
     let mut body = LineBytes::new();
     body.put(b"{\"epoch\":\"");
     body.put(epoch.as_bytes());
     body.put(b"\"");
     put_place_member(&mut body, place);
+    body.put(again_member(again));
     body.put(b"}\n");
     body
 }
@@ -115,6 +120,14 @@ fn put_place_member(body: &mut LineBytes<ACCEPTED>, place: Option<u32>)
         body.put(b",\"place\":");
         body.put(&digits[start..]);
     }
+}
+
+// What says that it was accepted before.
+fn again_member(again: bool) -> &'static [u8]
+    ensures bytes { result.now ≡ again_member again }
+    ensures few { length result.now ≤ 20 }
+{
+    if again { b",\"again\":true" } else { b"" }
 }
 
 // Writes a refusal, with its body in JSON.

@@ -1,4 +1,4 @@
-use crate::{Credit, Id, LookForm, NoteKind, ObserverId};
+use crate::{Credit, Id, IdempotencyKey, LookForm, NoteKind, ObserverId};
 use rx_note::Policy;
 use rx_proto::Name;
 
@@ -24,6 +24,8 @@ pub enum Asked {
         kind: NoteKind,
         /// How many bytes the body has, which is the text: 1,024 at most.
         size: u32,
+        /// By what its producer names it; None where it doesn't.
+        key: Option<IdempotencyKey>,
     },
     /// `POST /subjects/NAME/observers/EPOCH-WHO`: items for an observer, which asks for them itself.
     Request {

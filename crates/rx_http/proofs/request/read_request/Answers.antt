@@ -20,12 +20,13 @@ whole bytes headers parts head few room end at = (few, (at.reads.0, at.reads.1 �
     fields : length head.fields ≤ 32
     fields = omega (arith, ap length at.fields, length-map (take parts.headers headers) (header_bytes bytes), length-map head.fields name_and_value, length-take parts.headers headers, room)
 
-asks-as : (method target : List ℕ) (field : Option (List ℕ)) (foreign : Bool) (size : Option ℕ) (result : Result Asked Refusal) (method₁ target₁ : List ℕ) (field₁ : Option (List ℕ)) (foreign₁ : Bool)
-    → method ≡ method₁ → target ≡ target₁ → field ≡ field₁ → foreign ≡ foreign₁ → AsksFor method target field foreign size result
-    → AsksFor method₁ target₁ field₁ foreign₁ size result
-asks-as method target field foreign size result method₁ target₁ field₁ foreign₁ m t f b asks =
-    subst (λ l. AsksFor l target₁ field₁ foreign₁ size result) m (subst (λ l. AsksFor method l field₁ foreign₁ size result) t
-    (subst (λ l. AsksFor method target l foreign₁ size result) f (subst (λ l. AsksFor method target field l size result) b asks)))
+asks-as : (method target : List ℕ) (field : Option (List ℕ)) (foreign : Bool) (size : Option ℕ) (key : Option (List ℕ)) (result : Result Asked Refusal) (method₁ target₁ : List ℕ) (field₁ : Option (List ℕ)) (foreign₁ : Bool) (key₁ : Option (List ℕ))
+    → method ≡ method₁ → target ≡ target₁ → field ≡ field₁ → foreign ≡ foreign₁ → key ≡ key₁ → AsksFor method target field foreign size key result
+    → AsksFor method₁ target₁ field₁ foreign₁ size key₁ result
+asks-as method target field foreign size key result method₁ target₁ field₁ foreign₁ key₁ m t f b k asks =
+    subst (λ l. AsksFor l target₁ field₁ foreign₁ size key₁ result) m (subst (λ l. AsksFor method l field₁ foreign₁ size key₁ result) t
+    (subst (λ l. AsksFor method target l foreign₁ size key₁ result) f (subst (λ l. AsksFor method target field l size key₁ result) b
+    (subst (λ l. AsksFor method target field foreign size l result) k asks))))
 
 foreign-as : (origin host origin₁ host₁ : Option (List ℕ)) → origin ≡ origin₁ → host ≡ host₁ → is_foreign origin host ≡ is_foreign origin₁ host₁
 foreign-as origin host origin₁ host₁ o h = ap (λ x. is_foreign x host) o ∙ ap (λ x. is_foreign origin₁ x) h
@@ -54,7 +55,8 @@ returns-else-parts-head-clause-read c =
     let coding = c.field_in-in-Ok-Complete-2.ensures ∙ in_fields (codes "transfer-encoding") in
     let size = c.field_in-in-Ok-Complete-3.ensures ∙ in_fields (codes "content-length") in
     let has = sized-as _ _ _ _ c.size_of_body-size.result coding size c.size_of_body-size.ensures in
-    let asks = asks-as _ _ _ _ c.size_of_body-size.result c.asked_for.result found.method found.target _ _ (c.of.ensures ∙ at.method) (c.of-target.ensures ∙ at.path) known foreign c.asked_for.ensures in
+    let key = c.field_in-key.ensures ∙ in_fields (codes "idempotency-key") in
+    let asks = asks-as _ _ _ _ c.size_of_body-size.result _ c.asked_for.result found.method found.target _ _ _ (c.of.ensures ∙ at.method) (c.of-target.ensures ∙ at.path) known foreign key c.asked_for.ensures in
     inl (
       found,
       whole c.args.head.now c.parse_request.new.headers c.in-Ok-Complete.parts found c.if-head-gt-MAX_HEAD.false c.parse_request.auto.headers c.if-parts-head.false at,
