@@ -34,7 +34,7 @@ module _ {D W : Type 0} (p : Parties D W) where
   meets-among desk after start writer (Ok (asks.Events subject policy credit known)) text met (epoch, since, joins) =
       let other = joins-among desk after start subject policy credit (begin_by epoch known) writer met joins in
       (other.0, (epoch, (desk, since), other.1))
-  meets-among desk after start writer (Ok (asks.Emission subject kind size)) text met (emitted, emits, epoch, since, is) =
+  meets-among desk after start writer (Ok (asks.Emission subject kind size key)) text met (emitted, emits, epoch, since, is) =
       (after, (emitted, (desk, emits), epoch, (after, since), is))
   meets-among desk after start writer (Ok (asks.Request subject observer items)) text met (asked, requests, is) = (after, (asked, (desk, requests), is))
   meets-among desk after start writer (Ok (asks.Look form)) text met (shown, shows, is) = (after, (shown, (desk, shows), is))

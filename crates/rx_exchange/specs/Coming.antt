@@ -14,7 +14,7 @@ use Rattle.rx_exchange.specs.declared.came.Came.TheVariants.{Asks, Partly, Nothi
 
 -- how many bytes the text of a request has whose head was read so: its body is the text of an emission
 abbrev pub size_of : Result Asked Refusal → ℕ
-size_of (Ok (Emission subject kind size)) = size
+size_of (Ok (Emission subject kind size key)) = size
 size_of (Ok (Events subject policy credit known)) = 0
 size_of (Ok (Request subject observer items)) = 0
 size_of (Ok Health) = 0

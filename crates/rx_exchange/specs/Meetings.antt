@@ -19,6 +19,7 @@ use Rattle.rx_http.specs.declared.answer.refusal.Refusal.{Refusal}
 use Rattle.rx_session.specs.declared.session_end.SessionEnd.TheVariants as ends
 use Rattle.rx_session.specs.declared.turn.Turn.{Turn}
 use Rattle.rx_session.specs.declared.turn.Turn.TheVariants.{Again, Waits, Stuck, Over}
+use Rattle.rx_exchange.specs.declared.emitted.Emitted.{Emitted}
 use Rattle.rx_exchange.specs.declared.joining.Joining.{Joining}
 use Rattle.rx_exchange.specs.declared.joining.Joining.TheVariants.{Taken, Back}
 
@@ -27,7 +28,7 @@ pub record Parties (D W : Type 0) : Type 1 where
   pub since : D → List ℕ → Type 0
   pub looks : D → Bool → Type 0
   pub joins : D → List ℕ → Choice → Credit → Begin → W → Joining W → D → Type 0
-  pub emits : D → List ℕ → NoteKind → List ℕ → Result (Option ℕ) Refusal → D → Type 0
+  pub emits : D → List ℕ → NoteKind → List ℕ → Option (List ℕ) → Result Emitted Refusal → D → Type 0
   pub requests : D → List ℕ → ObserverId → ℕ → Result (Unit {0}) Refusal → D → Type 0
   pub shows : D → LookForm → Result (List ℕ) Refusal → D → Type 0
   pub stops : D → ℕ → Result (Unit {0}) Refusal → D → Type 0
@@ -35,7 +36,7 @@ pub record Parties (D W : Type 0) : Type 1 where
 
 -- these eight
 abbrev pub parties : {D W : Type 0} → (D → List ℕ → Type 0) → (D → Bool → Type 0) → (D → List ℕ → Choice → Credit → Begin → W → Joining W → D → Type 0)
-    → (D → List ℕ → NoteKind → List ℕ → Result (Option ℕ) Refusal → D → Type 0) → (D → List ℕ → ObserverId → ℕ → Result (Unit {0}) Refusal → D → Type 0) → (D → LookForm → Result (List ℕ) Refusal → D → Type 0)
+    → (D → List ℕ → NoteKind → List ℕ → Option (List ℕ) → Result Emitted Refusal → D → Type 0) → (D → List ℕ → ObserverId → ℕ → Result (Unit {0}) Refusal → D → Type 0) → (D → LookForm → Result (List ℕ) Refusal → D → Type 0)
     → (D → ℕ → Result (Unit {0}) Refusal → D → Type 0) → (W → Option (List ℕ)) → Parties D W
 parties since looks joins emits requests shows stops contents = record {
   since = since;
@@ -53,10 +54,10 @@ abbrev pub joined : {W : Type 0} → Joining W → Option (Answer × W)
 joined Taken = None
 joined (Back cause writer) = Some (answers.Refused cause, writer)
 
--- the answer to an emission by the server of this epoch: the place of the item, where one was accepted, or the cause for which it is
--- refused
-abbrev pub emission_answer : List ℕ → Result (Option ℕ) Refusal → Answer
-emission_answer epoch (Ok place) = answers.Accepted epoch place
+-- the answer to an emission by the server of this epoch: the place of the item, where one was accepted, and whether it was before; or the
+-- cause for which it is refused
+abbrev pub emission_answer : List ℕ → Result Emitted Refusal → Answer
+emission_answer epoch (Ok emitted) = answers.Accepted epoch emitted.place emitted.again
 emission_answer epoch (Err cause) = answers.Refused cause
 
 -- the answer to a request of items: they are owed, or the cause for which it is refused
@@ -75,10 +76,10 @@ look_answer form (Ok body) = answers.Shown form body
 look_answer form (Err cause) = answers.Refused cause
 
 module _ {D W : Type 0} (p : Parties D W) where
-  -- an emission of a note of this kind and text at the subject of a name
-  abbrev pub Emits : D → W → List ℕ → NoteKind → List ℕ → Option (Answer × W) → D → Type 0
-  Emits desk writer subject kind text met after =
-      (emitted : Result (Option ℕ) Refusal) × p.emits desk subject kind text emitted after
+  -- an emission of a note of this kind and text at the subject of a name, by a key, if there is one
+  abbrev pub Emits : D → W → List ℕ → NoteKind → List ℕ → Option (List ℕ) → Option (Answer × W) → D → Type 0
+  Emits desk writer subject kind text key met after =
+      (emitted : Result Emitted Refusal) × p.emits desk subject kind text key emitted after
       × (epoch : List ℕ) × p.since after epoch × (met ≡ Some (emission_answer epoch emitted, writer))
 
   -- a Join at the subject of a name: from where its reader begins; where that knows that the subject is over, there is nothing more to come
@@ -95,7 +96,7 @@ module _ {D W : Type 0} (p : Parties D W) where
   -- what was asked for with this text is met: by an answer, and the writer to which it is to be told, or by none
   abbrev pub Meets : D → W → Result Asked Refusal → List ℕ → Option (Answer × W) → D → Type 0
   Meets desk writer (Ok (Events subject policy credit known)) text met after = Joins desk subject policy credit known writer met after
-  Meets desk writer (Ok (Emission subject kind size)) text met after = Emits desk writer subject kind text met after
+  Meets desk writer (Ok (Emission subject kind size key)) text met after = Emits desk writer subject kind text key met after
   Meets desk writer (Ok (Request subject observer items)) text met after =
       (asked : Result (Unit {0}) Refusal) × p.requests desk subject observer items asked after × (met ≡ Some (request_answer asked, writer))
   Meets desk writer (Ok (Look form)) text met after =

@@ -86,6 +86,7 @@ fn size_of(read: &Result<Asked, Refusal>) -> usize
                 subject: _,
                 kind: _,
                 size,
+                key: _,
             },
         ) => *size as usize,
         _ => 0,

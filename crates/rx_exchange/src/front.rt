@@ -1,5 +1,7 @@
-use crate::Joining;
-use rx_http::{Begin, Credit, Document, Epoch, LookForm, NoteKind, ObserverId, Refusal};
+use crate::{Emitted, Joining};
+use rx_http::{
+    Begin, Credit, Document, Epoch, IdempotencyKey, LookForm, NoteKind, ObserverId, Refusal,
+};
 use rx_note::Policy;
 use rx_proto::Name;
 
@@ -13,6 +15,7 @@ pub trait Front<W> {
     ghost use Rattle.rx_http.specs.declared.request.note_kind.NoteKind.{NoteKind};
     ghost use Rattle.rx_http.specs.declared.request.observer_id.ObserverId.{ObserverId};
     ghost use Rattle.rx_http.specs.declared.answer.refusal.Refusal.{Refusal};
+    ghost use Rattle.rx_exchange.specs.declared.emitted.Emitted.{Emitted};
     ghost use Rattle.rx_exchange.specs.declared.joining.Joining.{Joining};
 
     ghost since: { Self → List ℕ → Type 0 };
@@ -21,7 +24,7 @@ pub trait Front<W> {
 
     ghost joins: { Self → List ℕ → Choice → Credit → Begin → W → Joining W → Self → Type 0 };
 
-    ghost emits: { Self → List ℕ → NoteKind → List ℕ → Result (Option ℕ) Refusal → Self → Type 0 };
+    ghost emits: { Self → List ℕ → NoteKind → List ℕ → Option (List ℕ) → Result Emitted Refusal → Self → Type 0 };
 
     ghost requests: { Self → List ℕ → ObserverId → ℕ → Result (Unit {0}) Refusal → Self → Type 0 };
 
@@ -49,9 +52,16 @@ pub trait Front<W> {
     ) -> Joining<W>
         ensures { joins self.old subject.now policy credit begin writer result self.new };
 
-    /// Emits a note of this kind and text at the subject of this name. It answers the place of the item, where one was accepted.
-    fn emit(&mut self, subject: &Name, kind: NoteKind, text: &[u8]) -> Result<Option<u32>, Refusal>
-        ensures { emits self.old subject.now kind text.now result self.new };
+    /// Emits a note of this kind and text at the subject of this name, once by a key, if its producer says one. It answers the place of the
+    /// item, where one was accepted.
+    fn emit(
+        &mut self,
+        subject: &Name,
+        kind: NoteKind,
+        text: &[u8],
+        key: Option<IdempotencyKey>,
+    ) -> Result<Emitted, Refusal>
+        ensures { emits self.old subject.now kind text.now key result self.new };
 
     /// Asks for so many items more for an observer at the subject of this name, whose reader asks for them itself.
     fn request(&mut self, subject: &Name, observer: ObserverId, items: u32) -> Result<(), Refusal>

@@ -12,12 +12,14 @@
 #![tactic(auto)]
 
 mod came;
+mod emitted;
 mod exchange;
 mod front;
 mod joining;
 pub mod laws;
 mod met_request;
 
+pub use emitted::Emitted;
 pub use exchange::Exchange;
 pub use front::Front;
 pub use joining::Joining;

@@ -3,7 +3,7 @@ ghost use Rattle.std.specs.Prelude.{◌≡◌, []};
 ghost use Rattle.rx_http.specs.Answers.{answer_bytes};
 ghost use Rattle.rx_exchange.specs.Meetings.{Meets, Tells, emission_answer, look_answer, parties, request_answer, stop_answer};
 
-use crate::{Front, Joining};
+use crate::{Emitted, Front, Joining};
 use rx_http::{Answer, Asked, Begin, Document, Epoch, LookForm, Refusal, write_answer};
 use rx_session::{SessionEnd, Turn};
 use std::io::{ErrorKind, Write};
@@ -39,9 +39,10 @@ pub(crate) fn meet<W: Write + Drop, D: Front<W>>(
                 subject,
                 kind,
                 size: _,
+                key,
             },
         ) => {
-            let emitted = desk.emit(&subject, kind, text);
+            let emitted = desk.emit(&subject, kind, text, key);
             Some((emission_answer(emitted, desk.epoch()), writer))
         }
         Ok(
@@ -69,13 +70,14 @@ pub(crate) fn meet<W: Write + Drop, D: Front<W>>(
 }
 
 // What an emission is answered by the server of this epoch.
-fn emission_answer(emitted: Result<Option<u32>, Refusal>, epoch: &Epoch) -> Answer
+fn emission_answer(emitted: Result<Emitted, Refusal>, epoch: &Epoch) -> Answer
     ensures { result ≡ emission_answer epoch.now emitted }
 {
     match emitted {
-        Ok(place) => Answer::Accepted {
+        Ok(emitted) => Answer::Accepted {
             epoch: epoch.copy(),
-            place,
+            place: emitted.place,
+            again: emitted.again,
         },
         Err(cause) => Answer::Refused(cause),
     }
