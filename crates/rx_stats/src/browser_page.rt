@@ -1,4 +1,4 @@
-// What is seen, as a page for a browser: the epoch and the rows are true as they stand, and its script looks again by itself.
+// What is seen, as a page for a browser: its numbers are true as they stand, and its script looks again by itself.
 
 mod head;
 mod marbles;
@@ -8,9 +8,12 @@ mod style;
 
 use crate::browser_page::head::HEAD;
 use crate::browser_page::marbles::MARBLES;
-use crate::browser_page::markup::{BEFORE_EPOCH, BEFORE_ROWS, BEFORE_SCRIPT, END};
+use crate::browser_page::markup::{
+    BEFORE_EPOCH, BEFORE_HTTP, BEFORE_ROWS, BEFORE_SCRIPT, BEFORE_SESSIONS, END,
+};
 use crate::browser_page::script::SCRIPT;
 use crate::browser_page::style::STYLE;
+use crate::crowd::crowd_look::CrowdLook;
 use crate::pieces::{put, put_number};
 use crate::words::{end_word, kind_word, waiting_in};
 use rx_config::SubjectConfig;
@@ -22,6 +25,7 @@ use rx_hub::SubjectLook;
 pub(crate) fn put_page(
     page: &mut Vec<u8, Heap>,
     epoch: &Epoch,
+    crowd: CrowdLook,
     subjects: &[SubjectConfig],
     looks: &[Option<SubjectLook>],
 ) -> Result<(), Memory> {
@@ -29,6 +33,8 @@ pub(crate) fn put_page(
     put(page, STYLE.as_bytes())?;
     put(page, BEFORE_EPOCH.as_bytes())?;
     put(page, epoch.as_bytes())?;
+    put_number(page, BEFORE_SESSIONS.as_bytes(), crowd.sessions.open)?;
+    put_number(page, BEFORE_HTTP.as_bytes(), crowd.http.open)?;
     put(page, BEFORE_ROWS.as_bytes())?;
     for (subject, look) in subjects.iter().zip(looks.iter()) {
         put_row(page, subject, look)?;

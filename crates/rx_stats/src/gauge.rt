@@ -59,9 +59,12 @@ impl Gauge {
         }
     }
 
-    /// Whether it never falls.
-    pub(crate) fn is_counter(self) -> bool {
-        matches!(self, Gauge::Items | Gauge::Joins | Gauge::Refused)
+    /// What it is to Prometheus, to which a counter never falls.
+    pub(crate) fn kind(self) -> &'static [u8] {
+        match self {
+            Gauge::Items | Gauge::Joins | Gauge::Refused => b"counter",
+            _ => b"gauge",
+        }
     }
 
     /// Its number for a subject that was seen so; none where it has no budget.

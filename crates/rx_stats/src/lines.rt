@@ -1,6 +1,8 @@
 // What is seen, as plain lines: one for the server, and for each subject one, with one for each of its observers behind it. Each line but
 // the first begins with the name of its subject, so that `grep` picks one.
 
+use crate::crowd::crowd_look::CrowdLook;
+use crate::crowd::door_look::DoorLook;
 use crate::pieces::{put, put_number};
 use crate::words::{end_word, errors_word, kind_word, put_strategy, waiting_in};
 use rx_config::SubjectConfig;
@@ -8,20 +10,29 @@ use rx_heap::{Heap, Memory};
 use rx_http::Epoch;
 use rx_hub::{ObserverLook, SubjectLook};
 
-/// Puts what was seen of each subject.
+/// Puts what was seen of the connections and of each subject.
 pub(crate) fn put_lines(
     page: &mut Vec<u8, Heap>,
     epoch: &Epoch,
+    crowd: CrowdLook,
     subjects: &[SubjectConfig],
     looks: &[Option<SubjectLook>],
 ) -> Result<(), Memory> {
     put(page, b"epoch ")?;
     put(page, epoch.as_bytes())?;
+    put_door(page, b" sessions=", crowd.sessions)?;
+    put_door(page, b" http=", crowd.http)?;
     put(page, b"\n")?;
     for (subject, look) in subjects.iter().zip(looks.iter()) {
         put_subject(page, subject, look)?;
     }
     Ok(())
+}
+
+// How many connections are open, of how many that were accepted.
+fn put_door(page: &mut Vec<u8, Heap>, before: &[u8], door: DoorLook) -> Result<(), Memory> {
+    put_number(page, before, door.open)?;
+    put_number(page, b"/", door.accepted)
 }
 
 fn put_subject(

@@ -1,4 +1,5 @@
 use crate::browser_page::put_page;
+use crate::crowd::crowd_look::CrowdLook;
 use crate::lines::put_lines;
 use crate::metrics::put_metrics;
 use crate::stats::put_stats;
@@ -7,7 +8,7 @@ use rx_heap::{Heap, Memory};
 use rx_http::{Epoch, LookForm};
 use rx_hub::SubjectLook;
 
-/// What was seen of each subject, in this form; of one whose thread is gone there is nothing to see.
+/// What was seen of the connections and of each subject, in this form; of one whose thread is gone there is nothing to see.
 ///
 /// # Errors
 ///
@@ -16,15 +17,16 @@ pub fn page_of(
     heap: &Heap,
     form: LookForm,
     epoch: &Epoch,
+    crowd: CrowdLook,
     subjects: &[SubjectConfig],
     looks: &[Option<SubjectLook>],
 ) -> Result<Vec<u8, Heap>, Memory> {
     let mut page = Vec::new(heap.clone()?);
     match form {
-        LookForm::Stats => put_stats(&mut page, epoch, subjects, looks)?,
-        LookForm::Metrics => put_metrics(&mut page, subjects, looks)?,
-        LookForm::Lines => put_lines(&mut page, epoch, subjects, looks)?,
-        LookForm::Page => put_page(&mut page, epoch, subjects, looks)?,
+        LookForm::Stats => put_stats(&mut page, epoch, crowd, subjects, looks)?,
+        LookForm::Metrics => put_metrics(&mut page, crowd, subjects, looks)?,
+        LookForm::Lines => put_lines(&mut page, epoch, crowd, subjects, looks)?,
+        LookForm::Page => put_page(&mut page, epoch, crowd, subjects, looks)?,
     }
     Ok(page)
 }

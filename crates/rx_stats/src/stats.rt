@@ -1,5 +1,7 @@
 // What is seen, as one object of JSON. Names are of letters, digits and hyphens, and nothing else in it is a text.
 
+use crate::crowd::crowd_look::CrowdLook;
+use crate::crowd::door_look::DoorLook;
 use crate::pieces::{put, put_number};
 use crate::words::{end_word, errors_word, kind_word, put_strategy};
 use rx_config::SubjectConfig;
@@ -7,16 +9,19 @@ use rx_heap::{Heap, Memory};
 use rx_http::Epoch;
 use rx_hub::{ObserverLook, SubjectEnd, SubjectLook};
 
-/// Puts what was seen of each subject.
+/// Puts what was seen of the connections and of each subject.
 pub(crate) fn put_stats(
     page: &mut Vec<u8, Heap>,
     epoch: &Epoch,
+    crowd: CrowdLook,
     subjects: &[SubjectConfig],
     looks: &[Option<SubjectLook>],
 ) -> Result<(), Memory> {
     put(page, b"{\"epoch\":\"")?;
     put(page, epoch.as_bytes())?;
-    put(page, b"\",\"subjects\":[")?;
+    put_door(page, b"\",\"connections\":{\"sessions\":", crowd.sessions)?;
+    put_door(page, b",\"http\":", crowd.http)?;
+    put(page, b"},\"subjects\":[")?;
     let mut before = b"".as_slice();
     for (subject, look) in subjects.iter().zip(looks.iter()) {
         put(page, before)?;
@@ -24,6 +29,13 @@ pub(crate) fn put_stats(
         before = b",".as_slice();
     }
     put(page, b"]}\n")
+}
+
+fn put_door(page: &mut Vec<u8, Heap>, before: &[u8], door: DoorLook) -> Result<(), Memory> {
+    put(page, before)?;
+    put_number(page, b"{\"open\":", door.open)?;
+    put_number(page, b",\"accepted\":", door.accepted)?;
+    put(page, b"}")
 }
 
 fn put_subject(

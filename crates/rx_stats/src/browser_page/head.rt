@@ -5,7 +5,7 @@ pub(crate) const HEAD: &str = r##"<!doctype html>
 <html lang="en">
 <head>
 <meta charset="utf-8">
-<meta http-equiv="Content-Security-Policy" content="default-src 'none'; connect-src 'self'; img-src data:; style-src 'sha256-AORvXHZuGSmTDqwD5BDlLQHueeny5wAq1gWdnBpJEaw='; script-src 'sha256-42oksDhJ4U/E94e+OraUrdDJJjszi18B3iEZIpbIqlI='; base-uri 'none'; form-action 'none'">
+<meta http-equiv="Content-Security-Policy" content="default-src 'none'; connect-src 'self'; img-src data:; style-src 'sha256-AORvXHZuGSmTDqwD5BDlLQHueeny5wAq1gWdnBpJEaw='; script-src 'sha256-bg8hKKXRReC0ekQkXnB3pjpT3TzdOXcGAjlLVF8fJ2U='; base-uri 'none'; form-action 'none'">
 <meta name="viewport" content="width=device-width, initial-scale=1">
 <meta name="referrer" content="no-referrer">
 <title>rxline</title>

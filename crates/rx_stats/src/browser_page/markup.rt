@@ -1,5 +1,5 @@
-// What stands between the style, the epoch, the rows of the subjects and the script. Its ids have a capital each, as no name of a
-// subject has, so that a browser that goes to the fragment of a subject stays where it is.
+// What stands between the style, the epoch, the connections, the rows of the subjects and the script. Its ids have a capital each, as no
+// name of a subject has, so that a browser that goes to the fragment of a subject stays where it is.
 
 pub(crate) const BEFORE_EPOCH: &str = r##"</style>
 </head>
@@ -7,7 +7,12 @@ pub(crate) const BEFORE_EPOCH: &str = r##"</style>
 <main>
 <header><h1>rx<b>line</b></h1><span id="State" class="pill" role="status"></span><span>epoch <span id="Epoch">"##;
 
-pub(crate) const BEFORE_ROWS: &str = r##"</span></span></header>
+pub(crate) const BEFORE_SESSIONS: &str =
+    r##"</span></span><span>connections: <span id="Sessions">"##;
+
+pub(crate) const BEFORE_HTTP: &str = r##"</span> of sessions, <span id="Http">"##;
+
+pub(crate) const BEFORE_ROWS: &str = r##"</span> of HTTP</span></header>
 <section>
 <table class="numbers">
 <thead><tr><th>subject</th><th>kind</th><th>state</th><th>items</th><th>items a second</th><th>observers</th><th>waiting</th><th>refused</th><th>memory</th></tr></thead>

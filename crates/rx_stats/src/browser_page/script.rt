@@ -96,6 +96,8 @@ function showObserver(each, most) {
 function show() {
   const now = performance.now(), shown = seen.subjects.map((one) => showSubject(one, now)), table = $("Subjects");
   say($("Epoch"), seen.epoch);
+  say($("Sessions"), number(seen.connections.sessions.open));
+  say($("Http"), number(seen.connections.http.open));
   if (shown.length !== table.children.length || shown.some((row, at) => row !== table.children[at])) table.replaceChildren(...shown);
   choose();
 }
