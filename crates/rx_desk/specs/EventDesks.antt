@@ -15,7 +15,9 @@
 --
 -- An emission is refused by `ReadOnly` where readers alone are served, at a name that no subject has by `Subject`, and then where
 -- its bytes are no text by `Long`, `Lf` or `Memory`: no call is made. Any other makes just one call to the first subject of its
--- name, the Emit of its note at the moment that `now` told, and is answered by what came of it.
+-- name, the Emit of its note at the moment that `now` told, and is answered by what came of it. By a key it is so where none was accepted
+-- at that subject by the same key, of the last 1,024 that were at any; else no call is made, and it is answered as that one was, and that
+-- it came again. Where there is no memory to remember any it is refused by `Memory` before its bytes are looked at.
 --
 -- A request of items at a name that no subject has is refused by `Subject`, and for an observer of another epoch, or that doesn't ask for
 -- its items itself, by `Observer`: no call is made. Any other makes just one call to the first subject of its name, the Request, and is
@@ -28,6 +30,7 @@
 use Rattle.std.specs.Prelude.{◌≡◌, ◌+◌, ◌-◌, ◌<◌, ◌≤◌, ◌⊎◌, ◌&&◌, nat_lt, not, min, ℕ, Bool, true, false, if◌then◌else◌, List, [], ◌∷◌, ◌++◌, Option, None, Some, slice_get, MatchBool, MatchOption, Result, Ok, Err}
 use Rattle.rx_events.specs.Telling.{standing_at}
 use Rattle.rx_events.specs.declared.event_sink.EventSink.{EventSink}
+use Rattle.rx_exchange.specs.declared.emitted.Emitted.{Emitted}
 use Rattle.rx_exchange.specs.declared.joining.Joining.{Joining}
 use Rattle.rx_exchange.specs.declared.joining.Joining.TheVariants.{Taken, Back}
 use Rattle.rx_http.specs.declared.answer.refusal.Refusal.{Refusal}
@@ -54,21 +57,24 @@ use Rattle.rx_pump.specs.declared.reply.Reply.{Reply}
 use Rattle.rx_desk.specs.Askers.{is_among, without}
 use Rattle.rx_desk.specs.ClientSinks.{IsEvents, writer_of}
 use Rattle.rx_desk.specs.EmittedNotes.{IsRefusedNote, emitted_by, note_of}
+use Rattle.rx_desk.specs.KeptAnswers.{kept_for, kept_with}
 use Rattle.rx_desk.specs.Responses.{has_joined, sink_back}
 use Rattle.rx_desk.specs.SessionDesks.{AsksEmit, AsksItems, AsksJoin, Disposes, Looks, SessionView, is_publish, joined_by, place_of}
 use Rattle.rx_desk.specs.declared.client_sink.ClientSink.{ClientSink}
 use Rattle.rx_desk.specs.declared.grants.Grants.{Grants}
 use Rattle.rx_desk.specs.declared.joined.Joined.{Joined}
+use Rattle.rx_desk.specs.declared.kept_answer.KeptAnswer.{KeptAnswer}
 
 -- a desk of those who ask for events and emit: the session's desk that makes its calls, the epoch of the server, what it grants, how many
--- observers are held, those of them that ask for their items themselves, whether each call so far had a reply, and whether it was asked to
--- stop
+-- observers are held, those of them that ask for their items themselves, what emissions by a key were answered, whether each call so far
+-- had a reply, and whether it was asked to stop
 pub record EventView (M S : Type 0) : Type 0 where
   pub session : SessionView M S
   pub epoch : List ℕ
   pub grants : Grants
   pub held : ℕ
   pub asking : List Joined
+  pub kept : List KeptAnswer
   pub is_well : Bool
   pub stopping : Bool
 
@@ -182,10 +188,21 @@ module _ {M W : Type 0} where
     pub disposes : Disposes before.session observer after.session
     pub held : after.held ≡ before.held - 1
     pub asking : after.asking ≡ without observer before.asking
+    pub kept : after.kept ≡ before.kept
     pub epoch : after.epoch ≡ before.epoch
     pub grants : after.grants ≡ before.grants
     pub stopping : after.stopping ≡ before.stopping
     pub is_well : after.is_well ≡ before.is_well
+
+-- what an emission is answered that was made now
+abbrev pub first_answer : Result (Option ℕ) Refusal → Result Emitted Refusal
+first_answer (Ok place) = Ok (record { place = place; again = false })
+first_answer (Err cause) = Err cause
+
+-- the desk that remembers what an emission by this key at the subject at this place was answered, where it was accepted
+abbrev pub with_kept : {M S : Type 0} → EventView M S → ℕ → List ℕ → Result (Option ℕ) Refusal → EventView M S
+with_kept desk subject key (Ok place) = record desk { kept = kept_with desk.kept (record { subject = subject; key = key; place = place }) }
+with_kept desk subject key (Err cause) = desk
 
 -- where a reader begins that said nothing to a Publish, by the answer to the call before its Join
 abbrev pub first_begin : {S : Type 0} → Result (Reply S) (CallError S) → Begin
@@ -201,6 +218,7 @@ module _ {M W : Type 0} where
     pub is_well : after.is_well ≡ (before.is_well && has_reply answered)
     pub held : after.held ≡ before.held
     pub asking : after.asking ≡ before.asking
+    pub kept : after.kept ≡ before.kept
     pub epoch : after.epoch ≡ before.epoch
     pub grants : after.grants ≡ before.grants
     pub stopping : after.stopping ≡ before.stopping
@@ -224,6 +242,7 @@ module _ {M W : Type 0} (tells : M → ℕ → M → Type 0) where
     pub joining_is : joining ≡ joining_by answered
     pub held : after.held ≡ held_with before.held (has_joined answered)
     pub asking : after.asking ≡ asking_with before.asking credit.asked (joined_by subject answered)
+    pub kept : after.kept ≡ before.kept
     pub is_well : after.is_well ≡ (before.is_well && has_reply answered)
     pub epoch : after.epoch ≡ before.epoch
     pub grants : after.grants ≡ before.grants
@@ -264,6 +283,7 @@ module _ {M W : Type 0} where
     pub is_well : after.is_well ≡ before.is_well
     pub held : after.held ≡ before.held
     pub asking : after.asking ≡ before.asking
+    pub kept : after.kept ≡ before.kept
     pub epoch : after.epoch ≡ before.epoch
     pub grants : after.grants ≡ before.grants
     pub stopping : after.stopping ≡ before.stopping
@@ -284,6 +304,7 @@ module _ {M W : Type 0} where
     pub is_well : after.is_well ≡ (before.is_well && has_reply answered)
     pub held : after.held ≡ before.held
     pub asking : after.asking ≡ before.asking
+    pub kept : after.kept ≡ before.kept
     pub epoch : after.epoch ≡ before.epoch
     pub grants : after.grants ≡ before.grants
     pub stopping : after.stopping ≡ before.stopping
@@ -321,7 +342,7 @@ module _ {M W : Type 0} where
 
 module _ {M W : Type 0} (tells : M → ℕ → M → Type 0) where
   -- no call was made for an emission, which is refused for this cause
-  abbrev pub IsUnasked : Refusal → EventView M (ClientSink W) → Result (Option ℕ) Refusal → EventView M (ClientSink W) → Type 0
+  abbrev pub IsUnasked : {T : Type 0} → Refusal → EventView M (ClientSink W) → Result T Refusal → EventView M (ClientSink W) → Type 0
   IsUnasked cause before emitted after = (emitted ≡ Err cause) × (after ≡ before)
 
   -- a note of this kind was emitted at the subject at this place, and so it was answered
@@ -332,6 +353,7 @@ module _ {M W : Type 0} (tells : M → ℕ → M → Type 0) where
     pub is_well : after.is_well ≡ (before.is_well && has_reply answered)
     pub held : after.held ≡ before.held
     pub asking : after.asking ≡ before.asking
+    pub kept : after.kept ≡ before.kept
     pub epoch : after.epoch ≡ before.epoch
     pub grants : after.grants ≡ before.grants
     pub stopping : after.stopping ≡ before.stopping
@@ -342,14 +364,33 @@ module _ {M W : Type 0} (tells : M → ℕ → M → Type 0) where
       ((cause : Refusal) × IsRefusedNote kind text cause × IsUnasked cause before emitted after)
       ⊎ EmitsNote before kind (note_of kind text) emitted after subject
 
+  -- an emission by a key that is not remembered: where it is accepted, the key is from then on
+  pub record EmitsFirst (before : EventView M (ClientSink W)) (kind : NoteKind) (text key : List ℕ) (emitted : Result Emitted Refusal) (after : EventView M (ClientSink W)) (subject : ℕ) : Type 0 where
+    pub mid : EventView M (ClientSink W)
+    pub did : Result (Option ℕ) Refusal
+    pub emits : EmitsAt before kind text did mid subject
+    pub after_is : after ≡ with_kept mid subject key did
+    pub emitted_is : emitted ≡ first_answer did
+
+  -- an emission by a key: where one was accepted by it, that is told again, and no call is made
+  abbrev pub EmitsOnce : EventView M (ClientSink W) → NoteKind → List ℕ → List ℕ → Result Emitted Refusal → EventView M (ClientSink W) → ℕ → Type 0
+  EmitsOnce before kind text key emitted after subject =
+      MatchOption (kept_for subject key before.kept) (IsUnasked causes.Memory before emitted after ⊎ EmitsFirst before kind text key emitted after subject)
+      (λ place. (emitted ≡ Ok (record { place = place; again = true })) × (after ≡ before))
+
+  -- an emission, by a key or none
+  abbrev pub EmitsText : EventView M (ClientSink W) → NoteKind → List ℕ → Option (List ℕ) → Result Emitted Refusal → EventView M (ClientSink W) → ℕ → Type 0
+  EmitsText before kind text None emitted after subject = (did : Result (Option ℕ) Refusal) × EmitsAt before kind text did after subject × (emitted ≡ first_answer did)
+  EmitsText before kind text (Some key) emitted after subject = EmitsOnce before kind text key emitted after subject
+
   -- an emission at the subject of a name; without such a subject, or where readers alone are served, no call is made
-  abbrev pub EmitsNamed : EventView M (ClientSink W) → List ℕ → NoteKind → List ℕ → Result (Option ℕ) Refusal → EventView M (ClientSink W) → Type 0
-  EmitsNamed before name kind text emitted after =
+  abbrev pub EmitsNamed : EventView M (ClientSink W) → List ℕ → NoteKind → List ℕ → Option (List ℕ) → Result Emitted Refusal → EventView M (ClientSink W) → Type 0
+  EmitsNamed before name kind text key emitted after =
       ((before.grants.may_emit ≡ false) × IsUnasked causes.ReadOnly before emitted after)
       ⊎ ((before.grants.may_emit ≡ true)
-      × MatchOption (place_of name before.session.subjects) (IsUnasked causes.Subject before emitted after) (EmitsAt before kind text emitted after))
+      × MatchOption (place_of name before.session.subjects) (IsUnasked causes.Subject before emitted after) (EmitsText before kind text key emitted after))
 
   -- the same of a server that may have been asked to stop, where it is refused
-  abbrev pub emits : EventView M (ClientSink W) → List ℕ → NoteKind → List ℕ → Result (Option ℕ) Refusal → EventView M (ClientSink W) → Type 0
-  emits before name kind text emitted after =
-      MatchBool before.stopping (IsUnasked causes.Stopping before emitted after) (EmitsNamed before name kind text emitted after)
+  abbrev pub emits : EventView M (ClientSink W) → List ℕ → NoteKind → List ℕ → Option (List ℕ) → Result Emitted Refusal → EventView M (ClientSink W) → Type 0
+  emits before name kind text key emitted after =
+      MatchBool before.stopping (IsUnasked causes.Stopping before emitted after) (EmitsNamed before name kind text key emitted after)

@@ -3,26 +3,30 @@ ghost use Rattle.rx_http.specs.declared.answer.refusal.Refusal.TheVariants as ca
 ghost use Rattle.rx_desk.specs.ClientSinks.{writer_of};
 ghost use Rattle.rx_desk.specs.EventDesks.{first_begin, has_reply, held_with};
 
+mod emissions;
+
 use crate::askers::Askers;
 use crate::causes::{joining_by, requested_by};
 use crate::client_sink::ClientSink;
-use crate::emitted_note::{emitted_by, note_of};
 use crate::event_sinks::{first_of, sink_over, tempo_of};
 use crate::grants::Grants;
 use crate::joined::Joined;
+use crate::kept_answers::KeptAnswers;
 use crate::moments::Moments;
 use crate::responses::has_joined;
 use crate::session_desk::SessionDesk;
 use crate::stop::SharedStop;
 use rx_events::SharedPulse;
-use rx_exchange::{Front, Joining};
+use rx_exchange::{Emitted, Front, Joining};
 use rx_heap::{Heap, Memory};
-use rx_http::{Begin, Credit, Document, Epoch, LookForm, NoteKind, ObserverId, Refusal};
+use rx_http::{
+    Begin, Credit, Document, Epoch, IdempotencyKey, LookForm, NoteKind, ObserverId, Refusal,
+};
 use rx_hub::SubjectLook;
-use rx_note::{Note, Policy};
+use rx_note::Policy;
 use rx_proto::Name;
 use rx_pump::{CallError, Reply, SharedLook};
-use rx_stats::page_of;
+use rx_stats::{SharedCrowd, page_of};
 use std::io::Write;
 use std::marker::Model;
 use std::sync::Wait;
@@ -39,10 +43,14 @@ pub struct EventDesk<'a, R, M: Drop, W: Write + Drop> {
     looks: Vec<SharedLook, Heap>,
     // What time it is for the sinks.
     pulse: SharedPulse,
+    // How many connections the server has.
+    crowd: SharedCrowd,
     // How many observers joined and were not disposed of.
     held: u32,
     // Those of them whose readers ask for items themselves.
     askers: Askers,
+    // What emissions by a key were answered.
+    kept: KeptAnswers,
     // Each call so far had a reply.
     is_well: bool,
     // By which who serves hears that it is to stop.
@@ -61,8 +69,10 @@ impl<'a, R, M: Drop, W: Write + Drop> Drop for EventDesk<'a, R, M, W> {
             grants: _,
             looks: _,
             pulse: _,
+            crowd: _,
             held: _,
             askers: _,
+            kept: _,
             is_well: _,
             stop: _,
             stopping: _,
@@ -73,19 +83,20 @@ impl<'a, R, M: Drop, W: Write + Drop> Drop for EventDesk<'a, R, M, W> {
 impl<'a, R, M: Drop, W: Write + Drop> Model for EventDesk<'a, R, M, W> {
     ghost use Rattle.rx_desk.specs.Askers.{observers_in};
     ghost use Rattle.rx_desk.specs.EventDesks.{EventView};
+    ghost use Rattle.rx_desk.specs.KeptAnswers.{listed};
     ghost use Rattle.rx_desk.specs.declared.client_sink.ClientSink.{ClientSink};
 
     ghost Value = { EventView M (ClientSink W) };
 
-    ghost view = { λ d. record { session = d.session; epoch = d.epoch; grants = d.grants; held = d.held; asking = observers_in d.askers; is_well = d.is_well; stopping = d.stopping } };
+    ghost view = { λ d. record { session = d.session; epoch = d.epoch; grants = d.grants; held = d.held; asking = observers_in d.askers; kept = listed d.kept.ring; is_well = d.is_well; stopping = d.stopping } };
 }
 
 impl<'a, R, M: Drop, W: Write + Drop> EventDesk<'a, R, M, W> {
     ghost use Rattle.std.specs.Prelude.{false, true, []};
 
     /// The desk of the browsers of a server of this epoch that grants them so much, over a session's desk that begins. The sinks of readers
-    /// stand in this memory, and tell heartbeats by this pulse; by `looks` the subjects are seen, in their order. Who serves hears by `stop`
-    /// that it is to stop.
+    /// stand in this memory, and tell heartbeats by this pulse; by `looks` the subjects are seen, in their order, and by `crowd` how many
+    /// connections there are. Who serves hears by `stop` that it is to stop.
     pub fn new(
         session: SessionDesk<'a, R, M, W>,
         heap: &'a Heap,
@@ -93,9 +104,10 @@ impl<'a, R, M: Drop, W: Write + Drop> EventDesk<'a, R, M, W> {
         grants: Grants,
         looks: Vec<SharedLook, Heap>,
         pulse: SharedPulse,
+        crowd: SharedCrowd,
         stop: SharedStop,
     ) -> EventDesk<'a, R, M, W>
-        ensures { result ≡ record { session = session.entry; epoch = epoch; grants = grants; held = 0; asking = []; is_well = true; stopping = false } }
+        ensures { result ≡ record { session = session.entry; epoch = epoch; grants = grants; held = 0; asking = []; kept = []; is_well = true; stopping = false } }
     {
         EventDesk {
             session,
@@ -104,8 +116,10 @@ impl<'a, R, M: Drop, W: Write + Drop> EventDesk<'a, R, M, W> {
             grants,
             looks,
             pulse,
+            crowd,
             held: 0,
             askers: Askers::new(),
+            kept: KeptAnswers::new(),
             is_well: true,
             stop,
             stopping: false,
@@ -123,8 +137,10 @@ impl<'a, R, M: Drop, W: Write + Drop> EventDesk<'a, R, M, W> {
             grants: _,
             looks: _,
             pulse: _,
+            crowd: _,
             held: _,
             askers: _,
+            kept: _,
             is_well: _,
             stop: _,
             stopping: _,
@@ -141,7 +157,7 @@ impl<'a, R, M: Drop, W: Write + Drop> EventDesk<'a, R, M, W> {
 }
 
 impl<'a, R: Wait, M: Moments + Drop, W: Write + Drop> EventDesk<'a, R, M, W> {
-    ghost use Rattle.rx_desk.specs.EventDesks.{AsksFor, AsksWith, BeginsAt, EmitsNamed, EmitsNote, FindsBegin, HasLooked, IsRefused, JoinsBy, JoinsFrom, JoinsNamed, KeepsRest, PartsWith, RequestsAt};
+    ghost use Rattle.rx_desk.specs.EventDesks.{AsksFor, AsksWith, BeginsAt, FindsBegin, HasLooked, IsRefused, JoinsBy, JoinsFrom, JoinsNamed, KeepsRest, PartsWith, RequestsAt};
     ghost use Rattle.rx_desk.specs.SessionDesks.{LooksAt};
 
     // Asks for an observer at the subject at this place, with this sink. Where there is no memory for the place of one that asks itself
@@ -257,35 +273,6 @@ impl<'a, R: Wait, M: Moments + Drop, W: Write + Drop> EventDesk<'a, R, M, W> {
         first_begin(&answered)
     }
 
-    // Emits a note of this kind and text at the subject of this name, where notes may be emitted.
-    fn emit_named(
-        &mut self,
-        subject: &Name,
-        kind: NoteKind,
-        text: &[u8],
-    ) -> Result<Option<u32>, Refusal>
-        ensures { EmitsNamed M.tells self.old subject.now kind text.now result self.new }
-    {
-        if !self.grants.may_emit {
-            return Err(Refusal::ReadOnly);
-        }
-        let Some(place) = self.session.place_of(subject) else {
-            return Err(Refusal::Subject);
-        };
-        let note = note_of(self.session.memory_at(place), kind, text)?;
-        self.emit_at(place, kind, note)
-    }
-
-    // Emits a note of this kind at the subject at this place.
-    fn emit_at(&mut self, place: usize, kind: NoteKind, note: Note) -> Result<Option<u32>, Refusal>
-        requires { place < length self.old.session.subjects }
-        ensures { EmitsNote M.tells self.old kind note result self.new place }
-    {
-        let answered = self.session.emit_at(place, note);
-        self.is_well = both(self.is_well, has_reply(&answered));
-        emitted_by(kind, &answered)
-    }
-
     // Asks for items for an observer at the subject at this place, if it asks itself.
     fn request_at(&mut self, place: usize, observer: ObserverId, items: u32) -> Result<(), Refusal>
         requires { place < length self.old.session.subjects }
@@ -391,11 +378,12 @@ impl<'a, R: Wait, M: Moments + Drop, W: Write + Drop> Front<W> for EventDesk<'a,
         subject: &Name,
         kind: NoteKind,
         text: &[u8],
-    ) -> Result<Option<u32>, Refusal> {
+        key: Option<IdempotencyKey>,
+    ) -> Result<Emitted, Refusal> {
         if self.stopping {
             return Err(Refusal::Stopping);
         }
-        self.emit_named(subject, kind, text)
+        self.emit_named(subject, kind, text, key)
     }
 
     fn request(&mut self, subject: &Name, observer: ObserverId, items: u32) -> Result<(), Refusal> {
@@ -413,6 +401,7 @@ impl<'a, R: Wait, M: Moments + Drop, W: Write + Drop> Front<W> for EventDesk<'a,
             self.heap,
             form,
             &self.epoch,
+            self.crowd.look(),
             self.session.subjects(),
             seen.as_slice(),
         );

@@ -20,6 +20,8 @@ mod event_desk;
 mod event_sinks;
 mod grants;
 mod joined;
+mod kept_answer;
+mod kept_answers;
 mod moments;
 mod responses;
 mod session_desk;

@@ -12,7 +12,7 @@ module _ {M W : Type 0} where
   one-more : (count : ℕ) (a b c : EventView M (ClientSink W)) → LookedAt count a b → LooksAt b.session count c.session → KeepsRest b c → LookedAt (count + 1) a c
   one-more count a b c (looks, rest) at kept = (
     subst (λ n. Looks n a.session c.session) (next count) (b.session, looks, at),
-    record { is_well = kept.is_well ∙ rest.is_well; held = kept.held ∙ rest.held; asking = kept.asking ∙ rest.asking; epoch = kept.epoch ∙ rest.epoch; grants = kept.grants ∙ rest.grants; stopping = kept.stopping ∙ rest.stopping },
+    record { is_well = kept.is_well ∙ rest.is_well; held = kept.held ∙ rest.held; asking = kept.asking ∙ rest.asking; kept = kept.kept ∙ rest.kept; epoch = kept.epoch ∙ rest.epoch; grants = kept.grants ∙ rest.grants; stopping = kept.stopping ∙ rest.stopping },
   )
 
   same-subjects : (s t : SessionView M (ClientSink W)) (subject : ℕ) → LooksAt s subject t → t.subjects ≡ s.subjects
@@ -20,7 +20,7 @@ module _ {M W : Type 0} where
   same-subjects s t subject (inr asks) = asks.kept.subjects
 
 pub loop-place-init : goal.loop-place-init
-loop-place-init g c = ((refl, record { is_well = refl; held = refl; asking = refl; epoch = refl; grants = refl; stopping = refl }), refl)
+loop-place-init g c = ((refl, record { is_well = refl; held = refl; asking = refl; kept = refl; epoch = refl; grants = refl; stopping = refl }), refl)
 
 pub loop-place-preserved : goal.loop-place-preserved
 loop-place-preserved g c = (
