@@ -1,10 +1,12 @@
 -- What an exchange keeps of its desk.
-use Rattle.std.proofs.Common.{◌≡◌, ℕ, zero, suc, Bool, true, false, List, Option, None, Some, slice_get, ◌⊎◌, MatchBool, MatchOption, Result, Ok, Err, ap, inl, inr}
-use Rattle.rx_desk.specs.EventDesks.{AsksFor, BeginsAt, BeginsThere, EmitsAt, EventView, FindsBegin, IsRefused, IsUnasked, IsUngranted, EmitsNamed, JoinsAt, JoinsBy, JoinsNamed, RequestsAt, asks_itself, emits, joins, requests, stops, with_stop}
+use Rattle.std.proofs.Common.{◌≡◌, ℕ, zero, suc, Bool, true, false, List, Option, None, Some, slice_get, ◌⊎◌, MatchBool, MatchOption, Result, Ok, Err, ap, inl, inr, refl, subst, sym}
+use Rattle.rx_desk.specs.EventDesks.{AsksFor, BeginsAt, BeginsThere, EmitsAt, EmitsFirst, EmitsNamed, EmitsText, EventView, FindsBegin, IsRefused, IsUnasked, IsUngranted, JoinsAt, JoinsBy, JoinsNamed, RequestsAt, asks_itself, emits, joins, requests, stops, with_kept, with_stop}
+use Rattle.rx_desk.specs.KeptAnswers.{kept_for}
 use Rattle.rx_desk.specs.SessionDesks.{KeepsSession, Looks, LooksAt, SessionView, is_publish, place_of}
 use Rattle.rx_desk.specs.declared.client_sink.ClientSink.{ClientSink}
 use Rattle.rx_exchange.specs.Meetings.{Meets}
 use Rattle.rx_exchange.specs.Meetings as meetings
+use Rattle.rx_exchange.specs.declared.emitted.Emitted.{Emitted}
 use Rattle.rx_exchange.specs.declared.exchange.Exchange.{Exchange}
 use Rattle.rx_exchange.specs.declared.joining.Joining.{Joining}
 use Rattle.rx_http.specs.Begins.{begin_by}
@@ -89,20 +91,47 @@ module _ {M W : Type 0} (tells : M → ℕ → M → Type 0) where
   emit_at_keeps s kind text emitted t subject (inl refused) = kept-equal s t refused.2.1
   emit_at_keeps s kind text emitted t subject (inr emits) = emits.asks.once.kept
 
+  -- what is remembered of it changes nothing else
+  with_keeps : (s : EventView M (ClientSink W)) (subject : ℕ) (key : List ℕ) (did : Result (Option ℕ) Refusal) → Kept s (with_kept s subject key did)
+  with_keeps s subject key (Ok place) = keeps-equal s.session s.session refl
+  with_keeps s subject key (Err cause) = keeps-equal s.session s.session refl
+
+  -- by a key that is not remembered
+  first_keeps : (s : EventView M (ClientSink W)) (kind : NoteKind) (text key : List ℕ) (emitted : Result Emitted Refusal) (t : EventView M (ClientSink W)) (subject : ℕ)
+      → EmitsFirst tells s kind text key emitted t subject → Kept s t
+  first_keeps s kind text key emitted t subject first =
+      keeps-then s.session first.mid.session t.session (emit_at_keeps s kind text first.did first.mid subject first.emits)
+      (subst (λ (v : EventView M (ClientSink W)). Kept first.mid v) (sym first.after_is) (with_keeps first.mid subject key first.did))
+
+  -- by a key
+  fresh_keeps : (s : EventView M (ClientSink W)) (kind : NoteKind) (text key : List ℕ) (emitted : Result Emitted Refusal) (t : EventView M (ClientSink W)) (subject : ℕ)
+      → (IsUnasked tells causes.Memory s emitted t ⊎ EmitsFirst tells s kind text key emitted t subject) → Kept s t
+  fresh_keeps s kind text key emitted t subject (inl refused) = kept-equal s t refused.1
+  fresh_keeps s kind text key emitted t subject (inr first) = first_keeps s kind text key emitted t subject first
+
+  -- by a key, or none
+  text_keeps : (s : EventView M (ClientSink W)) (kind : NoteKind) (text : List ℕ) (key : Option (List ℕ)) (emitted : Result Emitted Refusal) (t : EventView M (ClientSink W)) (subject : ℕ)
+      → EmitsText tells s kind text key emitted t subject → Kept s t
+  text_keeps s kind text None emitted t subject (did, emits, is) = emit_at_keeps s kind text did t subject emits
+  text_keeps s kind text (Some key) emitted t subject once =
+      match_option (kept_for subject key s.kept) (IsUnasked tells causes.Memory s emitted t ⊎ EmitsFirst tells s kind text key emitted t subject)
+      (λ place. (emitted ≡ Ok (record { place = place; again = true })) × (t ≡ s)) (Kept s t)
+      (fresh_keeps s kind text key emitted t subject) (λ place again. kept-equal s t again.1) once
+
   -- at the subject of a name
-  emit_named_keeps : (s : EventView M (ClientSink W)) (name : List ℕ) (kind : NoteKind) (text : List ℕ) (emitted : Result (Option ℕ) Refusal) (t : EventView M (ClientSink W))
-      → EmitsNamed tells s name kind text emitted t → Kept s t
-  emit_named_keeps s name kind text emitted t (inl read_only) = kept-equal s t read_only.1.1
-  emit_named_keeps s name kind text emitted t (inr may) =
-      match_option (place_of name s.session.subjects) (IsUnasked tells causes.Subject s emitted t) (EmitsAt tells s kind text emitted t) (Kept s t)
-      (λ refused. kept-equal s t refused.1) (emit_at_keeps s kind text emitted t) may.1
+  emit_named_keeps : (s : EventView M (ClientSink W)) (name : List ℕ) (kind : NoteKind) (text : List ℕ) (key : Option (List ℕ)) (emitted : Result Emitted Refusal) (t : EventView M (ClientSink W))
+      → EmitsNamed tells s name kind text key emitted t → Kept s t
+  emit_named_keeps s name kind text key emitted t (inl read_only) = kept-equal s t read_only.1.1
+  emit_named_keeps s name kind text key emitted t (inr may) =
+      match_option (place_of name s.session.subjects) (IsUnasked tells causes.Subject s emitted t) (EmitsText tells s kind text key emitted t) (Kept s t)
+      (λ refused. kept-equal s t refused.1) (text_keeps s kind text key emitted t) may.1
 
   -- of a server that may have been asked to stop
-  emit_keeps : (s : EventView M (ClientSink W)) (name : List ℕ) (kind : NoteKind) (text : List ℕ) (emitted : Result (Option ℕ) Refusal) (t : EventView M (ClientSink W))
-      → emits tells s name kind text emitted t → Kept s t
-  emit_keeps s name kind text emitted t e =
-      match_bool s.stopping (IsUnasked tells causes.Stopping s emitted t) (EmitsNamed tells s name kind text emitted t) (Kept s t)
-      (λ refused. kept-equal s t refused.1) (emit_named_keeps s name kind text emitted t) e
+  emit_keeps : (s : EventView M (ClientSink W)) (name : List ℕ) (kind : NoteKind) (text : List ℕ) (key : Option (List ℕ)) (emitted : Result Emitted Refusal) (t : EventView M (ClientSink W))
+      → emits tells s name kind text key emitted t → Kept s t
+  emit_keeps s name kind text key emitted t e =
+      match_bool s.stopping (IsUnasked tells causes.Stopping s emitted t) (EmitsNamed tells s name kind text key emitted t) (Kept s t)
+      (λ refused. kept-equal s t refused.1) (emit_named_keeps s name kind text key emitted t) e
 
 module _ {M W : Type 0} where
   -- a request of items at a subject
@@ -145,7 +174,7 @@ module _ {M C W : Type 0} (tells : M → ℕ → M → Type 0) (remaining : C �
   meet_keeps : (s : EventView M (ClientSink W)) (writer : W) (asked : Result Asked Refusal) (text : List ℕ) (met : Option (Answer × W)) (t : EventView M (ClientSink W))
       → Meets (calls tells remaining contents) s writer asked text met t → Kept s t
   meet_keeps s writer (Ok (Events subject policy credit known)) text met t m = begin_keeps s subject policy credit (begin_by m.0 known) writer met t m.2
-  meet_keeps s writer (Ok (Emission subject kind size)) text met t m = emit_keeps tells s subject kind text m.0 t m.1
+  meet_keeps s writer (Ok (Emission subject kind size key)) text met t m = emit_keeps tells s subject kind text key m.0 t m.1
   meet_keeps s writer (Ok (Request subject observer items)) text met t m = request_keeps s subject observer items m.0 t m.1
   meet_keeps s writer (Ok (Look form)) text met t m = looks_keep m.1.0 s.session t.session m.1.1.0
   meet_keeps s writer (Ok (Stop within)) text met t m = stop_keeps s within m.0 t m.1

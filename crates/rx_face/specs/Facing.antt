@@ -144,6 +144,7 @@ IsFaceOver config moments epoch grants desk face =
       grants = grants;
       held = 0;
       asking = [];
+      kept = [];
       is_well = true;
       stopping = false;
     }

@@ -2,6 +2,7 @@ use crate::Closer;
 use rx_desk::{Grants, SharedStop};
 use rx_events::SharedPulse;
 use rx_http::Epoch;
+use rx_stats::SharedCrowd;
 use rx_workers::{Idle, Readiness};
 
 /// What a face begins with, beside its desk.
@@ -19,6 +20,8 @@ pub struct Entrance<M: Drop, C, P: Readiness<C> + Drop, B: Closer + Drop> {
     pub grants: Grants,
     /// What time it is for the sinks of readers, as long as somebody tells it.
     pub pulse: SharedPulse,
+    /// How many connections the server has.
+    pub crowd: SharedCrowd,
     /// By what the server is told to stop.
     pub stop: SharedStop,
 }

@@ -10,6 +10,7 @@ use rx_events::SharedPulse;
 use rx_heap::Heap;
 use rx_http::Epoch;
 use rx_pump::{CallDesk, SharedLook};
+use rx_stats::SharedCrowd;
 use rx_workers::Idle;
 use std::io::{Read, Write};
 use std::marker::Model;
@@ -29,6 +30,8 @@ pub struct Face<M: Drop, C: Drop, W: Write + Drop, P: Doorway<C, W> + Drop> {
     shown: Vec<SharedLook, Heap>,
     // What time it is for its sinks.
     pulse: SharedPulse,
+    // How many connections the server has.
+    crowd: SharedCrowd,
     stop: SharedStop,
     desk: CallDesk<ClientSink<W>>,
     doorway: Idle<C, P>,
@@ -46,6 +49,7 @@ impl<M: Drop, C: Drop, W: Write + Drop, P: Doorway<C, W> + Drop> Drop for Face<M
             grants: _,
             shown: _,
             pulse: _,
+            crowd: _,
             stop: _,
             desk: _,
             doorway: _,
@@ -62,7 +66,7 @@ impl<M: Drop, C: Drop, W: Write + Drop, P: Doorway<C, W> + Drop> Model for Face<
 
     ghost Value = { EventView M (ClientSink W) };
 
-    ghost view = { λ f. record { session = record { subjects = (arc_value f.config).subjects.items; window = (arc_value f.config).window; moments = f.moments; calls = f.desk; joined = None; queue = no_queue }; epoch = f.epoch; grants = f.grants; held = 0; asking = []; is_well = true; stopping = false } };
+    ghost view = { λ f. record { session = record { subjects = (arc_value f.config).subjects.items; window = (arc_value f.config).window; moments = f.moments; calls = f.desk; joined = None; queue = no_queue }; epoch = f.epoch; grants = f.grants; held = 0; asking = []; kept = []; is_well = true; stopping = false } };
 
     ghost invariant = { λ f. length f.desk.ports + length f.desk.ended ≡ vec_len (arc_value f.config).subjects };
 }
@@ -71,7 +75,8 @@ impl<M: Moments + Drop, C: Read + Drop, W: Write + Drop, P: Doorway<C, W> + Drop
     ghost use Rattle.rx_face.specs.Facing.{HasServed};
 
     /// A face of a server of this epoch that grants so much, over a desk that has a port for each subject, in the order of the
-    /// configuration, as `shown` shows them. Its sinks have the time of this pulse. It tells by `stop` that it is asked to stop. The list of its clients takes the memory `own`.
+    /// configuration, as `shown` shows them; how many connections there are, `crowd` tells. Its sinks have the time of this pulse. It
+    /// tells by `stop` that it is asked to stop. The list of its clients takes the memory `own`.
     pub fn new(
         heap: Heap,
         own: Heap,
@@ -81,12 +86,13 @@ impl<M: Moments + Drop, C: Read + Drop, W: Write + Drop, P: Doorway<C, W> + Drop
         grants: Grants,
         shown: Vec<SharedLook, Heap>,
         pulse: SharedPulse,
+        crowd: SharedCrowd,
         stop: SharedStop,
         desk: CallDesk<ClientSink<W>>,
         doorway: Idle<C, P>,
     ) -> Face<M, C, W, P>
         requires { length desk.ports + length desk.ended ≡ vec_len (arc_value config).subjects }
-        ensures { result ≡ record { session = record { subjects = (arc_value config).subjects.items; window = (arc_value config).window; moments = moments; calls = desk; joined = None; queue = no_queue }; epoch = epoch; grants = grants; held = 0; asking = []; is_well = true; stopping = false } }
+        ensures { result ≡ record { session = record { subjects = (arc_value config).subjects.items; window = (arc_value config).window; moments = moments; calls = desk; joined = None; queue = no_queue }; epoch = epoch; grants = grants; held = 0; asking = []; kept = []; is_well = true; stopping = false } }
     {
         Face {
             heap,
@@ -97,6 +103,7 @@ impl<M: Moments + Drop, C: Read + Drop, W: Write + Drop, P: Doorway<C, W> + Drop
             grants,
             shown,
             pulse,
+            crowd,
             stop,
             desk,
             doorway,
@@ -116,13 +123,14 @@ impl<M: Moments + Drop, C: Read + Drop, W: Write + Drop, P: Doorway<C, W> + Drop
             grants,
             shown,
             pulse,
+            crowd,
             stop,
             desk,
             doorway,
         } = self;
         let mut doorway = doorway.into_readiness();
         let session = SessionDesk::new(rt, &heap, desk, &config, moments);
-        let desk = EventDesk::new(session, &heap, epoch, grants, shown, pulse, stop);
+        let desk = EventDesk::new(session, &heap, epoch, grants, shown, pulse, crowd, stop);
         let mut attendance = Attendance::new(&heap, own, desk);
         attendance.serve(rt, &mut doorway);
         attendance.into_desk().into_session().into_desk()

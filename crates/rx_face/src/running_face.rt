@@ -109,10 +109,11 @@ pub fn start_face<
         epoch,
         grants,
         pulse,
+        crowd,
         stop,
     } = entrance;
     let face = Face::new(
-        memory, clients, config, moments, epoch, grants, shown, pulse, stop, desk, doorway,
+        memory, clients, config, moments, epoch, grants, shown, pulse, crowd, stop, desk, doorway,
     );
     match start(rt, own, face, closer) {
         Ok(running) => Ok(running),
