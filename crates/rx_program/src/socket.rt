@@ -29,6 +29,7 @@ use crate::socket::system_events::SystemEvents;
 use crate::socket::terms::Terms;
 use rx_heap::Heap;
 use rx_server::{AcceptFault, Idle, Listener, SharedStop, Watch, WatchFault};
+use rx_stats::{Door, Guest, SharedCrowd};
 use std::io::ErrorKind;
 use std::net::Net;
 use std::os::unix::net::{UnixListener, UnixStream};
@@ -48,6 +49,7 @@ pub struct Socket<F: Clock + Drop> {
     heap: Heap,
     terms: Terms,
     notices: SharedNotices,
+    crowd: SharedCrowd,
     stop: SharedStop,
     // What it waits by for the next connection; none where it waits for nothing else.
     lookout: Option<SystemEvents<F>>,
@@ -62,6 +64,7 @@ impl<F: Clock + Drop> Drop for Socket<F> {
             heap: _,
             terms: _,
             notices: _,
+            crowd: _,
             stop: _,
             lookout: _,
         } = self;
@@ -69,14 +72,15 @@ impl<F: Clock + Drop> Drop for Socket<F> {
 }
 
 impl<F: Clock + Drop> Socket<F> {
-    /// The connections that come to this listener, each on these terms. What is decided of them is counted among the notices. Where
-    /// it may be stopped it waits by this lookout, over a listener that waits for nobody.
+    /// The connections that come to this listener, each on these terms, counted by this crowd. What is decided of them is counted among the
+    /// notices. Where it may be stopped it waits by this lookout, over a listener that waits for nobody.
     pub(crate) fn new(
         listener: UnixListener,
         host: F,
         heap: Heap,
         terms: Terms,
         notices: SharedNotices,
+        crowd: SharedCrowd,
         stop: SharedStop,
         lookout: Option<SystemEvents<F>>,
     ) -> Socket<F> {
@@ -86,6 +90,7 @@ impl<F: Clock + Drop> Socket<F> {
             heap,
             terms,
             notices,
+            crowd,
             stop,
             lookout,
         }
@@ -138,15 +143,15 @@ impl<F: AllocGlobal + Net + Clock + Wait + Clone + Drop + Send + 'static> Listen
             }
             match self.listener.accept() {
                 Ok((stream, _)) => {
-                    let ends = Some(&self.stop);
                     match halves(
                         stream,
                         &self.host,
                         &self.heap,
                         self.terms,
                         &self.notices,
+                        &self.crowd,
+                        Door::Sessions,
                         &self.stop,
-                        ends,
                     ) {
                         Ok(halves) => return Ok(halves),
                         Err(fault) => self.notices.count(refusal_of(&fault)),
@@ -213,16 +218,21 @@ pub(crate) fn lookout_over<F: AllocGlobal + Net + Clock + Clone + Drop>(
     Ok(lookout)
 }
 
-/// The half of a connection that is read, which ends by a stop where one is told, and the half that is written. Neither waits.
+/// The half of a connection that is read, which ends by a stop where it is a session's, and the half that is written. Neither waits. As
+/// long as there is one of them the connection is counted as open.
 pub(crate) fn halves<C: Clock + Clone + Drop>(
     stream: UnixStream,
     clock: &C,
     heap: &Heap,
     terms: Terms,
     notices: &SharedNotices,
+    crowd: &SharedCrowd,
+    door: Door,
     stop: &SharedStop,
-    ends: Option<&SharedStop>,
 ) -> io::Result<(Incoming<C>, Outgoing<C>)> {
+    let Ok(guest) = Guest::enter(crowd, door) else {
+        return Err(io::Error::from(ErrorKind::OutOfMemory));
+    };
     stream.set_nonblocking(true)?;
     let counted = Arc::try_clone(notices)?;
     let notices = Arc::try_clone(notices)?;
@@ -231,11 +241,11 @@ pub(crate) fn halves<C: Clock + Clone + Drop>(
     let link = Arc::new(heap.clone()?, stream)?;
     let other = Arc::try_clone(&link)?;
     let stop = Arc::try_clone(stop)?;
-    let ends = match ends {
-        Some(stop) => Some(Arc::try_clone(stop)?),
-        None => None,
+    let ends = match door {
+        Door::Sessions => Some(Arc::try_clone(&stop)?),
+        Door::Http => None,
     };
-    let Ok(peer) = Peer::shared(heap.clone()?) else {
+    let Ok(peer) = Peer::shared(heap.clone()?, guest) else {
         return Err(io::Error::from(ErrorKind::OutOfMemory));
     };
     let same = Arc::try_clone(&peer)?;

@@ -17,6 +17,7 @@ use rx_events::{Pulse, SharedPulse};
 use rx_heap::Heap;
 use rx_note::Text;
 use rx_server::{Entrance, Epoch, Grants, Idle, SharedStop};
+use rx_stats::SharedCrowd;
 use std::fs::File;
 use std::io::{ErrorKind, Write};
 use std::os::unix::net::UnixListener;
@@ -32,6 +33,7 @@ pub(crate) struct Porch<F: Host> {
     epoch: Epoch,
     grants: Grants,
     pulse: SharedPulse,
+    crowd: SharedCrowd,
     stop: SharedStop,
     // The path of its socket.
     path: Text,
@@ -47,6 +49,7 @@ impl<F: Host> Drop for Porch<F> {
             epoch: _,
             grants: _,
             pulse: _,
+            crowd: _,
             stop: _,
             path: _,
         } = self;
@@ -57,8 +60,9 @@ impl<F: Host> Drop for Porch<F> {
 pub(crate) type Opened<F> = Entrance<Clocked<F>, Incoming<F>, FaceSocket<F>, FaceCloser>;
 
 impl<F: Host> Porch<F> {
-    /// A new Unix socket by the section `[http]` of a configuration. What it decides of its connections is counted among the notices. By
-    /// `stop` the server is told to stop. With it comes the lock beside the socket, which is to be held as long as the server lives.
+    /// A new Unix socket by the section `[http]` of a configuration. What it decides of its connections is counted among the notices, and
+    /// how many they are by this crowd. By `stop` the server is told to stop. With it comes the lock beside the socket, which is to be held
+    /// as long as the server lives.
     /// Refused by `Listen` where the socket can't be had, and by `Memory`.
     pub(crate) fn at(
         rt: &F,
@@ -66,6 +70,7 @@ impl<F: Host> Porch<F> {
         config: &Config,
         http: &Http,
         notices: &SharedNotices,
+        crowd: &SharedCrowd,
         stop: &SharedStop,
     ) -> Result<(Porch<F>, File), ProgramFault>
         ensures { IfErr result LacksSocket }
@@ -79,8 +84,8 @@ impl<F: Host> Porch<F> {
         let Ok((listener, lock)) = listen(rt, name, config.takeover) else {
             return Err(ProgramFault::Listen);
         };
-        match made(rt, heap, config, listener, notices, stop) {
-            Ok((doorway, closer, clock, epoch, pulse, stop)) => {
+        match made(rt, heap, config, listener, notices, crowd, stop) {
+            Ok((doorway, closer, clock, epoch, pulse, crowd, stop)) => {
                 let porch = Porch {
                     doorway,
                     closer,
@@ -93,6 +98,7 @@ impl<F: Host> Porch<F> {
                         heartbeat: http.heartbeat,
                     },
                     pulse,
+                    crowd,
                     stop,
                     path,
                 };
@@ -122,6 +128,7 @@ impl<F: Host> Porch<F> {
             epoch,
             grants,
             pulse,
+            crowd,
             stop,
             path: _,
         } = self;
@@ -132,6 +139,7 @@ impl<F: Host> Porch<F> {
             epoch,
             grants,
             pulse,
+            crowd,
             stop,
         }
     }
@@ -149,6 +157,7 @@ fn made<F: Host>(
     config: &Config,
     listener: UnixListener,
     notices: &SharedNotices,
+    crowd: &SharedCrowd,
     stop: &SharedStop,
 ) -> io::Result<
     (
@@ -157,6 +166,7 @@ fn made<F: Host>(
         F,
         Epoch,
         SharedPulse,
+        SharedCrowd,
         SharedStop,
     ),
 > {
@@ -171,6 +181,7 @@ fn made<F: Host>(
         Terms::of(config),
         notices,
         Arc::try_clone(&pulse)?,
+        Arc::try_clone(crowd)?,
         Arc::try_clone(stop)?,
     )?;
     let closer = socket.closer()?;
@@ -180,6 +191,7 @@ fn made<F: Host>(
         rt.clone()?,
         epoch_of(rt)?,
         pulse,
+        Arc::try_clone(crowd)?,
         Arc::try_clone(stop)?,
     ))
 }

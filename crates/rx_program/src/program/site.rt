@@ -25,6 +25,7 @@ use rx_server::{
     SubjectReport, start_unread,
 };
 use rx_sink::Sink;
+use rx_stats::{Crowd, SharedCrowd};
 use std::fs::File;
 use std::io::Write;
 use std::sync::Arc;
@@ -97,6 +98,7 @@ impl<F: Host> Site<F> {
             stop,
             stopping,
             accepting,
+            crowd,
         } = tools;
         let Ok(warden) = Warden::of(&own, config, stopping) else {
             return Err(ProgramFault::Memory);
@@ -106,7 +108,7 @@ impl<F: Host> Site<F> {
         };
         let (porch, beside) = match &config.http {
             Some(http) => {
-                let (porch, beside) = Porch::at(rt, &own, config, http, &notices, &stop)?;
+                let (porch, beside) = Porch::at(rt, &own, config, http, &notices, &crowd, &stop)?;
                 (Some(porch), beside)
             }
             None => match lock.try_clone() {
@@ -123,7 +125,9 @@ impl<F: Host> Site<F> {
         } else {
             None
         };
-        let socket = Socket::new(listener, host, waiting, terms, counted, accepting, lookout);
+        let socket = Socket::new(
+            listener, host, waiting, terms, counted, crowd, accepting, lookout,
+        );
         Ok(Site {
             socket,
             lock,
@@ -289,6 +293,7 @@ struct Tools<F: Host> {
     stop: SharedStop,
     stopping: SharedStop,
     accepting: SharedStop,
+    crowd: SharedCrowd,
 }
 
 fn make_tools<F: Host>(rt: &F, heap: &Heap) -> Result<Tools<F>, Memory> {
@@ -311,6 +316,7 @@ fn make_tools<F: Host>(rt: &F, heap: &Heap) -> Result<Tools<F>, Memory> {
         stop,
         stopping,
         accepting,
+        crowd: Crowd::shared(heap.clone()?)?,
     })
 }
 

@@ -16,6 +16,7 @@ use crate::socket::{PAUSE, halves, is_passing, refusal_of, trouble_of};
 use rx_events::SharedPulse;
 use rx_heap::Heap;
 use rx_server::{Aim, Doorway, Joined, Readiness, Ready, SharedStop, WatchFault};
+use rx_stats::{Door, SharedCrowd};
 use std::io::ErrorKind;
 use std::net::Net;
 use std::os::unix::net::UnixListener;
@@ -37,6 +38,7 @@ pub struct FaceSocket<F: Clock + Drop> {
     terms: Terms,
     closed: Arc<AtomicBool, Heap>,
     notices: SharedNotices,
+    crowd: SharedCrowd,
     stop: SharedStop,
     // The last one that came could not be accepted.
     is_in_trouble: bool,
@@ -53,6 +55,7 @@ impl<F: Clock + Drop> Drop for FaceSocket<F> {
             terms: _,
             closed: _,
             notices: _,
+            crowd: _,
             stop: _,
             is_in_trouble: _,
         } = self;
@@ -60,8 +63,8 @@ impl<F: Clock + Drop> Drop for FaceSocket<F> {
 }
 
 impl<F: AllocGlobal + Net + Clock + Clone + Drop> FaceSocket<F> {
-    /// The connections that come to this listener, each on these terms. What it decides of them is counted among the notices. With each
-    /// wait it tells the time to this pulse, and begins that of this stop where it was asked for.
+    /// The connections that come to this listener, each on these terms, counted by this crowd. What it decides of them is counted among the
+    /// notices. With each wait it tells the time to this pulse, and begins that of this stop where it was asked for.
     pub fn new(
         listener: UnixListener,
         host: F,
@@ -69,6 +72,7 @@ impl<F: AllocGlobal + Net + Clock + Clone + Drop> FaceSocket<F> {
         terms: Terms,
         notices: SharedNotices,
         pulse: SharedPulse,
+        crowd: SharedCrowd,
         stop: SharedStop,
     ) -> io::Result<FaceSocket<F>>
         ensures { IfOk result (λ socket. WatchesNothing (watched_by socket.polling.log)) }
@@ -94,6 +98,7 @@ impl<F: AllocGlobal + Net + Clock + Clone + Drop> FaceSocket<F> {
             terms,
             closed,
             notices,
+            crowd,
             stop,
             is_in_trouble: false,
         })
@@ -119,8 +124,9 @@ impl<F: Clock + Clone + Drop> FaceSocket<F> {
                         &self.heap,
                         self.terms,
                         &self.notices,
+                        &self.crowd,
+                        Door::Http,
                         &self.stop,
-                        None,
                     ) {
                         Ok(halves) => return Ok(Some(halves)),
                         Err(fault) => self.notices.count(refusal_of(&fault)),
