@@ -12,6 +12,8 @@ pub(crate) enum Answered {
     Well,
     Unwell,
     Accepted(Option<u32>),
+    /// It was accepted before.
+    Again(Option<u32>),
     Requested,
     Stops,
     /// What is seen is `{}` and a line.
@@ -32,10 +34,8 @@ impl Answered {
             Answered::Over => Answer::Over,
             Answered::Well => Answer::Well,
             Answered::Unwell => Answer::Unwell,
-            Answered::Accepted(place) => Answer::Accepted {
-                epoch: Epoch::new(b"1a21de595e8").ok_or("no epoch")?,
-                place,
-            },
+            Answered::Accepted(place) => accepted(place, false)?,
+            Answered::Again(place) => accepted(place, true)?,
             Answered::Stats => shown(heap, LookForm::Stats, b"{}\n")?,
             Answered::Metrics => shown(heap, LookForm::Metrics, b"a 1\n")?,
             Answered::Lines => shown(heap, LookForm::Lines, b"s open\n")?,
@@ -45,6 +45,14 @@ impl Answered {
             Answered::Refused(cause) => Answer::Refused(cause),
         })
     }
+}
+
+fn accepted(place: Option<u32>, again: bool) -> Result<Answer, Fail> {
+    Ok(Answer::Accepted {
+        epoch: Epoch::new(b"1a21de595e8").ok_or("no epoch")?,
+        place,
+        again,
+    })
 }
 
 fn shown(heap: &Heap, form: LookForm, bytes: &[u8]) -> Result<Answer, Fail> {
@@ -86,6 +94,18 @@ const ANSWERS: &[(Answered, &[u8])] = &[
     (
         Answered::Accepted(Some(4_294_967_294)),
         b"HTTP/1.1 200 OK\r\nContent-Type: application/json\r\nContent-Length: 43\r\nCache-Control: no-store\r\nX-Content-Type-Options: nosniff\r\nConnection: close\r\n\r\n{\"epoch\":\"1a21de595e8\",\"place\":4294967294}\n",
+    ),
+    (
+        Answered::Again(None),
+        b"HTTP/1.1 200 OK\r\nContent-Type: application/json\r\nContent-Length: 37\r\nCache-Control: no-store\r\nX-Content-Type-Options: nosniff\r\nConnection: close\r\n\r\n{\"epoch\":\"1a21de595e8\",\"again\":true}\n",
+    ),
+    (
+        Answered::Again(Some(0)),
+        b"HTTP/1.1 200 OK\r\nContent-Type: application/json\r\nContent-Length: 47\r\nCache-Control: no-store\r\nX-Content-Type-Options: nosniff\r\nConnection: close\r\n\r\n{\"epoch\":\"1a21de595e8\",\"place\":0,\"again\":true}\n",
+    ),
+    (
+        Answered::Refused(Refusal::Key),
+        b"HTTP/1.1 400 Bad Request\r\nContent-Type: application/json\r\nContent-Length: 73\r\nCache-Control: no-store\r\nX-Content-Type-Options: nosniff\r\nConnection: close\r\n\r\n{\"error\":\"idempotency-key\",\"text\":\"a key is 1 to 64 visible characters\"}\n",
     ),
     (
         Answered::Stats,

@@ -1,9 +1,11 @@
 //! A server that notes what exchanges ask it for.
 
 use crate::drips::{Drips, Page};
-use rx_exchange::{Exchange, Front, Joining};
+use rx_exchange::{Emitted, Exchange, Front, Joining};
 use rx_heap::Heap;
-use rx_http::{Begin, Credit, Document, Epoch, LookForm, NoteKind, ObserverId, Refusal};
+use rx_http::{
+    Begin, Credit, Document, Epoch, IdempotencyKey, LookForm, NoteKind, ObserverId, Refusal,
+};
 use rx_note::Policy;
 use rx_proto::Name;
 use rx_session::{SessionEnd, Turn};
@@ -14,7 +16,8 @@ const EPOCH: &[u8] = b"1a21de595e8";
 // More turns than any row takes.
 const MOST_TURNS: u32 = 10_000;
 
-/// A server that has one subject, `trades`, and keeps a writer or gives it back. It notes how it was asked to have a reader join.
+/// A server that has one subject, `trades`, and keeps a writer or gives it back. It notes how it was asked to have a reader join. Each
+/// emission by a key it had before.
 #[derive(Drop)]
 pub(crate) struct Clerk {
     epoch: Epoch,
@@ -53,7 +56,7 @@ impl Front<Page> for Clerk {
 
     ghost joins = { λ old name policy credit begin writer joining new. Unit {0} };
 
-    ghost emits = { λ old name kind text emitted new. Unit {0} };
+    ghost emits = { λ old name kind text key emitted new. Unit {0} };
 
     ghost requests = { λ old name observer items asked new. Unit {0} };
 
@@ -95,7 +98,8 @@ impl Front<Page> for Clerk {
         subject: &Name,
         kind: NoteKind,
         text: &[u8],
-    ) -> Result<Option<u32>, Refusal> {
+        key: Option<IdempotencyKey>,
+    ) -> Result<Emitted, Refusal> {
         self.asked = self.asked.saturating_add(1);
         self.kind = Some(kind);
         if self.text.extend_from_slice(text).is_err() {
@@ -104,10 +108,12 @@ impl Front<Page> for Clerk {
         if subject.as_bytes() != b"trades".as_slice() {
             return Err(Refusal::Subject);
         }
-        match (self.refuses, kind) {
-            (Some(cause), _) => Err(cause),
-            (None, NoteKind::Next) => Ok(Some(0)),
-            (None, _) => Ok(None),
+        match self.refuses {
+            Some(cause) => Err(cause),
+            None => Ok(Emitted {
+                place: place_of(kind),
+                again: key.is_some(),
+            }),
         }
     }
 
@@ -152,6 +158,14 @@ impl Front<Page> for Clerk {
             Some(cause) => Err(cause),
             None => Ok(()),
         }
+    }
+}
+
+// The place of a note of this kind.
+fn place_of(kind: NoteKind) -> Option<u32> {
+    match kind {
+        NoteKind::Next => Some(0),
+        NoteKind::Completed | NoteKind::Failed => None,
     }
 }
 

@@ -48,6 +48,18 @@ const EMITTED: &[(&[u8], NoteKind, &[u8], Answered)] = &[
         Answered::Accepted(None),
     ),
     (
+        b"POST /subjects/trades HTTP/1.1\r\nContent-Length: 5\r\nIdempotency-Key: \"8e03978e-40d5\"\r\n\r\nhello",
+        NoteKind::Next,
+        b"hello",
+        Answered::Again(Some(0)),
+    ),
+    (
+        b"POST /subjects/trades/end HTTP/1.1\r\nidempotency-key:  7 \r\n\r\n",
+        NoteKind::Completed,
+        b"",
+        Answered::Again(None),
+    ),
+    (
         b"POST /subjects/other HTTP/1.1\r\nContent-Length: 1\r\n\r\na",
         NoteKind::Next,
         b"a",

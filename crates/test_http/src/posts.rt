@@ -99,6 +99,51 @@ const POSTS: &[(&[u8], &[u8], Wanted)] = &[
         b"Content-Length: 1024",
         Wanted::Refused(Refusal::Subject),
     ),
+    (
+        b"trades",
+        b"Idempotency-Key: \"8e03978e-40d5\"",
+        Wanted::Named(b"\"8e03978e-40d5\""),
+    ),
+    (
+        b"trades",
+        b"IDEMPOTENCY-KEY:!\t\r\nidempotency-key: ~~",
+        Wanted::Named(b"!"),
+    ),
+    (
+        b"trades",
+        b"idempotency-key: 0123456789012345678901234567890123456789012345678901234567890123",
+        Wanted::Named(b"0123456789012345678901234567890123456789012345678901234567890123"),
+    ),
+    (
+        b"Trades",
+        b"idempotency-key: 01234567890123456789012345678901234567890123456789012345678901234",
+        Wanted::Refused(Refusal::Key),
+    ),
+    (
+        b"Trades/end",
+        b"Idempotency-Key:",
+        Wanted::Refused(Refusal::Key),
+    ),
+    (
+        b"Trades",
+        b"Idempotency-Key: a b",
+        Wanted::Refused(Refusal::Key),
+    ),
+    (
+        b"Trades",
+        b"Idempotency-Key: \xc3\xa4",
+        Wanted::Refused(Refusal::Key),
+    ),
+    (
+        b"Trades",
+        b"Idempotency-Key: a b\r\nContent-Length: 1025",
+        Wanted::Refused(Refusal::Long),
+    ),
+    (
+        b"Trades",
+        b"Idempotency-Key: ~",
+        Wanted::Refused(Refusal::Subject),
+    ),
     (b"trades/ends", b"", Wanted::Refused(Refusal::Subject)),
     (b"trades/end/", b"", Wanted::Refused(Refusal::Subject)),
     (

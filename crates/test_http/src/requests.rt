@@ -2,7 +2,8 @@
 
 use rx_heap::{Heap, Memory};
 use rx_http::{
-    Asked, Credit, Epoch, Id, LookForm, MAX_HEAD, NoteKind, ObserverId, Refusal, read_request,
+    Asked, Credit, Epoch, Id, IdempotencyKey, LookForm, MAX_HEAD, NoteKind, ObserverId, Refusal,
+    read_request,
 };
 use rx_note::{Errors, Policy, Strategy};
 use rx_proto::Name;
@@ -20,6 +21,8 @@ pub(crate) enum Wanted {
     Paced(u32),
     /// A note for `trades`, with a body of so many bytes.
     Emitted(NoteKind, u32),
+    /// An item for `trades` without a body, by this key.
+    Named(&'static [u8]),
     /// Items for the observer of `trades` of this epoch and number, so many.
     Granted(&'static [u8], u32, u32),
     /// What is seen, in this form.
@@ -74,18 +77,30 @@ impl Wanted {
                 }))
             }
             Wanted::Looked(form) => Ok(Ok(Asked::Look(*form))),
-            Wanted::Emitted(kind, size) => {
-                Ok(Ok(Asked::Emission {
-                    subject: Name::new(b"trades").ok_or("no name")?,
-                    kind: *kind,
-                    size: *size,
-                }))
-            }
+            Wanted::Emitted(kind, size) => emission(*kind, *size, None),
+            Wanted::Named(key) => emission(
+                NoteKind::Next,
+                0,
+                Some(IdempotencyKey::new(key).ok_or("no key")?),
+            ),
             Wanted::Health => Ok(Ok(Asked::Health)),
             Wanted::Stopped(within) => Ok(Ok(Asked::Stop { within: *within })),
             Wanted::Refused(cause) => Ok(Err(*cause)),
         }
     }
+}
+
+fn emission(
+    kind: NoteKind,
+    size: u32,
+    key: Option<IdempotencyKey>,
+) -> Result<Result<Asked, Refusal>, Fail> {
+    Ok(Ok(Asked::Emission {
+        subject: Name::new(b"trades").ok_or("no name")?,
+        kind,
+        size,
+        key,
+    }))
 }
 
 fn by_socket(window: u32) -> Credit {
