@@ -38,9 +38,12 @@ class Address:
         fields = ["Accept: text/event-stream"] if last is None else ["Accept: text/event-stream", f"Last-Event-ID: {last}"]
         return self._head("GET", f"{subject}?{query}", fields)
 
-    def emission(self, subject: str, end: str, text: bytes) -> bytes:
-        """What emits a text, or has the subject end so."""
-        return self._head("POST", f"{subject}{end}", [f"Content-Length: {len(text)}"]) + text
+    def emission(self, subject: str, end: str, text: bytes, key: Optional[str] = None) -> bytes:
+        """What emits a text, or has the subject end so; once by this key, if there is one."""
+        fields = [f"Content-Length: {len(text)}"]
+        if key is not None:
+            fields.append(f"Idempotency-Key: {key}")
+        return self._head("POST", f"{subject}{end}", fields) + text
 
     def items(self, subject: str, observer: str, count: int) -> bytes:
         """What asks for so many items more for an observer."""

@@ -13,12 +13,19 @@ Text = Union[str, bytes, bytearray, memoryview]
 HELLO = b"HELLO 2\n"
 
 _NAME = re.compile(r"[a-z0-9-]{1,32}")
+_KEY = re.compile(r"[!-~]{1,64}")
 
 
 def check_name(subject: str) -> None:
     """ValueError for what is no name of a subject."""
     if not _NAME.fullmatch(subject):
         raise ValueError(f"{subject!r} is no subject: 1 to 32 of a to z, 0 to 9 and -")
+
+
+def check_key(key: str) -> None:
+    """ValueError for what is no key of an emission."""
+    if not _KEY.fullmatch(key):
+        raise ValueError(f"{key!r} is no key: 1 to 64 visible characters of ASCII")
 
 
 def _name(subject: str) -> bytes:

@@ -20,7 +20,7 @@ from ._connection import moment_after
 from ._event_link import EventLink, asked, posted
 from ._following import Following
 from ._http import Address
-from ._lines import Text, bytes_of, check_name
+from ._lines import Text, bytes_of, check_key, check_name
 from .client import TIMEOUT
 from .notes import Position
 from .policy import BUFFER, Errors, Strategy
@@ -121,25 +121,29 @@ def subscribe(
     )
 
 
-def emission_of(where: Where, subject: str, end: str, text: bytes) -> Tuple[Address, bytes]:
+def emission_of(where: Where, subject: str, end: str, text: bytes, key: Optional[str]) -> Tuple[Address, bytes]:
     """Where it is to go, and what is sent there. ValueError."""
     check_name(subject)
+    if key is not None:
+        check_key(key)
     address = Address.of(os.fspath(where))
-    return address, address.emission(subject, end, text)
+    return address, address.emission(subject, end, text, key)
 
 
-def publish(where: Where, subject: str, text: Text, *, timeout: Optional[float] = TIMEOUT) -> Position:
+def publish(where: Where, subject: str, text: Text, *, key: Optional[str] = None, timeout: Optional[float] = TIMEOUT) -> Position:
     """Emits a text, and returns where it stands: once this returns it was accepted. After ConnectionLost or TimedOut it may have been,
-    or not: who follows the subject sees. By a connection of its own each time: `rxline.Client` is for many. Refused, NoServer,
-    ConnectionLost, ProtocolError, TimedOut."""
-    return posted(*emission_of(where, subject, "", bytes_of(text)), moment_after(timeout))
+    or not: who follows the subject sees. With a `key`, 1 to 64 visible characters that name this text alone, it may be called again
+    with the same one: a server that accepted it tells where it stands, and accepts it no second time, as long as it remembers that (it
+    forgets when it starts anew). By a connection of its own each time: `rxline.Client` is for many. Refused, NoServer, ConnectionLost,
+    ProtocolError, TimedOut."""
+    return posted(*emission_of(where, subject, "", bytes_of(text), key), moment_after(timeout))
 
 
-def complete(where: Where, subject: str, *, timeout: Optional[float] = TIMEOUT) -> None:
+def complete(where: Where, subject: str, *, key: Optional[str] = None, timeout: Optional[float] = TIMEOUT) -> None:
     """Completes the subject, for good. As `publish`."""
-    posted(*emission_of(where, subject, "/end", b""), moment_after(timeout))
+    posted(*emission_of(where, subject, "/end", b"", key), moment_after(timeout))
 
 
-def fail(where: Where, subject: str, text: Text, *, timeout: Optional[float] = TIMEOUT) -> None:
+def fail(where: Where, subject: str, text: Text, *, key: Optional[str] = None, timeout: Optional[float] = TIMEOUT) -> None:
     """Ends the subject by an error, for good. As `publish`."""
-    posted(*emission_of(where, subject, "/fail", bytes_of(text)), moment_after(timeout))
+    posted(*emission_of(where, subject, "/fail", bytes_of(text), key), moment_after(timeout))

@@ -59,6 +59,19 @@ def emit(where, subject):
             tell(kind_of(fault))
 
 
+KEYS = ["k", "k", "other", "k", "", "a b", "x" * 65]
+
+
+def keyed(where, subject):
+    for key in KEYS:
+        try:
+            tell(rxline.events.publish(where, subject, "a", key=key))
+        except Exception as fault:
+            tell(kind_of(fault))
+    for _ in range(2):
+        tell(rxline.events.complete(where, subject, key="end"))
+
+
 MISUSES = [("none", {}), ("S", {}), ("s", {"window": 17}), ("s", {"window": 0}), ("s", {"since": rxline.Position("-", 1)})]
 
 

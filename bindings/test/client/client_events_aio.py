@@ -5,7 +5,7 @@ import sys
 
 import rxline
 from client import kind_of, tell, words_of
-from client_events import MISUSES, words_for
+from client_events import KEYS, MISUSES, words_for
 from rxline.aio import events
 
 
@@ -48,6 +48,16 @@ async def emit(where, subject):
             tell(await end())
         except Exception as fault:
             tell(kind_of(fault))
+
+
+async def keyed(where, subject):
+    for key in KEYS:
+        try:
+            tell(await events.publish(where, subject, "a", key=key))
+        except Exception as fault:
+            tell(kind_of(fault))
+    for _ in range(2):
+        tell(await events.complete(where, subject, key="end"))
 
 
 async def misuse(where):

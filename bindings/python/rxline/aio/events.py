@@ -96,16 +96,16 @@ async def subscribe(
     return subscription
 
 
-async def publish(where: Where, subject: str, text: Text, *, timeout: Optional[float] = TIMEOUT) -> Position:
+async def publish(where: Where, subject: str, text: Text, *, key: Optional[str] = None, timeout: Optional[float] = TIMEOUT) -> Position:
     """Emits a text, and returns where it stands, as `rxline.events.publish`."""
-    return await posted(*emission_of(where, subject, "", bytes_of(text)), moment_after(timeout))
+    return await posted(*emission_of(where, subject, "", bytes_of(text), key), moment_after(timeout))
 
 
-async def complete(where: Where, subject: str, *, timeout: Optional[float] = TIMEOUT) -> None:
+async def complete(where: Where, subject: str, *, key: Optional[str] = None, timeout: Optional[float] = TIMEOUT) -> None:
     """Completes the subject, for good. As `publish`."""
-    await posted(*emission_of(where, subject, "/end", b""), moment_after(timeout))
+    await posted(*emission_of(where, subject, "/end", b"", key), moment_after(timeout))
 
 
-async def fail(where: Where, subject: str, text: Text, *, timeout: Optional[float] = TIMEOUT) -> None:
+async def fail(where: Where, subject: str, text: Text, *, key: Optional[str] = None, timeout: Optional[float] = TIMEOUT) -> None:
     """Ends the subject by an error, for good. As `publish`."""
-    await posted(*emission_of(where, subject, "/fail", bytes_of(text)), moment_after(timeout))
+    await posted(*emission_of(where, subject, "/fail", bytes_of(text), key), moment_after(timeout))
