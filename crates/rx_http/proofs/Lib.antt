@@ -1,9 +1,11 @@
 pub mod Accounting
 mod Back
+pub mod BodyLines
 mod Cuts
 mod Cutting
 mod Digits
 mod Going
+pub mod Joined
 mod Lines
 mod Plain
 mod PlainTexts

@@ -1,23 +1,25 @@
 -- A head asks for one thing, or is refused for one cause.
-use Rattle.std.proofs.Common.{◌≡◌, ◌⊎◌, ℕ, Bool, true, false, inl, inr, List, [], ◌∷◌, ◌++◌, length, length-append, codes, Option, None, Some, Result, Ok, Err, refl, sym, subst, ap, ◌∙◌, append-nil, arith}
+use Rattle.std.proofs.Common.{◌≡◌, ◌⊎◌, ℕ, Bool, true, false, inl, inr, List, [], ◌∷◌, ◌++◌, length, length-append, codes, Option, None, Some, option_map, MatchBool, Result, Ok, Err, refl, sym, subst, ap, ◌∙◌, append-nil, arith}
+use Rattle.percent_encoding.specs.Percent.{percent_decode}
 use Rattle.std.proofs.lemmas.Fmt.{decimal_injective, decimal_nonempty}
 use Rattle.rx_note.specs.Choices.{Choice, choice}
 use Rattle.rx_note.specs.declared.errors.Errors.{Errors}
 use Rattle.rx_note.specs.declared.errors.Errors.TheVariants.{Ahead, Delay}
 use Rattle.rx_proto.specs.Names.{IsName}
-use Rattle.rx_http.specs.Asking.{AsksAt, AsksForEmission, AsksForEvents, AsksForItems, AsksForRequest, AsksForStop, HasWords, HeadAsksForOne, NamesSubject, Nowhere, Route, SaysItems, SaysObserver, SaysSome, SaysSomeKey, SaysStop, ToEmission, ToEvents, ToHealth, ToLook, ToRequest, ToStop, known_word}
+use Rattle.rx_http.specs.Asking.{AsksAt, AsksForEmission, AsksForEvents, AsksForItem, AsksForItems, AsksForRequest, AsksForStop, AsksForTexts, HasWords, HeadAsksForOne, NamesSubject, NamesTexts, Nowhere, Route, SaysItems, SaysObserver, SaysSome, SaysSomeKey, SaysStop, ToEmission, ToEvents, ToHealth, ToItem, ToLook, ToRequest, ToStop, known_word}
 use Rattle.rx_http.specs.Bodies.{HasSize}
 use Rattle.rx_http.specs.Ids.{id_of, over_word, place_digits}
 use Rattle.rx_http.specs.Keys.{SaysKey}
 use Rattle.rx_http.specs.Laws.{IsPlace}
-use Rattle.rx_http.specs.Words.{HasCredit, HasPace, HasPolicy, HasWindow, HasWithin, IsId, SaysKnown, credit_word, errors_word, observer_id}
+use Rattle.rx_http.specs.Words.{HasCredit, HasPace, HasPolicy, HasWindow, HasWithin, IsId, SaysKnown, SaysLines, credit_word, errors_word, observer_id}
 use Rattle.rx_http.specs.declared.request.asked.Asked.{Asked}
-use Rattle.rx_http.specs.declared.request.asked.Asked.TheVariants.{Emission, Events, Health, Look, Request, Stop}
+use Rattle.rx_http.specs.declared.request.asked.Asked.TheVariants.{Emission, Events, Health, Look, Request, Stop, Texts}
 use Rattle.rx_http.specs.declared.request.credit.Credit.{Credit}
 use Rattle.rx_http.specs.declared.request.note_kind.NoteKind.{NoteKind}
+use Rattle.rx_http.specs.declared.request.note_kind.NoteKind.TheVariants.{Next}
 use Rattle.rx_http.specs.declared.request.observer_id.ObserverId.{ObserverId}
 use Rattle.rx_http.specs.declared.answer.refusal.Refusal.{Refusal}
-use Rattle.rx_http.specs.declared.answer.refusal.Refusal.TheVariants.{Head, Word, LastEventId, Lf, Key, Items, Within, Origin, NoStop, ReadOnly, Subject, Path, Observer, Method, OnlyGet, OnlyPost, Length, Long, Ended, Spent, LongHead, Gone, Full, Stopping, Memory}
+use Rattle.rx_http.specs.declared.answer.refusal.Refusal.TheVariants.{Head, Word, LastEventId, LinesWord, Lf, Key, Items, Within, Origin, NoStop, ReadOnly, Subject, Path, Observer, Method, OnlyGet, OnlyPost, Length, Long, Ended, Spent, LongHead, Gone, Full, Stopping, Memory}
 use Rattle.rx_http.specs.declared.id.Id.{Id}
 use Rattle.rx_http.proofs.Cuts.{parted-one}
 use Rattle.rx_http.proofs.Spelled.{apart, limits-room, strategy-one}
@@ -126,6 +128,7 @@ verdict name query field (Ok (Events subject policy credit known)) asks =
     (Served policy credit known, ap (λ s. Ok (Events s policy credit known)) asks.4, (asks.0, asks.1, asks.2, asks.3))
 verdict name query field (Ok (Emission subject kind size key)) asks = absurd asks
 verdict name query field (Ok (Request subject observer items)) asks = absurd asks
+verdict name query field (Ok (Texts subject bytes)) asks = absurd asks
 verdict name query field (Ok Health) asks = absurd asks
 verdict name query field (Ok (Look form)) asks = absurd asks
 verdict name query field (Ok (Stop within)) asks = absurd asks
@@ -142,6 +145,7 @@ verdict name query field (Err Origin) asks = absurd asks
 verdict name query field (Err Within) asks = absurd asks
 verdict name query field (Err NoStop) asks = absurd asks
 verdict name query field (Err ReadOnly) asks = absurd asks
+verdict name query field (Err LinesWord) asks = absurd asks
 verdict name query field (Err Lf) asks = absurd asks
 verdict name query field (Err Key) asks = absurd asks
 verdict name query field (Err Path) asks = absurd asks
@@ -214,6 +218,7 @@ named name kind size field (Ok (Emission subject said bytes key)) names = (
 )
 named name kind size field (Ok (Events subject policy credit known)) names = absurd names
 named name kind size field (Ok (Request subject observer items)) names = absurd names
+named name kind size field (Ok (Texts subject bytes)) names = absurd names
 named name kind size field (Ok Health) names = absurd names
 named name kind size field (Ok (Look form)) names = absurd names
 named name kind size field (Ok (Stop within)) names = absurd names
@@ -222,6 +227,7 @@ named name kind size field (Err Subject) names = (NoSubject, refl, names)
 named name kind size field (Err Head) names = absurd names
 named name kind size field (Err Word) names = absurd names
 named name kind size field (Err LastEventId) names = absurd names
+named name kind size field (Err LinesWord) names = absurd names
 named name kind size field (Err Lf) names = absurd names
 named name kind size field (Err Origin) names = absurd names
 named name kind size field (Err Within) names = absurd names
@@ -271,6 +277,43 @@ emission-one name kind false (Some n) key a b (inl p) (inr q) = absurd (omega (a
 emission-one name kind false (Some n) key a b (inr p) (inl q) = absurd (omega (arith, p.0, q.0))
 emission-one name kind false (Some n) key a b (inr p) (inr q) = names-one name kind n key a b p.1 q.1
 
+-- SO DO SEVERAL TEXTS, and an item or several
+
+texts_named-one : (name : List ℕ) (size : ℕ) (key : Option (List ℕ)) (a b : Result Asked Refusal) → NamesTexts name size key a → NamesTexts name size key b → a ≡ b
+texts_named-one name size (Some key) a b p q = p ∙ sym q
+texts_named-one name size None a b (inl p) (inl q) = p.1 ∙ sym q.1
+texts_named-one name size None a b (inl p) (inr q) = absurd (q.0 p.0)
+texts_named-one name size None a b (inr p) (inl q) = absurd (p.0 q.0)
+texts_named-one name size None a b (inr p) (inr q) = p.1 ∙ sym q.1
+
+texts-one : (name : List ℕ) (foreign : Bool) (size : Option ℕ) (key : Option (List ℕ)) (a b : Result Asked Refusal) → AsksForTexts name foreign size key a
+    → AsksForTexts name foreign size key b → a ≡ b
+texts-one name true size key a b p q = p ∙ sym q
+texts-one name false None key a b p q = p ∙ sym q
+texts-one name false (Some n) key a b p q = texts_named-one name n key a b p q
+
+no_word : (word : List ℕ) → None ≡ Some word → ⊥
+no_word word same = cc
+
+says-both : (query : List ℕ) → SaysLines query true → SaysLines query false → ⊥
+says-both query several none = no_word (codes "1") (sym (ap (option_map percent_decode) none) ∙ several)
+
+unsaid-one : (foreign : Bool) (a b : Result Asked Refusal) → MatchBool foreign (a ≡ Err Origin) (a ≡ Err LinesWord) → MatchBool foreign (b ≡ Err Origin) (b ≡ Err LinesWord) → a ≡ b
+unsaid-one true a b p q = p ∙ sym q
+unsaid-one false a b p q = p ∙ sym q
+
+item-one : (name query : List ℕ) (foreign : Bool) (size : Option ℕ) (key : Option (List ℕ)) (a b : Result Asked Refusal) → AsksForItem name query foreign size key a
+    → AsksForItem name query foreign size key b → a ≡ b
+item-one name query foreign size key a b (inl p) (inl q) = emission-one name Next foreign size key a b p.1 q.1
+item-one name query foreign size key a b (inl p) (inr (inl q)) = absurd (says-both query q.0 p.0)
+item-one name query foreign size key a b (inl p) (inr (inr q)) = absurd (q.0 false p.0)
+item-one name query foreign size key a b (inr (inl p)) (inl q) = absurd (says-both query p.0 q.0)
+item-one name query foreign size key a b (inr (inl p)) (inr (inl q)) = texts-one name foreign size key a b p.1 q.1
+item-one name query foreign size key a b (inr (inl p)) (inr (inr q)) = absurd (q.0 true p.0)
+item-one name query foreign size key a b (inr (inr p)) (inl q) = absurd (p.0 false q.0)
+item-one name query foreign size key a b (inr (inr p)) (inr (inl q)) = absurd (p.0 true q.0)
+item-one name query foreign size key a b (inr (inr p)) (inr (inr q)) = unsaid-one foreign a b p.1 q.1
+
 -- SO DOES WHO ASKS FOR ITEMS
 
 observer-one : (word : List ℕ) (a b : ObserverId) → SaysObserver word a → SaysObserver word b → a ≡ b
@@ -305,6 +348,7 @@ granted name word query (Ok (Request subject observer items)) asks =
     (Granted observer items, ap (λ s. Ok (Request s observer items)) asks.3, (asks.0, asks.1, asks.2))
 granted name word query (Ok (Events subject policy credit known)) asks = absurd asks
 granted name word query (Ok (Emission subject kind size key)) asks = absurd asks
+granted name word query (Ok (Texts subject bytes)) asks = absurd asks
 granted name word query (Ok Health) asks = absurd asks
 granted name word query (Ok (Look form)) asks = absurd asks
 granted name word query (Ok (Stop within)) asks = absurd asks
@@ -314,6 +358,7 @@ granted name word query (Err Subject) asks = (NoSuch, refl, asks)
 granted name word query (Err Head) asks = absurd asks
 granted name word query (Err Word) asks = absurd asks
 granted name word query (Err LastEventId) asks = absurd asks
+granted name word query (Err LinesWord) asks = absurd asks
 granted name word query (Err Lf) asks = absurd asks
 granted name word query (Err Key) asks = absurd asks
 granted name word query (Err Origin) asks = absurd asks
@@ -373,12 +418,14 @@ halted query (Ok (Stop within)) says = inl (within, says, refl)
 halted query (Ok (Events subject policy credit known)) says = absurd says
 halted query (Ok (Emission subject kind size key)) says = absurd says
 halted query (Ok (Request subject observer items)) says = absurd says
+halted query (Ok (Texts subject bytes)) says = absurd says
 halted query (Ok Health) says = absurd says
 halted query (Ok (Look form)) says = absurd says
 halted query (Err Within) says = inr (says, refl)
 halted query (Err Head) says = absurd says
 halted query (Err Word) says = absurd says
 halted query (Err LastEventId) says = absurd says
+halted query (Err LinesWord) says = absurd says
 halted query (Err Lf) says = absurd says
 halted query (Err Key) says = absurd says
 halted query (Err Items) says = absurd says
@@ -428,6 +475,7 @@ at-one (ToEvents name) query field foreign size key a b p q =
     let v = verdict name query field a p in
     let w = verdict name query field b q in
     v.1 ∙ ap (result_of name) (verdict-one name query (known_word field query) v.0 w.0 v.2 w.2) ∙ sym w.1
+at-one (ToItem name) query field foreign size key a b p q = item-one name query foreign size key a b p q
 at-one (ToEmission name kind) query field foreign size key a b p q = emission-one name kind foreign size key a b p q
 at-one (ToRequest name word) query field foreign size key a b p q = request-one name word query foreign a b p q
 at-one ToHealth query field foreign size key a b p q = p ∙ sym q

@@ -2,19 +2,21 @@
 --
 -- The exact answers: each answer is written as exactly its bytes, or a prefix of them after a fault; each says that it is the
 -- last of its connection. No memory is taken.
-use Rattle.std.specs.Prelude.{ℕ, Bool, true, false, List, [], ◌++◌, length, Option, None, Some, codes, decimal}
+use Rattle.std.specs.Prelude.{ℕ, Bool, true, false, List, [], ◌++◌, length, map, Option, None, Some, codes, decimal}
+use Rattle.std.specs.List.{join_with_byte}
 use Rattle.rx_http.specs.declared.answer.Answer.{Answer}
-use Rattle.rx_http.specs.declared.answer.Answer.TheVariants.{Events, Over, Well, Unwell, Accepted, Requested, Shown, Stops, Refused}
+use Rattle.rx_http.specs.declared.answer.Answer.TheVariants.{Events, Over, Well, Unwell, Accepted, Placed, Cut, Requested, Shown, Stops, Refused}
 use Rattle.rx_http.specs.declared.request.look_form.LookForm.{LookForm}
 use Rattle.rx_http.specs.declared.request.look_form.LookForm.TheVariants.{Stats, Metrics, Lines, Page}
 use Rattle.rx_http.specs.declared.answer.refusal.Refusal.{Refusal}
-use Rattle.rx_http.specs.declared.answer.refusal.Refusal.TheVariants.{Head, Word, LastEventId, Lf, Key, Items, Within, Origin, NoStop, ReadOnly, Subject, Path, Observer, Method, OnlyGet, OnlyPost, Length, Long, Ended, Spent, LongHead, Gone, Full, Stopping, Memory}
+use Rattle.rx_http.specs.declared.answer.refusal.Refusal.TheVariants.{Head, Word, LastEventId, LinesWord, Lf, Key, Items, Within, Origin, NoStop, ReadOnly, Subject, Path, Observer, Method, OnlyGet, OnlyPost, Length, Long, Ended, Spent, LongHead, Gone, Full, Stopping, Memory}
 
 -- the status of a refusal
 abbrev pub status_of : Refusal → List ℕ
 status_of Head = codes "400 Bad Request"
 status_of Word = codes "400 Bad Request"
 status_of LastEventId = codes "400 Bad Request"
+status_of LinesWord = codes "400 Bad Request"
 status_of Lf = codes "400 Bad Request"
 status_of Key = codes "400 Bad Request"
 status_of Items = codes "400 Bad Request"
@@ -43,6 +45,7 @@ abbrev pub error_of : Refusal → List ℕ
 error_of Head = codes "head"
 error_of Word = codes "strategy"
 error_of LastEventId = codes "last-event-id"
+error_of LinesWord = codes "lines"
 error_of Lf = codes "lf"
 error_of Key = codes "idempotency-key"
 error_of Items = codes "request"
@@ -71,8 +74,9 @@ abbrev pub advice_of : Refusal → List ℕ
 advice_of Head = codes "the head is not one of HTTP/1.1"
 advice_of Word = codes "strategy is BUFFER, DROP:n, LATEST:n or BOUNDED:n, errors AHEAD or DELAY, window 1 to 16, credit asked or socket"
 advice_of LastEventId = codes "it is none that a server tells"
+advice_of LinesWord = codes "lines is 1, where each line of the body is a text"
 advice_of Lf = codes "a text is one line"
-advice_of Key = codes "a key is 1 to 64 visible characters"
+advice_of Key = codes "a key is 1 to 64 visible characters, and names one text"
 advice_of Items = codes "request is how many items more, at least 1"
 advice_of Within = codes "within is how many seconds, 0 to 3,600"
 advice_of Origin = codes "a page of another site sends it"
@@ -85,7 +89,7 @@ advice_of Method = codes "try GET or POST"
 advice_of OnlyGet = codes "try GET"
 advice_of OnlyPost = codes "try POST"
 advice_of Length = codes "say Content-Length"
-advice_of Long = codes "a text has at most 1,024 bytes, and 8,192 with the head"
+advice_of Long = codes "a text has at most 1,024 bytes, and a request 8,192 and 256 lines"
 advice_of Spent = codes "the subject accepted as many joins or items as it may"
 advice_of LongHead = codes "a head has at most 8,192 bytes and 32 fields"
 advice_of Ended = codes "the subject has ended"
@@ -146,6 +150,20 @@ again_member true = codes ",\"again\":true"
 abbrev pub accepted_body : List ℕ → Option ℕ → Bool → List ℕ
 accepted_body epoch place again = codes "{\"epoch\":\"" ++ (epoch ++ (codes "\"" ++ (place_member place ++ (again_member again ++ codes "}\n"))))
 
+-- where items stand
+abbrev pub places_member : List ℕ → List ℕ
+places_member places = codes ",\"places\":[" ++ (join_with_byte 44 (map decimal places) ++ codes "]}\n")
+
+-- the body of the answer to lines that were accepted, in JSON: the epoch of the server, and where the item of each stands
+abbrev pub placed_body : List ℕ → List ℕ → List ℕ
+placed_body epoch places = codes "{\"epoch\":\"" ++ (epoch ++ (codes "\"" ++ places_member places))
+
+-- the body of the answer to lines of which the first were accepted, and the one behind them refused: that of the refusal, and the same of
+-- those before
+abbrev pub cut_body : List ℕ → List ℕ → Refusal → List ℕ
+cut_body epoch places refusal =
+    codes "{\"error\":\"" ++ (error_of refusal ++ (codes "\",\"text\":\"" ++ (advice_of refusal ++ (codes "\",\"epoch\":\"" ++ (epoch ++ (codes "\"" ++ places_member places))))))
+
 -- how what is seen of a server is told
 abbrev pub look_kind : LookForm → List ℕ
 look_kind Stats = codes "application/json"
@@ -167,6 +185,8 @@ answer_bytes Over = empty_head
 answer_bytes Well = sized (codes "200 OK") plain_kind [] (codes "ok\n")
 answer_bytes Unwell = sized (codes "503 Service Unavailable") plain_kind [] (codes "unwell\n")
 answer_bytes (Accepted epoch place again) = sized (codes "200 OK") (codes "application/json") [] (accepted_body epoch place again)
+answer_bytes (Placed epoch places) = sized (codes "200 OK") (codes "application/json") [] (placed_body epoch places)
+answer_bytes (Cut epoch places refusal) = sized (status_of refusal) (codes "application/json") (fields_of refusal) (cut_body epoch places refusal)
 answer_bytes Requested = empty_head
 answer_bytes (Shown form body) = sized (codes "200 OK") (look_kind form) (look_fields form) body
 answer_bytes Stops = sized (codes "202 Accepted") plain_kind [] (codes "stopping\n")

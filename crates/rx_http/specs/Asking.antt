@@ -3,15 +3,16 @@
 --
 -- The exact requests: a head of at most 8,192 bytes and 32 fields that is one of the grammar of HTTP/1.0 and HTTP/1.1 asks
 -- for the events of a subject, by GET of `/subjects/NAME`, for the emission of a note there, by POST of it or of `end` or
--- `fail` behind it, for items for an observer, by POST of it with `observers/` and its word behind it, for whether all is well, by GET of `/healthz`, or for what is seen of the server, by GET of `/`, `/stats`,
+-- `fail` behind it, for that of a text for each line of its body, by POST of it with `lines=1` as its query, for items for an observer, by POST of it with `observers/` and its word behind it, for whether all is well, by GET of `/healthz`, or for what is seen of the server, by GET of `/`, `/stats`,
 -- `/stats.txt` or `/metrics`, or for a stop, by POST of `/stop`; or it is refused for the first of these causes: its path,
 -- its method; of events a word of its query, what its reader says to know, the name of the subject; of an emission that a page
--- of another site sends it, that the size of its body isn't told, or is above 1,024 bytes, its key, the name; of items that a page of
+-- of another site sends it, what it says of its lines, that the size of its body isn't told, or is above 1,024 bytes where it is one text,
+-- its key, which several texts don't have, the name; of items that a page of
 -- another site asks for them, the word of the observer, how many they are, the name; of a stop that a page of another site asks for it,
 -- how long it waits. Other bytes are refused as
 -- too long, where they are more or begin with more fields, or as no head. It asks for one thing, or is refused for one cause.
 -- No memory is taken.
-use Rattle.std.specs.Prelude.{◌≡◌, ◌<◌, ◌≤◌, ◌⊎◌, ℕ, Bool, List, [], ◌∷◌, length, map, if◌then◌else◌, Option, None, Some, Result, Ok, Err, MatchBool, MatchOption, codes, decimal}
+use Rattle.std.specs.Prelude.{◌≡◌, ◌<◌, ◌≤◌, ◌⊎◌, ℕ, Bool, true, false, List, [], ◌∷◌, length, map, if◌then◌else◌, Option, None, Some, Result, Ok, Err, MatchBool, MatchOption, codes, decimal}
 use Rattle.std.specs.Option.{unwrap_or}
 use Rattle.std.specs.Str.{str_to_ascii_lowercase}
 use Rattle.httparse.specs.Grammar.{RequestHead, ReadsRequest}
@@ -22,9 +23,9 @@ use Rattle.rx_proto.specs.Reading.{begins_with, rest_behind, same_word}
 use Rattle.rx_http.specs.Bodies.{HasSize, is_foreign}
 use Rattle.rx_http.specs.Keys.{SaysKey}
 use Rattle.rx_http.specs.Queries.{cut_at, path_of, query_of, word_in}
-use Rattle.rx_http.specs.Words.{HasCredit, HasPolicy, HasWithin, IsNumber, IsObserver, SaysKnown, items_word, observer_word}
+use Rattle.rx_http.specs.Words.{HasCredit, HasPolicy, HasWithin, IsNumber, IsObserver, SaysKnown, SaysLines, items_word, observer_word}
 use Rattle.rx_http.specs.declared.request.asked.Asked.{Asked}
-use Rattle.rx_http.specs.declared.request.asked.Asked.TheVariants.{Emission, Events, Health, Look, Request, Stop}
+use Rattle.rx_http.specs.declared.request.asked.Asked.TheVariants.{Emission, Events, Health, Look, Request, Stop, Texts}
 use Rattle.rx_http.specs.declared.request.credit.Credit.{Credit}
 use Rattle.rx_http.specs.declared.request.look_form.LookForm.{LookForm}
 use Rattle.rx_http.specs.declared.request.look_form.LookForm.TheVariants.{Stats, Metrics, Lines, Page}
@@ -81,6 +82,28 @@ AsksForEmission name kind foreign size key result =
     MatchBool foreign (result ≡ Err causes.Origin)
     (MatchOption size (result ≡ Err causes.Length) (λ n. ((1024 < n) × (result ≡ Err causes.Long)) ⊎ ((n ≤ 1024) × NamesSubject name kind n key result)))
 
+-- what is asked for by several texts with a body of that size, by the name of their subject; a key names one text alone
+abbrev pub NamesTexts : List ℕ → ℕ → Option (List ℕ) → Result Asked Refusal → Type 0
+NamesTexts name size None result = (IsName name × (result ≡ Ok (Texts name size))) ⊎ ((IsName name → ⊥) × (result ≡ Err causes.Subject))
+NamesTexts name size (Some key) result = result ≡ Err causes.Key
+
+-- what is asked for by several texts, or the first cause for which they are refused: a page of another site sends them, their size isn't
+-- told, they have a key, the name
+abbrev pub AsksForTexts : List ℕ → Bool → Option ℕ → Option (List ℕ) → Result Asked Refusal → Type 0
+AsksForTexts name foreign size key result =
+    MatchBool foreign (result ≡ Err causes.Origin) (MatchOption size (result ≡ Err causes.Length) (λ n. NamesTexts name n key result))
+
+-- a query says of lines what none does
+abbrev pub SaysNoLines : List ℕ → Type 0
+SaysNoLines query = (several : Bool) → SaysLines query several → ⊥
+
+-- what is asked for by one text, or by several, as the query says; or it is refused, where that says of lines what none does
+abbrev pub AsksForItem : List ℕ → List ℕ → Bool → Option ℕ → Option (List ℕ) → Result Asked Refusal → Type 0
+AsksForItem name query foreign size key result =
+    (SaysLines query false × AsksForEmission name Next foreign size key result)
+    ⊎ (SaysLines query true × AsksForTexts name foreign size key result)
+    ⊎ (SaysNoLines query × MatchBool foreign (result ≡ Err causes.Origin) (result ≡ Err causes.LinesWord))
+
 -- a word says this observer
 abbrev pub SaysObserver : List ℕ → ObserverId → Type 0
 SaysObserver word observer = IsObserver observer × (word ≡ observer_word observer)
@@ -113,10 +136,11 @@ SaysStop query other = ⊥
 abbrev pub AsksForStop : List ℕ → Bool → Result Asked Refusal → Type 0
 AsksForStop query foreign result = MatchBool foreign (result ≡ Err causes.Origin) (SaysStop query result)
 
--- where a method and a path lead: to the events of the subject of a name, to the emission of a note there, to items for the observer of a
--- word there, to whether all is well, to what is seen of the server, to its stop, or nowhere
+-- where a method and a path lead: to the events of the subject of a name, to the emission of an item or of several there, to that of
+-- another note, to items for the observer of a word there, to whether all is well, to what is seen of the server, to its stop, or nowhere
 pub data Route : Type 0 where
   ToEvents : (name : List ℕ) → Route
+  ToItem : (name : List ℕ) → Route
   ToEmission : (name : List ℕ) (kind : NoteKind) → Route
   ToRequest : (name word : List ℕ) → Route
   ToHealth : Route
@@ -130,7 +154,7 @@ post_route rest =
     if same_word (cut_at 47 rest).1 (codes "end") then ToEmission (cut_at 47 rest).0 Completed
     else if same_word (cut_at 47 rest).1 (codes "fail") then ToEmission (cut_at 47 rest).0 Failed
     else if begins_with (cut_at 47 rest).1 (codes "observers/") then ToRequest (cut_at 47 rest).0 (rest_behind (cut_at 47 rest).1 (codes "observers/"))
-    else ToEmission rest Next
+    else ToItem rest
 
 -- the route to a subject, by its methods
 abbrev pub subject_route : List ℕ → List ℕ → Route
@@ -171,6 +195,7 @@ route_of method path =
 -- what is asked for at the end of a route, or the cause for which it is refused
 abbrev pub AsksAt : Route → List ℕ → Option (List ℕ) → Bool → Option ℕ → Option (List ℕ) → Result Asked Refusal → Type 0
 AsksAt (ToEvents name) query field foreign size key result = AsksForEvents name query field result
+AsksAt (ToItem name) query field foreign size key result = AsksForItem name query foreign size key result
 AsksAt (ToEmission name kind) query field foreign size key result = AsksForEmission name kind foreign size key result
 AsksAt (ToRequest name word) query field foreign size key result = AsksForRequest name word query foreign result
 AsksAt ToHealth query field foreign size key result = result ≡ Ok Health

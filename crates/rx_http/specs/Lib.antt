@@ -3,6 +3,7 @@ pub mod Answers
 pub mod Asking
 pub mod Begins
 pub mod Bodies
+pub mod BodyLines
 pub mod Epochs
 pub mod Events
 pub mod Examples

@@ -1,5 +1,6 @@
 -- The words of a query, each as it is written. The rules are this project's own.
-use Rattle.std.specs.Prelude.{◌≡◌, ◌<◌, ◌≤◌, ◌^◌, ℕ, List, [], ◌++◌, Bool, true, false, Option, None, Some, codes, decimal}
+use Rattle.std.specs.Prelude.{◌≡◌, ◌<◌, ◌≤◌, ◌^◌, ℕ, List, [], ◌++◌, Bool, true, false, Option, None, Some, option_map, codes, decimal}
+use Rattle.percent_encoding.specs.Percent.{percent_decode}
 use Rattle.rx_note.specs.Choices.{Choice, is_in_limits}
 use Rattle.rx_note.specs.declared.strategy.Strategy.{Strategy}
 use Rattle.rx_note.specs.declared.strategy.Strategy.TheVariants.{Buffer, Drop, Latest, Bounded}
@@ -8,7 +9,7 @@ use Rattle.rx_note.specs.declared.errors.Errors.TheVariants.{Ahead, Delay}
 use Rattle.rx_http.specs.Epochs.{IsEpoch}
 use Rattle.rx_http.specs.Ids.{id_of}
 use Rattle.rx_http.specs.Laws.{IsPlace}
-use Rattle.rx_http.specs.Queries.{word_in}
+use Rattle.rx_http.specs.Queries.{value_in, word_in}
 use Rattle.rx_http.specs.declared.id.Id.{Id}
 use Rattle.rx_http.specs.declared.request.credit.Credit.{Credit}
 use Rattle.rx_http.specs.declared.request.observer_id.ObserverId.{ObserverId}
@@ -100,6 +101,11 @@ pub record HasCredit (query : List ℕ) (credit : Credit) : Type 0 where
 -- how many items a query asks for: one where it says nothing
 abbrev pub items_word : List ℕ → List ℕ
 items_word query = word_in (codes "request=") (codes "1") query
+
+-- whether a query says that each line of the body is a text: by `lines=1`, and it doesn't where it has no such key
+abbrev pub SaysLines : List ℕ → Bool → Type 0
+SaysLines query true = option_map percent_decode (value_in (codes "lines=") query) ≡ Some (codes "1")
+SaysLines query false = value_in (codes "lines=") query ≡ None
 
 -- what was found: one of these, or that there is none
 abbrev pub IsFound : {T : Type 0} → (T → Type 0) → Option T → Type 0

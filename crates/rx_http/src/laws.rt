@@ -2,6 +2,7 @@
 //! clauses are the laws.
 ghost use Rattle.rx_http.specs.Accounts.{HeardIsKnown, IdIsAccount};
 ghost use Rattle.rx_http.specs.Asking.{HeadAsksForOne};
+ghost use Rattle.rx_http.specs.BodyLines.{LinesAreReadBack};
 ghost use Rattle.rx_http.specs.Epochs.{IsEpoch};
 ghost use Rattle.rx_http.specs.HeadGrammar.{GrammarEndsThere};
 ghost use Rattle.rx_http.specs.Heads.{HeadIsTheSame};
@@ -47,6 +48,11 @@ pub fn grammar_ends_there()
 /// A head asks for one thing, or is refused for one cause.
 pub fn head_asks_for_one()
     ensures { HeadAsksForOne }
+{}
+
+/// Lines without an LF are read back of a body that has them, each with an LF behind it, and so is what stands behind the last LF.
+pub fn lines_are_read_back()
+    ensures { LinesAreReadBack }
 {}
 
 /// By the grammar of heads each answer is a head with just its fields, and behind it stands its body, which is as long as the head
@@ -109,6 +115,15 @@ pub fn answer_can_be_told(answer: &Answer)
         } => {
             let _ = epoch.as_bytes();
             look(*place);
+        }
+        Answer::Placed { epoch, places }
+        | Answer::Cut {
+            epoch,
+            places,
+            refusal: _,
+        } => {
+            let _ = epoch.as_bytes();
+            let _ = places.as_slice();
         }
         Answer::Shown { form: _, body } => {
             let _ = body.as_bytes();

@@ -22,6 +22,7 @@ pub(crate) mod stream_event;
 
 pub use answer::Answer;
 pub use answer::document::Document;
+pub use answer::places::Places;
 pub use answer::refusal::Refusal;
 pub use answer::written_answer::write_answer;
 pub use epoch::Epoch;
@@ -30,6 +31,7 @@ pub use head_reader::head_found::HeadFound;
 pub use id::Id;
 pub use request::asked::Asked;
 pub use request::begin::Begin;
+pub use request::body_lines::{MAX_LINES, are_texts, first_line};
 pub use request::credit::Credit;
 pub use request::idempotency_key::IdempotencyKey;
 pub use request::look_form::LookForm;

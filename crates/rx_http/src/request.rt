@@ -3,12 +3,13 @@ ghost use Rattle.std.specs.Prelude.{◌≡◌, All, Err, List, MatchBool, Ok, Op
 ghost use Rattle.std.specs.Str.{str_to_ascii_lowercase};
 ghost use Rattle.httparse.specs.Grammar.{RequestHead};
 ghost use Rattle.httparse.specs.Spans.{IsHeaderWithin, header_bytes};
-ghost use Rattle.rx_http.specs.Asking.{AsksAt, AsksFor, AsksForEmission, AsksForEvents, AsksForRequest, AsksForStop, HeadAsksFor, IsHead, IsReadOfHead, field_in, form_of, known_word, post_route, stop_route, subject_route};
+ghost use Rattle.rx_http.specs.Asking.{AsksAt, AsksFor, AsksForEmission, AsksForEvents, AsksForItem, AsksForRequest, AsksForStop, AsksForTexts, HeadAsksFor, IsHead, IsReadOfHead, field_in, form_of, known_word, post_route, stop_route, subject_route};
 ghost use Rattle.rx_http.specs.Words.{IsFound, SaysKnown};
 
 pub(crate) mod asked;
 pub(crate) mod begin;
 pub(crate) mod body;
+pub(crate) mod body_lines;
 pub(crate) mod credit;
 pub(crate) mod idempotency_key;
 pub(crate) mod look_form;
@@ -22,7 +23,7 @@ use crate::parts::cut;
 use crate::request::body::{is_foreign, size_of_body};
 use crate::request::idempotency_key::key_of;
 use crate::request::policy_words::{credit_of, items_of, policy_of, within_of};
-use crate::request::query::word_of;
+use crate::request::query::{lines_in, word_of};
 use crate::{Asked, Id, LookForm, NoteKind, ObserverId, Refusal};
 use httparse::spans::{EMPTY_HEADER_SPAN, HeaderSpan, parse_request};
 use httparse::{Error, Status};
@@ -39,7 +40,7 @@ const MAX_TEXT: u32 = 1024;
 
 /// What a head asks for: all bytes of a request up to and with its first empty line. It takes no memory. Refused in the order
 /// `LongHead`, `Head`, `Path`, `OnlyGet`, `OnlyPost` or `Method`; then for events `Word`, `LastEventId`, `Subject`, for an emission
-/// `Origin`, `Length`, `Long`, `Key`, `Subject`, for items of an observer `Origin`, `Observer`, `Items`, `Subject`, and for a stop `Origin`,
+/// `Origin`, `LinesWord`, `Length`, `Long`, `Key`, `Subject`, of which several texts are not refused by `Long`, for items of an observer `Origin`, `Observer`, `Items`, `Subject`, and for a stop `Origin`,
 /// `Within`.
 pub fn read_request(head: &[u8]) -> Result<Asked, Refusal>
     ensures read { IsReadOfHead head.now result }
@@ -189,7 +190,7 @@ fn stop_of(query: &[u8], is_foreign: bool) -> Result<Asked, Refusal>
     }
 }
 
-// What is asked for by a POST at this path below the subjects: items for an observer, or an emission.
+// What is asked for by a POST at this path below the subjects: items for an observer, or an emission, of several items too.
 fn post_asked_for(
     rest: &[u8],
     query: &[u8],
@@ -207,7 +208,49 @@ fn post_asked_for(
     } else if let Some(word) = end.strip_prefix(b"observers/".as_slice()) {
         request_of(name, word, query, is_foreign)
     } else {
-        emission_of(rest, NoteKind::Next, is_foreign, size, key)
+        item_of(rest, query, is_foreign, size, key)
+    }
+}
+
+// The emission of an item at the subject of this name, or of one for each line of the body, as the query says.
+fn item_of(
+    name: &[u8],
+    query: &[u8],
+    is_foreign: bool,
+    size: Option<u32>,
+    key: Option<&[u8]>,
+) -> Result<Asked, Refusal>
+    ensures { AsksForItem name.now query.now is_foreign size (option_map (λ word. word.now) key.entry) result }
+{
+    match lines_in(query) {
+        Some(false) => emission_of(name, NoteKind::Next, is_foreign, size, key),
+        Some(true) => texts_of(name, is_foreign, size, key),
+        None if is_foreign => Err(Refusal::Origin),
+        None => Err(Refusal::LinesWord),
+    }
+}
+
+// The emission of an item for each line of a body of this size, at the subject of this name. A key names one item alone.
+fn texts_of(
+    name: &[u8],
+    is_foreign: bool,
+    size: Option<u32>,
+    key: Option<&[u8]>,
+) -> Result<Asked, Refusal>
+    ensures { AsksForTexts name.now is_foreign size (option_map (λ word. word.now) key.entry) result }
+{
+    if is_foreign {
+        return Err(Refusal::Origin);
+    }
+    let Some(size) = size else {
+        return Err(Refusal::Length);
+    };
+    if key.is_some() {
+        return Err(Refusal::Key);
+    }
+    match Name::new(name) {
+        Some(subject) => Ok(Asked::Texts { subject, size }),
+        None => Err(Refusal::Subject),
     }
 }
 

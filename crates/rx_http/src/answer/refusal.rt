@@ -10,9 +10,11 @@ pub enum Refusal {
     Word,
     /// 400: what it says to know is no id that a server tells.
     LastEventId,
+    /// 400: its query says of the lines of its body what none does.
+    LinesWord,
     /// 400: its text has an LF.
     Lf,
-    /// 400: by what it is named is no key.
+    /// 400: by what it is named is no key, or it is several texts, which a key can't name.
     Key,
     /// 400: how many items it asks for is no number of them, or more than may be.
     Items,
@@ -38,7 +40,7 @@ pub enum Refusal {
     OnlyPost,
     /// 411: how long its body is isn't told by one number.
     Length,
-    /// 413: its text has more than 1,024 bytes, or more than 8,192 with the head.
+    /// 413: a text of it has more than 1,024 bytes, or it has more than 8,192 with the head, or more than 256 lines.
     Long,
     /// 431: its head has more than 8,192 bytes or more than 32 fields.
     LongHead,
@@ -65,6 +67,7 @@ impl Refusal {
             Refusal::Head
             | Refusal::Word
             | Refusal::LastEventId
+            | Refusal::LinesWord
             | Refusal::Lf
             | Refusal::Key
             | Refusal::Items
@@ -91,6 +94,7 @@ impl Refusal {
             Refusal::Head | Refusal::LongHead => b"head",
             Refusal::Word => b"strategy",
             Refusal::LastEventId => b"last-event-id",
+            Refusal::LinesWord => b"lines",
             Refusal::Lf => b"lf",
             Refusal::Key => b"idempotency-key",
             Refusal::Items => b"request",
@@ -126,8 +130,9 @@ impl Refusal {
             Refusal::Subject => b"the configuration has no such subject",
             Refusal::Path => b"try /, /subjects/NAME, /stats, /metrics or /healthz",
             Refusal::Observer => b"there is none of that name that asks for its items itself",
+            Refusal::LinesWord => b"lines is 1, where each line of the body is a text",
             Refusal::Lf => b"a text is one line",
-            Refusal::Key => b"a key is 1 to 64 visible characters",
+            Refusal::Key => b"a key is 1 to 64 visible characters, and names one text",
             Refusal::Items => b"request is how many items more, at least 1",
             Refusal::Within => b"within is how many seconds, 0 to 3,600",
             Refusal::Origin => b"a page of another site sends it",
@@ -137,7 +142,7 @@ impl Refusal {
             Refusal::OnlyGet => b"try GET",
             Refusal::OnlyPost => b"try POST",
             Refusal::Length => b"say Content-Length",
-            Refusal::Long => b"a text has at most 1,024 bytes, and 8,192 with the head",
+            Refusal::Long => b"a text has at most 1,024 bytes, and a request 8,192 and 256 lines",
             Refusal::Ended => b"the subject has ended",
             Refusal::Spent => b"the subject accepted as many joins or items as it may",
             Refusal::LongHead => b"a head has at most 8,192 bytes and 32 fields",

@@ -4,6 +4,7 @@ ghost use Rattle.rx_http.specs.declared.answer.Answer.TheVariants.{Refused};
 ghost use Rattle.rx_proto.specs.Bytes.{Writes};
 ghost use Rattle.rx_http.specs.Answers.{accepted_body, again_member, answer_bytes, look_fields, look_kind, place_member, plain_kind, refusal_body, sized, sized_head};
 
+use crate::answer::placed_body::{cut_body, placed_body};
 use crate::{Answer, Epoch, LookForm, Refusal};
 use rx_proto::{LineBytes, MAX_DIGITS, WriteFault, write_bytes, write_digits};
 use std::io::Write;
@@ -42,6 +43,24 @@ pub fn write_answer<W: Write>(writer: &mut W, answer: Answer) -> Result<(), Writ
         } => {
             let body = accepted_body(&epoch, place, again);
             write_sized(writer, b"200 OK", JSON, b"", body.as_bytes())
+        }
+        Answer::Placed { epoch, places } => {
+            let body = placed_body(&epoch, &places);
+            write_sized(writer, b"200 OK", JSON, b"", body.as_bytes())
+        }
+        Answer::Cut {
+            epoch,
+            places,
+            refusal,
+        } => {
+            let body = cut_body(&epoch, &places, refusal);
+            write_sized(
+                writer,
+                refusal.status(),
+                JSON,
+                refusal.fields(),
+                body.as_bytes(),
+            )
         }
         Answer::Shown { form, body } => {
             write_sized(

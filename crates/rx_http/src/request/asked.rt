@@ -27,6 +27,13 @@ pub enum Asked {
         /// By what its producer names it; None where it doesn't.
         key: Option<IdempotencyKey>,
     },
+    /// `POST /subjects/NAME?lines=1`: items for a subject, one for each line of the body.
+    Texts {
+        /// The subject's name. Whether there is such a subject is still to be seen.
+        subject: Name,
+        /// How many bytes the body has.
+        size: u32,
+    },
     /// `POST /subjects/NAME/observers/EPOCH-WHO`: items for an observer, which asks for them itself.
     Request {
         /// The subject's name. Whether there is such a subject is still to be seen.
