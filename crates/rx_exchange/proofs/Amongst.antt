@@ -36,6 +36,8 @@ module _ {D W : Type 0} (p : Parties D W) where
       (other.0, (epoch, (desk, since), other.1))
   meets-among desk after start writer (Ok (asks.Emission subject kind size key)) text met (emitted, emits, epoch, since, is) =
       (after, (emitted, (desk, emits), epoch, (after, since), is))
+  meets-among desk after start writer (Ok (asks.Texts subject size)) text met (told, emits, epoch, since, is) =
+      (after, (told, (desk, emits), epoch, (after, since), is))
   meets-among desk after start writer (Ok (asks.Request subject observer items)) text met (asked, requests, is) = (after, (asked, (desk, requests), is))
   meets-among desk after start writer (Ok (asks.Look form)) text met (shown, shows, is) = (after, (shown, (desk, shows), is))
   meets-among desk after start writer (Ok (asks.Stop within)) text met (stopped, stops, is) = (after, (stopped, (desk, stops), is))

@@ -13,6 +13,7 @@ module _ {D W : Type 0} (p : Parties D W) where
     looks = λ desk well. (now : D) × p.looks now well;
     joins = λ desk name policy credit begin writer joining after. (now : D) × p.joins now name policy credit begin writer joining after;
     emits = λ desk name kind text key emitted after. (now : D) × p.emits now name kind text key emitted after;
+    emits_lines = λ desk name body told after. (now : D) × p.emits_lines now name body told after;
     requests = λ desk name observer items asked after. (now : D) × p.requests now name observer items asked after;
     shows = λ desk form shown after. (now : D) × p.shows now form shown after;
     stops = λ desk within stopped after. (now : D) × p.stops now within stopped after;

@@ -4,7 +4,7 @@ use Rattle.std.specs.Io.KnownBytes.{Consumes, IsAtEnd, Keeps}
 use Rattle.rx_http.specs.Asking.{IsReadOfHead}
 use Rattle.rx_http.specs.Heads.{HasNoHead, IsHeadAt}
 use Rattle.rx_http.specs.declared.request.asked.Asked.{Asked}
-use Rattle.rx_http.specs.declared.request.asked.Asked.TheVariants.{Emission, Events, Health, Look, Request, Stop}
+use Rattle.rx_http.specs.declared.request.asked.Asked.TheVariants.{Emission, Events, Health, Look, Request, Stop, Texts}
 use Rattle.rx_http.specs.declared.answer.refusal.Refusal.{Refusal}
 use Rattle.rx_http.specs.declared.answer.refusal.Refusal.TheVariants.{Long, LongHead}
 use Rattle.rx_session.specs.declared.session_end.SessionEnd.{SessionEnd}
@@ -12,9 +12,11 @@ use Rattle.rx_session.specs.declared.session_end.SessionEnd.TheVariants as ends
 use Rattle.rx_exchange.specs.declared.came.Came.{Came}
 use Rattle.rx_exchange.specs.declared.came.Came.TheVariants.{Asks, Partly, Nothing, End}
 
--- how many bytes the text of a request has whose head was read so: its body is the text of an emission
+-- how many bytes the text of a request has whose head was read so: its body is the text of an emission, or has
+-- the lines of several
 abbrev pub size_of : Result Asked Refusal → ℕ
 size_of (Ok (Emission subject kind size key)) = size
+size_of (Ok (Texts subject size)) = size
 size_of (Ok (Events subject policy credit known)) = 0
 size_of (Ok (Request subject observer items)) = 0
 size_of (Ok Health) = 0

@@ -2,7 +2,7 @@
 -- answer the head of the bytes that they read.
 --
 -- An exchange: all its turns together read bytes, and meet what the first request of these asks for, once: whether all is well, what is seen of
--- the server, that it stops, an emission of a note of that kind at the subject of that name, with just the bytes of its body as its text, by its key, if it says one, or a Join there, with
+-- the server, that it stops, an emission of a note of that kind at the subject of that name, with just the bytes of its body as its text, by its key, if it says one, or of an item for each line of its body, or a Join there, with
 -- that policy and window and from where its reader begins, by which the server has the writer; else the answer is told to the writer, all of it where the exchange ended by itself, a front of it after a fault of
 -- the writer. Where the bytes end before, or reading fails, the writer is back as it was, and the server was asked nothing. A
 -- turn that goes on at once or waits for bytes made a read. No turn waits, and no memory is taken. Others may call the server

@@ -88,7 +88,8 @@ fn size_of(read: &Result<Asked, Refusal>) -> usize
                 size,
                 key: _,
             },
-        ) => *size as usize,
+        )
+        | Ok(Asked::Texts { subject: _, size }) => *size as usize,
         _ => 0,
     }
 }

@@ -50,11 +50,11 @@ impl Exchange {
         desk: &mut D,
     ) -> Turn<W>
         ensures sits { (start : D) (first : W) (read_old : Option (List ℕ))
-            → Sitting (parties D.since D.looks D.joins D.emits D.requests D.shows D.stops W.contents) start first read_old (R.remaining reader.old) desk.old writer self.old
-            → Sits (parties D.since D.looks D.joins D.emits D.requests D.shows D.stops W.contents) result start first read_old (R.remaining reader.new) desk.new self.new }
+            → Sitting (parties D.since D.looks D.joins D.emits D.emits_lines D.requests D.shows D.stops W.contents) start first read_old (R.remaining reader.old) desk.old writer self.old
+            → Sits (parties D.since D.looks D.joins D.emits D.emits_lines D.requests D.shows D.stops W.contents) result start first read_old (R.remaining reader.new) desk.new self.new }
         ensures answered { self.old.answered ≡ true → desk.new ≡ desk.old }
         ensures sends { self.old.answered ≡ true → OnlySends W.contents result (R.remaining reader.old) (R.remaining reader.new) writer self.new }
-        ensures asks_once { AsksOnce (parties D.since D.looks D.joins D.emits D.requests D.shows D.stops W.contents) desk.old writer desk.new }
+        ensures asks_once { AsksOnce (parties D.since D.looks D.joins D.emits D.emits_lines D.requests D.shows D.stops W.contents) desk.old writer desk.new }
         ensures got_on { HasGotOn result self.old self.new }
     {
         if self.answered {

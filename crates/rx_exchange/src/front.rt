@@ -1,4 +1,4 @@
-use crate::{Emitted, Joining};
+use crate::{Emitted, EmittedLines, Joining};
 use rx_http::{
     Begin, Credit, Document, Epoch, IdempotencyKey, LookForm, NoteKind, ObserverId, Refusal,
 };
@@ -16,6 +16,7 @@ pub trait Front<W> {
     ghost use Rattle.rx_http.specs.declared.request.observer_id.ObserverId.{ObserverId};
     ghost use Rattle.rx_http.specs.declared.answer.refusal.Refusal.{Refusal};
     ghost use Rattle.rx_exchange.specs.declared.emitted.Emitted.{Emitted};
+    ghost use Rattle.rx_exchange.specs.declared.emitted_lines.EmittedLines.{EmittedLines};
     ghost use Rattle.rx_exchange.specs.declared.joining.Joining.{Joining};
 
     ghost since: { Self → List ℕ → Type 0 };
@@ -25,6 +26,8 @@ pub trait Front<W> {
     ghost joins: { Self → List ℕ → Choice → Credit → Begin → W → Joining W → Self → Type 0 };
 
     ghost emits: { Self → List ℕ → NoteKind → List ℕ → Option (List ℕ) → Result Emitted Refusal → Self → Type 0 };
+
+    ghost emits_lines: { Self → List ℕ → List ℕ → EmittedLines → Self → Type 0 };
 
     ghost requests: { Self → List ℕ → ObserverId → ℕ → Result (Unit {0}) Refusal → Self → Type 0 };
 
@@ -62,6 +65,11 @@ pub trait Front<W> {
         key: Option<IdempotencyKey>,
     ) -> Result<Emitted, Refusal>
         ensures { emits self.old subject.now kind text.now key result self.new };
+
+    /// Emits an item at the subject of this name for each line of this body, in their order, up to the first that is refused. It answers
+    /// the places of those that were accepted, and why the next one was not.
+    fn emit_lines(&mut self, subject: &Name, body: &[u8]) -> EmittedLines
+        ensures { emits_lines self.old subject.now body.now result self.new };
 
     /// Asks for so many items more for an observer at the subject of this name, whose reader asks for them itself.
     fn request(&mut self, subject: &Name, observer: ObserverId, items: u32) -> Result<(), Refusal>

@@ -8,10 +8,10 @@ use std::io::Write;
 
 /// An exchange that had no turn yet is under way from any server and writer, and nothing was read.
 pub fn exchange_begins<W: Write + Drop, D: Front<W>>()
-    ensures { Begins (parties D.since D.looks D.joins D.emits D.requests D.shows D.stops W.contents) }
+    ensures { Begins (parties D.since D.looks D.joins D.emits D.emits_lines D.requests D.shows D.stops W.contents) }
 {}
 
 /// Where others call the server between the turns of an exchange, these are turns of an exchange whose server others call too.
 pub fn turns_among_others_join<W: Write + Drop, D: Front<W>>()
-    ensures { JoinsTurns (parties D.since D.looks D.joins D.emits D.requests D.shows D.stops W.contents) }
+    ensures { JoinsTurns (parties D.since D.looks D.joins D.emits D.emits_lines D.requests D.shows D.stops W.contents) }
 {}

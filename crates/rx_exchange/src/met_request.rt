@@ -1,9 +1,9 @@
 // What is done with what a connection asks for.
 ghost use Rattle.std.specs.Prelude.{◌≡◌, []};
 ghost use Rattle.rx_http.specs.Answers.{answer_bytes};
-ghost use Rattle.rx_exchange.specs.Meetings.{Meets, Tells, emission_answer, look_answer, parties, request_answer, stop_answer};
+ghost use Rattle.rx_exchange.specs.Meetings.{Meets, Tells, emission_answer, lines_answer, look_answer, parties, request_answer, stop_answer};
 
-use crate::{Emitted, Front, Joining};
+use crate::{Emitted, EmittedLines, Front, Joining};
 use rx_http::{Answer, Asked, Begin, Document, Epoch, LookForm, Refusal, write_answer};
 use rx_session::{SessionEnd, Turn};
 use std::io::{ErrorKind, Write};
@@ -15,7 +15,7 @@ pub(crate) fn meet<W: Write + Drop, D: Front<W>>(
     writer: W,
     desk: &mut D,
 ) -> Option<(Answer, W)>
-    ensures { Meets (parties D.since D.looks D.joins D.emits D.requests D.shows D.stops W.contents) desk.old writer asked text.now result desk.new }
+    ensures { Meets (parties D.since D.looks D.joins D.emits D.emits_lines D.requests D.shows D.stops W.contents) desk.old writer asked text.now result desk.new }
 {
     match asked {
         Ok(
@@ -44,6 +44,10 @@ pub(crate) fn meet<W: Write + Drop, D: Front<W>>(
         ) => {
             let emitted = desk.emit(&subject, kind, text, key);
             Some((emission_answer(emitted, desk.epoch()), writer))
+        }
+        Ok(Asked::Texts { subject, size: _ }) => {
+            let told = desk.emit_lines(&subject, text);
+            Some((lines_answer(told, desk.epoch()), writer))
         }
         Ok(
             Asked::Request {
@@ -80,6 +84,25 @@ fn emission_answer(emitted: Result<Emitted, Refusal>, epoch: &Epoch) -> Answer
             again: emitted.again,
         },
         Err(cause) => Answer::Refused(cause),
+    }
+}
+
+// What several texts are answered by the server of this epoch.
+fn lines_answer(told: EmittedLines, epoch: &Epoch) -> Answer
+    ensures { result ≡ lines_answer epoch.now told.places told.refusal }
+{
+    let EmittedLines { places, refusal } = told;
+    match refusal {
+        None => Answer::Placed {
+            epoch: epoch.copy(),
+            places,
+        },
+        Some(cause) if places.as_slice().is_empty() => Answer::Refused(cause),
+        Some(cause) => Answer::Cut {
+            epoch: epoch.copy(),
+            places,
+            refusal: cause,
+        },
     }
 }
 
