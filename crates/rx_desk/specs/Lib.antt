@@ -3,6 +3,7 @@ pub mod ClientSinks
 pub mod EmittedNotes
 pub mod EventDesks
 pub mod KeptAnswers
+pub mod LineEmissions
 pub mod Responses
 pub mod SessionDesks
 pub mod Queues

@@ -4,10 +4,12 @@ ghost use Rattle.rx_desk.specs.ClientSinks.{writer_of};
 ghost use Rattle.rx_desk.specs.EventDesks.{first_begin, has_reply, held_with};
 
 mod emissions;
+mod line_emissions;
 
 use crate::askers::Askers;
 use crate::causes::{joining_by, requested_by};
 use crate::client_sink::ClientSink;
+use crate::event_desk::line_emissions::none_emitted;
 use crate::event_sinks::{first_of, sink_over, tempo_of};
 use crate::grants::Grants;
 use crate::joined::Joined;
@@ -17,7 +19,7 @@ use crate::responses::has_joined;
 use crate::session_desk::SessionDesk;
 use crate::stop::SharedStop;
 use rx_events::SharedPulse;
-use rx_exchange::{Emitted, Front, Joining};
+use rx_exchange::{Emitted, EmittedLines, Front, Joining};
 use rx_heap::{Heap, Memory};
 use rx_http::{
     Begin, Credit, Document, Epoch, IdempotencyKey, LookForm, NoteKind, ObserverId, Refusal,
@@ -336,6 +338,7 @@ impl<'a, R: Wait, M: Moments + Drop, W: Write + Drop> EventDesk<'a, R, M, W> {
 impl<'a, R: Wait, M: Moments + Drop, W: Write + Drop> Front<W> for EventDesk<'a, R, M, W> {
     ghost use Rattle.std.specs.Prelude.{◌≡◌};
     ghost use Rattle.rx_desk.specs.EventDesks.{emits, is_healthy, joins, requests, shows, stops};
+    ghost use Rattle.rx_desk.specs.LineEmissions.{emits_lines};
 
     ghost since = { λ desk epoch. epoch ≡ desk.epoch };
 
@@ -344,6 +347,8 @@ impl<'a, R: Wait, M: Moments + Drop, W: Write + Drop> Front<W> for EventDesk<'a,
     ghost joins = { joins M.tells };
 
     ghost emits = { emits M.tells };
+
+    ghost emits_lines = { emits_lines M.tells };
 
     ghost requests = { requests };
 
@@ -384,6 +389,13 @@ impl<'a, R: Wait, M: Moments + Drop, W: Write + Drop> Front<W> for EventDesk<'a,
             return Err(Refusal::Stopping);
         }
         self.emit_named(subject, kind, text, key)
+    }
+
+    fn emit_lines(&mut self, subject: &Name, body: &[u8]) -> EmittedLines {
+        if self.stopping {
+            return none_emitted(Refusal::Stopping);
+        }
+        self.emit_body(subject, body)
     }
 
     fn request(&mut self, subject: &Name, observer: ObserverId, items: u32) -> Result<(), Refusal> {

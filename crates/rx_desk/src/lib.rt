@@ -7,7 +7,7 @@
 //! The crates above rest on what a [`SessionDesk`] does with each command (`specs/SessionDesks.antt`): one call, answered by what its
 //! reply says, an emission that was begun by the reply to its own post (`Queues.antt`), and each item at the moment that its
 //! [`Moments`] told; and on what an [`EventDesk`] does with each Join and each
-//! emission of a browser (`EventDesks.antt`).
+//! emission of a browser (`EventDesks.antt`, `LineEmissions.antt`).
 //!
 //! What it does is tested over a server, in `test_edge`.
 #![tactic(auto)]

@@ -89,8 +89,8 @@ impl<'a, R: Wait, M: Moments + Drop, W: Write + Drop> EventDesk<'a, R, M, W> {
         first_answer(emitted)
     }
 
-    // Emits a note of this kind and text at the subject at this place.
-    fn emit_text(
+    /// Emits a note of this kind and text at the subject at this place.
+    pub(crate) fn emit_text(
         &mut self,
         place: usize,
         kind: NoteKind,
