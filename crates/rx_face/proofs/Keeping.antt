@@ -1,12 +1,14 @@
 -- What an exchange keeps of its desk.
-use Rattle.std.proofs.Common.{◌≡◌, ℕ, zero, suc, Bool, true, false, List, Option, None, Some, slice_get, ◌⊎◌, MatchBool, MatchOption, Result, Ok, Err, ap, inl, inr, refl, subst, sym}
+use Rattle.std.proofs.Common.{◌≡◌, ℕ, zero, suc, Bool, true, false, List, [], ◌∷◌, Option, None, Some, slice_get, ◌⊎◌, MatchBool, MatchOption, Result, Ok, Err, ap, inl, inr, refl, subst, sym}
 use Rattle.rx_desk.specs.EventDesks.{AsksFor, BeginsAt, BeginsThere, EmitsAt, EmitsFirst, EmitsNamed, EmitsText, EventView, FindsBegin, IsRefused, IsUnasked, IsUngranted, JoinsAt, JoinsBy, JoinsNamed, RequestsAt, asks_itself, emits, joins, requests, stops, with_kept, with_stop}
 use Rattle.rx_desk.specs.KeptAnswers.{kept_for}
+use Rattle.rx_desk.specs.LineEmissions.{Accepts, EmitsBody, EmitsBodyNamed, EmitsEach, EmitsLine, EndsBy, IsNone, emits_lines}
 use Rattle.rx_desk.specs.SessionDesks.{KeepsSession, Looks, LooksAt, SessionView, is_publish, place_of}
 use Rattle.rx_desk.specs.declared.client_sink.ClientSink.{ClientSink}
 use Rattle.rx_exchange.specs.Meetings.{Meets}
 use Rattle.rx_exchange.specs.Meetings as meetings
 use Rattle.rx_exchange.specs.declared.emitted.Emitted.{Emitted}
+use Rattle.rx_exchange.specs.declared.emitted_lines.EmittedLines.{EmittedLines}
 use Rattle.rx_exchange.specs.declared.exchange.Exchange.{Exchange}
 use Rattle.rx_exchange.specs.declared.joining.Joining.{Joining}
 use Rattle.rx_http.specs.Begins.{begin_by}
@@ -14,8 +16,9 @@ use Rattle.rx_http.specs.declared.answer.Answer.{Answer}
 use Rattle.rx_http.specs.declared.answer.refusal.Refusal.{Refusal}
 use Rattle.rx_http.specs.declared.answer.refusal.Refusal.TheVariants as causes
 use Rattle.rx_http.specs.declared.request.asked.Asked.{Asked}
-use Rattle.rx_http.specs.declared.request.asked.Asked.TheVariants.{Emission, Events, Health, Look, Request, Stop}
+use Rattle.rx_http.specs.declared.request.asked.Asked.TheVariants.{Emission, Events, Health, Look, Request, Stop, Texts}
 use Rattle.rx_http.specs.declared.request.note_kind.NoteKind.{NoteKind}
+use Rattle.rx_http.specs.declared.request.note_kind.NoteKind.TheVariants.{Next}
 use Rattle.rx_http.specs.declared.request.begin.Begin.{Begin}
 use Rattle.rx_http.specs.declared.request.begin.Begin.TheVariants.{Behind, Fresh, Restarted}
 use Rattle.rx_http.specs.declared.request.credit.Credit.{Credit}
@@ -133,6 +136,45 @@ module _ {M W : Type 0} (tells : M → ℕ → M → Type 0) where
       match_bool s.stopping (IsUnasked tells causes.Stopping s emitted t) (EmitsNamed tells s name kind text key emitted t) (Kept s t)
       (λ refused. kept-equal s t refused.1) (emit_named_keeps s name kind text key emitted t) e
 
+  -- a line
+  line_keeps : (s : EventView M (ClientSink W)) (line : List ℕ) (item : Result ℕ Refusal) (t : EventView M (ClientSink W)) (subject : ℕ) → EmitsLine tells s line item t subject → Kept s t
+  line_keeps s line item t subject (did, emits, is) = emit_at_keeps s Next line did t subject emits
+
+  -- lines that were accepted
+  accepts_keep : (s : EventView M (ClientSink W)) (lines : List (List ℕ)) (places : List ℕ) (t : EventView M (ClientSink W)) (subject : ℕ) → Accepts tells s lines places t subject → Kept s t
+  accepts_keep s [] [] t subject same = kept-equal s t same
+  accepts_keep s (line ∷ lines) (place ∷ places) t subject (mid, emits, more) =
+      keeps-then s.session mid.session t.session (line_keeps s line (Ok place) mid subject emits) (accepts_keep mid lines places t subject more)
+  accepts_keep s [] (place ∷ places) t subject none = absurd none
+  accepts_keep s (line ∷ lines) [] t subject none = absurd none
+
+  -- the first behind them
+  ends_keep : (s : EventView M (ClientSink W)) (lines : List (List ℕ)) (refusal : Option Refusal) (t : EventView M (ClientSink W)) (subject : ℕ) → EndsBy tells s lines refusal t subject → Kept s t
+  ends_keep s [] None t subject same = kept-equal s t same
+  ends_keep s (line ∷ lines) (Some cause) t subject emits = line_keeps s line (Err cause) t subject emits
+  ends_keep s [] (Some cause) t subject none = absurd none
+  ends_keep s (line ∷ lines) None t subject none = absurd none
+
+  -- the lines of a body at a subject
+  body_keeps : (s : EventView M (ClientSink W)) (body : List ℕ) (told : EmittedLines) (t : EventView M (ClientSink W)) (subject : ℕ) → EmitsBody tells s body told t subject → Kept s t
+  body_keeps s body told t subject (inl (unlike, none)) = kept-equal s t none.kept
+  body_keeps s body told t subject (inr (are, each)) =
+      keeps-then s.session each.mid.session t.session (accepts_keep s each.front told.places each.mid subject each.accepts)
+      (ends_keep each.mid each.rest told.refusal t subject each.ends)
+
+  -- at the subject of a name
+  body_named_keeps : (s : EventView M (ClientSink W)) (name body : List ℕ) (told : EmittedLines) (t : EventView M (ClientSink W)) → EmitsBodyNamed tells s name body told t → Kept s t
+  body_named_keeps s name body told t (inl read_only) = kept-equal s t read_only.1.kept
+  body_named_keeps s name body told t (inr may) =
+      match_option (place_of name s.session.subjects) (IsNone tells causes.Subject s told t) (EmitsBody tells s body told t) (Kept s t)
+      (λ none. kept-equal s t none.kept) (body_keeps s body told t) may.1
+
+  -- of a server that may have been asked to stop
+  lines_keep : (s : EventView M (ClientSink W)) (name body : List ℕ) (told : EmittedLines) (t : EventView M (ClientSink W)) → emits_lines tells s name body told t → Kept s t
+  lines_keep s name body told t e =
+      match_bool s.stopping (IsNone tells causes.Stopping s told t) (EmitsBodyNamed tells s name body told t) (Kept s t)
+      (λ none. kept-equal s t none.kept) (body_named_keeps s name body told t) e
+
 module _ {M W : Type 0} where
   -- a request of items at a subject
   request_at_keeps : (s : EventView M (ClientSink W)) (observer : ObserverId) (items : ℕ) (asked : Result (Unit {0}) Refusal) (t : EventView M (ClientSink W)) (subject : ℕ) (asks : Bool)
@@ -175,6 +217,7 @@ module _ {M C W : Type 0} (tells : M → ℕ → M → Type 0) (remaining : C �
       → Meets (calls tells remaining contents) s writer asked text met t → Kept s t
   meet_keeps s writer (Ok (Events subject policy credit known)) text met t m = begin_keeps s subject policy credit (begin_by m.0 known) writer met t m.2
   meet_keeps s writer (Ok (Emission subject kind size key)) text met t m = emit_keeps tells s subject kind text key m.0 t m.1
+  meet_keeps s writer (Ok (Texts subject size)) text met t m = lines_keep tells s subject text m.0 t m.1
   meet_keeps s writer (Ok (Request subject observer items)) text met t m = request_keeps s subject observer items m.0 t m.1
   meet_keeps s writer (Ok (Look form)) text met t m = looks_keep m.1.0 s.session t.session m.1.1.0
   meet_keeps s writer (Ok (Stop within)) text met t m = stop_keeps s within m.0 t m.1

@@ -11,6 +11,7 @@ use Rattle.std.specs.Prelude.{◌≡◌, ◌⊎◌, ℕ, List, [], ◌∷◌, �
 use Rattle.std.specs.List.{All}
 use Rattle.rx_config.specs.declared.config.Config.{Config}
 use Rattle.rx_desk.specs.EventDesks.{EventView, PartsWith, emits, is_healthy, joins, requests, shows, stops}
+use Rattle.rx_desk.specs.LineEmissions.{emits_lines}
 use Rattle.rx_desk.specs.SessionDesks.{KeepsSession, no_queue}
 use Rattle.rx_desk.specs.declared.client_sink.ClientSink.{ClientSink}
 use Rattle.rx_desk.specs.declared.grants.Grants.{Grants}
@@ -57,7 +58,7 @@ admitted (Parted place ∷ deeds) = admitted deeds
 module _ {M C W : Type 0} (tells : M → ℕ → M → Type 0) (remaining : C → Option (List ℕ)) (contents : W → Option (List ℕ)) where
   -- the desk of the exchanges, and their writers
   abbrev pub calls : Parties (EventView M (ClientSink W)) W
-  calls = parties (λ desk epoch. epoch ≡ desk.epoch) (λ desk well. well ≡ is_healthy desk) (joins tells) (emits tells) requests shows stops contents
+  calls = parties (λ desk epoch. epoch ≡ desk.epoch) (λ desk well. well ≡ is_healthy desk) (joins tells) (emits tells) (emits_lines tells) requests shows stops contents
 
   -- THE TURN of an exchange, from wherever it stood; one that is answered asks nothing of the desk any more, and only sends
   pub record TakesTurn (result : Turn W) (talk : Talk C W Exchange) (reader : C) (exchange : Exchange) (before after : EventView M (ClientSink W)) : Type 0 where
