@@ -4,10 +4,10 @@ import socket
 import ssl
 import time
 from collections import deque
-from typing import Deque, Optional
+from typing import Deque, List, Optional, Tuple
 
 from ._connection import PAUSE, connects, moment_after
-from ._http import MAX_BODY, Address, Answer, position_in, refusal
+from ._http import MAX_BODY, Address, Answer, position_in, positions_in, refusal
 from ._sse import Event, Stream
 from .errors import ConnectionLost, NoServer, TimedOut
 from .notes import Position
@@ -62,12 +62,12 @@ class HttpLink:
             said = self._receive(ends)
         return said
 
-    def position(self, request: bytes, ends: Optional[float]) -> Position:
-        """Emits by this request. Refused, ConnectionLost, ProtocolError, TimedOut."""
+    def whole(self, request: bytes, ends: Optional[float]) -> Tuple[Optional[int], bytes]:
+        """The status and the body of the answer to this request. ConnectionLost, ProtocolError, TimedOut."""
         said = self.ask(request, ends)
         while not self._answer.is_over:
             said += self._receive(ends)
-        return position_in(self._answer.status, said)
+        return self._answer.status, said
 
     def carry_out(self, request: bytes, ends: Optional[float]) -> None:
         """Has done what this request asks for, of which there is nothing to tell. Refused, ConnectionLost, ProtocolError, TimedOut."""
@@ -166,13 +166,23 @@ class EventLink(HttpLink):
             raise ConnectionLost("its observer has left") from fault
 
 
-def posted(address: Address, request: bytes, ends: Optional[float]) -> Position:
-    """Emits by this request. Refused, NoServer, ConnectionLost, ProtocolError, TimedOut."""
+def answered(address: Address, request: bytes, ends: Optional[float]) -> Tuple[Optional[int], bytes]:
+    """The status and the body of the answer to this request. NoServer, ConnectionLost, ProtocolError, TimedOut."""
     link = HttpLink(address, ends)
     try:
-        return link.position(request, ends)
+        return link.whole(request, ends)
     finally:
         link.close()
+
+
+def posted(address: Address, request: bytes, ends: Optional[float]) -> Position:
+    """Emits by this request. Refused, NoServer, ConnectionLost, ProtocolError, TimedOut."""
+    return position_in(*answered(address, request, ends))
+
+
+def posted_lines(address: Address, request: bytes, ends: Optional[float]) -> List[Position]:
+    """Emits texts by this request. NotAllPublished, Refused, NoServer, ConnectionLost, ProtocolError, TimedOut."""
+    return positions_in(*answered(address, request, ends))
 
 
 def asked(address: Address, request: bytes, ends: Optional[float]) -> bool:

@@ -2,10 +2,23 @@
 
 import json
 from dataclasses import dataclass
-from typing import Dict, Optional, Sequence, Type
+from typing import Dict, List, Optional, Sequence, Type
 from urllib.parse import urlsplit
 
-from .errors import ConnectionLost, Ended, Full, NoSuchSubject, OutOfMemory, ProtocolError, RxlineError, Spent, SubjectGone, TooLong
+from .errors import (
+    ConnectionLost,
+    Ended,
+    Full,
+    NoSuchSubject,
+    NotAllPublished,
+    OutOfMemory,
+    ProtocolError,
+    Refused,
+    RxlineError,
+    Spent,
+    SubjectGone,
+    TooLong,
+)
 from .notes import Position
 
 MAX_HEAD = 65536  # bytes
@@ -151,6 +164,21 @@ def position_in(status: Optional[int], body: bytes) -> Position:
         return Position(str(said["epoch"]), int(said.get("place", -1)))
     except (ValueError, TypeError, KeyError) as fault:
         raise ProtocolError(f"an answer {body[:100]!r}") from fault
+
+
+def positions_in(status: Optional[int], body: bytes) -> List[Position]:
+    """Where texts stand, by the answer to their emission as lines. NotAllPublished, where one behind others was refused; Refused,
+    ConnectionLost, ProtocolError."""
+    try:
+        said = json.loads(body)
+        positions = [Position(str(said["epoch"]), int(place)) for place in said["places"]]
+    except (ValueError, TypeError, KeyError) as fault:
+        raise refusal(status or 0, body) if status != 200 else ProtocolError(f"an answer {body[:100]!r}") from fault
+    if status != 200:
+        cause, at = refusal(status or 0, body), len(positions)
+        refused: Dict[int, Refused] = {at: cause} if isinstance(cause, Refused) else {}
+        raise NotAllPublished(at, refused, range(at + len(refused), at + 1), positions) from cause
+    return positions
 
 
 def refusal(status: int, body: bytes) -> RxlineError:

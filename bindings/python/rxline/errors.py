@@ -1,6 +1,8 @@
 """What a call may raise, beside a ValueError or a TypeError for what is no text, subject or policy."""
 
-from typing import Dict, Type
+from typing import Dict, Sequence, Tuple, Type
+
+from .notes import Position
 
 
 class RxlineError(Exception):
@@ -102,9 +104,11 @@ class NotAllPublished(RxlineError):
     """Of many texts some were not accepted. The numbers are places in what was handed in, from 0.
 
     `accepted` tells how many were; `refused` has each that was refused, and why; those of `unanswered` were sent, and the
-    connection ended before their answers: they may have been emitted, or not. Those from `unanswered.stop` on were not sent.
+    connection ended before their answers: they may have been emitted, or not. Those from `unanswered.stop` on were not sent, or
+    not looked at. `positions` has where those stand that `rxline.events.publish_lines` knows to be accepted.
     """
 
-    def __init__(self, accepted: int, refused: Dict[int, Refused], unanswered: range) -> None:
+    def __init__(self, accepted: int, refused: Dict[int, Refused], unanswered: range, positions: Sequence[Position] = ()) -> None:
         self.accepted, self.refused, self.unanswered = accepted, refused, unanswered
+        self.positions: Tuple[Position, ...] = tuple(positions)
         super().__init__(f"{accepted} accepted, {len(refused)} refused, {len(unanswered)} unanswered")

@@ -12,12 +12,12 @@ What it tells is what `Client.subscribe` tells; an item has no port, and the ser
 """
 
 import os
-from typing import Optional, Tuple, Union
+from typing import Iterable, List, Optional, Tuple, Union
 from urllib.parse import quote, urlencode
 
 from ._account import Account
 from ._connection import moment_after
-from ._event_link import EventLink, asked, posted
+from ._event_link import EventLink, asked, posted, posted_lines
 from ._following import Following
 from ._http import Address
 from ._lines import Text, bytes_of, check_key, check_name
@@ -137,6 +137,18 @@ def publish(where: Where, subject: str, text: Text, *, key: Optional[str] = None
     forgets when it starts anew). By a connection of its own each time: `rxline.Client` is for many. Refused, NoServer, ConnectionLost,
     ProtocolError, TimedOut."""
     return posted(*emission_of(where, subject, "", bytes_of(text), key), moment_after(timeout))
+
+
+def lines_of(where: Where, subject: str, texts: Iterable[Text]) -> Tuple[Address, bytes]:
+    """Where they are to go, and what is sent there. ValueError, TooLong."""
+    return emission_of(where, subject, "?lines=1", b"".join(bytes_of(text) + b"\n" for text in texts), None)
+
+
+def publish_lines(where: Where, subject: str, texts: Iterable[Text], *, timeout: Optional[float] = TIMEOUT) -> List[Position]:
+    """Emits texts by one request, in their order, and returns where each stands. As `publish`; where one behind others is refused,
+    NotAllPublished, whose `positions` tell where those before stand, and no other is emitted. TooLong also where they are more than
+    256, or with the head of the request more than 8,192 bytes: then none is emitted."""
+    return posted_lines(*lines_of(where, subject, texts), moment_after(timeout))
 
 
 def complete(where: Where, subject: str, *, key: Optional[str] = None, timeout: Optional[float] = TIMEOUT) -> None:

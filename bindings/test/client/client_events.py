@@ -4,6 +4,8 @@
     quiet WHERE SUBJECT                                   what is told where nothing comes in time, and what comes then
     newest WHERE SUBJECT                                  what is newest, asked for at each line of standard input
     emit WHERE SUBJECT                                    the texts of standard input, then an end: where each stands, or why not
+    keyed WHERE SUBJECT                                   texts by keys, then an end by one: where each stands, or why not
+    lined WHERE SUBJECT                                   several texts at once: where each stands, or why not
     misuse WHERE                                          how calls are refused
 WHERE is a path or a URL; a word that is `-` is left out, as EPOCH is."""
 
@@ -70,6 +72,19 @@ def keyed(where, subject):
             tell(kind_of(fault))
     for _ in range(2):
         tell(rxline.events.complete(where, subject, key="end"))
+
+
+LINED = [["a", "", "b\r"], [], ["x" * 1024, "c", "d"], ["e"], ["x"] * 257, ["x" * 1025], ["a\nb"]]
+
+
+def lined(where, subject):
+    for texts in LINED:
+        try:
+            tell(*rxline.events.publish_lines(where, subject, texts))
+        except rxline.NotAllPublished as outcome:
+            tell(outcome.accepted, *outcome.positions, *(f"{at}:{kind_of(fault)}" for at, fault in outcome.refused.items()))
+        except Exception as fault:
+            tell(kind_of(fault))
 
 
 MISUSES = [("none", {}), ("S", {}), ("s", {"window": 17}), ("s", {"window": 0}), ("s", {"since": rxline.Position("-", 1)})]

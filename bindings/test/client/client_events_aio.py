@@ -5,7 +5,7 @@ import sys
 
 import rxline
 from client import kind_of, tell, words_of
-from client_events import KEYS, MISUSES, words_for
+from client_events import KEYS, LINED, MISUSES, words_for
 from rxline.aio import events
 
 
@@ -58,6 +58,16 @@ async def keyed(where, subject):
             tell(kind_of(fault))
     for _ in range(2):
         tell(await events.complete(where, subject, key="end"))
+
+
+async def lined(where, subject):
+    for texts in LINED:
+        try:
+            tell(*await events.publish_lines(where, subject, texts))
+        except rxline.NotAllPublished as outcome:
+            tell(outcome.accepted, *outcome.positions, *(f"{at}:{kind_of(fault)}" for at, fault in outcome.refused.items()))
+        except Exception as fault:
+            tell(kind_of(fault))
 
 
 async def misuse(where):

@@ -4,11 +4,11 @@ import asyncio
 import ssl
 import time
 from collections import deque
-from typing import Deque, Optional, Tuple
+from typing import Deque, List, Optional, Tuple
 
 from .._connection import moment_after
 from .._event_link import LEAVING
-from .._http import MAX_BODY, Address, Answer, position_in, refusal
+from .._http import MAX_BODY, Address, Answer, position_in, positions_in, refusal
 from .._sse import Event, Stream
 from ..errors import ConnectionLost, NoServer, TimedOut
 from ..notes import Position
@@ -51,12 +51,12 @@ class HttpWire:
             said = await self._receive(ends)
         return said
 
-    async def position(self, request: bytes, ends: Optional[float]) -> Position:
-        """Emits by this request. Refused, ConnectionLost, ProtocolError, TimedOut."""
+    async def whole(self, request: bytes, ends: Optional[float]) -> Tuple[Optional[int], bytes]:
+        """The status and the body of the answer to this request. ConnectionLost, ProtocolError, TimedOut."""
         said = await self.ask(request, ends)
         while not self._answer.is_over:
             said += await self._receive(ends)
-        return position_in(self._answer.status, said)
+        return self._answer.status, said
 
     async def carry_out(self, request: bytes, ends: Optional[float]) -> None:
         """Has done what this request asks for, of which there is nothing to tell. Refused, ConnectionLost, ProtocolError, TimedOut."""
@@ -143,13 +143,23 @@ class EventWire(HttpWire):
             raise ConnectionLost("its observer has left") from fault
 
 
-async def posted(address: Address, request: bytes, ends: Optional[float]) -> Position:
-    """Emits by this request. Refused, NoServer, ConnectionLost, ProtocolError, TimedOut."""
+async def answered(address: Address, request: bytes, ends: Optional[float]) -> Tuple[Optional[int], bytes]:
+    """The status and the body of the answer to this request. NoServer, ConnectionLost, ProtocolError, TimedOut."""
     wire = HttpWire(await connected(address, ends))
     try:
-        return await wire.position(request, ends)
+        return await wire.whole(request, ends)
     finally:
         wire.close()
+
+
+async def posted(address: Address, request: bytes, ends: Optional[float]) -> Position:
+    """Emits by this request. Refused, NoServer, ConnectionLost, ProtocolError, TimedOut."""
+    return position_in(*await answered(address, request, ends))
+
+
+async def posted_lines(address: Address, request: bytes, ends: Optional[float]) -> List[Position]:
+    """Emits texts by this request. NotAllPublished, Refused, NoServer, ConnectionLost, ProtocolError, TimedOut."""
+    return positions_in(*await answered(address, request, ends))
 
 
 async def asked(address: Address, request: bytes, ends: Optional[float]) -> bool:

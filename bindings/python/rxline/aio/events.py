@@ -7,17 +7,17 @@
 """
 
 import os
-from typing import Optional
+from typing import Iterable, List, Optional
 
 from .._account import Account
 from .._connection import moment_after
 from .._http import Address
 from .._lines import Text, bytes_of, check_name
 from ..client import TIMEOUT
-from ..events import Where, emission_of, query_of
+from ..events import Where, emission_of, lines_of, query_of
 from ..notes import Position
 from ..policy import BUFFER, Errors, Strategy
-from ._event_wire import EventWire, asked, posted
+from ._event_wire import EventWire, asked, posted, posted_lines
 from ._following import Following
 
 
@@ -99,6 +99,11 @@ async def subscribe(
 async def publish(where: Where, subject: str, text: Text, *, key: Optional[str] = None, timeout: Optional[float] = TIMEOUT) -> Position:
     """Emits a text, and returns where it stands, as `rxline.events.publish`."""
     return await posted(*emission_of(where, subject, "", bytes_of(text), key), moment_after(timeout))
+
+
+async def publish_lines(where: Where, subject: str, texts: Iterable[Text], *, timeout: Optional[float] = TIMEOUT) -> List[Position]:
+    """Emits texts by one request, and returns where each stands, as `rxline.events.publish_lines`."""
+    return await posted_lines(*lines_of(where, subject, texts), moment_after(timeout))
 
 
 async def complete(where: Where, subject: str, *, key: Optional[str] = None, timeout: Optional[float] = TIMEOUT) -> None:
