@@ -1,3 +1,4 @@
+pub mod Opening
 pub mod Placing
 pub mod Putting
 pub mod Giving

@@ -1,3 +1,4 @@
+pub mod Opened
 pub mod Marks
 pub mod Sends
 pub mod Turns

@@ -1,17 +1,18 @@
 -- A pump, and what it has done with the letters that it received (this project's own rule).
 --
--- The pump's history: After each turn there are marks for the letters received such that the hub stands for the history of
--- the bodies made; `refused` are refused, as many as the hub's count of Memory answers rose by, each only where the core
+-- The pump's history: After each turn there are marks for the letters for which those stand that were received, such that the
+-- hub stands for the history of the bodies made; `refused` are refused, as many as the hub's count of Memory answers rose by, each only where the core
 -- accepts the event at its place and it is no Dispose; each drainer port's own list is its route, each reply port's its
 -- replies; `calls` is the number of bodies (counts stay at the greatest u64). `serve` adds a Bye to each once the Bye of each
 -- of its ports came, and takes no letter where they had come before. After a fault the pump does nothing more.
 --
 -- A pump's fault: `InboxGone`: the turn received nothing, and all was put; where a pump serves that had no fault, a Bye had
--- not come. `DrainerGone`: of what the last letter sends all was put that comes before an out for the drainer that is named,
--- nothing from there on, and no reply to that letter. `CallerGone`: all was put but the reply to the last letter, which is
+-- not come. `DrainerGone`: of what the last marked letter sends all was put that comes before an out for the drainer that is
+-- named, nothing from there on, and no reply to that letter; of several for which the letter received last stands those behind
+-- it were not made. `CallerGone`: all was put but the reply to the last letter, which is
 -- for the caller that is named. Or the ports were to end, in their order: all was put, those before the one that is named
 -- have ended, and no other (`HavePutUpTo`, `PumpStops` of `Serving.antt`)
-use Rattle.std.specs.Prelude.{◌≡◌, ◌+◌, ◌-◌, ◌^◌, ◌<◌, ◌%◌, min, ℕ, List, [], ◌∷◌, ◌++◌, length, map, Option, Some, None, slice_get}
+use Rattle.std.specs.Prelude.{◌≡◌, ◌+◌, ◌-◌, ◌^◌, ◌<◌, ◌%◌, ◌⊎◌, min, ℕ, List, [], ◌∷◌, ◌++◌, length, map, Option, Some, None, slice_get}
 use Rattle.std.specs.List.{All}
 use Rattle.rx_history.specs.Histories.{NoEvents}
 use Rattle.rx_hub.specs.Hubs.{HubView, StandsFor}
@@ -26,6 +27,7 @@ use Rattle.rx_pump.specs.declared.pump.pump_fault.PumpFault.TheVariants.{InboxGo
 use Rattle.rx_pump.specs.declared.pump.pump_parts.PumpParts.{PumpParts}
 use Rattle.rx_pump.specs.declared.reply.Reply.{Reply}
 use Rattle.rx_note.specs.declared.rules.Rules.{Rules}
+use Rattle.rx_pump.specs.Opened.{opened, AreLastOf}
 use Rattle.rx_pump.specs.Marks.{Marked, NoLetters, Made, Refused, Ended, letters_of, body_count, refused_in, history_of, AreAcceptable, outs_in, who_of, for_drainer, route, replies}
 
 -- a count of a pump, up to the greatest `u64`
@@ -104,24 +106,33 @@ module _ {S : Type 0} where
 module _ {S : Type 0} where
   -- THE PUMP'S HISTORY
 
-  -- the marked letters account for what was received and what became of the hub: it stands for the history of the bodies
-  -- that were made, and each of the others is a step that it refused for want of memory
-  pub record Accounts (hub : HubView) (inbox : Incoming (Call S)) (misses_before : ℕ) (B : Marked S) : Type 0 where
-    pub letters : letters_of B ≡ inbox.received
+  -- the marked letters, and of what the last one received stands for those that were not made, account for what was received
+  -- and what became of the hub, where so many ports are told replies: it stands for the history of the bodies that were made, and
+  -- each of the others is a step that it refused for want of memory
+  pub record Accounts (callers : ℕ) (hub : HubView) (inbox : Incoming (Call S)) (misses_before : ℕ) (unmade : List (Letter (Call S))) (B : Marked S) : Type 0 where
+    pub letters : letters_of B ++ unmade ≡ opened callers inbox.received
+    pub last : (unmade ≡ []) ⊎ AreLastOf callers inbox.received unmade
     pub stands : StandsFor hub.state (history_of B)
     pub misses : hub.misses ≡ counted (misses_before + refused_in B)
     pub acceptable : AreAcceptable hub.state.rules B
 
   -- what a pump did is what its marked letters mean, or at the fault of a port what comes before that
-  pub record Pumps (pump : PumpView S) (B : Marked S) : Type 0 where
-    pub accounts : Accounts pump.hub pump.inbox pump.misses_before B
+  pub record Pumps (pump : PumpView S) (unmade : List (Letter (Call S))) (B : Marked S) : Type 0 where
+    pub accounts : Accounts (length pump.replies) pump.hub pump.inbox pump.misses_before unmade B
     pub calls : pump.calls ≡ counted (body_count B)
     pub refused : pump.refused ≡ counted (refused_in B)
     pub put : HavePutUpTo pump.fault pump.hub.state.rules B pump.drainers pump.replies
 
+  -- what letters stand for is made, unless a drainer is gone
+  abbrev pub AreAllMade : Option PumpFault → List (Letter (Call S)) → Type 0
+  AreAllMade None unmade = unmade ≡ []
+  AreAllMade (Some InboxGone) unmade = unmade ≡ []
+  AreAllMade (Some (DrainerGone place)) unmade = Unit {0}
+  AreAllMade (Some (CallerGone place)) unmade = unmade ≡ []
+
   -- there are such marks
   abbrev pub IsPumped : PumpView S → Type 0
-  IsPumped pump = (B : Marked S) × Pumps pump B
+  IsPumped pump = (B : Marked S) × (unmade : List (Letter (Call S))) × Pumps pump unmade B × AreAllMade pump.fault unmade
 
   -- A NEW PUMP
 
@@ -166,6 +177,12 @@ module _ {S : Type 0} where
     pub drainers : AreSame before.drainers after.drainers
     pub callers : AreSame before.replies after.replies
     pub misses_before : after.misses_before ≡ before.misses_before
+
+  -- these letters, which were received, were made or refused one behind another, up to a fault, by the same pump
+  abbrev pub Makes : PumpView S → List (Letter (Call S)) → PumpView S → Type 0
+  Makes before letters after =
+      (B : Marked S) → Pumps before letters B
+      → (more : Marked S) × (unmade : List (Letter (Call S))) × Pumps after unmade more × AreAllMade after.fault unmade × KeepsPump before after
 
   -- one letter more was received
   abbrev pub TakesCall : Incoming (Call S) → Incoming (Call S) → Type 0

@@ -1,14 +1,16 @@
 -- What a pump leaves that has served to its end, or to a fault (this project's own rule).
 use Rattle.std.specs.Prelude.{◌≡◌, ◌+◌, ◌<◌, ◌⊎◌, ℕ, List, [], ◌∷◌, ◌++◌, length, Some, None, slice_get}
+use Rattle.rx_mailbox.specs.declared.letter.Letter.{Letter}
 use Rattle.rx_mailbox.specs.declared.letter.Post.TheVariants.{Bye}
 use Rattle.rx_mailbox.specs.Letters.{letter, posts}
 use Rattle.rx_mailbox.specs.Boxes.{Outgoing, all_told, HasEachBye}
+use Rattle.rx_pump.specs.declared.call.Call.{Call}
 use Rattle.rx_pump.specs.declared.pump.pump_end.PumpEnd.{PumpEnd}
 use Rattle.rx_pump.specs.declared.pump.pump_fault.PumpFault.{PumpFault}
 use Rattle.rx_pump.specs.declared.pump.pump_fault.PumpFault.TheVariants.{InboxGone, DrainerGone, CallerGone}
 use Rattle.rx_pump.specs.declared.pump.pump_stop.PumpStop.{PumpStop}
 use Rattle.rx_pump.specs.Marks.{Marked, body_count, refused_in, route, replies}
-use Rattle.rx_pump.specs.Pumps.{counted, HavePut, HavePutUpTo, AreSame, Accounts, PumpView}
+use Rattle.rx_pump.specs.Pumps.{counted, HavePut, HavePutUpTo, AreSame, Accounts, AreAllMade, PumpView}
 
 module _ {X : Type 0} where
   -- the own list of the port at each place is its bodies and a Bye
@@ -24,7 +26,7 @@ module _ {X : Type 0} where
 module _ {S : Type 0} where
   -- the pump handed in took all letters of its ports and ended its own: what it left is what the marked letters mean
   pub record PumpServes (pump : PumpView S) (left : PumpEnd S) (B : Marked S) : Type 0 where
-    pub accounts : Accounts left.hub left.inbox pump.misses_before B
+    pub accounts : Accounts (length pump.replies) left.hub left.inbox pump.misses_before [] B
     pub each_bye : HasEachBye left.inbox
     -- where each Bye had come before, no letter was waited for
     pub over : HasEachBye pump.inbox → left.inbox ≡ pump.inbox
@@ -67,8 +69,9 @@ module _ {S : Type 0} where
   -- the pump handed in stopped at its fault, in a turn or at its end: what it left is what the marked letters mean, or what
   -- comes before the fault
   pub record PumpStops (pump : PumpView S) (stop : PumpStop S) (B : Marked S) : Type 0 where
-    pub accounts : Accounts stop.parts.hub stop.parts.inbox pump.misses_before B
-    pub came : StopsInTurn pump stop B ⊎ StopsAtEnd pump stop B
+    pub unmade : List (Letter (Call S))
+    pub accounts : Accounts (length pump.replies) stop.parts.hub stop.parts.inbox pump.misses_before unmade B
+    pub came : (StopsInTurn pump stop B × AreAllMade (Some stop.fault) unmade) ⊎ (StopsAtEnd pump stop B × (unmade ≡ []))
     pub rules : stop.parts.hub.state.rules ≡ pump.hub.state.rules
     pub box : stop.parts.inbox.box ≡ pump.inbox.box
     pub ports : stop.parts.inbox.ports ≡ pump.inbox.ports

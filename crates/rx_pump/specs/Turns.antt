@@ -24,6 +24,10 @@ module _ {S : Type 0} where
   abbrev pub ports_of : PumpParts S → Ports S
   ports_of parts = record { drainers = all_told parts.drainers.items; replies = all_told parts.replies.items }
 
+  -- how many ports are told replies
+  abbrev pub callers_of : PumpParts S → ℕ
+  callers_of parts = length (all_told parts.replies.items)
+
   -- the ports put the outs, and then the reply to the calls from a port; at a fault they stop there
   abbrev pub Sends : Option PumpFault → List (Out S) → ℕ → Reply S → Ports S → Ports S → Type 0
   Sends None outs port reply before after =

@@ -4,9 +4,9 @@
 //
 // A pump that has stopped at a fault answers it again and does nothing; `serve` then ends no port, since a Bye behind a list
 // that was cut short would say that it is whole.
-ghost use Rattle.std.specs.Prelude.{◌≡◌, ◌+◌, ◌<◌, ◌≤◌, [], vec_len, vec_capacity, if◌then◌else◌, Some, None, Err, MatchResult, OnOk, IfSome};
+ghost use Rattle.std.specs.Prelude.{◌≡◌, ◌<◌, ◌≤◌, [], vec_len, vec_capacity, Some, None, Err, MatchResult, OnOk, IfSome};
 ghost use Rattle.rx_mailbox.specs.Boxes.{all_told};
-ghost use Rattle.rx_pump.specs.Pumps.{AreFresh, counted};
+ghost use Rattle.rx_pump.specs.Pumps.{AreFresh};
 
 pub(crate) mod deliveries;
 pub(crate) mod heard;
@@ -17,6 +17,7 @@ pub(crate) mod pump_fault;
 pub(crate) mod pump_parts;
 pub(crate) mod pump_stop;
 pub(crate) mod shown;
+pub(crate) mod tally;
 
 use crate::call::Call;
 use crate::out::Out;
@@ -28,6 +29,7 @@ use crate::pump::pump_fault::PumpFault;
 use crate::pump::pump_parts::PumpParts;
 use crate::pump::pump_stop::PumpStop;
 use crate::pump::shown::{SharedLook, Shown};
+use crate::pump::tally::Tally;
 use crate::reply::Reply;
 use rx_heap::{Heap, Memory, room};
 use rx_hub::Hub;
@@ -50,8 +52,7 @@ pub struct Pump<S: Drop> {
     // Room for each port once it has ended.
     ended_drainers: Vec<EndedPort<Out<S>>, Heap>,
     ended_replies: Vec<EndedPort<Reply<S>>, Heap>,
-    calls: u64,
-    refused: u64,
+    tally: Tally,
     // What the hub had counted when the pump was made.
     misses_before: u64,
     fault: Option<PumpFault>,
@@ -71,8 +72,7 @@ impl<S: Drop> Drop for Pump<S> {
             outs: _,
             ended_drainers: _,
             ended_replies: _,
-            calls: _,
-            refused: _,
+            tally: _,
             misses_before: _,
             fault: _,
             quiet: _,
@@ -91,9 +91,9 @@ impl<S: Drop> Model for Pump<S> {
 
     ghost Value = { PumpView S };
 
-    ghost view = { λ p. pump_with p.parts p.calls p.refused p.misses_before p.fault };
+    ghost view = { λ p. pump_with p.parts p.tally.calls p.tally.refused p.misses_before p.fault };
 
-    ghost invariant = { λ p. IsPumped (pump_with p.parts p.calls p.refused p.misses_before p.fault)
+    ghost invariant = { λ p. IsPumped (pump_with p.parts p.tally.calls p.tally.refused p.misses_before p.fault)
         × (0 < vec_len p.parts.drainers)
         × (p.ended_drainers.items ≡ []) × (vec_len p.parts.drainers ≤ vec_capacity p.ended_drainers)
         × (p.ended_replies.items ≡ []) × (vec_len p.parts.replies ≤ vec_capacity p.ended_replies) };
@@ -137,8 +137,10 @@ impl<S: Drop> Pump<S> {
             outs: Vec::new(alloc),
             ended_drainers,
             ended_replies,
-            calls: 0,
-            refused: 0,
+            tally: Tally {
+                calls: 0,
+                refused: 0,
+            },
             misses_before,
             fault: None,
             quiet: 0,
@@ -185,8 +187,9 @@ impl<S: Drop> Pump<S> {
         }
     }
 
-    /// Takes one letter, and waits while there is none: hands a call to the hub, and sends what comes of it, which may
-    /// wait for room. In this order: for an accepted Join with a sink its `Attach`; the notes, by rising number of the
+    /// Takes one letter, and waits while there is none: hands each call for which it stands to the hub, and sends what comes of it,
+    /// which may wait for room. A letter stands for one call; but from a port that is told no replies a request for several items
+    /// stands for so many requests for one item each. In this order: for an accepted Join with a sink its `Attach`; the notes, by rising number of the
     /// observer; for an accepted Dispose its `Detach`; and the reply, by the port at the place of the letter's port, if
     /// there is one. At a fault what was sent is the first of that, and from then on each turn answers this fault and does
     /// nothing.
@@ -246,11 +249,16 @@ impl<S: Drop> Pump<S> {
             Post::Body(call) => call,
             Post::Bye => return Ok(()),
         };
-        let handled = handle(rt, &mut self.parts, &mut self.outs, from, call);
-        self.calls = self.calls.saturating_add(1);
-        self.refused = raised(self.refused, handled.refused);
-        self.fault = handled.fault;
-        outcome(handled.fault)
+        let fault = handle(
+            rt,
+            &mut self.parts,
+            &mut self.outs,
+            &mut self.tally,
+            from,
+            call,
+        );
+        self.fault = fault;
+        outcome(fault)
     }
 
     /// Takes letters until the Bye of each port came, and waits while there is none; then ends its own ports, each to a
@@ -281,8 +289,7 @@ impl<S: Drop> Pump<S> {
             outs: _,
             ended_drainers: _,
             ended_replies: _,
-            calls: _,
-            refused: _,
+            tally: _,
             misses_before: _,
             fault: _,
             quiet: _,
@@ -392,8 +399,7 @@ impl<S: Drop> Pump<S> {
             outs: _,
             mut ended_drainers,
             mut ended_replies,
-            calls,
-            refused,
+            tally,
             misses_before: _,
             fault: _,
             quiet: _,
@@ -423,8 +429,8 @@ impl<S: Drop> Pump<S> {
             inbox: parts.inbox,
             drainers: ended_drainers,
             replies: ended_replies,
-            calls,
-            refused,
+            calls: tally.calls,
+            refused: tally.refused,
         })
     }
 
@@ -440,8 +446,7 @@ impl<S: Drop> Pump<S> {
             outs: _,
             ended_drainers,
             ended_replies,
-            calls: _,
-            refused: _,
+            tally: _,
             misses_before: _,
             fault: _,
             quiet: _,
@@ -462,25 +467,14 @@ impl<S: Drop> Pump<S> {
     pub fn calls(&self) -> u64
         ensures { result ≡ self.now.calls }
     {
-        self.calls
+        self.tally.calls
     }
 
     /// How many of its calls were refused for want of memory. The count stays at the greatest `u64`.
     pub fn refused(&self) -> u64
         ensures { result ≡ self.now.refused }
     {
-        self.refused
-    }
-}
-
-// The count with one more, if it counts.
-fn raised(count: u64, counts: bool) -> u64
-    ensures { result ≡ (if counts then counted (count + 1) else count) }
-{
-    if counts {
-        count.saturating_add(1)
-    } else {
-        count
+        self.tally.refused
     }
 }
 

@@ -1,17 +1,22 @@
 // One call: the hub takes its event, and the ports put what it gave and answered.
-ghost use Rattle.std.specs.Prelude.{◌≡◌, ◌<◌, ◌≤◌, ◌++◌, ℕ, Some, None, length, map, vec_len, option_to_list, MatchOption, MatchResult};
+ghost use Rattle.std.specs.Prelude.{◌≡◌, ◌≢◌, ◌<◌, ◌≤◌, [], ◌∷◌, ◌++◌, ℕ, Some, None, length, map, replicate, vec_len, option_to_list, MatchOption, MatchResult};
 ghost use Rattle.rx_note.specs.declared.event.Event.TheVariants.{Request};
 ghost use Rattle.rx_hub.specs.Hubs.{is_miss};
 ghost use Rattle.rx_mailbox.specs.Boxes.{all_told};
+ghost use Rattle.rx_mailbox.specs.Letters.{letter, posts};
+ghost use Rattle.rx_mailbox.specs.declared.letter.Post.TheVariants.{Body};
 ghost use Rattle.rx_pump.specs.Marks.{give, to_port};
 ghost use Rattle.rx_mailbox.specs.PortRows.{Puts};
-ghost use Rattle.rx_pump.specs.Turns.{HandlesCall, Sends, ports_of};
+ghost use Rattle.rx_pump.specs.Opened.{ask, opened_letter};
+ghost use Rattle.rx_pump.specs.Pumps.{Makes, pump_with};
+ghost use Rattle.rx_pump.specs.Turns.{HandlesCall, Sends, callers_of, ports_of};
 
 use crate::call::Call;
 use crate::out::Out;
 use crate::pump::deliveries::{detach, give_all, leaver, part, send_all};
 use crate::pump::pump_fault::PumpFault;
 use crate::pump::pump_parts::PumpParts;
+use crate::pump::tally::Tally;
 use crate::reply::Reply;
 use rx_heap::Heap;
 use rx_mailbox::Port;
@@ -26,29 +31,81 @@ pub(crate) struct Handled {
     pub(crate) fault: Option<PumpFault>,
 }
 
-// Hands a call from a port to the hub, and sends what comes of it. `outs` is but room.
-#[inline(always)] // once for each call, which is moved no further where it asks for items
+// Makes the calls for which the letter of a port with this call stands: hands each to the hub, and sends what comes of it. It
+// answers the fault, if there is one. `outs` is but room.
+#[inline(always)] // once for each letter, which is moved no further where it asks for items
 pub(crate) fn handle<S: Drop, R: Wait>(
     rt: &R,
     parts: &mut PumpParts<S>,
     outs: &mut Vec<Given, Heap>,
+    tally: &mut Tally,
     port: u32,
     call: Call<S>,
-) -> Handled
+) -> Option<PumpFault>
     requires { 0 < vec_len parts.old.drainers }
-    ensures handles { HandlesCall parts.old.hub parts.new.hub (ports_of parts.old) (ports_of parts.new) result.refused result.fault port call }
+    ensures makes { (misses_before : ℕ) → Makes (pump_with parts.old tally.old.calls tally.old.refused misses_before None)
+        (opened_letter (callers_of parts.old) (letter port (Body call)))
+        (pump_with parts.new tally.new.calls tally.new.refused misses_before result) }
     ensures inbox { parts.new.inbox ≡ parts.old.inbox }
+    ensures of_port { result ≢ Some PumpFault.InboxGone }
 {
-    if let Event::Request { who, n } = call.event
-        && call.sink.is_none()
-        && port as usize >= parts.replies.len()
-    {
-        return handle_request(rt, parts, outs, port, who, n);
+    match asked(&call, port, parts.replies.len()) {
+        Some((who, n)) => ask_each(rt, parts, outs, tally, port, who, n),
+        None => {
+            let handled = handle_any(rt, parts, outs, port, call);
+            tally.count(handled.refused);
+            handled.fault
+        }
     }
-    handle_any(rt, parts, outs, port, call)
 }
 
-// The same of a call that asks for items and brings no sink, and that is told no reply: of a drainer's, the commonest by far.
+// The observer for whom a call asks for items that brings no sink, and that is told no reply, and for how many it asks: it stands for
+// so many calls. None where it stands for itself. The ports of lower numbers than `callers` are told replies.
+#[inline(always)] // once for each letter
+fn asked<S: Drop>(call: &Call<S>, port: u32, callers: usize) -> Option<(u32, u32)>
+    ensures { MatchOption result
+        (opened_letter callers (letter port (Body call.now)) ≡ letter port (Body call.now) ∷ [])
+        (λ asked. (callers ≤ port) × (opened_letter callers (letter port (Body call.now)) ≡ posts port (replicate asked.1 (ask call.now.ticket asked.0)))) }
+{
+    if (port as usize) < callers || call.sink.is_some() {
+        return None;
+    }
+    match &call.event {
+        Event::Request { who, n } => Some((*who, *n)),
+        _ => None,
+    }
+}
+
+// Makes so many calls of a port that is told no reply, one behind another, each of which asks for one item more for an observer, as
+// far as there is no fault. It answers that.
+fn ask_each<S: Drop, R: Wait>(
+    rt: &R,
+    parts: &mut PumpParts<S>,
+    outs: &mut Vec<Given, Heap>,
+    tally: &mut Tally,
+    port: u32,
+    who: u32,
+    n: u32,
+) -> Option<PumpFault>
+    requires some { 0 < vec_len parts.old.drainers }
+    requires silent { vec_len parts.old.replies ≤ port }
+    ensures makes { (misses_before ticket : ℕ) → Makes (pump_with parts.old tally.old.calls tally.old.refused misses_before None)
+        (posts port (replicate n (ask ticket who)))
+        (pump_with parts.new tally.new.calls tally.new.refused misses_before result) }
+    ensures inbox { parts.new.inbox ≡ parts.old.inbox }
+    ensures of_port { result ≢ Some PumpFault.InboxGone }
+{
+    for _ in 0..n {
+        let handled = handle_request(rt, parts, outs, port, who, 1);
+        tally.count(handled.refused);
+        if handled.fault.is_some() {
+            return handled.fault;
+        }
+    }
+    None
+}
+
+// A call that asks for items and brings no sink, and that is told no reply: of a drainer's, the commonest by far.
 fn handle_request<S: Drop, R: Wait>(
     rt: &R,
     parts: &mut PumpParts<S>,
@@ -62,6 +119,9 @@ fn handle_request<S: Drop, R: Wait>(
     ensures handles { (ticket : ℕ) → HandlesCall parts.old.hub parts.new.hub (ports_of parts.old) (ports_of parts.new) result.refused result.fault port
         (record { ticket = ticket; event = Request who n; sink = None }) }
     ensures inbox { parts.new.inbox ≡ parts.old.inbox }
+    ensures of_port { result.fault ≢ Some PumpFault.InboxGone }
+    ensures drainers { 0 < vec_len parts.new.drainers }
+    ensures replies { parts.new.replies ≡ parts.old.replies }
 {
     outs.clear();
     let answered = parts.hub.step(port, Event::Request { who, n }, outs);
@@ -82,7 +142,7 @@ fn drainer_gone(outcome: Result<(), usize>) -> Option<PumpFault>
     }
 }
 
-// The same of any call.
+// Any call: hands it to the hub, and sends what comes of it.
 #[inline(never)] // so that a request makes no room for it
 fn handle_any<S: Drop, R: Wait>(
     rt: &R,
@@ -94,6 +154,7 @@ fn handle_any<S: Drop, R: Wait>(
     requires { 0 < vec_len parts.old.drainers }
     ensures handles { HandlesCall parts.old.hub parts.new.hub (ports_of parts.old) (ports_of parts.new) result.refused result.fault port call }
     ensures inbox { parts.new.inbox ≡ parts.old.inbox }
+    ensures of_port { result.fault ≢ Some PumpFault.InboxGone }
 {
     let Call {
         ticket,

@@ -12,7 +12,7 @@ use Rattle.rx_pump.proofs.pump.Pump.finish.Goals as goal
 pub returns-in-Err : goal.returns-in-Err
 returns-in-Err g c =
     let inside = c.self.inside in
-    let pump = pump_with inside.parts inside.calls inside.refused inside.misses_before inside.fault in
+    let pump = pump_with inside.parts inside.tally.calls inside.tally.refused inside.misses_before inside.fault in
     let stop : PumpStop _ = record {
       fault = DrainerGone c.in-Err.place;
       parts = record { hub = inside.parts.hub; inbox = inside.parts.inbox; drainers = c.finish_all.new.ports; replies = inside.parts.replies };
@@ -29,7 +29,7 @@ returns-in-Err g c =
 pub returns-in-Err-finish_all : goal.returns-in-Err-finish_all
 returns-in-Err-finish_all g c =
     let inside = c.self.inside in
-    let pump = pump_with inside.parts inside.calls inside.refused inside.misses_before inside.fault in
+    let pump = pump_with inside.parts inside.tally.calls inside.tally.refused inside.misses_before inside.fault in
     let ended = c.in_default.ensures.ended in
     let stop : PumpStop _ = record {
       fault = CallerGone c.in-Err-finish_all.place;
@@ -47,14 +47,14 @@ returns-in-Err-finish_all g c =
 pub returns : goal.returns
 returns g c =
     let inside = c.self.inside in
-    let pump = pump_with inside.parts inside.calls inside.refused inside.misses_before inside.fault in
+    let pump = pump_with inside.parts inside.tally.calls inside.tally.refused inside.misses_before inside.fault in
     let left : PumpEnd _ = record {
       hub = inside.parts.hub;
       inbox = inside.parts.inbox;
       drainers = c.finish_all.new.ended;
       replies = c.finish_all-2.new.ended;
-      calls = inside.calls;
-      refused = inside.refused;
+      calls = inside.tally.calls;
+      refused = inside.tally.refused;
     } in
     subst (λ (p : PumpView _). HasPumped p left) c.self.view_is
     (HasPumped-all pump left refl refl

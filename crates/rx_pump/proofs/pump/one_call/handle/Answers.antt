@@ -1,22 +1,32 @@
-use Rattle.std.proofs.Common.{◌≡◌, ◌∙◌, sym, refl, ap, subst, false, not, Option, Some, None, is_some}
-use Rattle.rx_note.specs.declared.event.Event.{Event}
-use Rattle.rx_note.specs.declared.event.Event.TheVariants.{Request}
-use Rattle.rx_pump.specs.Turns.{HandlesCall, ports_of}
+use Rattle.std.proofs.Common.{◌≡◌, ◌∙◌, sym, ap, subst, refl, ℕ, List, [], ◌∷◌, None, replicate, vec_len, length, arith}
+use Rattle.rx_mailbox.specs.Boxes.{all_told}
+use Rattle.rx_mailbox.specs.declared.letter.Letter.{Letter}
+use Rattle.rx_mailbox.specs.declared.letter.Post.TheVariants.{Body}
+use Rattle.rx_mailbox.specs.Letters.{letter, posts}
+use Rattle.rx_mailbox.proofs.Told.{told-length}
+use Rattle.rx_pump.specs.Opened.{ask, opened_letter}
+use Rattle.rx_pump.specs.Pumps.{Makes, pump_with}
+use Rattle.rx_pump.proofs.Turning.{GoesOn-call, Makes-of, all_made-none, took_call}
 use Rattle.rx_pump.proofs.pump.one_call.handle.Goals as goal
 
--- there is none
-none_of : {A : Type 0} (o : Option A) → is_some o ≡ false → o ≡ None
-none_of None none = refl
-none_of (Some x) none = cc
+pub returns-in-Some-clause-makes : goal.returns-in-Some-clause-makes
+returns-in-Some-clause-makes g c =
+    let callers : c.len.result ≡ length (all_told c.args.parts.now.replies.items) = omega (arith, c.len.ensures, told-length c.args.parts.now.replies.items) in
+    let stands_for = ap (λ (n : ℕ). opened_letter n (letter c.args.port (Body c.args.call))) (sym callers) ∙ c.in-Some.ensures.1 in
+    λ misses_before.
+    subst (λ (letters : List (Letter _)). Makes (pump_with c.args.parts.now c.args.tally.now.calls c.args.tally.now.refused misses_before None) letters
+    (pump_with c.ask_each.new.parts c.ask_each.new.tally.calls c.ask_each.new.tally.refused misses_before c.ask_each.result)) (sym stands_for)
+    (c.ask_each.ensures.makes misses_before c.args.call.ticket)
 
-pub returns-clause-handles : goal.returns-clause-handles
-returns-clause-handles g c =
-    let before = c.args.parts.now in
-    let after = c.handle_request.new.parts in
-    let ended = c.handle_request.result in
-    subst (λ (event : Event). HandlesCall before.hub after.hub (ports_of before) (ports_of after) ended.refused ended.fault c.args.port
-    (record { ticket = c.args.call.ticket; event = event; sink = c.args.call.sink })) (sym c.in-Request.is)
-    (subst (λ (sink : Option _). HandlesCall before.hub after.hub (ports_of before) (ports_of after) ended.refused ended.fault c.args.port
-    (record { ticket = c.args.call.ticket; event = Request c.in-Request.who c.in-Request.n; sink = sink }))
-    (sym (none_of c.args.call.sink (c.is_none.ensures ∙ ap not c.if-is_none.true)))
-    (c.handle_request.ensures.handles c.args.call.ticket))
+pub returns-in-None-clause-makes : goal.returns-in-None-clause-makes
+returns-in-None-clause-makes g c =
+    let hr = c.handle_any-handled in
+    let callers : c.len.result ≡ length (all_told c.args.parts.now.replies.items) = omega (arith, c.len.ensures, told-length c.args.parts.now.replies.items) in
+    let stands_for = ap (λ (n : ℕ). opened_letter n (letter c.args.port (Body c.args.call))) (sym callers) ∙ c.in-None.ensures in
+    λ misses_before.
+    subst (λ (letters : List (Letter _)). Makes (pump_with c.args.parts.now c.args.tally.now.calls c.args.tally.now.refused misses_before None) letters
+    (pump_with hr.new.parts c.count.new.self.calls c.count.new.self.refused misses_before hr.result.fault)) (sym stands_for)
+    (Makes-of _ _ _ [] (all_made-none hr.result.fault [] refl)
+    (GoesOn-call _ _ hr.result.refused c.args.port c.args.call []
+    (took_call c.args.parts.now hr.new.parts c.args.tally.now.calls c.args.tally.now.refused c.count.new.self.calls c.count.new.self.refused hr.result.refused hr.result.fault c.args.port c.args.call misses_before
+    c.requires hr.ensures.inbox c.count.ensures.calls c.count.ensures.refused hr.ensures.handles)))
