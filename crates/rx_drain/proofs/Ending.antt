@@ -11,6 +11,7 @@ use Rattle.rx_mailbox.specs.Letters.{share, ends, has_bye}
 use Rattle.rx_mailbox.specs.Boxes.{Outgoing, Incoming, HasEachBye, incoming, with_letter, with_letters}
 use Rattle.rx_pump.specs.declared.call.Call.{Call}
 use Rattle.rx_pump.specs.declared.out.Out.{Out}
+use Rattle.rx_pump.specs.Opened.{opened_ports}
 use Rattle.rx_pump.specs.Pumps.{AreSame, port_place}
 use Rattle.rx_mailbox.specs.PortRows.{IsFresh}
 use Rattle.rx_pump.proofs.Pumping.{HavePut-fresh, AreSame-length}
@@ -245,13 +246,13 @@ module _ {S Rest : Type 0} (acts : Acts S Rest) where
       (subst (λ (p : List (Outgoing (Call S))). Drains acts (record { inbox = inbox; ports = p; kept = kept; away = away; keeps = keeps; misses = misses; taken = taken; left = left; fault = fault }) log) all_is d)))
 
   pub served_end : (view : DrainerView S Rest) (rest : List (Outgoing (Call S))) (end : DrainEnd S Rest)
-      → end.inbox ≡ view.inbox → view.ports ≡ end.ports.items ++ rest → rest ≡ [] → end.put_away.items ≡ view.away → end.put_away.keeps ≡ view.keeps → end.places.misses ≡ view.misses → end.taken ≡ view.taken
+      → end.inbox ≡ view.inbox → view.ports ≡ opened_ports end.ports.items ++ rest → rest ≡ [] → end.put_away.items ≡ view.away → end.put_away.keeps ≡ view.keeps → end.places.misses ≡ view.misses → end.taken ≡ view.taken
       → view.left ≡ true → view.fault ≡ None → HasEachBye view.inbox → IsDrained acts view → HasDrained acts view end
   served_end view rest end inbox ports none away keeps misses taken left_is whole each (log, d, paid) =
-      let all : view.ports ≡ end.ports.items = ports ∙ ap (λ l. end.ports.items ++ l) none ∙ append-nil end.ports.items in
-      let drains = drains_end log view.inbox end.ports.items view.away view.keeps view.misses view.taken view.ports view.kept view.left view.fault all (keeps_none view left_is (log, d, paid)) left_is whole d in
+      let all : view.ports ≡ opened_ports end.ports.items = ports ∙ ap (λ l. opened_ports end.ports.items ++ l) none ∙ append-nil (opened_ports end.ports.items) in
+      let drains = drains_end log view.inbox (opened_ports end.ports.items) view.away view.keeps view.misses view.taken view.ports view.kept view.left view.fault all (keeps_none view left_is (log, d, paid)) left_is whole d in
       let P : Incoming (Out S) → List (PutAway Rest) → Bool → ℕ → ℕ → Type 0 =
-      λ i w k m t. Drains acts (record { inbox = i; ports = end.ports.items; kept = []; away = w; keeps = k; misses = m; taken = t; left = true; fault = None }) log in (
+      λ i w k m t. Drains acts (record { inbox = i; ports = opened_ports end.ports.items; kept = []; away = w; keeps = k; misses = m; taken = t; left = true; fault = None }) log in (
         log,
         record {
           drains = subst (λ i. P i end.put_away.items end.put_away.keeps end.places.misses end.taken) (sym inbox)

@@ -1,7 +1,7 @@
 -- A drainer, and what it has done with the letters that it received (this project's own rule).
 --
 -- The drainer's calls: After each turn, which may have received none where something may have waited in a sink before it, and
--- else received one at least, there are marks for the letters received such that the own list of each subject's port is just
+-- else received one at least, there are marks for the letters received such that what each subject's port put stands for just
 -- the calls that they owe it, and a Bye once the leave port's came; the sinks kept and put away are those of the attachments
 -- that they make; so many sinks found no memory as `misses` counts, and so many notes were taken as `taken` counts. `serve`
 -- ends with the Bye of each port of its box, and no sink kept, and takes no letter where each had come before. After a fault
@@ -15,11 +15,12 @@ use Rattle.std.specs.Prelude.{◌≡◌, ◌+◌, ◌<◌, ◌≤◌, ◌⊎◌,
 use Rattle.std.specs.List.{list_any}
 use Rattle.rx_mailbox.specs.declared.letter.Letter.{Letter}
 use Rattle.rx_mailbox.specs.declared.letter.Post.TheVariants.{Bye}
-use Rattle.rx_mailbox.specs.Boxes.{Outgoing, Incoming, all_told, with_letters}
+use Rattle.rx_mailbox.specs.Boxes.{Outgoing, Incoming, with_letters}
 use Rattle.rx_mailbox.specs.Letters.{letter}
 use Rattle.rx_note.specs.declared.event.Event.{Event}
 use Rattle.rx_pump.specs.declared.call.Call.{Call}
 use Rattle.rx_pump.specs.declared.out.Out.{Out}
+use Rattle.rx_pump.specs.Opened.{all_opened, opened_ports}
 use Rattle.rx_pump.specs.Pumps.{AreSame, counted}
 use Rattle.rx_sink.specs.declared.kept.Kept.{Kept}
 use Rattle.rx_sink.specs.declared.put_away.PutAway.{PutAway}
@@ -34,7 +35,8 @@ use Rattle.rx_drain.specs.Credit.{AreAllPaid}
 use Rattle.rx_drain.specs.Calls.{calls_to}
 use Rattle.rx_drain.specs.Logs.{Log, Next, Flush, letters, has_left, kept_in, gone_in, sent_in, missed_in, taken_in, put_by}
 
--- a drainer: its inbox, its ports to subjects in their order, ended or not, the sinks that it keeps, what those left that it
+-- a drainer: its inbox, its ports to subjects in their order, ended or not, with each letter that they put as those for which it
+-- stands, the sinks that it keeps, what those left that it
 -- put away, and whether it keeps that, how many sinks found no memory, how many notes they took, whether it was told to leave,
 -- and the fault that it stopped at
 pub record DrainerView (S Rest : Type 0) : Type 0 where
@@ -59,7 +61,7 @@ module _ {S Rest : Type 0} where
   abbrev pub view_of : DrainerLeft S Rest → Bool → Option DrainFault → DrainerView S Rest
   view_of hands left fault = record {
     inbox = hands.parts.inbox;
-    ports = hands.ended.items ++ all_told hands.parts.subjects.items;
+    ports = opened_ports hands.ended.items ++ all_opened hands.parts.subjects.items;
     kept = hands.kept.items;
     away = hands.put_away.items;
     keeps = hands.put_away.keeps;

@@ -4,6 +4,7 @@
 -- what it left was let go and the fault alone is answered: there was such a stop.
 use Rattle.std.specs.Prelude.{◌≡◌, true, [], length, Some, None}
 use Rattle.rx_mailbox.specs.Boxes.{HasEachBye}
+use Rattle.rx_pump.specs.Opened.{opened_ports}
 use Rattle.rx_sink.specs.Acts.{Acts}
 use Rattle.rx_drain.specs.declared.drainer.drain_end.DrainEnd.{DrainEnd}
 use Rattle.rx_drain.specs.declared.drainer.drain_fault.DrainFault.{DrainFault}
@@ -17,7 +18,7 @@ module _ {S Rest : Type 0} where
   abbrev pub view_of_end : DrainEnd S Rest → DrainerView S Rest
   view_of_end end = record {
     inbox = end.inbox;
-    ports = end.ports.items;
+    ports = opened_ports end.ports.items;
     kept = [];
     away = end.put_away.items;
     keeps = end.put_away.keeps;

@@ -2,6 +2,7 @@ pub mod Opening
 pub mod Placing
 pub mod Putting
 pub mod Giving
+pub mod Asking
 pub mod Calls
 pub mod Pumping
 pub mod Turning

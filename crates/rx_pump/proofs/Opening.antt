@@ -34,6 +34,10 @@ module _ {S : Type 0} where
   pub opened-told : (callers from : ℕ) (post : Post (Call S)) → from < callers → opened_letter callers (letter from post) ≡ letter from post ∷ []
   opened-told callers from post less = ap (λ b. if b then letter from post ∷ [] else opened_post from post) (is_below from callers less)
 
+  -- what it stands for where no port is told replies
+  pub opened-silent : (from : ℕ) (post : Post (Call S)) → opened_letter 0 (letter from post) ≡ opened_post from post
+  opened-silent from post = ap (λ b. if b then letter from post ∷ [] else opened_post from post) (is_not_below from 0 (omega arith))
+
   -- a call stands for itself that brings a sink, or that asks for no items
   is_one : (ticket : ℕ) (sink : Option S) (event : Event) → ((who n : ℕ) → event ≡ Request who n → sink ≡ None → ⊥) → calls_in ticket sink event ≡ record { ticket = ticket; event = event; sink = sink } ∷ []
   is_one ticket sink (Emit note at) other = refl

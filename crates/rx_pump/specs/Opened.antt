@@ -3,13 +3,14 @@
 -- What is asked of a subject for one observer may go as one letter: from a port that is told no replies, as a drainer's, a
 -- request for several items stands for so many requests for one item each, one behind another. Each other letter stands for
 -- itself.
-use Rattle.std.specs.Prelude.{◌≡◌, ℕ, nat_lt, if◌then◌else◌, List, [], ◌∷◌, ◌++◌, replicate, Option, Some, None}
+use Rattle.std.specs.Prelude.{◌≡◌, ℕ, nat_lt, if◌then◌else◌, List, [], ◌∷◌, ◌++◌, map, replicate, Option, Some, None}
 use Rattle.std.specs.List.{flat_map}
 use Rattle.rx_note.specs.declared.event.Event.{Event}
 use Rattle.rx_note.specs.declared.event.Event.TheVariants.{Emit, Join, Request, Dispose}
 use Rattle.rx_mailbox.specs.declared.letter.Letter.{Letter}
 use Rattle.rx_mailbox.specs.declared.letter.Post.{Post}
 use Rattle.rx_mailbox.specs.declared.letter.Post.TheVariants.{Body, Bye}
+use Rattle.rx_mailbox.specs.Boxes.{Outgoing, all_told}
 use Rattle.rx_mailbox.specs.Letters.{letter, posts}
 use Rattle.rx_pump.specs.declared.call.Call.{Call}
 
@@ -46,3 +47,15 @@ module _ {S : Type 0} where
     pub came : before ++ last ∷ [] ≡ received
     pub done : List (Letter (Call S))
     pub parts : done ++ letters ≡ opened_letter callers last
+
+  -- what a port put that is told no reply, each letter as those for which it stands
+  abbrev pub opened_port : Outgoing (Call S) → Outgoing (Call S)
+  opened_port port = record port { own = opened 0 port.own }
+
+  -- the same of several ports
+  abbrev pub opened_ports : List (Outgoing (Call S)) → List (Outgoing (Call S))
+  opened_ports ports = map opened_port ports
+
+  -- and of several, whatever they hold back
+  abbrev pub all_opened : List (Outgoing (Call S)) → List (Outgoing (Call S))
+  all_opened ports = opened_ports (all_told ports)

@@ -89,7 +89,7 @@ is_idle Ready = false
 is_idle Stuck = false
 is_idle Held = true
 
--- what is due is held back: the sink is stuck, or its reader asks itself, and no more is due than a `u32` counts
+-- what is due is held back: the sink is stuck, or its reader asks itself, or more is to be asked for together, and no more is due than a `u32` counts
 abbrev pub is_held_back : Flow → ℕ → Bool
 is_held_back Clear due = false
 is_held_back Ready due = false

@@ -7,9 +7,9 @@
 --
 -- How a line sink stands: over a writer that gathers what it is given, a take answers Stuck where the sink was found stuck
 -- and not yet found free again, or where more than 48 lines were written since nothing waited, this one counted, and else
--- Ready; a flush that finds that nothing waits begins the count anew and answers Clear, and one that finds the sink stuck
+-- Ready behind each eighth of them, and Held behind the others; a flush that finds that nothing waits begins the count anew and answers Clear, and one that finds the sink stuck
 -- leaves the count. Over any other writer both answer Clear (`flow_behind`, `FlushLeaves` and `line_acts`)
-use Rattle.std.specs.Prelude.{◌≡◌, ◌+◌, ◌-◌, ◌^◌, ◌<◌, ◌≤◌, ◌↔◌, ◌⊎◌, ◌||◌, if◌then◌else◌, min, nat_le, nat_lt, IsTrue, ℕ, Bool, true, false, List, [], ◌∷◌, ◌++◌, Option, Some, None, vec_len, vec_capacity}
+use Rattle.std.specs.Prelude.{◌≡◌, ◌+◌, ◌-◌, ◌^◌, ◌%◌, ◌==◌, ◌<◌, ◌≤◌, ◌↔◌, ◌⊎◌, ◌||◌, if◌then◌else◌, min, nat_le, nat_lt, IsTrue, ℕ, Bool, true, false, List, [], ◌∷◌, ◌++◌, Option, Some, None, vec_len, vec_capacity}
 use Rattle.std.specs.Io.KnownBytes.{Appends}
 use Rattle.std.specs.declared.alloc.Global.{Global}
 use Rattle.std.specs.declared.vec.Vec.{Vec}
@@ -54,11 +54,15 @@ abbrev pub ahead_with_one : Bool → ℕ → ℕ
 ahead_with_one false ahead = ahead
 ahead_with_one true ahead = min (ahead + 1) (2 ^ 32 - 1)
 
+-- behind so many lines items are asked for in their place
+abbrev pub together : ℕ
+together = 8
+
 -- how a sink stands behind a line: by whether its writer gathers, whether a flush found it stuck, and how many lines were written
 -- since nothing waited
 abbrev pub flow_behind : Bool → Bool → ℕ → Flow
 flow_behind false stuck ahead = Clear
-flow_behind true stuck ahead = if stuck || nat_lt most_ahead ahead then Stuck else Ready
+flow_behind true stuck ahead = if stuck || nat_lt most_ahead ahead then Stuck else (if ahead % together == 0 then Ready else Held)
 
 -- what a flush leaves: where nothing waits any more, the lines are counted anew; only over a writer that gathers it finds the sink
 -- stuck, which then stays so until a flush finds that nothing waits

@@ -7,6 +7,7 @@ pub enum Flow {
     Ready,
     /// Something waits in it that can't go out now.
     Stuck,
-    /// Nothing waits in it, and its reader asks for items itself: none is asked for in the place of those that it took.
+    /// None is asked for yet in the place of those that it took: its reader asks for items itself, or several are to be asked for
+    /// together. A flush answers so only where nothing waits.
     Held,
 }

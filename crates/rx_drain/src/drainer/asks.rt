@@ -1,10 +1,12 @@
 // What a drainer sends its subjects.
 //
 // What comes for a subject without a port is dropped: a drainer of a right box meets none.
-ghost use Rattle.std.specs.Prelude.{[], ◌∷◌, map};
-ghost use Rattle.rx_mailbox.specs.Boxes.{all_told};
+ghost use Rattle.std.specs.Prelude.{◌≡◌, [], ◌∷◌, List, None, map, replicate};
+ghost use Rattle.rx_pump.specs.Opened.{all_opened, calls_in};
 ghost use Rattle.rx_sink.specs.KeptSinks.{events_asked};
-ghost use Rattle.rx_drain.specs.Calls.{SendsEvents, partings_of};
+ghost use Rattle.rx_note.specs.declared.event.Event.{Event};
+ghost use Rattle.rx_note.specs.declared.event.Event.TheVariants.{Dispose, Request};
+ghost use Rattle.rx_drain.specs.Calls.{SendsEvents, call, partings_of};
 
 use crate::DrainFault;
 use rx_heap::Heap;
@@ -14,7 +16,10 @@ use rx_pump::Call;
 use rx_sink::{Asks, Kept, Sink};
 use std::sync::Wait;
 
-// Asks the subject for what it is to be asked, one item after another. That may be held back, need not wake the subject, and waits
+// As many items are asked for by one letter at the most.
+const MOST_ITEMS: u64 = u32::MAX as u64;
+
+// Asks the subject for what it is to be asked, all items by one letter. That may be held back, need not wake the subject, and waits
 // for no room as long as there is memory: the subject may wait for room in the drainer's box. It answers the fault, if there is one.
 pub(crate) fn send_asks<S: Drop, R: Wait>(
     rt: &R,
@@ -22,19 +27,57 @@ pub(crate) fn send_asks<S: Drop, R: Wait>(
     subject: u32,
     asks: Asks,
 ) -> Option<DrainFault>
-    ensures { SendsEvents result (map (λ event. (subject, event)) (events_asked asks)) (all_told subjects.old.items) (all_told subjects.new.items) }
+    ensures { SendsEvents result (map (λ event. (subject, event)) (events_asked asks)) (all_opened subjects.old.items) (all_opened subjects.new.items) }
 {
     let who = asks.who;
-    for _ in 0..asks.items {
-        let fault = send(rt, subjects, subject, Event::Request { who, n: 1 });
+    let together = asks.items.min(MOST_ITEMS) as u32;
+    let fault = send_requests(rt, subjects, subject, who, together);
+    if fault.is_some() {
+        return fault;
+    }
+    let fault = send_singly(rt, subjects, subject, who, asks.items - u64::from(together));
+    if fault.is_some() {
+        return fault;
+    }
+    if asks.leaves {
+        return send_disposal(rt, subjects, subject, who);
+    }
+    None
+}
+
+// Asks the subject for what is beyond one letter, item by item, as `send_asks` does: hardly ever is there any.
+fn send_singly<S: Drop, R: Wait>(
+    rt: &R,
+    subjects: &mut Vec<Port<Call<S>>, Heap>,
+    subject: u32,
+    who: u32,
+    n: u64,
+) -> Option<DrainFault>
+    ensures { SendsEvents result (map (λ event. (subject, event)) (replicate n (Request who 1))) (all_opened subjects.old.items) (all_opened subjects.new.items) }
+{
+    for _ in 0..n {
+        let fault = send_requests(rt, subjects, subject, who, 1);
         if fault.is_some() {
             return fault;
         }
     }
-    if asks.leaves {
-        return send(rt, subjects, subject, Event::Dispose { who });
-    }
     None
+}
+
+// Asks the subject for so many items more for an observer, by one letter, as `send_asks` does.
+fn send_requests<S: Drop, R: Wait>(
+    rt: &R,
+    subjects: &mut Vec<Port<Call<S>>, Heap>,
+    subject: u32,
+    who: u32,
+    n: u32,
+) -> Option<DrainFault>
+    ensures { SendsEvents result (map (λ event. (subject, event)) (replicate n (Request who 1))) (all_opened subjects.old.items) (all_opened subjects.new.items) }
+{
+    if n == 0 {
+        return None;
+    }
+    send(rt, subjects, subject, Event::Request { who, n })
 }
 
 // Asks for what is due of each sink, and has its observer disposed of, in their order, as `send_asks` does. It answers the fault, if
@@ -44,7 +87,7 @@ pub(crate) fn part_all<S: Sink, R: Wait>(
     subjects: &mut Vec<Port<Call<S>>, Heap>,
     kept: &[Kept<S>],
 ) -> Option<DrainFault>
-    ensures { SendsEvents result (partings_of kept.now) (all_told subjects.old.items) (all_told subjects.new.items) }
+    ensures { SendsEvents result (partings_of kept.now) (all_opened subjects.old.items) (all_opened subjects.new.items) }
 {
     for one in kept {
         let asks = Asks {
@@ -60,14 +103,28 @@ pub(crate) fn part_all<S: Sink, R: Wait>(
     None
 }
 
-// Sends an event to the subject at a place, if there is a port to it, as `send_asks` does. It answers the fault, if there is one.
+// Asks the subject to let an observer go, as `send_asks` does.
+fn send_disposal<S: Drop, R: Wait>(
+    rt: &R,
+    subjects: &mut Vec<Port<Call<S>>, Heap>,
+    subject: u32,
+    who: u32,
+) -> Option<DrainFault>
+    ensures { SendsEvents result ((subject, Dispose who) ∷ []) (all_opened subjects.old.items) (all_opened subjects.new.items) }
+{
+    send(rt, subjects, subject, Event::Dispose { who })
+}
+
+// Sends an event to the subject at a place, if there is a port to it: it stands for one or several. It answers the fault, if there is
+// one.
 fn send<S: Drop, R: Wait>(
     rt: &R,
     subjects: &mut Vec<Port<Call<S>>, Heap>,
     subject: u32,
     event: Event,
 ) -> Option<DrainFault>
-    ensures { SendsEvents result ((subject, event) ∷ []) (all_told subjects.old.items) (all_told subjects.new.items) }
+    ensures { (first : Event) (rest : List Event) → calls_in {S = S} 0 None event ≡ map call (first ∷ rest)
+        → SendsEvents result (map (λ event. (subject, event)) (first ∷ rest)) (all_opened subjects.old.items) (all_opened subjects.new.items) }
 {
     let place = subject as usize;
     if place >= subjects.len() {

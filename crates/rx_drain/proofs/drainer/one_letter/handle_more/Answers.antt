@@ -1,5 +1,6 @@
 use Rattle.std.proofs.Common.{◌≡◌, ◌∙◌, ◌++◌, ap, sym, refl, subst, false, Bool, ℕ, Option, Some, None, is_some, arith}
 use Rattle.rx_mailbox.specs.Boxes.{Incoming, all_told}
+use Rattle.rx_pump.specs.Opened.{all_opened, opened_ports}
 use Rattle.rx_pump.specs.Pumps.{AreSame}
 use Rattle.rx_drain.specs.declared.drainer.drain_fault.DrainFault.{DrainFault}
 use Rattle.rx_drain.specs.declared.drainer.drainer_left.DrainerLeft.{DrainerLeft}
@@ -46,7 +47,7 @@ returns-in_default-clause-inbox g c =
 
 pub returns-in_default-clause-ports : goal.returns-in_default-clause-ports
 returns-in_default-clause-ports g c =
-    subst (λ l. AreSame (view_of c.args.hands.now c.args.handled.left c.args.handled.fault).ports (c.loop-count.hands.ended.items ++ l))
+    subst (λ l. AreSame (view_of c.args.hands.now c.args.handled.left c.args.handled.fault).ports (opened_ports c.loop-count.hands.ended.items ++ opened_ports l))
     (sym c.receive_more.ensures.subjects) c.loop-count.invariant.same
 
 pub returns-in_default-clause-goes : goal.returns-in_default-clause-goes
@@ -54,8 +55,8 @@ returns-in_default-clause-goes g c =
     let hands = c.loop-count.hands in
     let view = view_of hands c.loop-count.now.left c.loop-count.now.fault in
     let first = view_of c.args.hands.now c.args.handled.left c.args.handled.fault in
-    let there = subst (λ l. HasGoneOn g.S.Sink.acts first (record view { ports = hands.ended.items ++ l })) (sym c.receive_more.ensures.subjects) c.loop-count.invariant.goes in
-    subst (λ (i : Incoming _). HasGoneOn g.S.Sink.acts first (record view { inbox = i; ports = hands.ended.items ++ all_told c.receive_more.new.parts.subjects.items }))
+    let there = subst (λ l. HasGoneOn g.S.Sink.acts first (record view { ports = opened_ports hands.ended.items ++ opened_ports l })) (sym c.receive_more.ensures.subjects) c.loop-count.invariant.goes in
+    subst (λ (i : Incoming _). HasGoneOn g.S.Sink.acts first (record view { inbox = i; ports = opened_ports hands.ended.items ++ all_opened c.receive_more.new.parts.subjects.items }))
     (sym c.in_default.ensures.received) there
 
 pub handle-now-requires : goal.handle-now-requires
@@ -71,17 +72,17 @@ loop-count-preserved g c =
     let hands = c.loop-count.hands in
     let parts = c.receive_more.new.parts in
     let first = view_of c.args.hands.now c.args.handled.left c.args.handled.fault in
-    let second = record (view_of hands c.loop-count.now.left c.loop-count.now.fault) { ports = hands.ended.items ++ all_told parts.subjects.items } in
+    let second = record (view_of hands c.loop-count.now.left c.loop-count.now.fault) { ports = opened_ports hands.ended.items ++ all_opened parts.subjects.items } in
     let third = view_of c.handle-now.new.hands c.handle-now.result.left c.handle-now.result.fault in
     let whole = none_of c.loop-count.now.fault (sym c.is_some.ensures ∙ c.if-is_some.false) in
-    let there = subst (λ l. HasGoneOn g.S.Sink.acts first (record (view_of hands c.loop-count.now.left c.loop-count.now.fault) { ports = hands.ended.items ++ l }))
+    let there = subst (λ l. HasGoneOn g.S.Sink.acts first (record (view_of hands c.loop-count.now.left c.loop-count.now.fault) { ports = opened_ports hands.ended.items ++ opened_ports l }))
     (sym c.receive_more.ensures.subjects) inv.goes in
     record {
       fits = c.handle-now.ensures.fits;
       of_subject = c.handle-now.ensures.handles.0;
       inbox = takes_then g.S.Sink.acts c.args.hands.now.parts.inbox hands.parts.inbox parts.inbox c.handle-now.new.hands.parts.inbox c.in-Ok.letter
           inv.inbox c.in-Ok.ensures.received c.handle-now.ensures.inbox;
-      same = c.handle-now.ensures.ports ∙ subst (λ l. AreSame first.ports (hands.ended.items ++ l)) (sym c.receive_more.ensures.subjects) inv.same;
+      same = c.handle-now.ensures.ports ∙ subst (λ l. AreSame first.ports (opened_ports hands.ended.items ++ opened_ports l)) (sym c.receive_more.ensures.subjects) inv.same;
       keeps = c.handle-now.ensures.keeps ∙ inv.keeps;
       goes = goes_further g.S.Sink.acts first second third there
           (goes_letter g.S.Sink.acts second _ third c.in-Ok.letter whole refl c.in-Ok.ensures.received c.handle-now.ensures.inbox c.handle-now.ensures.ports c.handle-now.ensures.handles);

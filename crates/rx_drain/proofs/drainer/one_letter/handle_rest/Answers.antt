@@ -1,4 +1,5 @@
 use Rattle.std.proofs.Common.{◌∙◌, ◌++◌, sym, subst, false, None}
+use Rattle.rx_pump.specs.Opened.{opened_ports}
 use Rattle.rx_drain.specs.Drainers.{Pays, view_of}
 use Rattle.rx_drain.proofs.Ending.{pays_flushed, pays_open, pays_left, pays_fault}
 use Rattle.rx_drain.proofs.drainer.one_letter.handle_rest.Goals as goal
@@ -12,7 +13,7 @@ returns-then-handled-clause-pays g c =
       | then-handled-via-then-handled w ↦ pays_left g.S.Sink.acts view w.if-handled.true
       | then-handled-via-else-handled+then-is_some w ↦ pays_fault g.S.Sink.acts view (sym w.is_some.ensures ∙ w.if-is_some.true)
     ] in
-    subst (λ subjects. Pays g.S.Sink.acts view (record view { ports = hands.ended.items ++ subjects })) (sym c.try_ring_all-is_left.ensures) pays
+    subst (λ subjects. Pays g.S.Sink.acts view (record view { ports = opened_ports hands.ended.items ++ opened_ports subjects })) (sym c.try_ring_all-is_left.ensures) pays
 
 pub returns-clause-pays : goal.returns-clause-pays
 returns-clause-pays g c =

@@ -1,9 +1,12 @@
 use Rattle.std.proofs.Common.{◌≡◌, ◌≤◌, ◌+◌, ◌∙◌, sym, refl, ap, subst, ℕ, List, [], ◌++◌, length, length-append, map, true, is_some, vec_len, arith}
 use Rattle.std.proofs.lemmas.List.{length-map}
-use Rattle.rx_mailbox.specs.Boxes.{Outgoing, all_told}
+use Rattle.rx_mailbox.specs.Boxes.{Outgoing}
+use Rattle.rx_pump.specs.Opened.{all_opened, opened_port, opened_ports}
 use Rattle.rx_mailbox.specs.PortRows.{with_bye, EndsSome}
 use Rattle.rx_pump.proofs.Pumping.{AreSame-length}
+use Rattle.rx_mailbox.specs.Boxes.{all_told}
 use Rattle.rx_mailbox.proofs.Told.{told-length}
+use Rattle.rx_pump.proofs.Asking.{opened-ended, opened-length, opened-some}
 use Rattle.rx_sink.specs.declared.kept.Kept.{Kept}
 use Rattle.rx_sink.specs.KeptSinks.{addressed}
 use Rattle.rx_sink.specs.Rests.{HasRoomFor, RestsView}
@@ -40,11 +43,11 @@ returns-then-is_some-clause-fits g c =
     let olds = c.args.hands.now.parts.subjects in
     let news = c.part_all-fault.new.subjects in
     let kept = c.put_all_away.new.kept in
-    let same : length (all_told news.items) ≡ length olds.items =
-    AreSame-length (all_told olds.items) (all_told news.items)
-    (same_sent c.part_all-fault.result (partings_of c.as_slice.result.now) [] (all_told olds.items) (all_told news.items) c.part_all-fault.ensures)
-    ∙ told-length olds.items in
-    let long : vec_len ended + vec_len news ≡ vec_len ended + vec_len olds = ap (λ (n : ℕ). vec_len ended + n) (news.ok.0 ∙ sym (told-length news.items) ∙ same ∙ sym olds.ok.0) in
+    let same : length (all_opened news.items) ≡ length olds.items =
+    AreSame-length (all_opened olds.items) (all_opened news.items)
+    (same_sent c.part_all-fault.result (partings_of c.as_slice.result.now) [] (all_opened olds.items) (all_opened news.items) c.part_all-fault.ensures)
+    ∙ opened-length olds.items in
+    let long : vec_len ended + vec_len news ≡ vec_len ended + vec_len olds = ap (λ (n : ℕ). vec_len ended + n) (news.ok.0 ∙ sym (opened-length news.items) ∙ same ∙ sym olds.ok.0) in
     let some : is_some c.part_all-fault.result ≡ true = sym c.is_some.ensures ∙ c.if-is_some.true in
     record {
       leave_is = c.requires.leave_is ∙ sym long;
@@ -62,13 +65,14 @@ returns-in-Ok-clause-fits g c =
     let kept = c.put_all_away.new.kept in
     let after = c.finish_all.new.ended in
     let left = c.finish_all.new.ports in
-    let same : length (all_told news.items) ≡ length olds.items =
-    AreSame-length (all_told olds.items) (all_told news.items)
-    (same_sent c.part_all-fault.result (partings_of c.as_slice.result.now) [] (all_told olds.items) (all_told news.items) c.part_all-fault.ensures)
-    ∙ told-length olds.items in
+    let same : length (all_opened news.items) ≡ length olds.items =
+    AreSame-length (all_opened olds.items) (all_opened news.items)
+    (same_sent c.part_all-fault.result (partings_of c.as_slice.result.now) [] (all_opened olds.items) (all_opened news.items) c.part_all-fault.ensures)
+    ∙ opened-length olds.items in
     let none = ap length c.in-Ok.ensures.ended.1 in
     let many = all_ended (all_told news.items) ended.items after.items c.in-Ok.ensures.ended.0 in
-    let long = ended_counts ended.ok.0 olds.ok.0 after.ok.0 left.ok.0 same (counted_none many none) in
+    let same_told = told-length news.items ∙ sym (opened-length news.items) ∙ same in
+    let long = ended_counts ended.ok.0 olds.ok.0 after.ok.0 left.ok.0 same_told (counted_none many none) in
     record {
       leave_is = c.requires.leave_is ∙ sym long;
       away_room = no_more c.put_all_away.new.away (vec_len kept) (kept.ok.0 ∙ ap length c.put_all_away.ensures.kept) c.put_all_away.ensures.room;
@@ -85,12 +89,13 @@ returns-in-Err-clause-fits g c =
     let kept = c.put_all_away.new.kept in
     let after = c.finish_all.new.ended in
     let left = c.finish_all.new.ports in
-    let same : length (all_told news.items) ≡ length olds.items =
-    AreSame-length (all_told olds.items) (all_told news.items)
-    (same_sent c.part_all-fault.result (partings_of c.as_slice.result.now) [] (all_told olds.items) (all_told news.items) c.part_all-fault.ensures)
-    ∙ told-length olds.items in
+    let same : length (all_opened news.items) ≡ length olds.items =
+    AreSame-length (all_opened olds.items) (all_opened news.items)
+    (same_sent c.part_all-fault.result (partings_of c.as_slice.result.now) [] (all_opened olds.items) (all_opened news.items) c.part_all-fault.ensures)
+    ∙ opened-length olds.items in
     let many = some_ended (all_told news.items) (all_told left.items) ended.items after.items c.in-Err.ensures.ended.0 in
-    let long = ended_counts ended.ok.0 olds.ok.0 after.ok.0 (left.ok.0 ∙ sym (told-length left.items)) same many in
+    let same_told = told-length news.items ∙ sym (opened-length news.items) ∙ same in
+    let long = ended_counts ended.ok.0 olds.ok.0 after.ok.0 (left.ok.0 ∙ sym (told-length left.items)) same_told many in
     record {
       leave_is = c.requires.leave_is ∙ sym long;
       away_room = no_more c.put_all_away.new.away (vec_len kept) (kept.ok.0 ∙ ap length c.put_all_away.ensures.kept) c.put_all_away.ensures.room;
@@ -101,55 +106,55 @@ returns-in-Err-clause-fits g c =
 
 pub returns-then-is_some-clause-ports : goal.returns-then-is_some-clause-ports
 returns-then-is_some-clause-ports g c =
-    same_sent c.part_all-fault.result (partings_of c.as_slice.result.now) c.args.hands.now.ended.items (all_told c.args.hands.now.parts.subjects.items) (all_told c.part_all-fault.new.subjects.items) c.part_all-fault.ensures
+    same_sent c.part_all-fault.result (partings_of c.as_slice.result.now) (opened_ports c.args.hands.now.ended.items) (all_opened c.args.hands.now.parts.subjects.items) (all_opened c.part_all-fault.new.subjects.items) c.part_all-fault.ensures
 
 pub returns-then-is_some-clause-handles : goal.returns-then-is_some-clause-handles
 returns-then-is_some-clause-handles g c =
-    let ended = c.args.hands.now.ended.items in
-    let a = all_told c.args.hands.now.parts.subjects.items in
-    let leave_is : c.args.leave ≡ length (ended ++ a) = omega (arith, c.requires.leave_is, length-append ended a, told-length c.args.hands.now.parts.subjects.items) in
-    let sends = subst (λ (kept : List (Kept _)). SendsEvents c.part_all-fault.result (partings_of kept) a (all_told c.part_all-fault.new.subjects.items)) c.as_slice.ensures.value c.part_all-fault.ensures in (
-      of_sent c.part_all-fault.result (partings_of c.args.hands.now.kept.items) a (all_told c.part_all-fault.new.subjects.items) sends,
+    let ended = opened_ports c.args.hands.now.ended.items in
+    let a = all_opened c.args.hands.now.parts.subjects.items in
+    let leave_is : c.args.leave ≡ length (ended ++ a) = omega (arith, c.requires.leave_is, length-append ended a, length-map c.args.hands.now.ended.items opened_port, opened-length c.args.hands.now.parts.subjects.items) in
+    let sends = subst (λ (kept : List (Kept _)). SendsEvents c.part_all-fault.result (partings_of kept) a (all_opened c.part_all-fault.new.subjects.items)) c.as_slice.ensures.value c.part_all-fault.ensures in (
+      of_sent c.part_all-fault.result (partings_of c.args.hands.now.kept.items) a (all_opened c.part_all-fault.new.subjects.items) sends,
       λ log s. stands_left g.S.Sink.acts (length (ended ++ a)) log c.args.leave _ _ leave_is refl refl c.put_all_away.ensures.kept refl refl c.put_all_away.ensures.closes
-          (λ have. sent_in_part c.part_all-fault.result (addressed (sent_in (length (ended ++ a)) log)) (partings_of c.args.hands.now.kept.items) ended a (all_told c.part_all-fault.new.subjects.items)
-          (sym c.is_some.ensures ∙ c.if-is_some.true) (c.requires.open_ports refl) have sends) s,
+          (λ have. sent_in_part c.part_all-fault.result (addressed (sent_in (length (ended ++ a)) log)) (partings_of c.args.hands.now.kept.items) ended a (all_opened c.part_all-fault.new.subjects.items)
+          (sym c.is_some.ensures ∙ c.if-is_some.true) (ap opened_ports (c.requires.open_ports refl)) have sends) s,
     )
 
 pub returns-in-Ok-clause-ports : goal.returns-in-Ok-clause-ports
 returns-in-Ok-clause-ports g c =
-    let fine = sent_none c.part_all-fault.result (partings_of c.as_slice.result.now) (all_told c.args.hands.now.parts.subjects.items) (all_told c.part_all-fault.new.subjects.items) (sym c.is_some.ensures ∙ c.if-is_some.false) c.part_all-fault.ensures in
-    same_ended (partings_of c.as_slice.result.now) c.args.hands.now.ended.items (all_told c.args.hands.now.parts.subjects.items) (all_told c.part_all-fault.new.subjects.items) c.finish_all.new.ended.items (all_told c.finish_all.new.ports.items)
-    (c.requires.open_ports refl) fine c.in-Ok.ensures.ended.0 (ap all_told c.in-Ok.ensures.ended.1)
+    let fine = sent_none c.part_all-fault.result (partings_of c.as_slice.result.now) (all_opened c.args.hands.now.parts.subjects.items) (all_opened c.part_all-fault.new.subjects.items) (sym c.is_some.ensures ∙ c.if-is_some.false) c.part_all-fault.ensures in
+    same_ended (partings_of c.as_slice.result.now) (opened_ports c.args.hands.now.ended.items) (all_opened c.args.hands.now.parts.subjects.items) (all_opened c.part_all-fault.new.subjects.items) (opened_ports c.finish_all.new.ended.items) (all_opened c.finish_all.new.ports.items)
+    (ap opened_ports (c.requires.open_ports refl)) fine (opened-ended c.args.hands.now.ended.items c.finish_all.new.ended.items (all_told c.part_all-fault.new.subjects.items) c.in-Ok.ensures.ended.0) (ap all_opened c.in-Ok.ensures.ended.1)
 
 pub returns-in-Ok-clause-handles : goal.returns-in-Ok-clause-handles
 returns-in-Ok-clause-handles g c =
-    let ended = c.args.hands.now.ended.items in
-    let a = all_told c.args.hands.now.parts.subjects.items in
-    let leave_is : c.args.leave ≡ length (ended ++ a) = omega (arith, c.requires.leave_is, length-append ended a, told-length c.args.hands.now.parts.subjects.items) in
-    let sends = subst (λ (kept : List (Kept _)). SendsEvents c.part_all-fault.result (partings_of kept) a (all_told c.part_all-fault.new.subjects.items)) c.as_slice.ensures.value c.part_all-fault.ensures in
-    let fine = sent_none c.part_all-fault.result (partings_of c.args.hands.now.kept.items) a (all_told c.part_all-fault.new.subjects.items) (sym c.is_some.ensures ∙ c.if-is_some.false) sends in (
+    let ended = opened_ports c.args.hands.now.ended.items in
+    let a = all_opened c.args.hands.now.parts.subjects.items in
+    let leave_is : c.args.leave ≡ length (ended ++ a) = omega (arith, c.requires.leave_is, length-append ended a, length-map c.args.hands.now.ended.items opened_port, opened-length c.args.hands.now.parts.subjects.items) in
+    let sends = subst (λ (kept : List (Kept _)). SendsEvents c.part_all-fault.result (partings_of kept) a (all_opened c.part_all-fault.new.subjects.items)) c.as_slice.ensures.value c.part_all-fault.ensures in
+    let fine = sent_none c.part_all-fault.result (partings_of c.args.hands.now.kept.items) a (all_opened c.part_all-fault.new.subjects.items) (sym c.is_some.ensures ∙ c.if-is_some.false) sends in (
       tt,
       λ log s. stands_left g.S.Sink.acts (length (ended ++ a)) log c.args.leave _ _ leave_is refl refl c.put_all_away.ensures.kept refl refl c.put_all_away.ensures.closes
-          (λ have. sent_ended (addressed (sent_in (length (ended ++ a)) log)) (partings_of c.args.hands.now.kept.items) ended a (all_told c.part_all-fault.new.subjects.items) c.finish_all.new.ended.items (all_told c.finish_all.new.ports.items)
-          (c.requires.open_ports refl) have fine c.in-Ok.ensures.ended.0 (ap all_told c.in-Ok.ensures.ended.1)) s,
+          (λ have. sent_ended (addressed (sent_in (length (ended ++ a)) log)) (partings_of c.args.hands.now.kept.items) ended a (all_opened c.part_all-fault.new.subjects.items) (opened_ports c.finish_all.new.ended.items) (all_opened c.finish_all.new.ports.items)
+          (ap opened_ports (c.requires.open_ports refl)) have fine (opened-ended c.args.hands.now.ended.items c.finish_all.new.ended.items (all_told c.part_all-fault.new.subjects.items) c.in-Ok.ensures.ended.0) (ap all_opened c.in-Ok.ensures.ended.1)) s,
     )
 
 pub returns-in-Err-clause-ports : goal.returns-in-Err-clause-ports
 returns-in-Err-clause-ports g c =
-    let fine = sent_none c.part_all-fault.result (partings_of c.as_slice.result.now) (all_told c.args.hands.now.parts.subjects.items) (all_told c.part_all-fault.new.subjects.items) (sym c.is_some.ensures ∙ c.if-is_some.false) c.part_all-fault.ensures in
-    same_half (partings_of c.as_slice.result.now) c.args.hands.now.ended.items (all_told c.args.hands.now.parts.subjects.items) (all_told c.part_all-fault.new.subjects.items) c.finish_all.new.ended.items (all_told c.finish_all.new.ports.items)
-    (c.requires.open_ports refl) fine c.in-Err.ensures.ended.0
+    let fine = sent_none c.part_all-fault.result (partings_of c.as_slice.result.now) (all_opened c.args.hands.now.parts.subjects.items) (all_opened c.part_all-fault.new.subjects.items) (sym c.is_some.ensures ∙ c.if-is_some.false) c.part_all-fault.ensures in
+    same_half (partings_of c.as_slice.result.now) (opened_ports c.args.hands.now.ended.items) (all_opened c.args.hands.now.parts.subjects.items) (all_opened c.part_all-fault.new.subjects.items) (opened_ports c.finish_all.new.ended.items) (all_opened c.finish_all.new.ports.items)
+    (ap opened_ports (c.requires.open_ports refl)) fine (opened-some (all_told c.part_all-fault.new.subjects.items) (all_told c.finish_all.new.ports.items) c.args.hands.now.ended.items c.finish_all.new.ended.items c.in-Err.ensures.ended.0)
 
 pub returns-in-Err-clause-handles : goal.returns-in-Err-clause-handles
 returns-in-Err-clause-handles g c =
-    let ended = c.args.hands.now.ended.items in
-    let a = all_told c.args.hands.now.parts.subjects.items in
-    let leave_is : c.args.leave ≡ length (ended ++ a) = omega (arith, c.requires.leave_is, length-append ended a, told-length c.args.hands.now.parts.subjects.items) in
-    let sends = subst (λ (kept : List (Kept _)). SendsEvents c.part_all-fault.result (partings_of kept) a (all_told c.part_all-fault.new.subjects.items)) c.as_slice.ensures.value c.part_all-fault.ensures in
-    let fine = sent_none c.part_all-fault.result (partings_of c.args.hands.now.kept.items) a (all_told c.part_all-fault.new.subjects.items) (sym c.is_some.ensures ∙ c.if-is_some.false) sends in
-    let place_is : c.in-Err.place ≡ length c.finish_all.new.ended.items = omega (arith, c.in-Err.ensures.ended.1) in (
+    let ended = opened_ports c.args.hands.now.ended.items in
+    let a = all_opened c.args.hands.now.parts.subjects.items in
+    let leave_is : c.args.leave ≡ length (ended ++ a) = omega (arith, c.requires.leave_is, length-append ended a, length-map c.args.hands.now.ended.items opened_port, opened-length c.args.hands.now.parts.subjects.items) in
+    let sends = subst (λ (kept : List (Kept _)). SendsEvents c.part_all-fault.result (partings_of kept) a (all_opened c.part_all-fault.new.subjects.items)) c.as_slice.ensures.value c.part_all-fault.ensures in
+    let fine = sent_none c.part_all-fault.result (partings_of c.args.hands.now.kept.items) a (all_opened c.part_all-fault.new.subjects.items) (sym c.is_some.ensures ∙ c.if-is_some.false) sends in
+    let place_is : c.in-Err.place ≡ length (opened_ports c.finish_all.new.ended.items) = omega (arith, c.in-Err.ensures.ended.1, c.finish_all.new.ended.ok.0, length-map c.finish_all.new.ended.items opened_port) in (
       tt,
       λ log s. stands_left g.S.Sink.acts (length (ended ++ a)) log c.args.leave _ _ leave_is refl refl c.put_all_away.ensures.kept refl refl c.put_all_away.ensures.closes
-          (λ have. sent_half c.in-Err.place (addressed (sent_in (length (ended ++ a)) log)) (partings_of c.args.hands.now.kept.items) ended a (all_told c.part_all-fault.new.subjects.items) c.finish_all.new.ended.items (all_told c.finish_all.new.ports.items)
-          (c.requires.open_ports refl) have fine c.in-Err.ensures.ended.0 place_is) s,
+          (λ have. sent_half c.in-Err.place (addressed (sent_in (length (ended ++ a)) log)) (partings_of c.args.hands.now.kept.items) ended a (all_opened c.part_all-fault.new.subjects.items) (opened_ports c.finish_all.new.ended.items) (all_opened c.finish_all.new.ports.items)
+          (ap opened_ports (c.requires.open_ports refl)) have fine (opened-some (all_told c.part_all-fault.new.subjects.items) (all_told c.finish_all.new.ports.items) c.args.hands.now.ended.items c.finish_all.new.ended.items c.in-Err.ensures.ended.0) place_is) s,
     )

@@ -1,9 +1,0 @@
-use Rattle.rx_mailbox.specs.Boxes.{all_told}
-use Rattle.rx_mailbox.specs.PortRows.{Puts}
-use Rattle.rx_drain.specs.Calls.{calls_to}
-use Rattle.rx_drain.proofs.Events.{requested}
-use Rattle.rx_drain.proofs.drainer.asks.send_asks.Given as goal
-
--- so many items were asked for
-abbrev pub invariant-loop : goal.invariant-loop
-invariant-loop g l = Puts (λ d. calls_to d (requested l.subject l.who l.counter)) (all_told l.initial.subjects.items) (all_told l.subjects.items)
