@@ -14,6 +14,7 @@ use Rattle.rx_pump.specs.declared.out.Out.{Out}
 use Rattle.rx_pump.specs.Opened.{opened_ports}
 use Rattle.rx_pump.specs.Pumps.{AreSame, port_place}
 use Rattle.rx_mailbox.specs.PortRows.{IsFresh}
+use Rattle.rx_pump.proofs.Asking.{AreSame-opened}
 use Rattle.rx_pump.proofs.Pumping.{HavePut-fresh, AreSame-length}
 use Rattle.rx_sink.specs.declared.kept.Kept.{Kept}
 use Rattle.rx_sink.specs.declared.put_away.PutAway.{PutAway}
@@ -266,6 +267,7 @@ module _ {S Rest : Type 0} (acts : Acts S Rest) where
             ports = ap (map port_place) (sym all);
             keeps = keeps;
           };
+          ports = sym (AreSame-opened end.ports.items) ∙ ap (map port_place) (sym all);
         },
       )
 
@@ -286,6 +288,7 @@ module _ {S Rest : Type 0} (acts : Acts S Rest) where
       each_bye = s.each_bye;
       over = λ each. over_before before after end.inbox none s.over each;
       places = record { box = s.places.box ∙ kept.box; count = s.places.count ∙ kept.count; ports = s.places.ports ∙ kept.ports; keeps = s.places.keeps ∙ kept.keeps };
+      ports = s.ports ∙ kept.ports;
     },
   )
 

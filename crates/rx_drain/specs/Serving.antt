@@ -5,6 +5,7 @@
 use Rattle.std.specs.Prelude.{◌≡◌, true, [], length, Some, None}
 use Rattle.rx_mailbox.specs.Boxes.{HasEachBye}
 use Rattle.rx_pump.specs.Opened.{opened_ports}
+use Rattle.rx_pump.specs.Pumps.{AreSame}
 use Rattle.rx_sink.specs.Acts.{Acts}
 use Rattle.rx_drain.specs.declared.drainer.drain_end.DrainEnd.{DrainEnd}
 use Rattle.rx_drain.specs.declared.drainer.drain_fault.DrainFault.{DrainFault}
@@ -36,6 +37,7 @@ module _ {S Rest : Type 0} (acts : Acts S Rest) where
     -- where each Bye had come before, no letter was waited for
     pub over : HasEachBye drainer.inbox → end.inbox ≡ drainer.inbox
     pub places : KeepsDrainer drainer (view_of_end end)
+    pub ports : AreSame drainer.ports end.ports.items
 
   -- there are such marks
   abbrev pub HasDrained : DrainerView S Rest → DrainEnd S Rest → Type 0

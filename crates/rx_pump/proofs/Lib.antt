@@ -3,6 +3,7 @@ pub mod Placing
 pub mod Putting
 pub mod Giving
 pub mod Asking
+pub mod Shares
 pub mod Calls
 pub mod Pumping
 pub mod Turning

@@ -34,7 +34,11 @@ module _ {S : Type 0} where
   pub opened-told : (callers from : ℕ) (post : Post (Call S)) → from < callers → opened_letter callers (letter from post) ≡ letter from post ∷ []
   opened-told callers from post less = ap (λ b. if b then letter from post ∷ [] else opened_post from post) (is_below from callers less)
 
-  -- what it stands for where no port is told replies
+  -- what one stands for that comes from a port that is told no replies
+  pub opened-unheard : (callers from : ℕ) (post : Post (Call S)) → callers ≤ from → opened_letter callers (letter from post) ≡ opened_post from post
+  opened-unheard callers from post more = ap (λ b. if b then letter from post ∷ [] else opened_post from post) (is_not_below from callers more)
+
+  -- the same where no port is told replies
   pub opened-silent : (from : ℕ) (post : Post (Call S)) → opened_letter 0 (letter from post) ≡ opened_post from post
   opened-silent from post = ap (λ b. if b then letter from post ∷ [] else opened_post from post) (is_not_below from 0 (omega arith))
 

@@ -1,6 +1,7 @@
 -- What arrived of a server's letters once it is closed.
-use Rattle.std.proofs.Common.{◌≡◌, ◌∙◌, sym, ap, subst, ℕ, zero, suc, ◌==◌, List, [], ◌∷◌, ◌++◌, length, Some, slice_get}
+use Rattle.std.proofs.Common.{◌≡◌, ◌∙◌, sym, ap, subst, ℕ, zero, suc, ◌==◌, List, [], ◌∷◌, ◌++◌, append-nil, length, Some, slice_get}
 use Rattle.std.proofs.lemmas.List.Elements.{All-contains, All-head, All-tail, filter-append}
+use Rattle.std.proofs.lemmas.Option.{slice_get_within}
 use Rattle.std.specs.List.{All, AllZip, zip}
 use Rattle.rx_mailbox.specs.declared.letter.Post.TheVariants.{Bye}
 use Rattle.rx_mailbox.specs.declared.letter.Letter.{Letter}
@@ -13,7 +14,10 @@ use Rattle.rx_pump.specs.declared.call_desk.ended_desk.EndedDesk.{EndedDesk}
 use Rattle.rx_pump.specs.declared.out.Out.{Out}
 use Rattle.rx_pump.specs.declared.pump.pump_end.PumpEnd.{PumpEnd}
 use Rattle.rx_pump.specs.declared.reply.Reply.{Reply}
-use Rattle.rx_pump.specs.Marks.{Marked, route}
+use Rattle.rx_pump.specs.Marks.{Marked, letters_of, route}
+use Rattle.rx_pump.specs.Opened.{opened}
+use Rattle.rx_pump.proofs.Pumping.{AreSame-length}
+use Rattle.rx_pump.proofs.Shares.{share-opened, silent-share, told-share}
 use Rattle.rx_pump.specs.Pumps.{PumpView}
 use Rattle.rx_pump.specs.Serving.{PumpServes}
 use Rattle.rx_drain.specs.declared.drainer.drain_end.DrainEnd.{DrainEnd}
@@ -63,7 +67,9 @@ arrives {S = S} acts server ended report closes i pump end B box at_pump at_end 
     let same = zip-at (λ (end : PumpEnd S) (box : SettledView (Call S)). inbox_in box ≡ end.inbox) closes.pump_ends report.boxes.subjects.items i end box settled.of_pumps at_end at_box in
     let answers_got = all-at (λ (end : PumpEnd S). GotEach report.boxes.replies.items end.replies.items) closes.pump_ends i end settled.to_desks at_end in
     record {
-      letters = serves.accounts.letters ∙ sym (ap (λ inbox. inbox.received) same);
+      letters = sym (append-nil (letters_of B)) ∙ serves.accounts.letters
+          ∙ ap (λ n. opened n end.inbox.received) (sym (AreSame-length pump.replies end.replies.items serves.callers))
+          ∙ ap (λ inbox. opened (length end.replies.items) inbox.received) (sym same);
       routes = λ d port outs at_port at_outs. route_came acts server ended report closes i pump end B at_pump at_end at_marks d port outs at_port at_outs;
       replied = λ w port answers at_port at_answers.
           zip-at (λ (box : SettledView (Reply S)) (port : Outgoing (Reply S)). GotAll (inbox_in box) port) report.boxes.replies.items end.replies.items w answers port answers_got at_answers at_port
@@ -81,7 +87,8 @@ answered {S = S} acts server ended report closes i pump end B box at_pump at_end
     let number : port.number ≡ told.number = all-at (λ (one : Outgoing (Call S)). one.number ≡ told.number) desk.ports.items i port told.ports at_port in
     let stood : slice_get report.boxes.replies.items port.number ≡ Some told.box = ap (slice_get report.boxes.replies.items) number ∙ told.stood in
     record {
-      calls = ap (share port.number) arrived.letters ∙ mine;
+      calls = ap (share port.number) arrived.letters ∙ share-opened port.number (length end.replies.items) box.received
+          ∙ told-share port.number (length end.replies.items) box.received (slice_get_within end.replies.items port.number back at_back) ∙ mine;
       more = share back.number told.received.more;
       came =
           sym (filter-append (λ (x : Letter (Reply S)). x.from == back.number) desk.inbox.received told.received.more)
@@ -93,5 +100,9 @@ pub requested : {S Rest : Type 0} (acts : Acts S Rest) → EachRequestArrives ac
 requested {S = S} {Rest = Rest} acts server ended report closes i pump end B box at_pump at_end at_marks at_box drainer port within at_port =
     let arrived = arrives acts server ended report closes i pump end B box at_pump at_end at_marks at_box in
     let got = All-contains (λ (one : DrainEnd S Rest). GotEach report.boxes.subjects.items one.ports.items) closes.drain_ends drainer closes.settled.by_drainers within in
-    ap (share port.number) arrived.letters
-    ∙ zip-at (λ (box : SettledView (Call S)) (port : Outgoing (Call S)). GotAll (inbox_in box) port) report.boxes.subjects.items drainer.ports.items i box port got at_box at_port
+    let callers = length end.replies.items in
+    let mine = zip-at (λ (box : SettledView (Call S)) (port : Outgoing (Call S)). GotAll (inbox_in box) port) report.boxes.subjects.items drainer.ports.items i box port got at_box at_port in
+    let first = ap (share port.number) arrived.letters ∙ share-opened port.number callers box.received in (
+      first ∙ ap (opened callers) mine,
+      λ silent. first ∙ silent-share port.number callers box.received silent ∙ ap (opened 0) mine,
+    )

@@ -88,7 +88,7 @@ module _ {S Rest : Type 0} (acts : Acts S Rest) (w : Wiring S) (keeps : Bool) wh
   drainer-rows k from [] (end ∷ ends) is all = absurd all
   drainer-rows k from (box ∷ boxes) [] is all = absurd all
   drainer-rows k from (box ∷ boxes) (end ∷ ends) is all = (
-    row-stays (length w.subjects) from (ports_at (length w.replies + k) w.subjects) end.ports.items all.0.1.places.ports (subst (λ n. IsRow {B = Call S} (length w.subjects) n (ports_at (length w.replies + k) w.subjects)) is (row-new (length w.replies + k) w.subjects)),
+    row-stays (length w.subjects) from (ports_at (length w.replies + k) w.subjects) end.ports.items all.0.1.ports (subst (λ n. IsRow {B = Call S} (length w.subjects) n (ports_at (length w.replies + k) w.subjects)) is (row-new (length w.replies + k) w.subjects)),
     drainer-rows (k + 1) (from + 1) boxes ends (omega (arith, is)) all.1,
   )
 

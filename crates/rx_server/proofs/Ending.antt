@@ -138,7 +138,7 @@ module _ {S Rest : Type 0} (acts : Acts S Rest) (server : ServerView S Rest) (wh
         drainers_done = zip-all (drainer_serving.HasDrained acts) (λ drainer. AreRow w.subjects drainer.ports) (λ end. HasEachBye end.inbox) server.drainers left.drainers.items
             (λ drainer end serves has. serves.1.each_bye) drained drainer_rows;
         to_subjects = zip-all (drainer_serving.HasDrained acts) (λ drainer. AreRow w.subjects drainer.ports) (λ end. AreRow w.subjects end.ports.items) server.drainers left.drainers.items
-            (λ drainer end serves has. row-same w.subjects drainer.ports end.ports.items serves.1.places.ports has) drained drainer_rows;
+            (λ drainer end serves has. row-same w.subjects drainer.ports end.ports.items serves.1.ports has) drained drainer_rows;
         leaves = subst (AreRow w.drainers) (sym leaves) (row-bye w.drainers server.leaves (subst (AreRow w.drainers) (sym whole.wired.leaves_are) (row-new (length w.subjects) w.drainers)));
         desks = All-append (HasItsBoxes w) ended left.desks.items (All-weaker (IsEndOf server.made) (HasItsBoxes w) boxes ended handed)
             (subst (All (HasItsBoxes w)) (sym desks) (All-weaker (IsEndOf server.made) (HasItsBoxes w) boxes (server.kept ++ more) (All-append (IsEndOf server.made) server.kept more whole.ended finished)));
