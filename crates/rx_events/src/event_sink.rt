@@ -19,10 +19,6 @@ use rx_note::Note;
 use rx_sink::{Flow, LineRest, Sink, SinkFault};
 use std::io::{ErrorKind, Write};
 
-// How many notes a writer that gathers may hold and the sink still asks for more at once. What is outside its subject is this
-// and a window at most.
-const MOST_AHEAD: u32 = 48;
-
 /// A sink that tells its notes as events: when it is started it writes the head of the answer and where its reader begins, and then
 /// what each note is to that reader. A note whose item its reader knows already is passed over: nothing is written, and it is taken
 /// like any other. A write that fails or takes no byte is a fault; the writer then has a front of what was to be written. So is a
@@ -163,17 +159,10 @@ impl<W: Write + Drop> EventSink<W> {
         ensures answer { result ≡ flow_behind self.old.gathers self.old.stuck self.new.ahead }
         ensures rest { self.new ≡ record self.old { ahead = ahead_after told self.old.gathers self.old.ahead } }
     {
-        if !self.gathers {
-            return Flow::Clear;
-        }
-        if told {
+        if self.gathers && told {
             self.ahead = self.ahead.saturating_add(1);
         }
-        if self.stuck || self.ahead > MOST_AHEAD {
-            Flow::Stuck
-        } else {
-            Flow::Ready
-        }
+        Flow::behind(self.gathers, self.stuck, self.ahead)
     }
 
     /// The writer of a sink that came back.

@@ -1,3 +1,17 @@
+// 48 lines ahead. A sink over a writer that gathers asks for the next items until 48 lines were written since nothing waited,
+// unless it was found stuck. So one write can hold more notes than a window, and what is outside its subject for a slow peer is
+// 64 notes at most. It asks behind each eighth line for those of eight, so that they go as one letter, and its flush pays for the
+// rest.
+ghost use Rattle.std.specs.Prelude.{◌≡◌};
+ghost use Rattle.rx_sink.specs.Kinds.{flow_behind};
+
+// How many lines a writer that gathers may hold and the sink still asks for more. What is outside its subject is this and a window
+// at most.
+const MOST_AHEAD: u32 = 48;
+
+// Behind so many lines items are asked for in their place: half a window, so that others are on the way meanwhile.
+const TOGETHER: u32 = 8;
+
 /// How a sink stands once it took a note or was flushed.
 #[derive(Clone, Copy, Debug, PartialEq, Eq)]
 pub enum Flow {
@@ -10,4 +24,22 @@ pub enum Flow {
     /// None is asked for yet in the place of those that it took: its reader asks for items itself, or several are to be asked for
     /// together. A flush answers so only where nothing waits.
     Held,
+}
+
+impl Flow {
+    /// How a sink stands behind a line: by whether its writer gathers what it is given, whether a flush found it stuck, and how many
+    /// lines were written since nothing waited, this one counted.
+    pub fn behind(gathers: bool, stuck: bool, ahead: u32) -> Flow
+        ensures { result ≡ flow_behind gathers stuck ahead }
+    {
+        if !gathers {
+            Flow::Clear
+        } else if stuck || ahead > MOST_AHEAD {
+            Flow::Stuck
+        } else if ahead % TOGETHER == 0 {
+            Flow::Ready
+        } else {
+            Flow::Held
+        }
+    }
 }

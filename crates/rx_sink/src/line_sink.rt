@@ -1,8 +1,3 @@
-// 48 lines ahead. A sink over a writer that gathers asks for the next items until 48 lines were written since nothing waited,
-// unless it was found stuck (`LineSink::gathering`). So one write can hold more notes than a window, and what is outside its
-// subject for a slow peer is 64 notes at most. It asks behind each eighth line for those of eight, so that they go as one letter,
-// and its flush pays for the rest.
-//
 // A sink's line is put together on the stack and written by one `write`, since sinks travel in letters and a buffer in them
 // would be moved with each.
 ghost use Rattle.std.specs.Prelude.{◌≡◌, true, false};
@@ -12,13 +7,6 @@ use crate::{Flow, LineRest, Sink, SinkFault};
 use rx_note::Note;
 use rx_proto::{Version, write_joined, write_note};
 use std::io::{ErrorKind, Write};
-
-// How many lines a writer that gathers may hold and the sink still asks for more at once. What is outside its subject is this
-// and a window at most.
-const MOST_AHEAD: u32 = 48;
-
-// Behind so many lines items are asked for in their place: half a window, so that others are on the way meanwhile.
-const TOGETHER: u32 = 8;
 
 /// A sink that writes a line when it is started, `JOINED` and the number of the observer, and then the line of each note
 /// in its version. A write that fails or takes no byte is a fault; the writer then has a front of the line. So is a flush that fails. A line
@@ -79,17 +67,10 @@ impl<W: Write + Drop> LineSink<W> {
         ensures answer { result ≡ flow_behind self.old.gathers self.old.stuck self.new.ahead }
         ensures rest { self.new ≡ record self.old { ahead = ahead_with_one self.old.gathers self.old.ahead } }
     {
-        if !self.gathers {
-            return Flow::Clear;
+        if self.gathers {
+            self.ahead = self.ahead.saturating_add(1);
         }
-        self.ahead = self.ahead.saturating_add(1);
-        if self.stuck || self.ahead > MOST_AHEAD {
-            Flow::Stuck
-        } else if self.ahead % TOGETHER == 0 {
-            Flow::Ready
-        } else {
-            Flow::Held
-        }
+        Flow::behind(self.gathers, self.stuck, self.ahead)
     }
 
     /// The writer of a sink that came back.

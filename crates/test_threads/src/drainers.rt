@@ -102,14 +102,17 @@ fn filled<S: Sink>(
     (drainer_of(rt, alloc, inbox, free, subject), calls)
 }
 
+// A request for several items stands for so many requests.
 fn put_event(told: &mut Told, event: &Event) {
-    let (sign, who) = match event {
-        Event::Request { who, n: 1 } => (b'r', *who),
-        Event::Dispose { who } => (b'd', *who),
-        _ => (b'?', 0),
+    let (sign, who, times) = match event {
+        Event::Request { who, n } => (b'r', *who, *n),
+        Event::Dispose { who } => (b'd', *who, 1),
+        _ => (b'?', 0, 1),
     };
-    told.put(sign);
-    told.put_digit(who as usize);
+    for _ in 0..times {
+        told.put(sign);
+        told.put_digit(who as usize);
+    }
 }
 
 /// Puts what one letter to a subject says.

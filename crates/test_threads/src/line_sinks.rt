@@ -207,16 +207,18 @@ fn told_flows(rt: &impl Abort, heap: &Heap, sink: LineSink<Dam>, taken: u32, sig
     told
 }
 
-// Nothing waits where the writer doesn't gather. Where it does, 48 notes are taken ahead of what went out, unless it is stuck.
+// Nothing waits where the writer doesn't gather. Where it does, 48 notes are taken ahead of what went out, unless it is stuck, and
+// behind each eighth of them items are asked for.
 #[test]
 fn a_line_sink_tells_what_waits(rt: HostRuntime) {
     let heap = unlimited(&rt);
     for (gathers, closed_for, taken, signs, wanted) in [
         (false, 0, 0, "af", "cc"),
         (false, 1, 0, "af", "c!"),
-        (true, 0, 0, "afa", "rcr"),
-        (true, 1, 0, "afafa", "rsscr"),
-        (true, 0, 47, "aafa", "rscr"),
+        (true, 0, 0, "afa", "hch"),
+        (true, 1, 0, "afafa", "hssch"),
+        (true, 0, 6, "aaafaa", "hrhchh"),
+        (true, 0, 47, "aafa", "rsch"),
     ] {
         let dam = Dam { closed_for };
         let sink = if gathers {
