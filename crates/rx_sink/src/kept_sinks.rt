@@ -14,6 +14,7 @@ use rx_note::Note;
 /// started; where there is no memory for the place it is left unserved too. It answers what its subject is to be asked, the
 /// observer being disposed of where there was no memory and where the start was a fault; and the sink that is left unserved, as
 /// it came: that is still to be finished.
+#[inline(never)] // rare, and who gives a note makes no room for it
 pub fn attach<S: Sink>(
     kept: &mut Vec<Kept<S>, Heap>,
     away: &mut Rests<S::Rest>,
@@ -113,6 +114,7 @@ pub fn flush_one<S: Sink>(
 
 /// An observer left: its sink is put away, if one is kept. It answers what the subject is to be asked: one item more for each
 /// that is due, and where the sink took a terminal that the observer be disposed of.
+#[inline(never)] // the same
 pub fn detach<S: Sink>(
     kept: &mut Vec<Kept<S>, Heap>,
     away: &mut Rests<S::Rest>,
@@ -175,6 +177,7 @@ fn end_act<S: Sink>(
 
 // Moves the sink at this place to those that were put away. It answers that all is to be asked for that is due, and whether
 // the observer is to be let go.
+#[inline(never)] // a sink goes but once
 fn part<S: Sink>(
     kept: &mut Vec<Kept<S>, Heap>,
     away: &mut Rests<S::Rest>,

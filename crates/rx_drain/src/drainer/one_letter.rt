@@ -247,6 +247,7 @@ pub(crate) fn handle_rest<S: Sink, R: Wait>(
 
 // Does what a Bye asks: the first of the leave port has the drainer leave. What waits in the sinks goes out before that, as
 // far as it can within about a quarter of a second.
+#[inline(never)] // once for each port
 fn hear_bye<S: Sink, R: Wait>(
     rt: &R,
     hands: &mut DrainerLeft<S>,
