@@ -345,20 +345,30 @@ enum Joined {
 fn ask_to_join<F: Files + Net>(rt: &F, heap: &Heap, path: &str, line: &[u8]) -> io::Result<Joined> {
     let server = Epoch::at(rt, path)?;
     let mut connection = Connection::to(rt, heap, path)?;
+    match refusal_of(&mut connection, heap, line)? {
+        Some(refused) => Ok(Joined::Refused(refused)),
+        None if Epoch::at(rt, path)? == server => Ok(Joined::Yes(connection, server)),
+        None => Err(io::Error::from(ErrorKind::ConnectionReset)),
+    }
+}
+
+// What refuses who joins by this line. None where it has joined.
+fn refusal_of(
+    connection: &mut Connection,
+    heap: &Heap,
+    line: &[u8],
+) -> io::Result<Option<Vec<u8, Heap>>> {
+    send_join(connection, line)?;
+    match other_than(connection.line()?, b"OK", heap)? {
+        None => other_than(connection.line()?, b"JOINED ", heap),
+        refused => Ok(refused),
+    }
+}
+
+fn send_join(connection: &mut Connection, line: &[u8]) -> io::Result<()> {
     connection.send(b"HELLO 2\n")?;
     connection.send(line)?;
-    connection.send(b"\n")?;
-    if let Some(refused) = other_than(connection.line()?, b"OK", heap)? {
-        return Ok(Joined::Refused(refused));
-    }
-    if let Some(refused) = other_than(connection.line()?, b"JOINED ", heap)? {
-        return Ok(Joined::Refused(refused));
-    }
-    if Epoch::at(rt, path)? == server {
-        Ok(Joined::Yes(connection, server))
-    } else {
-        Err(io::Error::from(ErrorKind::ConnectionReset))
-    }
+    connection.send(b"\n")
 }
 
 // An answer that does not begin as it is to.
