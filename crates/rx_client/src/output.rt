@@ -25,8 +25,8 @@ fn put_plain(block: &mut Vec<u8, Heap>, told: &Told<'_>) -> Result<(), Memory>
 {
     match told {
         Told::Item { text, .. } | Told::Seed(text) => {
-            block.extend_from_slice(text)?;
-            block.push(b'\n')?;
+            put_word(block, text)?;
+            put_word(block, b"\n")?;
         }
         Told::Missed { .. }
         | Told::MissedFrom(_)
@@ -42,8 +42,7 @@ fn put_json(block: &mut Vec<u8, Heap>, told: &Told<'_>) -> Result<(), Memory>
     ensures { OnOk result ((line : List ℕ) × Prints Format.Json told.now line × (block.new.items ≡ block.old.items ++ line)) }
 {
     put_members(block, told)?;
-    block.extend_from_slice(b"}\n")?;
-    Ok(())
+    put_word(block, b"}\n")
 }
 
 // The members of an object, without its last brace.
@@ -87,7 +86,8 @@ fn put_missed_from(block: &mut Vec<u8, Heap>, first: u64) -> Result<(), Memory>
     Ok(())
 }
 
-fn put_word(block: &mut Vec<u8, Heap>, word: &[u8]) -> Result<(), Memory>
+/// Puts these bytes.
+pub(crate) fn put_word(block: &mut Vec<u8, Heap>, word: &[u8]) -> Result<(), Memory>
     ensures { OnOk result (block.new.items ≡ block.old.items ++ word.now) }
 {
     block.extend_from_slice(word)?;
@@ -97,16 +97,15 @@ fn put_word(block: &mut Vec<u8, Heap>, word: &[u8]) -> Result<(), Memory>
 fn put_number(block: &mut Vec<u8, Heap>, key: &[u8], number: u64) -> Result<(), Memory>
     ensures { OnOk result (block.new.items ≡ block.old.items ++ (key.now ++ decimal number)) }
 {
-    block.extend_from_slice(key)?;
-    block.extend_from_slice(Buffer::new().format(number).as_bytes())?;
-    Ok(())
+    put_word(block, key)?;
+    put_word(block, Buffer::new().format(number).as_bytes())
 }
 
 // A text under the key `text`, or, where it is no UTF-8, its bytes in hexadecimal digits under the key `hex`.
 fn put_text(block: &mut Vec<u8, Heap>, before: &[u8], text: &[u8]) -> Result<(), Memory>
     ensures { OnOk result ((said : List ℕ) × Quotes text.now said × (block.new.items ≡ block.old.items ++ (before.now ++ said))) }
 {
-    block.extend_from_slice(before)?;
+    put_word(block, before)?;
     if str::from_utf8(text).is_ok() {
         put_quoted(block, text)
     } else {
@@ -117,23 +116,21 @@ fn put_text(block: &mut Vec<u8, Heap>, before: &[u8], text: &[u8]) -> Result<(),
 fn put_quoted(block: &mut Vec<u8, Heap>, text: &[u8]) -> Result<(), Memory>
     ensures { OnOk result (block.new.items ≡ block.old.items ++ in_quotes text.now) }
 {
-    block.extend_from_slice(b"\"text\":\"")?;
+    put_word(block, b"\"text\":\"")?;
     for byte in text {
         put_escaped(block, *byte)?;
     }
-    block.push(b'"')?;
-    Ok(())
+    put_word(block, b"\"")
 }
 
 fn put_hex(block: &mut Vec<u8, Heap>, text: &[u8]) -> Result<(), Memory>
     ensures { OnOk result (block.new.items ≡ block.old.items ++ in_hex text.now) }
 {
-    block.extend_from_slice(b"\"hex\":\"")?;
+    put_word(block, b"\"hex\":\"")?;
     for byte in text {
         put_digits(block, *byte)?;
     }
-    block.push(b'"')?;
-    Ok(())
+    put_word(block, b"\"")
 }
 
 // A byte of a text between quotes: quotes, the backslash and control characters are escaped.

@@ -2,6 +2,7 @@
 ghost use Rattle.std.specs.Prelude.{◌≡◌, ◌++◌, IfOk, OnOk};
 ghost use Rattle.rx_client.specs.Requests.{IsNoSub, IsSub, pub_line, sub_words};
 
+use crate::output::put_word;
 use rx_heap::{Heap, Memory};
 use rx_proto::{Command, LineError, parse_line};
 
@@ -44,11 +45,11 @@ fn sub_words(
     ensures { IfOk result (λ line. line.items ≡ sub_words subject.now strategy.now errors.now) }
 {
     let mut line = Vec::from_slice(heap.clone()?, b"SUB ")?;
-    line.extend_from_slice(subject.as_bytes())?;
-    line.extend_from_slice(b" ")?;
-    line.extend_from_slice(strategy.as_bytes())?;
-    line.extend_from_slice(b" ")?;
-    line.extend_from_slice(errors.as_bytes())?;
+    put_word(&mut line, subject.as_bytes())?;
+    put_word(&mut line, b" ")?;
+    put_word(&mut line, strategy.as_bytes())?;
+    put_word(&mut line, b" ")?;
+    put_word(&mut line, errors.as_bytes())?;
     Ok(line)
 }
 
@@ -57,10 +58,9 @@ fn sub_words(
 pub(crate) fn put_pub(block: &mut Vec<u8, Heap>, subject: &[u8], input: &[u8]) -> Result<(), Memory>
     ensures { OnOk result (block.new.items ≡ block.old.items ++ pub_line subject.now input.now) }
 {
-    block.extend_from_slice(b"PUB ")?;
-    block.extend_from_slice(subject)?;
-    block.extend_from_slice(b" ")?;
-    block.extend_from_slice(input)?;
-    block.push(b'\n')?;
-    Ok(())
+    put_word(block, b"PUB ")?;
+    put_word(block, subject)?;
+    put_word(block, b" ")?;
+    put_word(block, input)?;
+    put_word(block, b"\n")
 }
