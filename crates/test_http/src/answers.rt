@@ -1,5 +1,6 @@
 //! Answers to requests, each byte for byte.
 
+use crate::expectations::expect_told;
 use rx_heap::Heap;
 use rx_http::{Answer, Document, Epoch, LookForm, Refusal, write_answer};
 use std::test::Fail;
@@ -29,21 +30,21 @@ pub(crate) enum Answered {
 
 impl Answered {
     fn answer(self, heap: &Heap) -> Result<Answer, Fail> {
-        Ok(match self {
-            Answered::Events => Answer::Events,
-            Answered::Over => Answer::Over,
-            Answered::Well => Answer::Well,
-            Answered::Unwell => Answer::Unwell,
-            Answered::Accepted(place) => accepted(place, false)?,
-            Answered::Again(place) => accepted(place, true)?,
-            Answered::Stats => shown(heap, LookForm::Stats, b"{}\n")?,
-            Answered::Metrics => shown(heap, LookForm::Metrics, b"a 1\n")?,
-            Answered::Lines => shown(heap, LookForm::Lines, b"s open\n")?,
-            Answered::Page => shown(heap, LookForm::Page, b"<p>s\n")?,
-            Answered::Requested => Answer::Requested,
-            Answered::Stops => Answer::Stops,
-            Answered::Refused(cause) => Answer::Refused(cause),
-        })
+        match self {
+            Answered::Events => Ok(Answer::Events),
+            Answered::Over => Ok(Answer::Over),
+            Answered::Well => Ok(Answer::Well),
+            Answered::Unwell => Ok(Answer::Unwell),
+            Answered::Accepted(place) => accepted(place, false),
+            Answered::Again(place) => accepted(place, true),
+            Answered::Stats => shown(heap, LookForm::Stats, b"{}\n"),
+            Answered::Metrics => shown(heap, LookForm::Metrics, b"a 1\n"),
+            Answered::Lines => shown(heap, LookForm::Lines, b"s open\n"),
+            Answered::Page => shown(heap, LookForm::Page, b"<p>s\n"),
+            Answered::Requested => Ok(Answer::Requested),
+            Answered::Stops => Ok(Answer::Stops),
+            Answered::Refused(cause) => Ok(Answer::Refused(cause)),
+        }
     }
 }
 
@@ -240,13 +241,18 @@ pub(crate) fn bytes_of(answer: Answered) -> &'static [u8] {
     b"no such answer"
 }
 
+// What is written of an answer.
+fn written(heap: &Heap, answer: Answered) -> Result<Vec<u8, Heap>, Fail> {
+    let mut written = Vec::new(heap.clone()?);
+    write_answer(&mut written, answer.answer(heap)?)?;
+    Ok(written)
+}
+
 #[test]
 fn answers_as_their_bytes(rt: HostRuntime) -> Result<(), Fail> {
     let heap = Heap::unlimited(rt.alloc());
-    for (i, (answer, bytes)) in answers().iter().enumerate() {
-        let mut written = Vec::new(heap.clone()?);
-        write_answer(&mut written, answer.answer(&heap)?)?;
-        assert_eq!(rt; written.as_slice(), *bytes, "answer {i}");
+    for (row, (answer, bytes)) in answers().iter().enumerate() {
+        expect_told(&rt, written(&heap, *answer)?.as_slice(), bytes, row);
     }
     Ok(())
 }

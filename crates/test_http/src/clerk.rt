@@ -169,6 +169,26 @@ fn place_of(kind: NoteKind) -> Option<u32> {
     }
 }
 
+/// Gives the exchange its turns until it is over. How it ended, and whether the writer is back with these bytes.
+pub(crate) fn answer_of(
+    drips: &mut Drips<'_>,
+    page: Page,
+    clerk: &mut Clerk,
+    max_reads: u64,
+    bytes: &[u8],
+) -> Result<(SessionEnd, bool), Fail> {
+    let (end, back) = serve(drips, page, clerk, max_reads)?;
+    Ok((end, has(&back, bytes)))
+}
+
+/// Whether a writer is back that has these bytes.
+pub(crate) fn has(back: &Option<Page>, bytes: &[u8]) -> bool {
+    match back {
+        Some(page) => page.held.as_slice() == bytes,
+        None => false,
+    }
+}
+
 /// Gives the exchange its turns until it is over. How it ended, and the writer, if that is back.
 pub(crate) fn serve(
     drips: &mut Drips<'_>,

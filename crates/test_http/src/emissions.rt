@@ -1,8 +1,9 @@
 //! Exchanges that emit: what the server is asked for, however the reads are cut, and at the limit of a request.
 
 use crate::answers::{Answered, bytes_of};
-use crate::clerk::{clerk_of, serve};
+use crate::clerk::{Clerk, answer_of, clerk_of};
 use crate::drips::{Drips, Page};
+use crate::expectations::{expect_count, expect_end, expect_that, expect_words};
 use rx_heap::{Heap, Memory};
 use rx_http::{NoteKind, Refusal};
 use rx_session::SessionEnd;
@@ -78,26 +79,51 @@ fn emitted_table() -> &'static [(&'static [u8], NoteKind, &'static [u8], Answere
     EMITTED
 }
 
+// What is wrong with how a server was asked once to emit; nothing where it was asked for this.
+fn fault_of(clerk: &Clerk, kind: NoteKind, text: &[u8]) -> &'static str {
+    if clerk.asked != 1 {
+        return "not asked once";
+    }
+    if clerk.kind != Some(kind) {
+        return "another kind";
+    }
+    if clerk.text.as_slice() != text {
+        return "another text";
+    }
+    ""
+}
+
+// How a connection ends that gives so many bytes at a time, and what is wrong with its answer and with what the server was asked for.
+// Each other read would block where the bytes are an even number.
+fn emitted_by(
+    heap: &Heap,
+    bytes: &[u8],
+    step: usize,
+    kind: NoteKind,
+    text: &[u8],
+    told: Answered,
+) -> Result<(SessionEnd, &'static str), Fail> {
+    let mut drips = Drips::new(bytes, step);
+    if step % 2 == 0 {
+        drips.between = Some(ErrorKind::WouldBlock);
+    }
+    let mut clerk = clerk_of(heap, true, None)?;
+    let page = Page::new(heap.clone()?, 0);
+    let (end, is_told) = answer_of(&mut drips, page, &mut clerk, 1000, bytes_of(told))?;
+    if !is_told {
+        return Ok((end, "another answer"));
+    }
+    Ok((end, fault_of(&clerk, kind, text)))
+}
+
 #[test]
 fn emitted_at_each_cut(rt: HostRuntime) -> Result<(), Fail> {
     let heap = Heap::unlimited(rt.alloc());
-    for (i, (bytes, kind, text, told)) in emitted_table().iter().enumerate() {
+    for (row, (bytes, kind, text, told)) in emitted_table().iter().enumerate() {
         for step in 1..=bytes.len() {
-            let mut drips = Drips::new(bytes, step);
-            if step % 2 == 0 {
-                drips.between = Some(ErrorKind::WouldBlock);
-            }
-            let mut clerk = clerk_of(&heap, true, None)?;
-            let page = Page::new(heap.clone()?, 0);
-            let (end, back) = serve(&mut drips, page, &mut clerk, 1000)?;
-            assert_eq!(rt; end, SessionEnd::Quit, "row {i} by {step}");
-            let Some(page) = back else {
-                return Err(Fail::from("the writer is gone"));
-            };
-            assert_eq!(rt; page.held.as_slice(), bytes_of(*told), "row {i} by {step}");
-            assert_eq!(rt; clerk.asked, 1, "row {i} by {step}");
-            assert!(rt; clerk.kind == Some(*kind), "row {i} by {step}");
-            assert_eq!(rt; clerk.text.as_slice(), *text, "row {i} by {step}");
+            let (end, fault) = emitted_by(&heap, bytes, step, *kind, text, *told)?;
+            expect_end(&rt, end, SessionEnd::Quit, row, step);
+            expect_words(&rt, fault, row, step);
         }
     }
     Ok(())
@@ -119,29 +145,30 @@ fn emission_of(heap: &Heap, len: usize) -> Result<Vec<u8, Heap>, Memory> {
     Ok(bytes)
 }
 
+// Whether a request is answered so, and how many bytes of text the server was asked to emit.
+fn taken_of(heap: &Heap, bytes: &[u8], told: Answered) -> Result<(bool, usize), Fail> {
+    let mut clerk = clerk_of(heap, true, None)?;
+    let page = Page::new(heap.clone()?, 0);
+    let mut drips = Drips::new(bytes, 100);
+    let (_, is_told) = answer_of(&mut drips, page, &mut clerk, 1000, bytes_of(told))?;
+    Ok((is_told, clerk.text.len()))
+}
+
+// The bytes of a request, its answer, and how many bytes of text are emitted.
+const LIMITS: [(usize, Answered, u64); 2] = [
+    (8_192, Answered::Accepted(Some(0)), 1_024),
+    (8_193, Answered::Refused(Refusal::Long), 0),
+];
+
 #[test]
 fn requests_at_their_limit(rt: HostRuntime) -> Result<(), Fail> {
     let heap = Heap::unlimited(rt.alloc());
-    let rows = [
-        (8_192, Answered::Accepted(Some(0)), 1_024),
-        (8_193, Answered::Refused(Refusal::Long), 0),
-    ];
-    for (len, told, taken) in rows {
-        let bytes = emission_of(&heap, len)?;
-        assert_eq!(rt; bytes.len(), len);
-        let mut clerk = clerk_of(&heap, true, None)?;
-        let page = Page::new(heap.clone()?, 0);
-        let (_, back) = serve(
-            &mut Drips::new(bytes.as_slice(), 100),
-            page,
-            &mut clerk,
-            1000,
-        )?;
-        let Some(page) = back else {
-            return Err(Fail::from("the writer is gone"));
-        };
-        assert_eq!(rt; page.held.as_slice(), bytes_of(told), "{len} bytes");
-        assert_eq!(rt; clerk.text.len(), taken, "{len} bytes");
+    for (len, told, taken) in &LIMITS {
+        let bytes = emission_of(&heap, *len)?;
+        expect_count(&rt, bytes.len() as u64, *len as u64, "bytes of a request");
+        let (is_told, text) = taken_of(&heap, bytes.as_slice(), *told)?;
+        expect_that(&rt, is_told, "what is answered");
+        expect_count(&rt, text as u64, *taken, "bytes of a text");
     }
     Ok(())
 }

@@ -1,6 +1,7 @@
 //! The streams by which the standard shows how they are read, and what it says of each.
 
-use crate::plain::read;
+use crate::expectations::expect_that;
+use crate::plain::{Reader, read};
 use rx_heap::Heap;
 use std::test::Fail;
 
@@ -61,20 +62,25 @@ fn examples() -> &'static [Example] {
     EXAMPLES
 }
 
+// Whether these are the messages that a reader has.
+fn has(reader: &Reader, messages: &[(&[u8], &[u8], &[u8])]) -> bool {
+    if reader.messages.len() != messages.len() {
+        return false;
+    }
+    for (message, (id, kind, text)) in reader.messages.iter().zip(messages) {
+        if !message.says(id, kind, text) {
+            return false;
+        }
+    }
+    true
+}
+
 #[test]
 fn examples_of_the_standard(rt: HostRuntime) -> Result<(), Fail> {
     let heap = Heap::unlimited(rt.alloc());
     for example in examples() {
         let reader = read(&heap, b"", example.stream)?;
-        assert_eq!(rt;
-            reader.messages.len(),
-            example.messages.len(),
-            "{}",
-            example.name
-        );
-        for (message, (id, kind, text)) in reader.messages.iter().zip(example.messages) {
-            assert!(rt; message.says(id, kind, text), "{}", example.name);
-        }
+        expect_that(&rt, has(&reader, example.messages), example.name);
     }
     Ok(())
 }

@@ -1,8 +1,9 @@
 //! Whole exchanges: what a connection is answered, or what the server is asked for it, however its reads are cut.
 
 use crate::answers::{Answered, bytes_of};
-use crate::clerk::{clerk_of, serve};
+use crate::clerk::{Clerk, answer_of, clerk_of, has, serve};
 use crate::drips::{Drips, Page};
+use crate::expectations::{expect_end, expect_row, expect_that, expect_told, expect_words};
 use rx_exchange::Exchange;
 use rx_heap::Heap;
 use rx_http::{Begin, Credit, Refusal};
@@ -10,6 +11,7 @@ use rx_note::{Errors, Policy, Strategy};
 use rx_session::{SessionEnd, Turn};
 use std::io::ErrorKind;
 use std::test::Fail;
+use test_kit::Told;
 
 /// Where a reader begins.
 #[derive(Clone, Copy)]
@@ -126,27 +128,31 @@ fn answered_table() -> &'static [(&'static [u8], Answered)] {
     ANSWERED
 }
 
+// How a connection ends that gives so many bytes at a time, and whether these are its answer. Each other read would block where
+// the bytes are an even number.
+fn answered_by(
+    heap: &Heap,
+    bytes: &[u8],
+    step: usize,
+    answer: &[u8],
+) -> Result<(SessionEnd, bool), Fail> {
+    let mut drips = Drips::new(bytes, step);
+    if step % 2 == 0 {
+        drips.between = Some(ErrorKind::WouldBlock);
+    }
+    let mut clerk = clerk_of(heap, true, None)?;
+    let page = Page::new(heap.clone()?, 2);
+    answer_of(&mut drips, page, &mut clerk, 1000, answer)
+}
+
 #[test]
 fn answered_at_each_cut(rt: HostRuntime) -> Result<(), Fail> {
     let heap = Heap::unlimited(rt.alloc());
-    for (i, (bytes, answer)) in answered_table().iter().enumerate() {
+    for (row, (bytes, answer)) in answered_table().iter().enumerate() {
         for step in 1..=bytes.len() {
-            let mut drips = Drips::new(bytes, step);
-            if step % 2 == 0 {
-                drips.between = Some(ErrorKind::WouldBlock);
-            }
-            let mut clerk = clerk_of(&heap, true, None)?;
-            let page = Page::new(heap.clone()?, 2);
-            let (end, back) = serve(&mut drips, page, &mut clerk, 1000)?;
-            assert_eq!(rt; end, SessionEnd::Quit, "row {i} by {step}");
-            let Some(page) = back else {
-                return Err(Fail::from("the writer is gone"));
-            };
-            assert_eq!(rt;
-                page.held.as_slice(),
-                bytes_of(*answer),
-                "row {i} by {step}"
-            );
+            let (end, is_answered) = answered_by(&heap, bytes, step, bytes_of(*answer))?;
+            expect_end(&rt, end, SessionEnd::Quit, row, step);
+            expect_row(&rt, is_answered, row);
         }
     }
     Ok(())
@@ -162,28 +168,33 @@ const CAUSES: [Refusal; 6] = [
     Refusal::Subject,
 ];
 
+// Whether a request is answered so by a server that is well or refuses each reader, and how often that was asked.
+fn served(
+    heap: &Heap,
+    request: &[u8],
+    well: bool,
+    cause: Option<Refusal>,
+    answer: Answered,
+) -> Result<(bool, u32), Fail> {
+    let mut clerk = clerk_of(heap, well, cause)?;
+    let page = Page::new(heap.clone()?, 0);
+    let mut drips = Drips::new(request, 100);
+    let (_, is_so) = answer_of(&mut drips, page, &mut clerk, 1000, bytes_of(answer))?;
+    Ok((is_so, clerk.asked))
+}
+
 #[test]
 fn refused_by_the_server(rt: HostRuntime) -> Result<(), Fail> {
     let heap = Heap::unlimited(rt.alloc());
     let request = b"GET /subjects/trades HTTP/1.1\r\n\r\n".as_slice();
-    for cause in CAUSES {
-        let mut clerk = clerk_of(&heap, true, Some(cause))?;
-        let page = Page::new(heap.clone()?, 0);
-        let (_, back) = serve(&mut Drips::new(request, 100), page, &mut clerk, 1000)?;
-        let Some(page) = back else {
-            return Err(Fail::from("the writer is gone"));
-        };
-        assert_eq!(rt; page.held.as_slice(), bytes_of(Answered::Refused(cause)));
-        assert_eq!(rt; clerk.asked, 1);
+    for (row, cause) in CAUSES.iter().enumerate() {
+        let refused = Answered::Refused(*cause);
+        let (is_so, asked) = served(&heap, request, true, Some(*cause), refused)?;
+        expect_row(&rt, is_so && asked == 1, row);
     }
-    let mut unwell = clerk_of(&heap, false, None)?;
     let request = b"GET /healthz HTTP/1.1\r\n\r\n".as_slice();
-    let page = Page::new(heap.clone()?, 0);
-    let (_, back) = serve(&mut Drips::new(request, 100), page, &mut unwell, 1000)?;
-    let Some(page) = back else {
-        return Err(Fail::from("the writer is gone"));
-    };
-    assert_eq!(rt; page.held.as_slice(), bytes_of(Answered::Unwell));
+    let (is_so, _) = served(&heap, request, false, None, Answered::Unwell)?;
+    expect_that(&rt, is_so, "unwell");
     Ok(())
 }
 
@@ -267,24 +278,50 @@ fn joined() -> &'static [(&'static [u8], Strategy, Errors, Credit, Place)] {
     JOINED
 }
 
+// What is wrong with how a server was asked once to have a reader join; nothing where it was asked for this.
+fn fault_of(clerk: &Clerk, policy: Policy, credit: Credit, place: &Place) -> &'static str {
+    if clerk.asked != 1 {
+        return "not asked once";
+    }
+    if clerk.credit != Some(credit) {
+        return "another credit";
+    }
+    if clerk.policy != Some(policy) {
+        return "another policy";
+    }
+    match &clerk.begin {
+        Some(begin) if place.is(begin) => "",
+        _ => "another begin",
+    }
+}
+
+// How a connection ends that gives so many bytes at a time, and what is wrong with what the server was asked for.
+fn joined_by(
+    heap: &Heap,
+    bytes: &[u8],
+    step: usize,
+    policy: Policy,
+    credit: Credit,
+    place: &Place,
+) -> Result<(SessionEnd, &'static str), Fail> {
+    let mut clerk = clerk_of(heap, true, None)?;
+    let page = Page::new(heap.clone()?, 0);
+    let (end, back) = serve(&mut Drips::new(bytes, step), page, &mut clerk, 1000)?;
+    if back.is_some() {
+        return Ok((end, "the writer is back"));
+    }
+    Ok((end, fault_of(&clerk, policy, credit, place)))
+}
+
 #[test]
 fn joined_at_each_cut(rt: HostRuntime) -> Result<(), Fail> {
     let heap = Heap::unlimited(rt.alloc());
-    for (i, (bytes, strategy, errors, credit, place)) in joined().iter().enumerate() {
+    for (row, (bytes, strategy, errors, credit, place)) in joined().iter().enumerate() {
+        let policy = Policy::new(*strategy, *errors)?;
         for step in 1..=bytes.len() {
-            let mut clerk = clerk_of(&heap, true, None)?;
-            let page = Page::new(heap.clone()?, 0);
-            let (end, back) = serve(&mut Drips::new(bytes, step), page, &mut clerk, 1000)?;
-            assert_eq!(rt; end, SessionEnd::HandedOver, "row {i} by {step}");
-            assert!(rt; back.is_none(), "row {i} by {step}");
-            assert_eq!(rt; clerk.asked, 1, "row {i} by {step}");
-            assert!(rt; clerk.credit == Some(*credit), "row {i} by {step}");
-            let policy = Policy::new(*strategy, *errors)?;
-            assert!(rt; clerk.policy == Some(policy), "row {i} by {step}");
-            let Some(begin) = &clerk.begin else {
-                return Err(Fail::from("nowhere"));
-            };
-            assert!(rt; place.is(begin), "row {i} by {step}");
+            let (end, fault) = joined_by(&heap, bytes, step, policy, *credit, place)?;
+            expect_end(&rt, end, SessionEnd::HandedOver, row, step);
+            expect_words(&rt, fault, row, step);
         }
     }
     Ok(())
@@ -330,102 +367,130 @@ fn ended_table() -> &'static [(&'static [u8], bool, u64, SessionEnd)] {
     ENDED
 }
 
+// How a connection ends that gives a byte at a time, whether the writer is back and has nothing, and how often the server was asked.
+fn ended_by(
+    heap: &Heap,
+    bytes: &[u8],
+    fails: bool,
+    max_reads: u64,
+) -> Result<(SessionEnd, bool, u32), Fail> {
+    let mut drips = Drips::new(bytes, 1);
+    drips.fails = fails;
+    let mut clerk = clerk_of(heap, true, None)?;
+    let page = Page::new(heap.clone()?, 0);
+    let (end, is_empty) = answer_of(&mut drips, page, &mut clerk, max_reads, b"")?;
+    Ok((end, is_empty, clerk.asked))
+}
+
 #[test]
 fn ended_without_an_answer(rt: HostRuntime) -> Result<(), Fail> {
     let heap = Heap::unlimited(rt.alloc());
-    for (i, (bytes, fails, max_reads, ended)) in ended_table().iter().enumerate() {
-        let mut drips = Drips::new(bytes, 1);
-        drips.fails = *fails;
-        let mut clerk = clerk_of(&heap, true, None)?;
-        let page = Page::new(heap.clone()?, 0);
-        let (end, back) = serve(&mut drips, page, &mut clerk, *max_reads)?;
-        assert_eq!(rt; end, *ended, "row {i}");
-        let Some(page) = back else {
-            return Err(Fail::from("the writer is gone"));
-        };
-        assert!(rt; page.held.is_empty(), "row {i}");
-        assert_eq!(rt; clerk.asked, 0, "row {i}");
+    for (row, (bytes, fails, max_reads, ended)) in ended_table().iter().enumerate() {
+        let (end, is_empty, asked) = ended_by(&heap, bytes, *fails, *max_reads)?;
+        expect_end(&rt, end, *ended, row, 1);
+        expect_row(&rt, is_empty && asked == 0, row);
     }
     Ok(())
 }
 
-/// What a turn came to.
-#[derive(Clone, Copy, Debug, PartialEq, Eq)]
-enum Shown {
-    Again,
-    Waits,
-    Stuck,
-    Over(SessionEnd),
+fn sign_of_end(end: SessionEnd) -> u8 {
+    match end {
+        SessionEnd::Quit => b'Q',
+        SessionEnd::EndOfInput => b'E',
+        SessionEnd::HandedOver => b'H',
+        SessionEnd::WriteFault => b'W',
+        SessionEnd::ReadFault => b'R',
+        SessionEnd::TooManyReads => b'M',
+    }
 }
 
-// What a turn came to, and the writer, if that is back.
-fn seen_of(turn: Turn<Page>) -> (Shown, Option<Page>) {
+// What a turn came to (`A` for one that goes on at once, `w` for one that waits for bytes, `s` for one whose answer waits, or the
+// end), and the writer, if that is back.
+fn seen_of(turn: Turn<Page>) -> (u8, Option<Page>) {
     match turn {
-        Turn::Again(page) => (Shown::Again, Some(page)),
-        Turn::Waits(page) => (Shown::Waits, Some(page)),
-        Turn::Stuck(page) => (Shown::Stuck, Some(page)),
-        Turn::Over(end, back) => (Shown::Over(end), back),
+        Turn::Again(page) => (b'A', Some(page)),
+        Turn::Waits(page) => (b'w', Some(page)),
+        Turn::Stuck(page) => (b's', Some(page)),
+        Turn::Over(end, back) => (sign_of_end(end), back),
     }
+}
+
+// What so many turns came to, and whether the writer is back at each, and at the last with these bytes. It fails from the second
+// turn on.
+fn told_turns(
+    heap: &Heap,
+    drips: &mut Drips<'_>,
+    turns: u32,
+    bytes: &[u8],
+) -> Result<(Told, bool), Fail> {
+    let mut told = Told::new();
+    let mut exchange = Exchange::new(1000);
+    let mut clerk = clerk_of(heap, true, None)?;
+    let mut writer = Page::new(heap.clone()?, 1);
+    for _ in 0..turns {
+        let (sign, back) = seen_of(exchange.turn(drips, writer, &mut clerk));
+        told.put(sign);
+        let Some(page) = back else {
+            return Ok((told, false));
+        };
+        writer = page;
+        writer.fails = true;
+    }
+    Ok((told, writer.held.as_slice() == bytes))
 }
 
 #[test]
 fn an_answer_that_waits(rt: HostRuntime) -> Result<(), Fail> {
     let heap = Heap::unlimited(rt.alloc());
-    let mut exchange = Exchange::new(1000);
-    let mut clerk = clerk_of(&heap, true, None)?;
     let mut drips = Drips::new(b"GET /healthz HTTP/1.1\r\n\r\nmore", 20);
     drips.between = Some(ErrorKind::WouldBlock);
-    let mut writer = Page::new(heap.clone()?, 1);
-    let turns = [
-        Shown::Waits,
-        Shown::Again,
-        Shown::Waits,
-        Shown::Stuck,
-        Shown::Over(SessionEnd::WriteFault),
-    ];
-    for (i, wanted) in turns.iter().enumerate() {
-        let (seen, back) = seen_of(exchange.turn(&mut drips, writer, &mut clerk));
-        assert_eq!(rt; seen, *wanted, "turn {i}");
-        let Some(page) = back else {
-            return Err(Fail::from("the writer is gone"));
-        };
-        writer = page;
-        writer.fails = true;
-    }
-    assert_eq!(rt; writer.held.as_slice(), bytes_of(Answered::Well));
+    let (told, is_so) = told_turns(&heap, &mut drips, 5, bytes_of(Answered::Well))?;
+    expect_told(&rt, told.as_bytes(), b"wAwsW", 0);
+    expect_that(&rt, is_so, "the answer is told");
     Ok(())
 }
 
-// The exchange of a request, whose answer is written by `tight`. How it ended, and what the writer has.
-fn told_by(heap: &Heap, tight: &Heap) -> Result<(SessionEnd, Option<Page>), Fail> {
+// Whether a writer is back that has a front of these bytes.
+fn has_front(back: &Option<Page>, whole: &[u8]) -> bool {
+    match back {
+        Some(page) => whole.starts_with(page.held.as_slice()),
+        None => false,
+    }
+}
+
+// The exchange of a request, whose answer is written by `tight`. How it ended, and whether the writer is back with a front of the
+// answer, and with all of it.
+fn told_by(heap: &Heap, tight: &Heap, whole: &[u8]) -> Result<(SessionEnd, bool, bool), Fail> {
     let request = b"GET /healthz HTTP/1.1\r\n\r\n".as_slice();
     let page = Page::new(tight.clone()?, 0);
-    serve(
-        &mut Drips::new(request, 100),
-        page,
-        &mut clerk_of(heap, true, None)?,
-        1000,
-    )
+    let mut clerk = clerk_of(heap, true, None)?;
+    let (end, back) = serve(&mut Drips::new(request, 100), page, &mut clerk, 1000)?;
+    Ok((end, has_front(&back, whole), has(&back, whole)))
+}
+
+// Whether all went well with this growth refused: the answer was told, where so many are not asked for, and else a front of it.
+fn is_refused_well(heap: &Heap, tight: &Heap, growth: u64) -> Result<bool, Fail> {
+    let (end, is_front, is_whole) = told_by(heap, tight, bytes_of(Answered::Well))?;
+    if tight.asked() <= growth {
+        return Ok(end == SessionEnd::Quit && is_whole);
+    }
+    Ok(end == SessionEnd::WriteFault && is_front)
 }
 
 #[test]
 fn answers_with_each_growth_refused(rt: HostRuntime) -> Result<(), Fail> {
     let heap = Heap::unlimited(rt.alloc());
-    let whole = bytes_of(Answered::Well);
     for growth in 0..100 {
         let tight = Heap::refusing(rt.alloc(), growth)?;
-        let (end, back) = told_by(&heap, &tight)?;
-        let Some(page) = back else {
-            return Err(Fail::from("the writer is gone"));
-        };
+        expect_that(
+            &rt,
+            is_refused_well(&heap, &tight, growth)?,
+            "a growth that is refused",
+        );
         if tight.asked() <= growth {
-            assert!(rt; growth > 0, "no growth was refused");
-            assert_eq!(rt; end, SessionEnd::Quit);
-            assert_eq!(rt; page.held.as_slice(), whole);
+            expect_that(&rt, growth > 0, "no growth was refused");
             return Ok(());
         }
-        assert_eq!(rt; end, SessionEnd::WriteFault, "growth {growth}");
-        assert!(rt; whole.starts_with(page.held.as_slice()), "growth {growth}");
     }
     Err(Fail::from("growths without an end"))
 }

@@ -1,6 +1,7 @@
 //! The head of a connection, however its reads are cut.
 
 use crate::drips::Drips;
+use crate::expectations::{expect_row, expect_told};
 use rx_heap::{Heap, Memory};
 use rx_http::{HeadFound, HeadReader, MAX_HEAD};
 use std::test::Fail;
@@ -43,13 +44,18 @@ fn gather(head: &mut HeadReader, drips: &mut Drips<'_>) -> Result<HeadFound, Fai
     Err(Fail::from("reads without an end"))
 }
 
+// What of a head is found among bytes that are read so many at a time.
+fn found_by(bytes: &[u8], step: usize) -> Result<HeadFound, Fail> {
+    let mut drips = Drips::new(bytes, step);
+    let mut head = HeadReader::new();
+    gather(&mut head, &mut drips)
+}
+
 #[test]
 fn heads_cut_at_each_byte(rt: HostRuntime) -> Result<(), Fail> {
-    for (i, (bytes, found)) in rows().iter().enumerate() {
+    for (row, (bytes, found)) in rows().iter().enumerate() {
         for step in 1..=bytes.len() {
-            let mut drips = Drips::new(bytes, step);
-            let mut head = HeadReader::new();
-            assert_eq!(rt; gather(&mut head, &mut drips)?, *found, "row {i} by {step}");
+            expect_row(&rt, found_by(bytes, step)? == *found, row);
         }
     }
     Ok(())
@@ -63,8 +69,8 @@ fn what_is_left_is_what_came(rt: HostRuntime) -> Result<(), Fail> {
     gather(&mut head, &mut drips)?;
     match head.find() {
         HeadFound::Whole(len) => {
-            assert_eq!(rt; head.head(len), b"GET / HTTP/1.1\r\n\r\n".as_slice());
-            assert_eq!(rt; head.behind(len), b"GET /healthz".as_slice());
+            expect_told(&rt, head.head(len), b"GET / HTTP/1.1\r\n\r\n", 0);
+            expect_told(&rt, head.behind(len), b"GET /healthz", 1);
             Ok(())
         }
         _ => Err(Fail::from("no head")),
@@ -81,23 +87,21 @@ fn head_of(heap: &Heap, len: usize) -> Result<Vec<u8, Heap>, Memory> {
     Ok(head)
 }
 
+// The bytes of a head, and what is found of it.
+const LONG: [(usize, HeadFound); 3] = [
+    (MAX_HEAD, HeadFound::Whole(8192)),
+    (MAX_HEAD + 1, HeadFound::TooLong),
+    (MAX_HEAD + 2, HeadFound::TooLong),
+];
+
 #[test]
 fn long_heads(rt: HostRuntime) -> Result<(), Fail> {
     let heap = Heap::unlimited(rt.alloc());
-    for (len, found) in [
-        (MAX_HEAD, HeadFound::Whole(8192)),
-        (MAX_HEAD + 1, HeadFound::TooLong),
-        (MAX_HEAD + 2, HeadFound::TooLong),
-    ] {
-        let bytes = head_of(&heap, len)?;
+    for (len, found) in &LONG {
+        let bytes = head_of(&heap, *len)?;
         for step in [1, 1000, 8192, 10_000] {
-            let mut drips = Drips::new(bytes.as_slice(), step);
-            let mut head = HeadReader::new();
-            assert_eq!(rt;
-                gather(&mut head, &mut drips)?,
-                found,
-                "{len} bytes by {step}"
-            );
+            let is_found = found_by(bytes.as_slice(), step)? == *found;
+            expect_row(&rt, is_found, *len);
         }
     }
     Ok(())

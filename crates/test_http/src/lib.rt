@@ -19,6 +19,8 @@ mod examples;
 #[cfg(test)]
 mod exchanges;
 #[cfg(test)]
+mod expectations;
+#[cfg(test)]
 mod heads;
 #[cfg(test)]
 mod plain;

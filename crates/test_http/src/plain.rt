@@ -34,31 +34,42 @@ pub(crate) struct Reader {
 
 /// The reader of these bytes that came with this id.
 pub(crate) fn read(heap: &Heap, last_id: &[u8], bytes: &[u8]) -> Result<Reader, Memory> {
-    let mut reader = Reader {
-        heap: heap.clone()?,
-        id: Vec::new(heap.clone()?),
-        kind: Vec::new(heap.clone()?),
-        lines: Vec::new(heap.clone()?),
-        last_id: Vec::from_slice(heap.clone()?, last_id)?,
-        messages: Vec::new(heap.clone()?),
-    };
+    let mut reader = Reader::new(heap, last_id)?;
     let mut line = Vec::new(heap.clone()?);
-    let mut behind_cr = false;
-    for byte in bytes {
-        match *byte {
-            b'\n' if behind_cr => {}
-            b'\n' | b'\r' => {
-                reader.take(line.as_slice())?;
-                line.clear();
-            }
-            other => line.push(other)?,
-        }
-        behind_cr = *byte == b'\r';
-    }
+    reader.take_all(&mut line, bytes)?;
     Ok(reader)
 }
 
 impl Reader {
+    // A reader that nothing was told yet.
+    fn new(heap: &Heap, last_id: &[u8]) -> Result<Reader, Memory> {
+        Ok(Reader {
+            heap: heap.clone()?,
+            id: Vec::new(heap.clone()?),
+            kind: Vec::new(heap.clone()?),
+            lines: Vec::new(heap.clone()?),
+            last_id: copy(heap, last_id)?,
+            messages: Vec::new(heap.clone()?),
+        })
+    }
+
+    // Takes each line of these bytes, of which the one that has not ended yet is gathered in `line`.
+    fn take_all(&mut self, line: &mut Vec<u8, Heap>, bytes: &[u8]) -> Result<(), Memory> {
+        let mut behind_cr = false;
+        for byte in bytes {
+            match *byte {
+                b'\n' if behind_cr => {}
+                b'\n' | b'\r' => {
+                    self.take(line.as_slice())?;
+                    line.clear();
+                }
+                other => line.push(other)?,
+            }
+            behind_cr = *byte == b'\r';
+        }
+        Ok(())
+    }
+
     fn take(&mut self, line: &[u8]) -> Result<(), Memory> {
         if line.is_empty() {
             return self.dispatch();
@@ -75,26 +86,41 @@ impl Reader {
                 self.lines.extend_from_slice(value)?;
                 self.lines.push(b'\n')?;
             }
-            b"event" => self.kind = Vec::from_slice(self.heap.clone()?, value)?,
-            b"id" if !value.contains(&0) => self.id = Vec::from_slice(self.heap.clone()?, value)?,
+            b"event" => set(&mut self.kind, value)?,
+            b"id" if !value.contains(&0) => set(&mut self.id, value)?,
             _ => {}
         }
         Ok(())
     }
 
+    // The message that was told so far.
+    fn message(&self) -> Result<Message, Memory> {
+        let id = copy(&self.heap, self.id.as_slice())?;
+        let kind = copy(&self.heap, kind_of(self.kind.as_slice()))?;
+        let text = copy(&self.heap, self.lines.as_slice())?;
+        Ok(Message { id, kind, text })
+    }
+
     fn dispatch(&mut self) -> Result<(), Memory> {
-        self.last_id = Vec::from_slice(self.heap.clone()?, self.id.as_slice())?;
+        set(&mut self.last_id, self.id.as_slice())?;
         if self.lines.pop().is_some() {
-            self.messages.push(Message {
-                id: Vec::from_slice(self.heap.clone()?, self.id.as_slice())?,
-                kind: Vec::from_slice(self.heap.clone()?, kind_of(self.kind.as_slice()))?,
-                text: Vec::from_slice(self.heap.clone()?, self.lines.as_slice())?,
-            })?;
+            let message = self.message()?;
+            self.messages.push(message)?;
         }
         self.kind.clear();
         self.lines.clear();
         Ok(())
     }
+}
+
+fn set(bytes: &mut Vec<u8, Heap>, value: &[u8]) -> Result<(), Memory> {
+    bytes.clear();
+    bytes.extend_from_slice(value)?;
+    Ok(())
+}
+
+fn copy(heap: &Heap, bytes: &[u8]) -> Result<Vec<u8, Heap>, Memory> {
+    Ok(Vec::from_slice(heap.clone()?, bytes)?)
 }
 
 // The value of a field: what stands behind the colon, without one space.

@@ -1,8 +1,9 @@
 //! Heads of requests by POST: what each asks for, or why it is refused.
 
-use crate::requests::Wanted;
+use crate::expectations::expect_row;
+use crate::requests::{Wanted, is_asked};
 use rx_heap::{Heap, Memory};
-use rx_http::{NoteKind, Refusal, read_request};
+use rx_http::{NoteKind, Refusal};
 use std::test::Fail;
 
 /// Requests by POST, by what stands behind the path of the subjects, and their fields.
@@ -207,12 +208,9 @@ fn posts_table() -> &'static [(&'static [u8], &'static [u8], Wanted)] {
 #[test]
 fn posts(rt: HostRuntime) -> Result<(), Fail> {
     let heap = Heap::unlimited(rt.alloc());
-    for (i, (rest, fields, wanted)) in posts_table().iter().enumerate() {
+    for (row, (rest, fields, wanted)) in posts_table().iter().enumerate() {
         let head = post_of(&heap, b"POST /subjects/", rest, fields)?;
-        assert!(rt;
-            read_request(head.as_slice()) == wanted.asked()?,
-            "post {i}"
-        );
+        expect_row(&rt, is_asked(head.as_slice(), wanted)?, row);
     }
     Ok(())
 }
@@ -245,12 +243,9 @@ fn stops_table() -> &'static [(&'static [u8], &'static [u8], Wanted)] {
 #[test]
 fn stops(rt: HostRuntime) -> Result<(), Fail> {
     let heap = Heap::unlimited(rt.alloc());
-    for (i, (rest, fields, wanted)) in stops_table().iter().enumerate() {
+    for (row, (rest, fields, wanted)) in stops_table().iter().enumerate() {
         let head = post_of(&heap, b"POST /stop", rest, fields)?;
-        assert!(rt;
-            read_request(head.as_slice()) == wanted.asked()?,
-            "stop {i}"
-        );
+        expect_row(&rt, is_asked(head.as_slice(), wanted)?, row);
     }
     Ok(())
 }

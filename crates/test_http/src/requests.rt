@@ -1,5 +1,6 @@
 //! Heads of requests: what each asks for, or why it is refused.
 
+use crate::expectations::{expect_count, expect_row, expect_that};
 use rx_heap::{Heap, Memory};
 use rx_http::{
     Asked, Credit, Epoch, Id, IdempotencyKey, LookForm, MAX_HEAD, NoteKind, ObserverId, Refusal,
@@ -10,6 +11,7 @@ use rx_proto::Name;
 use std::test::Fail;
 
 /// What is asked for.
+#[derive(Clone, Copy)]
 pub(crate) enum Wanted {
     /// The events of `trades`, served so.
     Served(Strategy, Errors, u32),
@@ -88,6 +90,11 @@ impl Wanted {
             Wanted::Refused(cause) => Ok(Err(*cause)),
         }
     }
+}
+
+/// Whether this is asked for by a head.
+pub(crate) fn is_asked(head: &[u8], wanted: &Wanted) -> Result<bool, Fail> {
+    Ok(read_request(head) == wanted.asked()?)
 }
 
 fn emission(
@@ -250,12 +257,9 @@ fn head_to(heap: &Heap, target: &[u8]) -> Result<Vec<u8, Heap>, Memory> {
 #[test]
 fn targets(rt: HostRuntime) -> Result<(), Fail> {
     let heap = Heap::unlimited(rt.alloc());
-    for (i, (target, wanted)) in targets_table().iter().enumerate() {
+    for (row, (target, wanted)) in targets_table().iter().enumerate() {
         let head = head_to(&heap, target)?;
-        assert!(rt;
-            read_request(head.as_slice()) == wanted.asked()?,
-            "target {i}"
-        );
+        expect_row(&rt, is_asked(head.as_slice(), wanted)?, row);
     }
     Ok(())
 }
@@ -263,9 +267,10 @@ fn targets(rt: HostRuntime) -> Result<(), Fail> {
 #[test]
 fn targets_refused(rt: HostRuntime) -> Result<(), Fail> {
     let heap = Heap::unlimited(rt.alloc());
-    for (i, (target, cause)) in refused_table().iter().enumerate() {
+    for (row, (target, cause)) in refused_table().iter().enumerate() {
         let head = head_to(&heap, target)?;
-        assert!(rt; read_request(head.as_slice()) == Err(*cause), "target {i}");
+        let is_so = is_asked(head.as_slice(), &Wanted::Refused(*cause))?;
+        expect_row(&rt, is_so, row);
     }
     Ok(())
 }
@@ -282,7 +287,7 @@ const IDS: [(&[u8], u64); 4] = [
 fn ids(rt: HostRuntime) -> Result<(), Fail> {
     for (bytes, known) in &IDS {
         let id = Id::read(bytes).ok_or("no id")?;
-        assert_eq!(rt; id.known(), *known);
+        expect_count(&rt, id.known(), *known, "items that are known");
     }
     Ok(())
 }
@@ -351,8 +356,8 @@ fn heads_table() -> &'static [(&'static [u8], Wanted)] {
 
 #[test]
 fn heads(rt: HostRuntime) -> Result<(), Fail> {
-    for (i, (head, wanted)) in heads_table().iter().enumerate() {
-        assert!(rt; read_request(head) == wanted.asked()?, "head {i}");
+    for (row, (head, wanted)) in heads_table().iter().enumerate() {
+        expect_row(&rt, is_asked(head, wanted)?, row);
     }
     Ok(())
 }
@@ -371,30 +376,31 @@ fn head_of(heap: &Heap, fields: usize, more: usize) -> Result<Vec<u8, Heap>, Mem
     Ok(head)
 }
 
+// Whether this is asked for by a head with so many fields, each with so many bytes, and so many bytes more in the last.
+fn is_asked_by(heap: &Heap, fields: usize, more: usize, wanted: &Wanted) -> Result<bool, Fail> {
+    let head = head_of(heap, fields, more)?;
+    is_asked(head.as_slice(), wanted)
+}
+
 #[test]
 fn heads_at_their_limits(rt: HostRuntime) -> Result<(), Fail> {
     let heap = Heap::unlimited(rt.alloc());
-    let full = head_of(&heap, 32, 1)?;
-    assert!(rt;
-        read_request(full.as_slice()) == Ok(Asked::Health),
-        "32 fields"
-    );
-    let many = head_of(&heap, 33, 1)?;
-    assert!(rt;
-        read_request(many.as_slice()) == Err(Refusal::LongHead),
-        "33 fields"
-    );
     let rest = MAX_HEAD.saturating_sub(head_of(&heap, 1, 0)?.len());
-    let whole = head_of(&heap, 1, rest)?;
-    assert_eq!(rt; whole.len(), 8192);
-    assert!(rt;
-        read_request(whole.as_slice()) == Ok(Asked::Health),
-        "8192 bytes"
+    let whole = head_of(&heap, 1, rest)?.len();
+    expect_count(&rt, whole as u64, 8192, "bytes of a head");
+    let long = Wanted::Refused(Refusal::LongHead);
+    let more = rest.saturating_add(1);
+    expect_that(
+        &rt,
+        is_asked_by(&heap, 32, 1, &Wanted::Health)?,
+        "32 fields",
     );
-    let long = head_of(&heap, 1, rest.saturating_add(1))?;
-    assert!(rt;
-        read_request(long.as_slice()) == Err(Refusal::LongHead),
-        "8193 bytes"
+    expect_that(&rt, is_asked_by(&heap, 33, 1, &long)?, "33 fields");
+    expect_that(
+        &rt,
+        is_asked_by(&heap, 1, rest, &Wanted::Health)?,
+        "8192 bytes",
     );
+    expect_that(&rt, is_asked_by(&heap, 1, more, &long)?, "8193 bytes");
     Ok(())
 }

@@ -1,6 +1,7 @@
 //! A stream with each of the events: its bytes, what is read where it is cut, and how it is written with each growth refused.
 
-use crate::plain::read;
+use crate::expectations::{expect_row, expect_that, expect_told};
+use crate::plain::{Reader, read};
 use rx_heap::{Heap, Memory};
 use rx_http::{Epoch, Id, StreamEvent, write_event, write_heartbeat, write_retry};
 use rx_note::{Item, Text};
@@ -119,6 +120,13 @@ impl Stock {
         };
         write_event(stream, &self.epoch, event)
     }
+
+    // What is written of the piece of this number.
+    fn written(&self, heap: &Heap, piece: usize) -> Result<Vec<u8, Heap>, Fail> {
+        let mut stream = Vec::new(heap.clone()?);
+        self.write(&mut stream, piece)?;
+        Ok(stream)
+    }
 }
 
 fn epoch_of(bytes: &[u8]) -> Result<Epoch, Fail> {
@@ -132,10 +140,9 @@ fn epoch_of(bytes: &[u8]) -> Result<Epoch, Fail> {
 fn each_piece_as_its_bytes(rt: HostRuntime) -> Result<(), Fail> {
     let heap = Heap::unlimited(rt.alloc());
     let stock = Stock::new(&heap)?;
-    for (i, piece) in pieces_table().iter().enumerate() {
-        let mut stream = Vec::new(heap.clone()?);
-        stock.write(&mut stream, i)?;
-        assert_eq!(rt; stream.as_slice(), piece.bytes, "piece {i}");
+    for (row, piece) in pieces_table().iter().enumerate() {
+        let stream = stock.written(&heap, row)?;
+        expect_told(&rt, stream.as_slice(), piece.bytes, row);
     }
     Ok(())
 }
@@ -149,26 +156,30 @@ fn whole(heap: &Heap) -> Result<Vec<u8, Heap>, Memory> {
     Ok(stream)
 }
 
-// Whether the reader of so many bytes has the messages of the pieces that came whole, and the id of the last of them.
-fn is_front(heap: &Heap, come: &[u8]) -> Result<bool, Memory> {
-    let reader = read(heap, SENT, come)?;
+// Whether a reader of so many bytes has the messages of the pieces that came whole, and the id of the last of them.
+fn has_front(reader: &Reader, come: usize) -> bool {
     let mut read = reader.messages.iter();
     let mut last_id = SENT;
     let mut len: usize = 0;
     for piece in pieces_table() {
         len = len.saturating_add(piece.bytes.len());
-        if len > come.len() {
+        if len > come {
             break;
         }
         if let Some((id, kind, text)) = piece.message {
             last_id = id;
             match read.next() {
                 Some(message) if message.says(id, kind, text) => {}
-                _ => return Ok(false),
+                _ => return false,
             }
         }
     }
-    Ok(read.next().is_none() && reader.last_id.as_slice() == last_id)
+    read.next().is_none() && reader.last_id.as_slice() == last_id
+}
+
+fn is_front(heap: &Heap, come: &[u8]) -> Result<bool, Memory> {
+    let reader = read(heap, SENT, come)?;
+    Ok(has_front(&reader, come.len()))
 }
 
 #[test]
@@ -177,9 +188,9 @@ fn cut_at_each_byte(rt: HostRuntime) -> Result<(), Fail> {
     let stream = whole(&heap)?;
     for (cut, _) in stream.iter().enumerate() {
         let (come, _) = stream.as_slice().split_at(cut);
-        assert!(rt; is_front(&heap, come)?, "cut behind {cut} bytes");
+        expect_row(&rt, is_front(&heap, come)?, cut);
     }
-    assert!(rt; is_front(&heap, stream.as_slice())?, "whole");
+    expect_that(&rt, is_front(&heap, stream.as_slice())?, "whole");
     Ok(())
 }
 
@@ -210,7 +221,7 @@ impl Refusable for Stream {
 #[test]
 fn growths_refused_in_turn(rt: HostRuntime) -> Result<(), Fail> {
     let refusals = refuse_in_turn(&Stream, rt.alloc())?;
-    assert_eq!(rt; refusals.fault, "", "the stream");
-    assert!(rt; refusals.missed > 0, "no growth was refused");
+    expect_that(&rt, refusals.fault == "", refusals.fault);
+    expect_that(&rt, refusals.missed > 0, "no growth was refused");
     Ok(())
 }

@@ -1,6 +1,7 @@
 //! Texts as items: what a browser has of each.
 
-use crate::plain::read;
+use crate::expectations::expect_that;
+use crate::plain::{Reader, read};
 use rx_heap::Heap;
 use rx_http::{Epoch, StreamEvent, write_event};
 use rx_note::{Item, Text};
@@ -51,21 +52,30 @@ fn rows() -> &'static [(&'static str, &'static [u8], &'static [u8], &'static [u8
     ROWS
 }
 
+// What is written of an item with this text.
+fn written(heap: &Heap, text: &[u8]) -> Result<Vec<u8, Heap>, Fail> {
+    let epoch = Epoch::new(b"1a21de595e8").ok_or("no epoch")?;
+    let item = Item::new(Text::new(heap.clone()?, text)?);
+    let mut stream = Vec::new(heap.clone()?);
+    write_event(&mut stream, &epoch, StreamEvent::Next(&item))?;
+    Ok(stream)
+}
+
+// Whether a reader has one message, which says this.
+fn has(reader: &Reader, kind: &[u8], told: &[u8]) -> bool {
+    match reader.messages.as_slice() {
+        [message] => message.says(b"1a21de595e8-0", kind, told),
+        _ => false,
+    }
+}
+
 #[test]
 fn texts_come_back(rt: HostRuntime) -> Result<(), Fail> {
     let heap = Heap::unlimited(rt.alloc());
-    let Some(epoch) = Epoch::new(b"1a21de595e8") else {
-        return Err(Fail::from("no epoch"));
-    };
     for (name, text, kind, told) in rows() {
-        let item = Item::new(Text::new(heap.clone()?, text)?);
-        let mut stream = Vec::new(heap.clone()?);
-        write_event(&mut stream, &epoch, StreamEvent::Next(&item))?;
+        let stream = written(&heap, text)?;
         let reader = read(&heap, b"", stream.as_slice())?;
-        let [message] = reader.messages.as_slice() else {
-            return Err(Fail::from(*name));
-        };
-        assert!(rt; message.says(b"1a21de595e8-0", kind, told), "{name}");
+        expect_that(&rt, has(&reader, kind, told), name);
     }
     Ok(())
 }
