@@ -2,7 +2,7 @@
 
 use crate::expectations::expect_told;
 use rx_heap::Heap;
-use rx_http::{Answer, Document, Epoch, LookForm, Refusal, write_answer};
+use rx_http::{Answer, Document, Epoch, LookForm, MAX_LINES, Places, Refusal, write_answer};
 use std::test::Fail;
 
 /// What a request is answered, as a row tells it: by a server of the epoch `1a21de595e8`.
@@ -15,6 +15,10 @@ pub(crate) enum Answered {
     Accepted(Option<u32>),
     /// It was accepted before.
     Again(Option<u32>),
+    /// Lines were accepted, and there their items stand.
+    Placed(&'static [u32]),
+    /// The first lines were, and the one behind them was refused.
+    Cut(&'static [u32], Refusal),
     Requested,
     Stops,
     /// What is seen is `{}` and a line.
@@ -37,6 +41,8 @@ impl Answered {
             Answered::Unwell => Ok(Answer::Unwell),
             Answered::Accepted(place) => accepted(place, false),
             Answered::Again(place) => accepted(place, true),
+            Answered::Placed(places) => placed(places),
+            Answered::Cut(places, refusal) => cut(places, refusal),
             Answered::Stats => shown(heap, LookForm::Stats, b"{}\n"),
             Answered::Metrics => shown(heap, LookForm::Metrics, b"a 1\n"),
             Answered::Lines => shown(heap, LookForm::Lines, b"s open\n"),
@@ -50,10 +56,40 @@ impl Answered {
 
 fn accepted(place: Option<u32>, again: bool) -> Result<Answer, Fail> {
     Ok(Answer::Accepted {
-        epoch: Epoch::new(b"1a21de595e8").ok_or("no epoch")?,
+        epoch: epoch()?,
         place,
         again,
     })
+}
+
+fn placed(places: &[u32]) -> Result<Answer, Fail> {
+    Ok(Answer::Placed {
+        epoch: epoch()?,
+        places: places_of(places),
+    })
+}
+
+fn cut(places: &[u32], refusal: Refusal) -> Result<Answer, Fail> {
+    Ok(Answer::Cut {
+        epoch: epoch()?,
+        places: places_of(places),
+        refusal,
+    })
+}
+
+fn epoch() -> Result<Epoch, Fail> {
+    Ok(Epoch::new(b"1a21de595e8").ok_or("no epoch")?)
+}
+
+/// These places, as many as there may be.
+pub(crate) fn places_of(all: &[u32]) -> Places {
+    let mut places = Places::new();
+    for place in all {
+        if places.as_slice().len() < MAX_LINES {
+            places.push(*place);
+        }
+    }
+    places
 }
 
 fn shown(heap: &Heap, form: LookForm, bytes: &[u8]) -> Result<Answer, Fail> {
@@ -105,8 +141,40 @@ const ANSWERS: &[(Answered, &[u8])] = &[
         b"HTTP/1.1 200 OK\r\nContent-Type: application/json\r\nContent-Length: 47\r\nCache-Control: no-store\r\nX-Content-Type-Options: nosniff\r\nConnection: close\r\n\r\n{\"epoch\":\"1a21de595e8\",\"place\":0,\"again\":true}\n",
     ),
     (
+        Answered::Placed(&[]),
+        b"HTTP/1.1 200 OK\r\nContent-Type: application/json\r\nContent-Length: 36\r\nCache-Control: no-store\r\nX-Content-Type-Options: nosniff\r\nConnection: close\r\n\r\n{\"epoch\":\"1a21de595e8\",\"places\":[]}\n",
+    ),
+    (
+        Answered::Placed(&[0]),
+        b"HTTP/1.1 200 OK\r\nContent-Type: application/json\r\nContent-Length: 37\r\nCache-Control: no-store\r\nX-Content-Type-Options: nosniff\r\nConnection: close\r\n\r\n{\"epoch\":\"1a21de595e8\",\"places\":[0]}\n",
+    ),
+    (
+        Answered::Placed(&[0, 1, 2]),
+        b"HTTP/1.1 200 OK\r\nContent-Type: application/json\r\nContent-Length: 41\r\nCache-Control: no-store\r\nX-Content-Type-Options: nosniff\r\nConnection: close\r\n\r\n{\"epoch\":\"1a21de595e8\",\"places\":[0,1,2]}\n",
+    ),
+    (
+        Answered::Placed(&[9, 10, 4_294_967_294]),
+        b"HTTP/1.1 200 OK\r\nContent-Type: application/json\r\nContent-Length: 51\r\nCache-Control: no-store\r\nX-Content-Type-Options: nosniff\r\nConnection: close\r\n\r\n{\"epoch\":\"1a21de595e8\",\"places\":[9,10,4294967294]}\n",
+    ),
+    (
+        Answered::Cut(&[0, 1], Refusal::Ended),
+        b"HTTP/1.1 409 Conflict\r\nContent-Type: application/json\r\nContent-Length: 86\r\nCache-Control: no-store\r\nX-Content-Type-Options: nosniff\r\nConnection: close\r\n\r\n{\"error\":\"ended\",\"text\":\"the subject has ended\",\"epoch\":\"1a21de595e8\",\"places\":[0,1]}\n",
+    ),
+    (
+        Answered::Cut(&[0], Refusal::Memory),
+        b"HTTP/1.1 507 Insufficient Storage\r\nContent-Type: application/json\r\nContent-Length: 100\r\nCache-Control: no-store\r\nX-Content-Type-Options: nosniff\r\nConnection: close\r\n\r\n{\"error\":\"memory\",\"text\":\"the budget of the subject is used up\",\"epoch\":\"1a21de595e8\",\"places\":[0]}\n",
+    ),
+    (
+        Answered::Cut(&[4_294_967_294], Refusal::Stopping),
+        b"HTTP/1.1 503 Service Unavailable\r\nContent-Type: application/json\r\nContent-Length: 91\r\nCache-Control: no-store\r\nX-Content-Type-Options: nosniff\r\nConnection: close\r\nRetry-After: 2\r\n\r\n{\"error\":\"stopping\",\"text\":\"the server stops\",\"epoch\":\"1a21de595e8\",\"places\":[4294967294]}\n",
+    ),
+    (
+        Answered::Refused(Refusal::LinesWord),
+        b"HTTP/1.1 400 Bad Request\r\nContent-Type: application/json\r\nContent-Length: 77\r\nCache-Control: no-store\r\nX-Content-Type-Options: nosniff\r\nConnection: close\r\n\r\n{\"error\":\"lines\",\"text\":\"lines is 1, where each line of the body is a text\"}\n",
+    ),
+    (
         Answered::Refused(Refusal::Key),
-        b"HTTP/1.1 400 Bad Request\r\nContent-Type: application/json\r\nContent-Length: 73\r\nCache-Control: no-store\r\nX-Content-Type-Options: nosniff\r\nConnection: close\r\n\r\n{\"error\":\"idempotency-key\",\"text\":\"a key is 1 to 64 visible characters\"}\n",
+        b"HTTP/1.1 400 Bad Request\r\nContent-Type: application/json\r\nContent-Length: 93\r\nCache-Control: no-store\r\nX-Content-Type-Options: nosniff\r\nConnection: close\r\n\r\n{\"error\":\"idempotency-key\",\"text\":\"a key is 1 to 64 visible characters, and names one text\"}\n",
     ),
     (
         Answered::Stats,
@@ -194,7 +262,7 @@ const ANSWERS: &[(Answered, &[u8])] = &[
     ),
     (
         Answered::Refused(Refusal::Long),
-        b"HTTP/1.1 413 Content Too Large\r\nContent-Type: application/json\r\nContent-Length: 82\r\nCache-Control: no-store\r\nX-Content-Type-Options: nosniff\r\nConnection: close\r\n\r\n{\"error\":\"long\",\"text\":\"a text has at most 1,024 bytes, and 8,192 with the head\"}\n",
+        b"HTTP/1.1 413 Content Too Large\r\nContent-Type: application/json\r\nContent-Length: 92\r\nCache-Control: no-store\r\nX-Content-Type-Options: nosniff\r\nConnection: close\r\n\r\n{\"error\":\"long\",\"text\":\"a text has at most 1,024 bytes, and a request 8,192 and 256 lines\"}\n",
     ),
     (
         Answered::Refused(Refusal::Ended),

@@ -1,7 +1,8 @@
 //! A server that notes what exchanges ask it for.
 
+use crate::answers::places_of;
 use crate::drips::{Drips, Page};
-use rx_exchange::{Emitted, Exchange, Front, Joining};
+use rx_exchange::{Emitted, EmittedLines, Exchange, Front, Joining};
 use rx_heap::Heap;
 use rx_http::{
     Begin, Credit, Document, Epoch, IdempotencyKey, LookForm, NoteKind, ObserverId, Refusal,
@@ -16,8 +17,11 @@ const EPOCH: &[u8] = b"1a21de595e8";
 // More turns than any row takes.
 const MOST_TURNS: u32 = 10_000;
 
+// The places of the lines that it accepts.
+const PLACES: [u32; 3] = [0, 1, 2];
+
 /// A server that has one subject, `trades`, and keeps a writer or gives it back. It notes how it was asked to have a reader join. Each
-/// emission by a key it had before.
+/// emission by a key it had before. Of lines it accepts the first three at most.
 #[derive(Drop)]
 pub(crate) struct Clerk {
     epoch: Epoch,
@@ -27,6 +31,8 @@ pub(crate) struct Clerk {
     pub(crate) policy: Option<Policy>,
     pub(crate) credit: Option<Credit>,
     pub(crate) begin: Option<Begin>,
+    /// How many lines it accepts.
+    pub(crate) accepts: usize,
     /// The note that was emitted last: its kind and its text.
     pub(crate) kind: Option<NoteKind>,
     pub(crate) text: Vec<u8, Heap>,
@@ -44,6 +50,7 @@ pub(crate) fn clerk_of(heap: &Heap, well: bool, refuses: Option<Refusal>) -> Res
         policy: None,
         credit: None,
         begin: None,
+        accepts: 3,
         kind: None,
         text: Vec::new(heap.clone()?),
     })
@@ -57,6 +64,8 @@ impl Front<Page> for Clerk {
     ghost joins = { λ old name policy credit begin writer joining new. Unit {0} };
 
     ghost emits = { λ old name kind text key emitted new. Unit {0} };
+
+    ghost emits_lines = { λ old name body told new. Unit {0} };
 
     ghost requests = { λ old name observer items asked new. Unit {0} };
 
@@ -117,6 +126,18 @@ impl Front<Page> for Clerk {
         }
     }
 
+    fn emit_lines(&mut self, subject: &Name, body: &[u8]) -> EmittedLines {
+        self.asked = self.asked.saturating_add(1);
+        self.kind = Some(NoteKind::Next);
+        if self.text.extend_from_slice(body).is_err() {
+            return lines_told(0, Some(Refusal::Memory));
+        }
+        if subject.as_bytes() != b"trades".as_slice() {
+            return lines_told(0, Some(Refusal::Subject));
+        }
+        lines_told(self.accepts, self.refuses)
+    }
+
     fn request(
         &mut self,
         subject: &Name,
@@ -158,6 +179,14 @@ impl Front<Page> for Clerk {
             Some(cause) => Err(cause),
             None => Ok(()),
         }
+    }
+}
+
+// So many of three lines were accepted.
+fn lines_told(count: usize, refusal: Option<Refusal>) -> EmittedLines {
+    EmittedLines {
+        places: places_of(PLACES.get(..count).unwrap_or(&PLACES)),
+        refusal,
     }
 }
 

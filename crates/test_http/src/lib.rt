@@ -1,4 +1,4 @@
-//! Tests of what browsers ask for and are written, by its public calls: requests and answers; heads, whole exchanges and emissions, cut
+//! Tests of what browsers ask for and are written, by its public calls: requests and answers; the lines of bodies; heads, whole exchanges and emissions, cut
 //! at each byte; a reader of streams that is read off the standard, texts that come back, and a stream that is cut at each byte and written with
 //! each growth refused; what event sinks write and how they stand.
 //!
@@ -8,6 +8,8 @@
 
 #[cfg(test)]
 mod answers;
+#[cfg(test)]
+mod body_lines;
 #[cfg(test)]
 mod clerk;
 #[cfg(test)]

@@ -145,6 +145,72 @@ const POSTS: &[(&[u8], &[u8], Wanted)] = &[
         b"Idempotency-Key: ~",
         Wanted::Refused(Refusal::Subject),
     ),
+    (
+        b"trades?lines=1",
+        b"Content-Length: 4294967295",
+        Wanted::Lined(4_294_967_295),
+    ),
+    (b"trades?x&lines=%31&lines=2", b"", Wanted::Lined(0)),
+    (
+        b"trades?lines=1",
+        b"Origin: http://localhost",
+        Wanted::Lined(0),
+    ),
+    (
+        b"trades?lines=0",
+        b"Content-Length: x",
+        Wanted::Refused(Refusal::LinesWord),
+    ),
+    (
+        b"Trades?lines=",
+        b"Content-Length: 1025",
+        Wanted::Refused(Refusal::LinesWord),
+    ),
+    (
+        b"trades?lines=2&lines=1",
+        b"",
+        Wanted::Refused(Refusal::LinesWord),
+    ),
+    (
+        b"trades?lines=11111111111111111111111111111111111111111111111111111111111111111",
+        b"",
+        Wanted::Refused(Refusal::LinesWord),
+    ),
+    (
+        b"trades?lines=2",
+        b"Origin: null",
+        Wanted::Refused(Refusal::Origin),
+    ),
+    (
+        b"trades?lines=1",
+        b"Origin: null",
+        Wanted::Refused(Refusal::Origin),
+    ),
+    (
+        b"Trades?lines=1",
+        b"Content-Length: x\r\nIdempotency-Key: a",
+        Wanted::Refused(Refusal::Length),
+    ),
+    (
+        b"Trades?lines=1",
+        b"Idempotency-Key: a",
+        Wanted::Refused(Refusal::Key),
+    ),
+    (
+        b"Trades?lines=1",
+        b"Content-Length: 4",
+        Wanted::Refused(Refusal::Subject),
+    ),
+    (
+        b"trades?lined=2",
+        b"Content-Length: 1",
+        Wanted::Emitted(NoteKind::Next, 1),
+    ),
+    (
+        b"trades/fail?lines=1",
+        b"Content-Length: 1",
+        Wanted::Emitted(NoteKind::Failed, 1),
+    ),
     (b"trades/ends", b"", Wanted::Refused(Refusal::Subject)),
     (b"trades/end/", b"", Wanted::Refused(Refusal::Subject)),
     (

@@ -23,6 +23,8 @@ pub(crate) enum Wanted {
     Paced(u32),
     /// A note for `trades`, with a body of so many bytes.
     Emitted(NoteKind, u32),
+    /// An item for `trades` for each line of a body of so many bytes.
+    Lined(u32),
     /// An item for `trades` without a body, by this key.
     Named(&'static [u8]),
     /// Items for the observer of `trades` of this epoch and number, so many.
@@ -80,6 +82,10 @@ impl Wanted {
             }
             Wanted::Looked(form) => Ok(Ok(Asked::Look(*form))),
             Wanted::Emitted(kind, size) => emission(*kind, *size, None),
+            Wanted::Lined(size) => Ok(Ok(Asked::Texts {
+                subject: Name::new(b"trades").ok_or("no name")?,
+                size: *size,
+            })),
             Wanted::Named(key) => emission(
                 NoteKind::Next,
                 0,
