@@ -9,6 +9,11 @@
 // when it is, so no wake is missed. No contract can say so, and tests do. The channel's plain forms, which keep no rule, and
 // lock-free structures of this project's own are still left out.
 //
+// Some of what is put is for an inbox only while it has something to do with it: a subject for whose observers nothing waits needs no
+// request before its next call, which finds those that came in the box. So an inbox says how it sleeps (`Sleep`), and a port may
+// nudge in the place of a ring. Else each note that is taken has its subject woken once more: beside a machine's rest two switches
+// for each item. No deep sleep lasts beside a box that is full, since then a nudge is a ring.
+//
 // It sleeps on a flag, and not by a `Parker`: that one's waker makes an exchange at each letter, also where nobody sleeps, in
 // place of a look, and it is for one sleeper, while many ports may wait for room.
 
@@ -30,7 +35,28 @@ pub(crate) const FEW_LOOKS: u32 = 200;
 
 const AWAKE: u64 = 0;
 
-const ASLEEP: u64 = 1;
+const ASLEEP: u32 = 1;
+
+const DEEP_ASLEEP: u32 = 2;
+
+/// What ends a sleep.
+#[derive(Clone, Copy)]
+pub(crate) enum Sleep {
+    /// A ring, and a nudge.
+    Light,
+    /// A ring alone.
+    Deep,
+}
+
+impl Sleep {
+    // What the flag says of it.
+    fn state(self) -> u32 {
+        match self {
+            Sleep::Light => ASLEEP,
+            Sleep::Deep => DEEP_ASLEEP,
+        }
+    }
+}
 
 /// What one side of a box sleeps on until the other side rings it.
 #[derive(Drop)]
@@ -49,11 +75,28 @@ impl Bell {
     /// Wakes all who sleep, after a step that they may wait for. Who is about to sleep either is seen here or, in its
     /// last look, sees that step.
     pub(crate) fn ring(&self) {
-        if self.state.load(Ordering::SeqCst) == ASLEEP
-            && self.state.swap(AWAKE, Ordering::SeqCst) == ASLEEP
+        if self.state.load(Ordering::SeqCst) != AWAKE
+            && self.state.swap(AWAKE, Ordering::SeqCst) != AWAKE
         {
             self.state.wake_all();
         }
+    }
+
+    /// As `ring`, but wakes those alone who sleep lightly.
+    pub(crate) fn nudge(&self) {
+        if self.sleeps_lightly()
+            && self
+                .state
+                .compare_exchange(u64::from(ASLEEP), AWAKE, Ordering::SeqCst, Ordering::SeqCst)
+                .is_ok()
+        {
+            self.state.wake_all();
+        }
+    }
+
+    /// Whether somebody sleeps lightly, or is about to.
+    pub(crate) fn sleeps_lightly(&self) -> bool {
+        self.state.load(Ordering::SeqCst) == u64::from(ASLEEP)
     }
 
     /// Whether nobody sleeps, or is about to.
@@ -63,20 +106,20 @@ impl Bell {
 
     /// Waits after so many looks in vain, of so many before it sleeps. It answers how many they are from then on, which is `most`
     /// after a sleep.
-    pub(crate) fn wait<R: Wait>(&self, rt: &R, looks: u32, most: u32) -> u32 {
+    pub(crate) fn wait<R: Wait>(&self, rt: &R, looks: u32, most: u32, sleep: Sleep) -> u32 {
         if looks < most {
             hint::spin_loop();
         } else if looks == most {
             // It sleeps only if the next look is in vain as well.
-            self.state.store(ASLEEP, Ordering::SeqCst);
+            self.state.store(u64::from(sleep.state()), Ordering::SeqCst);
         } else {
-            self.state.park(rt, ASLEEP as u32);
+            self.state.park(rt, sleep.state());
             return most;
         }
         looks.saturating_add(1)
     }
 
-    /// Waits as `wait` does, but sleeps no longer than about so long, and once. It answers nothing after that sleep.
+    /// Waits as `wait` does, but sleeps lightly, no longer than about so long, and once. It answers nothing after that sleep.
     pub(crate) fn wait_within<R: Wait>(
         &self,
         rt: &R,
@@ -87,9 +130,9 @@ impl Bell {
         if looks < most {
             hint::spin_loop();
         } else if looks == most {
-            self.state.store(ASLEEP, Ordering::SeqCst);
+            self.state.store(u64::from(ASLEEP), Ordering::SeqCst);
         } else {
-            self.state.park_timeout(rt, ASLEEP as u32, longest);
+            self.state.park_timeout(rt, ASLEEP, longest);
             self.state.store(AWAKE, Ordering::SeqCst);
             return None;
         }

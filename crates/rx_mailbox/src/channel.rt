@@ -11,8 +11,8 @@ pub(crate) mod inlet;
 pub(crate) mod outlet;
 pub(crate) mod rule;
 
-use crate::bell::LOOKS;
 use crate::bell::bells::Bells;
+use crate::bell::{LOOKS, Sleep};
 use crate::channel::rule::{MailboxRule, Put, Take, View};
 use crate::letter::batch::Batch;
 use crate::letter::{Letter, Post};
@@ -129,7 +129,7 @@ fn put_again<B: Drop, R: Wait>(
         }
         // The inbox may sleep beside a box that was filled without a ring.
         bells.letter.ring();
-        looks = bells.room.wait(rt, looks, LOOKS);
+        looks = bells.room.wait(rt, looks, LOOKS, Sleep::Light);
     }
     unreachable!()
 }

@@ -14,7 +14,7 @@ ghost use Rattle.rx_mailbox.specs.Settling.{letter_count};
 pub(crate) mod try_recv_fault;
 
 use crate::bell::patience::Patience;
-use crate::bell::{FEW_LOOKS, LOOKS};
+use crate::bell::{FEW_LOOKS, LOOKS, Sleep};
 use crate::channel::inlet::Inlet;
 use crate::channel::{BoxPass, BoxReceiver};
 use crate::inbox::try_recv_fault::TryRecvFault;
@@ -96,6 +96,26 @@ impl<B: Drop> Inbox<B> {
         ensures port { IfOk result (λ letter. letter.from < self.old.ports) }
         ensures before_bye { IfOk result (λ letter. ¬ HasBye self.old letter.from) }
     {
+        self.recv_asleep(rt, Sleep::Light)
+    }
+
+    /// The same, but it sleeps past what is put with no more than a nudge (`Port::nudge`), which it finds in the box once it is woken.
+    pub fn recv_past_nudges<R: Wait>(&mut self, rt: &R) -> Result<Letter<B>, Gone>
+        ensures received { MatchResult result (λ letter. self.new ≡ with_letter self.old letter) (λ _. self.new ≡ self.old) }
+
+        // It is from a port of the box whose Bye had not come.
+        ensures port { IfOk result (λ letter. letter.from < self.old.ports) }
+        ensures before_bye { IfOk result (λ letter. ¬ HasBye self.old letter.from) }
+    {
+        self.recv_asleep(rt, Sleep::Deep)
+    }
+
+    // The same, with a sleep of this kind.
+    fn recv_asleep<R: Wait>(&mut self, rt: &R, sleep: Sleep) -> Result<Letter<B>, Gone>
+        ensures received { MatchResult result (λ letter. self.new ≡ with_letter self.old letter) (λ _. self.new ≡ self.old) }
+        ensures port { IfOk result (λ letter. letter.from < self.old.ports) }
+        ensures before_bye { IfOk result (λ letter. ¬ HasBye self.old letter.from) }
+    {
         if let Some(letter) = self.next_in_hand() {
             return Ok(letter);
         }
@@ -111,7 +131,7 @@ impl<B: Drop> Inbox<B> {
                 Err(TryRecvFault::Gone) => return Err(Gone),
                 Err(TryRecvFault::Empty) => {}
             }
-            looks = self.inlet.bell().wait(rt, looks, looks_at_most);
+            looks = self.inlet.bell().wait(rt, looks, looks_at_most, sleep);
         }
         unreachable!()
     }

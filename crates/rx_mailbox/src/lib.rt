@@ -27,7 +27,7 @@ pub use opening::{MAX_CAPACITY, MAX_PORTS, OpenError, open};
 pub use port::Port;
 pub use port::ended_port::EndedPort;
 pub use port::ends_of_ports::{finish_all, let_go_all};
-pub use port::rings_of_ports::{ring_all, ring_at, try_ring_all, try_ring_at};
+pub use port::rings_of_ports::{nudge_all, ring_all, ring_at, try_ring_all, try_ring_at};
 pub use settlement::box_parts::BoxParts;
 pub use settlement::deal_of_rows::{Twice, deal, parts_of, put_inbox};
 pub use settlement::each_box::settle_each;

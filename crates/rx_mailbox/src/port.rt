@@ -276,6 +276,23 @@ impl<B: Drop> Port<B> {
         self.holds_back()
     }
 
+    /// As `try_ring`, but leaves an inbox asleep that sleeps past nudges, unless its box is full: that finds what was put once another
+    /// port rings.
+    pub fn nudge<R: Wait>(&mut self, rt: &R) -> bool
+        ensures same { told self.new ≡ told self.old }
+        ensures held { IsTrue result ↔ 0 < self.new.held }
+    {
+        if self.held.is_empty() && !self.owes_ring {
+            return false;
+        }
+        if !self.try_put_held(rt) {
+            return self.try_ring(rt);
+        }
+        self.owes_ring = false;
+        self.outlet.nudge();
+        self.holds_back()
+    }
+
     // Puts what is held back where there is room for it, and answers whether nothing is any more.
     fn try_put_held<R: Wait>(&mut self, rt: &R) -> bool
         ensures { told self.new ≡ told self.old }
@@ -289,9 +306,9 @@ impl<B: Drop> Port<B> {
         )
     }
 
-    /// Whether the inbox sleeps, and is to be woken for what was sent quietly.
+    /// Whether the inbox sleeps, and a nudge is to wake it for what was sent quietly.
     pub fn would_wake(&self) -> bool {
-        (self.owes_ring || !self.held.is_empty()) && !self.outlet.is_inbox_awake()
+        (self.owes_ring || !self.held.is_empty()) && self.outlet.sleeps_lightly()
     }
 
     /// Whether it holds something back.

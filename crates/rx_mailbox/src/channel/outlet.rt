@@ -167,6 +167,16 @@ impl<B: Drop> Outlet<B> {
         self.bells.letter.is_awake()
     }
 
+    /// Whether the inbox sleeps so that a nudge wakes it.
+    pub(crate) fn sleeps_lightly(&self) -> bool {
+        self.bells.letter.sleeps_lightly()
+    }
+
+    /// Wakes the inbox, if it sleeps so that a nudge does.
+    pub(crate) fn nudge(&self) {
+        self.bells.letter.nudge();
+    }
+
     /// Wakes the inbox, if it sleeps.
     pub(crate) fn ring(&self) {
         self.bells.letter.ring();

@@ -46,3 +46,26 @@ pub fn try_ring_at<B: Drop, R: Wait>(rt: &R, ports: &mut Vec<Port<B>, Heap>, pla
     let is_left = ports[place].try_ring(rt);
     is_left && !ports[place].is_inbox_gone()
 }
+
+/// As `try_ring_all`, but leaves those asleep who sleep past nudges, unless their box is full.
+pub fn nudge_all<B: Drop, R: Wait>(rt: &R, ports: &mut Vec<Port<B>, Heap>) -> bool
+    ensures { all_told ports.new.items ≡ all_told ports.old.items }
+{
+    let mut is_left = false;
+    for place in 0..ports.len() {
+        if nudge_at(rt, ports, place) {
+            is_left = true;
+        }
+    }
+    is_left
+}
+
+// The same of the port at a place alone.
+fn nudge_at<B: Drop, R: Wait>(rt: &R, ports: &mut Vec<Port<B>, Heap>, place: usize) -> bool
+    requires { place < vec_len ports.old }
+    ensures told { all_told ports.new.items ≡ all_told ports.old.items }
+    ensures count { vec_len ports.new ≡ vec_len ports.old }
+{
+    let is_left = ports[place].nudge(rt);
+    is_left && !ports[place].is_inbox_gone()
+}
