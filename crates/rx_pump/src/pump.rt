@@ -234,6 +234,7 @@ impl<S: Drop> Pump<S> {
         }
         let received = receive(
             rt,
+            &self.parts.hub,
             &mut self.parts.inbox,
             &mut self.parts.drainers,
             &mut self.parts.replies,

@@ -5,7 +5,7 @@ ghost use Rattle.std.specs.Prelude.{◌≡◌};
 use crate::boxes::{copy, finish, send, two, unlimited};
 use crate::expectations::{expect_count, expect_that};
 use rx_heap::Heap;
-use rx_mailbox::{Gone, Inbox, Port, Post};
+use rx_mailbox::{Gone, Inbox, Letter, Port, Post};
 use std::process::Abort;
 use std::sync::Wait;
 use std::thread::{Threads, join, yield_now};
@@ -18,6 +18,10 @@ struct Load {
     bodies: u32,
     // Of so many bodies one is sent with a wake, the first of them.
     quiet: u32,
+    // The others are followed by a nudge.
+    is_nudged: bool,
+    // The inbox sleeps past nudges.
+    sleeps_past: bool,
 }
 
 // The rooms of a box, and bodies with and without a wake.
@@ -26,31 +30,64 @@ const LOADS: &[Load] = &[
         capacity: 1,
         bodies: 10_000,
         quiet: 1,
+        is_nudged: false,
+        sleeps_past: false,
     },
     Load {
         capacity: 1,
         bodies: 2_000,
         quiet: 64,
+        is_nudged: false,
+        sleeps_past: false,
     },
     Load {
         capacity: 2,
         bodies: 5_000,
         quiet: 3,
+        is_nudged: false,
+        sleeps_past: false,
     },
     Load {
         capacity: 64,
         bodies: 250_000,
         quiet: 1,
+        is_nudged: false,
+        sleeps_past: false,
     },
     Load {
         capacity: 64,
         bodies: 250_000,
         quiet: 48,
+        is_nudged: false,
+        sleeps_past: false,
     },
     Load {
         capacity: 1_000,
         bodies: 250_000,
         quiet: 1_000_000,
+        is_nudged: false,
+        sleeps_past: false,
+    },
+    Load {
+        capacity: 2,
+        bodies: 2_000,
+        quiet: 1_000_000,
+        is_nudged: true,
+        sleeps_past: false,
+    },
+    Load {
+        capacity: 1,
+        bodies: 2_000,
+        quiet: 1_000_000,
+        is_nudged: true,
+        sleeps_past: true,
+    },
+    Load {
+        capacity: 64,
+        bodies: 20_000,
+        quiet: 48,
+        is_nudged: true,
+        sleeps_past: true,
     },
 ];
 
@@ -66,6 +103,9 @@ fn send_many(rt: &(impl Wait + Abort), mut port: Port<u32>, load: Load) {
             send(rt, &mut port, body);
         } else {
             assert!(rt; port.send_quietly(rt, body).is_ok());
+            if load.is_nudged {
+                port.nudge(rt);
+            }
         }
     }
     // What a port holds back when it goes is lost.
@@ -73,11 +113,11 @@ fn send_many(rt: &(impl Wait + Abort), mut port: Port<u32>, load: Load) {
 }
 
 // Receives until no letter will come any more, looks that the bodies of each port come in their order, and counts them.
-fn receive_many(rt: &(impl Wait + Abort), mut inbox: Inbox<u32>) -> u64 {
+fn receive_many(rt: &(impl Wait + Abort), mut inbox: Inbox<u32>, load: Load) -> u64 {
     let mut next = [0u32; 2];
     let mut letters = 0u64;
     for _ in rt.forever() {
-        let Ok(letter) = inbox.recv(rt) else {
+        let Ok(letter) = receive_as(rt, &mut inbox, load) else {
             break;
         };
         let expected = next.get_mut(letter.from as usize).expect(rt, "a port");
@@ -86,6 +126,14 @@ fn receive_many(rt: &(impl Wait + Abort), mut inbox: Inbox<u32>) -> u64 {
         letters = letters.saturating_add(1);
     }
     letters
+}
+
+fn receive_as(rt: &impl Wait, inbox: &mut Inbox<u32>, load: Load) -> Result<Letter<u32>, Gone> {
+    if load.sleeps_past {
+        inbox.recv_past_nudges(rt)
+    } else {
+        inbox.recv(rt)
+    }
 }
 
 // Two threads send as the load says and leave, and this one receives all.
@@ -100,7 +148,7 @@ fn carry<R: Threads + Wait + Abort + Sync>(rt: &R, alloc: &Heap, load: Load) {
                 || send_many(rt, second, load),
             );
         },
-        || receive_many(rt, inbox),
+        || receive_many(rt, inbox, load),
     );
     expect_count(rt, letters, 2 * u64::from(load.bodies), "letters");
 }

@@ -12,7 +12,7 @@ ghost use Rattle.rx_drain.specs.Drainers.{Fits, FlushesAll, FlushesAt, any_may_w
 
 use crate::drainer::asks::send_asks;
 use crate::{DrainFault, DrainerLeft};
-use rx_mailbox::try_ring_all;
+use rx_mailbox::nudge_all;
 use rx_sink::{Kept, Sink, flush_one};
 use std::sync::Wait;
 use std::sync::atomic::AtomicU64;
@@ -74,7 +74,7 @@ pub(crate) fn flush_due<S: Sink, R: Wait>(
     ensures flushes { FlushesAll S.acts (view_of hands.old false None) (view_of hands.new false result) }
 {
     let fault = flush_each(rt, hands, leave, all);
-    let _is_left = try_ring_all(rt, &mut hands.parts.subjects);
+    let _is_left = nudge_all(rt, &mut hands.parts.subjects);
     fault
 }
 

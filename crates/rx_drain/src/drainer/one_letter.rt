@@ -18,7 +18,7 @@ use crate::drainer::bursts::Bursts;
 use crate::drainer::flushes::{flush_due, flush_last, look_after, may_wait};
 use crate::drainer::outs::{finish_unserved, into_sink, serve_out};
 use crate::{DrainFault, DrainerLeft, DrainerParts};
-use rx_mailbox::{Gone, Letter, Post, TryRecvFault, finish_all, try_ring_all};
+use rx_mailbox::{Gone, Letter, Post, TryRecvFault, finish_all, nudge_all, try_ring_all};
 use rx_pump::Out;
 use rx_sink::{Sink, put_all_away};
 use std::sync::Wait;
@@ -209,7 +209,7 @@ fn receive_more<S: Drop, R: Wait>(
         bursts.ended(letters, sinks);
         return Err(fault);
     }
-    let _is_left = try_ring_all(rt, &mut parts.subjects);
+    let _is_left = nudge_all(rt, &mut parts.subjects);
     let received = parts
         .inbox
         .recv_within(rt, Duration::from_micros(MOST_PAUSE));

@@ -18,9 +18,11 @@ const MOST_SEARCHED: u32 = 4096;
 // may take some and wait for the others.
 const MOST_WAIT: u64 = 4;
 
-// Takes the letter that comes next, and waits while there is none. Before it waits, what is held back goes out.
+// Takes the letter that comes next, and waits while there is none. Before it waits, what is held back goes out. While nothing waits
+// in the hub no drainer's request wakes it: the next call does, and finds the requests before it in the box.
 pub(crate) fn receive<S: Drop, R: Wait>(
     rt: &R,
+    hub: &Hub,
     inbox: &mut Inbox<Call<S>>,
     drainers: &mut Drainers<S>,
     replies: &mut Vec<Port<Reply<S>>, Heap>,
@@ -37,7 +39,11 @@ pub(crate) fn receive<S: Drop, R: Wait>(
     if try_ring_all(rt, replies) {
         return receive_beside(rt, inbox, replies);
     }
-    inbox.recv(rt)
+    if is_drained(hub) {
+        inbox.recv_past_nudges(rt)
+    } else {
+        inbox.recv(rt)
+    }
 }
 
 // The same while replies are held back for which their box has no room: it looks for room now and then.
