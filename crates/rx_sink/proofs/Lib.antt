@@ -1,4 +1,3 @@
-pub mod Walks
 pub mod Apartness
 pub mod Looking
 pub mod Finding

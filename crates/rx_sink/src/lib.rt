@@ -22,7 +22,6 @@ pub mod laws;
 mod line_rest;
 mod line_sink;
 mod memory_sink;
-mod past;
 mod places;
 mod put_away;
 mod rests;

@@ -2,8 +2,8 @@ ghost use Rattle.std.specs.Prelude.{◌≡◌, ◌+◌, ◌≤◌, ℕ, false, t
 ghost use Rattle.rx_sink.specs.Rests.{HasRoomFor};
 
 use crate::PutAway;
-use crate::past::Past;
 use rx_heap::{Heap, Memory};
+use rx_past::Past;
 use std::marker::Model;
 
 /// What the sinks left that were put away, in the order in which they were. A contract always sees the whole list; a program has

@@ -28,12 +28,12 @@ use denote.Triple.Spec.{Meets, triple_of}
 use denote.Triple.Table.{entered}
 use denote.Triple.Walked.{says, Stays, walk_of, ends_at, walk_Meets}
 use Rattle.std.specs.contracts.marker.PhantomData as Mark
-use Rattle.rx_sink.proofs.Walks.{none, one, one_made}
-use Rattle.rx_sink.specs.contracts.past.Past as Past
-use Rattle.rx_sink.specs.contracts.past.Past.new as F
-use Rattle.rx_sink.specs.contracts.past.Past.new.Key.{name as #self}
-use Rattle.rx_sink.proofs.past.Past.new.Statement as stated
-use Rattle.rx_sink.proofs.past.Past.new.Code as code
+use Rattle.rx_past.proofs.Walks.{none, one, one_made}
+use Rattle.rx_past.specs.contracts.past.Past as Past
+use Rattle.rx_past.specs.contracts.past.Past.new as F
+use Rattle.rx_past.specs.contracts.past.Past.new.Key.{name as #self}
+use Rattle.rx_past.proofs.past.Past.new.Statement as stated
+use Rattle.rx_past.proofs.past.Past.new.Code as code
 
 module _ (T : RattleType) where
   abbrev args : Args

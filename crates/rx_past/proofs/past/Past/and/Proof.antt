@@ -30,12 +30,12 @@ use denote.Triple.Spec.{Meets, triple_of}
 use denote.Triple.Table.{entered}
 use denote.Triple.Walked.{says, Stays, stay_dropped, walk_of, ends_at, walk_Meets, Goes-dropped}
 use Rattle.std.specs.contracts.marker.PhantomData as Mark
-use Rattle.rx_sink.proofs.Walks.{none, one, one_made}
-use Rattle.rx_sink.specs.contracts.past.Past as Past
-use Rattle.rx_sink.specs.contracts.past.Past.and as F
-use Rattle.rx_sink.specs.contracts.past.Past.and.Key.{name as #self}
-use Rattle.rx_sink.proofs.past.Past.and.Statement as stated
-use Rattle.rx_sink.proofs.past.Past.and.Code as code
+use Rattle.rx_past.proofs.Walks.{none, one, one_made}
+use Rattle.rx_past.specs.contracts.past.Past as Past
+use Rattle.rx_past.specs.contracts.past.Past.and as F
+use Rattle.rx_past.specs.contracts.past.Past.and.Key.{name as #self}
+use Rattle.rx_past.proofs.past.Past.and.Statement as stated
+use Rattle.rx_past.proofs.past.Past.and.Code as code
 
 module _ (T : RattleType) where
   abbrev args : Args
