@@ -8,6 +8,7 @@ pub mod Calls
 pub mod Pumping
 pub mod Turning
 pub mod Leaving
+pub mod Aside
 pub mod Desking
 pub mod Replied
 pub mod Answering

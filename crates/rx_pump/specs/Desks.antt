@@ -8,8 +8,10 @@
 -- `post` puts a call alike, with the next ticket, and receives nothing, or hands its event back and changes nothing; `answer`
 -- receives one letter, or none where none comes any more, and answers it as `call` does by the subject and the ticket that it
 -- is asked for; but after `Strange` or a `finish` that came back it is `SubjectGone` and changes nothing; `tickets` is how
--- many were used. `subjects` counts its ports, ended or not.
-use Rattle.std.specs.Prelude.{◌≡◌, ◌≢◌, ◌+◌, ◌-◌, ◌^◌, ◌<◌, ◌≤◌, ◌⊎◌, ℕ, Bool, true, false, List, [], ◌∷◌, ◌++◌, Option, None, Result, Ok, Err}
+-- many were used. `subjects` counts its ports, ended or not. What a desk received is what its calls took, in their order: a reply
+-- to a post that came while another was waited for is received once it is asked for (`Early.antt`); `finish` leaves the inbox
+-- with those that never were.
+use Rattle.std.specs.Prelude.{◌≡◌, ◌≢◌, ◌+◌, ◌-◌, ◌^◌, ◌<◌, ◌≤◌, ◌⊎◌, ℕ, Bool, true, false, List, [], ◌∷◌, ◌++◌, length, Option, None, Result, Ok, Err}
 use Rattle.std.specs.List.{All, AllPairs}
 use Rattle.rx_note.specs.declared.event.Event.{Event}
 use Rattle.rx_mailbox.specs.declared.letter.Letter.{Letter}
@@ -21,11 +23,12 @@ use Rattle.rx_pump.specs.declared.call.Call.{Call}
 use Rattle.rx_pump.specs.declared.call_desk.call_error.CallError.{CallError}
 use Rattle.rx_pump.specs.declared.call_desk.call_error.CallError.TheVariants.{SubjectGone, Strange}
 use Rattle.rx_pump.specs.declared.reply.Reply.{Reply}
+use Rattle.rx_pump.specs.Early.{HoldsAside}
 use Rattle.rx_pump.specs.Marks.{to_port}
 use Rattle.rx_pump.specs.Pumps.{AreSame}
 use Rattle.rx_mailbox.specs.PortRows.{Puts}
 
--- a desk: its ports to subjects, the inbox of its replies, the ports that have ended, how many tickets it used, and
+-- a desk: its ports to subjects, the inbox of its replies with those that its calls took, the ports that have ended, how many tickets it used, and
 -- whether it makes no call any more
 pub record DeskView (S : Type 0) : Type 0 where
   pub ports : List (Outgoing (Call S))
@@ -153,3 +156,10 @@ module _ {S : Type 0} where
   pub record Awaits (before after : DeskView S) (subject ticket : ℕ) (answered : Result (Reply S) (CallError S)) : Type 0 where
     pub over : before.is_over ≡ true → (answered ≡ Err (SubjectGone None)) × (after ≡ before)
     pub receives : before.is_over ≡ false → ReceivesReply before.inbox after.inbox subject ticket answered × (after ≡ record before { inbox = after.inbox; is_over = is_strange answered })
+
+  -- what a desk left as its inbox: its calls took of it what it tells, some letters are held aside, and for each of its tickets there is one
+  -- letter at most
+  pub record LeavesInbox (desk : DeskView S) (inbox : Incoming (Reply S)) : Type 0 where
+    pub early : List (Letter (Reply S))
+    pub holds : HoldsAside desk.inbox desk.is_over inbox early
+    pub count : length desk.inbox.received + length early ≤ desk.tickets

@@ -4,5 +4,6 @@ pub mod Sends
 pub mod Turns
 pub mod Pumps
 pub mod Serving
+pub mod Early
 pub mod Desks
 pub mod Replying

@@ -7,7 +7,7 @@ use Rattle.rx_mailbox.specs.Boxes.{Box, Outgoing}
 use Rattle.rx_pump.specs.declared.call.Call.{Call}
 use Rattle.rx_pump.specs.declared.call_desk.ended_desk.EndedDesk.{EndedDesk}
 use Rattle.rx_pump.specs.declared.reply.Reply.{Reply}
-use Rattle.rx_pump.specs.Desks.{DeskView, KeepsDesk}
+use Rattle.rx_pump.specs.Desks.{DeskView, KeepsDesk, LeavesInbox}
 use Rattle.rx_pump.specs.Pumps.{port_place}
 use Rattle.rx_mailbox.specs.PortRows.{EndsSome, with_bye}
 use Rattle.rx_server.specs.Leaving.{HasItsBoxes}
@@ -48,7 +48,7 @@ module _ {S : Type 0} where
   }
 
   -- and what it leaves is of that server
-  pub desk-ends : (made : List (DeskView S)) (desk : DeskView S) (end : EndedDesk S) → end.ports.items ≡ desk.ended ++ map with_bye desk.ports → end.inbox ≡ desk.inbox
+  pub desk-ends : (made : List (DeskView S)) (desk : DeskView S) (end : EndedDesk S) → end.ports.items ≡ desk.ended ++ map with_bye desk.ports → LeavesInbox desk end.inbox
       → IsDeskOf made desk → IsEndOf made end
   desk-ends made desk end ports inbox is = record {
     number = is.number;
@@ -57,8 +57,8 @@ module _ {S : Type 0} where
     ports =
         ap (map port_place) (ports ∙ ap (λ (l : List (Outgoing (Call S))). l ++ map with_bye desk.ports) is.none_ended)
         ∙ bye-places desk.ports ∙ is.as_made.ports;
-    box = ap (λ i. i.box) inbox ∙ is.as_made.box;
-    count = ap (λ i. i.ports) inbox ∙ is.as_made.count;
+    box = inbox.holds.box ∙ is.as_made.box;
+    count = inbox.holds.ports ∙ is.as_made.count;
   }
 
   -- ENDING
@@ -79,7 +79,7 @@ module _ {S : Type 0} where
 
   -- one more ended
   pub ended-more : (made start : List (DeskView S)) (before after later : List (EndedDesk S)) (desk : DeskView S) (end : EndedDesk S) (left rest : List (DeskView S))
-      → left ≡ desk ∷ rest → later ≡ after ++ end ∷ [] → end.ports.items ≡ desk.ended ++ map with_bye desk.ports → end.inbox ≡ desk.inbox
+      → left ≡ desk ∷ rest → later ≡ after ++ end ∷ [] → end.ports.items ≡ desk.ended ++ map with_bye desk.ports → LeavesInbox desk end.inbox
       → EndedSome made start before after left → EndedSome made start before later rest
   ended-more made start before after later desk end left rest cut put ports inbox some = record {
     so_far =

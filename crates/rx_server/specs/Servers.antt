@@ -14,7 +14,7 @@ use Rattle.rx_pump.specs.Marks.{Marked}
 use Rattle.rx_pump.specs.Pumps.{AreSame, PumpView, counted}
 use Rattle.rx_mailbox.specs.PortRows.{with_bye}
 use Rattle.rx_pump.specs.Serving as pump_serving
-use Rattle.rx_pump.specs.Desks.{DeskView, KeepsDesk}
+use Rattle.rx_pump.specs.Desks.{DeskView, KeepsDesk, LeavesInbox}
 use Rattle.rx_sink.specs.Acts.{Acts}
 use Rattle.rx_drain.specs.declared.drainer.drain_end.DrainEnd.{DrainEnd}
 use Rattle.rx_drain.specs.Drainers.{DrainerView}
@@ -66,10 +66,10 @@ module _ {S : Type 0} where
   abbrev pub EndsMore : List (DeskView S) → List (EndedDesk S) → List (EndedDesk S) → Type 0
   EndsMore made before after = (more : List (EndedDesk S)) × (after ≡ before ++ more) × All (IsEndOf made) more
 
-  -- what becomes of a desk that is to end: it left this, each of its ports with its Bye, or it was given up, which is so only where
-  -- a port of it had not ended
+  -- what becomes of a desk that is to end: it left this, each of its ports with its Bye, and its inbox, or it was given up, which is so
+  -- only where a port of it had not ended
   abbrev pub IsFateOf : DeskView S → Option (EndedDesk S) → Type 0
-  IsFateOf desk (Some end) = (end.ports.items ≡ desk.ended ++ map with_bye desk.ports) × (end.inbox ≡ desk.inbox)
+  IsFateOf desk (Some end) = (end.ports.items ≡ desk.ended ++ map with_bye desk.ports) × LeavesInbox desk end.inbox
   IsFateOf desk None = 0 < length desk.ports
 
   -- each of these desks was to end, and what they left stands in their order behind what others left

@@ -72,7 +72,7 @@ pub(crate) fn desk_of(
 }
 
 // An item.
-fn item(rt: &impl Abort, alloc: &Heap) -> Event {
+pub(crate) fn item(rt: &impl Abort, alloc: &Heap) -> Event {
     let text = Text::new(copy(rt, alloc), b"a").expect(rt, "a text");
     let note = Note::Next(Item::new(text));
     Event::Emit { note, at: 0 }
@@ -119,7 +119,7 @@ fn admit_posted(rt: &(impl Wait + Abort), desk: &mut CallDesk<u8>, before: u64)
 pub(crate) fn finish_desk(rt: &(impl Wait + Abort), desk: CallDesk<u8>) -> EndedDesk<u8>
     requires { desk.ended ≡ [] }
     ensures ports { result.ports.items ≡ map with_bye desk.ports }
-    ensures inbox { result.inbox ≡ desk.inbox }
+    ensures inbox { result.inbox.box ≡ desk.inbox.box }
 {
     match desk.finish(rt) {
         Ok(ended) => ended,

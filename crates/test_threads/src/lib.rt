@@ -28,6 +28,8 @@ mod line_sinks;
 #[cfg(test)]
 mod looks;
 #[cfg(test)]
+mod mixed_replies;
+#[cfg(test)]
 mod pumps;
 #[cfg(test)]
 mod shared_budget;
